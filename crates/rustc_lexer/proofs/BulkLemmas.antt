@@ -14,7 +14,7 @@ use Rattle.rustc_lexer.specs.Classes.{IsText}
 use Rattle.rustc_lexer.specs.Locality.{IsGrammar}
 use Rattle.rustc_lexer.specs.LanguageText.{Mode, document, part, mode_after, mode_edition, mode_in}
 use Rattle.rustc_lexer.specs.means.Edition.{first_token_in}
-use Rattle.rustc_lexer.specs.means.Taking.{token_at, advance_by, advance}
+use Rattle.rustc_lexer.specs.means.Taking.{token_at, advance_by, take_next}
 use Rattle.rustc_lexer.specs.laws.Edition.{edition_grammar}
 use Rattle.rustc_lexer.specs.laws.Cuts.{IsCutAt, at_bound, tokens-cons, tokens-nil}
 use Rattle.rustc_lexer.proofs.ProgressLemmas.{IsPlace, next-from_drop}
@@ -119,10 +119,10 @@ state_past-no edition text is s e (suc count) few =
     let more : at < length text = some_left text is count at refl (omega arith) in
     let some : (length rest == 0) ≡ false = ne_eqb (length rest) 0 (λ none. omega (arith, length-drop at text)) in
     let ih : state_past count s ≡ state 0 rest (part edition) = state_past-no edition text is s e count (omega arith) in
-    let taken : (advance (state 0 rest (part edition))).1 ≡ past_token rest (part edition) (first rest) = ap (λ (r : Token × State). r.1) (advance-some 0 rest (part edition) (state 0 rest (part edition)) refl some) in
+    let taken : (take_next (state 0 rest (part edition))).1 ≡ past_token rest (part edition) (first rest) = ap (λ (r : Token × State). r.1) (advance-some 0 rest (part edition) (state 0 rest (part edition)) refl some) in
     let one : count + 1 ≡ suc count = omega arith in
     let far : at + (first rest).len ≡ bound all (suc count) = next_place (edition_grammar edition) text is count at refl more ∙ ap (bound all) one in
-    ap (λ (x : State). (advance x).1) ih ∙ (taken ∙ ap (λ xs. state 0 xs (part edition)) (drop-drop (first rest).len at text ∙ ap (λ n. drop n text) far))
+    ap (λ (x : State). (take_next x).1) ih ∙ (taken ∙ ap (λ xs. state 0 xs (part edition)) (drop-drop (first rest).len at text ∙ ap (λ n. drop n text) far))
   where
     some_left : (text : List ℕ) → IsText text → (count at : ℕ) → at ≡ bound (tokens_by (first_token_in edition) text) count → count < length (tokens_by (first_token_in edition) text) → at < length text
     some_left text is count at place few = elim (cases_lt at (length text)) [
@@ -136,7 +136,7 @@ edition-advanced [] s = refl
 edition-advanced (b ∷ bs) s = edition-after s.mode (token_at s.mode s.rest).kind
 
 pub edition-stays : (count : ℕ) (s : State) → mode_edition (state_past count s).mode ≡ mode_edition s.mode
-unfolding advance
+unfolding take_next
 edition-stays zero s = refl
 edition-stays (suc count) s = edition-advanced (state_past count s).rest (state_past count s) ∙ edition-stays count s
 
@@ -148,7 +148,7 @@ part-advanced edition [] s is = is
 part-advanced edition (b ∷ bs) s is = (refl, ap (λ (m : Mode). mode_after m (token_at s.mode s.rest).kind) is.1)
 
 part-stays : (edition : Edition) (count : ℕ) (s : State) → IsInPart edition s → IsInPart edition (state_past count s)
-unfolding advance
+unfolding take_next
 part-stays edition zero s is = is
 part-stays edition (suc count) s is = part-advanced edition (state_past count s).rest (state_past count s) (part-stays edition count s is)
 
@@ -218,7 +218,7 @@ module _ (s at past : State) (count : ℕ) (token : Token) (there : at ≡ state
   next_is = sym left ∙ takes.first
 
   pub past_more : past ≡ state_past (count + 1) s
-  past_more = sym (ap (λ (r : Token × State). r.1) takes.advances) ∙ (ap (λ (x : State). (advance x).1) there ∙ sym (ap (λ n. state_past n s) more_is))
+  past_more = sym (ap (λ (r : Token × State). r.1) takes.advances) ∙ (ap (λ (x : State). (take_next x).1) there ∙ sym (ap (λ n. state_past n s) more_is))
 
   pub left_more : tokens_left past ≡ drop (count + 1) (tokens_left s)
   left_more = ap (drop 1) (sym next_is) ∙ drop-drop 1 count (tokens_left s)

@@ -9,8 +9,8 @@ use Rattle.rustc_lexer.specs.Document.{is_frontmatter, shebang_len, document_tok
 use Rattle.rustc_lexer.specs.means.Document.{front_tokens, head_of, tokens_of_head}
 use Rattle.rustc_lexer.specs.Language as the
 use Rattle.rustc_lexer.specs.Language.{IsTokenBefore}
-use Rattle.rustc_lexer.specs.LanguageText as page
-use Rattle.rustc_lexer.specs.LanguageText.{AreTokens, IsTokenIn, Mode, document, mode_after, part}
+use Rattle.rustc_lexer.specs.LanguageText as grammar
+use Rattle.rustc_lexer.specs.LanguageText.{AreTokens, IsTokenIn, Mode, document, is_document, mode_after, part}
 use Rattle.rustc_lexer.specs.Tables.{symbols}
 use Rattle.rustc_lexer.specs.Tokens.{bound}
 use Rattle.rustc_lexer.specs.laws.Choice.{by_symbol}
@@ -18,7 +18,7 @@ use Rattle.rustc_lexer.specs.laws.LanguageTokens.{language}
 use Rattle.rustc_lexer.specs.means.Frontmatter.{frontmatter, opens, spaces_len}
 use Rattle.rustc_lexer.specs.means.Lexeme.{symbol_kind}
 use Rattle.rustc_lexer.specs.means.Scan.{past}
-use Rattle.rustc_lexer.specs.means.Tokens.{tokens_of}
+use Rattle.rustc_lexer.specs.means.Tokens.{read_tokens}
 use Rattle.rustc_lexer.proofs.DocumentTokens.{document_law, shebang-boundary}
 use Rattle.std.proofs.lemmas.Str.{IsUtf8-drop}
 
@@ -29,24 +29,20 @@ none-before (the.symbol {c} is) = not-true (is_frontmatter (symbol_kind c)) (by_
 none-before p = refl
 
 none-in : {edition : Edition} {next u : List ℕ} {kind : TokenKind} → IsTokenIn edition next kind u → is_frontmatter kind ≡ false
-none-in (page.kept since p) = none-before p
+none-in (grammar.kept since p) = none-before p
 none-in p = refl
-
-abbrev is_document : Mode → Bool
-is_document (document edition) = true
-is_document (part edition) = false
 
 stays-part : (mode : Mode) (kind : TokenKind) → is_document mode ≡ false → is_document (mode_after mode kind) ≡ false
 stays-part (part edition) kind e = refl
 stays-part (document edition) kind e = absurd (true≢false e)
 
 no-front : {mode : Mode} {cs : List ℕ} {tokens : List Token} → AreTokens mode cs tokens → is_document mode ≡ false → head_count tokens ≡ 0
-no-front page.nothing e = refl
-no-front (page.something {mode} {kind} p free rest) e = rw (none-in p, no-front rest (stays-part mode kind e)) refl
-no-front (page.frontmatter_first body is_opening ends rest) e = absurd (true≢false e)
+no-front grammar.nothing e = refl
+no-front (grammar.something {mode} {kind} p free rest) e = rw (none-in p, no-front rest (stays-part mode kind e)) refl
+no-front (grammar.frontmatter_first body is_opening ends rest) e = absurd (true≢false e)
 
-part-none : (edition : Edition) (text : List ℕ) → IsText text → head_count (tokens_of (part edition) text) ≡ 0
-part-none edition text is = no-front ((language text (part edition) is (tokens_of (part edition) text)).1 refl) refl
+part-none : (edition : Edition) (text : List ℕ) → IsText text → head_count (read_tokens (part edition) text) ≡ 0
+part-none edition text is = no-front ((language text (part edition) is (read_tokens (part edition) text)).1 refl) refl
 
 -- ---- the head
 
@@ -93,7 +89,7 @@ bound-append [] us = refl
 bound-append (t ∷ ts) us = ap (λ n. t.len + n) (bound-append ts us)
 
 module _ (edition : Edition) (text : List ℕ) (is : IsText text) (at : IsCharBoundary text (head_of text).end) where
-  pub head_whole : document_tokens edition text ≡ tokens_of_head (head_of text) ++ tokens_of (part edition) (drop (head_of text).end text)
+  pub head_whole : document_tokens edition text ≡ tokens_of_head (head_of text) ++ read_tokens (part edition) (drop (head_of text).end text)
   head_whole = sym (document_law edition text is (shebang-boundary text is))
 
   body_text : IsText (drop (head_of text).end text)
@@ -110,5 +106,5 @@ module _ (edition : Edition) (text : List ℕ) (is : IsText text) (at : IsCharBo
       front.ends ∙ ap (λ n. shebang_len text + n) (sym (ap₂ bound head_whole head_count-tokens ∙ bound-append (tokens_of_head (head_of text)) _))
 
   -- and the other tokens are its own
-  pub body_tokens : drop (head_count (document_tokens edition text)) (document_tokens edition text) ≡ tokens_of (part edition) (drop (shebang_len text + bound (document_tokens edition text) (head_count (document_tokens edition text))) text)
-  body_tokens = ap₂ drop head_count-tokens head_whole ∙ (drop-append_seam (tokens_of_head (head_of text)) _ ∙ ap (λ n. tokens_of (part edition) (drop n text)) head_end)
+  pub body_tokens : drop (head_count (document_tokens edition text)) (document_tokens edition text) ≡ read_tokens (part edition) (drop (shebang_len text + bound (document_tokens edition text) (head_count (document_tokens edition text))) text)
+  body_tokens = ap₂ drop head_count-tokens head_whole ∙ (drop-append_seam (tokens_of_head (head_of text)) _ ∙ ap (λ n. read_tokens (part edition) (drop n text)) head_end)

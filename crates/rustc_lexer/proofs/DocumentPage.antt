@@ -1,12 +1,13 @@
--- What an edit of a document keeps, by the tokens of the page.
-use Rattle.std.proofs.Common.{Result, Ok, Err, OnErr, ◌++◌, ◌≡◌, ℕ, zero, suc, ◌+◌, ◌≤◌, Bool, true, false, if◌then◌else◌, List, [], ◌∷◌, length, take, drop, refl, sym, subst, ap, ap₂, ◌∙◌, arith, chars, get_or, length-take-le, Option, None, Some, IsCharBoundary}
+-- What an edit of a document keeps, by the tokens of the grammar.
+use Rattle.std.proofs.Common.{Result, Ok, Err, OnErr, ◌++◌, ◌≡◌, ℕ, zero, suc, max, ◌+◌, ◌-◌, ◌≤◌, Bool, true, false, if◌then◌else◌, List, [], ◌∷◌, length, take, drop, refl, sym, subst, ap, ap₂, ◌∙◌, arith, chars, get_or, length-take-le, Option, None, Some, IsCharBoundary}
+use Rattle.std.proofs.Math.Nat.{le-max_left, le-max_right, max-le}
 use Rattle.std.proofs.Math.Seq.{take-append_seam}
 use Rattle.rustc_lexer.specs.{Token, E2024}
 use Rattle.rustc_lexer.specs.declared.relex.head.Head.{Head}
 use Rattle.rustc_lexer.specs.declared.relex.relexing.Change.{Change}
 use Rattle.rustc_lexer.specs.declared.relex.relexing.Relexed.{Relexed}
 use Rattle.rustc_lexer.specs.Classes.{IsText}
-use Rattle.rustc_lexer.specs.Document.{body_start, document_tokens_by, IsCountedDocument, head_tokens, is_frontmatter, one_more, head_count, shebang_len, document_tokens, IsRelexedAnew, IsRelexedDocument, KeepsHead}
+use Rattle.rustc_lexer.specs.Document.{body_start, document_tokens_by, IsCountedDocument, head_tokens, is_frontmatter, more_unless_zero, head_count, shebang_len, document_tokens, IsFirstInBoth, IsRelexedAnew, IsRelexedDocument, KeepsHead}
 use Rattle.rustc_lexer.specs.means.Document.{body_change, body_insert, counted, document_by, front_tokens, head_of, HeadStays, IsCountedByHead, IsRelexedByHead, IsRelexedWith, tokens_of_head}
 use Rattle.rustc_lexer.specs.Edits.{apply, IsRelexed}
 use Rattle.rustc_lexer.specs.Tokens.{bound, tokens_by}
@@ -49,7 +50,7 @@ module _ (text : List ℕ) (is : IsText text) where
   pub front_is : tokens_of_head (head_of text) ≡ head_tokens text
   front_is = sym (ap₂ take (head_count-tokens E2024 text is ahead.boundary) (head_whole E2024 text is ahead.boundary) ∙ take-append_seam (tokens_of_head (head_of text)) _)
 
--- the tokens of a document, by those of the page
+-- the tokens of a document, by those of the grammar
 pub past_law : (first : List ℕ → Token) (text : List ℕ) → IsText text → document_by first text ≡ document_tokens_by first text
 past_law first text is = ap₂ (λ ts n. ts ++ tokens_by first (drop n text)) (front_is text is) (end_is text is)
 
@@ -69,7 +70,7 @@ up_few : (ts : List Token) → head_count ts ≤ length ts
 up_few [] = omega arith
 up_few (t ∷ ts) = by_test (is_frontmatter t.kind) (head_count ts) (up_few ts)
   where
-    by_test : (b : Bool) (n : ℕ) → n ≤ length ts → (if b then 1 else one_more n) ≤ suc (length ts)
+    by_test : (b : Bool) (n : ℕ) → n ≤ length ts → (if b then 1 else more_unless_zero n) ≤ suc (length ts)
     by_test true n le = omega arith
     by_test false zero le = omega arith
     by_test false (suc n) le = omega arith
@@ -106,7 +107,7 @@ module _ (first : List ℕ → Token) (text insert : List ℕ) (start stop : ℕ
   from_page : KeepsHead text start stop insert → HeadStays text start stop insert
   from_page s = (same_head text made is its s.0 s.1, (let e = s.2 in omega (arith, e, end_is text is)))
 
-  -- the same, by the head of the text and by the tokens of the page
+  -- the same, by the head of the text and by the tokens of the grammar
   abbrev At : Bool → ℕ → ℕ → List Token → List Token → Relexed → Type 0
   At kept from to old now r =
       let change : Change = body_change kept from to (record { start = start; old_stop = stop; new_stop = start + length insert }) in
@@ -133,11 +134,31 @@ module _ (first : List ℕ → Token) (text insert : List ℕ) (start stop : ℕ
   abbrev anew : ℕ → Relexed → Relexed
   anew front x = record { kept_front = front; lexed = length (head_tokens made) + x.lexed; kept_back = x.kept_back }
 
+  -- up to where it changes: the greater of two differences
+  abbrev more : ℕ
+  more = max (body_start text - stop) (body_start made - (start + length insert))
+
+  more_in_both : IsFirstInBoth (body_start text) stop (body_start made) (start + length insert) more
+  more_in_both = record {
+    old_begun = omega (arith, le-max_left (body_start text - stop) (body_start made - (start + length insert)));
+    new_begun = omega (arith, le-max_right (body_start text - stop) (body_start made - (start + length insert)));
+    first = λ other old_begun new_begun. max-le (omega (arith, old_begun)) (omega (arith, new_begun));
+  }
+
+  more_is : (other : ℕ) → IsFirstInBoth (body_start text) stop (body_start made) (start + length insert) other → other ≡ more
+  more_is other is = omega (arith, is.first more more_in_both.old_begun more_in_both.new_begun, more_in_both.first other is.old_begun is.new_begun)
+
+  -- with a change of the body up to there
+  abbrev Anew : Relexed → ℕ → Type 0
+  Anew r m =
+      (x : Relexed) × IsRelexed first (drop (body_start text) text) 0 (stop + m - body_start text) (take (start + length insert + m - body_start made) (drop (body_start made) made)) x
+      × (r ≡ anew 0 x)
+
   to_anew : (r : Relexed) → At false (body_start text) (body_start made) (head_tokens text) (head_tokens made) r → IsRelexedAnew first text start stop insert r
-  to_anew r x = (x.0, x.1, x.2 ∙ ap (λ front. anew front x.0) (relexed-front x.1))
+  to_anew r x = (more, more_in_both, x.0, x.1, x.2 ∙ ap (λ front. anew front x.0) (relexed-front x.1))
 
   of_anew : (r : Relexed) → IsRelexedAnew first text start stop insert r → At false (body_start text) (body_start made) (head_tokens text) (head_tokens made) r
-  of_anew r x = (x.0, x.1, x.2 ∙ ap (λ front. anew front x.0) (sym (relexed-front x.1)))
+  of_anew r x = let y : Anew r more = subst (Anew r) (more_is x.0 x.1) (x.2, x.3, x.4) in (y.0, y.1, y.2 ∙ ap (λ front. anew front y.0) (sym (relexed-front y.1)))
 
   pub relexed_page : {r : Relexed} → IsRelexedByHead first text start stop insert r → IsRelexedDocument first text start stop insert r
   relexed_page {r} is_head = record {

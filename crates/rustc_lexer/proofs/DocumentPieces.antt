@@ -15,7 +15,7 @@ use Rattle.rustc_lexer.specs.Locality.{IsGrammar}
 use Rattle.rustc_lexer.specs.Tokens.{bound, tokens_by}
 use Rattle.rustc_lexer.specs.laws.Tokens.{partitions}
 use Rattle.rustc_lexer.specs.means.Pieces.{AreBoundariesFrom}
-use Rattle.rustc_lexer.specs.means.Tokens.{tokens_of}
+use Rattle.rustc_lexer.specs.means.Tokens.{read_tokens}
 use Rattle.rustc_lexer.proofs.DocumentHead as head
 use Rattle.rustc_lexer.proofs.DocumentHead.{bound-append, head_whole}
 use Rattle.rustc_lexer.proofs.DocumentPage.{ahead}
@@ -46,7 +46,7 @@ module _ {first : List ℕ → Token} (law : IsGrammar first) (text : List ℕ) 
       let all = head_whole E2024 text is (ahead text is).boundary in
       let front : take k (document_tokens E2024 text) ≡ take k tokens = ap (take k) all ∙ (take-append-le k heads _ few ∙ sym (ap (take k) e ∙ take-append-le k heads _ few)) in
       let same : bound (document_tokens E2024 text) k ≡ bound tokens k = bound-same k (document_tokens E2024 text) tokens front in
-      let there : IsCharBoundary rest (bound (document_tokens E2024 text) k) = (partitions rest (document E2024) rest_text).boundaries k (omega (arith, ap length all, length-append heads (tokens_of (part E2024) body))) in
+      let there : IsCharBoundary rest (bound (document_tokens E2024 text) k) = (partitions rest (document E2024) rest_text).boundaries k (omega (arith, ap length all, length-append heads (read_tokens (part E2024) body))) in
       IsCharBoundary-from_rest text (shebang_len text) (bound tokens k) (shebang-boundary text is).0 (subst (IsCharBoundary rest) same there)
 
   -- the bounds of the tokens of the body

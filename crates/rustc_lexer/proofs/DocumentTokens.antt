@@ -29,7 +29,7 @@ use Rattle.rustc_lexer.specs.means.Frontmatter.{frontmatter, opens, spaces_len}
 use Rattle.rustc_lexer.specs.means.Lexeme.{first_token, lexeme, symbol_kind}
 use Rattle.rustc_lexer.specs.means.Scan.{begins, bytes_of, next_is, past, run_len}
 use Rattle.rustc_lexer.specs.means.Taking.{token_at}
-use Rattle.rustc_lexer.specs.means.Tokens.{tokens_of}
+use Rattle.rustc_lexer.specs.means.Tokens.{read_tokens}
 
 -- ---- a token that leaves a document one
 
@@ -101,15 +101,15 @@ first-space edition text white = by_chars (chars text) refl white
 
 module _ (edition : Edition) where
   -- a frontmatter, and what follows it
-  pub with-front : (text : List ℕ) → IsText text → opens (chars text) ≡ true → tokens_of (document edition) text ≡ frontmatter text ∷ tokens_of (part edition) (drop (frontmatter text).len text)
+  pub with-front : (text : List ℕ) → IsText text → opens (chars text) ≡ true → read_tokens (document edition) text ≡ frontmatter text ∷ read_tokens (part edition) (drop (frontmatter text).len text)
   unfolding frontmatter
   with-front text is e =
       let some : 0 < length text = (let cut = frontmatter-cut text is.utf8 e in let i = cut.inside in let m = cut.not_empty in omega arith) in
       let at : token_at (document edition) text ≡ frontmatter text = rw e refl in
-      tokens-cons (document edition) text is some ∙ ap (λ (t : Token). t ∷ tokens_of (mode_after (document edition) t.kind) (drop t.len text)) at
+      tokens-cons (document edition) text is some ∙ ap (λ (t : Token). t ∷ read_tokens (mode_after (document edition) t.kind) (drop t.len text)) at
 
   -- none, and no white space
-  without-space : (text : List ℕ) → IsText text → opens (chars text) ≡ false → next_is is_whitespace (chars text) ≡ false → tokens_of (document edition) text ≡ tokens_of (part edition) text
+  without-space : (text : List ℕ) → IsText text → opens (chars text) ≡ false → next_is is_whitespace (chars text) ≡ false → read_tokens (document edition) text ≡ read_tokens (part edition) text
   without-space [] is none out = tokens-nil (document edition) ∙ sym (tokens-nil (part edition))
   without-space (b ∷ bs) is none out =
       let text : List ℕ = b ∷ bs in
@@ -117,8 +117,8 @@ module _ (edition : Edition) where
       let some : 0 < length (chars text) = by_chars (chars text) refl in
       let at : token_at (document edition) text ≡ t = rw none refl in
       let after : mode_after (document edition) t.kind ≡ part edition = solid-after edition t.kind (first-solid edition text some out) in
-      tokens-cons (document edition) text is (omega arith) ∙ (ap (λ (u : Token). u ∷ tokens_of (mode_after (document edition) u.kind) (drop u.len text)) at
-      ∙ (ap (λ m. t ∷ tokens_of m (drop t.len text)) after ∙ sym (tokens-cons (part edition) text is (omega arith))))
+      tokens-cons (document edition) text is (omega arith) ∙ (ap (λ (u : Token). u ∷ read_tokens (mode_after (document edition) u.kind) (drop u.len text)) at
+      ∙ (ap (λ m. t ∷ read_tokens m (drop t.len text)) after ∙ sym (tokens-cons (part edition) text is (omega arith))))
     where
       by_chars : (cs : List ℕ) → chars (b ∷ bs) ≡ cs → 0 < length cs
       by_chars [] e = absurd (let n = ap (λ (xs : List ℕ). length xs) (empty-text (b ∷ bs) is e) in omega (arith, n))
@@ -152,25 +152,25 @@ module _ (edition : Edition) where
       first_is : first_token_in edition text ≡ space
       first_is = first-space edition text white ∙ ap (λ (n : ℕ). let t : Token = record { kind = Whitespace; len = n } in t) size_is
 
-      document_space : tokens_of (document edition) text ≡ space ∷ tokens_of (document edition) tail
+      document_space : read_tokens (document edition) text ≡ space ∷ read_tokens (document edition) tail
       document_space =
           let at : token_at (document edition) text ≡ first_token_in edition text = rw none refl in
-          tokens-cons (document edition) text is (some text refl) ∙ (ap (λ (u : Token). u ∷ tokens_of (mode_after (document edition) u.kind) (drop u.len text)) (at ∙ first_is) ∙ ap (λ xs. space ∷ tokens_of (document edition) xs) (sym tail_drop))
+          tokens-cons (document edition) text is (some text refl) ∙ (ap (λ (u : Token). u ∷ read_tokens (mode_after (document edition) u.kind) (drop u.len text)) (at ∙ first_is) ∙ ap (λ xs. space ∷ read_tokens (document edition) xs) (sym tail_drop))
 
-      part_space : tokens_of (part edition) text ≡ space ∷ tokens_of (part edition) tail
+      part_space : read_tokens (part edition) text ≡ space ∷ read_tokens (part edition) tail
       part_space =
-          tokens-cons (part edition) text is (some text refl) ∙ (ap (λ (u : Token). u ∷ tokens_of (part edition) (drop u.len text)) first_is ∙ ap (λ xs. space ∷ tokens_of (part edition) xs) (sym tail_drop))
+          tokens-cons (part edition) text is (some text refl) ∙ (ap (λ (u : Token). u ∷ read_tokens (part edition) (drop u.len text)) first_is ∙ ap (λ xs. space ∷ read_tokens (part edition) xs) (sym tail_drop))
 
     -- no frontmatter, past white space or none
-    pub without-front : opens (chars text) ≡ false → opens (chars tail) ≡ false → tokens_of (document edition) text ≡ tokens_of (part edition) text
+    pub without-front : opens (chars text) ≡ false → opens (chars tail) ≡ false → read_tokens (document edition) text ≡ read_tokens (part edition) text
     without-front none none_past = by_space (next_is is_whitespace (chars text)) refl
       where
-        by_space : (b : Bool) → next_is is_whitespace (chars text) ≡ b → tokens_of (document edition) text ≡ tokens_of (part edition) text
+        by_space : (b : Bool) → next_is is_whitespace (chars text) ≡ b → read_tokens (document edition) text ≡ read_tokens (part edition) text
         by_space false out = without-space text is none out
         by_space true white = document_space none white ∙ (ap (λ ts. space ∷ ts) (without-space tail tail_text none_past tail_no) ∙ sym (part_space none white))
 
     -- a frontmatter past white space
-    pub with-spaced : opens (chars text) ≡ false → opens (chars tail) ≡ true → tokens_of (document edition) text ≡ front_tokens size (Some (frontmatter tail)) ++ tokens_of (part edition) (drop (size + (frontmatter tail).len) text)
+    pub with-spaced : opens (chars text) ≡ false → opens (chars tail) ≡ true → read_tokens (document edition) text ≡ front_tokens size (Some (frontmatter tail)) ++ read_tokens (part edition) (drop (size + (frontmatter tail).len) text)
     with-spaced none opened = by_space (next_is is_whitespace (chars text)) refl
       where
         behind : drop (frontmatter tail).len tail ≡ drop (size + (frontmatter tail).len) text
@@ -180,7 +180,7 @@ module _ (edition : Edition) where
         by_size zero less = absurd (omega arith)
         by_size (suc n) less = refl
 
-        by_space : (b : Bool) → next_is is_whitespace (chars text) ≡ b → tokens_of (document edition) text ≡ front_tokens size (Some (frontmatter tail)) ++ tokens_of (part edition) (drop (size + (frontmatter tail).len) text)
+        by_space : (b : Bool) → next_is is_whitespace (chars text) ≡ b → read_tokens (document edition) text ≡ front_tokens size (Some (frontmatter tail)) ++ read_tokens (part edition) (drop (size + (frontmatter tail).len) text)
         by_space false out = absurd (true≢false (sym opened ∙ (ap (λ xs. opens (chars xs)) whole ∙ none)))
           where
             zero_len : (cs : List ℕ) → next_is is_whitespace cs ≡ false → spaces_len cs ≡ 0
@@ -193,8 +193,8 @@ module _ (edition : Edition) where
             let front = with-front tail tail_text opened in
             let at = token_at-cuts (part edition) text is (some none white text refl) in
             let more : 0 < size = (let e = at.not_empty in omega (arith, e, ap (λ (t : Token). t.len) (first_is none white))) in
-            document_space none white ∙ (ap (λ ts. space ∷ ts) (front ∙ ap (λ xs. frontmatter tail ∷ tokens_of (part edition) xs) behind)
-            ∙ ap (λ ts. ts ++ tokens_of (part edition) (drop (size + (frontmatter tail).len) text)) (sym (by_size size more)))
+            document_space none white ∙ (ap (λ ts. space ∷ ts) (front ∙ ap (λ xs. frontmatter tail ∷ read_tokens (part edition) xs) behind)
+            ∙ ap (λ ts. ts ++ read_tokens (part edition) (drop (size + (frontmatter tail).len) text)) (sym (by_size size more)))
 
   -- the head and the body
   module _ (text : List ℕ) (is : IsText text) (at : IsCharBoundary text (shebang_len text)) where
@@ -212,12 +212,12 @@ module _ (edition : Edition) where
 
     by_front : (a : Bool) → opens (chars rest) ≡ a → (b : Bool) → opens (chars past_space) ≡ b → document_by (first_token_in edition) text ≡ document_tokens edition text
     unfolding head_of
-    by_front true e b f = rw e (ap (λ xs. frontmatter rest ∷ tokens_of (part edition) xs) (sym (drop-drop (frontmatter rest).len start text)) ∙ sym (with-front rest rest_text e))
+    by_front true e b f = rw e (ap (λ xs. frontmatter rest ∷ read_tokens (part edition) xs) (sym (drop-drop (frontmatter rest).len start text)) ∙ sym (with-front rest rest_text e))
     by_front false e true f =
         let m : ℕ = length rest - length past_space in
         let same : start + m + (frontmatter past_space).len ≡ start + (m + (frontmatter past_space).len) = omega arith in
         let turned : drop (start + m + (frontmatter past_space).len) text ≡ drop (m + (frontmatter past_space).len) rest = ap (λ k. drop k text) same ∙ sym (drop-drop (m + (frontmatter past_space).len) start text) in
-        rw (e, f) (ap (λ xs. front_tokens m (Some (frontmatter past_space)) ++ tokens_of (part edition) xs) turned ∙ sym (with-spaced rest past_space rest_text refl e f))
+        rw (e, f) (ap (λ xs. front_tokens m (Some (frontmatter past_space)) ++ read_tokens (part edition) xs) turned ∙ sym (with-spaced rest past_space rest_text refl e f))
     by_front false e false f = rw (e, f) (sym (without-front rest past_space rest_text refl e f))
 
     pub document_law : document_by (first_token_in edition) text ≡ document_tokens edition text

@@ -4,7 +4,7 @@ use Rattle.std.specs.Str.{chars, IsUtf8, IsCharBoundary}
 use Rattle.std.proofs.lemmas.Str.{IsCharBoundary-from_drop}
 use Rattle.std.proofs.lemmas.Grind.{common_steps}
 use Rattle.rustc_lexer.specs.{GuardedStr}
-use Rattle.rustc_lexer.specs.means.Guarded.{closing_len, guarded_body, string_past, guarded_by, guarded}
+use Rattle.rustc_lexer.specs.means.Guarded.{closing_len, guarded_body, string_past, guarded_by, take_guarded}
 use Rattle.rustc_lexer.specs.means.Literal.{suffix_len}
 use Rattle.rustc_lexer.specs.means.Quoted.{double_quoted_string}
 use Rattle.rustc_lexer.specs.means.Raw.{hash_run, is_quote}
@@ -120,18 +120,18 @@ module _ (text : List ℕ) (index start : ℕ) (mode : Mode) (s : State) (rest :
   abbrev here_is : State
   here_is = state (index - start) rest mode
 
-  guarded-is : (o : Option (Bool × ℕ)) → o ≡ string_past n (chars rest) → guarded s ≡ guarded_by n o here_is
-  unfolding guarded
+  guarded-is : (o : Option (Bool × ℕ)) → o ≡ string_past n (chars rest) → take_guarded s ≡ guarded_by n o here_is
+  unfolding take_guarded
   guarded-is o read = grind (arith, common_steps)
 
-  pub none_here : None ≡ string_past n (chars rest) → guarded s ≡ (None, state (index + n - start) (drop (index + n) text) mode)
+  pub none_here : None ≡ string_past n (chars rest) → take_guarded s ≡ (None, state (index + n - start) (drop (index + n) text) mode)
   none_here read =
       let pending : (index - start) + n ≡ index + n - start = omega arith in
       guarded-is None read
       ∙ (ap (λ (m : ℕ). let r : Option GuardedStr × State = (None, state m (drop n rest) mode) in r) pending
       ∙ ap (λ (xs : List ℕ). let r : Option GuardedStr × State = (None, state (index + n - start) xs mode) in r) (further_on n))
 
-  pub some_here : (closed : Bool) (t : ℕ) → Some (closed, t) ≡ string_past n (chars rest) → guarded s ≡ (
+  pub some_here : (closed : Bool) (t : ℕ) → Some (closed, t) ≡ string_past n (chars rest) → take_guarded s ≡ (
     Some record { n_hashes = n; terminated = closed; token_len = index + t - start },
     state (index + t - (index + t)) (drop (index + t) text) mode,
   )

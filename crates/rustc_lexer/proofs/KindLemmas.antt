@@ -6,12 +6,12 @@ use Rattle.rustc_lexer.specs.{Base, Edition, LiteralKind, Token, TokenKind, Iden
 use Rattle.rustc_lexer.specs.Classes.{bytes, is_ident, Chars, IsText, Utf8}
 use Rattle.rustc_lexer.specs.Language as the
 use Rattle.rustc_lexer.specs.Language.{IsTokenBefore}
-use Rattle.rustc_lexer.specs.LanguageText as page
+use Rattle.rustc_lexer.specs.LanguageText as grammar
 use Rattle.rustc_lexer.specs.LanguageText.{AreTokens, IsTokenIn, Mode}
 use Rattle.rustc_lexer.specs.LiteralGrammar as lit
 use Rattle.rustc_lexer.specs.LiteralGrammar.{IsLiteralBefore}
 use Rattle.rustc_lexer.specs.NumberGrammar as number
-use Rattle.rustc_lexer.specs.NumberGrammar.{IsExponent, IsNumberBefore, IsTailBefore}
+use Rattle.rustc_lexer.specs.NumberGrammar.{IsExponent, HasNumberForm, IsTailBefore}
 use Rattle.rustc_lexer.specs.Tables.{symbol_kind, symbols}
 use Rattle.rustc_lexer.specs.Tokens.{is_faulty, EndsFaulty}
 use Rattle.rustc_lexer.specs.laws.Choice.{by_symbol}
@@ -28,7 +28,7 @@ tail-good (number.of_exponent none p) = exponent-good p
 tail-good (number.of_both ds one are p) = exponent-good p
 tail-good p = refl
 
-number-good : {next w : Chars} {kind : LiteralKind} → IsNumberBefore next kind w → is_faulty kind ≡ false
+number-good : {next w : Chars} {kind : LiteralKind} → HasNumberForm next kind w → is_faulty kind ≡ false
 number-good (number.of_prefix whole) = refl
 number-good (number.of_parts whole tail) = tail-good tail
 
@@ -41,7 +41,7 @@ suffixed (lit.c_str p) e = ap not e
 suffixed (lit.raw_str p start) e = ap not e
 suffixed (lit.raw_byte_str p) e = ap not e
 suffixed (lit.raw_c_str p) e = ap not e
-suffixed (lit.number p) e = number-good p.stands.is_number
+suffixed (lit.number p) e = number-good p.form
 suffixed p e = refl
 
 -- ---- one token
@@ -77,8 +77,8 @@ says (the.symbol {c} is) = quiet (symbol_kind c) (c ∷ []) (by_symbol is_quiet 
 says p = tt
 
 says-in : {edition : Edition} {next w : Chars} {kind : TokenKind} → IsTokenIn edition next kind w → Says kind w
-says-in (page.kept since p) = says p
-says-in (page.ident older p) = says p
+says-in (grammar.kept since p) = says p
+says-in (grammar.ident older p) = says p
 says-in p = tt
 
 ends : (kind : TokenKind) (w : Chars) → Says kind w → EndsFaulty kind (bytes w)
@@ -113,7 +113,7 @@ pub record IsSaid (text : List ℕ) (token : Token) : Type 0 where
   pub ends : EndsFaulty token.kind token.len
 
 pub first-said : {mode : Mode} {cs : Chars} {token : Token} {tokens : List Token} → AreTokens mode cs (token ∷ tokens) → (text : List ℕ) → IsText text → chars text ≡ cs → IsSaid text token
-first-said (page.something {mode} {kind} {c} {w} {next} p free rest) text is e =
+first-said (grammar.something {mode} {kind} {c} {w} {next} p free rest) text is e =
     let parts = split text (c ∷ w) next is e in
     record { name = has_name kind (c ∷ w) _ (says-in p) parts.front (ap chars parts.front ∙ parts.again_front); ends = ends kind (c ∷ w) (says-in p) }
-first-said (page.frontmatter_first body is_opening is_end rest) text is e = record { name = tt; ends = tt }
+first-said (grammar.frontmatter_first body is_opening is_end rest) text is e = record { name = tt; ends = tt }

@@ -8,7 +8,7 @@ use Rattle.std.proofs.lemmas.Grind.{common_steps}
 use Rattle.rustc_lexer.specs.declared.lexemes.raw.RawPrefix.{RawPrefix}
 use Rattle.rustc_lexer.specs.{LiteralKind, RawStrError, InvalidStarter, Literal}
 use Rattle.rustc_lexer.specs.means.Literal.{suffix_len}
-use Rattle.rustc_lexer.specs.means.Raw.{is_quote, hash_run, raw_text, past_starter, raw_starter, raw_read, raw_body, accepted, is_accepted, prefix_kind, prefix_len, raw_literal, checked, raw_check, is_r, StartsRaw}
+use Rattle.rustc_lexer.specs.means.Raw.{is_quote, hash_run, raw_text, past_starter, raw_starter, raw_read, raw_body, accepted, is_accepted, prefix_kind, prefix_len, raw_literal, checked, check_raw, is_r, StartsRaw}
 use Rattle.rustc_lexer.specs.means.Scan.{bytes_of, gives, next_is, past, scanned}
 use Rattle.rustc_lexer.specs.laws.Past.{past-zero, past-past, chars-past, IsUtf8-past, length-past}
 use Rattle.rustc_lexer.proofs.RawLemmas.{hash_len}
@@ -78,8 +78,8 @@ module _ (prefix : RawPrefix) (rest left : List ℕ) (is : IsUtf8 rest) (read : 
 
 -- the check
 module _ (text rest : List ℕ) (p : ℕ) (is : IsUtf8 text) (rest_is : rest ≡ past p text) where
-  pub check_is : (read : Result ℕ RawStrError) (left : List ℕ) → (read, left) ≡ scanned (raw_read p) rest → checked read ≡ raw_check text p
-  unfolding raw_check
+  pub check_is : (read : Result ℕ RawStrError) (left : List ℕ) → (read, left) ≡ scanned (raw_read p) rest → checked read ≡ check_raw text p
+  unfolding check_raw
   check_is read left e = ap checked (ap (λ (r : Left). r.0) e ∙ ap (λ (s : List ℕ). (raw_read p s).0) (ap chars rest_is ∙ chars-past p text is))
 
   pub prefix_fits : StartsRaw text p → p + length rest ≤ length text

@@ -8,24 +8,24 @@ use Rattle.std.proofs.lemmas.Grind.{common_steps}
 use Rattle.rustc_lexer.specs.{E2024}
 use Rattle.rustc_lexer.specs.means.Comment.{is_no_newline}
 use Rattle.rustc_lexer.specs.means.Scan.{begins}
-use Rattle.rustc_lexer.specs.means.Shebang.{is_attribute, before_newline, line_len, shebang_past, shebang}
+use Rattle.rustc_lexer.specs.means.Shebang.{is_attribute, before_newline, line_len, shebang_past, read_shebang}
 use Rattle.rustc_lexer.specs.LanguageText.{part}
 use Rattle.rustc_lexer.specs.Tokens.{tokens_of}
 use Rattle.rustc_lexer.specs.laws.LanguageShebang.{front-is, short}
 
-pub no_shebang : (s : List ℕ) → ((rest : List ℕ) → s ≢ 35 ∷ 33 ∷ rest) → None ≡ shebang s
-unfolding shebang
+pub no_shebang : (s : List ℕ) → ((rest : List ℕ) → s ≢ 35 ∷ 33 ∷ rest) → None ≡ read_shebang s
+unfolding read_shebang
 no_shebang s lacks = grind (arith, common_steps, front-is)
 
 module _ (s tail : List ℕ) (n : ℕ) (two : n ≡ 2) (front : s ≡ 35 ∷ 33 ∷ drop n s) (cut : tail ≡ drop n s) where
-  past_front : shebang s ≡ shebang_past tail
-  unfolding shebang
+  past_front : read_shebang s ≡ shebang_past tail
+  unfolding read_shebang
   past_front = grind (arith, common_steps)
 
-  pub attribute_here : is_attribute (tokens_of (part E2024) tail) ≡ true → None ≡ shebang s
+  pub attribute_here : is_attribute (tokens_of (part E2024) tail) ≡ true → None ≡ read_shebang s
   attribute_here e = sym (past_front ∙ ap (λ (b : Bool). let r : Option ℕ = if b then None else Some (2 + line_len tail) in r) e)
 
-  pub line_here : (len : ℕ) → is_attribute (tokens_of (part E2024) tail) ≡ false → len ≡ line_len tail → Some (2 + len) ≡ shebang s
+  pub line_here : (len : ℕ) → is_attribute (tokens_of (part E2024) tail) ≡ false → len ≡ line_len tail → Some (2 + len) ≡ read_shebang s
   line_here len e f = ap (λ (k : ℕ). Some (2 + k)) f ∙ sym (past_front ∙ ap (λ (b : Bool). let r : Option ℕ = if b then None else Some (2 + line_len tail) in r) e)
 
 -- the first line of a text

@@ -22,7 +22,7 @@ use Rattle.rustc_lexer.specs.laws.Lifetime.{raw}
 use Rattle.rustc_lexer.specs.means.Literal.{Body, literal}
 use Rattle.rustc_lexer.specs.means.Number.{is_sign, is_exponent_letter, begins_fraction, or_underscore, past_sign, float_exponent, optional_exponent, fraction_digits, fraction, past_digits, front, number_kind, number_body, number}
 use Rattle.rustc_lexer.specs.means.Quoted.{str_body, byte_str_body, c_str_body, char_body, byte_body}
-use Rattle.rustc_lexer.specs.means.Raw.{accepted, is_r, prefix_kind, prefix_len, raw_body, raw_check, raw_literal, raw_read}
+use Rattle.rustc_lexer.specs.means.Raw.{accepted, is_r, prefix_kind, prefix_len, raw_body, check_raw, raw_literal, raw_read}
 use Rattle.rustc_lexer.specs.laws.Raw.{raw_check_own}
 use Rattle.rustc_lexer.specs.means.Scan.{after, begins, bytes_of, gives, next_is, past, run, run_len}
 use Rattle.rustc_lexer.specs.State.{suffix_start_of, HasSuffixWithin}
@@ -150,7 +150,7 @@ quote-tells (c ∷ s) = by_test (Tells 39 (c ∷ s)) (is_character c s) (literal
 -- ---- raw strings
 
 abbrev IsTold : ℕ → List ℕ → Option ℕ → Type 0
-IsTold prefix text n_hashes = (raw_check text prefix ≡ Ok tt) ↔ IsSome n_hashes
+IsTold prefix text n_hashes = (check_raw text prefix ≡ Ok tt) ↔ IsSome n_hashes
 
 checked-text : (prefix : RawPrefix) (text front s : List ℕ) → length front ≡ prefix_len prefix → next_is is_r (drop (prefix_len prefix - 1) (chars text)) ≡ true
     → chars text ≡ front ++ take (raw_literal prefix s).1 s → HasRawText (prefix_kind prefix (accepted (raw_read 0 s).0)) text

@@ -1,7 +1,6 @@
--- What the page of the language answers, under the names that contracts use. Each answer is what
--- the page allows, and the page allows nothing else: so says the type of what it is taken from.
--- That type is all that one has to read. How an answer is found, and the proof that it is the only
--- one, stand in laws/TheAnswers.antt.
+-- What the grammar answers, under the names that contracts use. Each answer is taken from a value
+-- whose type says that the grammar allows this answer and no other. That type is all that one has to
+-- read. How an answer is found, and the proof that it is the only one, are in laws/TheAnswers.antt.
 use Rattle.std.specs.Prelude.{ℕ, ◌<◌, List, length, drop, Option, Result, chars}
 use Rattle.rustc_lexer.specs.{Edition, GuardedStr, RawStrError, Token}
 use Rattle.rustc_lexer.specs.Classes.{IsText, Utf8}

@@ -1,7 +1,8 @@
 -- Texts: their characters and bytes, what stands in them, and classes of characters. What begins
 -- an identifier and what continues one is told by the crate `unicode_ident`: by the rows of
 -- `DerivedCoreProperties.txt` of Unicode 18.0. White space is `Pattern_White_Space`, which no
--- version of Unicode changes.
+-- version of Unicode changes. Names in capitals are productions of the Rust Reference (see
+-- Language.antt).
 use Rattle.std.specs.Prelude.{◌≡◌, ◌==◌, ◌&&◌, ◌||◌, ℕ, not, Bool, true, false, List, [], ◌∷◌, length, drop, ◌<◌, ◌^◌}
 use Rattle.std.specs.Char.{is_ascii_digit}
 use Rattle.std.specs.List.{list_all, list_any}
@@ -35,25 +36,25 @@ pub record IsText (text : List ℕ) : Type 0 where
 abbrev pub is_among : List ℕ → ℕ → Bool
 is_among ds c = list_any (λ d. c == d) ds
 
--- tab, line feed, vertical tab, form feed, carriage return, space, next line, the marks of
--- direction, and the separators of lines and paragraphs
+-- WHITESPACE: tab, line feed, vertical tab, form feed, carriage return, space, next line, the marks
+-- of direction, and the separators of lines and paragraphs
 abbrev pub is_whitespace : ℕ → Bool
 is_whitespace c =
     is_among (0x9 ∷ 0xA ∷ 0xB ∷ 0xC ∷ 0xD ∷ 0x20 ∷ 0x85 ∷ 0x200E ∷ 0x200F ∷ 0x2028 ∷ 0x2029 ∷ []) c
 
--- tab and space
+-- tab and space; not in the Reference
 abbrev pub is_horizontal_whitespace : ℕ → Bool
 is_horizontal_whitespace c = is_among (0x9 ∷ 0x20 ∷ []) c
 
--- an underscore, and what Unicode lets an identifier begin with: `XID_Start`
+-- XID_Start, which Unicode lets an identifier begin with, or an underscore
 abbrev pub is_id_start : ℕ → Bool
 is_id_start c = c == 0x5F || is_xid_start c
 
--- what Unicode lets an identifier go on with: `XID_Continue`, which has the underscore
+-- XID_Continue, which Unicode lets an identifier go on with; it has the underscore
 abbrev pub is_id_continue : ℕ → Bool
 is_id_continue c = is_xid_continue c
 
--- an identifier: a character that may begin one, and then only such as it may go on with
+-- IDENTIFIER_OR_KEYWORD: a character that may begin one, and then only such as it may go on with
 abbrev pub is_ident : List ℕ → Bool
 is_ident [] = false
 is_ident (c ∷ cs) = is_id_start c && list_all is_id_continue cs
@@ -62,7 +63,8 @@ is_ident (c ∷ cs) = is_id_start c && list_all is_id_continue cs
 abbrev pub is_inline : ℕ → Bool
 is_inline c = not (c == byte "\n")
 
--- what a word begins with and what it goes on with, right or wrong: an emoji makes it wrong
+-- what a word begins with and what it goes on with, right or wrong: an emoji, of which the Reference
+-- has none, makes it wrong
 abbrev pub is_word_start : ℕ → Bool
 is_word_start c = is_id_start c || is_emoji c
 
@@ -96,6 +98,10 @@ NextIs p s = next_is p s ≡ true
 
 abbrev pub NextIsNot : (ℕ → Bool) → Chars → Type 0
 NextIsNot p s = next_is p s ≡ false
+
+-- the same of the text of a token: it does not begin with such a character
+abbrev pub BeginsNot : (ℕ → Bool) → Chars → Type 0
+BeginsNot p w = NextIsNot p w
 
 -- the next character is one of these; it is none of them, or the text ends
 abbrev pub NextIn : Chars → Chars → Type 0

@@ -1,6 +1,6 @@
 -- A whole document: its tokens; its head, which is a shebang line and a frontmatter; its body, which is all else; and what
 -- an edit keeps of its tokens.
-use Rattle.std.specs.Prelude.{ℕ, zero, suc, ◌+◌, ◌-◌, ◌≤◌, ◌≡◌, if◌then◌else◌, List, [], ◌∷◌, ◌++◌, length, take, drop, max, Bool, true, false, IfSome, slice_get}
+use Rattle.std.specs.Prelude.{ℕ, zero, suc, ◌+◌, ◌-◌, ◌≤◌, ◌≡◌, if◌then◌else◌, List, [], ◌∷◌, ◌++◌, length, take, drop, Bool, true, false, IfSome, slice_get}
 use Rattle.std.specs.Option.{unwrap_or}
 use Rattle.rustc_lexer.specs.declared.relex.{edit.Edit.Edit, edit_list.EditStop.EditStop, relexing.Relexed.Relexed}
 use Rattle.rustc_lexer.specs.declared.relex.edit_list.EditStop.TheVariants.{Memory}
@@ -8,7 +8,7 @@ use Rattle.rustc_lexer.specs.{Edition, Token, TokenKind, E2024, Frontmatter}
 use Rattle.rustc_lexer.specs.Answers.{shebang, tokens_of}
 use Rattle.rustc_lexer.specs.LanguageText.{document}
 use Rattle.rustc_lexer.specs.Edits.{applied, apply, apply_list, stop_at, IsRelexed}
-use Rattle.rustc_lexer.specs.Locality.{bound, tokens_by}
+use Rattle.rustc_lexer.specs.Partition.{bound, tokens_by}
 
 -- the length of the shebang line, or 0
 abbrev pub shebang_len : List ℕ → ℕ
@@ -26,14 +26,14 @@ is_frontmatter (Frontmatter has_invalid_preceding_whitespace invalid_infostring)
 is_frontmatter kind = false
 
 -- one more than a number, unless that is 0
-abbrev pub one_more : ℕ → ℕ
-one_more zero = zero
-one_more (suc n) = suc (suc n)
+abbrev pub more_unless_zero : ℕ → ℕ
+more_unless_zero zero = zero
+more_unless_zero (suc n) = suc (suc n)
 
 -- how many tokens stand up to the frontmatter, with it, or 0 where there is none
 abbrev pub head_count : List Token → ℕ
 head_count [] = 0
-head_count (token ∷ tokens) = if is_frontmatter token.kind then 1 else one_more (head_count tokens)
+head_count (token ∷ tokens) = if is_frontmatter token.kind then 1 else more_unless_zero (head_count tokens)
 
 -- the tokens of the head: the frontmatter, and the white space before it. They are the same in each edition
 abbrev pub head_tokens : List ℕ → List Token
@@ -62,15 +62,23 @@ IsRelexedBehind first text start stop insert r =
     (body : Relexed) × IsRelexed first (drop from text) (start - from) (stop - from) insert body
     × (r ≡ record { kept_front = length (head_tokens text) + body.kept_front; lexed = body.lexed; kept_back = body.kept_back })
 
--- of any other edit: the new head's tokens are lexed, and the body changes from its begin on, up to where the texts are
--- the same and both bodies have begun, `more` past the edit
+-- `more` past an edit, which ends at `stop` in the old text and at `new_stop` in the new one, is the first place at which
+-- both bodies have begun: that at `from` and that at `to`
+pub record IsFirstInBoth (from stop to new_stop more : ℕ) : Type 0 where
+  pub old_begun : from ≤ stop + more
+  pub new_begun : to ≤ new_stop + more
+  pub first : (other : ℕ) → from ≤ stop + other → to ≤ new_stop + other → more ≤ other
+
+-- of any other edit: the new head's tokens are lexed, and the body changes from its begin on, up to the first place past
+-- the edit at which both bodies have begun
 abbrev pub IsRelexedAnew : (List ℕ → Token) → List ℕ → ℕ → ℕ → List ℕ → Relexed → Type 0
 IsRelexedAnew first text start stop insert r =
     let made : List ℕ = apply text start stop insert in
     let from : ℕ = body_start text in
     let to : ℕ = body_start made in
-    let more : ℕ = max (from - stop) (to - (start + length insert)) in
-    (body : Relexed) × IsRelexed first (drop from text) 0 (stop + more - from) (take (start + length insert + more - to) (drop to made)) body
+    let new_stop : ℕ = start + length insert in
+    (more : ℕ) × IsFirstInBoth from stop to new_stop more
+    × (body : Relexed) × IsRelexed first (drop from text) 0 (stop + more - from) (take (new_stop + more - to) (drop to made)) body
     × (r ≡ record { kept_front = 0; lexed = length (head_tokens made) + body.lexed; kept_back = body.kept_back })
 
 -- these are the counts of an edit

@@ -3,7 +3,8 @@ use Rattle.std.specs.Prelude.{ℕ, ◌+◌, ◌-◌, ◌<◌, ◌≤◌, ◌^◌
 use Rattle.rustc_lexer.specs.declared.relex.{edit.Edit.Edit, edit_list.EditStop.EditStop, front.Bound.Bound, pieces.Piece.Piece, relexing.Relexed.Relexed, relexing.Relexing.Relexing}
 use Rattle.rustc_lexer.specs.declared.relex.edit_list.EditStop.TheVariants.{Range, TooLong, Memory}
 use Rattle.rustc_lexer.specs.{Token}
-use Rattle.rustc_lexer.specs.Locality.{bound, has_two, tokens_by}
+use Rattle.rustc_lexer.specs.Locality.{has_two}
+use Rattle.rustc_lexer.specs.Partition.{bound, tokens_by}
 
 -- ---- one edit
 
@@ -32,8 +33,9 @@ ends_from from (t ∷ ts) = (from + t.len) ∷ ends_from (from + t.len) ts
 abbrev pub kept_front : List ℕ → List Token → ℕ → ℕ
 kept_front text tokens to = count_by (λ end. has_two text end to) (ends_from 0 tokens)
 
--- bound `number` of the new tokens meets the old ones, of which `back` are left there: it is not before the end of what
--- was put in, and as far past that as a bound of the old tokens is past what was taken out
+-- bound `number` of the new tokens is a bound of the old ones too, moved by the edit, and `back` old tokens follow it: it
+-- is not before `new_stop`, the end of what was put in, and as far past that as the old bound is past `old_stop`, the end
+-- of what was taken out
 pub record IsMeeting (old new : List Token) (old_stop new_stop number back : ℕ) : Type 0 where
   pub number_inside : number ≤ length new
   pub past_edit : new_stop ≤ bound new number

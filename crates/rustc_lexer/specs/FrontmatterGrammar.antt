@@ -1,5 +1,6 @@
--- The language of a frontmatter: how it opens and ends. `w` and `next` are as in Language.antt; all
--- texts here are characters.
+-- The language of a frontmatter: how it opens and ends. It is not in the Reference. RFC 3503 has the
+-- opening, and the closing fence, of as many dashes; the other ends are those of the compiler's lexer,
+-- for its messages. `w` and `next` are as in Language.antt; all texts here are characters.
 use Rattle.std.specs.Prelude.{◌≡◌, ◌≤◌, ◌||◌, ℕ, zero, suc, Bool, true, false, List, [], ◌∷◌, ◌++◌, length, codes}
 use Rattle.std.specs.Str.{byte}
 use Rattle.rustc_lexer.specs.Classes.{is_among, is_whitespace, is_horizontal_whitespace, is_id_start, is_id_continue, Chars, begins, AreAll, NextIsNot, NextNotIn, is_inline}
@@ -48,8 +49,8 @@ OpensNone s = (n : ℕ) (w next : Chars) → s ≡ w ++ next → IsOpeningBefore
 
 -- ---- its end
 
--- of the places in `u ++ v` that are such, the one between u and v is the first; and no place in s
--- is such. A place has what stands before it, and what follows it
+-- a place in a text is given by what stands before it and what follows it. The place between u and
+-- v is the first one in `u ++ v` that is such; below, no place in s is such
 pub record IsFirstPlaceOf (IsSuch : Chars → Chars → Type 0) (u v : Chars) : Type 0 where
   pub here : IsSuch u v
   pub first : (x y : Chars) → x ++ y ≡ u ++ v → IsSuch x y → length u ≤ length x
@@ -61,8 +62,8 @@ IsNowhere IsSuch s = (x y : Chars) → x ++ y ≡ s → IsSuch x y → ⊥
 abbrev pub IsAt : Chars → Chars → Chars → Type 0
 IsAt pattern before after = begins pattern after ≡ true
 
--- from where on blanks before lone dashes count: the front, the front of a line, or behind the first
--- three of the dashes that stand in a row
+-- how far back only blanks may stand before lone dashes: to the front of the text, to the front of
+-- the line, or to the end of the first three dashes of a row of dashes. The text up to there
 pub data IsEdge : Chars → Type 0 where
   front : IsEdge []
   line : (u : Chars) → IsEdge (u ++ codes "\n")
@@ -86,8 +87,8 @@ endings n =
     (byte "\n" ∷ fence n, true) ∷ (codes "\n---", true)
     ∷ (codes "\nuse ", false) ∷ (codes "\n//!", false) ∷ (codes "\n#![", false) ∷ []
 
--- w is the body, which is all between the opening and the end, where these endings are left to
--- look for
+-- w is what follows the opening, up to the end of the frontmatter. It has the closing line, if there
+-- is one. The list has the endings that are still to be looked for, in order
 pub data IsBodyBefore (next : Chars) : List (Chars × Bool) → Chars → Type 0 where
   -- it ends at the first place of the first ending that has any place, whatever the places of the
   -- others: in `\n//!\nuse x` before the `use` item

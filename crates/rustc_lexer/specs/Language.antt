@@ -1,7 +1,13 @@
 -- The language of the tokens of Rust, as the compiler's lexer has them: which texts a token of each
 -- kind may have, and before what. One rule for each form, and nothing of how a text is read.
--- docs/LEXEMES.md has the rules in words, and where the Rust Reference has each form. Beyond the
--- Reference, what is unclosed, empty or has an emoji is a token too, for a compiler's messages.
+-- docs/LEXEMES.md has the rules in words.
+--
+-- Names in capitals are productions of the Rust Reference for Rust 1.95; SHEBANG is one of 1.97. A
+-- rule has each text of the productions beside it, but what follows a token (a newline, the mark
+-- after a prefix) is in `next`. Beyond them, what is unclosed, empty or has an emoji is a token too,
+-- for a compiler's messages, and what is inside a comment or quotes is not checked: escapes,
+-- carriage returns, the length of a character. Such forms are marked "not in the Reference" where
+-- they have a rule of their own.
 --
 -- Notation. `w` is the text of a token and `next` all that follows it. Both are characters (type
 -- `Chars`), and at the end of the text `next` is []. In bytes is where a suffix begins. A NUL is a
@@ -20,15 +26,16 @@ use Rattle.rustc_lexer.specs.Tables.{is_emoji, symbol_kind}
 
 -- ---- comments
 
--- the doc style of a comment, by what follows its // or /*: Inner for `!`; Outer where / or * comes
--- once more (`again`) and none of `undocs` follows (////, /*** and /**/ are no docs); else none
+-- the doc style of a comment, by what follows its // or /*: Inner for `!` (INNER_LINE_DOC,
+-- INNER_BLOCK_DOC); Outer where / or * comes once more (`again`) and none of `undocs` follows
+-- (OUTER_LINE_DOC, OUTER_BLOCK_DOC; ////, /*** and /**/ are no docs); else none
 pub data IsStyle (again : ℕ) (undocs : Chars) : Option DocStyle → Chars → Type 0 where
   inner : {w : Chars} → IsStyle again undocs (Some Inner) (byte "!" ∷ w)
   outer : {w : Chars} → NextNotIn undocs w → IsStyle again undocs (Some Outer) (again ∷ w)
   no_outer : {w : Chars} → NextIn undocs w → IsStyle again undocs None (again ∷ w)
   neither : {w : Chars} → NextNotIn (again ∷ codes "!") w → IsStyle again undocs None w
 
--- what follows /*, up to and with the */ that closes it: comments inside it, and other characters
+-- BLOCK_COMMENT_OR_DOC after its /*: comments inside it, other characters, and the */ that closes it
 pub data IsCommentRest : Chars → Type 0 where
   closing : IsCommentRest (codes "*/")
   nested : {v w : Chars}
@@ -43,12 +50,13 @@ pub data IsCommentRest : Chars → Type 0 where
 
 -- ---- words
 
--- a word right before one of these is a prefix
+-- a word right before one of these is a prefix: the marks of RESERVED_TOKEN_POUND, _DOUBLE_QUOTE and
+-- _SINGLE_QUOTE
 abbrev pub ends_prefix : ℕ → Bool
 ends_prefix c = is_among (codes "#\"'") c
 
--- the prefixes that are known, with what ends them: those of literals and of raw identifiers; and
--- `k#` where an identifier follows it
+-- the prefixes that are known, with the mark after them: those that these productions except, which
+-- begin literals and raw identifiers; and `k#` where an identifier follows it (not in the Reference)
 abbrev pub known_prefixes : List Chars
 known_prefixes =
     codes "r\"" ∷ codes "r#" ∷ codes "b'" ∷ codes "b\"" ∷ codes "br\"" ∷ codes "br#"
@@ -58,8 +66,8 @@ abbrev pub begins_prefixed : Chars → Bool
 begins_prefixed s =
     list_any (λ prefix. begins prefix s) known_prefixes || begins_ident_after (codes "k#") s
 
--- a name that no lifetime of Rust has: a digit or an emoji comes first, or later an emoji that no
--- identifier goes on with: `1`, `😀`, `ℹ`, `a😀`; not `aℹ`
+-- a name that no lifetime of Rust has (not in the Reference): a digit or an emoji comes first, or
+-- later an emoji that no identifier goes on with: `1`, `😀`, `ℹ`, `a😀`; not `aℹ`
 abbrev pub is_bad_name : Chars → Bool
 is_bad_name [] = false
 is_bad_name (c ∷ w) = is_ascii_digit c || is_emoji c || not (list_all is_id_continue w)
@@ -72,57 +80,63 @@ has_rule c = is_whitespace c || is_name_start c || is_among (codes "/'\"#") c
 
 -- w is a token of this kind where `next` follows it
 pub data IsTokenBefore (next : Chars) : TokenKind → Chars → Type 0 where
+  -- EOF
   end : next ≡ [] → IsTokenBefore next Eof []
-  -- all of it that stands there
+  -- WHITESPACE, all of it that stands there
   whitespace : {c : ℕ} {w : Chars}
       → AreAll is_whitespace (c ∷ w)
       → NextIsNot is_whitespace next
       → IsTokenBefore next Whitespace (c ∷ w)
-  -- `// a`, `/// a`, `//! a`, up to the newline
+  -- LINE_COMMENT, OUTER_LINE_DOC, INNER_LINE_DOC: `// a`, `/// a`, `//! a`, up to the newline
   line_comment : {style : Option DocStyle} {w : Chars}
       → AreAll is_inline w
       → NextIsNot is_inline next
       → IsStyle (byte "/") (codes "/") style w
       → IsTokenBefore next (LineComment style) (codes "//" ++ w)
-  -- `/* a /* b */ c */`; and `/* /* */`, which nothing closes, with all of the text
+  -- BLOCK_COMMENT, OUTER_BLOCK_DOC, INNER_BLOCK_DOC: `/* a /* b */ c */`
   block_comment : {style : Option DocStyle} {w : Chars}
       → IsCommentRest w
       → IsStyle (byte "*") (codes "*/") style w
       → IsTokenBefore next (BlockComment style true) (codes "/*" ++ w)
+  -- not in the Reference: `/* /* */`, which nothing closes, with all that is left of the text
   open_comment : {style : Option DocStyle} {w : Chars}
       → next ≡ []
       → ((n : ℕ) → IsCommentRest (take n w) → ⊥)
       → IsStyle (byte "*") (codes "*/") style w
       → IsTokenBefore next (BlockComment style false) (codes "/*" ++ w)
-  -- `value`, `fn`, `_`; not `value` before a quote
+  -- IDENTIFIER_OR_KEYWORD: `value`, `fn`, `_`; not `value` before a quote
   ident : {w : Chars}
       → is_ident w ≡ true
       → NextIsNot is_word_continue next
       → NextIsNot ends_prefix next
       → IsTokenBefore next Ident w
+  -- RESERVED_TOKEN_POUND, RESERVED_TOKEN_DOUBLE_QUOTE, RESERVED_TOKEN_SINGLE_QUOTE, up to the mark:
   -- `z` before `"a"`, `k` before `#1`; not `b` before `"a"`, nor `k` before `#fn`
   unknown_prefix : {w : Chars}
       → is_ident w ≡ true
       → NextIs ends_prefix next
       → begins_prefixed (w ++ next) ≡ false
       → IsTokenBefore next UnknownPrefix w
-  -- a word that is no identifier, as it has an emoji: `a😀`, `😀a`; not `ℹ`, which is a start too
+  -- not in the Reference: a word that is no identifier, as it has an emoji: `a😀`, `😀a`; not `ℹ`,
+  -- which is a start too
   invalid_ident : {c : ℕ} {w : Chars}
       → is_word_start c ≡ true
       → AreAll is_word_continue w
       → is_ident (c ∷ w) ≡ false
       → NextIsNot is_word_continue next
       → IsTokenBefore next InvalidIdent (c ∷ w)
-  -- `r#fn`, `k#fn`
+  -- RAW_IDENTIFIER, RESERVED_RAW_IDENTIFIER: `r#fn`, `r#self`
   raw_ident : {w : Chars}
       → is_ident w ≡ true
       → NextIsNot is_id_continue next
       → IsTokenBefore next RawIdent (codes "r#" ++ w)
+  -- `k#fn`; in the Reference that is RESERVED_TOKEN_POUND, and `fn`
   forced_keyword : {w : Chars}
       → is_ident w ≡ true
       → NextIsNot is_id_continue next
       → IsTokenBefore next ForcedKeywordIdent (codes "k#" ++ w)
-  -- `'a`; `'1`, also before a hash; not `'a'`, nor `'a` before a hash
+  -- LIFETIME_TOKEN, if not raw: `'a`; not `'a'`, nor `'a` before a hash. Not in the Reference: `'1`,
+  -- also before a hash
   lifetime : {c : ℕ} {w : Chars}
       → is_name_start c ≡ true
       → AreAll is_word_continue w
@@ -130,32 +144,36 @@ pub data IsTokenBefore (next : Chars) : TokenKind → Chars → Type 0 where
       → NextNotIn (codes "'") next
       → (NextIn (codes "#") next → is_ascii_digit c ≡ true)
       → IsTokenBefore next (Lifetime (is_bad_name (c ∷ w))) (byte "'" ∷ c ∷ w)
-  -- `'a` before `#`, `'r` before `#1`; not `'r` before `#a`
+  -- RESERVED_TOKEN_LIFETIME, up to the hash: `'a` before `#`; not `'r` before `#a`. Not in the
+  -- Reference: `'r` before `#1`
   unknown_prefix_lifetime : {c : ℕ} {w : Chars}
       → is_word_start c ≡ true
       → AreAll is_word_continue w
       → NextIn (codes "#") next
       → begins_ident_after (codes "r#") (c ∷ w ++ next) ≡ false
       → IsTokenBefore next UnknownPrefixLifetime (byte "'" ∷ c ∷ w)
-  -- `'r#a`, also before a quote
+  -- RAW_LIFETIME, RESERVED_RAW_LIFETIME: `'r#a`. Not in the Reference: the same before a quote
   raw_lifetime : {w : Chars}
       → is_ident w ≡ true
       → NextIsNot is_id_continue next
       → IsTokenBefore next RawLifetime (codes "'r#" ++ w)
-  -- `'ab'`, `"a` at the end: no suffix, and where it would begin is the end of the token
+  -- a literal of LiteralGrammar.antt that may have no suffix. Where one would begin is the end of the
+  -- token: `'ab'`, `"a` at the end
   literal : {kind : LiteralKind} {w : Chars}
       → IsLiteralBefore next kind false w
       → IsTokenBefore next (Literal kind (bytes w)) w
-  -- `1u8`, `"a"`, `"a"s`
+  -- any other, with SUFFIX or without: `1u8`, `"a"`, `"a"s`
   literal_with : {kind : LiteralKind} {w suffix : Chars}
       → IsLiteralBefore (suffix ++ next) kind true w
       → IsSuffixBefore next suffix
       → IsTokenBefore next (Literal kind (bytes w)) (w ++ suffix)
+  -- PUNCTUATION
   slash : NextNotIn (codes "/*") next → IsTokenBefore next Slash (codes "/")
   pound : NextNotIn (codes "\"#") next → IsTokenBefore next Pound (codes "#")
-  -- `#"`, `##`: a guarded string may begin so
+  -- RESERVED_GUARDED_STRING_LITERAL, RESERVED_POUNDS, their first two characters: `#"`, `##`
   guarded_prefix : {c : ℕ}
       → is_among (codes "\"#") c ≡ true
       → IsTokenBefore next GuardedStrPrefix (byte "#" ∷ c ∷ [])
-  -- `+`, `;`; and what is no symbol is Unknown, such as `\`
+  -- PUNCTUATION, a character at a time: `+`, `;`. Not in the Reference: what is no symbol is Unknown,
+  -- such as `\`
   symbol : {c : ℕ} → has_rule c ≡ false → IsTokenBefore next (symbol_kind c) (c ∷ [])

@@ -1,5 +1,5 @@
--- What the calls beside the tokens answer, in the words of the language. `w` and `next` are as in Language.antt; texts
--- are characters where nothing else is said, and places are in bytes.
+-- What the calls beside the tokens answer, in the words of the language. `w`, `next` and names in capitals are as in
+-- Language.antt; texts are characters where nothing else is said, and places are in bytes.
 use Rattle.std.specs.Prelude.{◌≡◌, ◌==◌, ◌+◌, ◌-◌, ◌<◌, ◌≤◌, ℕ, suc, Bool, true, false, [], ◌∷◌, ◌++◌, length, drop, codes, Contains, Option, Some, None, Result, Ok, Err, List, decimal}
 use Rattle.std.specs.Str.{byte, chars}
 use Rattle.rustc_lexer.specs.{LiteralKind, RawStrError, TokenKind, Int, Float, Char, Byte, Str, ByteStr, CStr, RawStr, RawByteStr, RawCStr, InvalidStarter, NoTerminator, TooManyDelimiters, LineComment, BlockComment, Whitespace, Frontmatter, Ident, InvalidIdent, RawIdent, ForcedKeywordIdent, UnknownPrefix, UnknownPrefixLifetime, RawLifetime, GuardedStrPrefix, Literal, Lifetime, Semi, Comma, Dot, OpenParen, CloseParen, OpenBrace, CloseBrace, OpenBracket, CloseBracket, At, Pound, Tilde, Question, Colon, Dollar, Eq, Bang, Lt, Gt, Minus, And, Or, Plus, Star, Slash, Caret, Percent, Unknown, Eof}
@@ -44,15 +44,16 @@ raw_str_text (TooManyDelimiters found) = codes "the raw string has " ++ (decimal
 
 -- ---- guarded strings and shebang lines
 
--- n hashes, a double-quoted string, and if it is closed k ≤ n hashes, all that stand there if they are fewer, and a
--- suffix: `##"a"##s`, `##"a"#`
+-- RESERVED_GUARDED_STRING_LITERAL, and the hashes that close it: n hashes, a double-quoted string, and if it is closed
+-- k ≤ n hashes, all that stand there if they are fewer, and a suffix: `##"a"##s`, `##"a"#`
 pub data IsGuardedBefore (next : Chars) : (n : ℕ) → (terminated : Bool) → Chars → Type 0 where
   closed : (n k : ℕ) {w suffix : Chars} → IsDoubleQuoted (hashes k ++ (suffix ++ next)) true w
       → k ≤ n → (k < n → NextNotIn (codes "#") (suffix ++ next)) → IsSuffixBefore next suffix
       → IsGuardedBefore next n true (hashes n ++ (byte "\"" ∷ w ++ (hashes k ++ suffix)))
   unclosed : (n : ℕ) {w : Chars} → IsDoubleQuoted next false w → IsGuardedBefore next n false (hashes n ++ (byte "\"" ∷ w))
 
--- what makes an attribute of `#!`: a bracket, behind white space and comments that are no docs
+-- what makes an attribute of `#!`, and in SHEBANG may not follow it: a bracket, behind WHITESPACE, LINE_COMMENT,
+-- BLOCK_COMMENT, or a block comment that nothing closes
 pub data IsAttributeRest : Chars → Type 0 where
   bracket : (next : Chars) → IsAttributeRest (byte "[" ∷ next)
   passed : {kind : TokenKind} {c : ℕ} {w next : Chars}
@@ -66,7 +67,8 @@ pub data IsLineBefore (next w : Utf8) : Type 0 where
   to_return : AreAll is_inline w → begins (codes "\r\n") next ≡ true → IsLineBefore next w
   to_end : AreAll is_inline w → next ≡ [] → IsLineBefore next w
 
--- how long the shebang line is, if one stands at the front of the text: `#!/bin/sh` before a newline, not `#![no_std]`
+-- how long the shebang line is, if one stands at the front of the text: SHEBANG, without its line end. `#!/bin/sh`, not
+-- `#![no_std]`
 pub data IsShebang (text : Utf8) : Option ℕ → Type 0 where
   shebang : (w next : Utf8) → text ≡ codes "#!" ++ (w ++ next) → (IsAttributeRest (chars (w ++ next)) → ⊥)
       → IsLineBefore next w → IsShebang text (Some (length (codes "#!" ++ w)))

@@ -1,8 +1,9 @@
 -- The language of whole texts: which tokens a text has in an edition, read as a document or as a
 -- part of one. `w` and `next` are as in Language.antt, which has the tokens of the newest edition.
 -- An older one has others in the place of what the compiler's lexer leaves to its caller: guarded
--- strings, raw lifetimes and reserved prefixes. C strings and `k#` are read alike in all editions,
--- though Rust has C strings since 2021 only (docs/EDITIONS.md, "What is left to a compiler").
+-- strings, raw lifetimes and reserved prefixes (in the Rust Reference, "2021 Edition differences" and
+-- "2024 Edition differences" of these). C strings and `k#` are read alike in all editions, though Rust
+-- has C strings since 2021 only (docs/EDITIONS.md, "What is left to a compiler").
 use Rattle.std.specs.Prelude.{◌≡◌, ◌<◌, ◌≤◌, ℕ, nat_eq, if◌then◌else◌, find, true, false, List, ◌∷◌, codes, Option, Some, None, ◌+◌, not, Bool, [], ◌++◌, ◌↔◌}
 use Rattle.std.specs.Str.{byte, bytes_eq}
 use Rattle.rustc_lexer.specs.{Edition, FrontmatterAllowed, Token, TokenKind, E2015, E2018, E2021, E2024, Yes, No, Ident, UnknownPrefix, Lifetime, UnknownPrefixLifetime, Pound, RawLifetime, GuardedStrPrefix, Whitespace, Frontmatter, Eof}
@@ -30,8 +31,9 @@ edition_of word =
     else (if bytes_eq word (codes "2024") then Some E2024
     else None)))
 
--- the year of the first edition in which a token of the kind is kept whole; 2015 where no edition
--- cuts it here, also where Rust has the kind only since a later one
+-- the year of the first edition that has tokens of the kind as Language.antt says. An older one cuts
+-- them, or gives them another kind. It is 2015 if no edition changes them here, also if Rust has the
+-- kind only since a later one
 abbrev pub kept_since : TokenKind → ℕ
 kept_since GuardedStrPrefix = 2024
 kept_since RawLifetime = 2021
@@ -85,11 +87,12 @@ abbrev pub mode_edition : Mode → Edition
 mode_edition (document edition) = edition
 mode_edition (part edition) = edition
 
-abbrev pub IsDocument : Mode → Type 0
-IsDocument mode = mode ≡ document (mode_edition mode)
+abbrev pub is_document : Mode → Bool
+is_document (document edition) = true
+is_document (part edition) = false
 
--- how the text past a token is read: white space in front of a document, or its end, leave one, and
--- every other token leaves a part
+-- how the text after a token is read: what follows white space at the front of a document is still
+-- read as a document, and so is its end; what follows any other token is read as a part
 abbrev pub mode_after : Mode → TokenKind → Mode
 mode_after (part edition) kind = part edition
 mode_after (document edition) Whitespace = document edition
@@ -112,7 +115,7 @@ pub data AreTokens : Mode → Chars → List Token → Type 0 where
   nothing : {mode : Mode} → AreTokens mode [] []
   something : {mode : Mode} {kind : TokenKind} {c : ℕ} {w next : Chars} {tokens : List Token}
       → IsTokenIn (mode_edition mode) next kind (c ∷ w)
-      → (IsDocument mode → OpensNone (c ∷ w ++ next))
+      → (is_document mode ≡ true → OpensNone (c ∷ w ++ next))
       → AreTokens (mode_after mode kind) next tokens
       → AreTokens mode (c ∷ w ++ next) (record { kind = kind; len = bytes (c ∷ w) } ∷ tokens)
   frontmatter_first : {edition : Edition} {n : ℕ} {opening next : Chars} {tokens : List Token} (body : Chars)

@@ -5,12 +5,14 @@ pub mod Classes
 pub mod Document
 pub mod Edits
 pub mod FrontmatterGrammar
+pub mod GrammarLaws
 pub mod Language
 pub mod LanguageCalls
 pub mod LanguageText
 pub mod LiteralGrammar
 pub mod Locality
 pub mod NumberGrammar
+pub mod Partition
 pub mod Relexing
 pub mod State
 pub mod Tables

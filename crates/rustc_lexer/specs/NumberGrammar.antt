@@ -1,7 +1,7 @@
 -- The language of numbers: which texts are numbers up to a suffix, before what, and of which kind.
--- All texts are characters, and `next` is what follows. The fields are those of Int base empty_int
--- and Float base empty_exponent.
-use Rattle.std.specs.Prelude.{◌≡◌, ℕ, ◌≤◌, ◌==◌, ◌||◌, not, Bool, true, false, [], ◌∷◌, ◌++◌, length, take, drop}
+-- All texts are characters, and `next` is what follows; names in capitals are as in Language.antt. The
+-- fields are those of Int base empty_int and Float base empty_exponent.
+use Rattle.std.specs.Prelude.{◌≡◌, ℕ, ◌≤◌, ◌==◌, ◌||◌, not, Bool, true, false, [], ◌∷◌, ◌++◌, length}
 use Rattle.std.specs.Char.{is_ascii_digit, is_ascii_hexdigit}
 use Rattle.std.specs.List.{list_all, list_any}
 use Rattle.std.specs.Str.{byte}
@@ -26,32 +26,34 @@ is_no_fraction c = c == byte "." || is_id_start c
 abbrev pub AreDigits : (ℕ → Bool) → Chars → Type 0
 AreDigits is_digit ds = list_all (or_underscore is_digit) ds ≡ true
 
--- what is read as a digit of the base: each decimal digit, also of a base below ten
+-- what is read as a digit of the base: HEX_DIGIT; or DEC_DIGIT, also for a base below ten
 abbrev pub is_digit_of : Base → ℕ → Bool
 is_digit_of Hexadecimal = is_ascii_hexdigit
 is_digit_of base = is_ascii_digit
 
 -- ---- the parts of a number
 
--- the whole part: a digit and more, or the prefix of a base and what digits follow it. It is empty
--- where no digit is behind a prefix: `1_000`, `0b102`, `0x1F`; `0b_` is empty
-pub data IsWhole : Base → (empty : Bool) → Chars → Type 0 where
+-- the whole part, DEC_LITERAL, BIN_LITERAL, OCT_LITERAL, HEX_LITERAL: a digit and more, or the prefix
+-- of a base and what digits follow it: `1_000`, `0b101`, `0x1F`. With a digit past the base it is
+-- RESERVED_NUMBER, `0b102`; with no digit behind the prefix too, and then it is empty, `0b_`
+pub data IsWholePart : Base → (empty : Bool) → Chars → Type 0 where
   plain : {d : ℕ} {ds : Chars}
       → is_ascii_digit d ≡ true
       → AreDigits is_ascii_digit ds
-      → IsWhole Decimal false (d ∷ ds)
+      → IsWholePart Decimal false (d ∷ ds)
   with_b : {ds : Chars}
       → AreDigits is_ascii_digit ds
-      → IsWhole Binary (not (list_any is_ascii_digit ds)) (byte "0" ∷ byte "b" ∷ ds)
+      → IsWholePart Binary (not (list_any is_ascii_digit ds)) (byte "0" ∷ byte "b" ∷ ds)
   with_o : {ds : Chars}
       → AreDigits is_ascii_digit ds
-      → IsWhole Octal (not (list_any is_ascii_digit ds)) (byte "0" ∷ byte "o" ∷ ds)
+      → IsWholePart Octal (not (list_any is_ascii_digit ds)) (byte "0" ∷ byte "o" ∷ ds)
   with_x : {ds : Chars}
       → AreDigits is_ascii_hexdigit ds
-      → IsWhole Hexadecimal (not (list_any is_ascii_hexdigit ds)) (byte "0" ∷ byte "x" ∷ ds)
+      → IsWholePart Hexadecimal (not (list_any is_ascii_hexdigit ds)) (byte "0" ∷ byte "x" ∷ ds)
 
--- an exponent: a letter, a sign or none, and what digits follow. The kind is Float base
--- empty_exponent: empty where no digit follows: `e5`, `E+_5`; `e+` is empty
+-- FLOAT_EXPONENT: a letter, a sign or none, and what digits follow: `e5`, `E+_5`. The kind is Float
+-- base empty_exponent: empty where no digit follows, `e+`, which the Reference rejects ("Reserved
+-- forms similar to number literals")
 pub data IsExponent : Base → LiteralKind → Chars → Type 0 where
   signed : {base : Base} {e g : ℕ} {ds : Chars}
       → is_exponent_letter e ≡ true
@@ -63,7 +65,8 @@ pub data IsExponent : Base → LiteralKind → Chars → Type 0 where
       → AreDigits is_ascii_digit ds
       → IsExponent base (Float base (not (list_any is_ascii_digit ds))) (e ∷ ds)
 
--- what may follow the whole part
+-- what may follow the whole part in INTEGER_LITERAL (`nothing`) and FLOAT_LITERAL (the others, which
+-- behind the prefix of a base are RESERVED_NUMBER), up to a suffix
 pub data IsTailBefore (next : Chars) : Base → LiteralKind → Chars → Type 0 where
   -- `1`
   nothing : {base : Base} → IsTailBefore next base (Int base false) []
@@ -90,23 +93,22 @@ pub data IsTailBefore (next : Chars) : Base → LiteralKind → Chars → Type 0
 
 -- ---- numbers
 
--- a number before `next`: its whole part, if that is empty; else that and what follows it
-pub data IsNumberBefore (next : Chars) : LiteralKind → Chars → Type 0 where
+-- w has the form of a number before `next`: its whole part, if that is empty; else that and what
+-- follows it
+pub data HasNumberForm (next : Chars) : LiteralKind → Chars → Type 0 where
   of_prefix : {base : Base} {whole : Chars}
-      → IsWhole base true whole
-      → IsNumberBefore next (Int base true) whole
+      → IsWholePart base true whole
+      → HasNumberForm next (Int base true) whole
   of_parts : {base : Base} {kind : LiteralKind} {whole tail : Chars}
-      → IsWhole base false whole
+      → IsWholePart base false whole
       → IsTailBefore next base kind tail
-      → IsNumberBefore next kind (whole ++ tail)
+      → HasNumberForm next kind (whole ++ tail)
 
--- a number of this kind is the first n characters of the text
-pub record NumberStands (kind : LiteralKind) (n : ℕ) (s : Chars) : Type 0 where
-  pub inside : n ≤ length s
-  pub is_number : IsNumberBefore (drop n s) kind (take n s)
-
--- one is, and no number at the front is longer. Only here the longest counts: `1.5e+` begins with
--- the numbers `1`, `1.5` and `1.5e` too
-pub record IsLongestNumber (kind : LiteralKind) (n : ℕ) (s : Chars) : Type 0 where
-  pub stands : NumberStands kind n s
-  pub longest : (other : LiteralKind) (m : ℕ) → NumberStands other m s → m ≤ n
+-- w is a number before `next`: it has the form of one, and nothing longer at its place has. `1.5e+` is
+-- one, and begins with others that have the form: `1`, `1.`, `1.5` and `1.5e`
+pub record IsNumberBefore (next : Chars) (kind : LiteralKind) (w : Chars) : Type 0 where
+  pub form : HasNumberForm next kind w
+  pub longest : (other : LiteralKind) (v rest : Chars)
+      → v ++ rest ≡ w ++ next
+      → HasNumberForm rest other v
+      → length v ≤ length w

@@ -4,7 +4,7 @@ use Rattle.rustc_lexer.specs.declared.relex.relexing.{Change.Change, Relexing.Re
 use Rattle.rustc_lexer.specs.{Token}
 use Rattle.rustc_lexer.specs.Classes.{IsText}
 use Rattle.rustc_lexer.specs.Edits.{IsEdit, IsInside, apply, known}
-use Rattle.rustc_lexer.specs.Locality.{bound, tokens_by}
+use Rattle.rustc_lexer.specs.Partition.{bound, tokens_by}
 use Rattle.rustc_lexer.specs.means.Relexing.{Stands}
 
 -- the change may have made the text: what it put in lies inside the text, and its old places are in order and below

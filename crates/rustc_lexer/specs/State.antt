@@ -12,7 +12,8 @@ pub record State : Type 0 where
   pub rest : List ℕ
   pub mode : Mode
 
--- where the suffix begins counts the bytes that were pending
+-- the kind of a token, and the token, with the pending bytes in front: they count in the length and in where the suffix
+-- begins
 abbrev pub kind_past : ℕ → TokenKind → TokenKind
 kind_past pending (Literal kind suffix_start) = Literal kind (pending + suffix_start)
 kind_past pending kind = kind

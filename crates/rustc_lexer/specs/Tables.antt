@@ -1,10 +1,11 @@
--- The tables of the page: emoji and symbols.
+-- The tables of the grammar: emoji and symbols.
 use Rattle.std.specs.Prelude.{ℕ, Bool, ◌&&◌, nat_le, if◌then◌else◌, List, [], ◌∷◌, ◌==◌}
 use Rattle.std.specs.List.{list_any}
 use Rattle.std.specs.Str.{byte}
 use Rattle.rustc_lexer.specs.{TokenKind, Semi, Comma, Dot, Colon, At, OpenParen, CloseParen, Tilde, OpenBrace, CloseBrace, Question, OpenBracket, CloseBracket, Eq, Dollar, Bang, Lt, Gt, Minus, And, Or, Plus, Star, Caret, Percent, Unknown}
 
--- the ranges of emoji, each with both its ends, in rising order; no two of them meet
+-- the ranges of emoji, each with both its ends, in rising order; no two of them meet. They are not
+-- in the Reference
 unfoldable pub emoji_ranges : List (ℕ × ℕ)
 emoji_ranges =
     (0xA9, 0xA9) ∷ (0xAE, 0xAE) ∷ (0x203C, 0x203C) ∷ (0x2049, 0x2049) ∷ (0x2122, 0x2122) ∷ (0x2139, 0x2139) ∷
@@ -42,8 +43,9 @@ emoji_ranges =
 unfoldable pub is_emoji : ℕ → Bool
 is_emoji c = nat_le 128 c && list_any (λ (range : ℕ × ℕ). nat_le range.0 c && nat_le c range.1) emoji_ranges
 
--- which token a character is by itself. The slash and the hash have rules of their own in
--- Language.antt. `->` is two of these, Minus and Gt
+-- which token a character is by itself: those of PUNCTUATION in the Rust Reference that are one
+-- character. The slash and the hash have rules of their own in Language.antt. `->` is two of these,
+-- Minus and Gt
 abbrev pub symbols : List (ℕ × TokenKind)
 symbols =
     (byte ";", Semi) ∷ (byte ",", Comma) ∷ (byte ".", Dot) ∷ (byte "(", OpenParen)

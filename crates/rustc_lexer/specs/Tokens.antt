@@ -5,7 +5,7 @@ pub use Rattle.rustc_lexer.specs.Answers.{advance, raw_check, tokens_of}
 use Rattle.rustc_lexer.specs.Classes.{is_ident}
 use Rattle.rustc_lexer.specs.LanguageCalls.{StartsRaw}
 use Rattle.rustc_lexer.specs.LanguageText.{part, mode_edition, mode_after}
-pub use Rattle.rustc_lexer.specs.Locality.{cut_by, tokens_by, bound, Partitions}
+pub use Rattle.rustc_lexer.specs.Partition.{cut_by, tokens_by, bound, Partitions}
 use Rattle.rustc_lexer.specs.State.{State, token_past, HasSuffixWithin}
 
 -- the tokens that a cursor with nothing pending, or an iterator, will come to
@@ -34,7 +34,8 @@ abbrev pub YieldsToken : State → Option Token → State → Type 0
 YieldsToken s None t = (tokens_left s ≡ []) × (t ≡ s)
 YieldsToken s (Some token) t = TakesToken s token t
 
--- a cursor that has text left takes what it takes with nothing pending, and the bytes that were pending before it
+-- what a cursor takes while text is left: the token that it would take with nothing pending, `taken`, made longer by the
+-- bytes that were pending; then none are
 pub record TakesFirst (s : State) (token : Token) (t : State) : Type 0 where
   pub taken : Token
   pub takes : TakesToken (record s { pending = 0 }) taken t
@@ -46,8 +47,8 @@ pub record TakesFirst (s : State) (token : Token) (t : State) : Type 0 where
 abbrev pub IsChecked : ℕ → List ℕ → Option ℕ → Type 0
 IsChecked prefix text n_hashes = StartsRaw text prefix × ((raw_check text prefix ≡ Ok tt) ↔ IsSome n_hashes)
 
--- an identifier is one by itself, and past its `r#` if it is raw; the text of a raw string may be checked; and `Eof` has
--- none. The page says which texts a kind has
+-- what is promised of the text of a token, beside what the grammar says: that of an identifier passes `is_ident`, and so
+-- does what follows the `r#` of a raw one; that of a raw string may be checked; that of `Eof` is empty
 abbrev pub HasText : TokenKind → List ℕ → Type 0
 HasText Ident text = is_ident (chars text) ≡ true
 HasText RawIdent text = (word : List ℕ) × (text ≡ codes "r#" ++ word) × (is_ident (chars word) ≡ true)

@@ -54,8 +54,8 @@ pub fn tokenize<'a>(input: &'a str, frontmatter_allowed: FrontmatterAllowed) -> 
     tokenize_as(input, frontmatter_allowed, Edition::E2024)
 }
 
-/// Returns an iterator over the tokens of a text in an edition. The text may have at most `u32::MAX` bytes, and no
-/// frontmatter may stand in front of it.
+/// Returns an iterator over the tokens of a text in an edition. The text may have at most `u32::MAX` bytes. It is
+/// read as a part of a document, so dashes at its front are never a frontmatter.
 ///
 /// The lengths of the tokens add up to the length of the text, each token ends between two characters, and the text
 /// from the end of any token has the remaining tokens. With `Edition::E2024` the tokens are those of [`tokenize`]

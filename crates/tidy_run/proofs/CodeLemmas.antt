@@ -16,12 +16,12 @@ use Rattle.rustc_lexer.specs.means.Frontmatter.{dashes, ends_line, opens}
 use Rattle.rustc_lexer.specs.FrontmatterGrammar.{OpensNone}
 use Rattle.rustc_lexer.specs.Language as the
 use Rattle.rustc_lexer.specs.Language.{IsTokenBefore}
-use Rattle.rustc_lexer.specs.LanguageText.{Mode, IsDocument, part, mode_edition, mode_after, AreTokens, nothing, something, frontmatter_first}
+use Rattle.rustc_lexer.specs.LanguageText.{Mode, is_document, part, mode_edition, mode_after, AreTokens, nothing, something, frontmatter_first}
 use Rattle.rustc_lexer.specs.laws.Language.{token-read}
 use Rattle.rustc_lexer.specs.laws.LanguageFrontmatter.{opens-none, none-opens}
 use Rattle.rustc_lexer.specs.laws.LanguageRuns.{among, chooses-space, run_len-here}
 use Rattle.rustc_lexer.specs.laws.Reach.{run_len-out}
-use Rattle.rustc_lexer.specs.laws.LanguageIn.{on_page, of_page}
+use Rattle.rustc_lexer.specs.laws.LanguageIn.{in_grammar, of_grammar}
 use Rattle.rustc_lexer.specs.laws.State.{edition-after}
 use Rattle.tidy_run.specs.Order.{in_order, is_dropped_before, is_last, is_space, is_front, is_open, space_in_order, text_in_order, closing, part_in_order, code_in_order, parts, end_parts, parts_in_order}
 use Rattle.tidy_run.proofs.NearLemmas.{Near, ends, space, closes, near-begins, near-refl, near-space, near-none, EndsToo, is_end, is_solid_kind, token-near}
@@ -150,14 +150,14 @@ space-closed ps = ap (λ (es : List (TokenKind × List ℕ)). let p : TokenKind 
 abbrev pub Puts : Order → Order → TokenKind → List ℕ → Type 0
 Puts order more kind u = (left : List ℕ) (ts : List Token) → order (encode_utf8_all (u ++ left)) (record { kind = kind; len = bytes u } ∷ ts) ≡ part_in_order kind (encode_utf8_all u) (is_last ts) ++ more (encode_utf8_all left) ts
 
-pub space-step : (order left : Order) (mode : Mode) (c : ℕ) (w next : List ℕ) (tokens : List Token) → mode_edition mode ≡ E2024 → ((u : List ℕ) → Puts order left Whitespace u) → AreAll is_whitespace (c ∷ w) → NextIsNot is_whitespace next → (IsDocument mode → OpensNone (c ∷ w ++ next)) → (length tokens ≡ 0 → next ≡ [])
+pub space-step : (order left : Order) (mode : Mode) (c : ℕ) (w next : List ℕ) (tokens : List Token) → mode_edition mode ≡ E2024 → ((u : List ℕ) → Puts order left Whitespace u) → AreAll is_whitespace (c ∷ w) → NextIsNot is_whitespace next → (is_document mode ≡ true → OpensNone (c ∷ w ++ next)) → (length tokens ≡ 0 → next ≡ [])
     → Tidies left (mode_after mode Whitespace) next tokens → Tidies order mode (c ∷ w ++ next) (record { kind = Whitespace; len = bytes (c ∷ w) } ∷ tokens)
 space-step order left mode c w next tokens newest puts all stop free none more =
     let sp = spaces c w tokens all stop more.near more.too none in
     record {
       out = sp.first ∷ sp.rest ++ more.out;
       outs = record { kind = Whitespace; len = bytes (sp.first ∷ sp.rest) } ∷ more.outs;
-      are = something (of_page newest (the.whitespace sp.all (sym (near-space more.near more.too) ∙ stop))) (λ y. opens-none (sp.first ∷ sp.rest ++ more.out) (sp.closed (none-opens (c ∷ w ++ next) (free y)))) more.are;
+      are = something (of_grammar newest (the.whitespace sp.all (sym (near-space more.near more.too) ∙ stop))) (λ y. opens-none (sp.first ∷ sp.rest ++ more.out) (sp.closed (none-opens (c ∷ w ++ next) (free y)))) more.are;
       near = sp.near;
       too = λ e. absurd (let n : suc (length (w ++ next)) ≡ 0 = ap length e in omega arith);
       is = puts (c ∷ w) next tokens ∙ (ap (λ (xs : List ℕ). xs ++ left (encode_utf8_all next) tokens) sp.is ∙ (ap (λ (xs : List ℕ). encode_utf8_all (sp.first ∷ sp.rest) ++ xs) more.is ∙ sym (encodes-append (sp.first ∷ sp.rest) more.out)));
@@ -190,7 +190,7 @@ abbrev newline-token : Token
 newline-token = record { kind = Whitespace; len = bytes (10 ∷ []) }
 
 newline-are : (mode : Mode) → mode_edition mode ≡ E2024 → AreTokens mode (10 ∷ []) (newline-token ∷ [])
-newline-are mode newest = something {w = []} {next = []} (of_page newest (the.whitespace refl refl)) (λ y. opens-none (10 ∷ []) refl) nothing
+newline-are mode newest = something {w = []} {next = []} (of_grammar newest (the.whitespace refl refl)) (λ y. opens-none (10 ∷ []) refl) nothing
 
 newline-parts : parts_in_order (parts (encode_utf8_all (10 ∷ [])) (newline-token ∷ [])) ≡ (Whitespace, []) ∷ []
 newline-parts = refl
@@ -235,12 +235,12 @@ behind kind mode next [] solid newest none some more = subst (λ (cs : List ℕ)
     }
 
 -- another token more
-pub solid-step : (order : Order) (mode : Mode) (kind : TokenKind) (c : ℕ) (w next : List ℕ) (tokens : List Token) → mode_edition mode ≡ E2024 → ((u : List ℕ) → Puts order code_in_order kind u) → is_space kind ≡ false → IsTokenBefore next kind (c ∷ w) → (IsDocument mode → OpensNone (c ∷ w ++ next))
+pub solid-step : (order : Order) (mode : Mode) (kind : TokenKind) (c : ℕ) (w next : List ℕ) (tokens : List Token) → mode_edition mode ≡ E2024 → ((u : List ℕ) → Puts order code_in_order kind u) → is_space kind ≡ false → IsTokenBefore next kind (c ∷ w) → (is_document mode ≡ true → OpensNone (c ∷ w ++ next))
     → (more : Behind kind (mode_after mode kind) next tokens) → Turned kind c w next more.out → Tidies order mode (c ∷ w ++ next) (record { kind = kind; len = bytes (c ∷ w) } ∷ tokens)
 solid-step order mode kind c w next tokens newest puts solid p free more turned = record {
   out = c ∷ v ++ more.out;
   outs = record { kind = kind; len = bytes (c ∷ v) } ∷ more.outs;
-  are = something (of_page newest turned.token) (λ y. opens-none (c ∷ v ++ more.out) (opens-solid c (v ++ more.out) first ∙ (ap (λ (b : Bool). b && true) (sym (near-begins (dashes 3) refl turned.near)) ∙ (sym (opens-solid c (w ++ next) first) ∙ none-opens (c ∷ w ++ next) (free y))))) more.are;
+  are = something (of_grammar newest turned.token) (λ y. opens-none (c ∷ v ++ more.out) (opens-solid c (v ++ more.out) first ∙ (ap (λ (b : Bool). b && true) (sym (near-begins (dashes 3) refl turned.near)) ∙ (sym (opens-solid c (w ++ next) first) ∙ none-opens (c ∷ w ++ next) (free y))))) more.are;
   near = turned.near;
   is = own w turned.is next tokens ∙ (ap (λ (xs : List ℕ). encode_utf8_all (c ∷ v) ++ xs) more.is ∙ sym (encodes-append (c ∷ v) more.out));
   too = λ e. absurd (let n : suc (length (w ++ next)) ≡ 0 = ap length e in omega arith);
@@ -269,7 +269,7 @@ solid-step order mode kind c w next tokens newest puts solid p free more turned 
     front text e ps = ap (λ (b : Bool). let q : TokenKind × List ℕ = (kind, text_in_order kind (if b then [] else text)) in q ∷ (end_parts kind ps ++ parts_in_order ps)) solid
         ∙ ap (λ (xs : List ℕ). let q : TokenKind × List ℕ = (kind, xs) in q ∷ (end_parts kind ps ++ parts_in_order ps)) e
 
-pub solid-token : (order : Order) (mode : Mode) (kind : TokenKind) (c : ℕ) (w next : List ℕ) (tokens : List Token) → mode_edition mode ≡ E2024 → ((u : List ℕ) → Puts order code_in_order kind u) → is_space kind ≡ false → IsTokenBefore next kind (c ∷ w) → (IsDocument mode → OpensNone (c ∷ w ++ next))
+pub solid-token : (order : Order) (mode : Mode) (kind : TokenKind) (c : ℕ) (w next : List ℕ) (tokens : List Token) → mode_edition mode ≡ E2024 → ((u : List ℕ) → Puts order code_in_order kind u) → is_space kind ≡ false → IsTokenBefore next kind (c ∷ w) → (is_document mode ≡ true → OpensNone (c ∷ w ++ next))
     → Behind kind (mode_after mode kind) next tokens → Tidies order mode (c ∷ w ++ next) (record { kind = kind; len = bytes (c ∷ w) } ∷ tokens)
 solid-token order mode kind c w next tokens newest puts solid p free more = elim (token-near more.near more.too p) [
   | inl run ↦ absurd (true≢false (sym (ap is_space run.kind_is) ∙ solid))
@@ -289,7 +289,7 @@ code-tidies is_part (something {mode} {kind} {c} {w} {next} {tokens} is free res
     newest = ap mode_edition is_part
 
     p : IsTokenBefore next kind (c ∷ w)
-    p = on_page newest is
+    p = in_grammar newest is
 
     by_token : Tidies code_in_order (mode_after mode kind) next tokens → Tidies code_in_order mode (c ∷ w ++ next) (record { kind = kind; len = bytes (c ∷ w) } ∷ tokens)
     by_token more = elim (token-near (near-refl next) (λ o e. e) p) [

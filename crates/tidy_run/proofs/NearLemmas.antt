@@ -1,5 +1,5 @@
 -- Texts that differ in their white space alone begin with the same tokens.
-use Rattle.std.proofs.Common.{◌≡◌, ℕ, zero, suc, ◌+◌, ◌<◌, ◌≤◌, ◌==◌, ◌&&◌, ◌||◌, ◌⊎◌, inl, inr, not, Bool, true, false, true≢false, List, [], ◌∷◌, ◌++◌, length, length-append, take, drop, codes, refl, sym, ap, ◌∙◌, subst, arith, is_none}
+use Rattle.std.proofs.Common.{◌≡◌, ℕ, zero, suc, ◌+◌, ◌<◌, ◌≤◌, ◌==◌, ◌&&◌, ◌||◌, ◌⊎◌, inl, inr, not, Bool, true, false, true≢false, List, [], ◌∷◌, ◌++◌, length, length-append, take, drop, take-append-drop, codes, refl, sym, ap, ◌∙◌, subst, arith, is_none}
 use Rattle.std.proofs.Math.Seq.{take-append_seam, drop-append_seam}
 use Rattle.std.proofs.lemmas.Bool.{and_parts, cases_Bool, eqb-true, not-true}
 use Rattle.std.proofs.lemmas.Grind.{common_steps}
@@ -18,7 +18,7 @@ use Rattle.rustc_lexer.specs.LiteralGrammar.{IsDoubleQuoted, IsSingleQuoted, IsR
 use Rattle.rustc_lexer.specs.laws.LanguageRuns.{none-among, begins-next}
 use Rattle.rustc_lexer.specs.laws.Choice.{by_symbol}
 use Rattle.rustc_lexer.specs.NumberGrammar as num
-use Rattle.rustc_lexer.specs.NumberGrammar.{is_exponent_letter, is_sign, is_no_fraction, AreDigits, IsWhole, IsExponent, IsTailBefore, IsNumberBefore, NumberStands, IsLongestNumber}
+use Rattle.rustc_lexer.specs.NumberGrammar.{is_exponent_letter, is_sign, is_no_fraction, AreDigits, IsWholePart, IsExponent, IsTailBefore, HasNumberForm, IsNumberBefore}
 use Rattle.tidy_run.specs.Order.{is_space, is_front, is_open_literal, is_open}
 
 -- two texts up to the first white space at which they differ: a newline stays one, and a quote comes no nearer to it; or a
@@ -161,7 +161,7 @@ one-plain p solid c w e all = rw (solid-plain p solid c e) all
 append-plain : (v w : List ℕ) → AreAll is_plain v → AreAll is_plain w → AreAll is_plain (v ++ w)
 append-plain v w a b = grind (arith, common_steps, and_parts)
 
-whole-plain : {base : _} {none : Bool} {w : List ℕ} → IsWhole base none w → AreAll is_plain w
+whole-plain : {base : _} {none : Bool} {w : List ℕ} → IsWholePart base none w → AreAll is_plain w
 whole-plain is = grind (arith, common_steps, one-plain, by_list, digits-plain, hexdigits-plain)
 
 exponent-plain : {base : _} {kind : LiteralKind} {w : List ℕ} → IsExponent base kind w → AreAll is_plain w
@@ -171,7 +171,7 @@ exponent-plain (num.unsigned {base} {e} {ds} letter all) = one-plain is_exponent
 tail-plain : {next : List ℕ} {base : _} {kind : LiteralKind} {w : List ℕ} → IsTailBefore next base kind w → AreAll is_plain w
 tail-plain is = grind (arith, common_steps, one-plain, by_list, digits-plain, exponent-plain, append-plain)
 
-number-plain : {next : List ℕ} {kind : LiteralKind} {w : List ℕ} → IsNumberBefore next kind w → AreAll is_plain w
+number-plain : {next : List ℕ} {kind : LiteralKind} {w : List ℕ} → HasNumberForm next kind w → AreAll is_plain w
 number-plain is = grind (arith, common_steps, whole-plain, append-plain, tail-plain)
 
 tail-before : {s t : List ℕ} → next_is is_no_fraction s ≡ next_is is_no_fraction t → {base : _} {kind : LiteralKind} {w : List ℕ} → IsTailBefore s base kind w → IsTailBefore t base kind w
@@ -181,7 +181,7 @@ tail-before e (num.of_fraction d all) = num.of_fraction d all
 tail-before e (num.of_exponent other is) = num.of_exponent other is
 tail-before e (num.of_both ds d all is) = num.of_both ds d all is
 
-number-before : {s t : List ℕ} → next_is is_no_fraction s ≡ next_is is_no_fraction t → {kind : LiteralKind} {w : List ℕ} → IsNumberBefore s kind w → IsNumberBefore t kind w
+number-before : {s t : List ℕ} → next_is is_no_fraction s ≡ next_is is_no_fraction t → {kind : LiteralKind} {w : List ℕ} → HasNumberForm s kind w → HasNumberForm t kind w
 number-before e (num.of_prefix is) = num.of_prefix is
 number-before e (num.of_parts is more) = num.of_parts is (tail-before e more)
 
@@ -198,26 +198,14 @@ same-front (suc m) closes le all = absurd (true≢false (sym all))
 same-front (suc m) (space {c} {d} {s} {t} a b k) le all = absurd (true≢false (sym b ∙ not-true (is_whitespace d) (and_parts (is_plain d) _ all).0))
 same-front (suc m) (same {c} {s} {t} near) le all = grind (arith, common_steps, and_parts, same-front m near)
 
-stands-back : {s t : List ℕ} → Near s t → {kind : LiteralKind} {m : ℕ} → NumberStands kind m t → NumberStands kind m s
-stands-back {s} {t} near {kind} {m} at =
-    let same = same-front m near at.inside (number-plain at.is_number) in
-    record {
-      inside = same.inside;
-      is_number = subst (λ (xs : List ℕ). IsNumberBefore (drop m s) kind xs) same.front (number-before (sym (near-next is_no_fraction fraction-solid same.left)) at.is_number);
-    }
-
-near-number : {kind : LiteralKind} (w : List ℕ) {s t : List ℕ} → Near s t → IsLongestNumber kind (length w) (w ++ s) → IsLongestNumber kind (length w) (w ++ t)
+near-number : {kind : LiteralKind} (w : List ℕ) {s t : List ℕ} → Near s t → IsNumberBefore s kind w → IsNumberBefore t kind w
 near-number {kind} w {s} {t} near is = record {
-  stands = record {
-    inside = let e : length (w ++ t) ≡ length w + length t = length-append w t in omega arith;
-    is_number =
-        subst (λ (xs : List ℕ). IsNumberBefore (drop (length w) (w ++ t)) kind xs) (sym (take-append_seam w t))
-        (subst (λ (xs : List ℕ). IsNumberBefore xs kind w) (sym (drop-append_seam w t))
-        (number-before (near-next is_no_fraction fraction-solid near)
-        (subst (λ (xs : List ℕ). IsNumberBefore xs kind w) (drop-append_seam w s)
-        (subst (λ (xs : List ℕ). IsNumberBefore (drop (length w) (w ++ s)) kind xs) (take-append_seam w s) is.stands.is_number))));
-  };
-  longest = λ other m at. is.longest other m (stands-back (near-append w near) at);
+  form = number-before (near-next is_no_fraction fraction-solid near) is.form;
+  longest = λ other v rest text form.
+      let same = same-front (length v) (subst (λ (xs : List ℕ). Near (w ++ s) xs) (sym text) (near-append w near)) (omega (arith, length-append v rest)) (subst (λ (xs : List ℕ). AreAll is_plain xs) (sym (take-append_seam v rest)) (number-plain form)) in
+      let front : take (length v) (w ++ s) ≡ v = sym same.front ∙ take-append_seam v rest in
+      let left : Near (drop (length v) (w ++ s)) rest = subst (λ (xs : List ℕ). Near (drop (length v) (w ++ s)) xs) (drop-append_seam v rest) same.left in
+      is.longest other v (drop (length v) (w ++ s)) (ap (λ (xs : List ℕ). xs ++ drop (length v) (w ++ s)) (sym front) ∙ take-append-drop (length v) (w ++ s)) (number-before (sym (near-next is_no_fraction fraction-solid left)) form);
 }
 
 -- ---- tokens

@@ -18,9 +18,9 @@ use Rattle.rustc_lexer.specs.LanguageText.{document, part, AreTokens, something}
 use Rattle.rustc_lexer.specs.Classes.{bytes, begins, IsText}
 use Rattle.rustc_lexer.specs.laws.LanguageFrontmatter.{opens-none}
 use Rattle.rustc_lexer.specs.means.Shebang.{is_passed, is_open_bracket, is_attribute, line_len, shebang_past}
-use Rattle.rustc_lexer.specs.means.Shebang.{shebang}
+use Rattle.rustc_lexer.specs.means.Shebang.{read_shebang}
 use Rattle.rustc_lexer.specs.Tokens.{tokens_of}
-use Rattle.rustc_lexer.specs.laws.LanguageIn.{of_page}
+use Rattle.rustc_lexer.specs.laws.LanguageIn.{of_grammar}
 use Rattle.rustc_lexer.specs.laws.LanguageTokens.{language}
 use Rattle.rustc_lexer.specs.laws.LanguageShebang.{front-is, mark-utf8, no-mark}
 use Rattle.tidy_run.specs.Order.{is_space, is_open, end_parts, parts_in_order, is_no_front, code_in_order, front_in_order, source_in_order, source_tidied, source_parts, parts}
@@ -75,7 +75,7 @@ mark-tokens text is e =
     let rest : AreTokens (part E2024) (chars (drop 2 text)) (tokens_of (part E2024) (drop 2 text)) = (language (drop 2 text) (part E2024) m.rest_is (tokens_of (part E2024) (drop 2 text))).1 refl in
     sym ((language text (document E2024) is (record { kind = Pound; len = bytes (35 ∷ []) } ∷ record { kind = Bang; len = bytes (33 ∷ []) } ∷ tokens_of (part E2024) (drop 2 text))).0
     (subst (λ (cs : List ℕ). AreTokens (document E2024) cs (record { kind = Pound; len = bytes (35 ∷ []) } ∷ record { kind = Bang; len = bytes (33 ∷ []) } ∷ tokens_of (part E2024) (drop 2 text))) (sym m.chars_are)
-    (something {w = []} {next = 33 ∷ chars (drop 2 text)} (of_page refl (the.pound refl)) (λ y. opens-none (35 ∷ 33 ∷ chars (drop 2 text)) refl) (something {w = []} {next = chars (drop 2 text)} (of_page refl (the.symbol {c = 33} bang-alone)) (λ y. absurd (cc)) rest))))
+    (something {w = []} {next = 33 ∷ chars (drop 2 text)} (of_grammar refl (the.pound refl)) (λ y. opens-none (35 ∷ 33 ∷ chars (drop 2 text)) refl) (something {w = []} {next = chars (drop 2 text)} (of_grammar refl (the.symbol {c = 33} bang-alone)) (λ y. absurd (cc)) rest))))
 
 -- ---- kinds
 
@@ -116,8 +116,8 @@ same-attribute text other is other_is e f same = grind (arith, common_steps, mar
 
 -- ---- no shebang line comes
 
-past-there : (text : List ℕ) → begins (codes "#!") text ≡ true → shebang text ≡ shebang_past (drop 2 text)
-unfolding shebang
+past-there : (text : List ℕ) → begins (codes "#!") text ≡ true → read_shebang text ≡ shebang_past (drop 2 text)
+unfolding read_shebang
 past-there text e = rw e refl
 
 if_none : (b : Bool) (n : ℕ) → (if b then None else Some n) ≡ None → b ≡ true
@@ -126,7 +126,7 @@ if_none b n e = grind (arith, common_steps)
 no_line : (tail : List ℕ) → shebang_past tail ≡ None → is_attribute (tokens_of (part E2024) tail) ≡ true
 no_line tail e = if_none (is_attribute (tokens_of (part E2024) tail)) (2 + line_len tail) e
 
-pub stays-none : (text : List ℕ) → IsText text → length text + 1 < 2 ^ 32 → shebang text ≡ None → shebang (source_tidied text) ≡ None
+pub stays-none : (text : List ℕ) → IsText text → length text + 1 < 2 ^ 32 → read_shebang text ≡ None → read_shebang (source_tidied text) ≡ None
 stays-none text is room none = elim (cases_Bool (begins (codes "#!") text)) [
   | inl e ↦ (let f = same ∙ e in past-there (source_tidied text) f ∙ (let t = same-attribute text (source_tidied text) is law.is_text e f law.same ∙ no_line (drop 2 text) (sym (past-there text e) ∙ none) in rw t refl))
   | inr e ↦ no-mark (source_tidied text) (same ∙ e)

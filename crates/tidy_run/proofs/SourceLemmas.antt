@@ -13,11 +13,11 @@ use Rattle.rustc_lexer.specs.declared.token.TokenKind.TheVariants.{Whitespace, F
 use Rattle.rustc_lexer.specs.Classes.{is_among, is_whitespace, NextIsNot, bytes, next_is, IsText}
 use Rattle.rustc_lexer.specs.FrontmatterGrammar.{IsOpeningBefore, OpensNone, endings, IsBodyBefore}
 use Rattle.rustc_lexer.specs.Language.{IsTokenBefore}
-use Rattle.rustc_lexer.specs.LanguageText.{Mode, IsDocument, document, part, mode_edition, mode_after, AreTokens, nothing, something, frontmatter_first}
+use Rattle.rustc_lexer.specs.LanguageText.{Mode, is_document, document, part, mode_edition, mode_after, AreTokens, nothing, something, frontmatter_first}
 use Rattle.rustc_lexer.specs.laws.LanguageLiterals.{bytes-append}
 use Rattle.rustc_lexer.specs.means.Taking.{token_at}
 use Rattle.rustc_lexer.specs.Tokens.{tokens_of}
-use Rattle.rustc_lexer.specs.laws.LanguageIn.{on_page}
+use Rattle.rustc_lexer.specs.laws.LanguageIn.{in_grammar}
 use Rattle.rustc_lexer.specs.laws.LanguageTokens.{language}
 use Rattle.rustc_lexer.specs.laws.Same.{same_token}
 use Rattle.rustc_lexer.specs.laws.State.{edition-after}
@@ -176,10 +176,10 @@ in-newest : {edition : Edition} {next : List ℕ} {tokens : List Token} → docu
 in-newest {edition} {next} {tokens} yes_is rest = subst (λ (m : Mode). AreTokens (part (mode_edition m)) next tokens) yes_is rest
 
 -- a document of the newest edition is a document
-is_document : {mode : Mode} → mode ≡ document E2024 → IsDocument mode
-is_document yes_is = yes_is ∙ ap document (sym (ap mode_edition yes_is))
+document-is : {mode : Mode} → mode ≡ document E2024 → is_document mode ≡ true
+document-is yes_is = ap is_document yes_is
 
-solid-front : (kind : TokenKind) (c : ℕ) (w next : List ℕ) (tokens : List Token) → is_solid_kind kind ≡ true → IsTokenBefore next kind (c ∷ w) → (IsDocument (document E2024) → OpensNone (c ∷ w ++ next))
+solid-front : (kind : TokenKind) (c : ℕ) (w next : List ℕ) (tokens : List Token) → is_solid_kind kind ≡ true → IsTokenBefore next kind (c ∷ w) → (is_document (document E2024) ≡ true → OpensNone (c ∷ w ++ next))
     → AreTokens (mode_after (document E2024) kind) next tokens → Tidies front_in_order (document E2024) (c ∷ w ++ next) (record { kind = kind; len = bytes (c ∷ w) } ∷ tokens)
 solid-front kind c w next tokens solid p free rest = by_token (code-tidies (past-solid kind known.0 known.2) rest)
   where
@@ -194,7 +194,7 @@ front-tidies : {mode : Mode} {cs : List ℕ} {tokens : List Token} → mode ≡ 
 front-tidies yes_is good fits stop (nothing) = record { out = []; outs = []; are = nothing; near = ends; is = refl; too = λ e. refl; same = refl; again = refl; last = refl; size = omega arith; good = λ e. e }
 front-tidies yes_is good fits stop (frontmatter_first {edition} body is_opening is_end rest) = opened-tidies body good fits is_opening is_end (in-newest {edition = edition} yes_is rest)
 front-tidies yes_is good fits stop (something {mode} {kind} {c} {w} {next} {tokens} is free rest) =
-    grind (arith, common_steps, on_page, solid-front, kind-solid, is_document)
+    grind (arith, common_steps, in_grammar, solid-front, kind-solid, document-is)
 
 -- ---- with white space first, or none
 
@@ -234,18 +234,18 @@ source-tidies yes_is good fits (frontmatter_first {edition} {n} {opening = front
 source-tidies yes_is good fits (something {mode} {kind} {c} {w} {next} {tokens} is free rest) = elim (token-near (near-refl next) (λ o e. e) p) [
   | inl run ↦ spaced run
   | inr stays ↦ (let solid = stays.is_solid (omega arith) in as-source (c ∷ w ++ next) (record { kind = kind; len = bytes (c ∷ w) }) tokens (solid-no kind solid).0
-      (solid-front kind c w next tokens solid p (λ y. free (is_document yes_is)) (subst (λ (a : Mode). AreTokens (mode_after a kind) next tokens) yes_is rest)))
+      (solid-front kind c w next tokens solid p (λ y. free (document-is yes_is)) (subst (λ (a : Mode). AreTokens (mode_after a kind) next tokens) yes_is rest)))
 ]
   where
     p : IsTokenBefore next kind (c ∷ w)
-    p = on_page (ap mode_edition yes_is) is
+    p = in_grammar (ap mode_edition yes_is) is
 
     next-fits : bytes next + 1 < 2 ^ 32
     next-fits = let e = ap length (encodes-append (c ∷ w) next) in let f = length-append (encode_utf8_all (c ∷ w)) (encode_utf8_all next) in omega arith
 
     spaced : IsSpaceRun next kind (c ∷ w) → Tidies source_in_order (document E2024) (c ∷ w ++ next) (record { kind = kind; len = bytes (c ∷ w) } ∷ tokens)
     spaced run = subst (λ (k : TokenKind). Tidies source_in_order (document E2024) (c ∷ w ++ next) (record { kind = k; len = bytes (c ∷ w) } ∷ tokens)) (sym run.kind_is)
-        (space-step source_in_order front_in_order (document E2024) c w next tokens refl source-puts run.all run.stop (λ y. free (is_document yes_is)) (none-left rest)
+        (space-step source_in_order front_in_order (document E2024) c w next tokens refl source-puts run.all run.stop (λ y. free (document-is yes_is)) (none-left rest)
         (front-tidies (ap (λ (a : Mode). mode_after a kind) yes_is ∙ ap (mode_after (document E2024)) run.kind_is) (scalars-parts (c ∷ w) next good).1 next-fits run.stop rest))
 
 -- ---- texts

@@ -3,7 +3,8 @@ use Rattle.std.proofs.Common.{◌≡◌, ℕ, zero, suc, ◌+◌, ◌<◌, ◌�
 use Rattle.std.proofs.lemmas.List.{drop-take}
 use Rattle.std.proofs.lemmas.Str.{chars-append, IsUtf8-append, IsUtf8-drop, IsUtf8-nil, IsUtf8-take}
 use Rattle.rustc_lexer.specs.{Token}
-use Rattle.rustc_lexer.specs.Locality.{AgreePast, IsGrammar, bound, cut_by, tokens_by}
+use Rattle.rustc_lexer.specs.Locality.{AgreePast, IsGrammar}
+use Rattle.rustc_lexer.specs.Partition.{bound, cut_by, tokens_by}
 use Rattle.rustc_lexer.specs.Classes.{IsText}
 use Rattle.rustc_lexer.specs.laws.Texts.{agree_inside}
 use Rattle.rustc_lexer.specs.laws.TokenBy.{left_text}

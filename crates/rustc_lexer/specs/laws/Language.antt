@@ -20,7 +20,7 @@ use Rattle.rustc_lexer.specs.LiteralGrammar as lit
 use Rattle.rustc_lexer.specs.Language.{begins_prefixed, IsTokenBefore}
 use Rattle.rustc_lexer.specs.LiteralGrammar.{IsLiteralBefore}
 use Rattle.rustc_lexer.specs.LanguageText.{TheOnly}
-use Rattle.rustc_lexer.specs.Locality.{BeginsWith}
+use Rattle.rustc_lexer.specs.GrammarLaws.{BeginsWith}
 use Rattle.rustc_lexer.specs.means.Lexeme.{is_raw_mark, begins_raw, raw_past_or_ident, letter_r, letter_k, letter_b, letter_c, word, lexeme}
 use Rattle.rustc_lexer.specs.means.Literal.{literal}
 use Rattle.rustc_lexer.specs.means.Quoted.{byte_body, byte_str_body, c_str_body}

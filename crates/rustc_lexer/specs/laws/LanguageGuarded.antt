@@ -87,8 +87,8 @@ guarded-read {next} (the.closed n k {w} {suffix} q le stop is) =
     (omega (arith, closing-read le stop is, length-append w (hashes k ++ suffix), length-append (hashes k) suffix, guard-length k))
 guarded-read {next} (the.unclosed n {w} q) = read-parts n false w next (length w + 0) (body-open n w next (double-read q)) (omega arith)
 
-takes-read : {s : State} {r : Option GuardedStr × State} → TakesGuarded s r → r ≡ spec.guarded s
-unfolding spec.guarded
+takes-read : {s : State} {r : Option GuardedStr × State} → TakesGuarded s r → r ≡ spec.take_guarded s
+unfolding spec.take_guarded
 takes-read {s} (holds.string {n} {terminated} {w} {next} e is) =
     let r = guarded-read is in
     sym (ap (λ (cs : List ℕ). guarded_by (hash_run cs) (string_past (hash_run cs) cs) s) e
@@ -142,11 +142,11 @@ taken s = let g = guarded (chars s.rest) in by_left g.count g.left (sym g.whole)
         (λ f. record { answer = _; is = holds.none n (c ∷ u) e (or_from (c == 34) _ f (or_from (c == 35) false stop refl)) })
 
 -- this and nothing else
-pub guarded-answer : (s t : State) (answer : Option GuardedStr) → answer ≡ (spec.guarded s).0 → t ≡ (spec.guarded s).1 → (other : Option GuardedStr × State) → TakesGuarded s other ↔ (other ≡ (answer, t))
+pub guarded-answer : (s t : State) (answer : Option GuardedStr) → answer ≡ (spec.take_guarded s).0 → t ≡ (spec.take_guarded s).1 → (other : Option GuardedStr × State) → TakesGuarded s other ↔ (other ≡ (answer, t))
 guarded-answer s t answer e f other = (
   λ is. takes-read is ∙ whole,
   λ g. let h = taken s in subst (TakesGuarded s) (takes-read h.is ∙ sym (g ∙ sym whole)) h.is,
 )
   where
-    whole : spec.guarded s ≡ (answer, t)
-    whole = ap (λ (a : Option GuardedStr). let r : Option GuardedStr × State = (a, (spec.guarded s).1) in r) (sym e) ∙ ap (λ (x : State). let r : Option GuardedStr × State = (answer, x) in r) (sym f)
+    whole : spec.take_guarded s ≡ (answer, t)
+    whole = ap (λ (a : Option GuardedStr). let r : Option GuardedStr × State = (a, (spec.take_guarded s).1) in r) (sym e) ∙ ap (λ (x : State). let r : Option GuardedStr × State = (answer, x) in r) (sym f)

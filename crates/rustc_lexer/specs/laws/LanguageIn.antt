@@ -40,7 +40,7 @@ guarded-cut edition cs len lt = grind (arith, common_steps, leb-true)
 before : (edition : Edition) (cs : List ℕ) (t : Token) → year edition < 2021 → changed edition cs t ≡ before_2021 cs t.kind t.len
 before edition cs t lt = grind (arith, common_steps, leb-true)
 
--- ---- the tokens that an edition may not keep, as they stand on the page
+-- ---- the tokens that an edition may not keep, as the grammar has them
 
 data View (next : List ℕ) : TokenKind → List ℕ → Type 0 where
   cut_hash : {c : ℕ} → View next GuardedStrPrefix (35 ∷ c ∷ [])
@@ -184,16 +184,16 @@ first-front edition text (c ∷ s) is some e =
     subst (λ (u : List ℕ). Front edition (c ∷ u) (changed edition (c ∷ u) (token (past_first c s).0 (bytes (c ∷ take m s))))) (take-append-drop m s) there in
     subst (λ (cs : List ℕ). Front edition cs (changed edition cs (token (lexeme cs).0 (bytes_of (lexeme cs).1 cs)))) (sym e) here
 
--- ---- the newest edition has the page
+-- ---- the newest edition has the tokens of the grammar
 
-pub on_page : {edition : Edition} {next : List ℕ} {kind : TokenKind} {w : List ℕ} → edition ≡ E2024 → IsTokenIn edition next kind w → IsTokenBefore next kind w
-on_page newest w1 = grind (arith, common_steps)
+pub in_grammar : {edition : Edition} {next : List ℕ} {kind : TokenKind} {w : List ℕ} → edition ≡ E2024 → IsTokenIn edition next kind w → IsTokenBefore next kind w
+in_grammar newest w1 = grind (arith, common_steps)
 
 kept_now : (kind : TokenKind) → kept_since kind ≤ 2024
 kept_now kind = grind (arith, common_steps)
 
-pub of_page : {edition : Edition} {next : List ℕ} {kind : TokenKind} {w : List ℕ} → edition ≡ E2024 → IsTokenBefore next kind w → IsTokenIn edition next kind w
-of_page {edition} {next} {kind} newest p = kept (subst (λ (x : Edition). kept_since kind ≤ year x) (sym newest) (kept_now kind)) p
+pub of_grammar : {edition : Edition} {next : List ℕ} {kind : TokenKind} {w : List ℕ} → edition ≡ E2024 → IsTokenBefore next kind w → IsTokenIn edition next kind w
+of_grammar {edition} {next} {kind} newest p = kept (subst (λ (x : Edition). kept_since kind ≤ year x) (sym newest) (kept_now kind)) p
 
-pub page : (next w : List ℕ) (kind : TokenKind) → IsTokenIn E2024 next kind w ↔ IsTokenBefore next kind w
-page next w kind = (on_page refl, of_page refl)
+pub newest_has : (next w : List ℕ) (kind : TokenKind) → IsTokenIn E2024 next kind w ↔ IsTokenBefore next kind w
+newest_has next w kind = (in_grammar refl, of_grammar refl)

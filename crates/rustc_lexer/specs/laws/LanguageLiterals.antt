@@ -1,5 +1,5 @@
 -- Literals are in their languages, with their suffixes, and what is there is read so.
-use Rattle.std.proofs.Common.{◌≡◌, ℕ, zero, suc, ◌+◌, ◌==◌, nat_lt, Bool, true, false, true≢false, List, [], ◌∷◌, ◌++◌, length, take, drop, codes, refl, sym, ap, ◌∙◌, subst, arith, append_assoc, length-append, length-take-le, take-append-drop, take-add, drop-drop, Option, Result, Ok, Err}
+use Rattle.std.proofs.Common.{◌≡◌, ℕ, zero, suc, ◌+◌, ◌==◌, nat_lt, Bool, true, false, true≢false, List, [], ◌∷◌, ◌++◌, length, take, drop, codes, refl, sym, ap, ◌∙◌, subst, arith, append_assoc, length-append, take-append-drop, take-add, drop-drop, Option, Result, Ok, Err}
 use Rattle.std.proofs.Math.Seq.{take-append_seam, drop-append_seam}
 use Rattle.std.proofs.lemmas.Bool.{and_parts, eqb-true, false_from_ne_true, lt-ltb}
 use Rattle.std.proofs.lemmas.List.{append-nil}
@@ -19,8 +19,7 @@ use Rattle.rustc_lexer.specs.laws.Ident.{marks_ident-told}
 use Rattle.rustc_lexer.specs.laws.LanguageQuoted.{double-read, double-sound, single-read, single-sound}
 use Rattle.rustc_lexer.specs.laws.LanguageRaw.{raw-read, raw-sound}
 use Rattle.rustc_lexer.specs.laws.LanguageRuns.{run_len-here, run-stops, either-way, Sound, Read, pair, read-first, sound-after, told-front, digit-small, chooses-word, chooses-number, chooses-str}
-use Rattle.rustc_lexer.specs.laws.Number.{number_kind_local}
-use Rattle.rustc_lexer.specs.laws.NumberLongest.{longest-read, longest-is}
+use Rattle.rustc_lexer.specs.laws.NumberLongest.{number-read, number-is}
 use Rattle.rustc_lexer.specs.laws.Reach.{run_all}
 use Rattle.rustc_lexer.specs.Language as the
 use Rattle.rustc_lexer.specs.LiteralGrammar as lit
@@ -29,7 +28,7 @@ use Rattle.rustc_lexer.specs.Language.{IsTokenBefore}
 use Rattle.rustc_lexer.specs.means.Lexeme.{is_raw_mark, word}
 use Rattle.rustc_lexer.specs.means.Literal.{Body, suffix_len, suffixed, literal_past, literal}
 use Rattle.rustc_lexer.specs.means.Number.{with_suffix, number_kind, number_body, number}
-use Rattle.rustc_lexer.specs.NumberGrammar.{IsWhole, IsNumberBefore, of_prefix, of_parts, IsLongestNumber}
+use Rattle.rustc_lexer.specs.NumberGrammar.{IsWholePart, HasNumberForm, of_prefix, of_parts, IsNumberBefore}
 use Rattle.rustc_lexer.specs.means.Quoted.{double_quoted_string, single_quoted_string, quoted_body, str_body, byte_str_body, c_str_body, byte_body}
 use Rattle.rustc_lexer.specs.means.Raw.{raw_read, accepted, is_accepted, raw_body, prefix_kind, prefix_len, raw_literal}
 use Rattle.rustc_lexer.specs.means.Scan.{after, begins, bytes_of, next_is, run_len}
@@ -215,17 +214,7 @@ digit-one : (c : ℕ) → is_ascii_digit c ≡ true → len_utf8 c ≡ 1
 digit-one c digit = let small : nat_lt c 0x80 ≡ true = lt-ltb c 128 (digit-small c digit) in rw small refl
 
 pub number-sound : (c : ℕ) → is_ascii_digit c ≡ true → (s : List ℕ) → Sound c s (number c s)
-number-sound c digit s = literal-sound (c ∷ []) 1 kind true m s (bytes-letter c (digit-one c digit))
-    (lit.number (subst (λ (n : ℕ). IsLongestNumber kind n (c ∷ take m s ++ drop m s)) len (subst (λ (u : List ℕ). IsLongestNumber kind (1 + m) (c ∷ u)) (sym (take-append-drop m s)) (longest-read c s digit))))
-  where
-    kind : LiteralKind
-    kind = (number_kind c s).0
-
-    m : ℕ
-    m = (number_kind c s).1
-
-    len : 1 + m ≡ suc (length (take m s))
-    len = let at = number_kind_local c s in omega (arith, length-take-le m s at.inside)
+number-sound c digit s = literal-sound (c ∷ []) 1 (number_kind c s).0 true (number_kind c s).1 s (bytes-letter c (digit-one c digit)) (lit.number (number-read c s digit))
 
 -- its first digit
 pub record HasDigit (w : List ℕ) : Type 0 where
@@ -234,32 +223,23 @@ pub record HasDigit (w : List ℕ) : Type 0 where
   pub whole : w ≡ first ∷ rest
   pub digit : is_ascii_digit first ≡ true
 
-whole-digit : {base : Base} {empty : Bool} {w : List ℕ} → IsWhole base empty w → HasDigit w
+whole-digit : {base : Base} {empty : Bool} {w : List ℕ} → IsWholePart base empty w → HasDigit w
 whole-digit w0 = grind (arith, common_steps)
 
-number-digit : {next : List ℕ} {kind : LiteralKind} {w : List ℕ} → IsNumberBefore next kind w → HasDigit w
-number-digit (of_prefix whole) = whole-digit whole
-number-digit (of_parts {whole = w} {tail = t} whole is) = let d = whole-digit whole in record { first = d.first; rest = d.rest ++ t; whole = ap (λ (xs : List ℕ). xs ++ t) d.whole; digit = d.digit }
+form-digit : {next : List ℕ} {kind : LiteralKind} {w : List ℕ} → HasNumberForm next kind w → HasDigit w
+form-digit (of_prefix whole) = whole-digit whole
+form-digit (of_parts {whole = w} {tail = t} whole is) = let d = whole-digit whole in record { first = d.first; rest = d.rest ++ t; whole = ap (λ (xs : List ℕ). xs ++ t) d.whole; digit = d.digit }
 
-first-reads : (next : List ℕ) (kind : LiteralKind) (c : ℕ) (v : List ℕ) → is_ascii_digit c ≡ true → IsLongestNumber kind (length (c ∷ v)) (c ∷ v ++ next) → ReadsLiteral next kind true (c ∷ v)
+first-reads : (next : List ℕ) (kind : LiteralKind) (c : ℕ) (v : List ℕ) → is_ascii_digit c ≡ true → IsNumberBefore next kind (c ∷ v) → ReadsLiteral next kind true (c ∷ v)
 first-reads next kind c v digit is =
     read-first c (number c) (v ++ next) _ _ _ (chooses-number c digit)
-    (past-read (c ∷ []) v next 1 kind true (number_body c (v ++ next)) (ap (λ (r : LiteralKind × ℕ). let b : Body × ℕ = (with_suffix r.0, r.1) in b) read) (bytes-letter c (digit-one c digit))) (omega arith)
-  where
-    m : ℕ
-    m = (number_kind c (v ++ next)).1
+    (past-read (c ∷ []) v next 1 kind true (number_body c (v ++ next)) (ap (λ (r : LiteralKind × ℕ). let b : Body × ℕ = (with_suffix r.0, r.1) in b) (number-is c v digit is)) (bytes-letter c (digit-one c digit))) (omega arith)
 
-    whole : (kind ≡ (number_kind c (v ++ next)).0) × (suc (length v) ≡ 1 + m)
-    whole = longest-is c (v ++ next) digit is
+pub number-digit : {next : List ℕ} {kind : LiteralKind} {w : List ℕ} → IsNumberBefore next kind w → HasDigit w
+number-digit is = form-digit is.form
 
-    read : number_kind c (v ++ next) ≡ (kind, length v)
-    read = pair _ _ _ _ (sym whole.0) (omega (arith, whole.1))
-
-pub longest-digit : (next : List ℕ) (kind : LiteralKind) (w : List ℕ) → IsLongestNumber kind (length w) (w ++ next) → HasDigit w
-longest-digit next kind w is = subst HasDigit (take-append_seam w next) (number-digit is.stands.is_number)
-
-pub number-reads : (next : List ℕ) (kind : LiteralKind) (w : List ℕ) → IsLongestNumber kind (length w) (w ++ next) → ReadsLiteral next kind true w
-number-reads next kind w is = grind (arith, common_steps, longest-digit, first-reads)
+pub number-reads : (next : List ℕ) (kind : LiteralKind) (w : List ℕ) → IsNumberBefore next kind w → ReadsLiteral next kind true w
+number-reads next kind w is = grind (arith, common_steps, number-digit, first-reads)
 
 -- ---- all but characters
 

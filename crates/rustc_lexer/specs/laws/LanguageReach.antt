@@ -16,16 +16,16 @@ use Rattle.rustc_lexer.specs.Language as the
 use Rattle.rustc_lexer.specs.LiteralGrammar as lit
 use Rattle.rustc_lexer.specs.LiteralGrammar.{IsDoubleQuoted, SingleTo, IsSingleQuoted, IsRaw, IsLiteralBefore, IsSuffixBefore}
 use Rattle.rustc_lexer.specs.Language.{ends_prefix, known_prefixes, begins_prefixed, IsTokenBefore}
-use Rattle.rustc_lexer.specs.Locality.{reach}
+use Rattle.rustc_lexer.specs.GrammarLaws.{reach}
 use Rattle.rustc_lexer.specs.means.Lexeme.{past_first, lexeme}
 use Rattle.rustc_lexer.specs.Tables.{is_emoji, emoji_ranges, symbols}
 use Rattle.rustc_lexer.specs.means.Number.{number_kind, fraction, number as number_past}
 use Rattle.rustc_lexer.specs.NumberGrammar as number
-use Rattle.rustc_lexer.specs.NumberGrammar.{IsExponent, IsTailBefore, IsNumberBefore}
+use Rattle.rustc_lexer.specs.NumberGrammar.{IsExponent, IsTailBefore, HasNumberForm}
 use Rattle.rustc_lexer.specs.means.Scan.{IsLocalAt, begins, next_is}
 use Rattle.rustc_lexer.specs.laws.Language.{language, token-read}
 use Rattle.rustc_lexer.specs.laws.Choice.{by_symbol}
-use Rattle.rustc_lexer.specs.laws.LanguageLiterals.{HasDigit, longest-digit}
+use Rattle.rustc_lexer.specs.laws.LanguageLiterals.{HasDigit, number-digit}
 use Rattle.rustc_lexer.specs.laws.LanguageRuns.{chooses-number, either-way, word-no_mark}
 use Rattle.rustc_lexer.specs.laws.LanguageLifetimes.{end-stops}
 use Rattle.rustc_lexer.specs.laws.LanguageWords.{continue-word}
@@ -117,7 +117,7 @@ exponent-kind (number.unsigned e ds) v = (refl, refl)
 tail-kind : {next : List ℕ} {base : Base} {kind : LiteralKind} {w : List ℕ} → IsTailBefore next base kind w → (v : List ℕ) → IsNumberKind kind v
 tail-kind w0 v = grind (arith, common_steps, exponent-kind)
 
-number-kind : {next : List ℕ} {kind : LiteralKind} {w : List ℕ} → IsNumberBefore next kind w → (v : List ℕ) → IsNumberKind kind v
+number-kind : {next : List ℕ} {kind : LiteralKind} {w : List ℕ} → HasNumberForm next kind w → (v : List ℕ) → IsNumberKind kind v
 number-kind (number.of_prefix is) v = (refl, refl)
 number-kind (number.of_parts is tail) v = tail-kind tail v
 
@@ -126,7 +126,7 @@ number-looks true = omega arith
 number-looks false = omega arith
 
 float-digit : {next : List ℕ} {kind : LiteralKind} {takes : Bool} {w : List ℕ} → IsLiteralBefore next kind takes w → is_float kind ≡ true → HasDigit w
-float-digit {next} (lit.number {kind} {w} is) e = longest-digit next kind w is
+float-digit {next} (lit.number {kind} {w} is) e = number-digit is
 float-digit other e = absurd (true≢false (sym e))
 
 digit-append : {w : List ℕ} → HasDigit w → (suffix : List ℕ) → HasDigit (w ++ suffix)
@@ -164,7 +164,7 @@ byte-closed true v e = refl
 byte-closed false v e = absurd (omega (arith, e))
 
 literal-alike : {next : List ℕ} {kind : LiteralKind} {takes : Bool} {w : List ℕ} → IsLiteralBefore next kind takes w → is_float kind ≡ false → (v : List ℕ) → literal_reach kind v ≡ 1 → (other : List ℕ) → take 1 other ≡ take 1 next → IsLiteralBefore other kind takes w
-literal-alike {next} (lit.number {kind} {w} is) whole v one other e = absurd (let two : literal_reach kind v ≡ 2 = (number-kind is.stands.is_number v).0 ∙ ap number_reach whole in omega (arith, one, two))
+literal-alike {next} (lit.number {kind} {w} is) whole v one other e = absurd (let two : literal_reach kind v ≡ 2 = (number-kind is.form v).0 ∙ ap number_reach whole in omega (arith, one, two))
 literal-alike {next} (lit.str q) whole v one other e = lit.str (double-alike q other e)
 literal-alike {next} (lit.byte_str q) whole v one other e = lit.byte_str (double-alike q other e)
 literal-alike {next} (lit.c_str q) whole v one other e = lit.c_str (double-alike q other e)
@@ -186,7 +186,7 @@ closed-first other t stop s = grind (arith, common_steps, end-stops)
 
 -- what looks at nothing
 literal-none : {next : List ℕ} {kind : LiteralKind} {takes : Bool} {w : List ℕ} → IsLiteralBefore next kind takes w → (s : List ℕ) → literal_reach kind (w ++ s) ≡ 0 → (takes ≡ false) × ((other : List ℕ) → IsLiteralBefore other kind takes w)
-literal-none (lit.number {kind} {w} is) s e = absurd (let reach = (number-kind is.stands.is_number (w ++ s)).0 in omega (arith, reach, number-looks (is_float kind), e))
+literal-none (lit.number {kind} {w} is) s e = absurd (let reach = (number-kind is.form (w ++ s)).0 in omega (arith, reach, number-looks (is_float kind), e))
 literal-none (lit.char_of_one {c} out) s e = absurd (let long : is_long_char (39 ∷ c ∷ 39 ∷ s) ≡ false = and-false (is_name_start c) in let one : literal_reach (Char true) (39 ∷ c ∷ 39 ∷ s) ≡ 1 = rw long refl in omega (arith, e, one))
 literal-none (lit.char {t = true} {w} q stop) s e = absurd (let first : next_is is_name_start (w ++ s) ≡ false = closed-first q refl stop s in let one : literal_reach (Char true) (39 ∷ w ++ s) ≡ 1 = rw first refl in omega (arith, e, one))
 literal-none (lit.byte_char {t = true} q) s e = absurd (omega (arith, e))
@@ -312,7 +312,7 @@ none-raw kind None stands e = refl
 none-raw kind (Some k) stands e = absurd (either-way (is_refused (kind (Some k))) e (stands k))
 
 literal-takes : {next : List ℕ} {kind : LiteralKind} {takes : Bool} {w : List ℕ} → IsLiteralBefore next kind takes w → is_refused kind ≡ true → takes ≡ false
-literal-takes (lit.number is) e = absurd (either-way _ e (number-kind is.stands.is_number []).1)
+literal-takes (lit.number is) e = absurd (either-way _ e (number-kind is.form []).1)
 literal-takes (lit.char_of_name w start all) e = refl
 literal-takes (lit.raw_str {n} q free) e = ap is_some (none-raw RawStr n (λ k. refl) e)
 literal-takes (lit.raw_byte_str {n} q) e = ap is_some (none-raw RawByteStr n (λ k. refl) e)
@@ -320,7 +320,7 @@ literal-takes (lit.raw_c_str {n} q) e = ap is_some (none-raw RawCStr n (λ k. re
 literal-takes other e = absurd (true≢false (sym e))
 
 literal-stands : {c : ℕ} {next : List ℕ} {kind : LiteralKind} {takes : Bool} {w : List ℕ} → IsLiteralBefore (c ∷ next) kind takes w → is_refused kind ≡ true → (other : List ℕ) → IsLiteralBefore other kind takes w
-literal-stands (lit.number is) e other = absurd (either-way _ e (number-kind is.stands.is_number []).1)
+literal-stands (lit.number is) e other = absurd (either-way _ e (number-kind is.form []).1)
 literal-stands (lit.char_of_name w start all) e other = lit.char_of_name w start all
 literal-stands (lit.raw_str {n} q free) e other = lit.raw_str (raw-stands q (none-raw RawStr n (λ k. refl) e) other) free
 literal-stands (lit.raw_byte_str {n} q) e other = lit.raw_byte_str (raw-stands q (none-raw RawByteStr n (λ k. refl) e) other)

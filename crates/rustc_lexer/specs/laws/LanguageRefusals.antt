@@ -12,7 +12,7 @@ use Rattle.rustc_lexer.specs.LiteralGrammar.{hashes, NoQuoteWith}
 use Rattle.rustc_lexer.specs.LanguageCalls as the
 use Rattle.rustc_lexer.specs.LanguageCalls.{IsLikelyEnd, IsRawAnswer}
 use Rattle.rustc_lexer.specs.means.Least.{one_more}
-use Rattle.rustc_lexer.specs.means.Raw.{is_hash, hash_run, close, most_hashes, quote_hashes, quote_with, best_quote, quote_if, quote_end, hash_count, raw_closed, raw_starter, raw_read, checked, raw_check}
+use Rattle.rustc_lexer.specs.means.Raw.{is_hash, hash_run, close, most_hashes, quote_hashes, quote_with, best_quote, quote_if, quote_end, hash_count, raw_closed, raw_starter, raw_read, checked, check_raw}
 use Rattle.rustc_lexer.specs.means.Scan.{bytes_of}
 use Rattle.rustc_lexer.specs.Classes.{NextIsNot, bytes}
 use Rattle.rustc_lexer.specs.laws.Choice.{by_either}
@@ -174,8 +174,8 @@ has-answer p s = let g = guarded s in subst (HasAnswer p) g.whole (by_left g.cou
         (λ e. record { answer = Err (InvalidStarter c); is = the.no_quote n c u (or_from (c == 34) _ e (or_from (c == 35) false stop refl)) })
 
 -- this one and no other
-pub raw-answer : (text : List ℕ) (p : ℕ) (result : Result Unit RawStrError) → result ≡ raw_check text p → (other : Result Unit RawStrError) → IsRawAnswer p (drop p (chars text)) other ↔ (other ≡ result)
-unfolding raw_check
+pub raw-answer : (text : List ℕ) (p : ℕ) (result : Result Unit RawStrError) → result ≡ check_raw text p → (other : Result Unit RawStrError) → IsRawAnswer p (drop p (chars text)) other ↔ (other ≡ result)
+unfolding check_raw
 raw-answer text p result e other = (
   λ is. answer-read is ∙ sym e,
   λ f. let h = has-answer p (drop p (chars text)) in subst (IsRawAnswer p (drop p (chars text))) (answer-read h.is ∙ sym (f ∙ e)) h.is,

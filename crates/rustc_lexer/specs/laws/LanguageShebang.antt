@@ -12,15 +12,15 @@ use Rattle.std.proofs.lemmas.Grind.{common_steps}
 use Rattle.unicode_ident.proofs.Computing.{unicode_ident}
 use Rattle.rustc_lexer.specs.{Token, TokenKind, LineComment, BlockComment, Whitespace, OpenBracket}
 use Rattle.rustc_lexer.specs.means.Comment.{is_no_newline}
-use Rattle.rustc_lexer.specs.Locality.{tokens_by}
+use Rattle.rustc_lexer.specs.Partition.{tokens_by}
 use Rattle.rustc_lexer.specs.Tables.{is_emoji, emoji_ranges}
-use Rattle.rustc_lexer.specs.Language as page
+use Rattle.rustc_lexer.specs.Language as grammar
 use Rattle.rustc_lexer.specs.Language.{has_rule, IsTokenBefore}
 use Rattle.rustc_lexer.specs.LanguageCalls as the
 use Rattle.rustc_lexer.specs.LanguageCalls.{IsAttributeRest, IsLineBefore, IsShebang}
 use Rattle.rustc_lexer.specs.means.Lexeme.{past_first, first_token, symbols, kind_among}
 use Rattle.rustc_lexer.specs.means.Scan.{begins}
-use Rattle.rustc_lexer.specs.means.Shebang.{is_passed, is_open_bracket, is_attribute, before_newline, line_len, shebang_past, shebang}
+use Rattle.rustc_lexer.specs.means.Shebang.{is_passed, is_open_bracket, is_attribute, before_newline, line_len, shebang_past, read_shebang}
 use Rattle.rustc_lexer.specs.Classes.{AreAll, is_inline, IsText}
 use Rattle.rustc_lexer.specs.laws.Choice.{by_either, by_test}
 use Rattle.rustc_lexer.specs.laws.Language.{lexeme-sound}
@@ -77,7 +77,7 @@ passes kind (suc (suc (suc zero)), few, e) = ap is_passed (sym e)
 passes kind (suc (suc (suc (suc k))), few, e) = absurd (omega (arith, few))
 
 attribute-read : {cs : List ℕ} → IsAttributeRest cs → (text : List ℕ) → IsText text → chars text ≡ cs → is_attribute (ts text) ≡ true
-attribute-read (the.bracket next) text is e = first-step text OpenBracket 91 [] next is e (page.symbol {c = 91} bracket-alone)
+attribute-read (the.bracket next) text is e = first-step text OpenBracket 91 [] next is e (grammar.symbol {c = 91} bracket-alone)
 attribute-read (the.passed {kind} {c} {w} {next} among p rest) text is e =
     let r = rest-is text kind c w next is e p in
     let left : List ℕ = drop (first_token text).len text in
@@ -91,7 +91,7 @@ among-bracket (s ∷ ss) c all e =
     by_test (λ kind. is_open_bracket kind ≡ true → c ≡ 91) (c == s.0) s.1 (kind_among ss c) (λ f g. eqb-true c s.0 f ∙ eqb-true s.0 91 (ap (λ (b : Bool). not b || (s.0 == 91)) (sym g) ∙ parts.0)) (λ f. among-bracket ss c parts.1) e
 
 bracket-view : {next : List ℕ} {kind : TokenKind} {w : List ℕ} → IsTokenBefore next kind w → is_open_bracket kind ≡ true → w ≡ 91 ∷ []
-bracket-view (page.symbol {c} is) e = ap (λ (x : ℕ). x ∷ []) (among-bracket symbols c refl e)
+bracket-view (grammar.symbol {c} is) e = ap (λ (x : ℕ). x ∷ []) (among-bracket symbols c refl e)
 bracket-view other e = absurd (true≢false (sym e))
 
 -- by what the first token is
@@ -220,15 +220,15 @@ tail-text text rest is e = record {
   fits = let f = is.fits in omega (arith, ap length e);
 }
 
-past-mark : (text rest : List ℕ) → text ≡ 35 ∷ 33 ∷ rest → shebang text ≡ (if is_attribute (ts rest) then None else Some (2 + line_len rest))
-unfolding shebang
-past-mark text rest e = ap shebang e
+past-mark : (text rest : List ℕ) → text ≡ 35 ∷ 33 ∷ rest → read_shebang text ≡ (if is_attribute (ts rest) then None else Some (2 + line_len rest))
+unfolding read_shebang
+past-mark text rest e = ap read_shebang e
 
-pub no-mark : (text : List ℕ) → begins (codes "#!") text ≡ false → shebang text ≡ None
-unfolding shebang
+pub no-mark : (text : List ℕ) → begins (codes "#!") text ≡ false → read_shebang text ≡ None
+unfolding read_shebang
 no-mark text e = ap (λ (b : Bool). if b then shebang_past (drop 2 text) else None) e
 
-answer-read : {text : List ℕ} {r : Option ℕ} → IsText text → IsShebang text r → r ≡ shebang text
+answer-read : {text : List ℕ} {r : Option ℕ} → IsText text → IsShebang text r → r ≡ read_shebang text
 answer-read {text} is (the.shebang w next e free line) = sym (past-mark text (w ++ next) e ∙ (by_attribute (is_attribute (ts (w ++ next))) refl ∙ ap (λ (k : ℕ). Some (2 + k)) (line-read line) ∙ ap Some (two (length w))))
   where
     two : (k : ℕ) → 2 + k ≡ suc (suc k)
@@ -267,7 +267,7 @@ has-shebang text is = by_either (begins (codes "#!") text)
         })
 
 -- this one and no other
-pub shebang-answer : (text : List ℕ) (answer : Option ℕ) → IsText text → answer ≡ shebang text → (other : Option ℕ) → IsShebang text other ↔ (other ≡ answer)
+pub shebang-answer : (text : List ℕ) (answer : Option ℕ) → IsText text → answer ≡ read_shebang text → (other : Option ℕ) → IsShebang text other ↔ (other ≡ answer)
 shebang-answer text answer is e other = (
   λ s. answer-read is s ∙ sym e,
   λ f. let h = has-shebang text is in subst (IsShebang text) (answer-read is h.is ∙ sym (f ∙ e)) h.is,

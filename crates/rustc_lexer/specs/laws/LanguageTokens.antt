@@ -6,14 +6,14 @@ use Rattle.std.specs.Str.{chars, encode_utf8_all}
 use Rattle.std.proofs.lemmas.Grind.{common_steps}
 use Rattle.rustc_lexer.specs.{Edition, Token, TokenKind, Frontmatter}
 use Rattle.rustc_lexer.specs.Classes.{is_among, is_whitespace, bytes, IsText}
-use Rattle.rustc_lexer.specs.means.Tokens.{tokens_of}
+use Rattle.rustc_lexer.specs.means.Tokens.{read_tokens}
 use Rattle.rustc_lexer.specs.means.Edition.{token, first_token_in}
 use Rattle.rustc_lexer.specs.means.Frontmatter.{is_newline, fence_len, opening_len, opens, closing_end, past_opening, frontmatter}
 use Rattle.rustc_lexer.specs.laws.LanguageClosing.{body-read, any-body}
 use Rattle.rustc_lexer.specs.laws.LanguageFrontmatter.{fence-length, opening-read, Opened, opened, opens-none, none-opens}
 use Rattle.rustc_lexer.specs.laws.LanguageLiterals.{bytes-append}
 use Rattle.rustc_lexer.specs.FrontmatterGrammar.{fence, IsOpeningBefore, opening}
-use Rattle.rustc_lexer.specs.LanguageText.{IsTokenIn, Mode, IsDocument, document, part, mode_edition, mode_after, AreTokens, nothing, something, frontmatter_first}
+use Rattle.rustc_lexer.specs.LanguageText.{IsTokenIn, Mode, is_document, document, part, mode_edition, mode_after, AreTokens, nothing, something, frontmatter_first}
 use Rattle.rustc_lexer.specs.means.Scan.{bytes_of, next_is, past}
 use Rattle.rustc_lexer.specs.means.Taking.{token_at}
 use Rattle.rustc_lexer.specs.laws.LanguageIn.{token-read-in, first-front}
@@ -22,7 +22,7 @@ use Rattle.rustc_lexer.specs.laws.Tokens.{token_at-cuts, by_tokens, tokens-nil, 
 
 -- ---- a list that the language allows is the list of the tokens
 
-pub at-first : (mode : Mode) (text : List ℕ) → (IsDocument mode → opens (chars text) ≡ false) → token_at mode text ≡ first_token_in (mode_edition mode) text
+pub at-first : (mode : Mode) (text : List ℕ) → (is_document mode ≡ true → opens (chars text) ≡ false) → token_at mode text ≡ first_token_in (mode_edition mode) text
 at-first (part edition) text free = refl
 at-first (document edition) text free = rw (free refl) refl
 
@@ -60,18 +60,18 @@ frontmatter-is text n front rest is e is_opening =
 
 -- one token more
 step : (mode : Mode) (text w next : List ℕ) (token : Token) (tokens : List Token) → IsText text → 0 < length w → chars text ≡ w ++ next → token_at mode text ≡ token → token.len ≡ bytes w
-    → ((u : List ℕ) → IsText u → chars u ≡ next → tokens_of (mode_after mode token.kind) u ≡ tokens) → tokens_of mode text ≡ token ∷ tokens
+    → ((u : List ℕ) → IsText u → chars u ≡ next → read_tokens (mode_after mode token.kind) u ≡ tokens) → read_tokens mode text ≡ token ∷ tokens
 step mode text w next token tokens is lt e f len rest =
     let parts = split text w next is e in
     let cuts = token_at-cuts mode text is (parts.some lt) in
     let left : drop (token_at mode text).len text ≡ encode_utf8_all next = ap (λ (t : Token). drop t.len text) f ∙ (ap (λ (n : ℕ). drop n text) len ∙ parts.left) in
     let text_left : IsText (encode_utf8_all next) = subst IsText left cuts.left in
     tokens-cons mode text is (parts.some lt)
-    ∙ (ap (λ (t : Token). t ∷ tokens_of (mode_after mode t.kind) (drop (token_at mode text).len text)) f
-    ∙ (ap (λ (u : List ℕ). token ∷ tokens_of (mode_after mode token.kind) u) left ∙ ap (λ (ts : List Token). token ∷ ts) (rest (encode_utf8_all next) text_left parts.again)))
+    ∙ (ap (λ (t : Token). t ∷ read_tokens (mode_after mode t.kind) (drop (token_at mode text).len text)) f
+    ∙ (ap (λ (u : List ℕ). token ∷ read_tokens (mode_after mode token.kind) u) left ∙ ap (λ (ts : List Token). token ∷ ts) (rest (encode_utf8_all next) text_left parts.again)))
 
-pub tokens-read : {mode : Mode} {cs : List ℕ} {tokens : List Token} → AreTokens mode cs tokens → (text : List ℕ) → IsText text → chars text ≡ cs → tokens_of mode text ≡ tokens
-tokens-read (nothing {mode}) text is e = ap (λ u. tokens_of mode u) (empty-text text is e) ∙ tokens-nil mode
+pub tokens-read : {mode : Mode} {cs : List ℕ} {tokens : List Token} → AreTokens mode cs tokens → (text : List ℕ) → IsText text → chars text ≡ cs → read_tokens mode text ≡ tokens
+tokens-read (nothing {mode}) text is e = ap (λ u. read_tokens mode u) (empty-text text is e) ∙ tokens-nil mode
 tokens-read (something {mode} {kind} {c} {w} {next} {tokens} p free rest) text is e =
     step mode text (c ∷ w) next (token kind (bytes (c ∷ w))) tokens is (omega arith) e (at-first mode text (λ y. ap opens e ∙ none-opens (c ∷ w ++ next) (free y)) ∙ token-read-in p text e) refl
     (λ u text_u f. tokens-read rest u text_u f)
@@ -88,17 +88,17 @@ tokens-read (frontmatter_first {edition} {n} {opening = front} {next} {tokens} b
 
 -- what is left to show of a first token
 abbrev Puts : Mode → List ℕ → Token → Type 0
-Puts mode text t = AreTokens (mode_after mode t.kind) (chars (drop t.len text)) (tokens_of (mode_after mode t.kind) (drop t.len text)) → AreTokens mode (chars text) (t ∷ tokens_of (mode_after mode t.kind) (drop t.len text))
+Puts mode text t = AreTokens (mode_after mode t.kind) (chars (drop t.len text)) (read_tokens (mode_after mode t.kind) (drop t.len text)) → AreTokens mode (chars text) (t ∷ read_tokens (mode_after mode t.kind) (drop t.len text))
 
 -- a token of the characters, and the tokens of what follows it
-put : (mode : Mode) (text : List ℕ) (kind : TokenKind) (c : ℕ) (w next : List ℕ) → IsText text → c ∷ w ++ next ≡ chars text → IsTokenIn (mode_edition mode) next kind (c ∷ w) → (IsDocument mode → opens (chars text) ≡ false) → Puts mode text (token kind (bytes (c ∷ w)))
+put : (mode : Mode) (text : List ℕ) (kind : TokenKind) (c : ℕ) (w next : List ℕ) → IsText text → c ∷ w ++ next ≡ chars text → IsTokenIn (mode_edition mode) next kind (c ∷ w) → (is_document mode ≡ true → opens (chars text) ≡ false) → Puts mode text (token kind (bytes (c ∷ w)))
 put mode text kind c w next is whole p free rest =
     let parts = split text (c ∷ w) next is (sym whole) in
-    let tokens : List Token = tokens_of (mode_after mode kind) (drop (bytes (c ∷ w)) text) in
+    let tokens : List Token = read_tokens (mode_after mode kind) (drop (bytes (c ∷ w)) text) in
     let rest_are : AreTokens (mode_after mode kind) next tokens = subst (λ (cs : List ℕ). AreTokens (mode_after mode kind) cs tokens) (ap chars parts.left ∙ parts.again) rest in
     subst (λ (cs : List ℕ). AreTokens mode cs (token kind (bytes (c ∷ w)) ∷ tokens)) whole (something p (λ y. opens-none (c ∷ w ++ next) (ap opens whole ∙ free y)) rest_are)
 
-lexeme-first : (mode : Mode) (text : List ℕ) → IsText text → 0 < length text → (IsDocument mode → opens (chars text) ≡ false) → Puts mode text (token_at mode text)
+lexeme-first : (mode : Mode) (text : List ℕ) → IsText text → 0 < length text → (is_document mode ≡ true → opens (chars text) ≡ false) → Puts mode text (token_at mode text)
 lexeme-first mode text is some free =
     let f = first-front (mode_edition mode) text (chars text) is some refl in
     subst (Puts mode text) (sym (at-first mode text free ∙ f.same)) (put mode text f.kind f.c f.w f.next is f.whole f.is free)
@@ -107,7 +107,7 @@ frontmatter-first : (edition : Edition) (text : List ℕ) → IsText text → 0 
 frontmatter-first edition text is some opened_here rest_are = put (opened (chars text) opened_here)
   where
     tokens : List Token
-    tokens = tokens_of (mode_after (document edition) (frontmatter text).kind) (drop (frontmatter text).len text)
+    tokens = read_tokens (mode_after (document edition) (frontmatter text).kind) (drop (frontmatter text).len text)
 
     put : Opened (chars text) → AreTokens (document edition) (chars text) (frontmatter text ∷ tokens)
     put o =
@@ -129,11 +129,11 @@ puts : (mode : Mode) (text : List ℕ) → IsText text → 0 < length text → P
 puts w0 text is some = grind (arith, common_steps, lexeme-first, at-frontmatter, frontmatter-first)
 
 abbrev pub AreOf : List ℕ → Mode → Type 0
-AreOf text mode = AreTokens mode (chars text) (tokens_of mode text)
+AreOf text mode = AreTokens mode (chars text) (read_tokens mode text)
 
 pub tokens-are : (text : List ℕ) (mode : Mode) → IsText text → AreOf text mode
 tokens-are = by_tokens AreOf (λ mode. rw (tokens-nil mode) (subst (λ (cs : List ℕ). AreTokens mode cs []) (sym chars-nil) nothing)) (λ text mode is some rest. rw (tokens-cons mode text is some) (puts mode text is some rest))
 
 -- these and no others
-pub language : (text : List ℕ) (mode : Mode) → IsText text → (tokens : List Token) → AreTokens mode (chars text) tokens ↔ (tokens ≡ tokens_of mode text)
+pub language : (text : List ℕ) (mode : Mode) → IsText text → (tokens : List Token) → AreTokens mode (chars text) tokens ↔ (tokens ≡ read_tokens mode text)
 language text mode is tokens = (λ are. sym (tokens-read are text is refl), λ e. subst (AreTokens mode (chars text)) (sym e) (tokens-are text mode is))

@@ -7,10 +7,9 @@ use Rattle.std.specs.List.{list_any}
 use Rattle.std.specs.Str.{byte}
 use Rattle.rustc_lexer.specs.{Base, LiteralKind, Binary, Octal, Hexadecimal, Int, Float}
 use Rattle.rustc_lexer.specs.laws.Choice.{by_test}
-use Rattle.rustc_lexer.specs.laws.Number.{number_kind_local}
 use Rattle.rustc_lexer.specs.laws.Reach.{run_all}
 use Rattle.rustc_lexer.specs.means.Number.{or_underscore, is_underscore, digits, Front, prefixed, binary, octal, hexadecimal, decimal, front_past_zero, front, is_exponent_letter, is_sign, past_sign, float_exponent, optional_exponent, fraction_digits, fraction, is_no_fraction, begins_fraction, past_digits, tail, number_kind}
-use Rattle.rustc_lexer.specs.NumberGrammar.{AreDigits, is_digit_of, IsWhole, plain, with_b, with_o, with_x, IsExponent, signed, unsigned, IsTailBefore, nothing, dot, of_fraction, of_exponent, of_both, IsNumberBefore, of_prefix, of_parts, NumberStands}
+use Rattle.rustc_lexer.specs.NumberGrammar.{AreDigits, is_digit_of, IsWholePart, plain, with_b, with_o, with_x, IsExponent, signed, unsigned, IsTailBefore, nothing, dot, of_fraction, of_exponent, of_both, HasNumberForm, of_prefix, of_parts}
 use Rattle.rustc_lexer.specs.means.Scan.{after, begins, gives, next_is, read_as, run_len}
 
 -- what a scanner takes past one character, and what it leaves
@@ -79,7 +78,7 @@ past_digits-is base s stops = by_test (λ (r : LiteralKind × ℕ). IsTailBefore
 
 -- with its first digit, where no digit of the base goes on
 abbrev Whole : List ℕ → Front × ℕ → Type 0
-Whole s r = IsWhole r.0.base r.0.empty (48 ∷ take r.1 s) × (next_is (is_digit_of r.0.base) (drop r.1 s) ≡ false)
+Whole s r = IsWholePart r.0.base r.0.empty (48 ∷ take r.1 s) × (next_is (is_digit_of r.0.base) (drop r.1 s) ≡ false)
 
 -- past a run of digits and underscores is no digit
 run-stops : (is_digit : ℕ → Bool) (s : List ℕ) → next_is is_digit (drop (run_len (or_underscore is_digit) s) s) ≡ false
@@ -87,19 +86,19 @@ run-stops is_digit [] = refl
 run-stops is_digit (c ∷ s) = by_test (λ n. next_is is_digit (drop n (c ∷ s)) ≡ false) (or_underscore is_digit c) (suc (run_len (or_underscore is_digit) s)) 0 (λ t. run-stops is_digit s) (λ t. (or_parts (is_digit c) (is_underscore c) t).0)
 
 -- a prefix of a base and its digits
-past_prefix-is : (letter : ℕ) (base : Base) → ((ds : List ℕ) → AreDigits (is_digit_of base) ds → IsWhole base (not (list_any (is_digit_of base) ds)) (48 ∷ letter ∷ ds)) → (s : List ℕ) → begins (letter ∷ []) s ≡ true
+past_prefix-is : (letter : ℕ) (base : Base) → ((ds : List ℕ) → AreDigits (is_digit_of base) ds → IsWholePart base (not (list_any (is_digit_of base) ds)) (48 ∷ letter ∷ ds)) → (s : List ℕ) → begins (letter ∷ []) s ≡ true
     → Whole s (after 1 (read_as (prefixed base) (digits (is_digit_of base))) s)
 past_prefix-is letter base of [] t = absurd (true≢false (sym t))
 past_prefix-is letter base of (c ∷ s) t =
     let n : ℕ = run_len (or_underscore (is_digit_of base)) s in
     let same : c ≡ letter = eqb-true c letter (and_parts (c == letter) true t).0 in (
-      subst (λ (xs : List ℕ). IsWhole base (not (list_any (is_digit_of base) (take n s))) (48 ∷ xs)) (ap (λ x. x ∷ take n s) (sym same) ∙ take-one c n s) (of (take n s) (run_all (or_underscore (is_digit_of base)) s)),
+      subst (λ (xs : List ℕ). IsWholePart base (not (list_any (is_digit_of base) (take n s))) (48 ∷ xs)) (ap (λ x. x ∷ take n s) (sym same) ∙ take-one c n s) (of (take n s) (run_all (or_underscore (is_digit_of base)) s)),
       subst (λ (next : List ℕ). next_is (is_digit_of base) next ≡ false) (drop-one c n s) (run-stops (is_digit_of base) s),
     )
 
-front-is : (first : ℕ) (s : List ℕ) → is_ascii_digit first ≡ true → IsWhole (front first s).0.base (front first s).0.empty (first ∷ take (front first s).1 s) × (next_is (is_digit_of (front first s).0.base) (drop (front first s).1 s) ≡ false)
+front-is : (first : ℕ) (s : List ℕ) → is_ascii_digit first ≡ true → IsWholePart (front first s).0.base (front first s).0.empty (first ∷ take (front first s).1 s) × (next_is (is_digit_of (front first s).0.base) (drop (front first s).1 s) ≡ false)
 front-is first s digit =
-    by_test (λ (r : Front × ℕ). IsWhole r.0.base r.0.empty (first ∷ take r.1 s) × (next_is (is_digit_of r.0.base) (drop r.1 s) ≡ false)) (first == byte "0") (front_past_zero s) (decimal s)
+    by_test (λ (r : Front × ℕ). IsWholePart r.0.base r.0.empty (first ∷ take r.1 s) × (next_is (is_digit_of r.0.base) (drop r.1 s) ≡ false)) (first == byte "0") (front_past_zero s) (decimal s)
     at_zero (λ t. (plain digit (run_all (or_underscore is_ascii_digit) s), run-stops is_ascii_digit s))
   where
     past_zero-is : Whole s (front_past_zero s)
@@ -108,20 +107,17 @@ front-is first s digit =
         (λ t. by_test (Whole s) (begins (codes "o") s) (after 1 octal s) _ (past_prefix-is 111 Octal (λ ds. with_o) s)
         (λ t. by_test (Whole s) (begins (codes "x") s) (after 1 hexadecimal s) (decimal s) (past_prefix-is 120 Hexadecimal (λ ds. with_x) s) (λ t. (plain refl (run_all (or_underscore is_ascii_digit) s), run-stops is_ascii_digit s))))
 
-    at_zero : (first == byte "0") ≡ true → IsWhole (front_past_zero s).0.base (front_past_zero s).0.empty (first ∷ take (front_past_zero s).1 s) × (next_is (is_digit_of (front_past_zero s).0.base) (drop (front_past_zero s).1 s) ≡ false)
-    at_zero t = (subst (λ (x : ℕ). IsWhole (front_past_zero s).0.base (front_past_zero s).0.empty (x ∷ take (front_past_zero s).1 s)) (sym (eqb-true first 48 t)) past_zero-is.0, past_zero-is.1)
+    at_zero : (first == byte "0") ≡ true → IsWholePart (front_past_zero s).0.base (front_past_zero s).0.empty (first ∷ take (front_past_zero s).1 s) × (next_is (is_digit_of (front_past_zero s).0.base) (drop (front_past_zero s).1 s) ≡ false)
+    at_zero t = (subst (λ (x : ℕ). IsWholePart (front_past_zero s).0.base (front_past_zero s).0.empty (x ∷ take (front_past_zero s).1 s)) (sym (eqb-true first 48 t)) past_zero-is.0, past_zero-is.1)
 
 -- ---- a number
 
--- the number that is read, up to its suffix, stands there
-pub number-stands : (first : ℕ) (s : List ℕ) → is_ascii_digit first ≡ true → NumberStands (number_kind first s).0 (1 + (number_kind first s).1) (first ∷ s)
+-- what is read, up to its suffix, has the form of a number
+pub number-form : (first : ℕ) (s : List ℕ) → is_ascii_digit first ≡ true → HasNumberForm (drop (number_kind first s).1 s) (number_kind first s).0 (first ∷ take (number_kind first s).1 s)
 unfolding number_kind
-number-stands first s digit = record {
-  inside = let at = number_kind_local first s in let in_tail : (number_kind first s).1 ≤ length s = at.inside in omega arith;
-  is_number =
-      subst (λ (xs : List ℕ). IsNumberBefore (drop (1 + (n + m)) (first ∷ s)) (tail f left).0 xs) (ap (λ (xs : List ℕ). first ∷ xs) (sym (take-add n m s)) ∙ take-one first (n + m) s)
-      (subst (λ (next : List ℕ). IsNumberBefore next (tail f left).0 (first ∷ take n s ++ take m left)) (drop-drop m n s ∙ drop-one first (n + m) s) (by_empty f.empty (front-is first s digit).0));
-}
+number-form first s digit =
+    subst (λ (xs : List ℕ). HasNumberForm (drop (n + m) s) (tail f left).0 (first ∷ xs)) (sym (take-add n m s))
+    (subst (λ (next : List ℕ). HasNumberForm next (tail f left).0 (first ∷ take n s ++ take m left)) (drop-drop m n s) (by_empty f.empty (front-is first s digit).0))
   where
     f : Front
     f = (front first s).0
@@ -135,7 +131,7 @@ number-stands first s digit = record {
     m : ℕ
     m = (tail f left).1
 
-    by_empty : (b : Bool) → IsWhole f.base b (first ∷ take n s)
-        → IsNumberBefore (drop (if b then gives (Int f.base true) left else past_digits f.base left).1 left) (if b then gives (Int f.base true) left else past_digits f.base left).0 (first ∷ take n s ++ take (if b then gives (Int f.base true) left else past_digits f.base left).1 left)
-    by_empty true whole = subst (λ (xs : List ℕ). IsNumberBefore left (Int f.base true) (first ∷ xs)) (sym (append-nil (take n s))) (of_prefix whole)
+    by_empty : (b : Bool) → IsWholePart f.base b (first ∷ take n s)
+        → HasNumberForm (drop (if b then gives (Int f.base true) left else past_digits f.base left).1 left) (if b then gives (Int f.base true) left else past_digits f.base left).0 (first ∷ take n s ++ take (if b then gives (Int f.base true) left else past_digits f.base left).1 left)
+    by_empty true whole = subst (λ (xs : List ℕ). HasNumberForm left (Int f.base true) (first ∷ xs)) (sym (append-nil (take n s))) (of_prefix whole)
     by_empty false whole = of_parts whole (past_digits-is f.base left (front-is first s digit).1)

@@ -8,12 +8,13 @@ use Rattle.std.proofs.lemmas.Grind.{common_steps}
 use Rattle.unicode_ident.proofs.Computing.{unicode_ident}
 use Rattle.rustc_lexer.specs.{Base, LiteralKind, Binary, Octal, Decimal, Hexadecimal, Int, Float}
 use Rattle.rustc_lexer.specs.laws.Choice.{by_test}
-use Rattle.rustc_lexer.specs.laws.NumberGrammar.{number-stands}
+use Rattle.rustc_lexer.specs.laws.Number.{number_kind_local}
+use Rattle.rustc_lexer.specs.laws.NumberGrammar.{number-form}
 use Rattle.rustc_lexer.specs.laws.Within.{Within, within-suc, within-one, within-any, then-within, run-within}
 use Rattle.rustc_lexer.specs.means.Number.{or_underscore, digits, Front, front_of, prefixed, binary, octal, hexadecimal, decimal, front_past_zero, front, float, is_exponent_letter, is_sign, past_sign, float_exponent, optional_exponent, fraction_digits, fraction, is_no_fraction, begins_fraction, past_digits, tail, number_kind}
-use Rattle.rustc_lexer.specs.NumberGrammar.{AreDigits, is_digit_of, IsWhole, plain, with_b, with_o, with_x, IsExponent, signed, unsigned, IsTailBefore, nothing, dot, of_fraction, of_exponent, of_both, IsNumberBefore, of_prefix, of_parts, NumberStands, IsLongestNumber}
+use Rattle.rustc_lexer.specs.NumberGrammar.{AreDigits, is_digit_of, IsWholePart, plain, with_b, with_o, with_x, IsExponent, signed, unsigned, IsTailBefore, nothing, dot, of_fraction, of_exponent, of_both, HasNumberForm, of_prefix, of_parts, IsNumberBefore}
 use Rattle.rustc_lexer.specs.means.Scan.{and_then, after, begins, gives, next_is, read_as, run}
-use Rattle.rustc_lexer.specs.laws.LanguageRuns.{digit-small, other_than}
+use Rattle.rustc_lexer.specs.laws.LanguageRuns.{digit-small, other_than, pair}
 
 -- ---- characters
 
@@ -170,7 +171,7 @@ begins-letter letter (c ∷ s) is t = ap is_prefix_letter (eqb-true c letter (an
 abbrev IsPlainWithin : List ℕ → List ℕ → Front × ℕ → Type 0
 IsPlainWithin left ds r = Within (next_is (goes_on Decimal) left ≡ true) (r.0, suc r.1) (front_of Decimal false) (suc (length ds))
 
-whole-within : {base : Base} {empty : Bool} {w : List ℕ} → IsWhole base empty w → (left : List ℕ) → Within (next_is (goes_on base) left ≡ true) (front_all (w ++ left)) (front_of base empty) (length w)
+whole-within : {base : Base} {empty : Bool} {w : List ℕ} → IsWholePart base empty w → (left : List ℕ) → Within (next_is (goes_on base) left ≡ true) (front_all (w ++ left)) (front_of base empty) (length w)
 whole-within (plain {d} {ds} digit are) left = by_test (IsPlainWithin left ds) (d == byte "0") (front_past_zero (ds ++ left)) (decimal (ds ++ left)) (λ t. at_zero ds are) (λ t. at_run ds are)
   where
     at_run : (ds : List ℕ) → AreDigits is_ascii_digit ds → IsPlainWithin left ds (decimal (ds ++ left))
@@ -212,7 +213,7 @@ number_all-is : (first : ℕ) (s : List ℕ) → number_all (first ∷ s) ≡ ((
 unfolding number_kind
 number_all-is first s = grind (arith, common_steps)
 
-number-within : (left : List ℕ) {kind : LiteralKind} {t : List ℕ} → IsNumberBefore left kind t → Within (Unit {0}) (number_all (t ++ left)) kind (length t)
+number-within : (left : List ℕ) {kind : LiteralKind} {t : List ℕ} → HasNumberForm left kind t → Within (Unit {0}) (number_all (t ++ left)) kind (length t)
 number-within left (of_prefix {base = base} {whole = w} whole) =
     let sum : length w + 0 ≡ length w = omega arith in
     subst (λ (n : ℕ). Within (Unit {0}) (number_all (w ++ left)) (Int base true) n) sum (then-within front_all tail w left (front_of base true) (Int base true) 0 (whole-within whole left) (inr refl) (λ t. refl))
@@ -223,28 +224,35 @@ number-within left (of_parts {base = base} {kind = kind} {whole = w} {tail = t} 
     (subst (λ (xs : List ℕ). Within (Unit {0}) (number_all xs) kind (length w + length t)) (sym text)
     (then-within front_all tail w (t ++ left) (front_of base false) kind (length t) (whole-within whole (t ++ left)) (tail-within left is) (tail-none left is)))
 
--- what stands there is what is read, or shorter
-stands-within : (first : ℕ) (s : List ℕ) (kind : LiteralKind) (n : ℕ) → NumberStands kind n (first ∷ s) → Within (Unit {0}) ((number_kind first s).0, 1 + (number_kind first s).1) kind n
-stands-within first s kind n stands =
-    let text : take n (first ∷ s) ++ drop n (first ∷ s) ≡ first ∷ s = take-append-drop n (first ∷ s) in
-    let len : length (take n (first ∷ s)) ≡ n = length-take-le n (first ∷ s) stands.inside in
-    subst (λ (r : LiteralKind × ℕ). Within (Unit {0}) r kind n) (number_all-is first s)
-    (subst (λ (m : ℕ). Within (Unit {0}) (number_all (first ∷ s)) kind m) len
-    (subst (λ (xs : List ℕ). Within (Unit {0}) (number_all xs) kind (length (take n (first ∷ s)))) text (number-within (drop n (first ∷ s)) stands.is_number)))
+-- what has the form of a number at the front of a text is what is read, or shorter
+form-within : (first : ℕ) (s : List ℕ) {next v : List ℕ} {kind : LiteralKind} → v ++ next ≡ first ∷ s → HasNumberForm next kind v → Within (Unit {0}) ((number_kind first s).0, 1 + (number_kind first s).1) kind (length v)
+form-within first s {next} {v} {kind} text form =
+    subst (λ (r : LiteralKind × ℕ). Within (Unit {0}) r kind (length v)) (number_all-is first s)
+    (subst (λ (xs : List ℕ). Within (Unit {0}) (number_all xs) kind (length v)) text (number-within next form))
 
--- the number that is read is the longest that stands there
-pub longest-read : (first : ℕ) (s : List ℕ) → is_ascii_digit first ≡ true → IsLongestNumber (number_kind first s).0 (1 + (number_kind first s).1) (first ∷ s)
-longest-read first s digit = grind (arith, common_steps, number-stands, stands-within)
+-- how long it is
+read-length : (first : ℕ) (s : List ℕ) → length (first ∷ take (number_kind first s).1 s) ≡ 1 + (number_kind first s).1
+read-length first s = let at = number_kind_local first s in omega (arith, length-take-le (number_kind first s).1 s at.inside)
 
--- and none of another kind is as long
-only-read : (first : ℕ) (s : List ℕ) (other : LiteralKind) (n : ℕ) → NumberStands other n (first ∷ s) → n ≡ 1 + (number_kind first s).1 → other ≡ (number_kind first s).0
-only-read first s other n is len = elim (stands-within first s other n is) [ inl h ↦ absurd (omega (arith, h.1, len)) | inr e ↦ sym (ap (λ (r : LiteralKind × ℕ). r.0) e) ]
+-- what is read is a number
+pub number-read : (first : ℕ) (s : List ℕ) → is_ascii_digit first ≡ true → IsNumberBefore (drop (number_kind first s).1 s) (number_kind first s).0 (first ∷ take (number_kind first s).1 s)
+number-read first s digit = record {
+  form = number-form first s digit;
+  longest = λ other v rest text form. elim (form-within first s (text ∙ ap (λ (xs : List ℕ). first ∷ xs) (take-append-drop (number_kind first s).1 s)) form) [
+    | inl h ↦ omega (arith, h.1, read-length first s)
+    | inr e ↦ omega (arith, ap (λ (r : LiteralKind × ℕ). r.1) e, read-length first s)
+  ];
+}
 
--- the longest number is the one that is read
-pub longest-is : {kind : LiteralKind} {n : ℕ} (first : ℕ) (s : List ℕ) → is_ascii_digit first ≡ true → IsLongestNumber kind n (first ∷ s) → (kind ≡ (number_kind first s).0) × (n ≡ 1 + (number_kind first s).1)
-longest-is {kind} {n} first s digit is =
-    let the_read = longest-read first s digit in
-    let long = the_read.longest kind n is.stands in
-    let short = is.longest (number_kind first s).0 (1 + (number_kind first s).1) the_read.stands in
-    let len : n ≡ 1 + (number_kind first s).1 = omega (arith, long, short) in
-    (only-read first s kind n is.stands len, len)
+-- and a number is what is read
+pub number-is : {next : List ℕ} {kind : LiteralKind} (first : ℕ) (v : List ℕ) → is_ascii_digit first ≡ true → IsNumberBefore next kind (first ∷ v) → number_kind first (v ++ next) ≡ (kind, length v)
+number-is {next} {kind} first v digit is = elim (form-within first s refl is.form) [
+  | inl h ↦ absurd (omega (arith, h.1, read-length first s, is.longest _ (first ∷ take m s) (drop m s) (ap (λ (xs : List ℕ). first ∷ xs) (take-append-drop m s)) (number-form first s digit)))
+  | inr e ↦ pair _ _ _ _ (ap (λ (r : LiteralKind × ℕ). r.0) e) (omega (arith, ap (λ (r : LiteralKind × ℕ). r.1) e))
+]
+  where
+    s : List ℕ
+    s = v ++ next
+
+    m : ℕ
+    m = (number_kind first s).1

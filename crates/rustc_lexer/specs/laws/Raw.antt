@@ -7,7 +7,7 @@ use Rattle.rustc_lexer.specs.declared.lexemes.raw.RawPrefix.{RawPrefix}
 use Rattle.rustc_lexer.specs.{LiteralKind, RawStrError, TokenKind, InvalidStarter}
 use Rattle.rustc_lexer.specs.means.Literal.{Body}
 use Rattle.rustc_lexer.specs.laws.Literal.{literal_at}
-use Rattle.rustc_lexer.specs.means.Raw.{is_hash, is_quote, hash_run, closes, close, raw_closed, raw_text, past_starter, raw_starter, raw_read, accepted, is_accepted, raw_body, prefix_kind, prefix_len, raw_literal, checked, raw_check, HasEnd, EndsItself}
+use Rattle.rustc_lexer.specs.means.Raw.{is_hash, is_quote, hash_run, closes, close, raw_closed, raw_text, past_starter, raw_starter, raw_read, accepted, is_accepted, raw_body, prefix_kind, prefix_len, raw_literal, checked, check_raw, HasEnd, EndsItself}
 use Rattle.rustc_lexer.specs.laws.Reach.{IsToldBy, cut_past, told_same, wider, all_at, read_as_at, and_then_at, first_at, gives_local, run_len_le, run_len_same, found-same, least-some, least_found}
 use Rattle.rustc_lexer.specs.means.Scan.{IsLocalAt, IsLocal, IsFound, gives, run_len}
 
@@ -119,11 +119,11 @@ checked-ok : (r : Result ℕ RawStrError) → (checked r ≡ Ok tt) ↔ IsSome (
 checked-ok (Ok n) = (λ e. refl, λ some. refl)
 checked-ok (Err e) = (λ f. absurd (cc), λ some. absurd (true≢false (sym some)))
 
-pub raw_check_own : (prefix : RawPrefix) (text front s : List ℕ) → chars text ≡ front ++ take (raw_literal prefix s).1 s → (raw_check text (length front) ≡ Ok tt) ↔ IsSome (accepted (raw_read 0 s).0)
-unfolding raw_check
+pub raw_check_own : (prefix : RawPrefix) (text front s : List ℕ) → chars text ≡ front ++ take (raw_literal prefix s).1 s → (check_raw text (length front) ≡ Ok tt) ↔ IsSome (accepted (raw_read 0 s).0)
+unfolding check_raw
 raw_check_own prefix text front s e =
     let own : List ℕ = take (raw_literal prefix s).1 s in
     let p : ℕ = length front in
     let past_front : drop p (chars text) ≡ own = ap (drop p) e ∙ drop_at front own p refl in
     let same : accepted (raw_read p (drop p (chars text))).0 ≡ accepted (raw_read 0 s).0 = ap (λ (xs : List ℕ). accepted (raw_read p xs).0) past_front ∙ raw_literal_own prefix p s in
-    subst (λ (o : Option ℕ). (raw_check text p ≡ Ok tt) ↔ IsSome o) same (checked-ok (raw_read p (drop p (chars text))).0)
+    subst (λ (o : Option ℕ). (check_raw text p ≡ Ok tt) ↔ IsSome o) same (checked-ok (raw_read p (drop p (chars text))).0)

@@ -5,7 +5,7 @@ use Rattle.std.proofs.lemmas.Grind.{common_steps}
 use Rattle.rustc_lexer.specs.{Token, TokenKind, Eof, Literal}
 use Rattle.rustc_lexer.specs.LanguageText.{Mode, mode_after, mode_edition}
 use Rattle.rustc_lexer.specs.State.{State, kind_past, token_past}
-use Rattle.rustc_lexer.specs.means.Taking.{token_at, advance}
+use Rattle.rustc_lexer.specs.means.Taking.{token_at, take_next}
 
 abbrev pub state : ℕ → List ℕ → Mode → State
 state pending rest mode = record { pending = pending; rest = rest; mode = mode }
@@ -25,12 +25,12 @@ pub edition-after : (mode : Mode) (kind : TokenKind) → mode_edition (mode_afte
 edition-after w0 kind = grind (arith, common_steps)
 
 module _ (pending : ℕ) (rest : List ℕ) (mode : Mode) (s : State) (e : state pending rest mode ≡ s) where
-  pub advance-end : (length rest == 0) ≡ true → advance s ≡ (record { kind = Eof; len = 0 }, s)
-  unfolding advance
+  pub advance-end : (length rest == 0) ≡ true → take_next s ≡ (record { kind = Eof; len = 0 }, s)
+  unfolding take_next
   advance-end none = grind (arith, common_steps, eqb-true)
 
-  pub advance-some : (length rest == 0) ≡ false → advance s ≡ (token_past pending (token_at mode rest), past_token rest mode (token_at mode rest))
-  unfolding advance
+  pub advance-some : (length rest == 0) ≡ false → take_next s ≡ (token_past pending (token_at mode rest), past_token rest mode (token_at mode rest))
+  unfolding take_next
   advance-some some = grind (arith, common_steps)
 
 -- with nothing pending a token stays as it is

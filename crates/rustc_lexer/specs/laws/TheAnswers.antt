@@ -1,4 +1,4 @@
--- How each answer of the page is found, and that it is the only one.
+-- How each answer of the grammar is found, and that it is the only one.
 use Rattle.std.proofs.Common.{◌≡◌, ℕ, ◌<◌, ◌==◌, true, false, List, [], ◌∷◌, length, drop, refl, sym, ap, ◌∙◌, subst, arith, pos_of_ne-zero}
 use Rattle.std.proofs.lemmas.Bool.{eqb-true, eqb-false}
 use Rattle.std.specs.Str.{chars}
@@ -24,7 +24,7 @@ use Rattle.rustc_lexer.specs.means.Taking.{token_at}
 use Rattle.rustc_lexer.specs.means.Tokens as means_tokens
 
 abbrev pub the_tokens : (mode : Mode) (text : List ℕ) → TheOnly (IsText text) (AreTokens mode (chars text))
-the_tokens mode text = record { answer = means_tokens.tokens_of mode text; only = language text mode }
+the_tokens mode text = record { answer = means_tokens.read_tokens mode text; only = language text mode }
 
 -- ---- the first token
 
@@ -38,7 +38,7 @@ module _ (mode : Mode) (text : List ℕ) (is : IsText text) (some : 0 < length t
   first-read token tokens are = ap (first_of token) (sym (tokens-read are text is refl) ∙ tokens-cons mode text is some)
 
   -- and it allows one that does
-  pub first-are : AreTokens mode (chars text) (token_at mode text ∷ means_tokens.tokens_of (mode_after mode (token_at mode text).kind) (drop (token_at mode text).len text))
+  pub first-are : AreTokens mode (chars text) (token_at mode text ∷ means_tokens.read_tokens (mode_after mode (token_at mode text).kind) (drop (token_at mode text).len text))
   first-are = subst (AreTokens mode (chars text)) (tokens-cons mode text is some) (tokens-are text mode is)
 
 abbrev pub the_first : (edition : Edition) (text : List ℕ) → TheOnly (IsText text × (0 < length text)) (IsFirst edition text)
@@ -59,19 +59,19 @@ module _ (s : State) (is : IsText s.rest) where
   empty : (length s.rest == 0) ≡ true → s.rest ≡ []
   empty none = nil_from_length s.rest (eqb-true (length s.rest) 0 none)
 
-  at_end : (length s.rest == 0) ≡ true → means_taking.advance s ≡ (record { kind = Eof; len = 0 }, s)
+  at_end : (length s.rest == 0) ≡ true → means_taking.take_next s ≡ (record { kind = Eof; len = 0 }, s)
   at_end none = advance-end s.pending s.rest s.mode s refl none
 
-  at_token : (length s.rest == 0) ≡ false → means_taking.advance s ≡ (token_past s.pending (token_at s.mode s.rest), past_token s.rest s.mode (token_at s.mode s.rest))
+  at_token : (length s.rest == 0) ≡ false → means_taking.take_next s ≡ (token_past s.pending (token_at s.mode s.rest), past_token s.rest s.mode (token_at s.mode s.rest))
   at_token some = advance-some s.pending s.rest s.mode s refl some
 
   no_token : (token : Token) (tokens : List Token) → (length s.rest == 0) ≡ true → AreTokens s.mode (chars s.rest) (token ∷ tokens) → ⊥
-  no_token token tokens none are = absurd_cons (sym (ap (means_tokens.tokens_of s.mode) (empty none) ∙ tokens-nil s.mode) ∙ tokens-read are s.rest is refl)
+  no_token token tokens none are = absurd_cons (sym (ap (means_tokens.read_tokens s.mode) (empty none) ∙ tokens-nil s.mode) ∙ tokens-read are s.rest is refl)
     where
       absurd_cons : [] ≡ token ∷ tokens → ⊥
       absurd_cons e = let n = ap length e in omega (arith, n)
 
-  pub next-read : (other : Token × State) → TakesNext s other → other ≡ means_taking.advance s
+  pub next-read : (other : Token × State) → TakesNext s other → other ≡ means_taking.take_next s
   next-read _ (nothing_left e) = sym (at_end (ap (λ (text : List ℕ). length text == 0) e))
   next-read _ (first_left {token} {tokens} are) = by_either (length s.rest == 0)
       (λ e. absurd (no_token token tokens e are))
@@ -79,14 +79,14 @@ module _ (s : State) (is : IsText s.rest) where
       let same : token ≡ token_at s.mode s.rest = first-read s.mode s.rest is (nonempty e) token tokens are in
       ap (λ (t : Token). let r : Token × State = (token_past s.pending t, past_token s.rest s.mode t) in r) same ∙ sym (at_token e))
 
-  pub next-is : TakesNext s (means_taking.advance s)
+  pub next-is : TakesNext s (means_taking.take_next s)
   next-is = by_either (length s.rest == 0)
       (λ e. subst (TakesNext s) (sym (at_end e)) (nothing_left (empty e)))
       (λ e. subst (TakesNext s) (sym (at_token e)) (first_left (first-are s.mode s.rest is (nonempty e))))
 
 abbrev pub the_next : (s : State) → TheOnly (IsText s.rest) (TakesNext s)
 the_next s = record {
-  answer = means_taking.advance s;
+  answer = means_taking.take_next s;
   only = λ is other. (next-read s is other, λ e. subst (TakesNext s) (sym e) (next-is s is));
 }
 
@@ -94,18 +94,18 @@ the_next s = record {
 
 abbrev pub the_guarded : (s : State) → TheOnly (Unit {0}) (TakesGuarded s)
 the_guarded s = record {
-  answer = means_guarded.guarded s;
-  only = λ always. guarded-answer s (means_guarded.guarded s).1 (means_guarded.guarded s).0 refl refl;
+  answer = means_guarded.take_guarded s;
+  only = λ always. guarded-answer s (means_guarded.take_guarded s).1 (means_guarded.take_guarded s).0 refl refl;
 }
 
 abbrev pub the_raw : (text : List ℕ) (prefix : ℕ) → TheOnly (Unit {0}) (IsRawAnswer prefix (drop prefix (chars text)))
 the_raw text prefix = record {
-  answer = means_raw.raw_check text prefix;
-  only = λ always. raw-answer text prefix (means_raw.raw_check text prefix) refl;
+  answer = means_raw.check_raw text prefix;
+  only = λ always. raw-answer text prefix (means_raw.check_raw text prefix) refl;
 }
 
 abbrev pub the_shebang : (text : List ℕ) → TheOnly (IsText text) (IsShebang text)
 the_shebang text = record {
-  answer = means_shebang.shebang text;
-  only = λ is. shebang-answer text (means_shebang.shebang text) is refl;
+  answer = means_shebang.read_shebang text;
+  only = λ is. shebang-answer text (means_shebang.read_shebang text) is refl;
 }

@@ -1,8 +1,8 @@
--- The laws of the page, and where each is proved.
+-- The laws of the grammar, and where each is proved.
 use Rattle.std.proofs.Common.{refl}
-use Rattle.rustc_lexer.specs.Locality.{TheLaws}
+use Rattle.rustc_lexer.specs.GrammarLaws.{TheLaws}
 use Rattle.rustc_lexer.specs.laws.Language.{begins-one}
-use Rattle.rustc_lexer.specs.laws.LanguageIn.{page}
+use Rattle.rustc_lexer.specs.laws.LanguageIn.{newest_has}
 use Rattle.rustc_lexer.specs.laws.LanguageReach.{looks_no_further}
 use Rattle.rustc_lexer.specs.laws.TheAnswers.{the_tokens, the_first}
 
@@ -12,6 +12,6 @@ the_laws = record {
   first = the_first;
   cut = λ edition text. refl;
   one_token = begins-one;
-  newest = page;
+  newest = newest_has;
   looks_no_further = looks_no_further;
 }

@@ -5,8 +5,8 @@ use Rattle.std.proofs.lemmas.Str.{IsUtf8-append, IsUtf8-drop, IsUtf8-nil, IsUtf8
 use Rattle.std.proofs.lemmas.List.Elements.{All-nil, All-cons}
 use Rattle.std.proofs.lemmas.Grind.{common_steps}
 use Rattle.rustc_lexer.specs.{Token}
-use Rattle.rustc_lexer.specs.Locality.{tokens_by, bound, Partitions}
-use Rattle.rustc_lexer.specs.means.Tokens.{cut, tokens_of_document, tokens_of}
+use Rattle.rustc_lexer.specs.Partition.{tokens_by, bound, Partitions}
+use Rattle.rustc_lexer.specs.means.Tokens.{cut, tokens_of_document, read_tokens}
 use Rattle.rustc_lexer.specs.LanguageText.{Mode, document, part, mode_after}
 use Rattle.rustc_lexer.specs.laws.Edition.{edition_grammar}
 use Rattle.rustc_lexer.specs.means.Edition.{first_token_in}
@@ -61,24 +61,24 @@ cut-enough (document edition) (suc m) (suc n) (c ∷ cs) is a b =
     let less : length (drop token.len (c ∷ cs)) < suc (length cs) = shorter (c ∷ cs) token cuts in
     ap (λ ts. token ∷ ts) (cut-enough (mode_after (document edition) token.kind) m n (drop token.len (c ∷ cs)) cuts.left (omega arith) (omega arith))
 
-cut-all : (mode : Mode) (n : ℕ) (text : List ℕ) → IsText text → length text ≤ n → cut mode n text ≡ tokens_of mode text
+cut-all : (mode : Mode) (n : ℕ) (text : List ℕ) → IsText text → length text ≤ n → cut mode n text ≡ read_tokens mode text
 unfolding tokens_of_document
 cut-all (part edition) n text is le = refl
 cut-all (document edition) n text is le = cut-enough (document edition) n (length text) text is le (omega arith)
 
-pub tokens-nil : (mode : Mode) → tokens_of mode [] ≡ []
+pub tokens-nil : (mode : Mode) → read_tokens mode [] ≡ []
 unfolding tokens_of_document
 tokens-nil (part edition) = part-nil (first_token_in edition)
 tokens-nil (document edition) = refl
 
 -- the tokens of a text: its first one, and those of what is left
 pub tokens-cons : (mode : Mode) (text : List ℕ) → IsText text → 0 < length text
-    → tokens_of mode text ≡ token_at mode text ∷ tokens_of (mode_after mode (token_at mode text).kind) (drop (token_at mode text).len text)
+    → read_tokens mode text ≡ token_at mode text ∷ read_tokens (mode_after mode (token_at mode text).kind) (drop (token_at mode text).len text)
 unfolding tokens_of_document
 tokens-cons w0 text is some = grind (arith, common_steps, part-cons, edition_grammar, token_at-cuts, shorter, cut-all)
 
 -- where a byte is left a token is, whatever the bytes are
-pub tokens-some : (mode : Mode) (b : ℕ) (bs : List ℕ) → (token : Token) × (tokens : List Token) × (tokens_of mode (b ∷ bs) ≡ token ∷ tokens)
+pub tokens-some : (mode : Mode) (b : ℕ) (bs : List ℕ) → (token : Token) × (tokens : List Token) × (read_tokens mode (b ∷ bs) ≡ token ∷ tokens)
 unfolding tokens_of_document tokens_by
 tokens-some (part edition) b bs = (_, _, refl)
 tokens-some (document edition) b bs = (_, _, refl)
@@ -104,7 +104,7 @@ pub record IsBound (text : List ℕ) (tokens : List Token) (k : ℕ) : Type 0 wh
   pub front : IsUtf8 (take (bound tokens k) text)
 
 abbrev AreBounds : List ℕ → Mode → Type 0
-AreBounds text mode = (k : ℕ) → IsBound text (tokens_of mode text) k
+AreBounds text mode = (k : ℕ) → IsBound text (read_tokens mode text) k
 
 pub bounds : (text : List ℕ) (mode : Mode) → IsText text → AreBounds text mode
 bounds = by_tokens AreBounds (λ mode k. rw (tokens-nil mode) (at_end k)) (λ text mode is some rest k. rw (tokens-cons mode text is some) (step text mode is some rest k))
@@ -114,7 +114,7 @@ bounds = by_tokens AreBounds (λ mode k. rw (tokens-nil mode) (at_end k)) (λ te
     at_end (suc k) = record { inside = omega arith; front = IsUtf8-nil }
 
     step : (text : List ℕ) (mode : Mode) → IsText text → 0 < length text → AreBounds (drop (token_at mode text).len text) (mode_after mode (token_at mode text).kind)
-        → (k : ℕ) → IsBound text (token_at mode text ∷ tokens_of (mode_after mode (token_at mode text).kind) (drop (token_at mode text).len text)) k
+        → (k : ℕ) → IsBound text (token_at mode text ∷ read_tokens (mode_after mode (token_at mode text).kind) (drop (token_at mode text).len text)) k
     step text mode is some rest zero = record { inside = omega arith; front = IsUtf8-nil }
     step text mode is some rest (suc k) =
         let token : Token = token_at mode text in
@@ -122,11 +122,11 @@ bounds = by_tokens AreBounds (λ mode k. rw (tokens-nil mode) (at_end k)) (λ te
         let there = rest k in
         record {
           inside = let i = there.inside in let j = cuts.inside in omega (arith, length-drop token.len text);
-          front = rw (take-add token.len (bound (tokens_of (mode_after mode token.kind) (drop token.len text)) k) text) (IsUtf8-append _ _ cuts.front there.front);
+          front = rw (take-add token.len (bound (read_tokens (mode_after mode token.kind) (drop token.len text)) k) text) (IsUtf8-append _ _ cuts.front there.front);
         }
 
 abbrev Covered : List ℕ → Mode → Type 0
-Covered text mode = (All (λ t. 0 < t.len) (tokens_of mode text)) × (bound (tokens_of mode text) (length (tokens_of mode text)) ≡ length text)
+Covered text mode = (All (λ t. 0 < t.len) (read_tokens mode text)) × (bound (read_tokens mode text) (length (read_tokens mode text)) ≡ length text)
 
 covered : (text : List ℕ) (mode : Mode) → IsText text → Covered text mode
 covered = by_tokens Covered (λ mode. rw (tokens-nil mode) (All-nil (λ t. 0 < t.len), refl)) (λ text mode is some rest. rw (tokens-cons mode text is some) (
@@ -134,7 +134,7 @@ covered = by_tokens Covered (λ mode. rw (tokens-nil mode) (All-nil (λ t. 0 < t
   (let i = (token_at-cuts mode text is some).inside in let w = rest.1 in omega (arith, length-drop (token_at mode text).len text)),
 ))
 
-pub partitions : (text : List ℕ) (mode : Mode) → IsText text → Partitions text (tokens_of mode text)
+pub partitions : (text : List ℕ) (mode : Mode) → IsText text → Partitions text (read_tokens mode text)
 partitions text mode is = record {
   not_empty = (covered text mode is).0;
   boundaries = λ k le. let b = bounds text mode is k in IsCharBoundary-from_take text _ is.utf8 b.inside b.front;

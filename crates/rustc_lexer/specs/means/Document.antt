@@ -5,7 +5,7 @@ use Rattle.rustc_lexer.specs.declared.relex.relexing.{Change.Change, Relexed.Rel
 use Rattle.rustc_lexer.specs.{Token, Whitespace}
 use Rattle.rustc_lexer.specs.Document.{shebang_len}
 use Rattle.rustc_lexer.specs.Edits.{apply, IsRelexed}
-use Rattle.rustc_lexer.specs.Locality.{tokens_by}
+use Rattle.rustc_lexer.specs.Partition.{tokens_by}
 use Rattle.rustc_lexer.specs.means.Frontmatter.{frontmatter, opens, spaces_len}
 use Rattle.rustc_lexer.specs.means.Relexing.{IsRenewed}
 use Rattle.rustc_lexer.specs.means.Scan.{past}

@@ -32,5 +32,5 @@ guarded_by n (Some string) s = (
 )
 
 -- the guarded string at the front of a state, if one stands there, and the state after it
-unfoldable pub guarded : State → Option GuardedStr × State
-guarded s = guarded_by (hash_run (chars s.rest)) (string_past (hash_run (chars s.rest)) (chars s.rest)) s
+unfoldable pub take_guarded : State → Option GuardedStr × State
+take_guarded s = guarded_by (hash_run (chars s.rest)) (string_past (hash_run (chars s.rest)) (chars s.rest)) s

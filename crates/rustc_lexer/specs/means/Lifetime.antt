@@ -4,16 +4,13 @@ use Rattle.std.specs.Char.{is_ascii_digit}
 use Rattle.std.specs.List.{list_all}
 use Rattle.std.specs.Str.{byte, encode_utf8_all}
 use Rattle.rustc_lexer.specs.{TokenKind, Char, Literal, Lifetime, RawLifetime, UnknownPrefixLifetime}
-use Rattle.rustc_lexer.specs.Classes.{is_id_start, is_id_continue}
+use Rattle.rustc_lexer.specs.Classes.{is_id_continue}
+pub use Rattle.rustc_lexer.specs.Classes.{is_name_start}
 use Rattle.rustc_lexer.specs.Tables.{is_emoji}
 use Rattle.rustc_lexer.specs.means.Ident.{is_word, marks_ident}
 use Rattle.rustc_lexer.specs.means.Literal.{literal}
 use Rattle.rustc_lexer.specs.means.Quoted.{char_body}
 use Rattle.rustc_lexer.specs.means.Scan.{after, and_then, begins, gives, run, run_as}
-
--- what the name of a lifetime begins with; digits and emoji are let through, and marked
-abbrev pub is_name_start : ℕ → Bool
-is_name_start c = is_id_start c || is_ascii_digit c || is_emoji c
 
 -- a name that begins with `c` and goes on with `name`, and that no lifetime of Rust has
 abbrev pub is_marked : ℕ → List ℕ → Bool

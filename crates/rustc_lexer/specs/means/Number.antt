@@ -1,19 +1,15 @@
 -- Means, by how it is read: numbers.
-use Rattle.std.specs.Prelude.{ℕ, ◌==◌, ◌&&◌, ◌||◌, not, Bool, false, true, if◌then◌else◌, List, drop, codes}
+use Rattle.std.specs.Prelude.{ℕ, ◌==◌, ◌&&◌, not, Bool, false, true, if◌then◌else◌, List, drop, codes}
 use Rattle.std.specs.Char.{is_ascii_digit, is_ascii_hexdigit}
 use Rattle.std.specs.List.{list_any}
 use Rattle.std.specs.Str.{byte}
 use Rattle.rustc_lexer.specs.{Base, LiteralKind, TokenKind, Binary, Octal, Decimal, Hexadecimal, Int, Float}
-use Rattle.rustc_lexer.specs.Classes.{is_id_start}
 use Rattle.rustc_lexer.specs.means.Literal.{Body, literal}
+pub use Rattle.rustc_lexer.specs.NumberGrammar.{or_underscore, is_exponent_letter, is_sign, is_no_fraction}
 use Rattle.rustc_lexer.specs.means.Scan.{after, and_then, begins, gives, next_is, read_as, run, run_as}
 
 abbrev pub is_underscore : ℕ → Bool
 is_underscore c = c == byte "_"
-
--- a class with the underscore
-abbrev pub or_underscore : (ℕ → Bool) → ℕ → Bool
-or_underscore p c = p c || is_underscore c
 
 -- a run of digits and underscores, and whether a digit is among them
 abbrev pub digits : (ℕ → Bool) → List ℕ → Bool × ℕ
@@ -61,12 +57,6 @@ front first s = if first == byte "0" then front_past_zero s else decimal s
 abbrev pub float : Base → Bool → LiteralKind
 float base has_digit = Float base (not has_digit)
 
-abbrev pub is_exponent_letter : ℕ → Bool
-is_exponent_letter c = c == byte "e" || c == byte "E"
-
-abbrev pub is_sign : ℕ → Bool
-is_sign c = c == byte "+" || c == byte "-"
-
 -- the digits of an exponent
 abbrev pub past_sign : Base → List ℕ → LiteralKind × ℕ
 past_sign base = read_as (float base) (digits is_ascii_digit)
@@ -86,10 +76,6 @@ fraction_digits base = and_then (run base (or_underscore is_ascii_digit)) option
 -- what follows the dot of a float: digits with an exponent, if a digit stands here, or nothing
 unfoldable pub fraction : Base → List ℕ → LiteralKind × ℕ
 fraction base s = if next_is is_ascii_digit s then fraction_digits base s else gives (Float base false) s
-
--- a dot right before one of these is no part of a number, as in `1..2` and `1.max(2)`
-abbrev pub is_no_fraction : ℕ → Bool
-is_no_fraction c = c == byte "." || is_id_start c
 
 abbrev pub begins_fraction : List ℕ → Bool
 begins_fraction s = begins (codes ".") s && not (next_is is_no_fraction (drop 1 s))

@@ -1,7 +1,7 @@
 -- Means, by how it is read: what the pieces of a text keep.
 use Rattle.std.specs.Prelude.{ℕ, ◌+◌, ◌≤◌, List, length, IsCharBoundary}
 use Rattle.rustc_lexer.specs.{Token}
-use Rattle.rustc_lexer.specs.Locality.{bound}
+use Rattle.rustc_lexer.specs.Partition.{bound}
 
 -- each bound of the tokens, the first of which begins at `start`, is inside the text, between characters
 abbrev pub AreBoundariesFrom : List ℕ → ℕ → List Token → Type 0

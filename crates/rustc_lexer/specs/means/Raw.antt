@@ -136,8 +136,8 @@ checked (Ok n) = Ok tt
 checked (Err e) = Err e
 
 -- the check of a text whose prefix is p characters long
-unfoldable pub raw_check : List ℕ → ℕ → Result Unit RawStrError
-raw_check text p = checked (raw_read p (drop p (chars text))).0
+unfoldable pub check_raw : List ℕ → ℕ → Result Unit RawStrError
+check_raw text p = checked (raw_read p (drop p (chars text))).0
 
 -- what is read has an end of its own, and not the end of the text; v is what follows the first hashes
 abbrev pub HasEnd : List ℕ → Result ℕ RawStrError → Type 0

@@ -8,7 +8,7 @@ use Rattle.rustc_lexer.specs.declared.relex.relexing.Change.{Change}
 use Rattle.rustc_lexer.specs.declared.relex.relexing.Relexed.{Relexed}
 use Rattle.rustc_lexer.specs.declared.relex.relexing.Relexing.{Relexing}
 use Rattle.rustc_lexer.specs.{Token}
-use Rattle.rustc_lexer.specs.Locality.{bound, tokens_by}
+use Rattle.rustc_lexer.specs.Partition.{bound, tokens_by}
 use Rattle.rustc_lexer.specs.Edits.{IsBound, apply, ends_from, kept_front, known}
 
 -- ---- what an edit keeps, by a search for the meeting

@@ -5,7 +5,7 @@ use Rattle.rustc_lexer.specs.{Token, TokenKind, E2024, LineComment, BlockComment
 use Rattle.rustc_lexer.specs.LanguageText.{part}
 use Rattle.rustc_lexer.specs.means.Comment.{is_no_newline}
 use Rattle.rustc_lexer.specs.means.Scan.{begins}
-use Rattle.rustc_lexer.specs.means.Tokens.{tokens_of}
+use Rattle.rustc_lexer.specs.means.Tokens.{read_tokens}
 
 -- white space, and comments that are no docs
 abbrev pub is_passed : TokenKind → Bool
@@ -33,8 +33,8 @@ line_len text = if begins (codes "\r\n") (drop (before_newline text - 1) text) t
 
 -- what follows `#!`
 abbrev pub shebang_past : List ℕ → Option ℕ
-shebang_past tail = if is_attribute (tokens_of (part E2024) tail) then None else Some (2 + line_len tail)
+shebang_past tail = if is_attribute (read_tokens (part E2024) tail) then None else Some (2 + line_len tail)
 
 -- the length of the shebang line at the front of a text, if one stands there
-unfoldable pub shebang : List ℕ → Option ℕ
-shebang text = if begins (codes "#!") text then shebang_past (drop 2 text) else None
+unfoldable pub read_shebang : List ℕ → Option ℕ
+read_shebang text = if begins (codes "#!") text then shebang_past (drop 2 text) else None

@@ -24,5 +24,5 @@ advance_by (b ∷ bs) s = (
   },
 )
 
-unfoldable pub advance : State → Token × State
-advance s = advance_by s.rest s
+unfoldable pub take_next : State → Token × State
+take_next s = advance_by s.rest s

@@ -1,7 +1,7 @@
 -- Means, by how they are read: the tokens of a text.
 use Rattle.std.specs.Prelude.{ℕ, zero, suc, ◌≡◌, List, [], ◌∷◌, ◌++◌, length, take, drop, map, min}
 use Rattle.rustc_lexer.specs.{Edition, Token}
-use Rattle.rustc_lexer.specs.Locality.{tokens_by}
+use Rattle.rustc_lexer.specs.Partition.{tokens_by}
 use Rattle.rustc_lexer.specs.LanguageText.{Mode, document, part, mode_after}
 use Rattle.rustc_lexer.specs.means.Edition.{first_token_in}
 use Rattle.rustc_lexer.specs.means.Taking.{token_at}
@@ -20,9 +20,9 @@ unfoldable pub tokens_of_document : Edition → List ℕ → List Token
 tokens_of_document edition text = cut (document edition) (length text) text
 
 -- the tokens of a text
-abbrev pub tokens_of : Mode → List ℕ → List Token
-tokens_of (part edition) text = tokens_by (first_token_in edition) text
-tokens_of (document edition) text = tokens_of_document edition text
+abbrev pub read_tokens : Mode → List ℕ → List Token
+read_tokens (part edition) text = tokens_by (first_token_in edition) text
+read_tokens (document edition) text = tokens_of_document edition text
 
 -- the buffer holds the first of the tokens at its front, each as it is written: as many as there are, or as there is
 -- room for; the rest of the buffer stays
