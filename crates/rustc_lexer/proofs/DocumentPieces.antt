@@ -25,7 +25,7 @@ use Rattle.rustc_lexer.proofs.FrontLemmas.{bound-shift}
 use Rattle.rustc_lexer.proofs.PieceLemmas.{bound-part}
 use Rattle.rustc_lexer.proofs.ReadyLemmas.{cuts}
 
-module _ {first : List ℕ → Token} (law : IsGrammar first) (text : List ℕ) (tokens : List Token) (is : IsText text) (e : tokens ≡ document_by first text) where
+module _ {first : List ℕ → Token} (law : IsGrammar first) (text : List ℕ) (tokens : List Token) (is : IsText text) (e : tokens ≡ document_by head_of first text) where
   abbrev heads : List Token
   heads = tokens_of_head (head_of text)
 
@@ -50,7 +50,7 @@ module _ {first : List ℕ → Token} (law : IsGrammar first) (text : List ℕ) 
       IsCharBoundary-from_rest text (shebang_len text) (bound tokens k) (shebang-boundary text is).0 (subst (IsCharBoundary rest) same there)
 
   -- the bounds of the tokens of the body
-  pub body_bound : (j : ℕ) → (head_of text).end + bound (drop (length heads) tokens) j ≡ shebang_len text + bound tokens (length heads + j)
+  body_bound : (j : ℕ) → (head_of text).end + bound (drop (length heads) tokens) j ≡ shebang_len text + bound tokens (length heads + j)
   body_bound j =
       let at : bound tokens (length heads) ≡ bound heads (length heads) = ap (λ ts. bound ts (length heads)) e ∙ bound-append heads (tokens_by first body) in
       omega (arith, (head.front_of text).ends, at, bound-shift tokens (length heads) j)
@@ -70,19 +70,3 @@ module _ {first : List ℕ → Token} (law : IsGrammar first) (text : List ℕ) 
         let same : length heads + (k - length heads) ≡ k = omega arith in
         subst (λ n. IsCharBoundary text (shebang_len text + bound tokens n)) same (cut_back (k - length heads) (omega arith))
   ]
-
-  pub bound_fits : (k : ℕ) → k ≤ length tokens → shebang_len text + bound tokens k < 2 ^ 32
-  bound_fits k few = let f = is.fits in omega (arith, (document_cuts k few).0, f)
-
-  -- where a bound is, from the end of the shebang line on
-  pub from_line : (k : ℕ) (items : List Token) → k ≤ length tokens → items ≡ take k tokens → shebang_len text + bound items (length items) ≡ shebang_len text + bound tokens k
-  from_line k items few f =
-      let long : length items ≡ k = ap length f ∙ length-take-le k tokens few in
-      ap (λ n. shebang_len text + n) (ap₂ bound f long ∙ bound-take k tokens)
-
-  -- and from a bound of the body's tokens on
-  pub from_near : (k : ℕ) (near : Bound) (items : List Token) → k ≤ length tokens → IsBound (drop (length heads) tokens) near → length heads + near.number ≤ k → items ≡ slice_range tokens (length heads + near.number) k
-      → (head_of text).end + near.place + bound items (length items) ≡ shebang_len text + bound tokens k
-  from_near k near items few at le f =
-      let here = bound-part tokens items (length heads + near.number) k (bound tokens (length heads + near.number)) le few f refl in
-      omega (arith, at.1, body_bound near.number, here)

@@ -57,7 +57,7 @@ impl LexedDocument<Steps> {
         ensures grammar { ⟦<Steps as Stepper>⟧.grammar self.now.stepper ≡ first_in result }
         ensures from_scratch { self.now.tokens ≡ spec.document_tokens result self.now.text }
     {
-        self.stepper.edition()
+        self.kept.stepper.edition()
     }
 
     /// Returns where the body begins, in bytes, and how many tokens come before it: those up to and
@@ -71,8 +71,8 @@ impl LexedDocument<Steps> {
             ≡ tokens_of (part edition) (drop result.place self.now.text) }
     {
         Bound {
-            number: self.head.count(),
-            place: self.head.end,
+            number: self.kept.head.count(),
+            place: self.kept.head.end,
         }
     }
 
@@ -91,14 +91,14 @@ impl LexedDocument<Steps> {
     {
         let mut stepper = Steps::new_in(edition);
         let (tokens, checkpoints) = lex_document(
-            self.alloc,
+            self.kept.alloc,
             &mut stepper,
             self.text.as_str(),
-            self.head,
+            self.kept.head,
         )?;
-        self.tokens = tokens;
-        self.stepper = stepper;
-        self.checkpoints = checkpoints;
+        self.kept.tokens = tokens;
+        self.kept.stepper = stepper;
+        self.kept.checkpoints = checkpoints;
         Ok(())
     }
 }

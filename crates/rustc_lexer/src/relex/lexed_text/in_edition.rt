@@ -39,7 +39,7 @@ impl LexedText<Steps> {
         ensures grammar { ⟦<Steps as Stepper>⟧.grammar self.now.stepper ≡ first_in result }
         ensures from_scratch { self.now.tokens ≡ tokens_of (part result) self.now.text }
     {
-        self.stepper.edition()
+        self.kept.stepper.edition()
     }
 
     /// Lexes the text again, in another edition. `Err` means that memory was refused, and then nothing has changed.
@@ -54,10 +54,10 @@ impl LexedText<Steps> {
         ensures same { OnErr result (self.new ≡ self.old) }
     {
         let mut stepper = Steps::new_in(edition);
-        let (tokens, checkpoints) = lex_all(self.alloc, &mut stepper, self.text.as_str())?;
-        self.tokens = tokens;
-        self.stepper = stepper;
-        self.checkpoints = checkpoints;
+        let (tokens, checkpoints) = lex_all(self.kept.alloc, &mut stepper, self.text.as_str())?;
+        self.kept.tokens = tokens;
+        self.kept.stepper = stepper;
+        self.kept.checkpoints = checkpoints;
         Ok(())
     }
 }

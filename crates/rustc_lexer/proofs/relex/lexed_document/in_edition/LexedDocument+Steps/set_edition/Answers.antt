@@ -12,7 +12,7 @@ pub returns-clause-from_scratch : goal.returns-clause-from_scratch
 returns-clause-from_scratch c =
     let text : List ℕ = string_bytes c.self.inside.text in
     let is = c.self.invariant.0 in
-    c.in_ok-tokens.ensures.tokens ∙ (ap (λ (first : List ℕ → Token). tokens_of_head c.self.inside.head ++ tokens_by first (drop c.self.inside.head.end c.as_str.result.now)) c.new_in-stepper.ensures.grammar
+    c.in_ok-tokens.ensures.tokens ∙ (ap (λ (first : List ℕ → Token). tokens_of_head c.self.inside.kept.head ++ tokens_by first (drop c.self.inside.kept.head.end c.as_str.result.now)) c.new_in-stepper.ensures.grammar
     ∙ (ap₂ (λ (h : Head) (xs : List ℕ). tokens_of_head h ++ tokens_by (first_token_in c.args.edition) (drop h.end xs)) c.self.invariant.2 c.as_str.ensures.value ∙ document_law c.args.edition text is (shebang-boundary text is)))
 
 pub returns-clause-count : goal.returns-clause-count
