@@ -1,15 +1,13 @@
 -- The pieces of a document: its tokens are cut between characters, from the end of its shebang line on.
-use Rattle.std.proofs.Common.{◌≡◌, ℕ, suc, ◌+◌, ◌-◌, ◌^◌, ◌<◌, ◌≤◌, List, length, take, drop, slice_range, refl, sym, ap, ap₂, ◌∙◌, subst, arith, length-append, length-drop, length-take-le, inl, inr, IsCharBoundary}
+use Rattle.std.proofs.Common.{◌≡◌, ℕ, suc, ◌+◌, ◌-◌, ◌≤◌, List, length, take, drop, sym, ap, ◌∙◌, subst, arith, length-append, length-drop, inl, inr, IsCharBoundary}
 use Rattle.std.proofs.Math.Seq.{drop-append_seam}
 use Rattle.std.proofs.lemmas.Bool.{cases_lt}
 use Rattle.std.proofs.lemmas.List.{take-append-le}
 use Rattle.std.proofs.lemmas.Str.{IsCharBoundary-from_rest, IsUtf8-drop}
-use Rattle.rustc_lexer.specs.declared.relex.front.Bound.{Bound}
 use Rattle.rustc_lexer.specs.{Token, E2024}
 use Rattle.rustc_lexer.specs.Classes.{IsText}
 use Rattle.rustc_lexer.specs.Document.{shebang_len, document_tokens}
 use Rattle.rustc_lexer.specs.means.Document.{document_by, head_of, tokens_of_head}
-use Rattle.rustc_lexer.specs.Edits.{IsBound}
 use Rattle.rustc_lexer.specs.LanguageText.{document, part}
 use Rattle.rustc_lexer.specs.Locality.{IsGrammar}
 use Rattle.rustc_lexer.specs.Tokens.{bound, tokens_by}
@@ -20,9 +18,8 @@ use Rattle.rustc_lexer.proofs.DocumentHead as head
 use Rattle.rustc_lexer.proofs.DocumentHead.{bound-append, head_whole}
 use Rattle.rustc_lexer.proofs.DocumentPage.{ahead}
 use Rattle.rustc_lexer.proofs.DocumentTokens.{shebang-boundary}
-use Rattle.rustc_lexer.proofs.EditLemmas.{bound-same, bound-take}
+use Rattle.rustc_lexer.proofs.EditLemmas.{bound-same}
 use Rattle.rustc_lexer.proofs.FrontLemmas.{bound-shift}
-use Rattle.rustc_lexer.proofs.PieceLemmas.{bound-part}
 use Rattle.rustc_lexer.proofs.ReadyLemmas.{cuts}
 
 module _ {first : List ℕ → Token} (law : IsGrammar first) (text : List ℕ) (tokens : List Token) (is : IsText text) (e : tokens ≡ document_by head_of first text) where

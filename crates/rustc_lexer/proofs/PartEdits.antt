@@ -1,5 +1,5 @@
 -- An edit of a part of a document, which has no head: the counts of its body are its own.
-use Rattle.std.proofs.Common.{◌≡◌, ℕ, ◌+◌, ◌-◌, ◌≤◌, true, false, List, length, refl, sym, ◌∙◌, subst, arith}
+use Rattle.std.proofs.Common.{◌≡◌, ℕ, ◌+◌, ◌-◌, true, false, List, refl, sym, ◌∙◌, subst, arith}
 use Rattle.rustc_lexer.specs.{Token}
 use Rattle.rustc_lexer.specs.declared.relex.relexing.Relexed.{Relexed}
 use Rattle.rustc_lexer.specs.Edits.{IsRelexed}

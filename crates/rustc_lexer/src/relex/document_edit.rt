@@ -1,21 +1,7 @@
 //! One edit of a document: what it changes in the body, and how the head counts.
-ghost use Rattle.std.specs.Prelude.{◌≡◌, ◌+◌, ◌-◌, ◌^◌, ◌<◌, ◌≤◌, ◌++◌, ◌↔◌, IfOk, IfErr, IsTrue, OnOk, OnErr, List, ℕ, drop, length, map, take, true, false, if◌then◌else◌};
-ghost use Rattle.std.specs.Str.{IsCharBoundary, IsUtf8};
-ghost use Rattle.std.specs.String.{string_bytes};
-ghost use Rattle.rustc_lexer.specs.declared.relex.relexing.Relexed.{Relexed};
-ghost use Rattle.rustc_lexer.specs.{Token};
-ghost use Rattle.rustc_lexer.specs.Classes.{Fits, IsText};
+ghost use Rattle.std.specs.Prelude.{◌≡◌, ◌+◌, ◌-◌, ◌^◌, ◌<◌, ◌≤◌, ◌++◌, ◌↔◌, IsTrue, OnOk, OnErr, drop, length, take};
 ghost use Rattle.rustc_lexer.specs.means.Document as means;
-ghost use Rattle.rustc_lexer.specs.Tokens.{tokens_by};
-ghost use Rattle.rustc_lexer.specs.Edits.{IsEdit, apply, IsBound};
-ghost use Rattle.rustc_lexer.specs.Relexing.{IsChange, IsMadeOf, MayGoOn};
-ghost use Rattle.rustc_lexer.specs.means.Checkpoints.{AreBounds};
-ghost use Rattle.rustc_lexer.specs.means.Relexing.{IsRenewed, relexed_of};
 
-use crate::entry::stepper::Stepper;
-use crate::relex::checkpoints::Checkpoints;
-use crate::relex::edit::{Edit, past_edit, put_in_place, relex};
-use crate::relex::front::Bound;
 use crate::relex::head::Head;
 use crate::relex::relexing::{Change, Relexed, Relexing};
 use crate::relex::replace::replace;

@@ -1,22 +1,20 @@
 //! One edit: the text that it makes, and the tokens that it lexes.
-ghost use Rattle.std.specs.Prelude.{◌≡◌, ◌+◌, ◌-◌, ◌^◌, ◌<◌, ◌≤◌, ◌++◌, ◌↔◌, IsTrue, IfOk, IfErr, OnOk, OnErr, List, ℕ, drop, length, map, take};
+ghost use Rattle.std.specs.Prelude.{◌≡◌, ◌+◌, ◌-◌, ◌^◌, ◌<◌, ◌≤◌, ◌++◌, ◌↔◌, IsTrue, IfOk, IfErr, OnOk, List, ℕ, drop, length, map};
 ghost use Rattle.std.specs.List.{All};
-ghost use Rattle.std.specs.Str.{IsUtf8};
 ghost use Rattle.std.specs.String.{string_bytes, string_capacity, string_len};
 ghost use Rattle.rustc_lexer.specs.{Token};
-ghost use Rattle.rustc_lexer.specs.Classes.{Fits, IsText};
+ghost use Rattle.rustc_lexer.specs.Classes.{Fits};
 ghost use Rattle.rustc_lexer.specs.Tokens.{tokens_by};
 ghost use Rattle.rustc_lexer.specs.Edits.{IsEdit, IsInside, apply, IsBound, known};
 ghost use Rattle.rustc_lexer.specs.Relexing.{IsChange, IsMadeOf, MayGoOn};
 ghost use Rattle.rustc_lexer.specs.means.Checkpoints.{AreBounds, IsMovable, IsReplaced, end_of};
-ghost use Rattle.rustc_lexer.specs.means.Relexing.{IsLexed, IsRenewed, relexed_of, Stands};
+ghost use Rattle.rustc_lexer.specs.means.Relexing.{IsLexed, relexed_of, Stands};
 
 use crate::entry::stepper::Stepper;
 use crate::relex::checkpoints::Checkpoints;
 use crate::relex::front::Bound;
 use crate::relex::lex::new_buffer;
-use crate::relex::relexing::{Change, LONG, Relexed, Relexing};
-use crate::relex::replace::replace;
+use crate::relex::relexing::{Change, LONG, Relexing};
 use crate::token::Token;
 use std::alloc::{AllocError, Global};
 

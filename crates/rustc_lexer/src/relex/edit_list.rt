@@ -1,5 +1,5 @@
 //! Several edits, one after another.
-ghost use Rattle.std.specs.Prelude.{◌≡◌, ◌+◌, IfErr, OnOk, Some, take};
+ghost use Rattle.std.specs.Prelude.{◌≡◌, IfErr, OnOk, Some, take};
 ghost use Rattle.rustc_lexer.specs.Tokens.{tokens_by};
 ghost use Rattle.rustc_lexer.specs.Edits.{apply_list, AreCounted, AreEdits, stop_at, stop_text, IsStop, IsCounted};
 

@@ -1,5 +1,5 @@
 //! The head of a document: the part before its body.
-ghost use Rattle.std.specs.Prelude.{◌≡◌, ◌≤◌, ◌↔◌, ◌++◌, OnOk, IsTrue, length};
+ghost use Rattle.std.specs.Prelude.{◌≡◌, ◌↔◌, ◌++◌, OnOk, IsTrue, length};
 ghost use Rattle.std.specs.Str.{IsCharBoundary};
 ghost use Rattle.rustc_lexer.specs.Classes.{Fits};
 ghost use Rattle.rustc_lexer.specs.Document as spec;

@@ -4,7 +4,7 @@ ghost use Rattle.std.specs.Str.{IsCharBoundary, IsUtf8};
 ghost use Rattle.std.specs.String.{string_bytes};
 ghost use Rattle.rustc_lexer.specs.declared.relex.relexing.Relexed.{Relexed};
 ghost use Rattle.rustc_lexer.specs.{Token};
-ghost use Rattle.rustc_lexer.specs.Classes.{Fits, IsText};
+ghost use Rattle.rustc_lexer.specs.Classes.{Fits};
 ghost use Rattle.rustc_lexer.specs.means.Document as means;
 ghost use Rattle.rustc_lexer.specs.Tokens.{bound, tokens_by};
 ghost use Rattle.rustc_lexer.specs.Edits.{IsEdit, apply, IsBound};
@@ -18,7 +18,9 @@ use crate::relex::document_edit::{body_change, counted, keeps_head, new_head, pu
 use crate::relex::edit::{Edit, past_edit, put_in_place, relex};
 use crate::relex::front::Bound;
 use crate::relex::head::{Head, find_head};
+use crate::relex::lex::lex_all;
 use crate::relex::relexing::{Change, Relexed, Relexing};
+use crate::relex::replace::replace;
 use crate::token::Token;
 use std::alloc::{AllocError, Global};
 
@@ -35,6 +37,42 @@ pub(crate) struct Kept<S: Stepper> {
 }
 
 impl<S: Stepper> Kept<S> {
+    /// Lexes a text: its head by itself, and what follows with the stepper. `whole` says whether the text is a whole
+    /// document, which may have a head.
+    pub(crate) fn with(
+        alloc: Global,
+        text: &str,
+        whole: bool,
+        stepper: S,
+    ) -> Result<Kept<S>, AllocError>
+        requires fits { Fits text.now }
+        ensures head { IfOk result (λ k. k.head ≡ means.head_by whole text.now) }
+        ensures head_boundary { IfOk result (λ k. IsCharBoundary text.now k.head.end) }
+        ensures from_scratch { IfOk result
+            (λ k. k.tokens.items ≡ means.document_by (means.head_by whole) (S.grammar k.stepper) text.now) }
+        ensures checkpoints { IfOk result
+            (λ k. AreBounds (drop (length (means.tokens_of_head k.head)) k.tokens.items) k.checkpoints) }
+        ensures count { IfOk result
+            (λ k. S.count k.stepper + length (means.tokens_of_head k.head)
+            ≡ S.count stepper + length k.tokens.items) }
+        ensures grammar { IfOk result (λ k. S.grammar k.stepper ≡ S.grammar stepper) }
+        ensures number { IfOk result (λ k. S.number k.stepper ≡ S.number stepper) }
+    {
+        let mut stepper = stepper;
+        let head = find_head(whole, text);
+        let (mut tokens, checkpoints) = lex_all(alloc, &mut stepper, &text[head.end..])?;
+        let mut front = Vec::new(alloc);
+        head.push_to(&mut front)?;
+        replace(&mut tokens, 0, 0, front.as_slice())?;
+        Ok(Kept {
+            alloc,
+            tokens,
+            stepper,
+            head,
+            checkpoints,
+        })
+    }
+
     /// Replaces the old tokens with those of the changed text, and returns where lexing met the old tokens of the
     /// body. `old_count` is how many tokens the old head has. `head` is the new head, unless the old one stays.
     fn renew(
@@ -97,15 +135,9 @@ impl<S: Stepper> Kept<S> {
             (string_bytes text.new
             ≡ apply (string_bytes text.old) edit.entry.start edit.entry.stop edit.entry.insert.now) }
         ensures same_text { OnErr result (string_bytes text.new ≡ string_bytes text.old) }
-        ensures is_text { IsText (string_bytes text.new) }
-        ensures head { self.new.head ≡ means.head_by whole (string_bytes text.new) }
-        ensures head_boundary { IsCharBoundary (string_bytes text.new) self.new.head.end }
-        ensures from_scratch { self.new.tokens.items
-            ≡ means.document_by (means.head_by whole) (S.grammar self.old.stepper) (string_bytes text.new) }
+        ensures kept { means.AreKeptOf whole (S.grammar self.new.stepper) (string_bytes text.new)
+            self.new.tokens.items self.new.head self.new.checkpoints }
         ensures same_tokens { OnErr result (self.new.tokens.items ≡ self.old.tokens.items) }
-        ensures checkpoints { AreBounds
-            (drop (length (means.tokens_of_head self.new.head)) self.new.tokens.items)
-            self.new.checkpoints }
         ensures relexed { IfOk result
             (means.IsRelexedByHead (means.head_by whole) (S.grammar self.old.stepper) (string_bytes text.old)
             edit.entry.start edit.entry.stop edit.entry.insert.now) }
@@ -169,6 +201,7 @@ impl<S: Stepper> Kept<S> {
             }
         }
     }
+
     /// Returns a bound of the tokens that is not behind this number, by the place of the first token. It is the last
     /// one that is remembered up to there.
     fn bound_before(&self, number: usize) -> Bound

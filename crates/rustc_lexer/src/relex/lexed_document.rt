@@ -1,21 +1,15 @@
 //! A whole document that is kept with its tokens.
-ghost use Rattle.std.specs.Prelude.{◌≡◌, ◌+◌, ◌-◌, ◌<◌, ◌≤◌, ◌++◌, ◌↔◌, IfOk, IfErr, OnOk, OnErr, IsTrue, ℕ, drop, length, take};
-ghost use Rattle.std.specs.Str.{IsCharBoundary};
+ghost use Rattle.std.specs.Prelude.{◌≡◌, ◌+◌, ◌-◌, ◌<◌, ◌≤◌, ◌↔◌, IfOk, OnOk, OnErr, IsTrue, ℕ, drop, length, take};
 ghost use Rattle.rustc_lexer.specs.Classes.{Fits};
 ghost use Rattle.rustc_lexer.specs.Document as spec;
 ghost use Rattle.rustc_lexer.specs.means.Document as means;
-ghost use Rattle.rustc_lexer.specs.Edits.{IsEdit, IsInside, apply};
-ghost use Rattle.rustc_lexer.specs.means.Checkpoints.{AreBounds};
-ghost use Rattle.rustc_lexer.specs.Tokens.{bound, tokens_by};
+ghost use Rattle.rustc_lexer.specs.Edits.{IsEdit, apply};
+ghost use Rattle.rustc_lexer.specs.Tokens.{bound};
 
 use crate::entry::stepper::Stepper;
-use crate::relex::checkpoints::Checkpoints;
 use crate::relex::edit::{Edit, accepts};
-use crate::relex::head::Head;
 use crate::relex::kept::Kept;
-use crate::relex::lex::lex_all;
 use crate::relex::relexing::Relexed;
-use crate::relex::replace::replace;
 use crate::token::Token;
 use std::alloc::{AllocError, Global};
 use std::marker::Model;
@@ -63,33 +57,6 @@ impl<S: Stepper> Model for LexedDocument<S> {
         a.kept.tokens.items a.kept.head a.kept.checkpoints };
 }
 
-/// Lexes a document with this head. Returns all its tokens, and checkpoints among those of its body.
-pub(crate) fn lex_document<S: Stepper>(
-    alloc: Global,
-    stepper: &mut S,
-    text: &str,
-    head: Head,
-) -> Result<(Vec<Token>, Checkpoints), AllocError>
-    requires fits { Fits text.now }
-    requires head_boundary { IsCharBoundary text.now head.end }
-    ensures tokens { IfOk result
-        (λ r. r.0.items
-        ≡ means.tokens_of_head head ++ tokens_by (S.grammar stepper.old) (drop head.end text.now)) }
-    ensures checkpoints { IfOk result
-        (λ r. AreBounds (drop (length (means.tokens_of_head head)) r.0.items) r.1) }
-    ensures count { IfOk result
-        (λ r. S.count stepper.new + length (means.tokens_of_head head)
-        ≡ S.count stepper.old + length r.0.items) }
-    ensures grammar { S.grammar stepper.new ≡ S.grammar stepper.old }
-    ensures number { S.number stepper.new ≡ S.number stepper.old }
-{
-    let (mut tokens, checkpoints) = lex_all(alloc, stepper, &text[head.end..])?;
-    let mut front = Vec::new(alloc);
-    head.push_to(&mut front)?;
-    replace(&mut tokens, 0, 0, front.as_slice())?;
-    Ok((tokens, checkpoints))
-}
-
 impl<S: Stepper> LexedDocument<S> {
     /// Copies the text and lexes it: the head by itself, and the body with the stepper, one step for each token.
     /// The text may have at most `u32::MAX` bytes. `Err` means that memory was refused.
@@ -104,19 +71,11 @@ impl<S: Stepper> LexedDocument<S> {
             (λ l. S.count l.stepper + length (spec.head_tokens text.now)
             ≡ S.count stepper + length l.tokens) }
     {
-        let mut stepper = stepper;
         let held = String::from_str(alloc, text)?;
-        let head = Head::of(text);
-        let (tokens, checkpoints) = lex_document(alloc, &mut stepper, text, head)?;
+        let kept = Kept::with(alloc, text, true, stepper)?;
         Ok(LexedDocument {
             text: held,
-            kept: Kept {
-                alloc,
-                tokens,
-                stepper,
-                head,
-                checkpoints,
-            },
+            kept,
         })
     }
 

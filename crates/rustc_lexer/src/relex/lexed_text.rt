@@ -1,19 +1,17 @@
 //! A text that is kept with its tokens.
-ghost use Rattle.std.specs.Prelude.{◌≡◌, ◌+◌, ◌-◌, ◌^◌, ◌<◌, ◌≤◌, ◌↔◌, IfOk, IfErr, OnOk, OnErr, IsTrue, drop, length, take};
+ghost use Rattle.std.specs.Prelude.{◌≡◌, ◌+◌, ◌-◌, ◌<◌, ◌≤◌, ◌↔◌, IfOk, OnOk, OnErr, IsTrue, drop, length, take};
 ghost use Rattle.rustc_lexer.specs.{E2024};
 ghost use Rattle.rustc_lexer.specs.Classes.{Fits};
 ghost use Rattle.rustc_lexer.specs.Tokens.{bound, tokens_by, tokens_of};
 ghost use Rattle.rustc_lexer.specs.declared.relex.relexing.Relexed.{Relexed};
-ghost use Rattle.rustc_lexer.specs.Edits.{IsEdit, IsInside, IsRelexed, apply};
+ghost use Rattle.rustc_lexer.specs.Edits.{IsEdit, IsRelexed, apply};
 ghost use Rattle.rustc_lexer.specs.LanguageText.{part};
 ghost use Rattle.rustc_lexer.specs.Answers.{first_in};
 
 use crate::edition::Edition;
 use crate::entry::stepper::{Stepper, Steps};
 use crate::relex::edit::{Edit, accepts};
-use crate::relex::head::NO_HEAD;
 use crate::relex::kept::Kept;
-use crate::relex::lex::lex_all;
 use crate::relex::relexing::Relexed;
 use crate::token::Token;
 use std::alloc::{AllocError, Global};
@@ -58,18 +56,11 @@ impl<S: Stepper> LexedText<S> {
         ensures number { IfOk result (λ l. S.number l.stepper ≡ S.number stepper) }
         ensures count { IfOk result (λ l. S.count l.stepper ≡ S.count stepper + length l.tokens) }
     {
-        let mut stepper = stepper;
         let held = String::from_str(alloc, text)?;
-        let (tokens, checkpoints) = lex_all(alloc, &mut stepper, text)?;
+        let kept = Kept::with(alloc, text, false, stepper)?;
         Ok(LexedText {
             text: held,
-            kept: Kept {
-                alloc,
-                tokens,
-                stepper,
-                head: NO_HEAD,
-                checkpoints,
-            },
+            kept,
         })
     }
 

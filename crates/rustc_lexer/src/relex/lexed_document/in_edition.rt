@@ -10,7 +10,8 @@ ghost use Rattle.rustc_lexer.specs.Tokens.{tokens_of};
 use crate::edition::Edition;
 use crate::entry::stepper::{Stepper, Steps};
 use crate::relex::front::Bound;
-use crate::relex::lexed_document::{LexedDocument, lex_document};
+use crate::relex::kept::Kept;
+use crate::relex::lexed_document::LexedDocument;
 use std::alloc::{AllocError, Global};
 
 impl LexedDocument<Steps> {
@@ -89,16 +90,9 @@ impl LexedDocument<Steps> {
             ≡ length self.new.tokens) }
         ensures same { OnErr result (self.new ≡ self.old) }
     {
-        let mut stepper = Steps::new_in(edition);
-        let (tokens, checkpoints) = lex_document(
-            self.kept.alloc,
-            &mut stepper,
-            self.text.as_str(),
-            self.kept.head,
-        )?;
-        self.kept.tokens = tokens;
-        self.kept.stepper = stepper;
-        self.kept.checkpoints = checkpoints;
+        let stepper = Steps::new_in(edition);
+        let kept = Kept::with(self.kept.alloc, self.text.as_str(), true, stepper)?;
+        self.kept = kept;
         Ok(())
     }
 }

@@ -1,5 +1,4 @@
-use Rattle.std.proofs.Common.{ℕ, ◌≡◌, ◌+◌, length, arith}
-use Rattle.rustc_lexer.specs.Edits.{IsBound}
+use Rattle.std.proofs.Common.{◌+◌, arith}
 use Rattle.rustc_lexer.proofs.KeptLemmas.{near_at, place_fits}
 use Rattle.rustc_lexer.proofs.relex.kept.Kept.bound_before.Goals as goal
 

@@ -1,4 +1,4 @@
-use Rattle.std.proofs.Common.{◌≡◌, ◌+◌, ◌-◌, take, length-drop, List, ℕ, length, map, drop, slice_range, string_bytes, refl, sym, ap, ◌∙◌, subst, arith, IsUtf8, IsCharBoundary}
+use Rattle.std.proofs.Common.{◌≡◌, ◌+◌, ◌-◌, take, length-drop, List, ℕ, length, map, drop, slice_range, string_bytes, refl, sym, ap, ap₂, ◌∙◌, subst, arith, IsUtf8, IsCharBoundary}
 use Rattle.std.proofs.lemmas.Grind.{common_steps}
 use Rattle.std.proofs.lemmas.List.{length-map}
 use Rattle.std.specs.List.{All}
@@ -11,7 +11,7 @@ use Rattle.rustc_lexer.specs.means.Document.{document_by, head_by, IsCountedByHe
 use Rattle.rustc_lexer.specs.Edits.{IsEdit, IsInside, apply}
 use Rattle.rustc_lexer.specs.means.Checkpoints.{AreBounds, IsMovable, end_of}
 use Rattle.rustc_lexer.proofs.DocumentEditLemmas.{body_edit, near_behind, new_are, new_behind, bounds_move, counted_all, counted_front, counted_back, counted_few, counted_relexed, counted_steps, few_body, steps_rise, OnErr-always}
-use Rattle.rustc_lexer.proofs.EditLemmas.{put_back}
+use Rattle.rustc_lexer.proofs.EditLemmas.{edited, put_back}
 use Rattle.rustc_lexer.proofs.RelexingLemmas.{made_for, made_change}
 use Rattle.rustc_lexer.proofs.relex.kept.Kept.edit.Goals as goal
 
@@ -31,17 +31,17 @@ past_edit-self-requires-clause-movable g c =
     let r = c.in-Ok.ensures.renewed _ _ b.made_of (near_behind c.args.self.now.tokens.items c.args.self.now.checkpoints b.n_is b.old_body c.requires.kept.4 c.nearest-near.ensures) in
     subst (λ (x : Checkpoints). All (IsMovable c.in-Ok.at.back (end_of c.in-Ok.at)) x.bounds) (sym c.renew.ensures.checkpoints) (bounds_move (g.S.Stepper.law c.args.self.now.stepper) b c.new_head-new_head.ensures r.0 c.args.self.now.checkpoints b.n_is c.requires.kept.4).0
 
-pub returns-in-Ok-clause-from_scratch : goal.returns-in-Ok-clause-from_scratch
-returns-in-Ok-clause-from_scratch g c =
+pub returns-in-Ok-clause-kept : goal.returns-in-Ok-clause-kept
+returns-in-Ok-clause-kept g c =
     let b = body_edit (head_by c.args.whole) (g.S.Stepper.law c.args.self.now.stepper) c.requires.kept.0 c.requires.insert c.requires.edit c.as_str-made.ensures.value c.put_in_place.ensures.text c.reserve.ensures.bytes c.requires.kept.2 c.requires.kept.3 c.find_head-now.ensures.head c.find_head-now.ensures.boundary c.keeps_head-kept.ensures c.count-old_count.ensures c.requires.kept.1 c.range_from-body.ensures.value c.body_change-change.ensures in
     let r = c.in-Ok.ensures.renewed _ _ b.made_of (near_behind c.args.self.now.tokens.items c.args.self.now.checkpoints b.n_is b.old_body c.requires.kept.4 c.nearest-near.ensures) in
-    new_are (g.S.Stepper.law c.args.self.now.stepper) b c.new_head-new_head.ensures r.0 ∙ ap (document_by (head_by c.args.whole) (g.S.Stepper.grammar c.args.self.now.stepper)) c.as_str-made.ensures.value
-
-pub returns-in-Ok-clause-checkpoints : goal.returns-in-Ok-clause-checkpoints
-returns-in-Ok-clause-checkpoints g c =
-    let b = body_edit (head_by c.args.whole) (g.S.Stepper.law c.args.self.now.stepper) c.requires.kept.0 c.requires.insert c.requires.edit c.as_str-made.ensures.value c.put_in_place.ensures.text c.reserve.ensures.bytes c.requires.kept.2 c.requires.kept.3 c.find_head-now.ensures.head c.find_head-now.ensures.boundary c.keeps_head-kept.ensures c.count-old_count.ensures c.requires.kept.1 c.range_from-body.ensures.value c.body_change-change.ensures in
-    let r = c.in-Ok.ensures.renewed _ _ b.made_of (near_behind c.args.self.now.tokens.items c.args.self.now.checkpoints b.n_is b.old_body c.requires.kept.4 c.nearest-near.ensures) in
-    subst (λ (ts : List Token). AreBounds ts c.past_edit-self.result) (sym (new_behind (g.S.Stepper.law c.args.self.now.stepper) b c.new_head-new_head.ensures r.0)) (c.past_edit-self.ensures _ _ (bounds_move (g.S.Stepper.law c.args.self.now.stepper) b c.new_head-new_head.ensures r.0 c.args.self.now.checkpoints b.n_is c.requires.kept.4).1 (subst (λ (x : Checkpoints). AreBounds (drop c.count-old_count.result c.args.self.now.tokens.items) x) (sym c.renew.ensures.checkpoints) (subst (λ k. AreBounds (drop k c.args.self.now.tokens.items) c.args.self.now.checkpoints) (sym b.n_is) c.requires.kept.4)))
+    let is : IsText c.as_str-made.result.now = subst IsText (sym b.made_is) (edited _ _ _ _ c.requires.kept.0 c.requires.insert c.requires.edit).text_is in (
+      subst IsText c.as_str-made.ensures.value is,
+      new_are (g.S.Stepper.law c.args.self.now.stepper) b c.new_head-new_head.ensures r.0 ∙ ap₂ (document_by (head_by c.args.whole)) (sym c.renew.ensures.grammar) c.as_str-made.ensures.value,
+      c.find_head-now.ensures.head ∙ ap (head_by c.args.whole) c.as_str-made.ensures.value,
+      subst (λ (xs : List ℕ). IsCharBoundary xs c.find_head-now.result.end) c.as_str-made.ensures.value c.find_head-now.ensures.boundary,
+      subst (λ (ts : List Token). AreBounds ts c.past_edit-self.result) (sym (new_behind (g.S.Stepper.law c.args.self.now.stepper) b c.new_head-new_head.ensures r.0)) (c.past_edit-self.ensures _ _ (bounds_move (g.S.Stepper.law c.args.self.now.stepper) b c.new_head-new_head.ensures r.0 c.args.self.now.checkpoints b.n_is c.requires.kept.4).1 (subst (λ (x : Checkpoints). AreBounds (drop c.count-old_count.result c.args.self.now.tokens.items) x) (sym c.renew.ensures.checkpoints) (subst (λ k. AreBounds (drop k c.args.self.now.tokens.items) c.args.self.now.checkpoints) (sym b.n_is) c.requires.kept.4))),
+    )
 
 pub put_in_place-requires-in-Err-clause-inside : goal.put_in_place-requires-in-Err-clause-inside
 put_in_place-requires-in-Err-clause-inside g c =
@@ -53,26 +53,17 @@ pub returns-clause-same_text : goal.returns-clause-same_text
 returns-clause-same_text g c =
     put_back_from c.requires.kept.0 c.requires.insert c.requires.edit (c.as_str.ensures.value ∙ (c.in_ok-removed.ensures.ok ∙ c.range.ensures.value)) c.deref.ensures c.reserve.ensures.bytes c.put_in_place.ensures.text c.put_in_place-in-Err.ensures.text
 
-pub returns-clause-is_text : goal.returns-clause-is_text
-returns-clause-is_text g c =
+pub returns-clause-kept : goal.returns-clause-kept
+returns-clause-kept g c =
     let same : string_bytes c.put_in_place-in-Err.new.text ≡ string_bytes c.args.text.now = put_back_from c.requires.kept.0 c.requires.insert c.requires.edit (c.as_str.ensures.value ∙ (c.in_ok-removed.ensures.ok ∙ c.range.ensures.value)) c.deref.ensures c.reserve.ensures.bytes c.put_in_place.ensures.text c.put_in_place-in-Err.ensures.text in
-    let is : IsText (string_bytes c.args.text.now) = c.requires.kept.0 in
-    rw same is
-
-pub returns-clause-head : goal.returns-clause-head
-returns-clause-head g c =
-    let same : string_bytes c.put_in_place-in-Err.new.text ≡ string_bytes c.args.text.now = put_back_from c.requires.kept.0 c.requires.insert c.requires.edit (c.as_str.ensures.value ∙ (c.in_ok-removed.ensures.ok ∙ c.range.ensures.value)) c.deref.ensures c.reserve.ensures.bytes c.put_in_place.ensures.text c.put_in_place-in-Err.ensures.text in
-    c.renew.ensures.head ∙ (c.requires.kept.2 ∙ ap (head_by c.args.whole) (sym same))
-
-pub returns-clause-head_boundary : goal.returns-clause-head_boundary
-returns-clause-head_boundary g c =
-    let same : string_bytes c.put_in_place-in-Err.new.text ≡ string_bytes c.args.text.now = put_back_from c.requires.kept.0 c.requires.insert c.requires.edit (c.as_str.ensures.value ∙ (c.in_ok-removed.ensures.ok ∙ c.range.ensures.value)) c.deref.ensures c.reserve.ensures.bytes c.put_in_place.ensures.text c.put_in_place-in-Err.ensures.text in
-    subst (λ (h : Head). IsCharBoundary (string_bytes c.put_in_place-in-Err.new.text) h.end) (sym c.renew.ensures.head) (subst (λ (xs : List ℕ). IsCharBoundary xs c.args.self.now.head.end) (sym same) c.requires.kept.3)
-
-pub returns-clause-from_scratch : goal.returns-clause-from_scratch
-returns-clause-from_scratch g c =
-    let same : string_bytes c.put_in_place-in-Err.new.text ≡ string_bytes c.args.text.now = put_back_from c.requires.kept.0 c.requires.insert c.requires.edit (c.as_str.ensures.value ∙ (c.in_ok-removed.ensures.ok ∙ c.range.ensures.value)) c.deref.ensures c.reserve.ensures.bytes c.put_in_place.ensures.text c.put_in_place-in-Err.ensures.text in
-    c.in-Err.ensures.same ∙ (c.requires.kept.1 ∙ ap (document_by (head_by c.args.whole) (g.S.Stepper.grammar c.args.self.now.stepper)) (sym same))
+    let k = c.requires.kept in
+    let head : c.renew.new.self.head ≡ c.args.self.now.head = c.renew.ensures.head in (
+      subst IsText (sym same) k.0,
+      c.in-Err.ensures.same ∙ (k.1 ∙ ap₂ (document_by (head_by c.args.whole)) (sym c.renew.ensures.grammar) (sym same)),
+      head ∙ (k.2 ∙ ap (head_by c.args.whole) (sym same)),
+      subst (λ (h : Head). IsCharBoundary (string_bytes c.put_in_place-in-Err.new.text) h.end) (sym head) (subst (λ (xs : List ℕ). IsCharBoundary xs c.args.self.now.head.end) (sym same) k.3),
+      rw (head, c.in-Err.ensures.same, c.renew.ensures.checkpoints) k.4,
+    )
 
 pub returns-in-Ok-clause-all : goal.returns-in-Ok-clause-all
 returns-in-Ok-clause-all g c =

@@ -1,4 +1,4 @@
-use Rattle.std.proofs.Common.{◌≡◌, ◌+◌, List, length, slice_range, refl, ap, arith}
+use Rattle.std.proofs.Common.{◌≡◌, List, slice_range, refl, ap, arith}
 use Rattle.rustc_lexer.specs.{Token}
 use Rattle.rustc_lexer.specs.Tokens.{bound}
 use Rattle.rustc_lexer.proofs.KeptLemmas.{place_fits}

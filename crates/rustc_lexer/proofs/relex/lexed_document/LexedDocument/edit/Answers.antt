@@ -1,4 +1,4 @@
-use Rattle.std.proofs.Common.{List, ℕ, IfOk, OnErr, ◌≤◌, ◌≡◌, ◌∙◌, sym, subst, string_bytes}
+use Rattle.std.proofs.Common.{List, ℕ, IfOk, OnErr, ◌≤◌, ◌≡◌, ◌∙◌, ap, sym, subst, string_bytes}
 use Rattle.rustc_lexer.specs.Classes.{IsText}
 use Rattle.rustc_lexer.specs.Document.{document_tokens_by, IsRelexedDocument, IsCountedDocument, IsStepped}
 use Rattle.rustc_lexer.specs.Edits.{IsEdit, apply}
@@ -26,7 +26,8 @@ returns-clause-count g c =
 
 pub returns-clause-from_scratch : goal.returns-clause-from_scratch
 returns-clause-from_scratch g c =
-    subst (λ l. c.edit.new.self.tokens.items ≡ document_tokens_by (g.S.Stepper.grammar l.stepper) (string_bytes c.edit.new.text)) c.self.view_is (c.edit.ensures.from_scratch ∙ past_law _ _ c.edit.ensures.is_text)
+    let k = c.edit.ensures.kept in
+    subst (λ l. c.edit.new.self.tokens.items ≡ document_tokens_by (g.S.Stepper.grammar l.stepper) (string_bytes c.edit.new.text)) c.self.view_is (k.1 ∙ (past_law _ _ k.0 ∙ ap (λ f. document_tokens_by f (string_bytes c.edit.new.text)) c.edit.ensures.grammar))
 
 pub returns-clause-few : goal.returns-clause-few
 returns-clause-few g c =
