@@ -113,7 +113,14 @@ impl<S: Stepper> Kept<S> {
     {
         let old = &self.tokens.as_slice()[old_count..];
         let (lexed, at) = relex(self.alloc, &mut self.stepper, old, near, body, change)?;
-        put_tokens(self.alloc, &mut self.tokens, old_count, head, at, lexed.as_slice())?;
+        put_tokens(
+            self.alloc,
+            &mut self.tokens,
+            old_count,
+            head,
+            at,
+            lexed.as_slice(),
+        )?;
         Ok(at)
     }
 

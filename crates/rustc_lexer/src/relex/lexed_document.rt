@@ -73,10 +73,7 @@ impl<S: Stepper> LexedDocument<S> {
     {
         let held = String::from_str(alloc, text)?;
         let kept = Kept::with(alloc, text, true, stepper)?;
-        Ok(LexedDocument {
-            text: held,
-            kept,
-        })
+        Ok(LexedDocument { text: held, kept })
     }
 
     /// Returns the whole text, with its shebang line.

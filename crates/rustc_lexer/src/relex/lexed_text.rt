@@ -58,10 +58,7 @@ impl<S: Stepper> LexedText<S> {
     {
         let held = String::from_str(alloc, text)?;
         let kept = Kept::with(alloc, text, false, stepper)?;
-        Ok(LexedText {
-            text: held,
-            kept,
-        })
+        Ok(LexedText { text: held, kept })
     }
 
     /// Returns the text.
