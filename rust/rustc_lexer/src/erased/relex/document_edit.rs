@@ -1,10 +1,6 @@
 //! One edit of a document: what it changes in the body, and how the head counts.
 use crate::support::Vec;
 
-use crate::erased::entry::stepper::Stepper;
-use crate::erased::relex::checkpoints::Checkpoints;
-use crate::erased::relex::edit::{Edit, past_edit, put_in_place, relex};
-use crate::erased::relex::front::Bound;
 use crate::erased::relex::head::Head;
 use crate::erased::relex::relexing::{Change, Relexed, Relexing};
 use crate::erased::relex::replace::replace;

@@ -5,8 +5,7 @@ use crate::erased::entry::stepper::Stepper;
 use crate::erased::relex::checkpoints::Checkpoints;
 use crate::erased::relex::front::Bound;
 use crate::erased::relex::lex::new_buffer;
-use crate::erased::relex::relexing::{Change, LONG, Relexed, Relexing};
-use crate::erased::relex::replace::replace;
+use crate::erased::relex::relexing::{Change, LONG, Relexing};
 use crate::erased::token::Token;
 use crate::support::{AllocError, Global};
 

@@ -124,6 +124,7 @@ impl<S: Stepper> Kept<S> {
             }
         }
     }
+
     /// Returns a bound of the tokens that is not behind this number, by the place of the first token. It is the last
     /// one that is remembered up to there.
     fn bound_before(&self, number: usize) -> Bound {
