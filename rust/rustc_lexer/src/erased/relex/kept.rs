@@ -125,8 +125,8 @@ impl<S: Stepper> Kept<S> {
         }
     }
 
-    /// Returns a bound of the tokens that is not behind this number, by the place of the first token. It is the last
-    /// one that is remembered up to there.
+    /// Returns the last bound known without a search that has at most `number` tokens before it: a remembered one, or
+    /// where the head begins or ends. Its place is in bytes from the start of the text.
     fn bound_before(&self, number: usize) -> Bound {
         let count = self.head.count();
         if number < count {
