@@ -12,7 +12,7 @@ use Rattle.rustc_lexer.specs.declared.relex.relexing.Relexed.{Relexed}
 use Rattle.rustc_lexer.specs.declared.relex.relexing.Relexing.{Relexing}
 use Rattle.rustc_lexer.specs.{Token}
 use Rattle.rustc_lexer.specs.Classes.{IsText}
-use Rattle.rustc_lexer.specs.means.Document.{body_change, body_insert, counted, document_by, head_of, head_put, head_unless, HeadStays, IsCountedByHead, IsRelexedAs, IsRelexedByHead, IsRelexedWith, IsRenewedBehind, tokens_of_head}
+use Rattle.rustc_lexer.specs.means.Document.{body_change, body_insert, counted, document_by, head_put, head_unless, HeadStays, IsCountedByHead, IsRelexedAs, IsRelexedByHead, IsRelexedWith, IsRenewedBehind, tokens_of_head}
 use Rattle.rustc_lexer.specs.Edits.{apply, kept_front, IsBound, IsEdit, IsRelexed}
 use Rattle.rustc_lexer.specs.Relexing.{IsMadeOf}
 use Rattle.rustc_lexer.specs.Locality.{IsGrammar}
@@ -29,10 +29,10 @@ abbrev pub edit_change : ℕ → ℕ → List ℕ → Change
 edit_change start stop insert = record { start = start; old_stop = stop; new_stop = start + length insert }
 
 -- what is known of an edit of a document, whose old head has n tokens
-pub record IsBodyEdit (first : List ℕ → Token) (text made insert : List ℕ) (start stop : ℕ) (old now : Head) (kept : Bool) (n : ℕ) (tokens : List Token) (body : List ℕ) (change : Change) : Type 0 where
+pub record IsBodyEdit (heads : List ℕ → Head) (first : List ℕ → Token) (text made insert : List ℕ) (start stop : ℕ) (old now : Head) (kept : Bool) (n : ℕ) (tokens : List Token) (body : List ℕ) (change : Change) : Type 0 where
   pub made_is : made ≡ apply text start stop insert
-  pub old_is : old ≡ head_of text
-  pub now_is : now ≡ head_of made
+  pub old_is : old ≡ heads text
+  pub now_is : now ≡ heads made
   pub told : IsTrue kept ↔ ((old ≡ now) × (old.end ≤ start))
   pub n_is : n ≡ length (tokens_of_head old)
   pub body_is : body ≡ drop now.end made
@@ -42,11 +42,11 @@ pub record IsBodyEdit (first : List ℕ → Token) (text made insert : List ℕ)
   pub inside : n ≤ length tokens
   pub made_of : IsMadeOf first (drop old.end text) (map (λ (t : Token). t.len) (drop n tokens)) change (body_insert kept change insert body) body
 
-pub body_edit : {first : List ℕ → Token} (law : IsGrammar first) {text made insert put reserved : List ℕ} {start stop : ℕ} {old now : Head} {kept : Bool} {n : ℕ} {tokens : List Token} {body : List ℕ} {change : Change}
-    → IsText text → IsUtf8 insert → IsEdit text start stop insert → made ≡ put → put ≡ apply reserved start stop insert → reserved ≡ text → old ≡ head_of text → IsCharBoundary text old.end → now ≡ head_of made → IsCharBoundary made now.end
-    → IsTrue kept ↔ ((old ≡ now) × (old.end ≤ start)) → n ≡ length (tokens_of_head old) → tokens ≡ document_by first text → body ≡ drop now.end made → change ≡ body_change kept old.end now.end (edit_change start stop insert)
-    → IsBodyEdit first text made insert start stop old now kept n tokens body change
-body_edit {first} law {text} {made} {insert} {put} {reserved} {start} {stop} {old} {now} {kept} {n} {tokens} {body} {change} is its edit as_str put_in reserve old_is old_at now_is now_at told n_is scratch body_is change_is =
+pub body_edit : (heads : List ℕ → Head) {first : List ℕ → Token} (law : IsGrammar first) {text made insert put reserved : List ℕ} {start stop : ℕ} {old now : Head} {kept : Bool} {n : ℕ} {tokens : List Token} {body : List ℕ} {change : Change}
+    → IsText text → IsUtf8 insert → IsEdit text start stop insert → made ≡ put → put ≡ apply reserved start stop insert → reserved ≡ text → old ≡ heads text → IsCharBoundary text old.end → now ≡ heads made → IsCharBoundary made now.end
+    → IsTrue kept ↔ ((old ≡ now) × (old.end ≤ start)) → n ≡ length (tokens_of_head old) → tokens ≡ document_by heads first text → body ≡ drop now.end made → change ≡ body_change kept old.end now.end (edit_change start stop insert)
+    → IsBodyEdit heads first text made insert start stop old now kept n tokens body change
+body_edit heads {first} law {text} {made} {insert} {put} {reserved} {start} {stop} {old} {now} {kept} {n} {tokens} {body} {change} is its edit as_str put_in reserve old_is old_at now_is now_at told n_is scratch body_is change_is =
     let e : made ≡ apply text start stop insert = as_str ∙ (put_in ∙ ap (λ (bytes : List ℕ). apply bytes start stop insert) reserve) in
     let all : tokens ≡ tokens_of_head old ++ tokens_by first (drop old.end text) = scratch ∙ ap (λ (h : Head). tokens_of_head h ++ tokens_by first (drop h.end text)) (sym old_is) in
     let behind : drop n tokens ≡ tokens_by first (drop old.end text) = ap₂ drop n_is all ∙ drop-append_seam (tokens_of_head old) (tokens_by first (drop old.end text)) in
@@ -76,7 +76,7 @@ pub relexed-front : {first : List ℕ → Token} {text : List ℕ} {stop : ℕ} 
 relexed-front {first} {text} is = is.front ∙ kept_none text (tokens_by first text)
 
 -- the counts of the body's edit, which is known by equations, and those of the texts alone
-module _ {first : List ℕ → Token} {text made insert : List ℕ} {start stop : ℕ} {old now : Head} {kept : Bool} {n : ℕ} {tokens : List Token} {body : List ℕ} {change : Change} (b : IsBodyEdit first text made insert start stop old now kept n tokens body change) where
+module _ {heads : List ℕ → Head} {first : List ℕ → Token} {text made insert : List ℕ} {start stop : ℕ} {old now : Head} {kept : Bool} {n : ℕ} {tokens : List Token} {body : List ℕ} {change : Change} (b : IsBodyEdit heads first text made insert start stop old now kept n tokens body change) where
   abbrev pub IsRelexedAt : Change → List ℕ → Relexed → Type 0
   IsRelexedAt ch bytes r = (x : Relexed) × IsRelexed first (drop old.end text) ch.start ch.old_stop (body_insert kept ch insert bytes) x
       × (r ≡ counted kept (length (tokens_of_head old)) (length (tokens_of_head now)) x)
@@ -84,20 +84,20 @@ module _ {first : List ℕ → Token} {text made insert : List ℕ} {start stop 
   abbrev As : Head → Head → List ℕ → Relexed → Type 0
   As o w mk r = IsRelexedAs first text start stop insert kept o w mk r
 
-  pub to_texts : (r : Relexed) → IsRelexedAt change body r → IsRelexedWith kept first text start stop insert r
+  pub to_texts : (r : Relexed) → IsRelexedAt change body r → IsRelexedWith heads kept first text start stop insert r
   unfolding IsRelexedWith
   to_texts r x =
       let one : IsRelexedAt change (drop now.end made) r = subst (λ xs. IsRelexedAt change xs r) b.body_is x in
       let two : As old now made r = subst (λ (ch : Change). IsRelexedAt ch (drop now.end made) r) b.change_is one in
-      let three : As (head_of text) now made r = subst (λ (o : Head). As o now made r) b.old_is two in
-      let four : As (head_of text) (head_of made) made r = subst (λ (w : Head). As (head_of text) w made r) b.now_is three in
-      subst (λ (mk : List ℕ). As (head_of text) (head_of mk) mk r) b.made_is four
+      let three : As (heads text) now made r = subst (λ (o : Head). As o now made r) b.old_is two in
+      let four : As (heads text) (heads made) made r = subst (λ (w : Head). As (heads text) w made r) b.now_is three in
+      subst (λ (mk : List ℕ). As (heads text) (heads mk) mk r) b.made_is four
 
-  pub of_texts : (r : Relexed) → IsRelexedWith kept first text start stop insert r → IsRelexedAt change body r
+  pub of_texts : (r : Relexed) → IsRelexedWith heads kept first text start stop insert r → IsRelexedAt change body r
   unfolding IsRelexedWith
   of_texts r x =
-      let four : As (head_of text) (head_of made) made r = subst (λ (mk : List ℕ). As (head_of text) (head_of mk) mk r) (sym b.made_is) x in
-      let three : As (head_of text) now made r = subst (λ (w : Head). As (head_of text) w made r) (sym b.now_is) four in
+      let four : As (heads text) (heads made) made r = subst (λ (mk : List ℕ). As (heads text) (heads mk) mk r) (sym b.made_is) x in
+      let three : As (heads text) now made r = subst (λ (w : Head). As (heads text) w made r) (sym b.now_is) four in
       let two : As old now made r = subst (λ (o : Head). As o now made r) (sym b.old_is) three in
       let one : IsRelexedAt change (drop now.end made) r = subst (λ (ch : Change). IsRelexedAt ch (drop now.end made) r) (sym b.change_is) two in
       subst (λ xs. IsRelexedAt change xs r) (sym b.body_is) one
@@ -107,7 +107,7 @@ near_behind tokens {all} {near} {n} {m} checkpoints same e are is =
     let turned : drop m tokens ≡ all = ap (λ k. drop k tokens) (sym same) ∙ e in
     rw (sym turned) (All-contains (IsBound (drop m tokens)) checkpoints.bounds near are is)
 
-module _ {first : List ℕ → Token} (law : IsGrammar first) {text made insert : List ℕ} {start stop : ℕ} {old now : Head} {kept : Bool} {n : ℕ} {tokens : List Token} {body : List ℕ} {change : Change} (b : IsBodyEdit first text made insert start stop old now kept n tokens body change)
+module _ {heads : List ℕ → Head} {first : List ℕ → Token} (law : IsGrammar first) {text made insert : List ℕ} {start stop : ℕ} {old now : Head} {kept : Bool} {n : ℕ} {tokens : List Token} {body : List ℕ} {change : Change} (b : IsBodyEdit heads first text made insert start stop old now kept n tokens body change)
     {head : Option Head} {new : List Token} {at : Relexing} (head_is : head ≡ head_unless kept now) (r : IsRenewedBehind first (drop old.end text) change body n tokens head new at) where
   abbrev put : List ℕ
   put = body_insert kept change insert body
@@ -138,7 +138,7 @@ module _ {first : List ℕ → Token} (law : IsGrammar first) {text made insert 
   new_is = r.now_is ∙ ap (λ ts. ts ++ r.behind) head_are
 
   -- they are the tokens of the changed document
-  pub new_are : new ≡ document_by first made
+  pub new_are : new ≡ document_by heads first made
   new_are = new_is ∙ (ap (λ ts. tokens_of_head now ++ ts) (behind_are ∙ ap (tokens_by first) b.body_is) ∙ ap (λ (h : Head). tokens_of_head h ++ tokens_by first (drop h.end made)) b.now_is)
 
   pub new_behind : drop (length (tokens_of_head now)) new ≡ r.behind
@@ -202,33 +202,33 @@ module _ {first : List ℕ → Token} (law : IsGrammar first) {text made insert 
         by_kept true e = back_with _ (omega (arith, same_count e, m_is))
         by_kept false e = back_with _ (omega (arith, m_is))
 
-    keeps : HeadStays text start stop insert → kept ≡ true
-    keeps k = b.told.1 (b.old_is ∙ (k.0 ∙ (ap head_of (sym b.made_is) ∙ sym b.now_is)), (let e = k.1 in omega (arith, e, ap (λ (h : Head). h.end) b.old_is)))
+    keeps : HeadStays heads text start stop insert → kept ≡ true
+    keeps k = b.told.1 (b.old_is ∙ (k.0 ∙ (ap heads (sym b.made_is) ∙ sym b.now_is)), (let e = k.1 in omega (arith, e, ap (λ (h : Head). h.end) b.old_is)))
 
-    changes : (HeadStays text start stop insert → ⊥) → kept ≡ false
+    changes : (HeadStays heads text start stop insert → ⊥) → kept ≡ false
     changes none = by_none kept refl
       where
         by_none : (k : Bool) → kept ≡ k → kept ≡ false
-        by_none true e = absurd (none (sym b.old_is ∙ ((b.told.0 e).0 ∙ (b.now_is ∙ ap head_of b.made_is)), (let p = (b.told.0 e).1 in omega (arith, p, ap (λ (h : Head). h.end) b.old_is))))
+        by_none true e = absurd (none (sym b.old_is ∙ ((b.told.0 e).0 ∙ (b.now_is ∙ ap heads b.made_is)), (let p = (b.told.0 e).1 in omega (arith, p, ap (λ (h : Head). h.end) b.old_is))))
         by_none false e = e
 
     module _ (exact : IsRelexed first (drop old.end text) change.start change.old_stop put counts) where
-      by_texts : IsRelexedWith kept first text start stop insert (counted kept n m counts)
+      by_texts : IsRelexedWith heads kept first text start stop insert (counted kept n m counts)
       by_texts = to_texts b (counted kept n m counts) (counts, exact, ap₂ (λ i j. counted kept i j counts) b.n_is m_is)
 
-      pub counted_relexed : IsRelexedByHead first text start stop insert (counted kept n m counts)
+      pub counted_relexed : IsRelexedByHead heads first text start stop insert (counted kept n m counts)
       counted_relexed = record {
-        kept = λ k. subst (λ (t : Bool). IsRelexedWith t first text start stop insert (counted kept n m counts)) (keeps k) by_texts;
-        changed = λ none. subst (λ (t : Bool). IsRelexedWith t first text start stop insert (counted kept n m counts)) (changes none) by_texts;
+        kept = λ k. subst (λ (t : Bool). IsRelexedWith heads t first text start stop insert (counted kept n m counts)) (keeps k) by_texts;
+        changed = λ none. subst (λ (t : Bool). IsRelexedWith heads t first text start stop insert (counted kept n m counts)) (changes none) by_texts;
       }
 
-    pub counted_steps : (before after : ℕ) → after ≡ before + at.lexed → IsCountedByHead text start stop insert before after (counted kept n m counts).lexed
+    pub counted_steps : (before after : ℕ) → after ≡ before + at.lexed → IsCountedByHead heads text start stop insert before after (counted kept n m counts).lexed
     counted_steps before after e = record {
       kept = λ k. e ∙ ap (λ (l : ℕ). before + l) (sym (ap (λ (r : Relexed). r.lexed) (ap₂ (λ (t : Bool) (x : Relexed). counted t n m x) (keeps k) counts_are)));
       changed = λ none.
           let lexed = ap (λ (r : Relexed). r.lexed) (ap₂ (λ (t : Bool) (x : Relexed). counted t n m x) (changes none) counts_are) in
-          let heads = ap (λ (h : Head). length (tokens_of_head h)) (b.now_is ∙ ap head_of b.made_is) in
-          omega (arith, e, lexed, heads, m_is);
+          let fronts = ap (λ (h : Head). length (tokens_of_head h)) (b.now_is ∙ ap heads b.made_is) in
+          omega (arith, e, lexed, fronts, m_is);
     }
 
     pub counted_few : IsText text → counts.kept_front < 2 ^ 33
@@ -240,42 +240,42 @@ module _ {first : List ℕ → Token} (law : IsGrammar first) {text made insert 
 
 -- ---- an edit that is refused
 
-module _ {first : List ℕ → Token} (law : IsGrammar first) {text made insert : List ℕ} {start stop : ℕ} {old now : Head} {kept : Bool} {n : ℕ} {tokens : List Token} {body : List ℕ} {change : Change} (b : IsBodyEdit first text made insert start stop old now kept n tokens body change) where
+module _ {heads : List ℕ → Head} {first : List ℕ → Token} (law : IsGrammar first) {text made insert : List ℕ} {start stop : ℕ} {old now : Head} {kept : Bool} {n : ℕ} {tokens : List Token} {body : List ℕ} {change : Change} (b : IsBodyEdit heads first text made insert start stop old now kept n tokens body change) where
   abbrev of_body : Relexed
   of_body = relexed_of first (drop old.end text) change.start change.old_stop (body_insert kept change insert body)
 
   -- there are no other counts
-  same_counts : (r : Relexed) → IsRelexedWith kept first text start stop insert r → r ≡ counted kept (length (tokens_of_head old)) (length (tokens_of_head now)) of_body
+  same_counts : (r : Relexed) → IsRelexedWith heads kept first text start stop insert r → r ≡ counted kept (length (tokens_of_head old)) (length (tokens_of_head now)) of_body
   same_counts r is =
       let x = of_texts b r is in
       let only : x.0 ≡ of_body = relexed_found law (drop old.end text) b.made_of.is_text change.start change.old_stop (body_insert kept change insert body) b.made_of.inserted b.made_of.edit x.0 x.1 in
       x.2 ∙ ap (counted kept (length (tokens_of_head old)) (length (tokens_of_head now))) only
 
   -- it takes no more steps than it would have
-  pub few_body : (r : Relexed) (before most : ℕ) → IsRelexedByHead first text start stop insert r → IsCountedByHead text start stop insert before most r.lexed → before + of_body.lexed ≤ most
+  pub few_body : (r : Relexed) (before most : ℕ) → IsRelexedByHead heads first text start stop insert r → IsCountedByHead heads text start stop insert before most r.lexed → before + of_body.lexed ≤ most
   few_body r before most is steps = by_kept kept refl
     where
       by_kept : (k : Bool) → kept ≡ k → before + of_body.lexed ≤ most
       by_kept true e =
-          let stays : HeadStays text start stop insert = (sym b.old_is ∙ ((b.told.0 e).0 ∙ (b.now_is ∙ ap head_of b.made_is)), (let p = (b.told.0 e).1 in omega (arith, p, ap (λ (h : Head). h.end) b.old_is))) in
-          let same = same_counts r (subst (λ (t : Bool). IsRelexedWith t first text start stop insert r) (sym e) (is.kept stays)) in
+          let stays : HeadStays heads text start stop insert = (sym b.old_is ∙ ((b.told.0 e).0 ∙ (b.now_is ∙ ap heads b.made_is)), (let p = (b.told.0 e).1 in omega (arith, p, ap (λ (h : Head). h.end) b.old_is))) in
+          let same = same_counts r (subst (λ (t : Bool). IsRelexedWith heads t first text start stop insert r) (sym e) (is.kept stays)) in
           omega (arith, steps.kept stays, ap (λ (x : Relexed). x.lexed) (same ∙ ap (λ (t : Bool). counted t (length (tokens_of_head old)) (length (tokens_of_head now)) of_body) e))
       by_kept false e =
-          let none : HeadStays text start stop insert → ⊥ = λ k. true≢false (sym (b.told.1 (b.old_is ∙ (k.0 ∙ (ap head_of (sym b.made_is) ∙ sym b.now_is)), (let p = k.1 in omega (arith, p, ap (λ (h : Head). h.end) b.old_is)))) ∙ e) in
-          let same = same_counts r (subst (λ (t : Bool). IsRelexedWith t first text start stop insert r) (sym e) (is.changed none)) in
-          let heads = ap (λ (h : Head). length (tokens_of_head h)) (b.now_is ∙ ap head_of b.made_is) in
-          omega (arith, steps.changed none, heads, ap (λ (x : Relexed). x.lexed) (same ∙ ap (λ (t : Bool). counted t (length (tokens_of_head old)) (length (tokens_of_head now)) of_body) e))
+          let none : HeadStays heads text start stop insert → ⊥ = λ k. true≢false (sym (b.told.1 (b.old_is ∙ (k.0 ∙ (ap heads (sym b.made_is) ∙ sym b.now_is)), (let p = k.1 in omega (arith, p, ap (λ (h : Head). h.end) b.old_is)))) ∙ e) in
+          let same = same_counts r (subst (λ (t : Bool). IsRelexedWith heads t first text start stop insert r) (sym e) (is.changed none)) in
+          let fronts = ap (λ (h : Head). length (tokens_of_head h)) (b.now_is ∙ ap heads b.made_is) in
+          omega (arith, steps.changed none, fronts, ap (λ (x : Relexed). x.lexed) (same ∙ ap (λ (t : Bool). counted t (length (tokens_of_head old)) (length (tokens_of_head now)) of_body) e))
 
 -- the count of steps does not fall
-anew-lexed : (first : List ℕ → Token) (text : List ℕ) (start stop : ℕ) (insert : List ℕ) (r : Relexed) → IsRelexedWith false first text start stop insert r → length (tokens_of_head (head_of (apply text start stop insert))) ≤ r.lexed
+anew-lexed : (heads : List ℕ → Head) (first : List ℕ → Token) (text : List ℕ) (start stop : ℕ) (insert : List ℕ) (r : Relexed) → IsRelexedWith heads false first text start stop insert r → length (tokens_of_head (heads (apply text start stop insert))) ≤ r.lexed
 unfolding IsRelexedWith
-anew-lexed first text start stop insert r is = let e = ap (λ (x : Relexed). x.lexed) is.2 in omega (arith, e)
+anew-lexed heads first text start stop insert r is = let e = ap (λ (x : Relexed). x.lexed) is.2 in omega (arith, e)
 
-pub steps_rise : (first : List ℕ → Token) (text : List ℕ) (start stop : ℕ) (insert : List ℕ) (before : ℕ) (r : Relexed) (most : ℕ) → IsRelexedByHead first text start stop insert r → IsCountedByHead text start stop insert before most r.lexed → before ≤ most
-steps_rise first text start stop insert before r most is steps = elim (cases_lt most before) [
+pub steps_rise : (heads : List ℕ → Head) (first : List ℕ → Token) (text : List ℕ) (start stop : ℕ) (insert : List ℕ) (before : ℕ) (r : Relexed) (most : ℕ) → IsRelexedByHead heads first text start stop insert r → IsCountedByHead heads text start stop insert before most r.lexed → before ≤ most
+steps_rise heads first text start stop insert before r most is steps = elim (cases_lt most before) [
   | inl less ↦
-      let gone : HeadStays text start stop insert → ⊥ = λ k. let e = steps.kept k in omega (arith, e, less) in
-      absurd (omega (arith, anew-lexed first text start stop insert r (is.changed gone), steps.changed gone, less))
+      let gone : HeadStays heads text start stop insert → ⊥ = λ k. let e = steps.kept k in omega (arith, e, less) in
+      absurd (omega (arith, anew-lexed heads first text start stop insert r (is.changed gone), steps.changed gone, less))
   | inr more ↦ omega (arith, more)
 ]
 

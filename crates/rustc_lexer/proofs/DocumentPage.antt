@@ -51,7 +51,7 @@ module _ (text : List ℕ) (is : IsText text) where
   front_is = sym (ap₂ take (head_count-tokens E2024 text is ahead.boundary) (head_whole E2024 text is ahead.boundary) ∙ take-append_seam (tokens_of_head (head_of text)) _)
 
 -- the tokens of a document, by those of the grammar
-pub past_law : (first : List ℕ → Token) (text : List ℕ) → IsText text → document_by first text ≡ document_tokens_by first text
+pub past_law : (first : List ℕ → Token) (text : List ℕ) → IsText text → document_by head_of first text ≡ document_tokens_by first text
 past_law first text is = ap₂ (λ ts n. ts ++ tokens_by first (drop n text)) (front_is text is) (end_is text is)
 
 -- the tokens tell the head
@@ -97,14 +97,14 @@ module _ (first : List ℕ → Token) (text insert : List ℕ) (start stop : ℕ
   abbrev made : List ℕ
   made = apply text start stop insert
 
-  to_page : HeadStays text start stop insert → KeepsHead text start stop insert
+  to_page : HeadStays head_of text start stop insert → KeepsHead text start stop insert
   to_page k = (
     sym (head-shebang text) ∙ (ap (λ (h : Head). h.shebang) k.0 ∙ head-shebang made),
     sym (front_is text is) ∙ (ap tokens_of_head k.0 ∙ front_is made its),
     (let e = k.1 in omega (arith, e, end_is text is)),
   )
 
-  from_page : KeepsHead text start stop insert → HeadStays text start stop insert
+  from_page : KeepsHead text start stop insert → HeadStays head_of text start stop insert
   from_page s = (same_head text made is its s.0 s.1, (let e = s.2 in omega (arith, e, end_is text is)))
 
   -- the same, by the head of the text and by the tokens of the grammar
@@ -114,7 +114,7 @@ module _ (first : List ℕ → Token) (text insert : List ℕ) (start stop : ℕ
       (x : Relexed) × IsRelexed first (drop from text) change.start change.old_stop (body_insert kept change insert (drop to made)) x
       × (r ≡ counted kept (length old) (length now) x)
 
-  by_page : (kept : Bool) (r : Relexed) → IsRelexedWith kept first text start stop insert r → At kept (body_start text) (body_start made) (head_tokens text) (head_tokens made) r
+  by_page : (kept : Bool) (r : Relexed) → IsRelexedWith head_of kept first text start stop insert r → At kept (body_start text) (body_start made) (head_tokens text) (head_tokens made) r
   unfolding IsRelexedWith
   by_page kept r x =
       let one : At kept (body_start text) (head_of made).end (tokens_of_head (head_of text)) (tokens_of_head (head_of made)) r = subst (λ from. At kept from (head_of made).end (tokens_of_head (head_of text)) (tokens_of_head (head_of made)) r) (end_is text is) x in
@@ -122,7 +122,7 @@ module _ (first : List ℕ → Token) (text insert : List ℕ) (start stop : ℕ
       let three : At kept (body_start text) (body_start made) (head_tokens text) (tokens_of_head (head_of made)) r = subst (λ ts. At kept (body_start text) (body_start made) ts (tokens_of_head (head_of made)) r) (front_is text is) two in
       subst (λ ts. At kept (body_start text) (body_start made) (head_tokens text) ts r) (front_is made its) three
 
-  by_head : (kept : Bool) (r : Relexed) → At kept (body_start text) (body_start made) (head_tokens text) (head_tokens made) r → IsRelexedWith kept first text start stop insert r
+  by_head : (kept : Bool) (r : Relexed) → At kept (body_start text) (body_start made) (head_tokens text) (head_tokens made) r → IsRelexedWith head_of kept first text start stop insert r
   unfolding IsRelexedWith
   by_head kept r x =
       let three : At kept (body_start text) (body_start made) (head_tokens text) (tokens_of_head (head_of made)) r = subst (λ ts. At kept (body_start text) (body_start made) (head_tokens text) ts r) (sym (front_is made its)) x in
@@ -160,25 +160,25 @@ module _ (first : List ℕ → Token) (text insert : List ℕ) (start stop : ℕ
   of_anew : (r : Relexed) → IsRelexedAnew first text start stop insert r → At false (body_start text) (body_start made) (head_tokens text) (head_tokens made) r
   of_anew r x = let y : Anew r more = subst (Anew r) (more_is x.0 x.1) (x.2, x.3, x.4) in (y.0, y.1, y.2 ∙ ap (λ front. anew front y.0) (sym (relexed-front y.1)))
 
-  pub relexed_page : {r : Relexed} → IsRelexedByHead first text start stop insert r → IsRelexedDocument first text start stop insert r
+  pub relexed_page : {r : Relexed} → IsRelexedByHead head_of first text start stop insert r → IsRelexedDocument first text start stop insert r
   relexed_page {r} is_head = record {
     kept = λ s. by_page true r (is_head.kept (from_page s));
     changed = λ none. to_anew r (by_page false r (is_head.changed (λ k. none (to_page k))));
   }
 
-  pub stepped_page : {before after lexed : ℕ} → IsCountedByHead text start stop insert before after lexed → IsCountedDocument text start stop insert before after lexed
+  pub stepped_page : {before after lexed : ℕ} → IsCountedByHead head_of text start stop insert before after lexed → IsCountedDocument text start stop insert before after lexed
   stepped_page r = record {
     kept = λ s. r.kept (from_page s);
     changed = λ none. let e = r.changed (λ k. none (to_page k)) in omega (arith, e, ap (λ (ts : List Token). length ts) (front_is made its));
   }
 
-  pub page_relexed : {r : Relexed} → IsRelexedDocument first text start stop insert r → IsRelexedByHead first text start stop insert r
+  pub page_relexed : {r : Relexed} → IsRelexedDocument first text start stop insert r → IsRelexedByHead head_of first text start stop insert r
   page_relexed {r} is_page = record {
     kept = λ k. by_head true r (is_page.kept (to_page k));
     changed = λ none. by_head false r (of_anew r (is_page.changed (λ s. none (from_page s))));
   }
 
-  pub page_stepped : {before after lexed : ℕ} → IsCountedDocument text start stop insert before after lexed → IsCountedByHead text start stop insert before after lexed
+  pub page_stepped : {before after lexed : ℕ} → IsCountedDocument text start stop insert before after lexed → IsCountedByHead head_of text start stop insert before after lexed
   page_stepped r = record {
     kept = λ k. r.kept (to_page k);
     changed = λ none. let e = r.changed (λ s. none (from_page s)) in omega (arith, e, ap (λ (ts : List Token). length ts) (front_is made its));

@@ -1,15 +1,13 @@
 -- The pieces of a document: its tokens are cut between characters, from the end of its shebang line on.
-use Rattle.std.proofs.Common.{◌≡◌, ℕ, suc, ◌+◌, ◌-◌, ◌^◌, ◌<◌, ◌≤◌, List, length, take, drop, slice_range, refl, sym, ap, ap₂, ◌∙◌, subst, arith, length-append, length-drop, length-take-le, inl, inr, IsCharBoundary}
+use Rattle.std.proofs.Common.{◌≡◌, ℕ, suc, ◌+◌, ◌-◌, ◌≤◌, List, length, take, drop, sym, ap, ◌∙◌, subst, arith, length-append, length-drop, inl, inr, IsCharBoundary}
 use Rattle.std.proofs.Math.Seq.{drop-append_seam}
 use Rattle.std.proofs.lemmas.Bool.{cases_lt}
 use Rattle.std.proofs.lemmas.List.{take-append-le}
 use Rattle.std.proofs.lemmas.Str.{IsCharBoundary-from_rest, IsUtf8-drop}
-use Rattle.rustc_lexer.specs.declared.relex.front.Bound.{Bound}
 use Rattle.rustc_lexer.specs.{Token, E2024}
 use Rattle.rustc_lexer.specs.Classes.{IsText}
 use Rattle.rustc_lexer.specs.Document.{shebang_len, document_tokens}
 use Rattle.rustc_lexer.specs.means.Document.{document_by, head_of, tokens_of_head}
-use Rattle.rustc_lexer.specs.Edits.{IsBound}
 use Rattle.rustc_lexer.specs.LanguageText.{document, part}
 use Rattle.rustc_lexer.specs.Locality.{IsGrammar}
 use Rattle.rustc_lexer.specs.Tokens.{bound, tokens_by}
@@ -20,12 +18,11 @@ use Rattle.rustc_lexer.proofs.DocumentHead as head
 use Rattle.rustc_lexer.proofs.DocumentHead.{bound-append, head_whole}
 use Rattle.rustc_lexer.proofs.DocumentPage.{ahead}
 use Rattle.rustc_lexer.proofs.DocumentTokens.{shebang-boundary}
-use Rattle.rustc_lexer.proofs.EditLemmas.{bound-same, bound-take}
+use Rattle.rustc_lexer.proofs.EditLemmas.{bound-same}
 use Rattle.rustc_lexer.proofs.FrontLemmas.{bound-shift}
-use Rattle.rustc_lexer.proofs.PieceLemmas.{bound-part}
 use Rattle.rustc_lexer.proofs.ReadyLemmas.{cuts}
 
-module _ {first : List ℕ → Token} (law : IsGrammar first) (text : List ℕ) (tokens : List Token) (is : IsText text) (e : tokens ≡ document_by first text) where
+module _ {first : List ℕ → Token} (law : IsGrammar first) (text : List ℕ) (tokens : List Token) (is : IsText text) (e : tokens ≡ document_by head_of first text) where
   abbrev heads : List Token
   heads = tokens_of_head (head_of text)
 
@@ -50,7 +47,7 @@ module _ {first : List ℕ → Token} (law : IsGrammar first) (text : List ℕ) 
       IsCharBoundary-from_rest text (shebang_len text) (bound tokens k) (shebang-boundary text is).0 (subst (IsCharBoundary rest) same there)
 
   -- the bounds of the tokens of the body
-  pub body_bound : (j : ℕ) → (head_of text).end + bound (drop (length heads) tokens) j ≡ shebang_len text + bound tokens (length heads + j)
+  body_bound : (j : ℕ) → (head_of text).end + bound (drop (length heads) tokens) j ≡ shebang_len text + bound tokens (length heads + j)
   body_bound j =
       let at : bound tokens (length heads) ≡ bound heads (length heads) = ap (λ ts. bound ts (length heads)) e ∙ bound-append heads (tokens_by first body) in
       omega (arith, (head.front_of text).ends, at, bound-shift tokens (length heads) j)
@@ -70,19 +67,3 @@ module _ {first : List ℕ → Token} (law : IsGrammar first) (text : List ℕ) 
         let same : length heads + (k - length heads) ≡ k = omega arith in
         subst (λ n. IsCharBoundary text (shebang_len text + bound tokens n)) same (cut_back (k - length heads) (omega arith))
   ]
-
-  pub bound_fits : (k : ℕ) → k ≤ length tokens → shebang_len text + bound tokens k < 2 ^ 32
-  bound_fits k few = let f = is.fits in omega (arith, (document_cuts k few).0, f)
-
-  -- where a bound is, from the end of the shebang line on
-  pub from_line : (k : ℕ) (items : List Token) → k ≤ length tokens → items ≡ take k tokens → shebang_len text + bound items (length items) ≡ shebang_len text + bound tokens k
-  from_line k items few f =
-      let long : length items ≡ k = ap length f ∙ length-take-le k tokens few in
-      ap (λ n. shebang_len text + n) (ap₂ bound f long ∙ bound-take k tokens)
-
-  -- and from a bound of the body's tokens on
-  pub from_near : (k : ℕ) (near : Bound) (items : List Token) → k ≤ length tokens → IsBound (drop (length heads) tokens) near → length heads + near.number ≤ k → items ≡ slice_range tokens (length heads + near.number) k
-      → (head_of text).end + near.place + bound items (length items) ≡ shebang_len text + bound tokens k
-  from_near k near items few at le f =
-      let here = bound-part tokens items (length heads + near.number) k (bound tokens (length heads + near.number)) le few f refl in
-      omega (arith, at.1, body_bound near.number, here)

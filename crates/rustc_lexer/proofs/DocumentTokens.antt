@@ -210,7 +210,7 @@ module _ (edition : Edition) where
     rest_text : IsText rest
     rest_text = record { utf8 = IsUtf8-drop text start is.utf8 at; fits = let f = is.fits in omega (arith, length-drop start text) }
 
-    by_front : (a : Bool) → opens (chars rest) ≡ a → (b : Bool) → opens (chars past_space) ≡ b → document_by (first_token_in edition) text ≡ document_tokens edition text
+    by_front : (a : Bool) → opens (chars rest) ≡ a → (b : Bool) → opens (chars past_space) ≡ b → document_by head_of (first_token_in edition) text ≡ document_tokens edition text
     unfolding head_of
     by_front true e b f = rw e (ap (λ xs. frontmatter rest ∷ read_tokens (part edition) xs) (sym (drop-drop (frontmatter rest).len start text)) ∙ sym (with-front rest rest_text e))
     by_front false e true f =
@@ -220,7 +220,7 @@ module _ (edition : Edition) where
         rw (e, f) (ap (λ xs. front_tokens m (Some (frontmatter past_space)) ++ read_tokens (part edition) xs) turned ∙ sym (with-spaced rest past_space rest_text refl e f))
     by_front false e false f = rw (e, f) (sym (without-front rest past_space rest_text refl e f))
 
-    pub document_law : document_by (first_token_in edition) text ≡ document_tokens edition text
+    pub document_law : document_by head_of (first_token_in edition) text ≡ document_tokens edition text
     document_law = by_front (opens (chars rest)) refl (opens (chars past_space)) refl
 
 -- ---- where a shebang line ends

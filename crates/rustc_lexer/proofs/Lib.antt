@@ -27,6 +27,7 @@ pub mod GuardedLemmas
 pub mod HeadLemmas
 pub mod HashLemmas
 pub mod IdentLemmas
+pub mod KeptLemmas
 pub mod KernelLemmas
 pub mod KindLemmas
 pub mod CheckpointLemmas
@@ -39,6 +40,7 @@ pub mod LiteralLemmas
 pub mod MeetingLemmas
 pub mod NumberLemmas
 pub mod OpeningLemmas
+pub mod PartEdits
 pub mod PartLemmas
 pub mod PieceLemmas
 pub mod PlaceLemmas

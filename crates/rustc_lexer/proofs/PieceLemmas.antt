@@ -10,7 +10,7 @@ use Rattle.rustc_lexer.specs.Locality.{IsGrammar}
 use Rattle.rustc_lexer.proofs.BoundLemmas.{bound_mono}
 use Rattle.rustc_lexer.proofs.EditLemmas.{bound-same, bound-take}
 use Rattle.rustc_lexer.proofs.FrontLemmas.{bound-next, bound-shift}
-use Rattle.rustc_lexer.proofs.ReadyLemmas.{bounds_fit, cuts}
+use Rattle.rustc_lexer.proofs.ReadyLemmas.{cuts}
 
 -- past the first token
 pub cuts_tail : (text : List ℕ) (start : ℕ) (all : List Token) (token : Token) (tokens : List Token) → all ≡ token ∷ tokens → AreBoundariesFrom text start all → AreBoundariesFrom text (start + token.len) tokens
@@ -83,7 +83,3 @@ bound-part tokens items from to place le inside is at =
     let long : length items ≡ to - from = ap length is ∙ length-take-le (to - from) (drop from tokens) enough in
     let same : bound items (length items) ≡ bound (drop from tokens) (to - from) = ap (bound items) long ∙ (ap (λ (ts : List Token). bound ts (to - from)) is ∙ bound-take (to - from) (drop from tokens)) in
     omega (arith, at, same, bound-shift tokens from (to - from), ap (bound tokens) all)
-
--- the bounds of a text that fits
-pub bound_short : {first : List ℕ → Token} (law : IsGrammar first) (text : List ℕ) (tokens : List Token) (k : ℕ) → IsText text → tokens ≡ tokens_by first text → k ≤ length tokens → bound tokens k < 2 ^ 32
-bound_short {first} law text tokens k is e few = grind (arith, common_steps, bounds_fit)

@@ -44,10 +44,6 @@ module _ {first : List ℕ → Token} (law : IsGrammar first) {text insert made 
       let size : length (take at.front.number tokens ++ renewed.lexed) ≡ at.front.number + at.lexed = omega (arith, length-append (take at.front.number tokens) renewed.lexed, kept_size, renewed.lexed_is.lexed) in
       ap (drop (at.front.number + at.lexed)) (renewed.now_is ∙ sym (append_assoc (take at.front.number tokens) renewed.lexed (drop at.back.number tokens))) ∙ drop_at (take at.front.number tokens ++ renewed.lexed) (drop at.back.number tokens) (at.front.number + at.lexed) size
 
-  -- where they begin at the back, by how many they are
-  pub renewed_at : at.back.number ≡ length tokens - (length tokens - at.back.number)
-  renewed_at = omega (arith, renewed.lexed_is.stands.back_bound.0, ap length e)
-
   -- the checkpoints can be moved, and stay checkpoints
   pub renewed_bounds : (checkpoints : Checkpoints) → AreBounds tokens checkpoints → All (IsMovable at.back (end_of at)) checkpoints.bounds × IsReplaced tokens now at.front at.back (end_of at)
   renewed_bounds checkpoints are =

@@ -1,11 +1,14 @@
 -- Means, by how it is read: the head of a document, and what an edit keeps of the document by it.
-use Rattle.std.specs.Prelude.{ℕ, zero, suc, ◌+◌, ◌-◌, ◌≤◌, ◌≡◌, if◌then◌else◌, List, [], ◌∷◌, ◌++◌, length, take, drop, chars, max, Option, Some, None, Bool, true, false}
+use Rattle.std.specs.Prelude.{ℕ, zero, suc, ◌+◌, ◌-◌, ◌≤◌, ◌≡◌, if◌then◌else◌, List, [], ◌∷◌, ◌++◌, length, take, drop, chars, max, Option, Some, None, Bool, true, false, IsCharBoundary}
+use Rattle.rustc_lexer.specs.declared.relex.checkpoints.Checkpoints.{Checkpoints}
 use Rattle.rustc_lexer.specs.declared.relex.head.Head.{Head}
 use Rattle.rustc_lexer.specs.declared.relex.relexing.{Change.Change, Relexed.Relexed, Relexing.Relexing}
 use Rattle.rustc_lexer.specs.{Token, Whitespace}
+use Rattle.rustc_lexer.specs.Classes.{IsText}
 use Rattle.rustc_lexer.specs.Document.{shebang_len}
 use Rattle.rustc_lexer.specs.Edits.{apply, IsRelexed}
 use Rattle.rustc_lexer.specs.Partition.{tokens_by}
+use Rattle.rustc_lexer.specs.means.Checkpoints.{AreBounds}
 use Rattle.rustc_lexer.specs.means.Frontmatter.{frontmatter, opens, spaces_len}
 use Rattle.rustc_lexer.specs.means.Relexing.{IsRenewed}
 use Rattle.rustc_lexer.specs.means.Scan.{past}
@@ -26,6 +29,11 @@ head_at n rest =
 unfoldable pub head_of : List ℕ → Head
 head_of text = head_at (shebang_len text) (drop (shebang_len text) text)
 
+-- the same of a whole document, and of a part of one, which has no head
+abbrev pub head_by : Bool → List ℕ → Head
+head_by true = head_of
+head_by false = λ text. record { shebang = 0; space = 0; front = None; end = 0 }
+
 -- a frontmatter, and white space before it
 abbrev pub front_tokens : ℕ → Option Token → List Token
 front_tokens space None = []
@@ -36,13 +44,15 @@ front_tokens (suc n) (Some front) = record { kind = Whitespace; len = suc n } �
 abbrev pub tokens_of_head : Head → List Token
 tokens_of_head head = front_tokens head.space head.front
 
--- what follows the head of a text
-abbrev pub body_of : List ℕ → List ℕ
-body_of text = drop (head_of text).end text
+-- the tokens of a text, by what its head is: those of the head, and of what follows it
+abbrev pub document_by : (List ℕ → Head) → (List ℕ → Token) → List ℕ → List Token
+document_by heads first text = tokens_of_head (heads text) ++ tokens_by first (drop (heads text).end text)
 
--- the tokens of a document
-abbrev pub document_by : (List ℕ → Token) → List ℕ → List Token
-document_by first text = tokens_of_head (head_of text) ++ tokens_by first (body_of text)
+-- what is kept with a text: its tokens, its head, and bounds of the tokens of its body
+abbrev pub AreKeptOf : Bool → (List ℕ → Token) → List ℕ → List Token → Head → Checkpoints → Type 0
+AreKeptOf whole first text tokens head checkpoints =
+    IsText text × (tokens ≡ document_by (head_by whole) first text) × (head ≡ head_by whole text) × IsCharBoundary text head.end
+    × AreBounds (drop (length (tokens_of_head head)) tokens) checkpoints
 
 -- ---- what an edit changes of the body, which began at `from` and now begins at `to`
 
@@ -72,8 +82,8 @@ counted true old new r = record { kept_front = old + r.kept_front; lexed = r.lex
 counted false old new r = record { kept_front = r.kept_front; lexed = new + r.lexed; kept_back = r.kept_back }
 
 -- the head is the same after the edit, and ends before it
-abbrev pub HeadStays : List ℕ → ℕ → ℕ → List ℕ → Type 0
-HeadStays text start stop insert = (head_of text ≡ head_of (apply text start stop insert)) × ((head_of text).end ≤ start)
+abbrev pub HeadStays : (List ℕ → Head) → List ℕ → ℕ → ℕ → List ℕ → Type 0
+HeadStays heads text start stop insert = (heads text ≡ heads (apply text start stop insert)) × ((heads text).end ≤ start)
 
 -- the counts of an edit, where the head stays or does not, by those of the edit of its body
 abbrev pub IsRelexedAs : (List ℕ → Token) → List ℕ → ℕ → ℕ → List ℕ → Bool → Head → Head → List ℕ → Relexed → Type 0
@@ -84,19 +94,19 @@ IsRelexedAs first text start stop insert kept old now made r =
     × (r ≡ counted kept (length (tokens_of_head old)) (length (tokens_of_head now)) body)
 
 -- the same, by the text alone
-unfoldable pub IsRelexedWith : Bool → (List ℕ → Token) → List ℕ → ℕ → ℕ → List ℕ → Relexed → Type 0
-IsRelexedWith kept first text start stop insert r =
-    IsRelexedAs first text start stop insert kept (head_of text) (head_of (apply text start stop insert)) (apply text start stop insert) r
+unfoldable pub IsRelexedWith : (List ℕ → Head) → Bool → (List ℕ → Token) → List ℕ → ℕ → ℕ → List ℕ → Relexed → Type 0
+IsRelexedWith heads kept first text start stop insert r =
+    IsRelexedAs first text start stop insert kept (heads text) (heads (apply text start stop insert)) (apply text start stop insert) r
 
 -- these are the counts of an edit
-pub record IsRelexedByHead (first : List ℕ → Token) (text : List ℕ) (start stop : ℕ) (insert : List ℕ) (r : Relexed) : Type 0 where
-  pub kept : HeadStays text start stop insert → IsRelexedWith true first text start stop insert r
-  pub changed : (HeadStays text start stop insert → ⊥) → IsRelexedWith false first text start stop insert r
+pub record IsRelexedByHead (heads : List ℕ → Head) (first : List ℕ → Token) (text : List ℕ) (start stop : ℕ) (insert : List ℕ) (r : Relexed) : Type 0 where
+  pub kept : HeadStays heads text start stop insert → IsRelexedWith heads true first text start stop insert r
+  pub changed : (HeadStays heads text start stop insert → ⊥) → IsRelexedWith heads false first text start stop insert r
 
 -- the count of steps rose by the tokens that were lexed, except those of a new head
-pub record IsCountedByHead (text : List ℕ) (start stop : ℕ) (insert : List ℕ) (before after lexed : ℕ) : Type 0 where
-  pub kept : HeadStays text start stop insert → after ≡ before + lexed
-  pub changed : (HeadStays text start stop insert → ⊥) → after + length (tokens_of_head (head_of (apply text start stop insert))) ≡ before + lexed
+pub record IsCountedByHead (heads : List ℕ → Head) (text : List ℕ) (start stop : ℕ) (insert : List ℕ) (before after lexed : ℕ) : Type 0 where
+  pub kept : HeadStays heads text start stop insert → after ≡ before + lexed
+  pub changed : (HeadStays heads text start stop insert → ⊥) → after + length (tokens_of_head (heads (apply text start stop insert))) ≡ before + lexed
 
 -- the head that is put in, where the old one does not stay
 abbrev pub head_unless : Bool → Head → Option Head

@@ -1,22 +1,20 @@
 //! One edit: the text that it makes, and the tokens that it lexes.
-ghost use Rattle.std.specs.Prelude.{◌≡◌, ◌+◌, ◌-◌, ◌^◌, ◌<◌, ◌≤◌, ◌++◌, IfOk, IfErr, OnOk, OnErr, List, ℕ, drop, length, map, take};
+ghost use Rattle.std.specs.Prelude.{◌≡◌, ◌+◌, ◌-◌, ◌^◌, ◌<◌, ◌≤◌, ◌++◌, ◌↔◌, IsTrue, IfOk, IfErr, OnOk, List, ℕ, drop, length, map};
 ghost use Rattle.std.specs.List.{All};
-ghost use Rattle.std.specs.Str.{IsUtf8};
 ghost use Rattle.std.specs.String.{string_bytes, string_capacity, string_len};
 ghost use Rattle.rustc_lexer.specs.{Token};
-ghost use Rattle.rustc_lexer.specs.Classes.{Fits, IsText};
+ghost use Rattle.rustc_lexer.specs.Classes.{Fits};
 ghost use Rattle.rustc_lexer.specs.Tokens.{tokens_by};
 ghost use Rattle.rustc_lexer.specs.Edits.{IsEdit, IsInside, apply, IsBound, known};
 ghost use Rattle.rustc_lexer.specs.Relexing.{IsChange, IsMadeOf, MayGoOn};
 ghost use Rattle.rustc_lexer.specs.means.Checkpoints.{AreBounds, IsMovable, IsReplaced, end_of};
-ghost use Rattle.rustc_lexer.specs.means.Relexing.{IsLexed, IsRenewed, relexed_of, Stands};
+ghost use Rattle.rustc_lexer.specs.means.Relexing.{IsLexed, relexed_of, Stands};
 
 use crate::entry::stepper::Stepper;
 use crate::relex::checkpoints::Checkpoints;
 use crate::relex::front::Bound;
 use crate::relex::lex::new_buffer;
-use crate::relex::relexing::{Change, LONG, Relexed, Relexing};
-use crate::relex::replace::replace;
+use crate::relex::relexing::{Change, LONG, Relexing};
 use crate::token::Token;
 use std::alloc::{AllocError, Global};
 
@@ -29,6 +27,25 @@ pub struct Edit<'a> {
     pub stop: usize,
     /// The text that replaces them.
     pub insert: &'a str,
+}
+
+/// Returns whether the range is inside the text, between characters.
+pub(crate) fn contains_range(text: &str, start: usize, stop: usize) -> bool
+    ensures { IsTrue result ↔ IsInside text.now start stop }
+{
+    start <= stop
+        && stop <= text.len()
+        && text.is_char_boundary(start)
+        && text.is_char_boundary(stop)
+}
+
+/// Returns whether an edit of the text can be made: whether its range is inside the text, between characters, and
+/// the new text has at most `u32::MAX` bytes.
+pub(crate) fn accepts(text: &str, start: usize, stop: usize, insert: &str) -> bool
+    ensures { IsTrue result ↔ IsEdit text.now start stop insert.now }
+{
+    contains_range(text, start, stop)
+        && text.len() - (stop - start) + insert.len() <= u32::MAX as usize
 }
 
 /// Replaces the bytes from `start` up to `stop` with `insert`. The text already has room for it.
@@ -127,119 +144,6 @@ fn relex_inserted<S: Stepper>(
         tokens.extend_from_slice(&buffer[..count])?;
     }
     Ok(())
-}
-
-/// Replaces the old tokens with those of the changed text, and returns where lexing met the old ones. If memory is
-/// refused the tokens stay as they are. The search for the tokens that stay begins at `near`.
-fn renew<S: Stepper>(
-    alloc: Global,
-    stepper: &mut S,
-    tokens: &mut Vec<Token>,
-    near: Bound,
-    text: &str,
-    change: Change,
-) -> Result<Relexing, AllocError>
-    requires fits { Fits text.now }
-    requires change { IsChange text.now change }
-    ensures grammar { S.grammar stepper.new ≡ S.grammar stepper.old }
-    ensures number { S.number stepper.new ≡ S.number stepper.old }
-    ensures same { OnErr result (tokens.new.items ≡ tokens.old.items) }
-    ensures renewed { IfOk result
-        (λ at. (before insert : List ℕ)
-        → IsMadeOf (S.grammar stepper.old) before (map (λ (t : Token). t.len) tokens.old.items)
-        change insert text.now
-        → IsBound (tokens_by (S.grammar stepper.old) before) near
-        → IsRenewed (S.grammar stepper.old) before change text.now
-        tokens.old.items tokens.new.items at
-        × (S.count stepper.new ≡ S.count stepper.old + at.lexed)) }
-    ensures may_go_on { IfOk result (λ at. MayGoOn text.now (length tokens.old.items) at) }
-    ensures rose { S.count stepper.old ≤ S.count stepper.new }
-    ensures few { IfErr result
-        (λ _. (before insert : List ℕ)
-        → IsMadeOf (S.grammar stepper.old) before (map (λ (t : Token). t.len) tokens.old.items)
-        change insert text.now
-        → IsBound (tokens_by (S.grammar stepper.old) before) near
-        → S.count stepper.new
-        ≤ S.count stepper.old
-        + (relexed_of (S.grammar stepper.old) before change.start change.old_stop insert).lexed) }
-{
-    let (lexed, at) = relex(alloc, stepper, tokens.as_slice(), near, text, change)?;
-    replace(tokens, at.front.number, at.back.number, lexed.as_slice())?;
-    Ok(at)
-}
-
-/// Makes the edit in text and tokens. If memory is refused both stay as they are. The search for the tokens that
-/// stay begins at the nearest of the checkpoints.
-pub(crate) fn lex_edit<S: Stepper>(
-    alloc: Global,
-    stepper: &mut S,
-    text: &mut String,
-    tokens: &mut Vec<Token>,
-    checkpoints: &mut Checkpoints,
-    edit: Edit<'_>,
-) -> Result<Relexed, AllocError>
-    requires text { IsText (string_bytes text.old) }
-    requires insert { IsUtf8 edit.insert.now }
-    requires from_scratch { tokens.old.items
-        ≡ tokens_by (S.grammar stepper.old) (string_bytes text.old) }
-    requires checkpoints { AreBounds tokens.old.items checkpoints.old }
-    requires edit { IsEdit (string_bytes text.old) edit.start edit.stop edit.insert.now }
-    ensures grammar { S.grammar stepper.new ≡ S.grammar stepper.old }
-    ensures number { S.number stepper.new ≡ S.number stepper.old }
-    ensures text { OnOk result
-        (string_bytes text.new
-        ≡ apply (string_bytes text.old) edit.entry.start edit.entry.stop edit.entry.insert.now) }
-    ensures same_text { OnErr result (string_bytes text.new ≡ string_bytes text.old) }
-    ensures is_text { IsText (string_bytes text.new) }
-    ensures from_scratch { tokens.new.items
-        ≡ tokens_by (S.grammar stepper.old) (string_bytes text.new) }
-    ensures same_tokens { OnErr result (tokens.new.items ≡ tokens.old.items) }
-    ensures checkpoints { AreBounds tokens.new.items checkpoints.new }
-    ensures relexed { IfOk result
-        (λ r. r
-        ≡ relexed_of (S.grammar stepper.old) (string_bytes text.old)
-        edit.entry.start edit.entry.stop edit.entry.insert.now) }
-    ensures all { IfOk result
-        (λ r. r.kept_front + r.lexed + r.kept_back ≡ length tokens.new.items) }
-    ensures front { IfOk result
-        (λ r. take r.kept_front tokens.new.items ≡ take r.kept_front tokens.old.items) }
-    ensures back { IfOk result
-        (λ r. drop (r.kept_front + r.lexed) tokens.new.items
-        ≡ drop (length tokens.old.items - r.kept_back) tokens.old.items) }
-    ensures count { IfOk result (λ r. S.count stepper.new ≡ S.count stepper.old + r.lexed) }
-    ensures rose { S.count stepper.old ≤ S.count stepper.new }
-    ensures few { OnErr result
-        (S.count stepper.new
-        ≤ S.count stepper.old
-        + (relexed_of (S.grammar stepper.old) (string_bytes text.old)
-        edit.entry.start edit.entry.stop edit.entry.insert.now).lexed) }
-{
-    let Edit {
-        start,
-        stop,
-        insert,
-    } = edit;
-    let removed = String::from_str(alloc, &text[start..stop])?;
-    text.reserve(insert.len())?;
-    put_in_place(text, start, stop, insert);
-    let change = Change {
-        start,
-        old_stop: stop,
-        new_stop: start + insert.len(),
-    };
-    let count = tokens.as_slice().len();
-    let near = checkpoints.nearest(start);
-    let made = text.as_str();
-    match renew(alloc, stepper, tokens, near, made, change) {
-        Ok(at) => {
-            *checkpoints = past_edit(checkpoints, at, made.len());
-            Ok(at.counts(count))
-        }
-        Err(refused) => {
-            put_in_place(text, start, change.new_stop, removed.as_str());
-            Err(refused)
-        }
-    }
 }
 
 /// Returns the checkpoints after an edit that was relexed up to `at`, in a text of `len` bytes. The kept front is

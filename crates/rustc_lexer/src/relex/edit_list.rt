@@ -1,10 +1,10 @@
 //! Several edits, one after another.
-ghost use Rattle.std.specs.Prelude.{◌≡◌, ◌+◌, IfErr, OnOk, Some, take};
+ghost use Rattle.std.specs.Prelude.{◌≡◌, IfErr, OnOk, Some, take};
 ghost use Rattle.rustc_lexer.specs.Tokens.{tokens_by};
 ghost use Rattle.rustc_lexer.specs.Edits.{apply_list, AreCounted, AreEdits, stop_at, stop_text, IsStop, IsCounted};
 
 use crate::entry::stepper::Stepper;
-use crate::relex::edit::Edit;
+use crate::relex::edit::{Edit, contains_range};
 use crate::relex::lexed_text::LexedText;
 use std::error::Error;
 use std::fmt;
@@ -59,10 +59,10 @@ impl<S: Stepper> LexedText<S> {
             (S.count self.old.stepper) (S.count self.new.stepper)) }
     {
         // So the tokens are those of the text, even if there is no edit.
-        prove!(self.is_consistent());
+        let _ = self.tokens();
         for (at, edit) in edits.iter().enumerate() {
             if !self.accepts(edit.start, edit.stop, edit.insert) {
-                return Err(if self.contains_range(edit.start, edit.stop) {
+                return Err(if contains_range(self.text(), edit.start, edit.stop) {
                     EditStop::TooLong { at }
                 } else {
                     EditStop::Range { at }

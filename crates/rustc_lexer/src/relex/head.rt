@@ -1,5 +1,5 @@
 //! The head of a document: the part before its body.
-ghost use Rattle.std.specs.Prelude.{◌≡◌, ◌≤◌, ◌↔◌, ◌++◌, OnOk, IsTrue, length};
+ghost use Rattle.std.specs.Prelude.{◌≡◌, ◌↔◌, ◌++◌, OnOk, IsTrue, length};
 ghost use Rattle.std.specs.Str.{IsCharBoundary};
 ghost use Rattle.rustc_lexer.specs.Classes.{Fits};
 ghost use Rattle.rustc_lexer.specs.Document as spec;
@@ -22,6 +22,23 @@ pub(crate) struct Head {
     pub front: Option<Token>,
     /// Where the body begins.
     pub end: usize,
+}
+
+/// The head of a part of a document, which has none.
+pub(crate) const NO_HEAD: Head = Head {
+    shebang: 0,
+    space: 0,
+    front: None,
+    end: 0,
+};
+
+/// Finds the head of a whole document, or of a part of one, which has none.
+pub(crate) fn find_head(whole: bool, text: &str) -> Head
+    requires fits { Fits text.now }
+    ensures head { result ≡ means.head_by whole text.now }
+    ensures boundary { IsCharBoundary text.now result.end }
+{
+    if whole { Head::of(text) } else { NO_HEAD }
 }
 
 impl Head {

@@ -1,22 +1,15 @@
 //! A whole document that is kept with its tokens.
-ghost use Rattle.std.specs.Prelude.{◌≡◌, ◌+◌, ◌-◌, ◌<◌, ◌≤◌, ◌++◌, ◌↔◌, IfOk, IfErr, OnOk, OnErr, IsTrue, ℕ, drop, length, take};
-ghost use Rattle.std.specs.Str.{IsCharBoundary};
+ghost use Rattle.std.specs.Prelude.{◌≡◌, ◌+◌, ◌-◌, ◌<◌, ◌≤◌, ◌↔◌, IfOk, OnOk, OnErr, IsTrue, ℕ, drop, length, take};
 ghost use Rattle.rustc_lexer.specs.Classes.{Fits};
 ghost use Rattle.rustc_lexer.specs.Document as spec;
 ghost use Rattle.rustc_lexer.specs.means.Document as means;
-ghost use Rattle.rustc_lexer.specs.Edits.{IsEdit, IsInside, apply};
-ghost use Rattle.rustc_lexer.specs.means.Checkpoints.{AreBounds};
-ghost use Rattle.rustc_lexer.specs.Tokens.{bound, tokens_by};
+ghost use Rattle.rustc_lexer.specs.Edits.{IsEdit, apply};
+ghost use Rattle.rustc_lexer.specs.Tokens.{bound};
 
 use crate::entry::stepper::Stepper;
-use crate::relex::checkpoints::Checkpoints;
-use crate::relex::document_edit::lex_document_edit;
-use crate::relex::edit::Edit;
-use crate::relex::head::Head;
-use crate::relex::lex::lex_all;
-use crate::relex::lexed_text::end_from;
+use crate::relex::edit::{Edit, accepts};
+use crate::relex::kept::Kept;
 use crate::relex::relexing::Relexed;
-use crate::relex::replace::replace;
 use crate::token::Token;
 use std::alloc::{AllocError, Global};
 use std::marker::Model;
@@ -42,64 +35,26 @@ mod in_edition;
 /// ```
 #[derive(Drop)]
 pub struct LexedDocument<S: Stepper> {
-    alloc: Global,
     text: String,
-    tokens: Vec<Token>,
-    stepper: S,
-    head: Head,
-    /// Bounds of the body's tokens, where the search of an edit may begin.
-    checkpoints: Checkpoints,
+    kept: Kept<S>,
 }
 
 impl<S: Stepper> Model for LexedDocument<S> {
-    ghost use Rattle.std.specs.Prelude.{◌≡◌, drop, length};
-    ghost use Rattle.std.specs.Str.{IsCharBoundary};
+    ghost use Rattle.std.specs.Prelude.{true};
     ghost use Rattle.std.specs.String.{string_bytes};
-    ghost use Rattle.rustc_lexer.specs.means.Document.{document_by, head_of, tokens_of_head};
     ghost use Rattle.rustc_lexer.specs.Edits.{Held};
-    ghost use Rattle.rustc_lexer.specs.means.Checkpoints.{AreBounds};
-    ghost use Rattle.rustc_lexer.specs.Classes.{IsText};
+    ghost use Rattle.rustc_lexer.specs.means.Document.{AreKeptOf};
 
     ghost Value = { Held S };
 
     ghost view = { λ a. record {
       text = string_bytes a.text;
-      tokens = a.tokens.items;
-      stepper = a.stepper;
+      tokens = a.kept.tokens.items;
+      stepper = a.kept.stepper;
     } };
 
-    ghost invariant = { λ a. IsText (string_bytes a.text)
-        × (a.tokens.items ≡ document_by (S.grammar a.stepper) (string_bytes a.text))
-        × (a.head ≡ head_of (string_bytes a.text))
-        × IsCharBoundary (string_bytes a.text) a.head.end
-        × AreBounds (drop (length (tokens_of_head a.head)) a.tokens.items) a.checkpoints };
-}
-
-/// Lexes a document with this head. Returns all its tokens, and checkpoints among those of its body.
-pub(crate) fn lex_document<S: Stepper>(
-    alloc: Global,
-    stepper: &mut S,
-    text: &str,
-    head: Head,
-) -> Result<(Vec<Token>, Checkpoints), AllocError>
-    requires fits { Fits text.now }
-    requires head_boundary { IsCharBoundary text.now head.end }
-    ensures tokens { IfOk result
-        (λ r. r.0.items
-        ≡ means.tokens_of_head head ++ tokens_by (S.grammar stepper.old) (drop head.end text.now)) }
-    ensures checkpoints { IfOk result
-        (λ r. AreBounds (drop (length (means.tokens_of_head head)) r.0.items) r.1) }
-    ensures count { IfOk result
-        (λ r. S.count stepper.new + length (means.tokens_of_head head)
-        ≡ S.count stepper.old + length r.0.items) }
-    ensures grammar { S.grammar stepper.new ≡ S.grammar stepper.old }
-    ensures number { S.number stepper.new ≡ S.number stepper.old }
-{
-    let (mut tokens, checkpoints) = lex_all(alloc, stepper, &text[head.end..])?;
-    let mut front = Vec::new(alloc);
-    head.push_to(&mut front)?;
-    replace(&mut tokens, 0, 0, front.as_slice())?;
-    Ok((tokens, checkpoints))
+    ghost invariant = { λ a. AreKeptOf true (S.grammar a.kept.stepper) (string_bytes a.text)
+        a.kept.tokens.items a.kept.head a.kept.checkpoints };
 }
 
 impl<S: Stepper> LexedDocument<S> {
@@ -116,18 +71,9 @@ impl<S: Stepper> LexedDocument<S> {
             (λ l. S.count l.stepper + length (spec.head_tokens text.now)
             ≡ S.count stepper + length l.tokens) }
     {
-        let mut stepper = stepper;
         let held = String::from_str(alloc, text)?;
-        let head = Head::of(text);
-        let (tokens, checkpoints) = lex_document(alloc, &mut stepper, text, head)?;
-        Ok(LexedDocument {
-            alloc,
-            text: held,
-            tokens,
-            stepper,
-            head,
-            checkpoints,
-        })
+        let kept = Kept::with(alloc, text, true, stepper)?;
+        Ok(LexedDocument { text: held, kept })
     }
 
     /// Returns the whole text, with its shebang line.
@@ -143,7 +89,7 @@ impl<S: Stepper> LexedDocument<S> {
         ensures shebang { result ≡ spec.shebang_len self.now.text }
         ensures inside { result ≤ length self.now.text }
     {
-        self.head.shebang
+        self.kept.head.shebang
     }
 
     /// Returns the tokens of the document, in order. The shebang line has none.
@@ -152,49 +98,22 @@ impl<S: Stepper> LexedDocument<S> {
         ensures from_scratch { result.now
             ≡ spec.document_tokens_by (S.grammar self.now.stepper) self.now.text }
     {
-        self.tokens.as_slice()
+        self.kept.tokens.as_slice()
     }
 
     /// Returns the stepper that lexed the tokens of the body.
     pub fn stepper(&self) -> &S
         ensures { result.now ≡ self.now.stepper }
     {
-        &self.stepper
+        &self.kept.stepper
     }
 
-    /// Returns where the bound with this number is, in bytes from the start of the text. The search begins at the
-    /// last remembered bound up to it.
+    /// Returns where the bound with this number is, in bytes from the start of the text.
     pub(crate) fn place_of(&self, number: usize) -> u32
         requires inside { number ≤ length self.now.tokens }
         ensures { result ≡ spec.shebang_len self.now.text + bound self.now.tokens number }
     {
-        let count = self.head.count();
-        let tokens = self.tokens.as_slice();
-        if number < count {
-            return end_from(self.head.shebang as u32, &tokens[..number]);
-        }
-        let near = self.checkpoints.before_number(number - count);
-        let start = (self.head.end + near.place) as u32;
-        end_from(start, &tokens[count + near.number..number])
-    }
-
-    /// Returns whether the body begins inside the text. This is always true; a debug build tests it.
-    pub(crate) fn is_consistent(&self) -> bool
-        ensures always { IsTrue result }
-        ensures from_scratch { self.now.tokens
-            ≡ spec.document_tokens_by (S.grammar self.now.stepper) self.now.text }
-    {
-        self.head.end <= self.text.len()
-    }
-
-    /// Returns whether the range is inside the text, between characters.
-    pub(crate) fn contains_range(&self, start: usize, stop: usize) -> bool
-        ensures { IsTrue result ↔ IsInside self.now.text start stop }
-    {
-        start <= stop
-            && stop <= self.text.len()
-            && self.text.is_char_boundary(start)
-            && self.text.is_char_boundary(stop)
+        self.kept.place_of(number)
     }
 
     /// Returns whether an edit can be made: whether its range is inside the text, between characters, and the new
@@ -202,8 +121,7 @@ impl<S: Stepper> LexedDocument<S> {
     pub fn accepts(&self, start: usize, stop: usize, insert: &str) -> bool
         ensures { IsTrue result ↔ IsEdit self.now.text start stop insert.now }
     {
-        self.contains_range(start, stop)
-            && self.text.len() - (stop - start) + insert.len() <= u32::MAX as usize
+        accepts(self.text.as_str(), start, stop, insert)
     }
 
     /// Replaces the bytes from `start` up to `stop` with `insert`. The edit has to be
@@ -241,18 +159,11 @@ impl<S: Stepper> LexedDocument<S> {
             (S.count self.old.stepper) most
             → S.count self.new.stepper ≤ most) }
     {
-        lex_document_edit(
-            self.alloc,
-            &mut self.stepper,
-            &mut self.text,
-            &mut self.tokens,
-            &mut self.head,
-            &mut self.checkpoints,
-            Edit {
-                start,
-                stop,
-                insert,
-            },
-        )
+        let edit = Edit {
+            start,
+            stop,
+            insert,
+        };
+        self.kept.edit(true, &mut self.text, edit)
     }
 }

@@ -1,18 +1,17 @@
 //! A text that is kept with its tokens.
-ghost use Rattle.std.specs.Prelude.{◌≡◌, ◌+◌, ◌-◌, ◌^◌, ◌<◌, ◌≤◌, ◌↔◌, IfOk, IfErr, OnOk, OnErr, IsTrue, drop, length, take};
+ghost use Rattle.std.specs.Prelude.{◌≡◌, ◌+◌, ◌-◌, ◌<◌, ◌≤◌, ◌↔◌, IfOk, OnOk, OnErr, IsTrue, drop, length, take};
 ghost use Rattle.rustc_lexer.specs.{E2024};
 ghost use Rattle.rustc_lexer.specs.Classes.{Fits};
 ghost use Rattle.rustc_lexer.specs.Tokens.{bound, tokens_by, tokens_of};
 ghost use Rattle.rustc_lexer.specs.declared.relex.relexing.Relexed.{Relexed};
-ghost use Rattle.rustc_lexer.specs.Edits.{IsEdit, IsInside, IsRelexed, apply};
+ghost use Rattle.rustc_lexer.specs.Edits.{IsEdit, IsRelexed, apply};
 ghost use Rattle.rustc_lexer.specs.LanguageText.{part};
 ghost use Rattle.rustc_lexer.specs.Answers.{first_in};
 
 use crate::edition::Edition;
 use crate::entry::stepper::{Stepper, Steps};
-use crate::relex::checkpoints::Checkpoints;
-use crate::relex::edit::{Edit, lex_edit};
-use crate::relex::lex::lex_all;
+use crate::relex::edit::{Edit, accepts};
+use crate::relex::kept::Kept;
 use crate::relex::relexing::Relexed;
 use crate::token::Token;
 use std::alloc::{AllocError, Global};
@@ -23,33 +22,26 @@ mod in_edition;
 /// A text that is kept with its tokens, and with the stepper that lexed them.
 #[derive(Drop)]
 pub struct LexedText<S: Stepper> {
-    alloc: Global,
     text: String,
-    tokens: Vec<Token>,
-    stepper: S,
-    /// Bounds of the tokens, where the search of an edit may begin.
-    checkpoints: Checkpoints,
+    kept: Kept<S>,
 }
 
 impl<S: Stepper> Model for LexedText<S> {
-    ghost use Rattle.std.specs.Prelude.{◌≡◌};
+    ghost use Rattle.std.specs.Prelude.{false};
     ghost use Rattle.std.specs.String.{string_bytes};
     ghost use Rattle.rustc_lexer.specs.Edits.{Held};
-    ghost use Rattle.rustc_lexer.specs.Tokens.{tokens_by};
-    ghost use Rattle.rustc_lexer.specs.means.Checkpoints.{AreBounds};
-    ghost use Rattle.rustc_lexer.specs.Classes.{IsText};
+    ghost use Rattle.rustc_lexer.specs.means.Document.{AreKeptOf};
 
     ghost Value = { Held S };
 
     ghost view = { λ a. record {
       text = string_bytes a.text;
-      tokens = a.tokens.items;
-      stepper = a.stepper;
+      tokens = a.kept.tokens.items;
+      stepper = a.kept.stepper;
     } };
 
-    ghost invariant = { λ a. IsText (string_bytes a.text)
-        × (a.tokens.items ≡ tokens_by (S.grammar a.stepper) (string_bytes a.text))
-        × AreBounds a.tokens.items a.checkpoints };
+    ghost invariant = { λ a. AreKeptOf false (S.grammar a.kept.stepper) (string_bytes a.text)
+        a.kept.tokens.items a.kept.head a.kept.checkpoints };
 }
 
 impl<S: Stepper> LexedText<S> {
@@ -64,16 +56,9 @@ impl<S: Stepper> LexedText<S> {
         ensures number { IfOk result (λ l. S.number l.stepper ≡ S.number stepper) }
         ensures count { IfOk result (λ l. S.count l.stepper ≡ S.count stepper + length l.tokens) }
     {
-        let mut stepper = stepper;
         let held = String::from_str(alloc, text)?;
-        let (tokens, checkpoints) = lex_all(alloc, &mut stepper, text)?;
-        Ok(LexedText {
-            alloc,
-            text: held,
-            tokens,
-            stepper,
-            checkpoints,
-        })
+        let kept = Kept::with(alloc, text, false, stepper)?;
+        Ok(LexedText { text: held, kept })
     }
 
     /// Returns the text.
@@ -89,45 +74,22 @@ impl<S: Stepper> LexedText<S> {
         ensures tokens { result.now ≡ self.now.tokens }
         ensures from_scratch { result.now ≡ tokens_by (S.grammar self.now.stepper) self.now.text }
     {
-        self.tokens.as_slice()
+        self.kept.tokens.as_slice()
     }
 
     /// Returns the stepper that lexed the tokens.
     pub fn stepper(&self) -> &S
         ensures { result.now ≡ self.now.stepper }
     {
-        &self.stepper
+        &self.kept.stepper
     }
 
-    /// Returns where the bound with this number is, in bytes from the start of the text. The search begins at the
-    /// last remembered bound up to it.
+    /// Returns where the bound with this number is, in bytes from the start of the text.
     pub(crate) fn place_of(&self, number: usize) -> u32
         requires inside { number ≤ length self.now.tokens }
         ensures { result ≡ bound self.now.tokens number }
     {
-        let near = self.checkpoints.before_number(number);
-        let start = near.place as u32;
-        end_from(start, &self.tokens.as_slice()[near.number..number])
-    }
-
-    /// Returns whether there are no more tokens than bytes. This is always true, since the tokens are those of the
-    /// text and none is empty; a debug build tests it.
-    pub(crate) fn is_consistent(&self) -> bool
-        ensures always { IsTrue result }
-        ensures from_scratch { self.now.tokens
-            ≡ tokens_by (S.grammar self.now.stepper) self.now.text }
-    {
-        self.tokens.len() <= self.text.len()
-    }
-
-    /// Returns whether the range is inside the text, between characters.
-    pub(crate) fn contains_range(&self, start: usize, stop: usize) -> bool
-        ensures { IsTrue result ↔ IsInside self.now.text start stop }
-    {
-        start <= stop
-            && stop <= self.text.len()
-            && self.text.is_char_boundary(start)
-            && self.text.is_char_boundary(stop)
+        self.kept.place_of(number)
     }
 
     /// Returns whether an edit can be made: whether its range is inside the text, between characters, and the new
@@ -135,8 +97,7 @@ impl<S: Stepper> LexedText<S> {
     pub fn accepts(&self, start: usize, stop: usize, insert: &str) -> bool
         ensures { IsTrue result ↔ IsEdit self.now.text start stop insert.now }
     {
-        self.contains_range(start, stop)
-            && self.text.len() - (stop - start) + insert.len() <= u32::MAX as usize
+        accepts(self.text.as_str(), start, stop, insert)
     }
 
     /// Replaces the bytes from `start` up to `stop` with `insert`. The edit has to be
@@ -169,31 +130,13 @@ impl<S: Stepper> LexedText<S> {
             ((r : Relexed) × IsRelexed (S.grammar self.old.stepper) self.old.text start stop insert.now r
             × (S.count self.new.stepper ≤ S.count self.old.stepper + r.lexed)) }
     {
-        lex_edit(
-            self.alloc,
-            &mut self.stepper,
-            &mut self.text,
-            &mut self.tokens,
-            &mut self.checkpoints,
-            Edit {
-                start,
-                stop,
-                insert,
-            },
-        )
+        let edit = Edit {
+            start,
+            stop,
+            insert,
+        };
+        self.kept.edit(false, &mut self.text, edit)
     }
-}
-
-/// Returns where the last of the tokens ends. The first one begins at `start`.
-pub(crate) fn end_from(start: u32, tokens: &[Token]) -> u32
-    requires { start + bound tokens.now (length tokens.now) < 2 ^ 32 }
-    ensures { result ≡ start + bound tokens.now (length tokens.now) }
-{
-    let mut end = start;
-    for token in tokens {
-        end += token.len;
-    }
-    end
 }
 
 impl LexedText<Steps> {

@@ -5,6 +5,7 @@ mod edit;
 mod edit_list;
 mod front;
 mod head;
+mod kept;
 mod lex;
 mod lexed_document;
 mod lexed_text;

@@ -10,7 +10,8 @@ ghost use Rattle.rustc_lexer.specs.Tokens.{tokens_of};
 use crate::edition::Edition;
 use crate::entry::stepper::{Stepper, Steps};
 use crate::relex::front::Bound;
-use crate::relex::lexed_document::{LexedDocument, lex_document};
+use crate::relex::kept::Kept;
+use crate::relex::lexed_document::LexedDocument;
 use std::alloc::{AllocError, Global};
 
 impl LexedDocument<Steps> {
@@ -57,7 +58,7 @@ impl LexedDocument<Steps> {
         ensures grammar { ⟦<Steps as Stepper>⟧.grammar self.now.stepper ≡ first_in result }
         ensures from_scratch { self.now.tokens ≡ spec.document_tokens result self.now.text }
     {
-        self.stepper.edition()
+        self.kept.stepper.edition()
     }
 
     /// Returns where the body begins, in bytes, and how many tokens come before it: those up to and
@@ -71,8 +72,8 @@ impl LexedDocument<Steps> {
             ≡ tokens_of (part edition) (drop result.place self.now.text) }
     {
         Bound {
-            number: self.head.count(),
-            place: self.head.end,
+            number: self.kept.head.count(),
+            place: self.kept.head.end,
         }
     }
 
@@ -89,16 +90,9 @@ impl LexedDocument<Steps> {
             ≡ length self.new.tokens) }
         ensures same { OnErr result (self.new ≡ self.old) }
     {
-        let mut stepper = Steps::new_in(edition);
-        let (tokens, checkpoints) = lex_document(
-            self.alloc,
-            &mut stepper,
-            self.text.as_str(),
-            self.head,
-        )?;
-        self.tokens = tokens;
-        self.stepper = stepper;
-        self.checkpoints = checkpoints;
+        let stepper = Steps::new_in(edition);
+        let kept = Kept::with(self.kept.alloc, self.text.as_str(), true, stepper)?;
+        self.kept = kept;
         Ok(())
     }
 }

@@ -8,7 +8,7 @@ ghost use Rattle.rustc_lexer.specs.Tokens.{tokens_of};
 
 use crate::edition::Edition;
 use crate::entry::stepper::{Stepper, Steps};
-use crate::relex::lex::lex_all;
+use crate::relex::kept::Kept;
 use crate::relex::lexed_text::LexedText;
 use std::alloc::{AllocError, Global};
 
@@ -39,7 +39,7 @@ impl LexedText<Steps> {
         ensures grammar { ⟦<Steps as Stepper>⟧.grammar self.now.stepper ≡ first_in result }
         ensures from_scratch { self.now.tokens ≡ tokens_of (part result) self.now.text }
     {
-        self.stepper.edition()
+        self.kept.stepper.edition()
     }
 
     /// Lexes the text again, in another edition. `Err` means that memory was refused, and then nothing has changed.
@@ -53,11 +53,9 @@ impl LexedText<Steps> {
             (⟦<Steps as Stepper>⟧.count self.new.stepper ≡ length self.new.tokens) }
         ensures same { OnErr result (self.new ≡ self.old) }
     {
-        let mut stepper = Steps::new_in(edition);
-        let (tokens, checkpoints) = lex_all(self.alloc, &mut stepper, self.text.as_str())?;
-        self.tokens = tokens;
-        self.stepper = stepper;
-        self.checkpoints = checkpoints;
+        let stepper = Steps::new_in(edition);
+        let kept = Kept::with(self.kept.alloc, self.text.as_str(), false, stepper)?;
+        self.kept = kept;
         Ok(())
     }
 }

@@ -5,8 +5,7 @@ use crate::erased::entry::stepper::Stepper;
 use crate::erased::relex::checkpoints::Checkpoints;
 use crate::erased::relex::front::Bound;
 use crate::erased::relex::lex::new_buffer;
-use crate::erased::relex::relexing::{Change, LONG, Relexed, Relexing};
-use crate::erased::relex::replace::replace;
+use crate::erased::relex::relexing::{Change, LONG, Relexing};
 use crate::erased::token::Token;
 use crate::support::{AllocError, Global};
 
@@ -19,6 +18,21 @@ pub struct Edit<'a> {
     pub stop: usize,
     /// The text that replaces them.
     pub insert: &'a str,
+}
+
+/// Returns whether the range is inside the text, between characters.
+pub(crate) fn contains_range(text: &str, start: usize, stop: usize) -> bool {
+    start <= stop
+        && stop <= text.len()
+        && text.is_char_boundary(start)
+        && text.is_char_boundary(stop)
+}
+
+/// Returns whether an edit of the text can be made: whether its range is inside the text, between characters, and
+/// the new text has at most `u32::MAX` bytes.
+pub(crate) fn accepts(text: &str, start: usize, stop: usize, insert: &str) -> bool {
+    contains_range(text, start, stop)
+        && text.len() - (stop - start) + insert.len() <= u32::MAX as usize
 }
 
 /// Replaces the bytes from `start` up to `stop` with `insert`. The text already has room for it.
@@ -67,59 +81,6 @@ fn relex_inserted<S: Stepper>(
         tokens.extend_from_slice(&buffer[..count])?;
     }
     Ok(())
-}
-
-/// Replaces the old tokens with those of the changed text, and returns where lexing met the old ones. If memory is
-/// refused the tokens stay as they are. The search for the tokens that stay begins at `near`.
-fn renew<S: Stepper>(
-    alloc: Global,
-    stepper: &mut S,
-    tokens: &mut Vec<Token>,
-    near: Bound,
-    text: &str,
-    change: Change,
-) -> Result<Relexing, AllocError> {
-    let (lexed, at) = relex(alloc, stepper, tokens.as_slice(), near, text, change)?;
-    replace(tokens, at.front.number, at.back.number, lexed.as_slice())?;
-    Ok(at)
-}
-
-/// Makes the edit in text and tokens. If memory is refused both stay as they are. The search for the tokens that
-/// stay begins at the nearest of the checkpoints.
-pub(crate) fn lex_edit<S: Stepper>(
-    alloc: Global,
-    stepper: &mut S,
-    text: &mut String,
-    tokens: &mut Vec<Token>,
-    checkpoints: &mut Checkpoints,
-    edit: Edit<'_>,
-) -> Result<Relexed, AllocError> {
-    let Edit {
-        start,
-        stop,
-        insert,
-    } = edit;
-    let removed = String::from_str(alloc, &text[start..stop])?;
-    text.reserve(insert.len())?;
-    put_in_place(text, start, stop, insert);
-    let change = Change {
-        start,
-        old_stop: stop,
-        new_stop: start + insert.len(),
-    };
-    let count = tokens.as_slice().len();
-    let near = checkpoints.nearest(start);
-    let made = text.as_str();
-    match renew(alloc, stepper, tokens, near, made, change) {
-        Ok(at) => {
-            *checkpoints = past_edit(checkpoints, at, made.len());
-            Ok(at.counts(count))
-        }
-        Err(refused) => {
-            put_in_place(text, start, change.new_stop, removed.as_str());
-            Err(refused)
-        }
-    }
 }
 
 /// Returns the checkpoints after an edit that was relexed up to `at`, in a text of `len` bytes. The kept front is

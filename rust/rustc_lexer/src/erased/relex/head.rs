@@ -20,6 +20,19 @@ pub(crate) struct Head {
     pub end: usize,
 }
 
+/// The head of a part of a document, which has none.
+pub(crate) const NO_HEAD: Head = Head {
+    shebang: 0,
+    space: 0,
+    front: None,
+    end: 0,
+};
+
+/// Finds the head of a whole document, or of a part of one, which has none.
+pub(crate) fn find_head(whole: bool, text: &str) -> Head {
+    if whole { Head::of(text) } else { NO_HEAD }
+}
+
 impl Head {
     /// Finds the head of a document.
     pub(crate) fn of(text: &str) -> Head {

@@ -1,7 +1,7 @@
 //! Several edits of a document, one after another.
 
 use crate::erased::entry::stepper::Stepper;
-use crate::erased::relex::edit::Edit;
+use crate::erased::relex::edit::{Edit, contains_range};
 use crate::erased::relex::edit_list::EditStop;
 use crate::erased::relex::lexed_document::LexedDocument;
 
@@ -10,10 +10,10 @@ impl<S: Stepper> LexedDocument<S> {
     /// refused. `Err` says which one that is and why. The edits before it stay made.
     pub fn edit_all(&mut self, edits: &[Edit<'_>]) -> Result<(), EditStop> {
         // So the tokens are those of the text, even if there is no edit.
-        debug_assert!(self.is_consistent());
+        let _ = self.tokens();
         for (at, edit) in edits.iter().enumerate() {
             if !self.accepts(edit.start, edit.stop, edit.insert) {
-                return Err(if self.contains_range(edit.start, edit.stop) {
+                return Err(if contains_range(self.text(), edit.start, edit.stop) {
                     EditStop::TooLong { at }
                 } else {
                     EditStop::Range { at }

@@ -3,7 +3,8 @@
 use crate::erased::edition::Edition;
 use crate::erased::entry::stepper::{Stepper, Steps};
 use crate::erased::relex::front::Bound;
-use crate::erased::relex::lexed_document::{LexedDocument, lex_document};
+use crate::erased::relex::kept::Kept;
+use crate::erased::relex::lexed_document::LexedDocument;
 use crate::support::{AllocError, Global};
 
 impl LexedDocument<Steps> {
@@ -25,27 +26,24 @@ impl LexedDocument<Steps> {
 
     /// Returns the edition of the tokens. Edits keep it.
     pub fn edition(&self) -> Edition {
-        self.stepper.edition()
+        self.kept.stepper.edition()
     }
 
     /// Returns where the body begins, in bytes, and how many tokens come before it: those up to and
     /// including the frontmatter, or none if there is no frontmatter.
     pub fn body(&self) -> Bound {
         Bound {
-            number: self.head.count(),
-            place: self.head.end,
+            number: self.kept.head.count(),
+            place: self.kept.head.end,
         }
     }
 
     /// Lexes the text again, in another edition. The head stays, as it is the same in each edition. `Err` means
     /// that memory was refused, and then nothing has changed.
     pub fn set_edition(&mut self, edition: Edition) -> Result<(), AllocError> {
-        let mut stepper = Steps::new_in(edition);
-        let (tokens, checkpoints) =
-            lex_document(self.alloc, &mut stepper, self.text.as_str(), self.head)?;
-        self.tokens = tokens;
-        self.stepper = stepper;
-        self.checkpoints = checkpoints;
+        let stepper = Steps::new_in(edition);
+        let kept = Kept::with(self.kept.alloc, self.text.as_str(), true, stepper)?;
+        self.kept = kept;
         Ok(())
     }
 }

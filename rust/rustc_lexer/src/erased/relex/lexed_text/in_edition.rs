@@ -2,7 +2,7 @@
 
 use crate::erased::edition::Edition;
 use crate::erased::entry::stepper::{Stepper, Steps};
-use crate::erased::relex::lex::lex_all;
+use crate::erased::relex::kept::Kept;
 use crate::erased::relex::lexed_text::LexedText;
 use crate::support::{AllocError, Global};
 
@@ -19,16 +19,14 @@ impl LexedText<Steps> {
 
     /// Returns the edition of the tokens. Edits keep it.
     pub fn edition(&self) -> Edition {
-        self.stepper.edition()
+        self.kept.stepper.edition()
     }
 
     /// Lexes the text again, in another edition. `Err` means that memory was refused, and then nothing has changed.
     pub fn set_edition(&mut self, edition: Edition) -> Result<(), AllocError> {
-        let mut stepper = Steps::new_in(edition);
-        let (tokens, checkpoints) = lex_all(self.alloc, &mut stepper, self.text.as_str())?;
-        self.tokens = tokens;
-        self.stepper = stepper;
-        self.checkpoints = checkpoints;
+        let stepper = Steps::new_in(edition);
+        let kept = Kept::with(self.kept.alloc, self.text.as_str(), false, stepper)?;
+        self.kept = kept;
         Ok(())
     }
 }

@@ -1,4 +1,4 @@
-use Rattle.std.proofs.Common.{List, ℕ, IfOk, OnErr, ◌≤◌, ◌≡◌, ◌∙◌, sym, subst, string_bytes}
+use Rattle.std.proofs.Common.{List, ℕ, IfOk, OnErr, ◌≤◌, ◌≡◌, ◌∙◌, ap, sym, subst, string_bytes}
 use Rattle.rustc_lexer.specs.Classes.{IsText}
 use Rattle.rustc_lexer.specs.Document.{document_tokens_by, IsRelexedDocument, IsCountedDocument, IsStepped}
 use Rattle.rustc_lexer.specs.Edits.{IsEdit, apply}
@@ -12,8 +12,8 @@ returns-clause-relexed g c =
     let is = c.self.invariant.0 in
     let edit = subst (λ l. IsEdit l.text c.args.start c.args.stop c.args.insert.now) (sym c.self.view_is) c.requires.accepted in
     let its : IsText (apply text c.args.start c.args.stop c.args.insert.now) = (edited text c.args.start c.args.stop c.args.insert.now is c.utf8.insert edit).text_is in
-    let e = c.lex_document_edit.ensures.relexed in
-    subst (λ l. IfOk c.lex_document_edit.result (IsRelexedDocument (g.S.Stepper.grammar l.stepper) l.text c.args.start c.args.stop c.args.insert.now)) c.self.view_is (IfOk-two c.lex_document_edit.result _ _ _ (λ r p q. relexed_page _ text _ _ _ is its p) e e)
+    let e = c.edit.ensures.relexed in
+    subst (λ l. IfOk c.edit.result (IsRelexedDocument (g.S.Stepper.grammar l.stepper) l.text c.args.start c.args.stop c.args.insert.now)) c.self.view_is (IfOk-two c.edit.result _ _ _ (λ r p q. relexed_page _ text _ _ _ is its p) e e)
 
 pub returns-clause-count : goal.returns-clause-count
 returns-clause-count g c =
@@ -21,12 +21,13 @@ returns-clause-count g c =
     let is = c.self.invariant.0 in
     let edit = subst (λ l. IsEdit l.text c.args.start c.args.stop c.args.insert.now) (sym c.self.view_is) c.requires.accepted in
     let its : IsText (apply text c.args.start c.args.stop c.args.insert.now) = (edited text c.args.start c.args.stop c.args.insert.now is c.utf8.insert edit).text_is in
-    let e = c.lex_document_edit.ensures.count in
-    subst (λ l. IfOk c.lex_document_edit.result (λ r. IsCountedDocument l.text c.args.start c.args.stop c.args.insert.now (g.S.Stepper.count l.stepper) (g.S.Stepper.count c.lex_document_edit.new.stepper) r.lexed)) c.self.view_is (IfOk-two c.lex_document_edit.result _ _ _ (λ r p q. stepped_page (g.S.Stepper.grammar c.self.inside.stepper) text _ _ _ is its p) e e)
+    let e = c.edit.ensures.count in
+    subst (λ l. IfOk c.edit.result (λ r. IsCountedDocument l.text c.args.start c.args.stop c.args.insert.now (g.S.Stepper.count l.stepper) (g.S.Stepper.count c.edit.new.self.stepper) r.lexed)) c.self.view_is (IfOk-two c.edit.result _ _ _ (λ r p q. stepped_page (g.S.Stepper.grammar c.self.inside.kept.stepper) text _ _ _ is its p) e e)
 
 pub returns-clause-from_scratch : goal.returns-clause-from_scratch
 returns-clause-from_scratch g c =
-    subst (λ l. c.lex_document_edit.new.tokens.items ≡ document_tokens_by (g.S.Stepper.grammar l.stepper) (string_bytes c.lex_document_edit.new.text)) c.self.view_is (c.lex_document_edit.ensures.from_scratch ∙ past_law _ _ c.lex_document_edit.ensures.is_text)
+    let k = c.edit.ensures.kept in
+    subst (λ l. c.edit.new.self.tokens.items ≡ document_tokens_by (g.S.Stepper.grammar l.stepper) (string_bytes c.edit.new.text)) c.self.view_is (k.1 ∙ (past_law _ _ k.0 ∙ ap (λ f. document_tokens_by f (string_bytes c.edit.new.text)) c.edit.ensures.grammar))
 
 pub returns-clause-few : goal.returns-clause-few
 returns-clause-few g c =
@@ -34,4 +35,4 @@ returns-clause-few g c =
     let is = c.self.invariant.0 in
     let edit = subst (λ l. IsEdit l.text c.args.start c.args.stop c.args.insert.now) (sym c.self.view_is) c.requires.accepted in
     let its : IsText (apply text c.args.start c.args.stop c.args.insert.now) = (edited text c.args.start c.args.stop c.args.insert.now is c.utf8.insert edit).text_is in
-    subst (λ l. OnErr c.lex_document_edit.result ((most : ℕ) → IsStepped (g.S.Stepper.grammar l.stepper) l.text c.args.start c.args.stop c.args.insert.now (g.S.Stepper.count l.stepper) most → g.S.Stepper.count c.lex_document_edit.new.stepper ≤ most)) c.self.view_is (OnErr-map c.lex_document_edit.result (λ few most p. few p.0 most (page_relexed (g.S.Stepper.grammar c.self.inside.stepper) text _ _ _ is its p.1) (page_stepped (g.S.Stepper.grammar c.self.inside.stepper) text _ _ _ is its p.2)) c.lex_document_edit.ensures.few)
+    subst (λ l. OnErr c.edit.result ((most : ℕ) → IsStepped (g.S.Stepper.grammar l.stepper) l.text c.args.start c.args.stop c.args.insert.now (g.S.Stepper.count l.stepper) most → g.S.Stepper.count c.edit.new.self.stepper ≤ most)) c.self.view_is (OnErr-map c.edit.result (λ few most p. few p.0 most (page_relexed (g.S.Stepper.grammar c.self.inside.kept.stepper) text _ _ _ is its p.1) (page_stepped (g.S.Stepper.grammar c.self.inside.kept.stepper) text _ _ _ is its p.2)) c.edit.ensures.few)
