@@ -5,6 +5,7 @@ pub mod Classes
 pub mod Document
 pub mod Edits
 pub mod FrontmatterGrammar
+pub mod Head
 pub mod Language
 pub mod LanguageCalls
 pub mod LanguageText
