@@ -606,7 +606,7 @@ static int check_heads(body_edit_call *body_edit) {
     CHECK(document.head.tokens[1].kind == RUSTC_LEXER_FRONTMATTER && document.head_kept == 0);
     if (edit_document(body_edit, &document, 22, 23, "+"))
         return 1;
-    CHECK(document.head_kept == 1 && document.body.relexing.kept_front == 1 && document.body.relexing.lexed == 2);
+    CHECK(document.head_kept == 1 && document.body.relexing.kept_front == 1 && document.body.relexing.lexed == 3);
     if (edit_document(body_edit, &document, 18, 18, "b") || edit_document(body_edit, &document, 26, 26, "\n---\n"))
         return 1;
     CHECK(document.head.count == 2 && document.head.body > 19 && document.head_kept == 0);

@@ -13,7 +13,7 @@ use crate::support::{AllocError, Global};
 
 /// Returns what an edit changes in the body, which began at `from` and now begins at `to`. If the head stays, that
 /// is the edit itself. Otherwise it is everything up to where both texts are the same and both bodies have begun.
-fn body_change(kept: bool, from: usize, to: usize, edit: Change) -> Change {
+pub(crate) fn body_change(kept: bool, from: usize, to: usize, edit: Change) -> Change {
     if kept {
         return Change {
             start: edit.start - from,
@@ -32,7 +32,7 @@ fn body_change(kept: bool, from: usize, to: usize, edit: Change) -> Change {
 }
 
 /// Returns whether the head stays: whether the edit, which begins at `start`, is behind it and leaves it the same.
-fn keeps_head(old: Head, now: Head, start: usize) -> bool {
+pub(crate) fn keeps_head(old: Head, now: Head, start: usize) -> bool {
     old.end <= start && old.is_same(now)
 }
 
