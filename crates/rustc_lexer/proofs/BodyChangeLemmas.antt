@@ -72,7 +72,7 @@ module _ {first : List ℕ → Token} (law : IsGrammar first) (text insert : Lis
         let old_at = subst (λ n. IsCharBoundary text n) (end_is text is) (ahead text is).boundary in
         let now_at = subst (λ n. IsCharBoundary made n) (end_is made now_is) (ahead made now_is).boundary in
         subst (λ (ch : Change). IsMadeOf first body (map (λ (t : Token). t.len) (tokens_by first body)) ch (body_insert kept ch insert new_body) new_body) (sym here)
-            (made_body law text insert made edit.start edit.old_stop is its fine refl (body_start text) (body_start made) old_at now_at (tokens_by first body) refl new_body refl kept ends_at)
+        (made_body law text insert made edit.start edit.old_stop is its fine refl (body_start text) (body_start made) old_at now_at (tokens_by first body) refl new_body refl kept ends_at)
 
     counts_here : (r : Relexed) → IsRelexed first body change.start change.old_stop (body_insert kept change insert new_body) r
         → IsRelexedDocument first text edit.start edit.old_stop insert (counted kept (length (head_tokens text)) (length (head_tokens made)) r)
@@ -98,4 +98,4 @@ pub body_is : {first : List ℕ → Token} (law : IsGrammar first) (before inser
 body_is {first} law before insert text edit old now kept change e old_head now_head told change_is =
     let there : IsHeadOf (apply before edit.start edit.old_stop insert) now = subst (λ (bytes : List ℕ). IsHeadOf bytes now) e.made now_head in
     subst (λ (bytes : List ℕ). IsBodyChange first before edit insert bytes kept change) (sym e.made)
-        (body_here law before insert edit e.is_text e.inserted e.is_edit e.new_stop old now kept change old_head there told change_is)
+    (body_here law before insert edit e.is_text e.inserted e.is_edit e.new_stop old now kept change old_head there told change_is)
