@@ -1,7 +1,7 @@
 /* Calls of the library at its edges: texts that are not UTF-8, empty texts, null, room for no token and for one, a
  * batch that ends before a frontmatter, bad places; the numbers of kinds and the bytes of records; units of literals;
- * marked tokens; and texts under edits, compared with lexing them anew. Exits with 1 at the first check that fails, and
- * says which. */
+ * marked tokens; and texts and documents under edits, compared with lexing them anew. Exits with 1 at the first check
+ * that fails, and says which. */
 #include <stdio.h>
 #include <string.h>
 
@@ -69,6 +69,9 @@ static int check_bad_texts(void) {
         CHECK(rustc_lexer_relex(text, len, buffer, 0, &edit, 2024, &relexing, buffer + 1, BUFFER_LEN - 1, &count) ==
                   RUSTC_LEXER_NOT_UTF8 &&
               count == 0 && relexing.stage == 0 && is_marked(0));
+        struct rustc_lexer_head head = {.body = 8};
+        CHECK(rustc_lexer_body_edit(text, len, &edit, &head, &edit, &is) == RUSTC_LEXER_NOT_UTF8);
+        CHECK(head.body == 8 && edit.new_stop == len && is == 0);
     }
     return 0;
 }
@@ -105,6 +108,10 @@ static int check_null(void) {
     CHECK(count == 0 && relexing.stage == 2 && relexing.kept_front == 0 && relexing.kept_back == 0);
     CHECK(rustc_lexer_relex_unchecked(NULL, 0, NULL, 0, &edit, 2015, &(struct rustc_lexer_relexing){0}, buffer,
                                       BUFFER_LEN, &count) == RUSTC_LEXER_OK && count == 0);
+    struct rustc_lexer_head head = {0};
+    struct rustc_lexer_edit made = {9, 9, 9};
+    CHECK(rustc_lexer_body_edit(NULL, 0, &edit, &head, &made, &is) == RUSTC_LEXER_OK && is == 1 && made.new_stop == 0);
+    CHECK(rustc_lexer_body_edit_unchecked(NULL, 0, &edit, &head, &made, &is) == RUSTC_LEXER_OK && head.body == 0);
     CHECK(rustc_lexer_strip_shebang(NULL, 0, &end) == RUSTC_LEXER_OK && end == 0);
     CHECK(rustc_lexer_strip_shebang_unchecked(NULL, 0, &end) == RUSTC_LEXER_OK && end == 0);
     CHECK(rustc_lexer_settled(NULL, 0, &end) == RUSTC_LEXER_OK && end == 0);
@@ -532,6 +539,137 @@ static int check_random_edits(relex_call *relex, uint32_t edition) {
     return 0;
 }
 
+typedef uint32_t body_edit_call(const uint8_t *, size_t, const struct rustc_lexer_edit *, struct rustc_lexer_head *,
+                                struct rustc_lexer_edit *, uint32_t *);
+
+/* A document with its head, and its body with the tokens of that. */
+struct document {
+    char text[MOST];
+    size_t len;
+    struct rustc_lexer_head head;
+    uint32_t head_kept;
+    struct held body;
+};
+
+/* Whether head and body have the tokens of the document from scratch. */
+static bool is_document(const struct document *document) {
+    static const struct rustc_lexer_token none[2];
+    const struct rustc_lexer_head *head = &document->head;
+    const uint8_t *text = (const uint8_t *)document->text;
+    struct rustc_lexer_token all[MOST];
+    struct rustc_lexer_place place = {0, 1};
+    size_t line_len, count, end = head->shebang_len;
+    if (rustc_lexer_strip_shebang(text, document->len, &line_len) != RUSTC_LEXER_OK)
+        return false;
+    place.at = (uint32_t)line_len;
+    if (rustc_lexer_tokens(text, document->len, &place, all, MOST, &count) != RUSTC_LEXER_OK || head->count > 2)
+        return false;
+    for (size_t i = 0; i < head->count; i++)
+        end += head->tokens[i].len;
+    size_t token = sizeof all[0], of_body = document->body.count;
+    return head->shebang_len == line_len && head->body == end && count == head->count + of_body &&
+           memcmp(all, head->tokens, head->count * token) == 0 &&
+           memcmp(head->tokens + head->count, none, (2 - head->count) * token) == 0 &&
+           memcmp(all + head->count, document->body.tokens, of_body * token) == 0;
+}
+
+/* Puts `insert` in place of the bytes from `start` up to `stop`, and makes the edit of the body that this is. */
+static int edit_document(body_edit_call *body_edit, struct document *document, size_t start, size_t stop,
+                         const char *insert) {
+    struct rustc_lexer_edit edit = {(uint32_t)start, (uint32_t)stop, (uint32_t)(start + strlen(insert))}, made;
+    struct rustc_lexer_head old = document->head;
+    struct held *body = &document->body;
+    char put[MOST + 1] = "";
+    memmove(document->text + edit.new_stop, document->text + stop, document->len - stop);
+    memcpy(document->text + start, insert, strlen(insert));
+    document->len += edit.new_stop - stop;
+    CHECK(body_edit((const uint8_t *)document->text, document->len, &edit, &document->head, &made,
+                    &document->head_kept) == RUSTC_LEXER_OK);
+    bool stays = memcmp(&old, &document->head, sizeof old) == 0 && old.body <= start;
+    CHECK(document->head_kept == stays && (stays || made.start == 0));
+    const char *present = document->text + document->head.body;
+    memcpy(put, present + made.start, made.new_stop - made.start);
+    CHECK(edit_held(rustc_lexer_relex, body, made.start, made.old_stop, put, 2024, BUFFER_LEN) == RUSTC_LEXER_OK);
+    CHECK(body->len == document->len - document->head.body && memcmp(body->text, present, body->len) == 0);
+    CHECK(is_document(document));
+    return 0;
+}
+
+/* A head that stays, one that an edit behind it changes, and a shebang line that is none once a `[` stands behind it. */
+static int check_heads(body_edit_call *body_edit) {
+    static struct document document;
+    memset(&document, 0, sizeof document);
+    if (edit_document(body_edit, &document, 0, 0, "#!/bin/sh\n---\na\n---\nb - c"))
+        return 1;
+    CHECK(document.head.shebang_len == 9 && document.head.count == 2 && document.head.body == 19);
+    CHECK(document.head.tokens[0].kind == RUSTC_LEXER_WHITESPACE && document.head.tokens[0].len == 1);
+    CHECK(document.head.tokens[1].kind == RUSTC_LEXER_FRONTMATTER && document.head_kept == 0);
+    if (edit_document(body_edit, &document, 22, 23, "+"))
+        return 1;
+    CHECK(document.head_kept == 1 && document.body.relexing.kept_front == 1 && document.body.relexing.lexed == 3);
+    if (edit_document(body_edit, &document, 18, 18, "b") || edit_document(body_edit, &document, 26, 26, "\n---\n"))
+        return 1;
+    CHECK(document.head.count == 2 && document.head.body > 19 && document.head_kept == 0);
+    if (edit_document(body_edit, &document, 0, document.len, "#!\na = b") ||
+        edit_document(body_edit, &document, 3, 3, "["))
+        return 1;
+    CHECK(document.head.shebang_len == 0 && document.head.body == 0 && document.head_kept == 0);
+    return edit_document(body_edit, &document, 0, document.len, "");
+}
+
+static int check_bad_heads(body_edit_call *body_edit) {
+    static const struct rustc_lexer_edit bad[] = {{3, 2, 3}, {3, 3, 1}, {2, 3, 3}, {1, 1, 2}, {0, 0, 6}, {9, 9, 9}};
+    const uint8_t *text = (const uint8_t *)"a\xc3\xa9+b";
+    uint64_t random = 1;
+    for (size_t i = 0; i < sizeof bad / sizeof bad[0]; i++) {
+        struct rustc_lexer_head head = {7, 8, 1, {{.kind = 9}}}, before = head;
+        struct rustc_lexer_edit made = {10, 11, 12};
+        uint32_t head_kept = 13;
+        CHECK(body_edit(text, 5, &bad[i], &head, &made, &head_kept) == RUSTC_LEXER_BAD_EDIT && head_kept == 13);
+        CHECK(memcmp(&head, &before, sizeof head) == 0 && made.start == 10 && made.old_stop == 11 && made.new_stop == 12);
+    }
+    /* with any head it answers, and then the body may be relexed by it */
+    for (size_t i = 0; i < 10000; i++) {
+        struct rustc_lexer_head head;
+        struct rustc_lexer_edit edit = {(uint32_t)below(&random, 2), (uint32_t)below(&random, 9), 4}, made;
+        struct rustc_lexer_relexing relexing = {0};
+        uint32_t numbers[sizeof head / 4], head_kept;
+        size_t count;
+        for (size_t j = 0; j < sizeof head / 4; j++)
+            numbers[j] = (uint32_t)below(&random, 4) * (uint32_t)(below(&random, 2) ? 1 : 0x55555555);
+        memcpy(&head, numbers, sizeof head);
+        uint32_t status = body_edit(text, 5, &edit, &head, &made, &head_kept);
+        CHECK(status == RUSTC_LEXER_OK || status == RUSTC_LEXER_BAD_EDIT);
+        if (status == RUSTC_LEXER_OK)
+            CHECK(rustc_lexer_relex(text + head.body, 5 - head.body, NULL, 0, &made, 2024, &relexing, buffer, BUFFER_LEN,
+                                    &count) == RUSTC_LEXER_OK);
+    }
+    return 0;
+}
+
+/* 10,000 edits of a document, each compared with lexing it anew. */
+static int check_random_documents(body_edit_call *body_edit) {
+    static const char *const bits[] = {
+        "#!", "[", "/", "-", "--", "---", "\n---\n", "\n", " ", "cargo", "use ", "//!", "#![", "\"", "\xc3\xa9", "/*",
+    };
+    static struct document document;
+    uint64_t random = 7;
+    memset(&document, 0, sizeof document);
+    for (size_t edits = 0; edits < 10000; edits++) {
+        char insert[24] = "";
+        for (size_t i = below(&random, 4); i > 0; i--)
+            strcat(insert, bits[below(&random, sizeof bits / sizeof bits[0])]);
+        struct held at = {.len = document.len};
+        memcpy(at.text, document.text, document.len);
+        size_t start = place_from(&random, &at, 0, below(&random, 2) ? 12 : MOST);
+        size_t stop = place_from(&random, &at, start, document.len > MOST - 40 ? MOST : 4);
+        if (document.len - (stop - start) + strlen(insert) <= MOST &&
+            edit_document(body_edit, &document, start, stop, insert))
+            return 1;
+    }
+    return 0;
+}
+
 typedef uint32_t unescape_call(const uint8_t *, size_t, uint32_t, size_t, struct rustc_lexer_unit *, size_t, size_t *);
 
 static bool is_unit(struct rustc_lexer_unit unit, size_t start, size_t end, uint32_t kind, uint32_t value) {
@@ -646,7 +784,7 @@ static int check_marks(void) {
 int main(void) {
     batch_call *const calls[] = {rustc_lexer_tokens, rustc_lexer_tokens_unchecked};
     CHECK(sizeof(struct rustc_lexer_token) == 12 && sizeof(struct rustc_lexer_relexing) == 7 * sizeof(size_t));
-    CHECK(sizeof(struct rustc_lexer_unit) == 2 * sizeof(size_t) + 8);
+    CHECK(sizeof(struct rustc_lexer_unit) == 2 * sizeof(size_t) + 8 && sizeof(struct rustc_lexer_head) == 36);
     for (int i = 0; i < 2; i++)
         if (check_empty_text(calls[i]) || check_buffer(calls[i]) || check_frontmatter(calls[i]) ||
             check_places(calls[i]) || check_symbols(calls[i]) || check_literals(calls[i]) || check_fields(calls[i]))
@@ -663,6 +801,10 @@ int main(void) {
     for (int i = 0; i < 2; i++)
         if (check_edits(relexes[i]) || check_long_edit(relexes[i]) || check_editions(relexes[i]) ||
             check_bad_edits(relexes[i]))
+            return 1;
+    body_edit_call *const body_edits[] = {rustc_lexer_body_edit, rustc_lexer_body_edit_unchecked};
+    for (int i = 0; i < 2; i++)
+        if (check_heads(body_edits[i]) || check_bad_heads(body_edits[i]) || check_random_documents(body_edits[i]))
             return 1;
     for (uint32_t edition = 2015; edition <= 2024; edition += 3)
         if (check_random_edits(relexes[edition % 2], edition))

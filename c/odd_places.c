@@ -150,6 +150,24 @@ static void relex(const uint8_t *text, size_t len, struct rustc_lexer_edit made,
     release(relexing);
 }
 
+/* The head of a text, and the edit that puts the text in: what is written, and that it is no more than the head. */
+static void find_head(const uint8_t *text, size_t len, uint32_t status, enum placement placement) {
+    struct rustc_lexer_edit all = {0, 0, (uint32_t)len}, made;
+    struct rustc_lexer_head none = {0}, found;
+    struct block edit = copy_of(&all, sizeof all, placement), head = copy_of(&none, sizeof none, placement);
+    struct block body_edit = block_of(sizeof made, placement), kept = block_of(sizeof(uint32_t), placement);
+    CHECK(rustc_lexer_body_edit(text, len, edit.bytes, head.bytes, body_edit.bytes, kept.bytes) == status);
+    if (status == RUSTC_LEXER_OK) {
+        memcpy(&found, head.bytes, sizeof found);
+        memcpy(&made, body_edit.bytes, sizeof made);
+        CHECK(found.body <= len && made.start == 0 && made.old_stop == 0 && made.new_stop == len - found.body);
+    }
+    release(edit);
+    release(head);
+    release(body_edit);
+    release(kept);
+}
+
 /* The calls that take any bytes, on bytes at a place: they answer, and write no more than their answer. */
 static uint32_t call_all(const uint8_t *text, size_t len, enum placement placement) {
     uint32_t status = rustc_lexer_check(text, len);
@@ -163,6 +181,7 @@ static uint32_t call_all(const uint8_t *text, size_t len, enum placement placeme
     CHECK(rustc_lexer_settled(text, len, end.bytes) == status);
     memcpy(&answer, end.bytes, sizeof answer);
     CHECK(answer <= len);
+    find_head(text, len, status, placement);
     CHECK(rustc_lexer_is_ident(text, len, is.bytes) == status);
     CHECK(rustc_lexer_guarded_str(text, len, string.bytes) == status);
     for (uint32_t prefix_len = 0; prefix_len < 4; prefix_len++) {

@@ -10,7 +10,7 @@
  *   - `len` bytes can be read at `text`, and nothing writes to them during the call;
  *   - each pointer that is not const points to memory that the caller may write to, that is aligned for its type
  *     and that nothing else uses during the call: `buffer` to `buffer_len` tokens, units or bytes, the others to
- *     one value. What is there before the call does not matter, but for `place` and `relexing`;
+ *     one value. What is there before the call does not matter, but for `place`, `head` and `relexing`;
  *   - `old_len` tokens can be read at `old`, and one value at `edit`. Both pointers are aligned for their types, and
  *     nothing writes to what they point to during the call;
  *   - what the calls with `_unchecked` say of their texts.
@@ -222,6 +222,15 @@ struct rustc_lexer_edit {
     uint32_t new_stop;
 };
 
+/* The head of a document, which is all in front of its body: its shebang line, its frontmatter, and the white space
+ * between them where that is a token of its own. All zeros is that of an empty text. */
+struct rustc_lexer_head {
+    uint32_t shebang_len;               /* of the shebang line, in bytes, or 0; the first token begins there */
+    uint32_t body;                      /* where the body begins, in bytes from the start of the text */
+    uint32_t count;                     /* how many tokens stand before the body: 0, 1 or 2 */
+    struct rustc_lexer_token tokens[2]; /* these, and zeros behind them */
+};
+
 /* How far an edited text is lexed again. All zeros is a good beginning. */
 struct rustc_lexer_relexing {
     size_t kept_front;  /* how many old tokens stay at the front; at stage 0, see rustc_lexer_relex */
@@ -373,6 +382,31 @@ uint32_t rustc_lexer_relex_unchecked(const uint8_t *text, size_t len, const stru
                                      size_t old_len, const struct rustc_lexer_edit *edit, uint32_t edition,
                                      struct rustc_lexer_relexing *relexing, struct rustc_lexer_token *buffer,
                                      size_t buffer_len, size_t *count);
+
+/* What an edit of a whole document changes in its body. `text` is the document after the edit, with its shebang line,
+ * and `head` before the call that of the document before it, as the last call has left it. Writes into `head` that of
+ * `text`, into `body_edit` an edit of the body, in bytes from where the body begins, and into `head_kept` 1 where all
+ * tokens of the head stay, else 0. The tokens of the document are
+ *
+ *     the `count` tokens of `head`, and those of the body, past `body` bytes of `text`.
+ *
+ * So keep the tokens of the body by rustc_lexer_relex: pass it the new body as the text, `body_edit`, and of the old
+ * tokens all but those of the old head. `head_kept` is 1 where the edit is behind the head, and shebang line and tokens
+ * of the head are as before. Else no token of the body stays in front of what is written, and `kept_front` is 0.
+ *
+ * Where `head` is not that of the text before the edit, the answer is of no use, but the call is as safe as with any
+ * other. To lex a whole document, pass zeros and the edit {0, 0, len}.
+ *
+ * With another status than 0 nothing is written. RUSTC_LEXER_BAD_EDIT says what it says in rustc_lexer_relex, or that
+ * `head` cannot be that of the text before the edit. With status 0, rustc_lexer_relex takes `body_edit` for the body.
+ *
+ * Each call tests the whole text. */
+uint32_t rustc_lexer_body_edit(const uint8_t *text, size_t len, const struct rustc_lexer_edit *edit,
+                               struct rustc_lexer_head *head, struct rustc_lexer_edit *body_edit,
+                               uint32_t *head_kept);
+uint32_t rustc_lexer_body_edit_unchecked(const uint8_t *text, size_t len, const struct rustc_lexer_edit *edit,
+                                         struct rustc_lexer_head *head, struct rustc_lexer_edit *body_edit,
+                                         uint32_t *head_kept);
 
 /* Writes the length in bytes of the shebang line at the front of the text, without the end of the line, or 0 where
  * there is none. A shebang line has at least 2 bytes. */

@@ -1,4 +1,4 @@
-/* Keeps the tokens of a text while it is edited: makes one edit, and prints the tokens that were lexed again. */
+/* Keeps the tokens of a document while it is edited: makes one edit, and prints the tokens that were lexed again. */
 #include <stdio.h>
 #include <string.h>
 
@@ -12,6 +12,7 @@ struct held {
     size_t len;
     struct rustc_lexer_token tokens[MOST];
     size_t count;
+    struct rustc_lexer_head head;
     struct rustc_lexer_relexing relexing;
 };
 
@@ -22,16 +23,27 @@ static uint32_t edit_held(struct held *held, uint32_t start, uint32_t stop, cons
     memcpy(held->text + start, insert, strlen(insert));
     held->len = held->len - stop + edit.new_stop;
 
-    /* there is room for one token more than a text can have, so one call writes them all */
-    struct rustc_lexer_token lexed[MOST + 1];
-    size_t count;
-    held->relexing.stage = 0;
-    uint32_t status = rustc_lexer_relex(held->text, held->len, held->tokens, held->count, &edit, 2024,
-                                        &held->relexing, lexed, MOST + 1, &count);
+    /* what changes in the body, which is all behind a shebang line and a frontmatter */
+    struct rustc_lexer_edit body_edit;
+    size_t old_head = held->head.count, body_count = held->count - old_head, count;
+    uint32_t head_kept;
+    uint32_t status =
+        rustc_lexer_body_edit(held->text, held->len, &edit, &held->head, &body_edit, &head_kept);
     if (status != RUSTC_LEXER_OK)
         return status;
-    size_t front = held->relexing.kept_front, back = held->relexing.kept_back;
-    memmove(held->tokens + front + count, held->tokens + held->count - back, back * sizeof lexed[0]);
+
+    /* there is room for one token more than a text can have, so one call writes them all */
+    struct rustc_lexer_token lexed[MOST + 1], *old = held->tokens + old_head;
+    held->relexing.stage = 0;
+    status = rustc_lexer_relex(held->text + held->head.body, held->len - held->head.body, old, body_count, &body_edit,
+                               2024, &held->relexing, lexed, MOST + 1, &count);
+    if (status != RUSTC_LEXER_OK)
+        return status;
+
+    /* a new head keeps no token of the body in front, so those in front never move */
+    size_t front = held->head.count + held->relexing.kept_front, back = held->relexing.kept_back;
+    memmove(held->tokens + front + count, old + body_count - back, back * sizeof lexed[0]);
+    memcpy(held->tokens, held->head.tokens, held->head.count * sizeof lexed[0]);
     memcpy(held->tokens + front, lexed, count * sizeof lexed[0]);
     held->count = front + count + back;
     return RUSTC_LEXER_OK;
@@ -40,10 +52,11 @@ static uint32_t edit_held(struct held *held, uint32_t start, uint32_t stop, cons
 int main(void) {
     /* all zeros is an empty text with no tokens, so its first edit puts the whole text in */
     static struct held held;
-    if (edit_held(&held, 0, 0, "let ab = cd + ef;") != RUSTC_LEXER_OK ||
-        edit_held(&held, 12, 13, "- 1 -") != RUSTC_LEXER_OK)
+    if (edit_held(&held, 0, 0, "#!/bin/sh\nlet ab = cd + ef;") != RUSTC_LEXER_OK ||
+        edit_held(&held, 22, 23, "- 1 -") != RUSTC_LEXER_OK)
         return 1;
-    size_t start = held.relexing.front_place, front = held.relexing.kept_front;
+    size_t start = held.head.body + held.relexing.front_place;
+    size_t front = held.head.count + held.relexing.kept_front;
     for (size_t i = front; i < front + held.relexing.lexed; i++) {
         printf("%zu %u %s\n", start, held.tokens[i].len, rustc_lexer_kind_name(held.tokens[i].kind));
         start += held.tokens[i].len;

@@ -55,7 +55,7 @@ pub past_law : (first : List ℕ → Token) (text : List ℕ) → IsText text �
 past_law first text is = ap₂ (λ ts n. ts ++ tokens_by first (drop n text)) (front_is text is) (end_is text is)
 
 -- the tokens tell the head
-same-parts : (s s' : ℕ) (f f' : Option Token) → (f ≡ None → s ≡ 0) → (f' ≡ None → s' ≡ 0) → front_tokens s f ≡ front_tokens s' f' → (s ≡ s') × (f ≡ f')
+pub same-parts : (s s' : ℕ) (f f' : Option Token) → (f ≡ None → s ≡ 0) → (f' ≡ None → s' ≡ 0) → front_tokens s f ≡ front_tokens s' f' → (s ≡ s') × (f ≡ f')
 same-parts s s' None None bare bare' e = (bare refl ∙ sym (bare' refl), refl)
 same-parts s zero None (Some t) bare bare' e = absurd (omega (arith, ap (λ (ts : List Token). length ts) e))
 same-parts s (suc n) None (Some t) bare bare' e = absurd (omega (arith, ap (λ (ts : List Token). length ts) e))
@@ -97,14 +97,14 @@ module _ (first : List ℕ → Token) (text insert : List ℕ) (start stop : ℕ
   abbrev made : List ℕ
   made = apply text start stop insert
 
-  to_page : HeadStays head_of text start stop insert → KeepsHead text start stop insert
+  pub to_page : HeadStays head_of text start stop insert → KeepsHead text start stop insert
   to_page k = (
     sym (head-shebang text) ∙ (ap (λ (h : Head). h.shebang) k.0 ∙ head-shebang made),
     sym (front_is text is) ∙ (ap tokens_of_head k.0 ∙ front_is made its),
     (let e = k.1 in omega (arith, e, end_is text is)),
   )
 
-  from_page : KeepsHead text start stop insert → HeadStays head_of text start stop insert
+  pub from_page : KeepsHead text start stop insert → HeadStays head_of text start stop insert
   from_page s = (same_head text made is its s.0 s.1, (let e = s.2 in omega (arith, e, end_is text is)))
 
   -- the same, by the head of the text and by the tokens of the grammar
@@ -122,7 +122,7 @@ module _ (first : List ℕ → Token) (text insert : List ℕ) (start stop : ℕ
       let three : At kept (body_start text) (body_start made) (head_tokens text) (tokens_of_head (head_of made)) r = subst (λ ts. At kept (body_start text) (body_start made) ts (tokens_of_head (head_of made)) r) (front_is text is) two in
       subst (λ ts. At kept (body_start text) (body_start made) (head_tokens text) ts r) (front_is made its) three
 
-  by_head : (kept : Bool) (r : Relexed) → At kept (body_start text) (body_start made) (head_tokens text) (head_tokens made) r → IsRelexedWith head_of kept first text start stop insert r
+  pub by_head : (kept : Bool) (r : Relexed) → At kept (body_start text) (body_start made) (head_tokens text) (head_tokens made) r → IsRelexedWith head_of kept first text start stop insert r
   unfolding IsRelexedWith
   by_head kept r x =
       let three : At kept (body_start text) (body_start made) (head_tokens text) (tokens_of_head (head_of made)) r = subst (λ ts. At kept (body_start text) (body_start made) (head_tokens text) ts r) (sym (front_is made its)) x in

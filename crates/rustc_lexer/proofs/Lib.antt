@@ -3,6 +3,7 @@ pub mod BitLemmas
 pub mod BlockCommentDepth
 pub mod BlockCommentLoop
 pub mod BlockLemmas
+pub mod BodyChangeLemmas
 pub mod BoundLemmas
 pub mod BridgeLemmas
 pub mod BulkLemmas

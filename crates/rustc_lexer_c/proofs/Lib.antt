@@ -1,5 +1,6 @@
 pub mod BatchLemmas
 pub mod EscapeLemmas
+pub mod HeadLemmas
 pub mod OutputLemmas
 pub mod RelexLemmas
 pub mod BufferLemmas

@@ -89,7 +89,7 @@ fn first_token(text: &str, allowed: FrontmatterAllowed) -> CToken
 }
 
 /// Returns zeros, which are not a token.
-fn no_token() -> CToken
+pub(crate) fn no_token() -> CToken
     ensures { result ≡ spec.no_token }
 {
     CToken {

@@ -140,7 +140,7 @@ pub(crate) fn edition_of(year: u32) -> Option<Edition>
 }
 
 /// Returns what the edit changed.
-fn change_of(edit: &CEdit) -> Change
+pub(crate) fn change_of(edit: &CEdit) -> Change
     ensures { result ≡ spec.change_of edit.now }
 {
     Change {

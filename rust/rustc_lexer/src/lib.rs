@@ -18,7 +18,7 @@
 //! | many tokens at once, which is faster | [`Tokens::fill`], `Tokens::into_vec` |
 //! | to take tokens one by one, and look ahead | [`Cursor`] |
 //! | a text that is edited, always with its tokens | [`LexedText`], and [`LexedDocument`] for a whole file |
-//! | the same over lists of your own | [`Relexing`] |
+//! | the same over lists of your own | [`Relexing`], with [`Head`] for a whole file |
 //! | a text that is still coming | [`settled`] |
 //! | to test what would panic | [`fits`], [`starts_raw`] |
 //!
@@ -28,7 +28,8 @@
 //! contracts. Of that source it is proved, for every text, that these are the only tokens which a grammar of the
 //! language allows. The rest of this crate is written by hand. The calls of the original and those of [`LexedText`] and
 //! [`LexedDocument`] test what those contracts ask of a caller, and give what takes memory the forms of plain Rust.
-//! [`Relexing`] and a [`Stepper`] test nothing: lists that are not those of the old text give wrong tokens or a panic.
+//! [`Relexing`], a [`Head`] and a [`Stepper`] test nothing: lists or a head that are not those of the old text give wrong
+//! answers or a panic.
 //! The repository's `docs/ERASED.md` says what is claimed and what is trusted.
 //!
 //! # A program that keeps the tokens of a file
@@ -143,6 +144,22 @@ pub use erased::Record;
 /// ```
 #[doc(inline)]
 pub use erased::Relexing;
+/// The body of a document, which [`Relexing`] lexes again by that change:
+///
+/// ```
+/// use rustc_lexer::{Change, Head};
+///
+/// let (old, new) = ("#!/bin/sh\nlet a;", "#!/bin/sh\nlet ab;");
+/// // A `b` was put in at 15.
+/// let change = Change { start: 15, old_stop: 15, new_stop: 16 };
+/// let (head, now) = (Head::find(old), Head::find(new));
+/// let body = head.change_to(now, change);
+/// assert!(body.keeps_head);
+/// assert_eq!(&new[now.end..], "\nlet ab;");
+/// assert_eq!(body.change, Change { start: 6, old_stop: 6, new_stop: 7 });
+/// ```
+#[doc(inline)]
+pub use erased::Head;
 /// A grammar whose tokens are single characters:
 ///
 /// ```
@@ -171,7 +188,7 @@ pub use erased::Stepper;
 pub use erased::TokenKind;
 #[doc(inline)]
 pub use erased::{
-    Base, Bound, Change, DocStyle, FrontmatterAllowed, GuardedStr, Measured, RawStrError, Relexed,
+    Base, BodyChange, Bound, Change, DocStyle, FrontmatterAllowed, GuardedStr, Measured, RawStrError, Relexed,
     Steps, Token, UnknownEdition,
 };
 #[cfg(feature = "alloc")]

@@ -1,8 +1,9 @@
 //! A whole document that is kept with its tokens, against lexing it from scratch.
 
 use rustc_lexer::{
-    Edit, EditStop, Edition, FrontmatterAllowed, LexedDocument, LexedText, Relexed, Stepper, Steps,
-    Token, TokenKind, strip_shebang, tokenize_as, tokenize_document,
+    Bound, Change, Edit, EditStop, Edition, FrontmatterAllowed, Head, LexedDocument, LexedText,
+    Relexed, Relexing, Stepper, Steps, Token, TokenKind, strip_shebang, tokenize_as,
+    tokenize_document,
 };
 use std::ops::Range;
 
@@ -308,4 +309,54 @@ fn an_edit_inside_a_character() {
 #[should_panic(expected = "are not there")]
 fn pieces_past_the_last() {
     let _ = LexedDocument::new("#!a\nb").pieces_of(1..3);
+}
+
+/// The tokens of a head.
+fn tokens_of(head: Head) -> Vec<Token> {
+    let kind = TokenKind::Whitespace;
+    let space = Token { kind, len: head.space };
+    let space = (head.space > 0).then_some(space);
+    space.into_iter().chain(head.front).collect()
+}
+
+/// On lists of one's own, an edit of the body gives the tokens and the counts of a `LexedDocument`.
+#[test]
+fn lists_of_the_caller() {
+    let mut random = Random(55);
+    for _ in 0..20_000 {
+        let old = random.document();
+        let (range, insert) = (random.range(&old), random.text(3));
+        let mut held = LexedDocument::new(&old);
+        let tokens = held.tokens().to_vec();
+        let counts = held.edit(range.clone(), &insert);
+        let (head, now) = (Head::find(&old), Head::find(held.text()));
+        assert_eq!((now.shebang, now.end), (held.shebang_len(), held.body().place));
+        let edit = Change {
+            start: range.start,
+            old_stop: range.end,
+            new_stop: range.start + insert.len(),
+        };
+        let of_body = head.change_to(now, edit);
+        let (body, old_body) = (&held.text()[now.end..], &tokens[head.count()..]);
+        let (change, first) = (of_body.change, Bound { number: 0, place: 0 });
+        assert!(change.may_make(body));
+        let mut steps = Steps::new();
+        let mut relexing = Relexing::begin(body, old_body, change, first);
+        let mut made = tokens_of(now);
+        let kept = made.len() + relexing.front.number;
+        made.extend(&old_body[..relexing.front.number]);
+        while let Some(token) = relexing.next(&mut steps, body, old_body, change) {
+            made.push(token);
+        }
+        let mut wanted = relexing.counts(old_body.len());
+        assert_eq!(made.len(), kept + wanted.lexed);
+        made.extend(&old_body[old_body.len() - wanted.kept_back..]);
+        assert_eq!(made, held.tokens(), "{range:?} of {old:?} is {insert:?}");
+        if of_body.keeps_head {
+            wanted.kept_front += head.count();
+        } else {
+            wanted.lexed += now.count();
+        }
+        assert_eq!(counts, wanted, "{range:?} of {old:?} is {insert:?}");
+    }
 }

@@ -2,6 +2,7 @@
 
 use crate::erased::batch::CPlace;
 use crate::erased::escapes::CUnit;
+use crate::erased::head::CHead;
 use crate::erased::raw_str::{CGuardedStr, CRawStrError};
 use crate::erased::relex::{CEdit, CRelexing};
 use crate::erased::token::CToken;
@@ -76,6 +77,14 @@ calls! {
         fn rustc_lexer_relex_unchecked(
             text: &[u8], old: &[CToken], edit: &CEdit, edition: u32, relexing: &mut CRelexing, buffer: &mut [CToken],
             count: &mut usize
+        ) -> u32;
+    }
+    head {
+        fn rustc_lexer_body_edit(
+            text: &[u8], edit: &CEdit, head: &mut CHead, body_edit: &mut CEdit, head_kept: &mut u32
+        ) -> u32;
+        fn rustc_lexer_body_edit_unchecked(
+            text: &[u8], edit: &CEdit, head: &mut CHead, body_edit: &mut CEdit, head_kept: &mut u32
         ) -> u32;
     }
     places {

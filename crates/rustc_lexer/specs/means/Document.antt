@@ -6,6 +6,7 @@ use Rattle.rustc_lexer.specs.declared.relex.relexing.{Change.Change, Relexed.Rel
 use Rattle.rustc_lexer.specs.{Token, Whitespace}
 use Rattle.rustc_lexer.specs.Classes.{IsText}
 use Rattle.rustc_lexer.specs.Document.{shebang_len}
+pub use Rattle.rustc_lexer.specs.Head.{body_change, counted, front_change, front_tokens, moved, tokens_of_head, unlike_past}
 use Rattle.rustc_lexer.specs.Edits.{apply, IsRelexed}
 use Rattle.rustc_lexer.specs.Partition.{tokens_by}
 use Rattle.rustc_lexer.specs.means.Checkpoints.{AreBounds}
@@ -34,15 +35,9 @@ abbrev pub head_by : Bool → List ℕ → Head
 head_by true = head_of
 head_by false = λ text. record { shebang = 0; space = 0; front = None; end = 0 }
 
--- a frontmatter, and white space before it
-abbrev pub front_tokens : ℕ → Option Token → List Token
-front_tokens space None = []
-front_tokens zero (Some front) = front ∷ []
-front_tokens (suc n) (Some front) = record { kind = Whitespace; len = suc n } ∷ front ∷ []
-
--- the tokens of a head
-abbrev pub tokens_of_head : Head → List Token
-tokens_of_head head = front_tokens head.space head.front
+-- what follows the head of a text
+abbrev pub body_of : List ℕ → List ℕ
+body_of text = drop (head_of text).end text
 
 -- the tokens of a text, by what its head is: those of the head, and of what follows it
 abbrev pub document_by : (List ℕ → Head) → (List ℕ → Token) → List ℕ → List Token
@@ -54,32 +49,9 @@ AreKeptOf whole first text tokens head checkpoints =
     IsText text × (tokens ≡ document_by (head_by whole) first text) × (head ≡ head_by whole text) × IsCharBoundary text head.end
     × AreBounds (drop (length (tokens_of_head head)) tokens) checkpoints
 
--- ---- what an edit changes of the body, which began at `from` and now begins at `to`
-
--- how far past the edit the two bodies differ
-abbrev pub unlike_past : Change → ℕ → ℕ → ℕ
-unlike_past edit from to = max (from - edit.old_stop) (to - edit.new_stop)
-
--- where the head stays, the edit, by places of the body
-abbrev pub moved : ℕ → Change → Change
-moved from edit = record { start = edit.start - from; old_stop = edit.old_stop - from; new_stop = edit.new_stop - from }
-
--- where it does not, all up to where the bodies are alike
-abbrev pub front_change : ℕ → ℕ → Change → Change
-front_change from to edit = record { start = 0; old_stop = edit.old_stop + unlike_past edit from to - from; new_stop = edit.new_stop + unlike_past edit from to - to }
-
--- either of them
-abbrev pub body_change : Bool → ℕ → ℕ → Change → Change
-body_change kept from to edit = if kept then moved from edit else front_change from to edit
-
--- what it puts in
+-- what an edit puts into the body
 abbrev pub body_insert : Bool → Change → List ℕ → List ℕ → List ℕ
 body_insert kept change insert body = if kept then insert else take change.new_stop body
-
--- the counts of all tokens, by those of the body
-abbrev pub counted : Bool → ℕ → ℕ → Relexed → Relexed
-counted true old new r = record { kept_front = old + r.kept_front; lexed = r.lexed; kept_back = r.kept_back }
-counted false old new r = record { kept_front = r.kept_front; lexed = new + r.lexed; kept_back = r.kept_back }
 
 -- the head is the same after the edit, and ends before it
 abbrev pub HeadStays : (List ℕ → Head) → List ℕ → ℕ → ℕ → List ℕ → Type 0

@@ -2,7 +2,7 @@
 ghost use Rattle.std.specs.Prelude.{◌≡◌, ◌↔◌, ◌++◌, OnOk, IsTrue, length};
 ghost use Rattle.std.specs.Str.{IsCharBoundary};
 ghost use Rattle.rustc_lexer.specs.Classes.{Fits};
-ghost use Rattle.rustc_lexer.specs.Document as spec;
+ghost use Rattle.rustc_lexer.specs.Head as spec;
 ghost use Rattle.rustc_lexer.specs.means.Document as means;
 
 use crate::frontmatter::frontmatter;
@@ -12,8 +12,11 @@ use crate::token::{Token, TokenKind};
 use std::alloc::AllocError;
 
 /// The head of a document, which is the part before its body: a shebang line and a frontmatter.
-#[derive(Clone, Copy)]
-pub(crate) struct Head {
+///
+/// It is for a program that keeps the tokens of a whole document in lists of its own. [`Head::change_to`] returns what
+/// an edit of the document changes in its body, and [`Relexing`](crate::Relexing) lexes that again.
+#[derive(Clone, Copy, Debug, PartialEq, Eq)]
+pub struct Head {
     /// The length of the shebang line in bytes, or 0.
     pub shebang: usize,
     /// The length in bytes of the white space before the frontmatter if that is a token of its own, or 0.
@@ -42,6 +45,15 @@ pub(crate) fn find_head(whole: bool, text: &str) -> Head
 }
 
 impl Head {
+    /// Returns the head of a document.
+    pub fn find(text: &str) -> Head
+        requires fits { Fits text.now }
+        ensures head { spec.IsHeadOf text.now result }
+        ensures boundary { IsCharBoundary text.now result.end }
+    {
+        Head::of(text)
+    }
+
     /// Finds the head of a document.
     pub(crate) fn of(text: &str) -> Head
         requires fits { Fits text.now }
@@ -79,8 +91,8 @@ impl Head {
     }
 
     /// Returns how many tokens the head has.
-    pub(crate) fn count(self) -> usize
-        ensures { result ≡ length (means.tokens_of_head self) }
+    pub fn count(self) -> usize
+        ensures { result ≡ length (spec.tokens_of_head self) }
     {
         match self.front {
             None => 0,
@@ -90,7 +102,7 @@ impl Head {
 
     /// Appends the tokens of the head.
     pub(crate) fn push_to(self, list: &mut Vec<Token>) -> Result<(), AllocError>
-        ensures { OnOk result (list.new.items ≡ list.old.items ++ means.tokens_of_head self) }
+        ensures { OnOk result (list.new.items ≡ list.old.items ++ spec.tokens_of_head self) }
     {
         if let Some(front) = self.front {
             if self.space > 0 {

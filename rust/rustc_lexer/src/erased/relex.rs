@@ -1,4 +1,5 @@
 //! Texts that are kept with their tokens, and edits of them.
+mod body_change;
 mod checkpoints;
 mod document_edit;
 mod edit;
@@ -14,9 +15,11 @@ mod relexing;
 mod replace;
 mod settle;
 
+pub use body_change::BodyChange;
 pub use edit::Edit;
 pub use edit_list::EditStop;
 pub use front::{Bound, Measured};
+pub use head::Head;
 pub use lexed_document::LexedDocument;
 pub use lexed_text::LexedText;
 pub use pieces::{Piece, Pieces};

@@ -67,7 +67,7 @@ fn first_token(text: &str, allowed: FrontmatterAllowed) -> CToken {
 }
 
 /// Returns zeros, which are not a token.
-fn no_token() -> CToken {
+pub(crate) fn no_token() -> CToken {
     CToken {
         kind: 0,
         first: 0,

@@ -110,7 +110,7 @@ pub(crate) fn edition_of(year: u32) -> Option<Edition> {
 }
 
 /// Returns what the edit changed.
-fn change_of(edit: &CEdit) -> Change {
+pub(crate) fn change_of(edit: &CEdit) -> Change {
     Change {
         start: edit.start as usize,
         old_stop: edit.old_stop as usize,

@@ -8,8 +8,11 @@ use crate::erased::token::{Token, TokenKind};
 use crate::support::AllocError;
 
 /// The head of a document, which is the part before its body: a shebang line and a frontmatter.
-#[derive(Clone, Copy)]
-pub(crate) struct Head {
+///
+/// It is for a program that keeps the tokens of a whole document in lists of its own. [`Head::change_to`] returns what
+/// an edit of the document changes in its body, and [`Relexing`](crate::Relexing) lexes that again.
+#[derive(Clone, Copy, Debug, PartialEq, Eq)]
+pub struct Head {
     /// The length of the shebang line in bytes, or 0.
     pub shebang: usize,
     /// The length in bytes of the white space before the frontmatter if that is a token of its own, or 0.
@@ -34,6 +37,11 @@ pub(crate) fn find_head(whole: bool, text: &str) -> Head {
 }
 
 impl Head {
+    /// Returns the head of a document.
+    pub fn find(text: &str) -> Head {
+        Head::of(text)
+    }
+
     /// Finds the head of a document.
     pub(crate) fn of(text: &str) -> Head {
         let shebang = shebang_len(text);
@@ -67,7 +75,7 @@ impl Head {
     }
 
     /// Returns how many tokens the head has.
-    pub(crate) fn count(self) -> usize {
+    pub fn count(self) -> usize {
         match self.front {
             None => 0,
             Some(_) => {

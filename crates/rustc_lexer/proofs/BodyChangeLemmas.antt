@@ -1,0 +1,101 @@
+-- What an edit of a document is to its body, by the tokens of the page.
+use Rattle.std.proofs.Common.{◌≡◌, ℕ, ◌+◌, ◌≤◌, Bool, true, false, List, length, map, drop, refl, sym, ap, ap₂, ◌∙◌, subst, arith, IsCharBoundary, IsUtf8, IsTrue, ◌↔◌}
+use Rattle.rustc_lexer.specs.{Token}
+use Rattle.rustc_lexer.specs.declared.relex.head.Head.{Head}
+use Rattle.rustc_lexer.specs.declared.relex.relexing.{Change.Change, Relexed.Relexed}
+use Rattle.rustc_lexer.specs.Classes.{IsText}
+use Rattle.rustc_lexer.specs.Document.{body_start, head_tokens, IsRelexedDocument, KeepsHead}
+use Rattle.rustc_lexer.specs.Edits.{apply, IsEdit, IsRelexed}
+use Rattle.rustc_lexer.specs.Head.{body_change, counted, IsBodyChange, IsEditOf, IsHeadOf}
+use Rattle.rustc_lexer.specs.Locality.{IsGrammar}
+use Rattle.rustc_lexer.specs.Relexing.{IsMadeOf}
+use Rattle.rustc_lexer.specs.Tokens.{tokens_by}
+use Rattle.rustc_lexer.specs.means.Document.{body_insert, head_of, HeadStays, IsRelexedWith}
+use Rattle.rustc_lexer.proofs.DocumentLemmas.{made_body}
+use Rattle.rustc_lexer.proofs.DocumentPage.{ahead, by_head, end_is, from_page, front_is, relexed_page, same-parts, to_page}
+use Rattle.rustc_lexer.proofs.EditLemmas.{edited}
+use Rattle.rustc_lexer.proofs.HeadLemmas.{head-shebang}
+
+module _ (text : List ℕ) (is : IsText text) where
+  pub is_head : IsHeadOf text (head_of text)
+  is_head = record { shebang_is = head-shebang text; tokens_are = front_is text is; bare = (ahead text is).bare; end_is = end_is text is }
+
+  -- there is no other head
+  pub head_is : (head : Head) → IsHeadOf text head → head ≡ head_of text
+  head_is head h =
+      let parts = same-parts head.space (head_of text).space head.front (head_of text).front h.bare (ahead text is).bare (h.tokens_are ∙ sym (front_is text is)) in
+      let start : head.shebang ≡ (head_of text).shebang = h.shebang_is ∙ sym (head-shebang text) in
+      let end : head.end ≡ (head_of text).end = h.end_is ∙ sym (end_is text is) in
+      λ i. record { shebang = start i; space = parts.0 i; front = parts.1 i; end = end i }
+
+module _ {first : List ℕ → Token} (law : IsGrammar first) (text insert : List ℕ) (edit : Change) (is : IsText text) (its : IsUtf8 insert) (fine : IsEdit text edit.start edit.old_stop insert) (sum : edit.new_stop ≡ edit.start + length insert) where
+  abbrev made : List ℕ
+  made = apply text edit.start edit.old_stop insert
+
+  now_is : IsText made
+  now_is = (edited text edit.start edit.old_stop insert is its fine).text_is
+
+  abbrev whole : Change
+  whole = record { start = edit.start; old_stop = edit.old_stop; new_stop = edit.start + length insert }
+
+  whole_is : edit ≡ whole
+  whole_is = ap (λ (p : ℕ). let ch : Change = record { start = edit.start; old_stop = edit.old_stop; new_stop = p } in ch) sum
+
+  module _ (old now : Head) (kept : Bool) (change : Change) (old_head : IsHeadOf text old) (now_head : IsHeadOf made now) (told : IsTrue kept ↔ ((old ≡ now) × (old.end ≤ edit.start))) (change_is : change ≡ body_change kept old.end now.end edit) where
+    here : change ≡ body_change kept (body_start text) (body_start made) whole
+    here = change_is ∙ (ap₂ (λ from to. body_change kept from to edit) old_head.end_is now_head.end_is ∙ ap (body_change kept (body_start text) (body_start made)) whole_is)
+
+    stays : kept ≡ true → HeadStays text edit.start edit.old_stop insert
+    stays e = (sym (head_is text is old old_head) ∙ ((told.0 e).0 ∙ head_is made now_is now now_head), (let p = (told.0 e).1 in omega (arith, p, ap (λ (h : Head). h.end) (head_is text is old old_head))))
+
+    stayed : HeadStays text edit.start edit.old_stop insert → kept ≡ true
+    stayed k = told.1 (head_is text is old old_head ∙ (k.0 ∙ sym (head_is made now_is now now_head)), (let p = k.1 in omega (arith, p, ap (λ (h : Head). h.end) (head_is text is old old_head))))
+
+    not_stayed : (HeadStays text edit.start edit.old_stop insert → ⊥) → kept ≡ false
+    not_stayed none = by_kept kept refl
+      where
+        by_kept : (k : Bool) → kept ≡ k → kept ≡ false
+        by_kept true e = absurd (none (stays e))
+        by_kept false e = e
+
+    abbrev body : List ℕ
+    body = drop (body_start text) text
+
+    abbrev new_body : List ℕ
+    new_body = drop (body_start made) made
+
+    ends_at : kept ≡ true → (body_start text ≡ body_start made) × (body_start text ≤ edit.start)
+    ends_at e = (sym old_head.end_is ∙ (ap (λ (h : Head). h.end) (told.0 e).0 ∙ now_head.end_is), (let p = (told.0 e).1 in omega (arith, p, old_head.end_is)))
+
+    made_here : IsMadeOf first body (map (λ (t : Token). t.len) (tokens_by first body)) change (body_insert kept change insert new_body) new_body
+    made_here =
+        let old_at = subst (λ n. IsCharBoundary text n) (end_is text is) (ahead text is).boundary in
+        let now_at = subst (λ n. IsCharBoundary made n) (end_is made now_is) (ahead made now_is).boundary in
+        subst (λ (ch : Change). IsMadeOf first body (map (λ (t : Token). t.len) (tokens_by first body)) ch (body_insert kept ch insert new_body) new_body) (sym here)
+        (made_body law text insert made edit.start edit.old_stop is its fine refl (body_start text) (body_start made) old_at now_at (tokens_by first body) refl new_body refl kept ends_at)
+
+    counts_here : (r : Relexed) → IsRelexed first body change.start change.old_stop (body_insert kept change insert new_body) r
+        → IsRelexedDocument first text edit.start edit.old_stop insert (counted kept (length (head_tokens text)) (length (head_tokens made)) r)
+    counts_here r x =
+        let all : Relexed = counted kept (length (head_tokens text)) (length (head_tokens made)) r in
+        let there = subst (λ (ch : Change). IsRelexed first body ch.start ch.old_stop (body_insert kept ch insert new_body) r) here x in
+        let with : IsRelexedWith kept first text edit.start edit.old_stop insert all = by_head first text insert edit.start edit.old_stop is now_is kept all (r, there, refl) in
+        relexed_page first text insert edit.start edit.old_stop is now_is record {
+          kept = λ k. subst (λ (t : Bool). IsRelexedWith t first text edit.start edit.old_stop insert all) (stayed k) with;
+          changed = λ none. subst (λ (t : Bool). IsRelexedWith t first text edit.start edit.old_stop insert all) (not_stayed none) with;
+        }
+
+    body_here : IsBodyChange first text edit insert made kept change
+    body_here = record {
+      keeps = (λ k. to_page first text insert edit.start edit.old_stop is now_is (stays k), λ s. stayed (from_page first text insert edit.start edit.old_stop is now_is s));
+      put = body_insert kept change insert new_body;
+      made_of = made_here;
+      counts = counts_here;
+    }
+
+pub body_is : {first : List ℕ → Token} (law : IsGrammar first) (before insert text : List ℕ) (edit : Change) (old now : Head) (kept : Bool) (change : Change) → IsEditOf before edit insert text → IsHeadOf before old → IsHeadOf text now
+    → IsTrue kept ↔ ((old ≡ now) × (old.end ≤ edit.start)) → change ≡ body_change kept old.end now.end edit → IsBodyChange first before edit insert text kept change
+body_is {first} law before insert text edit old now kept change e old_head now_head told change_is =
+    let there : IsHeadOf (apply before edit.start edit.old_stop insert) now = subst (λ (bytes : List ℕ). IsHeadOf bytes now) e.made now_head in
+    subst (λ (bytes : List ℕ). IsBodyChange first before edit insert bytes kept change) (sym e.made)
+    (body_here law before insert edit e.is_text e.inserted e.is_edit e.new_stop old now kept change old_head there told change_is)

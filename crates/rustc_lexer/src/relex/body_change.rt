@@ -1,0 +1,47 @@
+//! What an edit of a document changes in its body.
+ghost use Rattle.std.specs.Prelude.{◌≡◌, ◌<◌, ◌≤◌, ◌^◌, ◌↔◌, IsTrue, List, ℕ};
+ghost use Rattle.rustc_lexer.specs.{Token};
+ghost use Rattle.rustc_lexer.specs.Head as spec;
+ghost use Rattle.rustc_lexer.specs.Head.{IsBodyChange, IsEditOf, IsHeadOf};
+ghost use Rattle.rustc_lexer.specs.Locality.{IsGrammar};
+
+use crate::relex::document_edit::{body_change, keeps_head};
+use crate::relex::head::Head;
+use crate::relex::relexing::Change;
+
+/// What an edit of a document changes in its body.
+#[derive(Clone, Copy, Debug, PartialEq, Eq)]
+pub struct BodyChange {
+    /// Whether the edit keeps the head: whether it is behind the head, and the head is the same after it.
+    pub keeps_head: bool,
+    /// What it changes in the body, by places from where the body begins.
+    pub change: Change,
+}
+
+impl Head {
+    /// Returns what an edit changes in the body. `self` is the head of the text before the edit, and `now` is the head
+    /// of the present text.
+    ///
+    /// If the head stays, the change is the edit itself. Otherwise it is everything from the start of the body up to
+    /// where both texts are the same and both bodies have begun. Then no token of the body is kept before it.
+    pub fn change_to(self, now: Head, edit: Change) -> BodyChange
+        requires old_order { edit.start ≤ edit.old_stop }
+        requires new_order { edit.start ≤ edit.new_stop }
+        requires old_stop { edit.old_stop < 2 ^ 32 }
+        requires new_stop { edit.new_stop < 2 ^ 32 }
+        requires from { self.end < 2 ^ 32 }
+        requires to { now.end < 2 ^ 32 }
+        ensures keeps { IsTrue result.keeps_head ↔ (self ≡ now) × (self.end ≤ edit.start) }
+        ensures change { result.change ≡ spec.body_change result.keeps_head self.end now.end edit }
+        ensures body { (first : List ℕ → Token) (before insert text : List ℕ)
+            → IsGrammar first → IsEditOf before edit insert text
+            → IsHeadOf before self → IsHeadOf text now
+            → IsBodyChange first before edit insert text result.keeps_head result.change }
+    {
+        let keeps_head = keeps_head(self, now, edit.start);
+        BodyChange {
+            keeps_head,
+            change: body_change(keeps_head, self.end, now.end, edit),
+        }
+    }
+}

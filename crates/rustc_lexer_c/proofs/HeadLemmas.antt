@@ -1,0 +1,112 @@
+-- The head of a document as numbers, and back.
+use Rattle.std.proofs.Common.{◌≡◌, ◌≢◌, ℕ, zero, suc, ◌<◌, ◌≤◌, ◌^◌, Bool, true, false, not, true≢false, List, length, map, drop, nat_eq, refl, sym, ap, ap₂, ◌∙◌, subst, arith, Option, Some, None}
+use Rattle.rustc_lexer.specs.declared.relex.head.Head.{Head}
+use Rattle.rustc_lexer.specs.declared.edition.Edition.TheVariants.{E2024}
+use Rattle.rustc_lexer.specs.declared.relex.relexing.Change.{Change}
+use Rattle.rustc_lexer.specs.declared.token.Token.{Token}
+use Rattle.rustc_lexer.specs.declared.token.TokenKind.{TokenKind}
+use Rattle.rustc_lexer.specs.declared.token.TokenKind.TheVariants.{Frontmatter}
+use Rattle.rustc_lexer.specs.Answers.{first_in}
+use Rattle.rustc_lexer.specs.Classes.{IsText}
+use Rattle.rustc_lexer.specs.Document.{is_frontmatter}
+use Rattle.rustc_lexer.specs.Head.{IsBodyChange, IsEditOf, IsHeadOf}
+use Rattle.rustc_lexer.specs.Locality.{IsGrammar}
+use Rattle.rustc_lexer.specs.Relexing.{IsChange, IsMadeOf}
+use Rattle.rustc_lexer.specs.Tokens.{tokens_by}
+use Rattle.rustc_lexer.specs.laws.Edition.{edition_grammar}
+use Rattle.rustc_lexer.proofs.BodyChangeLemmas.{head_is, is_head}
+use Rattle.rustc_lexer.proofs.DocumentHead.{front_of}
+use Rattle.rustc_lexer.proofs.RelexingLemmas.{made_change}
+use Rattle.rustc_lexer_c.specs.declared.head.CHead.{CHead}
+use Rattle.rustc_lexer_c.specs.declared.relex.CEdit.{CEdit}
+use Rattle.rustc_lexer_c.specs.Head.{FindsHead, frontmatter_of, head_numbers, head_of, numbers_of_head, two_of}
+use Rattle.rustc_lexer_c.specs.Numbers.{bool_number, token_numbers}
+use Rattle.rustc_lexer_c.specs.Relex.{change_of}
+
+bool-back : (b : Bool) → not (nat_eq (bool_number b) 0) ≡ b
+bool-back true = refl
+bool-back false = refl
+
+kind-back : (kind : TokenKind) (len : ℕ) → is_frontmatter kind ≡ true → frontmatter_of (token_numbers (record { kind = kind; len = len })) ≡ record { kind = kind; len = len }
+unfolding token_numbers
+kind-back (Frontmatter a b) len is = ap₂ (λ (x y : Bool). let t : Token = record { kind = Frontmatter x y; len = len } in t) (bool-back a) (bool-back b)
+kind-back kind len is = absurd (true≢false (sym is))
+
+-- the numbers of a frontmatter tell it, and so those of a head
+back_with : (n end space : ℕ) (front : Option Token) → (front ≡ None → space ≡ 0) → ((t : Token) → front ≡ Some t → is_frontmatter t.kind ≡ true)
+    → head_of (numbers_of_head (record { shebang = n; space = space; front = front; end = end })) ≡ record { shebang = n; space = space; front = front; end = end }
+unfolding token_numbers
+back_with n end space None bare is = rw (bare refl) refl
+back_with n end zero (Some t) bare is = ap (λ (f : Token). let h : Head = record { shebang = n; space = 0; front = Some f; end = end } in h) (kind-back t.kind t.len (is t refl))
+back_with n end (suc m) (Some t) bare is = ap (λ (f : Token). let h : Head = record { shebang = n; space = suc m; front = Some f; end = end } in h) (kind-back t.kind t.len (is t refl))
+
+module _ (text : List ℕ) (is : IsText text) where
+  -- a head of the text has the numbers of the text
+  pub numbers_are : (head : Head) → IsHeadOf text head → numbers_of_head head ≡ head_numbers text
+  numbers_are head h = λ i. record { shebang_len = h.shebang_is i; body = h.end_is i; count = ap (λ (ts : List Token). length ts) h.tokens_are i; tokens = ap two_of h.tokens_are i }
+
+  -- the numbers of a text tell its head
+  pub head_back : IsHeadOf text (head_of (head_numbers text))
+  head_back =
+      let head = is_head text is in
+      let back = back_with _ _ _ _ head.bare (front_of text).is_one in
+      subst (IsHeadOf text) (sym (ap head_of (sym (numbers_are _ head)) ∙ back)) head
+
+-- ---- an edit of the body
+
+abbrev first : List ℕ → Token
+first = first_in E2024
+
+-- an edit that made the text is one that may have made it
+made_fine : (before insert text : List ℕ) (edit : Change) → IsEditOf before edit insert text → IsChange text edit
+made_fine before insert text edit e =
+    let made : IsMadeOf first before (map (λ (t : Token). t.len) (tokens_by first before)) edit insert text = record { is_text = e.is_text; lengths_are = refl; edit = e.is_edit; inserted = e.inserted; made = e.made; new_stop = e.new_stop } in
+    made_change (edition_grammar E2024) before _ insert text edit made
+
+-- what `change_to` promises of each text before
+abbrev pub Changes : CHead → CEdit → Head → Bool → Change → Type 0
+Changes c edit now keeps change = (first : List ℕ → Token) (before insert text : List ℕ) → IsGrammar first → IsEditOf before (change_of edit) insert text → IsHeadOf before (head_of c) → IsHeadOf text now → IsBodyChange first before (change_of edit) insert text keeps change
+
+module _ (text : List ℕ) (is : IsText text) (edit : CEdit) (c : CHead) (body : CEdit) (kept : ℕ) where
+  -- the old numbers tell the old head
+  of_old : (before insert : List ℕ) → IsEditOf before (change_of edit) insert text → c ≡ head_numbers before → IsHeadOf before (head_of c)
+  of_old before insert e same = subst (λ (n : CHead). IsHeadOf before (head_of n)) (sym same) (head_back before e.is_text)
+
+  refused_with : ((before insert : List ℕ) → IsEditOf before (change_of edit) insert text → c ≡ head_numbers before → ⊥) → FindsHead text edit c c body body kept kept 6
+  refused_with none = record {
+    status_is = record {
+      ok = λ _ before insert e same. absurd (none before insert e same);
+      not_utf8 = λ _ not. absurd (not is.utf8);
+      too_long = λ long. absurd (let f = is.fits in omega (arith, long, f));
+      bad_edit = λ _ _. refl;
+      no_other = λ _ _. refl;
+    };
+    head = λ z. absurd (let e : 6 ≡ 0 = z in omega (arith, e));
+    may_relex = λ z. absurd (let e : 6 ≡ 0 = z in omega (arith, e));
+    change = λ z. absurd (let e : 6 ≡ 0 = z in omega (arith, e));
+    refused = λ _. (refl, refl, refl);
+  }
+
+  pub refused_edit : ¬ (IsChange text (change_of edit)) → FindsHead text edit c c body body kept kept 6
+  refused_edit not = refused_with (λ before insert e same. not (made_fine before insert text (change_of edit) e))
+
+  module _ (now : Head) (keeps : Bool) (change : Change) (is_now : IsHeadOf text now) (all : Changes c edit now keeps change) where
+    pub refused_body : ¬ (IsChange (drop now.end text) change) → FindsHead text edit c c body body kept kept 6
+    refused_body not = refused_with (λ before insert e same.
+        let b = all first before insert text (edition_grammar E2024) e (of_old before insert e same) is_now in
+        not (subst (λ (n : ℕ). IsChange (drop n text) change) (sym is_now.end_is) (made_change (edition_grammar E2024) _ _ _ _ change b.made_of)))
+
+    pub found : IsChange text (change_of edit) → IsChange (drop now.end text) change → FindsHead text edit c (numbers_of_head now) body (record { start = change.start; old_stop = change.old_stop; new_stop = change.new_stop }) kept (bool_number keeps) 0
+    found fine may = record {
+      status_is = record {
+        ok = λ _ _ _ _ _. refl;
+        not_utf8 = λ _ not. absurd (not is.utf8);
+        too_long = λ long. absurd (let f = is.fits in omega (arith, long, f));
+        bad_edit = λ _ not. absurd (not fine);
+        no_other = λ _ not. absurd (not refl);
+      };
+      head = λ _. numbers_are text is now is_now;
+      may_relex = λ _. subst (λ (n : ℕ). IsChange (drop n text) change) is_now.end_is may;
+      change = λ _ grammar before insert law e same. (keeps, refl, all grammar before insert text law e (of_old before insert e same) is_now);
+      refused = λ not. absurd (not refl);
+    }

@@ -1,0 +1,63 @@
+-- The head of a document from C, and what an edit of the document is to its body.
+use Rattle.std.specs.Prelude.{ℕ, zero, suc, ◌≡◌, ◌≢◌, ◌<◌, ◌≤◌, ◌^◌, Bool, not, nat_eq, List, [], ◌∷◌, length, drop, get_or, Option, Some, None}
+use Rattle.std.specs.Str.{IsUtf8}
+use Rattle.rustc_lexer.specs.declared.relex.head.Head.{Head}
+use Rattle.rustc_lexer.specs.declared.token.Token.{Token}
+use Rattle.rustc_lexer.specs.declared.token.TokenKind.TheVariants.{Frontmatter}
+use Rattle.rustc_lexer.specs.Classes.{IsText}
+use Rattle.rustc_lexer.specs.Document.{body_start, head_tokens, shebang_len}
+use Rattle.rustc_lexer.specs.Head.{IsBodyChange, IsEditOf, tokens_of_head}
+use Rattle.rustc_lexer.specs.Locality.{IsGrammar}
+use Rattle.rustc_lexer.specs.Relexing.{IsChange}
+use Rattle.rustc_lexer_c.specs.declared.head.CHead.{CHead}
+use Rattle.rustc_lexer_c.specs.declared.relex.CEdit.{CEdit}
+use Rattle.rustc_lexer_c.specs.declared.token.CToken.{CToken}
+use Rattle.rustc_lexer_c.specs.Batch.{no_token}
+use Rattle.rustc_lexer_c.specs.Numbers.{bool_number, token_numbers}
+use Rattle.rustc_lexer_c.specs.Relex.{change_of}
+
+-- at most two tokens as numbers, and zeros behind them
+abbrev pub two_of : List Token → List CToken
+two_of [] = no_token ∷ no_token ∷ []
+two_of (a ∷ []) = token_numbers a ∷ no_token ∷ []
+two_of (a ∷ b ∷ more) = token_numbers a ∷ token_numbers b ∷ []
+
+-- the head of a text as numbers
+abbrev pub head_numbers : List ℕ → CHead
+head_numbers text = record { shebang_len = shebang_len text; body = body_start text; count = length (head_tokens text); tokens = two_of (head_tokens text) }
+
+-- a head as numbers
+abbrev pub numbers_of_head : Head → CHead
+numbers_of_head head = record { shebang_len = head.shebang; body = head.end; count = length (tokens_of_head head); tokens = two_of (tokens_of_head head) }
+
+-- the frontmatter that numbers tell
+abbrev pub frontmatter_of : CToken → Token
+frontmatter_of c = record { kind = Frontmatter (not (nat_eq c.first 0)) (not (nat_eq c.second 0)); len = c.len }
+
+-- the head that numbers tell
+abbrev pub head_with : ℕ → ℕ → ℕ → CToken → CToken → Head
+head_with shebang end zero a b = record { shebang = shebang; space = 0; front = None; end = end }
+head_with shebang end (suc zero) a b = record { shebang = shebang; space = 0; front = Some (frontmatter_of a); end = end }
+head_with shebang end (suc (suc n)) a b = record { shebang = shebang; space = a.len; front = Some (frontmatter_of b); end = end }
+
+abbrev pub head_of : CHead → Head
+head_of c = head_with c.shebang_len c.body c.count (get_or c.tokens 0 no_token) (get_or c.tokens 1 no_token)
+
+-- the status of a call that is told an edit of a document and the old head. An edit that made the text is not refused
+pub record IsHeadStatus (bytes : List ℕ) (edit : CEdit) (c : CHead) (status : ℕ) : Type 0 where
+  pub ok : IsText bytes → (before insert : List ℕ) → IsEditOf before (change_of edit) insert bytes → c ≡ head_numbers before → status ≡ 0
+  pub not_utf8 : length bytes < 2 ^ 32 → ¬ (IsUtf8 bytes) → status ≡ 1
+  pub too_long : 2 ^ 32 ≤ length bytes → status ≡ 2
+  pub bad_edit : IsText bytes → ¬ (IsChange bytes (change_of edit)) → status ≡ 6
+  pub no_other : IsText bytes → status ≢ 0 → status ≡ 6
+
+-- the head of the text is written, and an edit of the body that may be relexed. Of each text before, of which the old head
+-- is, and of which the edit made the present text, it is what the edit is to the body. Where it is refused nothing is
+-- written
+pub record FindsHead (text : List ℕ) (edit : CEdit) (c c' : CHead) (body body' : CEdit) (kept kept' status : ℕ) : Type 0 where
+  pub status_is : IsHeadStatus text edit c status
+  pub head : status ≡ 0 → c' ≡ head_numbers text
+  pub may_relex : status ≡ 0 → IsChange (drop (body_start text) text) (change_of body')
+  pub change : status ≡ 0 → (first : List ℕ → Token) (before insert : List ℕ) → IsGrammar first → IsEditOf before (change_of edit) insert text → c ≡ head_numbers before
+      → (k : Bool) × (kept' ≡ bool_number k) × IsBodyChange first before (change_of edit) insert text k (change_of body')
+  pub refused : status ≢ 0 → (c' ≡ c) × (body' ≡ body) × (kept' ≡ kept)

@@ -1,0 +1,29 @@
+//! What an edit of a document changes in its body.
+
+use crate::erased::relex::document_edit::{body_change, keeps_head};
+use crate::erased::relex::head::Head;
+use crate::erased::relex::relexing::Change;
+
+/// What an edit of a document changes in its body.
+#[derive(Clone, Copy, Debug, PartialEq, Eq)]
+pub struct BodyChange {
+    /// Whether the edit keeps the head: whether it is behind the head, and the head is the same after it.
+    pub keeps_head: bool,
+    /// What it changes in the body, by places from where the body begins.
+    pub change: Change,
+}
+
+impl Head {
+    /// Returns what an edit changes in the body. `self` is the head of the text before the edit, and `now` is the head
+    /// of the present text.
+    ///
+    /// If the head stays, the change is the edit itself. Otherwise it is everything from the start of the body up to
+    /// where both texts are the same and both bodies have begun. Then no token of the body is kept before it.
+    pub fn change_to(self, now: Head, edit: Change) -> BodyChange {
+        let keeps_head = keeps_head(self, now, edit.start);
+        BodyChange {
+            keeps_head,
+            change: body_change(keeps_head, self.end, now.end, edit),
+        }
+    }
+}

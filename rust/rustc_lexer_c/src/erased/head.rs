@@ -1,0 +1,137 @@
+//! The head of a document, and what an edit of the document changes in its body.
+
+use crate::erased::batch::no_token;
+use crate::erased::relex::{CEdit, change_of};
+use crate::erased::status::{OK, Refusal, text_of, utf8_text_of};
+use crate::erased::token::{CToken, token_numbers};
+use rustc_lexer::erased::{Change, Head, Token, TokenKind};
+
+/// The head of a document, which is the part before its body: a shebang line and a frontmatter.
+#[repr(C)]
+#[derive(Clone, Copy, Debug, PartialEq, Eq)]
+pub struct CHead {
+    /// The length of the shebang line in bytes, or 0.
+    pub shebang_len: u32,
+    /// Where the body begins, in bytes from the start of the text.
+    pub body: u32,
+    /// How many tokens come before the body: 0, 1 or 2.
+    pub count: u32,
+    /// These tokens. Behind them are zeros.
+    pub tokens: [CToken; 2],
+}
+
+/// Finds what an edit of a document changes in its body, and the head of the present text.
+///
+/// Before the call `head` is the head of the text before the edit, as the call for the edit before left it. Zeros are
+/// the head of an empty text. Writes the present head there, into `body_edit` what changes in the body, by places from
+/// where the body begins, and into `head_kept` 1 if all tokens of the head stay, else 0. If the call is refused, it
+/// writes nothing.
+pub fn rustc_lexer_body_edit(
+    text: &[u8],
+    edit: &CEdit,
+    head: &mut CHead,
+    body_edit: &mut CEdit,
+    head_kept: &mut u32,
+) -> u32 {
+    match text_of(text) {
+        Ok(text) => find_body_edit(text, edit, head, body_edit, head_kept),
+        Err(refusal) => refusal.number(),
+    }
+}
+
+/// Finds the same in a text that `rustc_lexer_check` found to be UTF-8. Does not check it again.
+pub fn rustc_lexer_body_edit_unchecked(
+    text: &[u8],
+    edit: &CEdit,
+    head: &mut CHead,
+    body_edit: &mut CEdit,
+    head_kept: &mut u32,
+) -> u32 {
+    match utf8_text_of(text) {
+        Ok(text) => find_body_edit(text, edit, head, body_edit, head_kept),
+        Err(refusal) => refusal.number(),
+    }
+}
+
+/// Finds what an edit changes in the body of a text, and the head of the text.
+fn find_body_edit(
+    text: &str,
+    edit: &CEdit,
+    head: &mut CHead,
+    body_edit: &mut CEdit,
+    head_kept: &mut u32,
+) -> u32 {
+    let change = change_of(edit);
+    if !change.may_make(text) {
+        return Refusal::BadEdit.number();
+    }
+    let now = Head::find(text);
+    let body = head_of(head).change_to(now, change);
+    if !body.change.may_make(&text[now.end..]) {
+        return Refusal::BadEdit.number();
+    }
+    *head = numbers_of_head(now);
+    *body_edit = edit_of(body.change);
+    *head_kept = u32::from(body.keeps_head);
+    OK
+}
+
+/// Returns the head that the numbers tell.
+fn head_of(numbers: &CHead) -> Head {
+    let [first, second] = numbers.tokens;
+    let (space, front) = match numbers.count {
+        0 => (0, None),
+        1 => (0, Some(frontmatter_of(first))),
+        _ => (first.len, Some(frontmatter_of(second))),
+    };
+    Head {
+        shebang: numbers.shebang_len as usize,
+        space,
+        front,
+        end: numbers.body as usize,
+    }
+}
+
+/// Returns the frontmatter that the numbers tell.
+fn frontmatter_of(numbers: CToken) -> Token {
+    Token {
+        kind: TokenKind::Frontmatter {
+            has_invalid_preceding_whitespace: numbers.first != 0,
+            invalid_infostring: numbers.second != 0,
+        },
+        len: numbers.len,
+    }
+}
+
+/// Returns a head as numbers.
+fn numbers_of_head(head: Head) -> CHead {
+    let (count, tokens) = match head.front {
+        None => (0, [no_token(), no_token()]),
+        Some(front) => {
+            if head.space == 0 {
+                (1, [token_numbers(front), no_token()])
+            } else {
+                let space = Token {
+                    kind: TokenKind::Whitespace,
+                    len: head.space,
+                };
+                (2, [token_numbers(space), token_numbers(front)])
+            }
+        }
+    };
+    CHead {
+        shebang_len: head.shebang as u32,
+        body: head.end as u32,
+        count,
+        tokens,
+    }
+}
+
+/// Returns a change as an edit.
+fn edit_of(change: Change) -> CEdit {
+    CEdit {
+        start: change.start as u32,
+        old_stop: change.old_stop as u32,
+        new_stop: change.new_stop as u32,
+    }
+}
