@@ -146,6 +146,18 @@ fn pieces_far_behind_a_frontmatter(rt: HostRuntime) -> Result<(), AllocError> {
     Ok(())
 }
 
+/// Room is given back, with nothing else changed.
+#[test]
+fn room_is_given_back(rt: HostRuntime) -> Result<(), AllocError> {
+    let mut held = LexedDocument::new(rt.alloc(), "#!a\n---\n---\nfn")?;
+    assert!(rt; held.accepts(12, 14, ""));
+    held.edit(12, 14, "")?;
+    held.shrink_to_fit();
+    assert!(rt; has_pieces(&held, 0, 2, &[(3, "\n"), (4, "---\n---")]));
+    assert!(rt; held.edition() == Edition::E2024 && held.text() == "#!a\n---\n---\n");
+    Ok(())
+}
+
 /// Each edition has its own tokens after the same head.
 #[test]
 fn another_edition(rt: HostRuntime) -> Result<(), AllocError> {

@@ -84,3 +84,20 @@ fn another_edition(rt: HostRuntime) -> Result<(), AllocError> {
     assert!(rt; is_held(&lexed, Edition::E2021, &newer));
     Ok(())
 }
+
+/// Room is given back, with nothing else changed.
+#[test]
+fn room_is_given_back(rt: HostRuntime) -> Result<(), AllocError> {
+    let mut lexed = LexedText::new(rt.alloc(), "'r#foo")?;
+    lexed.shrink_to_fit();
+    assert!(rt; is_held(&lexed, Edition::E2024, &[(RawLifetime, 6)]));
+    lexed.set_edition(Edition::E2018)?;
+    assert!(rt; lexed.accepts(6, 6, " + 1"));
+    lexed.edit(6, 6, " + 1")?;
+    assert!(rt; lexed.accepts(6, 10, ""));
+    lexed.edit(6, 10, "")?;
+    lexed.shrink_to_fit();
+    let older = [(LIFETIME, 2), HASH, (Ident, 3)];
+    assert!(rt; is_held(&lexed, Edition::E2018, &older));
+    Ok(())
+}

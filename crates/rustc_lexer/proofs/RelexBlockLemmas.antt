@@ -1,8 +1,8 @@
--- Relexing over many tokens at once, each of which begins before the end of what an edit put in.
-use Rattle.std.proofs.Common.{◌≡◌, ℕ, zero, suc, ◌+◌, ◌-◌, ◌<◌, ◌≤◌, Bool, true, false, ◌&&◌, leb, List, ◌∷◌, length, drop, inl, inr, refl, sym, ap, ◌∙◌, subst, arith, drop-drop, length-drop, IsUtf8, IsCharBoundary}
+-- Relexing over many tokens at once, each of which begins before lexing can meet the old tokens.
+use Rattle.std.proofs.Common.{◌≡◌, ℕ, zero, suc, ◌+◌, ◌-◌, ◌<◌, ◌≤◌, Bool, true, false, ◌&&◌, leb, eqb, eqb-true, List, ◌∷◌, length, drop, inl, inr, refl, sym, ap, ◌∙◌, subst, arith, drop-drop, length-drop, IsUtf8, IsCharBoundary}
 use Rattle.std.proofs.lemmas.Bool.{cases_lt, leb-true}
 use Rattle.std.proofs.lemmas.Str.{IsCharBoundary-from_drop, IsUtf8-drop}
-use Rattle.rustc_lexer.specs.means.Relexing.{IsFollowed, meets_at, Stands}
+use Rattle.rustc_lexer.specs.means.Relexing.{IsApart, IsFollowed, meets_at, Stands}
 use Rattle.std.proofs.lemmas.Grind.{common_steps}
 use Rattle.rustc_lexer.specs.declared.relex.front.Bound.{Bound}
 use Rattle.rustc_lexer.specs.declared.relex.front.Meeting.{Meeting}
@@ -14,7 +14,7 @@ use Rattle.rustc_lexer.specs.Classes.{Fits, IsText}
 use Rattle.rustc_lexer.specs.Edits.{known}
 use Rattle.rustc_lexer.specs.Relexing.{IsMadeOf, TakesSteps, is_over}
 use Rattle.rustc_lexer.specs.Locality.{IsGrammar}
-use Rattle.rustc_lexer.proofs.BoundLemmas.{is_bound, number_le_bound, rises}
+use Rattle.rustc_lexer.proofs.BoundLemmas.{is_bound, is_bound-decide, number_le_bound, rises}
 use Rattle.rustc_lexer.proofs.BulkLemmas.{next_place, next_token, over, stands as place_stands}
 use Rattle.rustc_lexer.specs.laws.Cuts.{IsCutAt, at_bound}
 use Rattle.rustc_lexer.proofs.ProgressLemmas.{IsPlace}
@@ -34,7 +34,22 @@ left_at {first} law before lengths insert text change is at stands =
     let cut : IsCutAt first text (tokens_by first text) (known at) = at_bound law (known at) text (made_text law before lengths insert text change is) in
     sym (cut.rest ∙ ap (λ p. tokens_by first (drop p text)) (sym stands.place))
 
-module _ {first : List ℕ → Token} (law : IsGrammar first) (before lengths insert text : List ℕ) (change : Change) (is : IsMadeOf first before lengths change insert text) (at : Relexing) (stands : Stands first before change text at) (less : at.at < change.new_stop) where
+-- past that end, a place that is before the bound of the old tokens, moved, meets nothing
+late : {first : List ℕ → Token} (law : IsGrammar first) (before lengths insert text : List ℕ) (change : Change) (is : IsMadeOf first before lengths change insert text) (at : Relexing) (stands : Stands first before change text at) (place : ℕ) → at.at ≤ place → change.new_stop ≤ at.at → place - change.new_stop + change.old_stop < at.back.place
+    → false ≡ meets_at (tokens_by first before) change.old_stop change.new_stop place
+late {first} law before lengths insert text change is at stands place le far less =
+    let old : List Token = tokens_by first before in
+    let target : ℕ = place - change.new_stop + change.old_stop in
+    let back = stands.back_bound.1 in
+    let there : is_bound old target ≡ eqb (bound old at.back.number) target = is_bound-decide old at.back.number target stands.back_bound.0 (λ k below. let b = below_later law before lengths insert text change is at stands place le k below in omega arith) (λ _. omega arith) in
+    by_test (leb change.new_stop place) (is_bound old target) (bound old at.back.number) target there (omega arith)
+  where
+    by_test : (a b : Bool) (c d : ℕ) → b ≡ eqb c d → d < c → false ≡ a && b
+    by_test false b c d there apart = refl
+    by_test true false c d there apart = refl
+    by_test true true c d there apart = absurd (let same = eqb-true c d (sym there) in omega arith)
+
+module _ {first : List ℕ → Token} (law : IsGrammar first) (before lengths insert text : List ℕ) (change : Change) (is : IsMadeOf first before lengths change insert text) (at : Relexing) (stands : Stands first before change text at) (end : ℕ) (far : IsApart text change at end) (some : 0 < end) where
   abbrev here : List ℕ
   here = drop at.at text
 
@@ -45,8 +60,28 @@ module _ {first : List ℕ → Token} (law : IsGrammar first) (before lengths in
   abbrev past_some : ℕ → Relexing
   past_some n = record { front = at.front; lexed = at.lexed + n; back = at.back; at = at.at + bound block n; met = false }
 
+  followed_apart : (place : ℕ) → at.at ≤ place → place < at.at + end → IsFollowed (tokens_by first before) change.old_stop change.new_stop place at.back false
+  followed_apart place le less = elim (cases_lt at.at change.new_stop) [
+    | inl before_end ↦
+        let stop = far.early before_end in
+        record {
+          bound_is = stands.back_bound;
+          below = below_later law before lengths insert text change is at stands place le;
+          reached = λ past. absurd (omega arith);
+          met_is = early (tokens_by first before) change.old_stop change.new_stop place (omega arith);
+        }
+    | inr past_end ↦
+        let stop = far.late past_end some in
+        record {
+          bound_is = stands.back_bound;
+          below = below_later law before lengths insert text change is at stands place le;
+          reached = λ _ _. omega arith;
+          met_is = late law before lengths insert text change is at stands place le past_end (omega arith);
+        }
+  ]
+
   no_meeting : at.met ≡ false
-  no_meeting = stands.met_is ∙ sym (early (tokens_by first before) change.old_stop change.new_stop at.at less)
+  no_meeting = stands.met_is ∙ sym (followed_apart at.at (omega arith) (omega arith)).met_is
 
   made_here : IsText text
   made_here = made_text law before lengths insert text change is
@@ -65,14 +100,6 @@ module _ {first : List ℕ → Token} (law : IsGrammar first) (before lengths in
       ] in
       (more, sym (next_place law here here_text n (bound block n) refl more))
 
-  followed_early : (place : ℕ) → at.at ≤ place → place < change.new_stop → IsFollowed (tokens_by first before) change.old_stop change.new_stop place at.back false
-  followed_early place le early_place = record {
-    bound_is = stands.back_bound;
-    below = below_later law before lengths insert text change is at stands place le;
-    reached = λ far. absurd (omega arith);
-    met_is = early (tokens_by first before) change.old_stop change.new_stop place early_place;
-  }
-
   step_to : (n : ℕ) → n < length block → (on : Relexing) → on ≡ past_some n → Stands first before change text on → (to : Meeting) → (place : ℕ) → place ≡ at.at + bound block (n + 1) → IsFollowed (tokens_by first before) change.old_stop change.new_stop place to.at to.met → (place < change.new_stop → to.at ≡ at.back)
       → Stands first before change text (record { front = at.front; lexed = at.lexed + (n + 1); back = to.at; at = place; met = to.met })
   step_to n few on e so to place at_place followed stays =
@@ -87,7 +114,7 @@ module _ {first : List ℕ → Token} (law : IsGrammar first) (before lengths in
       let Now : Bound → ℕ → ℕ → Type 0 = λ f l p. Stands first before change text (record { front = f; lexed = l; back = to.at; at = p; met = to.met }) in
       subst (λ (f : Bound). Now f (at.lexed + (n + 1)) place) front (subst (λ l. Now on.front l place) lexed (subst (λ p. Now on.front (on.lexed + 1) p) far next))
 
-  stands_some : (n : ℕ) → n < length block → ((k : ℕ) → k < n + 1 → at.at + bound block k < change.new_stop) → Stands first before change text (past_some n)
+  stands_some : (n : ℕ) → n < length block → ((k : ℕ) → k < n + 1 → bound block k < end) → Stands first before change text (past_some n)
   stands_some zero few begun =
       let none : at.lexed ≡ at.lexed + 0 = omega arith in
       let place : at.at ≡ at.at + 0 = omega arith in
@@ -97,18 +124,18 @@ module _ {first : List ℕ → Token} (law : IsGrammar first) (before lengths in
   stands_some (suc n) few begun =
       let ih : Stands first before change text (past_some n) = stands_some n (omega arith) (λ k l. begun k (omega arith)) in
       let one : suc n ≡ n + 1 = omega arith in
-      let low : at.at + bound block (n + 1) < change.new_stop = begun (n + 1) (omega arith) in
-      let next = step_to n (omega arith) (past_some n) refl ih (record { at = at.back; met = false }) (at.at + bound block (n + 1)) refl (followed_early _ (omega arith) low) (λ _. refl) in
+      let low : bound block (n + 1) < end = begun (n + 1) (omega arith) in
+      let next = step_to n (omega arith) (past_some n) refl ih (record { at = at.back; met = false }) (at.at + bound block (n + 1)) refl (followed_apart _ (omega arith) (omega arith)) (λ _. refl) in
       subst (λ k. Stands first before change text (past_some k)) (sym one) next
 
   -- where a buffer takes so many of them, relexing stands past the last
-  pub stands_filled : {X : Type 0} (written : Token → X) (buffer filled : List X) (count bytes : ℕ) (to : Meeting) → IsFilledTo written (change.new_stop - at.at) block buffer filled count → bytes ≡ bound block count → 0 < count → IsFollowed (tokens_by first before) change.old_stop change.new_stop (at.at + bytes) to.at to.met → (at.at + bytes < change.new_stop → to.at ≡ at.back)
+  pub stands_filled : {X : Type 0} (written : Token → X) (buffer filled : List X) (count bytes : ℕ) (to : Meeting) → IsFilledTo written end block buffer filled count → bytes ≡ bound block count → 0 < count → IsFollowed (tokens_by first before) change.old_stop change.new_stop (at.at + bytes) to.at to.met → (at.at + bytes < change.new_stop → to.at ≡ at.back)
       → Stands first before change text (record { front = at.front; lexed = at.lexed + count; back = to.at; at = at.at + bytes; met = to.met }) × (block ≡ drop (known at) (tokens_by first text))
-  stands_filled written buffer filled zero bytes to is_filled bytes_is some followed stays = absurd (omega arith)
-  stands_filled written buffer filled (suc n) bytes to is_filled bytes_is some followed stays =
+  stands_filled written buffer filled zero bytes to is_filled bytes_is more followed stays = absurd (omega arith)
+  stands_filled written buffer filled (suc n) bytes to is_filled bytes_is more followed stays =
       let few : suc n ≤ length block = is_filled.few in
       let one : n + 1 ≡ suc n = omega arith in
-      let so : Stands first before change text (past_some n) = stands_some n (omega arith) (λ k l. let b = is_filled.begun k (omega arith) in omega arith) in
+      let so : Stands first before change text (past_some n) = stands_some n (omega arith) (λ k l. is_filled.begun k (omega arith)) in
       let place : at.at + bytes ≡ at.at + bound block (n + 1) = omega (arith, bytes_is, ap (bound block) one) in
       let now = step_to n (omega arith) (past_some n) refl so to (at.at + bytes) place followed stays in (
         subst (λ l. Stands first before change text (record { front = at.front; lexed = at.lexed + l; back = to.at; at = at.at + bytes; met = to.met })) one now,
@@ -122,7 +149,7 @@ pub record IsStretch (text : List ℕ) (at count bytes : ℕ) : Type 0 where
   pub some : 0 < count
   pub long : count ≤ bytes
 
-pub stretch : {first : List ℕ → Token} (law : IsGrammar first) {text left : List ℕ} {at end : ℕ} → IsUtf8 text → Fits text → IsCharBoundary text at → left ≡ drop at text → {X : Type 0} {written : Token → X} {buffer filled : List X} {count bytes : ℕ} → IsFilledTo written (end - at) (tokens_by first left) buffer filled count → bytes ≡ bound (tokens_by first left) count → 0 < length buffer → at < end → IsStretch text at count bytes
+pub stretch : {first : List ℕ → Token} (law : IsGrammar first) {text left : List ℕ} {at end : ℕ} → IsUtf8 text → Fits text → IsCharBoundary text at → left ≡ drop at text → {X : Type 0} {written : Token → X} {buffer filled : List X} {count bytes : ℕ} → IsFilledTo written end (tokens_by first left) buffer filled count → bytes ≡ bound (tokens_by first left) count → 0 < length buffer → 0 < end → IsStretch text at count bytes
 stretch {first} law {text} {left} {at} {end} utf8 fits cut left_is {X} {written} {buffer} {filled} {count} {bytes} is_filled bytes_is places more =
     let left_text : IsText left = rw left_is record { utf8 = IsUtf8-drop text at utf8 cut; fits = omega (arith, fits, length-drop at text) } in
     let spot : IsPlace left bytes = place_stands law left left_text count bytes bytes_is in

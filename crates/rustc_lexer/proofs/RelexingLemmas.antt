@@ -265,6 +265,12 @@ step_place {first} law text at token is cut more token_is =
 pub all_lexed : (new : List Token) (at : Relexing) (items : List Token) → items ≡ [] → at.lexed ≡ 0 → drop at.front.number new ≡ items ++ drop (known at) new
 all_lexed new at items none zero_lexed = grind (arith, common_steps)
 
+-- and where one token more was lexed, those that are left are the ones behind it
+pub one_lexed : (new : List Token) (at past : Relexing) (items more : List Token) (token : Token) → past.front ≡ at.front → drop at.front.number new ≡ items ++ drop (known at) new → drop (known at) new ≡ token ∷ drop (known past) new → more ≡ items ++ token ∷ [] → drop past.front.number new ≡ more ++ drop (known past) new
+one_lexed new at past items more token front so next more_is =
+    ap (λ (b : Bound). drop b.number new) front
+    ∙ (so ∙ (ap (λ ts. items ++ ts) next ∙ (sym (append_assoc items (token ∷ []) (drop (known past) new)) ∙ ap (λ ts. ts ++ drop (known past) new) (sym more_is))))
+
 -- where relexing is not over, more text is left
 pub not_over : (met : Bool) (at end : ℕ) → at ≤ end → (met || eqb at end) ≡ false → (met ≡ false) × (at < end)
 not_over w0 at end le e = grind (arith, common_steps, eq-or-lt_of_le, eq-eqb)

@@ -40,6 +40,16 @@ impl<T> Vec<T> {
     pub fn truncate(&mut self, len: usize) {
         self.0.truncate(len);
     }
+
+    /// Moves the items to where there is room for no more of them. Where that room is refused they stay: Rust's own call
+    /// ends the program then.
+    pub fn shrink_to_fit(&mut self) {
+        let mut fitting = alloc::vec::Vec::new();
+        if self.0.len() < self.0.capacity() && fitting.try_reserve_exact(self.0.len()).is_ok() {
+            fitting.append(&mut self.0);
+            self.0 = fitting;
+        }
+    }
 }
 
 /// What only programs take.
@@ -148,6 +158,15 @@ impl String {
     /// Keeps the first `len` bytes.
     pub fn truncate(&mut self, len: usize) {
         self.0.truncate(len);
+    }
+
+    /// Moves the text to where there is room for no more of it, as the call of a list does.
+    pub fn shrink_to_fit(&mut self) {
+        let mut fitting = alloc::string::String::new();
+        if self.0.len() < self.0.capacity() && fitting.try_reserve_exact(self.0.len()).is_ok() {
+            fitting.push_str(&self.0);
+            self.0 = fitting;
+        }
     }
 
     /// Makes room for so many bytes more.

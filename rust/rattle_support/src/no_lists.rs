@@ -27,6 +27,8 @@ impl<T> Vec<T> {
 
     pub fn truncate(&mut self, _: usize) {}
 
+    pub fn shrink_to_fit(&mut self) {}
+
     pub fn extend_from_slice(&mut self, more: &[T]) -> Result<(), AllocError> {
         refused_but_for(more.len())
     }
@@ -77,6 +79,8 @@ impl String {
     }
 
     pub fn truncate(&mut self, _: usize) {}
+
+    pub fn shrink_to_fit(&mut self) {}
 
     pub fn reserve(&mut self, more: usize) -> Result<(), AllocError> {
         refused_but_for(more)

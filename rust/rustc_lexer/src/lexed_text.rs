@@ -271,6 +271,21 @@ impl<S: Stepper> LexedText<S> {
     pub fn edit_all(&mut self, edits: &[Edit<'_>]) -> Result<(), EditStop> {
         self.0.edit_all(edits)
     }
+
+    /// Gives back the memory that edits have left unused: what is kept is copied to where it just fits. Text, tokens and
+    /// stepper stay. Where memory is refused, so does the unused memory.
+    ///
+    /// ```
+    /// use rustc_lexer::LexedText;
+    ///
+    /// let mut lexed = LexedText::new("a ".repeat(1000));
+    /// lexed.edit(0..0, "\"");
+    /// lexed.shrink_to_fit();
+    /// assert_eq!(lexed.tokens().len(), 1);
+    /// ```
+    pub fn shrink_to_fit(&mut self) {
+        self.0.shrink_to_fit();
+    }
 }
 
 impl<S: Stepper> fmt::Debug for LexedText<S> {

@@ -129,3 +129,37 @@ fn texts_and_another_edition() {
     assert_eq!(given(9, || lexed.try_set_edition(Edition::E2015)), Ok(()));
     assert_eq!(lexed.tokens().len(), 3);
 }
+
+/// How many requests a call makes.
+fn requests<T>(call: impl FnOnce() -> T) -> usize {
+    GIVEN.with(|given| given.set(100));
+    call();
+    100 - GIVEN.with(|given| given.replace(usize::MAX))
+}
+
+/// Memory that edits left unused is given back: then an edit has to ask for what it had before. Where the call is refused
+/// memory, all stays as it was.
+#[test]
+fn unused_memory() {
+    let text = "a + b; ".repeat(100);
+    let mut lexed = LexedText::new(&text);
+    let mut document = LexedDocument::new(&text);
+    let mut asked = [0, 1, 9].map(|count| {
+        lexed.edit(0..0, &text);
+        lexed.edit(0..text.len(), "");
+        document.edit(0..0, &text);
+        document.edit(0..text.len(), "");
+        given(count, || lexed.shrink_to_fit());
+        given(count, || document.shrink_to_fit());
+        assert_eq!((lexed.text(), document.text()), (&*text, &*text));
+        assert_eq!(lexed.tokens(), LexedText::new(&text).tokens());
+        assert_eq!(document.tokens(), LexedDocument::new(&text).tokens());
+        let asked = requests(|| lexed.edit(0..0, "a+"));
+        assert_eq!(requests(|| document.edit(0..0, "a+")), asked);
+        lexed.edit(0..2, "");
+        document.edit(0..2, "");
+        asked
+    });
+    asked.iter_mut().for_each(|asked| *asked -= 1);
+    assert_eq!(asked, [0, 1, 2], "past that for the tokens that are lexed");
+}

@@ -56,6 +56,13 @@ pub record Stands (first : List ℕ → Token) (old : List ℕ) (change : Change
   pub reached : change.new_stop ≤ at.at → at.back.number < length (tokens_by first old)
       → at.at - change.new_stop + change.old_stop ≤ at.back.place
 
+-- so many bytes on from where relexing stands, the new tokens cannot have met the old ones: they are inside what was put
+-- in, or past its end, up to the bound of the old tokens, moved
+pub record IsApart (text : List ℕ) (change : Change) (at : Relexing) (bytes : ℕ) : Type 0 where
+  pub inside : at.at + bytes ≤ length text
+  pub early : at.at < change.new_stop → at.at + bytes ≤ change.new_stop
+  pub late : change.new_stop ≤ at.at → 0 < bytes → at.at - change.new_stop + change.old_stop + bytes ≤ at.back.place
+
 -- ---- the parts
 
 -- each bound of the tokens is inside the text, between characters

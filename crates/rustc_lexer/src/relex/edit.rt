@@ -96,20 +96,21 @@ pub(crate) fn relex<S: Stepper>(
 {
     let mut tokens = Vec::new(alloc);
     let mut at = Relexing::begin(text, old, change, near);
-    if change.new_stop - change.start >= LONG {
-        relex_inserted(stepper, old, text, change, &mut at, &mut tokens)?;
-    }
     while let Some(token) = at.next(stepper, text, old, change) {
         tokens.push(token)?;
+        let far = at.apart(text, change);
+        if far >= LONG {
+            relex_far(stepper, old, text, change, &mut at, &mut tokens)?;
+        }
     }
     Ok((tokens, at))
 }
 
-/// Lexes the tokens that begin before the end of the insertion, many at once.
+/// Lexes tokens many at once, as long as the old tokens are far.
 ///
-/// It is not inlined, so that an edit with a short insertion needs no room for the buffer.
+/// It is not inlined, so that a short edit needs no room for the buffer.
 #[inline(never)]
-fn relex_inserted<S: Stepper>(
+fn relex_far<S: Stepper>(
     stepper: &mut S,
     old: &[Token],
     text: &str,
@@ -123,6 +124,7 @@ fn relex_inserted<S: Stepper>(
     ensures grammar { S.grammar stepper.new ≡ S.grammar stepper.old }
     ensures number { S.number stepper.new ≡ S.number stepper.old }
     ensures may_go_on { MayGoOn text.now (length old.now) at.new }
+    ensures ahead { at.old.at ≤ at.new.at }
     ensures front { at.new.front ≡ at.old.front }
     ensures count { S.count stepper.new + at.old.lexed ≡ S.count stepper.old + at.new.lexed }
     ensures rose { S.count stepper.old ≤ S.count stepper.new }
@@ -139,9 +141,11 @@ fn relex_inserted<S: Stepper>(
         ≡ tokens.new.items ++ drop (known at.new) (tokens_by (S.grammar stepper.old) text.now))) }
 {
     let mut buffer = new_buffer();
-    'inserted: while at.at < change.new_stop {
-        let count = at.fill_inserted(stepper, text, old, change, &mut buffer);
+    let mut far = at.apart(text, change);
+    'far: while far >= LONG {
+        let count = at.fill_far(stepper, text, old, change, far, &mut buffer);
         tokens.extend_from_slice(&buffer[..count])?;
+        far = at.apart(text, change);
     }
     Ok(())
 }

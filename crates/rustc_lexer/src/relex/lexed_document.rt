@@ -16,6 +16,7 @@ use std::marker::Model;
 
 mod edits;
 mod in_edition;
+mod shrink;
 
 /// A whole document that is kept with its tokens while it is edited: shebang line, frontmatter and all.
 ///

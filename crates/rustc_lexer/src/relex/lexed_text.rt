@@ -18,6 +18,7 @@ use std::alloc::{AllocError, Global};
 use std::marker::Model;
 
 mod in_edition;
+mod shrink;
 
 /// A text that is kept with its tokens, and with the stepper that lexed them.
 #[derive(Drop)]

@@ -1,12 +1,12 @@
 //! Lexes again what an edit changed, on lists that the caller holds.
-ghost use Rattle.std.specs.Prelude.{◌≡◌, ◌+◌, ◌-◌, ◌<◌, ◌≤◌, ◌∷◌, ◌++◌, ◌↔◌, IsTrue, List, MatchOption, drop, false, length, map, take, ℕ, true};
+ghost use Rattle.std.specs.Prelude.{◌≡◌, ◌+◌, ◌-◌, ◌^◌, ◌<◌, ◌≤◌, ◌∷◌, ◌++◌, ◌↔◌, IsTrue, List, MatchOption, drop, false, length, map, take, ℕ, true};
 ghost use Rattle.rustc_lexer.specs.declared.relex.relexing.Change.{Change};
 ghost use Rattle.rustc_lexer.specs.{Token};
 ghost use Rattle.rustc_lexer.specs.Edits.{IsBound, IsRelexed, known};
 ghost use Rattle.rustc_lexer.specs.Classes.{Fits};
 ghost use Rattle.rustc_lexer.specs.Tokens.{tokens_by};
 ghost use Rattle.rustc_lexer.specs.Relexing.{GoesOn, IsChange, IsMadeOf, IsUnderWay, IsWhole, MayGoOn, TakesSteps, is_over};
-ghost use Rattle.rustc_lexer.specs.means.Relexing.{damage_of};
+ghost use Rattle.rustc_lexer.specs.means.Relexing.{IsApart, damage_of};
 ghost use Rattle.rustc_lexer.specs.Locality.{IsGrammar};
 
 use crate::bulk::Record;
@@ -17,8 +17,8 @@ use crate::token::Token;
 /// The greatest place that a bound may have. No text is longer, even if a `usize` has 32 bits.
 const MOST: usize = usize::MAX / 2;
 
-/// From how many inserted bytes on the insertion is lexed many tokens at once. For fewer bytes that costs more than
-/// it saves.
+/// From how many bytes on they are lexed many tokens at once, if lexing cannot meet the old tokens before. For fewer
+/// bytes that costs more than it saves.
 pub(crate) const LONG: usize = 256;
 
 /// An edit that was made, by its places in bytes. It took out what was from `start` up to `old_stop` in the old
@@ -187,7 +187,8 @@ impl Relexing {
     /// Writes the next tokens into the buffer: as many as there is room for, or up to where the old tokens are met.
     /// Returns how many. The number is less than the length of the buffer only if `is_over` is true.
     ///
-    /// They are the tokens that as many calls of `next` return. A long insertion is lexed many tokens at once.
+    /// They are the tokens that as many calls of `next` return. Where the old tokens are far, as in a long insertion or
+    /// where a long token was, many tokens are lexed at once.
     pub fn fill<S: Stepper, T: Measured, R: Record>(
         &mut self,
         stepper: &mut S,
@@ -215,8 +216,9 @@ impl Relexing {
             self.old self.new }
     {
         let mut count = 0;
-        if self.at + LONG <= change.new_stop && !self.is_over(text) && !buffer.is_empty() {
-            count = self.fill_inserted(stepper, text, old, change, buffer);
+        let far = self.apart(text, change);
+        if far >= LONG && !self.is_over(text) && !buffer.is_empty() {
+            count = self.fill_far(stepper, text, old, change, far, buffer);
         }
         'places: while count < buffer.len() {
             let Some(token) = self.next(stepper, text, old, change) else {
@@ -228,20 +230,42 @@ impl Relexing {
         count
     }
 
-    /// Writes the next tokens into the buffer: those that begin before the end of the insertion, or as many as
-    /// there is room for. Returns how many. None of them can meet the old tokens before the last one ends.
-    pub(crate) fn fill_inserted<S: Stepper, T: Measured, R: Record>(
+    /// Returns for how many bytes lexing cannot meet the old tokens: up to the end of the insertion, or past it up to
+    /// the next bound of the old tokens.
+    pub(crate) fn apart(&self, text: &str, change: Change) -> usize
+        requires fits { Fits text.now }
+        requires change { IsChange text.now change }
+        requires inside { self.now.at ≤ length text.now }
+        requires small { self.now.back.place < 2 ^ 63 }
+        ensures { IsApart text.now change self.now result }
+    {
+        if self.at < change.new_stop {
+            return change.new_stop - self.at;
+        }
+        let old_place = self.at - change.new_stop + change.old_stop;
+        self.back
+            .place
+            .saturating_sub(old_place)
+            .min(text.len() - self.at)
+    }
+
+    /// Writes the next tokens into the buffer: those that begin in the next `far` bytes, or as many as there is room
+    /// for. Returns how many. `far` is at most what [`apart`](Relexing::apart) returns, so none of them can meet the
+    /// old tokens before the last one ends.
+    pub(crate) fn fill_far<S: Stepper, T: Measured, R: Record>(
         &mut self,
         stepper: &mut S,
         text: &str,
         old: &[T],
         change: Change,
+        far: usize,
         buffer: &mut [R],
     ) -> usize
         requires fits { Fits text.now }
         requires change { IsChange text.now change }
         requires may_go_on { MayGoOn text.now (length old.now) self.old }
-        requires before { self.old.at < change.new_stop }
+        requires far { IsApart text.now change self.old far }
+        requires some { 0 < far }
         requires places { 0 < length buffer.old }
         ensures may_go_on { MayGoOn text.now (length old.now) self.new }
         ensures grammar { S.grammar stepper.new ≡ S.grammar stepper.old }
@@ -257,7 +281,7 @@ impl Relexing {
         ensures stands { GoesOn (S.grammar stepper.old) (map T.bytes old.now) text.now change
             self.old self.new }
     {
-        let (count, bytes) = stepper.fill(&text[self.at..], change.new_stop - self.at, buffer);
+        let (count, bytes) = stepper.fill(&text[self.at..], far, buffer);
         let at = self.at + bytes;
         let to = follow(old, self.back, at, change.damage());
         *self = Relexing {

@@ -54,20 +54,21 @@ pub(crate) fn relex<S: Stepper>(
 ) -> Result<(Vec<Token>, Relexing), AllocError> {
     let mut tokens = Vec::new(alloc);
     let mut at = Relexing::begin(text, old, change, near);
-    if change.new_stop - change.start >= LONG {
-        relex_inserted(stepper, old, text, change, &mut at, &mut tokens)?;
-    }
     while let Some(token) = at.next(stepper, text, old, change) {
         tokens.push(token)?;
+        let far = at.apart(text, change);
+        if far >= LONG {
+            relex_far(stepper, old, text, change, &mut at, &mut tokens)?;
+        }
     }
     Ok((tokens, at))
 }
 
-/// Lexes the tokens that begin before the end of the insertion, many at once.
+/// Lexes tokens many at once, as long as the old tokens are far.
 ///
-/// It is not inlined, so that an edit with a short insertion needs no room for the buffer.
+/// It is not inlined, so that a short edit needs no room for the buffer.
 #[inline(never)]
-fn relex_inserted<S: Stepper>(
+fn relex_far<S: Stepper>(
     stepper: &mut S,
     old: &[Token],
     text: &str,
@@ -76,9 +77,11 @@ fn relex_inserted<S: Stepper>(
     tokens: &mut Vec<Token>,
 ) -> Result<(), AllocError> {
     let mut buffer = new_buffer();
-    while at.at < change.new_stop {
-        let count = at.fill_inserted(stepper, text, old, change, &mut buffer);
+    let mut far = at.apart(text, change);
+    while far >= LONG {
+        let count = at.fill_far(stepper, text, old, change, far, &mut buffer);
         tokens.extend_from_slice(&buffer[..count])?;
+        far = at.apart(text, change);
     }
     Ok(())
 }

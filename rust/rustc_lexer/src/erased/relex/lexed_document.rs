@@ -10,6 +10,7 @@ use crate::support::{AllocError, Global};
 
 mod edits;
 mod in_edition;
+mod shrink;
 
 /// A whole document that is kept with its tokens while it is edited: shebang line, frontmatter and all.
 ///

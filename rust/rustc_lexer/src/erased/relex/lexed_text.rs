@@ -10,6 +10,7 @@ use crate::erased::token::Token;
 use crate::support::{AllocError, Global};
 
 mod in_edition;
+mod shrink;
 
 /// A text that is kept with its tokens, and with the stepper that lexed them.
 #[derive(Clone)]
