@@ -16,7 +16,6 @@ use std::marker::Model;
 
 mod edits;
 mod in_edition;
-mod shrink;
 
 /// A whole document that is kept with its tokens while it is edited: shebang line, frontmatter and all.
 ///
@@ -107,6 +106,15 @@ impl<S: Stepper> LexedDocument<S> {
         ensures { result.now ≡ self.now.stepper }
     {
         &self.kept.stepper
+    }
+
+    /// Gives back memory that edits have left unused, as `Vec::shrink_to_fit` does. Text, tokens and stepper stay. If
+    /// memory is refused on the way, the unused memory stays too.
+    pub fn shrink_to_fit(&mut self)
+        ensures { self.new ≡ self.old }
+    {
+        self.text.shrink_to_fit();
+        self.kept.tokens.shrink_to_fit();
     }
 
     /// Returns where the bound with this number is, in bytes from the start of the text.
