@@ -1,4 +1,4 @@
--- What an edit of a document is to its body, by the tokens of the page.
+-- What an edit of a document is to its body, by the tokens of the grammar.
 use Rattle.std.proofs.Common.{◌≡◌, ℕ, ◌+◌, ◌≤◌, Bool, true, false, List, length, map, drop, refl, sym, ap, ap₂, ◌∙◌, subst, arith, IsCharBoundary, IsUtf8, IsTrue, ◌↔◌}
 use Rattle.rustc_lexer.specs.{Token}
 use Rattle.rustc_lexer.specs.declared.relex.head.Head.{Head}
@@ -45,13 +45,13 @@ module _ {first : List ℕ → Token} (law : IsGrammar first) (text insert : Lis
     here : change ≡ body_change kept (body_start text) (body_start made) whole
     here = change_is ∙ (ap₂ (λ from to. body_change kept from to edit) old_head.end_is now_head.end_is ∙ ap (body_change kept (body_start text) (body_start made)) whole_is)
 
-    stays : kept ≡ true → HeadStays text edit.start edit.old_stop insert
+    stays : kept ≡ true → HeadStays head_of text edit.start edit.old_stop insert
     stays e = (sym (head_is text is old old_head) ∙ ((told.0 e).0 ∙ head_is made now_is now now_head), (let p = (told.0 e).1 in omega (arith, p, ap (λ (h : Head). h.end) (head_is text is old old_head))))
 
-    stayed : HeadStays text edit.start edit.old_stop insert → kept ≡ true
+    stayed : HeadStays head_of text edit.start edit.old_stop insert → kept ≡ true
     stayed k = told.1 (head_is text is old old_head ∙ (k.0 ∙ sym (head_is made now_is now now_head)), (let p = k.1 in omega (arith, p, ap (λ (h : Head). h.end) (head_is text is old old_head))))
 
-    not_stayed : (HeadStays text edit.start edit.old_stop insert → ⊥) → kept ≡ false
+    not_stayed : (HeadStays head_of text edit.start edit.old_stop insert → ⊥) → kept ≡ false
     not_stayed none = by_kept kept refl
       where
         by_kept : (k : Bool) → kept ≡ k → kept ≡ false
@@ -79,10 +79,10 @@ module _ {first : List ℕ → Token} (law : IsGrammar first) (text insert : Lis
     counts_here r x =
         let all : Relexed = counted kept (length (head_tokens text)) (length (head_tokens made)) r in
         let there = subst (λ (ch : Change). IsRelexed first body ch.start ch.old_stop (body_insert kept ch insert new_body) r) here x in
-        let with : IsRelexedWith kept first text edit.start edit.old_stop insert all = by_head first text insert edit.start edit.old_stop is now_is kept all (r, there, refl) in
+        let with : IsRelexedWith head_of kept first text edit.start edit.old_stop insert all = by_head first text insert edit.start edit.old_stop is now_is kept all (r, there, refl) in
         relexed_page first text insert edit.start edit.old_stop is now_is record {
-          kept = λ k. subst (λ (t : Bool). IsRelexedWith t first text edit.start edit.old_stop insert all) (stayed k) with;
-          changed = λ none. subst (λ (t : Bool). IsRelexedWith t first text edit.start edit.old_stop insert all) (not_stayed none) with;
+          kept = λ k. subst (λ (t : Bool). IsRelexedWith head_of t first text edit.start edit.old_stop insert all) (stayed k) with;
+          changed = λ none. subst (λ (t : Bool). IsRelexedWith head_of t first text edit.start edit.old_stop insert all) (not_stayed none) with;
         }
 
     body_here : IsBodyChange first text edit insert made kept change
