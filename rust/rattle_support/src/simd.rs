@@ -61,13 +61,20 @@ pub type u8x32 = Bytes<{ 32 / COUNT }>;
 #[allow(non_camel_case_types)]
 pub type u8x64 = Bytes<{ 64 / COUNT }>;
 
+/// By a plain loop: a build without optimization makes some twenty calls for each lane of `core::array::from_fn`.
 #[inline(always)]
 fn both<const N: usize>(
     a: [Lanes; N],
     b: [Lanes; N],
     f: impl Fn(Lanes, Lanes) -> Lanes,
 ) -> [Lanes; N] {
-    core::array::from_fn(|n| f(a[n], b[n]))
+    let mut made = a;
+    let mut n = 0;
+    while n < N {
+        made[n] = f(a[n], b[n]);
+        n += 1;
+    }
+    made
 }
 
 impl<const N: usize> Bytes<N> {
@@ -80,13 +87,17 @@ impl<const N: usize> Bytes<N> {
     #[inline(always)]
     pub fn from_slice(bytes: &[u8]) -> Bytes<N> {
         let bytes = &bytes[..N * COUNT];
-        Bytes(core::array::from_fn(|n| {
-            lanes::load(
+        let mut loaded = [lanes::splat(0); N];
+        let mut n = 0;
+        while n < N {
+            loaded[n] = lanes::load(
                 bytes[n * COUNT..]
                     .first_chunk()
                     .expect("COUNT bytes are left"),
-            )
-        }))
+            );
+            n += 1;
+        }
+        Bytes(loaded)
     }
 
     #[inline(always)]

@@ -49,8 +49,10 @@ pub fn ge(a: Lanes, b: Lanes) -> Lanes {
 #[inline(always)]
 pub fn bits(masks: &[Lanes]) -> u64 {
     let mut bits = 0;
-    for (n, mask) in masks.iter().enumerate() {
-        bits |= u64::from(unsafe { _mm_movemask_epi8(*mask) } as u32) << (COUNT * n);
+    let mut n = 0;
+    while n < masks.len() {
+        bits |= u64::from(unsafe { _mm_movemask_epi8(masks[n]) } as u32) << (COUNT * n);
+        n += 1;
     }
     bits
 }
