@@ -1,11 +1,11 @@
 -- What the words after the program's name ask for.
 use Rattle.std.specs.Prelude.{ℕ, ◌≡◌, if◌then◌else◌, List, [], ◌∷◌, codes, map, Option, Some, None}
+use Rattle.ends.specs.declared.stop.Stop.{Stop}
+use Rattle.ends.specs.declared.stop.Stop.TheVariants.{Arguments, Memory}
 use Rattle.sources.specs.Words.{are_known, has, options_of, paths_of}
 use Rattle.count_run.specs.declared.job.Job.{Job}
 use Rattle.count_run.specs.declared.job.Job.TheVariants.{Count, Help}
 use Rattle.count_run.specs.declared.job.Layout.{Layout}
-use Rattle.count_run.specs.declared.stop.Stop.{Stop}
-use Rattle.count_run.specs.declared.stop.Stop.TheVariants.{Arguments, Memory}
 
 -- what words ask for
 pub data Command : Type 0 where

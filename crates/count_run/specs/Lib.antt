@@ -6,5 +6,4 @@ pub mod Outcome
 pub mod Printed
 pub mod Program
 pub mod Report
-pub mod Stop
 pub mod Table

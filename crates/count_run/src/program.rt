@@ -1,17 +1,17 @@
-//! The whole program, over the ends of a process.
-ghost use Rattle.std.specs.Prelude.{◌≡◌, IfErr, Result};
+//! The whole program, over the streams of a process.
+ghost use Rattle.std.specs.Prelude.{◌≡◌, IfErr, Result, map};
+ghost use Rattle.ends.specs.Stop.{exit_status, status_of};
 ghost use Rattle.ends.specs.Words.{words_of};
-ghost use Rattle.count_run.specs.declared.stop.Stop.{Stop as TheStop};
-ghost use Rattle.count_run.specs.Program.{exit_status, Ran};
-ghost use Rattle.count_run.specs.Stop.{IsReportStop};
+ghost use Rattle.ends.specs.declared.stop.Stop.{Stop as TheStop};
+ghost use Rattle.count_run.specs.Job.{count};
+ghost use Rattle.count_run.specs.Program.{IsStopOf, Ran};
 
 use crate::job::{Job, Layout, read_job};
 use crate::run::{count_paths, count_stdin, put_report};
-use crate::stop::{Stop, line, status};
-use ends::{Watched, past_name, tell, write_all};
+use ends::{Stop, Watched, given_words, put, report};
 use std::env::Args;
 
-/// What the program takes.
+/// What `--help` prints.
 const HELP: &str = "count < FILE       counts the lines of a Rust source by what stands on them
 count PATH ..      counts those of files, and of the .rs files in folders
 count --help       writes these lines
@@ -19,43 +19,33 @@ With --files the numbers of each file are written, too. With --json they are wri
 Options stand in any order, each once. Behind -- each word is a path.
 ";
 
-/// The whole program: does what its arguments ask for, which begin with its name, tells what stopped it, and answers
-/// its status. `None` says that the arguments could not be had.
+/// Runs the program, and writes to standard error why it stopped. Returns the exit status.
+///
+/// The arguments begin with the program's name. They are `None` if the program could not get them.
 pub fn program(rt: &HostRuntime, args: Option<Args>) -> u8
     ensures ended { (outcome : Result (Unit {0}) TheStop)
         × Ran (words_of args) outcome
-        × (result ≡ exit_status outcome) }
+        × (result ≡ exit_status status_of outcome) }
 {
-    match run(rt, args) {
-        Ok(()) => 0,
-        Err(stop) => {
-            tell(&mut Watched::new(rt.stderr()), line(&stop));
-            status(&stop)
-        }
-    }
+    let outcome = run(rt, args);
+    report("count: ", &outcome, &mut Watched::new(rt.stderr()))
 }
 
-/// Does what the arguments ask for.
+/// Reads the arguments, and does what they ask for.
 fn run(rt: &HostRuntime, args: Option<Args>) -> Result<(), Stop>
     ensures { Ran (words_of args) result }
 {
-    let Some(args) = args else {
-        return Err(Stop::Memory);
-    };
-    let words = past_name(rt.alloc(), args)?;
+    let words = given_words(rt.alloc(), args)?;
     match read_job(rt.alloc(), words.as_slice())? {
         Job::Count { layout, paths } => count(rt, layout, paths.as_slice()),
-        Job::Help => {
-            write_all(&mut Watched::new(rt.stdout()), HELP.as_bytes())?;
-            Ok(())
-        }
+        Job::Help => put(&mut Watched::new(rt.stdout()), HELP),
     }
 }
 
-/// Counts the lines of what is at the paths, or else of standard input, and writes to standard output, and to standard
-/// error what was passed over.
+/// Counts the lines of the files at these paths, or of standard input if there are none. Writes the numbers to standard
+/// output, and what it skipped to standard error.
 fn count(rt: &HostRuntime, layout: Layout, paths: &[&str]) -> Result<(), Stop>
-    ensures { IfErr result IsReportStop }
+    ensures { IfErr result (IsStopOf (count layout (map (λ path. path.now) paths.now))) }
 {
     let outcome = if paths.is_empty() {
         count_stdin(rt.alloc(), &mut Watched::new(rt.stdin()))?
@@ -63,7 +53,7 @@ fn count(rt: &HostRuntime, layout: Layout, paths: &[&str]) -> Result<(), Stop>
         count_paths(rt, paths)?
     };
     for fault in &outcome.faults {
-        // Where this line can't be written there is nobody to tell.
+        // If this can't be written, there is nobody to tell.
         let _ = eprintln!(rt; "count: {fault}");
     }
     let mut output = Watched::new(rt.stdout());

@@ -1,4 +1,4 @@
-//! The numbers of files, and how they are written.
+//! The numbers of files, and how they are printed.
 ghost use Rattle.std.specs.Prelude.{◌≡◌, [], ◌∷◌, ◌++◌, IfOk, OnErr, OnOk, Some, codes, decimal, false, string_bytes, true};
 ghost use Rattle.json.specs.Json.{document};
 ghost use Rattle.json.specs.Print.{print};
@@ -15,7 +15,7 @@ use crate::lines::LineCounts;
 use json::Writer;
 use std::alloc::{AllocError, Global};
 
-/// A file, and the numbers of its lines.
+/// A file, with the numbers of its lines.
 #[derive(Debug, Drop)]
 pub struct FileCounts {
     pub path: String,
@@ -30,7 +30,7 @@ pub struct Report {
 }
 
 impl Report {
-    /// Of no file.
+    /// Returns a report with no files.
     pub fn new(alloc: Global) -> Report
         ensures files { result.files.items ≡ [] }
         ensures total { result.total ≡ spec.no_counts }
@@ -41,7 +41,7 @@ impl Report {
         }
     }
 
-    /// Takes the numbers of one file more. Where memory for it is refused nothing changes.
+    /// Adds a file and its numbers. If an allocation fails, nothing changes.
     pub fn add(&mut self, path: String, counts: LineCounts) -> Result<(), AllocError>
         ensures files { OnOk result (self.new.files.items
             ≡ self.old.files.items ++ (record { path = path; counts = counts }) ∷ []) }
@@ -55,7 +55,7 @@ impl Report {
     }
 }
 
-/// The text of a report: a table, or a JSON text and a newline.
+/// Returns the text of a report: a table, or JSON and a newline.
 #[tactic(auto, unfolding(crate::specs::Printed::printed))]
 pub fn write_report(alloc: Global, layout: Layout, report: &Report) -> Result<Vec<u8>, AllocError>
     ensures printed { IfOk result (λ text. text.items ≡ printed layout report.now) }
@@ -79,7 +79,7 @@ pub fn write_report(alloc: Global, layout: Layout, report: &Report) -> Result<Ve
 const HEAD: &str =
     "      code       doc   comment     blank     lines  code+doc code+comment doc+comment\n";
 
-/// A line for each file, if that is wanted, and one of the sums.
+/// Returns the table: a line for each file, if `by_file` asks for that, and one with the sums.
 fn write_table(alloc: Global, by_file: bool, report: &Report) -> Result<String, AllocError>
     ensures { IfOk result (λ text. string_bytes text ≡ table by_file report.now) }
 {
@@ -117,7 +117,7 @@ fn push_row(
     table.push_str("\n")
 }
 
-/// The columns of a line: how wide each is, and its number.
+/// Returns the columns of a line, each with its width and its number.
 fn columns(counts: &LineCounts) -> [(usize, u64); 8]
     ensures { result ≡ table_spec.columns counts.now }
 {
@@ -133,7 +133,7 @@ fn columns(counts: &LineCounts) -> [(usize, u64); 8]
     ]
 }
 
-/// Appends columns, each with its number at the right.
+/// Appends columns, with their numbers aligned to the right.
 fn push_columns(
     alloc: Global,
     columns: &[(usize, u64)],
@@ -148,7 +148,7 @@ fn push_columns(
     Ok(())
 }
 
-/// Appends a number at the right end of a column.
+/// Appends a number, aligned to the right of a column.
 fn push_right(
     alloc: Global,
     width: usize,
@@ -162,7 +162,7 @@ fn push_right(
     table.push_str(cell.as_str())
 }
 
-/// An object with the sums, and with the files, if that is wanted.
+/// Returns the JSON: an object with the sums, and with the files, if `by_file` asks for that.
 fn write_json(alloc: Global, by_file: bool, report: &Report) -> Result<Vec<u8>, AllocError>
     ensures text { IfOk result (λ text. text.items
         ≡ print (json_tokens (report_object by_file report.now)) ++ codes "\n") }
@@ -195,7 +195,7 @@ fn write_object(
     writer.end_object()
 }
 
-/// Writes the member with the files, if that is wanted.
+/// Writes the member with the files, if `by_file` asks for it.
 fn write_listed(
     by_file: bool,
     files: &[FileCounts],
@@ -237,7 +237,7 @@ fn write_file(file: &FileCounts, writer: &mut Writer<Global>) -> Result<(), Allo
     write_counts(&file.counts, writer)
 }
 
-/// Writes the members that numbers are, which are the last of their object.
+/// Writes the members with the numbers, and closes the object.
 fn write_counts(counts: &LineCounts, writer: &mut Writer<Global>) -> Result<(), AllocError>
     ensures before { writer.new.before ≡ writer.old.before }
     ensures tokens { OnOk result

@@ -1,24 +1,20 @@
-//! A whole run: from files, folders or standard input to a report.
+//! Counting files, folders or standard input, and writing the report.
 ghost use Rattle.std.specs.Prelude.{◌≡◌, ◌≢◌, ◌<◌, ◌^◌, ◌≤◌, ◌↔◌, [], ◌++◌, false, true, IfErr, IfOk, IfSome, IsErrOf, IsTrue, OnErr, OnOk, codes, length, map};
-ghost use Rattle.std.specs.Io.KnownBytes.{Appends, Keeps};
 ghost use Rattle.std.specs.Str.{IsUtf8};
 ghost use Rattle.std.specs.Str.Lines.{lines};
-ghost use Rattle.ends.specs.Known.{AppendsFront};
 ghost use Rattle.sources.specs.Outcomes.{Sources, passed_over, source, CameFrom, IsOfSource};
 ghost use Rattle.sources.specs.Reasons.{IsInputFault, IsNoText, IsText};
 ghost use Rattle.count_run.specs.Lines.{line_counts, lines_counted};
 ghost use Rattle.count_run.specs.Outcome.{IsCountOf, IsCounted, IsOfInput, IsOutcome};
 ghost use Rattle.count_run.specs.Outcome as spec;
-ghost use Rattle.count_run.specs.Printed.{printed};
+ghost use Rattle.count_run.specs.Printed.{printed, IsDone, Prints};
 ghost use Rattle.count_run.specs.Report.{no_counts, sums, total_of};
-ghost use Rattle.count_run.specs.Stop.{IsDone, IsReportStop, IsWriteStop};
 ghost use Rattle.count_run.specs.declared.lines.LineCounts.{LineCounts as TheCounts};
 
 use crate::job::Layout;
 use crate::lines::{LineCounts, count_lines};
 use crate::report::{Report, write_report};
-use crate::stop::Stop;
-use ends::{Watched, write_all};
+use ends::{Stop, Watched, write_all};
 use sources::{Fault, Found, PathFault, Reason, find, read_input, read_source, text_of};
 use std::alloc::{AllocError, Global};
 use std::io::{Read, Write};
@@ -37,7 +33,7 @@ pub fn count_source(bytes: &[u8]) -> Result<LineCounts, Reason>
     Ok(count_lines(text_of(bytes)?))
 }
 
-/// Counts the lines of all of the input.
+/// Counts the lines of an input, which is read to its end.
 pub fn count_input<R: Read>(alloc: Global, input: &mut Watched<R>) -> Result<LineCounts, Fault>
     requires reads { input.old.failed ≡ false }
     ensures counts { IfOk result (λ counts. IfSome (R.remaining input.old.inner)
@@ -55,7 +51,7 @@ pub fn count_input<R: Read>(alloc: Global, input: &mut Watched<R>) -> Result<Lin
     }
 }
 
-/// Counts the lines of standard input, as of a file with the name `-`.
+/// Counts the lines of standard input, under the name `-`.
 pub fn count_stdin<R: Read>(alloc: Global, input: &mut Watched<R>) -> Result<Outcome, AllocError>
     requires reads { input.old.failed ≡ false }
     ensures one { IfOk result (λ outcome.
@@ -70,7 +66,7 @@ pub fn count_stdin<R: Read>(alloc: Global, input: &mut Watched<R>) -> Result<Out
     Ok(outcome)
 }
 
-/// Counts the lines of the files at these paths, and of the sources in the folders.
+/// Counts the lines of the files at these paths, and of the Rust files in the folders.
 pub fn count_paths<R: Files + AllocGlobal + Clone + Drop>(
     rt: &R,
     paths: &[&str],
@@ -82,7 +78,7 @@ pub fn count_paths<R: Files + AllocGlobal + Clone + Drop>(
     count_found(rt, find(rt, paths)?)
 }
 
-/// Counts the lines of the files that were found: each is counted or passed over, in order.
+/// Counts the lines of the files that were found, in order. Each is counted or skipped.
 fn count_found<R: Files + AllocGlobal>(rt: &R, found: Found) -> Result<Outcome, AllocError>
     ensures sources { IfOk result (λ outcome. (sources : Sources TheCounts)
         × CameFrom IsCounted found.files.items found.faults.items sources outcome.faults.items
@@ -101,7 +97,7 @@ fn count_found<R: Files + AllocGlobal>(rt: &R, found: Found) -> Result<Outcome, 
     Ok(outcome)
 }
 
-/// Counts the lines of what was read of a file.
+/// Counts the lines of the bytes of a file, if they could be read.
 fn count_read(read: Result<Vec<u8>, Fault>) -> Result<LineCounts, Fault>
     ensures { IsCountOf read result }
 {
@@ -114,7 +110,7 @@ fn count_read(read: Result<Vec<u8>, Fault>) -> Result<LineCounts, Fault>
     }
 }
 
-/// What was counted, and what was passed over.
+/// What was counted, and what was skipped.
 #[derive(Debug, Drop)]
 pub struct Outcome {
     pub report: Report,
@@ -122,7 +118,7 @@ pub struct Outcome {
 }
 
 impl Outcome {
-    /// Of no source.
+    /// Returns an outcome with no source.
     fn new(alloc: Global) -> Outcome
         ensures files { result.report.files.items ≡ [] }
         ensures total { result.report.total ≡ no_counts }
@@ -134,7 +130,7 @@ impl Outcome {
         }
     }
 
-    /// Takes what came of one source. Where memory is refused nothing changes.
+    /// Adds a source: its numbers, or why it is skipped. If an allocation fails, nothing changes.
     fn take(&mut self, path: String, counted: Result<LineCounts, Fault>) -> Result<(), AllocError>
         ensures memory { OnOk result (IsOfSource counted) }
         ensures files { OnOk result (self.new.report.files.items
@@ -161,7 +157,7 @@ impl Outcome {
     }
 }
 
-/// Writes the report of an outcome, and flushes. What was passed over is a stop, with all else written.
+/// Writes the report of an outcome, and flushes. Returns `Stop::Skipped` if something was skipped, with all else written.
 pub fn put_report<W: Write>(
     alloc: Global,
     layout: Layout,
@@ -170,24 +166,19 @@ pub fn put_report<W: Write>(
 ) -> Result<(), Stop>
     requires writes { output.old.faulty ≡ false }
     requires open { output.old.closed ≡ false }
-    ensures stop { IfErr result IsReportStop }
     ensures write { IsErrOf result Stop.Write ↔ IsTrue output.new.faulty }
     ensures closed { IsErrOf result Stop.ClosedPipe ↔ IsTrue output.new.closed }
     ensures all { OnOk result (outcome.now.faults.items ≡ []) }
-    ensures passed { IsErrOf result Stop.Passed → outcome.now.faults.items ≢ [] }
+    ensures skipped { IsErrOf result Stop.Skipped → outcome.now.faults.items ≢ [] }
     ensures flushed { IsDone result → output.new.flushed ≡ true }
-    ensures written { IsDone result → Appends (W.contents output.old.inner)
-        (W.contents output.new.inner) (printed layout outcome.now.report) }
-    ensures begun { IsWriteStop result → AppendsFront (W.contents output.old.inner)
-        (W.contents output.new.inner) (printed layout outcome.now.report) }
-    ensures silent { IsErrOf result Stop.Memory
-        → Keeps (W.contents output.old.inner) (W.contents output.new.inner) }
+    ensures prints { Prints (printed layout outcome.now.report) (W.contents output.old.inner)
+        (W.contents output.new.inner) result }
 {
     let text = write_report(alloc, layout, &outcome.report)?;
     write_all(output, text.as_slice())?;
     if outcome.faults.is_empty() {
         Ok(())
     } else {
-        Err(Stop::Passed)
+        Err(Stop::Skipped)
     }
 }

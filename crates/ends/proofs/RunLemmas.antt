@@ -9,7 +9,6 @@ use Rattle.ends.specs.Stop.{read_stop}
 use Rattle.ends.specs.declared.reading.ReadStop.{ReadStop}
 use Rattle.ends.specs.declared.stop.Stop.{Stop}
 use Rattle.ends.specs.declared.stop.Stop.TheVariants.{NotUtf8}
-use Rattle.ends.proofs.KnownLemmas.{keeps_same}
 
 pub read_known : (known : Option (List ℕ)) (read : Vec ℕ Global) → EndsReading known (Ok read) → IfSome known (λ bytes. read.items ≡ bytes)
 read_known None read ends = tt
@@ -22,11 +21,11 @@ pub no_text : (known : Option (List ℕ)) (read : Vec ℕ Global) → EndsReadin
 no_text None read ends fits other = tt
 no_text (Some bytes) read ends fits other = rw (← ends) (fits, other)
 
-module _ (made : List ℕ → List ℕ) (known : Option (List ℕ)) where
-  -- no text was read
-  pub makes_unread : (old : Option (List ℕ)) (stop : Stop) → IsInputStop known stop → IfSome known (λ bytes. Makes made bytes old old (Err stop))
-  makes_unread old stop is = grind (arith, common_steps, keeps_same)
+-- no text was read
+pub makes_unread : (made : List ℕ → List ℕ) (known old new : Option (List ℕ)) (stop : Stop) → IsInputStop known stop → Makes made known old new (Err stop)
+makes_unread made known old new stop is = grind (arith, common_steps)
 
-  -- what was made of a text was written
-  pub makes_written : (text : List ℕ) (old new : Option (List ℕ)) (result : Result (Unit {0}) Stop) → IfSome known (λ bytes. text ≡ bytes) → IsUtf8 text → length text < 2 ^ 32 → Writes (made text) old new result → IfSome known (λ bytes. Makes made bytes old new result)
-  makes_written text old new result is utf8 fits writes = grind (arith, common_steps)
+-- what was made of a text was written
+pub makes_written : (made : List ℕ → List ℕ) (known : Option (List ℕ)) (text : List ℕ) (old new : Option (List ℕ)) (result : Result (Unit {0}) Stop) → IfSome known (λ bytes. text ≡ bytes) → IsUtf8 text → length text < 2 ^ 32 → Writes (made text) old new result
+    → Makes made known old new result
+makes_written made known text old new result is utf8 fits writes = grind (arith, common_steps)

@@ -24,14 +24,16 @@ Writes text old new (Err Write) = AppendsFront old new text
 Writes text old new (Err ClosedPipe) = AppendsFront old new text
 Writes text old new (Err stop) = ⊥
 
--- how a run over bytes ends that writes what is made of a text: after a failed read, and where memory was refused, nothing
--- goes out, and nothing where the bytes are too many or no text; else all that is made of them does, or a beginning of it
-abbrev pub Makes : (List ℕ → List ℕ) → List ℕ → Option (List ℕ) → Option (List ℕ) → Result (Unit {0}) Stop → Type 0
-Makes made bytes old new (Err Read) = Keeps old new
-Makes made bytes old new (Err Memory) = Keeps old new
-Makes made bytes old new (Err TooLong) = (2 ^ 32 ≤ length bytes) × Keeps old new
-Makes made bytes old new (Err NotUtf8) = (length bytes < 2 ^ 32) × ¬ (IsUtf8 bytes) × Keeps old new
-Makes made bytes old new result = IsUtf8 bytes × (length bytes < 2 ^ 32) × Writes (made bytes) old new result
+-- the bytes, where they are known, are a text that can be held, of which this holds
+abbrev pub OfText : (List ℕ → Type 0) → Option (List ℕ) → Type 0
+OfText Holds known = IfSome known (λ bytes. IsUtf8 bytes × (length bytes < 2 ^ 32) × Holds bytes)
+
+-- how a run ends that writes what is made of a text: all of that goes out, or a beginning of it, or else no text was had
+abbrev pub Makes : (List ℕ → List ℕ) → Option (List ℕ) → Option (List ℕ) → Option (List ℕ) → Result (Unit {0}) Stop → Type 0
+Makes made known old new (Ok done) = OfText (λ bytes. Appends old new (made bytes)) known
+Makes made known old new (Err Write) = OfText (λ bytes. AppendsFront old new (made bytes)) known
+Makes made known old new (Err ClosedPipe) = OfText (λ bytes. AppendsFront old new (made bytes)) known
+Makes made known old new (Err stop) = IsInputStop known stop
 
 -- how a run leaves its ends, where the known bytes of the output grew from `old` to `new`
 pub record Leaves {R W : Type 0} (input : Watch R) (output : Watch W) (old new : Option (List ℕ)) (outcome : Result (Unit {0}) Stop) : Type 0 where

@@ -1,4 +1,4 @@
-//! All that a reader gives.
+//! Reading all of an input.
 ghost use Rattle.std.specs.Prelude.{◌≡◌, ◌↔◌, ◌^◌, ◌<◌, false, IfOk, IsErrOf, IsTrue, length};
 ghost use Rattle.ends.specs.Reading.{EndsReading};
 
@@ -6,21 +6,21 @@ use crate::watched::Watched;
 use std::alloc::Global;
 use std::io::Read;
 
-/// Why reading stops before the end of the input.
+/// Why reading stopped before the end of the input.
 #[derive(Clone, Copy, Debug, PartialEq, Eq)]
 pub enum ReadStop {
     /// The input has more than `u32::MAX` bytes.
     TooLong,
-    /// A request for memory was refused.
+    /// An allocation failed.
     Memory,
     /// The reader failed.
     Failed,
 }
 
-/// How many bytes a read asks for.
+/// The number of bytes that each read asks for.
 const PIECE: usize = 65536;
 
-/// All bytes up to the end of the input, of which there are at most `u32::MAX`.
+/// Reads all bytes up to the end of the input, at most `u32::MAX` of them.
 pub fn read_all<R: Read>(alloc: Global, input: &mut Watched<R>) -> Result<Vec<u8>, ReadStop>
     requires reads { input.old.failed ≡ false }
     ensures failed { IsErrOf result ReadStop.Failed ↔ IsTrue input.new.failed }

@@ -1,4 +1,4 @@
-//! What most runs begin and end with: a text that is read, and one that is written.
+//! Reading a whole text, and writing one.
 ghost use Rattle.std.specs.Prelude.{◌≡◌, ◌<◌, ◌^◌, ◌↔◌, false, true, IfErr, IfOk, IfSome, IsErrOf, IsTrue, length, string_bytes};
 ghost use Rattle.ends.specs.Run.{IsInputStop, Writes};
 
@@ -9,7 +9,7 @@ use crate::writing::write_all;
 use std::alloc::Global;
 use std::io::{Read, Write};
 
-/// Reads all of the input, which is to be a text of at most `u32::MAX` bytes.
+/// Reads all of the input into a string of at most `u32::MAX` bytes.
 #[tactic(auto, using(crate::proofs::RunLemmas::read_known, crate::proofs::RunLemmas::unread, crate::proofs::RunLemmas::no_text))]
 pub fn read_text<R: Read>(alloc: Global, input: &mut Watched<R>) -> Result<String, Stop>
     requires reads { input.old.failed ≡ false }
@@ -23,7 +23,7 @@ pub fn read_text<R: Read>(alloc: Global, input: &mut Watched<R>) -> Result<Strin
     String::from_utf8(bytes).map_err(|_| Stop::NotUtf8)
 }
 
-/// Writes all of the text, and flushes.
+/// Writes the whole text, and flushes.
 pub fn put<W: Write>(output: &mut Watched<W>, text: &str) -> Result<(), Stop>
     requires writes { output.old.faulty ≡ false }
     requires open { output.old.closed ≡ false }

@@ -1,4 +1,4 @@
-//! The words of the command line.
+//! The arguments of a program.
 ghost use Rattle.std.specs.Prelude.{◌≡◌, IfOk, Some, drop, map, string_bytes};
 ghost use Rattle.std.specs.Vec.Iter.{into_iter_items};
 ghost use Rattle.ends.specs.Words.{words_of};
@@ -6,7 +6,7 @@ ghost use Rattle.ends.specs.Words.{words_of};
 use std::alloc::{AllocError, Global};
 use std::env::Args;
 
-/// The words after the first, which is the program's name.
+/// Returns the arguments after the first, which is the program's name.
 pub fn past_name(alloc: Global, mut args: Args) -> Result<Vec<String>, AllocError>
     ensures { IfOk result (λ words. words.items ≡ drop 1 (into_iter_items args)) }
 {
@@ -18,8 +18,8 @@ pub fn past_name(alloc: Global, mut args: Args) -> Result<Vec<String>, AllocErro
     Ok(words)
 }
 
-/// The words after the first, which is the program's name. Where the arguments could not be had, as `None` says, it is as
-/// if memory was refused.
+/// Returns the arguments after the first, which is the program's name. `None` stands for arguments that the program could
+/// not get, and gives the error of a failed allocation.
 pub fn given_words(alloc: Global, args: Option<Args>) -> Result<Vec<String>, AllocError>
     ensures { IfOk result (λ words. words_of args ≡ Some (map string_bytes words.items)) }
 {

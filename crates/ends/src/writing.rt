@@ -1,4 +1,4 @@
-//! Bytes that are written, all of them or a beginning.
+//! Writing all of some bytes.
 ghost use Rattle.std.specs.Prelude.{◌≡◌, ◌||◌, ◌++◌, false, true, if◌then◌else◌, is_err, IfOk, OnErr, OnOk};
 ghost use Rattle.std.specs.Io.KnownBytes.{Appends};
 ghost use Rattle.ends.specs.Known.{AppendsFront};
@@ -8,12 +8,12 @@ ghost use Rattle.ends.specs.Writing.{is_fault, is_pipe_closed};
 use crate::watched::{Watched, is_closed};
 use std::io::{Error, Write};
 
-/// Why writing stops.
+/// Why writing stopped.
 #[derive(Clone, Copy, Debug, PartialEq, Eq)]
 pub enum WriteStop {
-    /// The writer failed, or took nothing of what it was given.
+    /// The writer failed, or took none of the bytes that it was given.
     Failed,
-    /// Nobody reads what is written any more.
+    /// Nobody reads the output any more.
     ClosedPipe,
 }
 
@@ -59,7 +59,7 @@ pub fn write_bytes<W: Write>(output: &mut Watched<W>, bytes: &[u8]) -> Result<()
     Ok(())
 }
 
-/// Writes three texts, one behind another, and flushes.
+/// Writes three texts, one after another, and flushes.
 pub fn write_texts<W: Write>(
     output: &mut Watched<W>,
     one: &str,
@@ -80,21 +80,7 @@ pub fn write_texts<W: Write>(
     write_all(output, three.as_bytes())
 }
 
-/// Writes what is told of a run, and flushes. Where it can't be written there is nobody to tell.
-///
-/// What goes out is all of the line where the writer does not fail, else a beginning of it. Where it never failed, the
-/// last thing asked of it was a flush that was not refused.
-pub fn tell<E: Write>(errors: &mut Watched<E>, line: &str)
-    ensures line { errors.new.faulty ≡ false → errors.new.closed ≡ false
-        → Appends (E.contents errors.old.inner) (E.contents errors.new.inner) line.now }
-    ensures flushed { errors.new.faulty ≡ false → errors.new.closed ≡ false
-        → errors.new.flushed ≡ true }
-    ensures front { AppendsFront (E.contents errors.old.inner) (E.contents errors.new.inner) line.now }
-{
-    let _ = write_all(errors, line.as_bytes());
-}
-
-/// Why writing stops where the writer answers an error.
+/// Returns why writing stops when the writer returns this error.
 fn write_stop(error: &Error) -> WriteStop
     ensures { result ≡ (if is_closed error.now then WriteStop.ClosedPipe else WriteStop.Failed) }
 {

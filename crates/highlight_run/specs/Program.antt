@@ -1,5 +1,5 @@
 -- What the program comes to, by its arguments and the bytes that it reads.
-use Rattle.std.specs.Prelude.{ℕ, ◌≡◌, ◌==◌, Bool, true, false, ◌&&◌, List, Option, Some, None, Result, Ok, Err, IfSome, length, string_bytes}
+use Rattle.std.specs.Prelude.{ℕ, ◌≡◌, ◌==◌, Bool, true, false, ◌&&◌, List, Option, Some, None, Result, Ok, Err, length, string_bytes}
 use Rattle.std.specs.Option.{option_map}
 use Rattle.std.specs.Global.{Global}
 use Rattle.std.specs.declared.env.VarError.{VarError}
@@ -29,7 +29,7 @@ colours_of no_color is_terminal = option_map (λ unset. unset && is_terminal) (i
 -- what a job comes to
 abbrev pub Does : Option (List ℕ) → Option (List ℕ) → Option (List ℕ) → Job → Result (Unit {0}) Stop → Type 0
 Does known old new Help result = Writes HELP.now old new result
-Does known old new (Show style edition) result = IfSome known (λ bytes. Makes (printed style edition) bytes old new result)
+Does known old new (Show style edition) result = Makes (printed style edition) known old new result
 
 -- a run by words, or by none where they could not be had: it is that of the job which the words ask for, unless
 -- memory was refused; without words, or where it is not known whether colours are written, memory was refused

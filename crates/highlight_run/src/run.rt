@@ -1,5 +1,5 @@
 //! A whole run, from a reader to a writer.
-ghost use Rattle.std.specs.Prelude.{◌≡◌, false, IfOk, IfSome, string_bytes};
+ghost use Rattle.std.specs.Prelude.{◌≡◌, false, IfOk, string_bytes};
 ghost use Rattle.rustc_lexer.specs.Classes.{Fits};
 ghost use Rattle.ends.specs.Run.{Leaves, Makes};
 ghost use Rattle.highlight_run.specs.Page.{printed};
@@ -29,9 +29,8 @@ pub fn run<R: Read, W: Write>(
     requires open { output.old.closed ≡ false }
     ensures leaves { Leaves input.new output.new (W.contents output.old.inner)
         (W.contents output.new.inner) result }
-    ensures ends { IfSome (R.remaining input.old.inner) (λ bytes.
-        Makes (printed style edition) bytes (W.contents output.old.inner)
-        (W.contents output.new.inner) result) }
+    ensures ends { Makes (printed style edition) (R.remaining input.old.inner)
+        (W.contents output.old.inner) (W.contents output.new.inner) result }
 {
     let text = read_text(alloc, input)?;
     let Ok(made) = print(alloc, style, edition, text.as_str()) else {

@@ -1,7 +1,7 @@
 -- The statuses of the program, and its lines on standard error.
 use Rattle.std.specs.Prelude.{ℕ, List, [], ◌∷◌, ◌++◌, codes, decimal, Option, Some, None}
 use Rattle.ends.specs.declared.stop.Stop.{Stop}
-use Rattle.ends.specs.declared.stop.Stop.TheVariants.{Arguments as ArgumentsStop, NotUtf8 as NotUtf8Stop, TooLong as LongStop, Memory as NoMemoryStop, Read as ReadStop, Write as WriteStop, ClosedPipe}
+use Rattle.ends.specs.declared.stop.Stop.TheVariants.{Arguments as ArgumentsStop, NotUtf8 as NotUtf8Stop, TooLong as LongStop, Memory as NoMemoryStop, Read as ReadStop}
 use Rattle.rustc_lexer.specs.declared.relex.edit_list.EditStop.{EditStop}
 use Rattle.rustc_lexer.specs.declared.relex.edit_list.EditStop.TheVariants.{Range as RangeStop, TooLong as TooLongStop, Memory as MemoryStop}
 use Rattle.lexdump_run.specs.declared.fault.Fault.{Fault}
@@ -42,12 +42,11 @@ stop_fault (RangeStop at) = EditRange at
 stop_fault (TooLongStop at) = EditTooLong at
 stop_fault (MemoryStop at) = Memory
 
--- the fault of an end that stopped
+-- the fault of a stop of `ends`
 abbrev pub end_fault : Stop → Fault
 end_fault ArgumentsStop = Arguments
 end_fault NotUtf8Stop = NotUtf8
 end_fault LongStop = TooLong
 end_fault NoMemoryStop = Memory
 end_fault ReadStop = Read
-end_fault WriteStop = Write
-end_fault ClosedPipe = Write
+end_fault stop = Write

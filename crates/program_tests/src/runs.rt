@@ -98,7 +98,7 @@ fn run(alloc: Global, program: Program, text: &[u8], script: Script) -> Result<C
             let outcome = count_stdin(alloc, &mut input)?;
             match put_report(alloc, TABLE, &outcome, &mut output) {
                 Ok(()) => 0,
-                Err(stop) => count_run::status(&stop),
+                Err(stop) => stop.status(),
             }
         }
     };

@@ -1,4 +1,4 @@
-//! The text of a source.
+//! Reading the text of a source.
 ghost use Rattle.std.specs.Prelude.{◌≡◌, ◌<◌, ◌≤◌, ◌^◌, ◌↔◌, false, Err, IfErr, IfOk, IfSome, IsErrOf, IsTrue, length};
 ghost use Rattle.std.specs.IoError.{error_kind};
 ghost use Rattle.std.specs.Str.{IsUtf8};
@@ -13,7 +13,7 @@ use std::io;
 use std::io::Read;
 use std::rt::Files;
 
-/// The text that these bytes are, of at most `u32::MAX` of them.
+/// Returns the text of these bytes, if they are UTF-8 and at most `u32::MAX`.
 pub fn text_of(bytes: &[u8]) -> Result<&str, Reason>
     ensures text { IfOk result (λ text. text.now ≡ bytes.now) }
     ensures fits { IfOk result (λ text. Fits text.now) }
@@ -32,8 +32,8 @@ pub fn text_of(bytes: &[u8]) -> Result<&str, Reason>
     }
 }
 
-/// All bytes of an input, of which there are at most `u32::MAX`.
-#[tactic(auto, using(crate::proofs::ReadingLemmas::read_known, crate::proofs::ReadingLemmas::long_known))]
+/// Reads all bytes of an input, at most `u32::MAX` of them.
+#[tactic(auto, using(ends::proofs::RunLemmas::read_known, crate::proofs::ReadingLemmas::long_known))]
 pub fn read_input<R: Read>(alloc: Global, input: &mut Watched<R>) -> Result<Vec<u8>, Fault>
     requires reads { input.old.failed ≡ false }
     ensures bytes { IfOk result (λ all.
@@ -51,7 +51,7 @@ pub fn read_input<R: Read>(alloc: Global, input: &mut Watched<R>) -> Result<Vec<
     }
 }
 
-/// All bytes of a file, of which there are at most `u32::MAX`.
+/// Reads all bytes of a file, at most `u32::MAX` of them.
 pub fn read_source<R: Files + AllocGlobal>(rt: &R, path: &str) -> Result<Vec<u8>, Fault>
     ensures fits { IfOk result (λ all. length all.items < 2 ^ 32) }
     ensures fault { IfErr result IsUnread }
@@ -59,7 +59,7 @@ pub fn read_source<R: Files + AllocGlobal>(rt: &R, path: &str) -> Result<Vec<u8>
     read_opened(rt.alloc(), File::open(rt, path))
 }
 
-/// All bytes of a file that was opened, if it could be.
+/// Reads all bytes of a file, if it could be opened.
 fn read_opened<R: Read + Drop>(alloc: Global, opened: io::Result<R>) -> Result<Vec<u8>, Fault>
     ensures refused { IfErr opened (λ error. result ≡ Err (system_fault (error_kind error))) }
     ensures bytes { IfOk opened (λ file. IfOk result (λ all.

@@ -1,4 +1,4 @@
-//! The files that a walk of folders finds.
+//! Finding the files in folders.
 ghost use Rattle.std.specs.Prelude.{◌≡◌, ◌≢◌, ◌↔◌, [], IfOk, IsTrue, Ok, OnErr, OnOk, map};
 ghost use Rattle.std.specs.List.{All};
 ghost use Rattle.std.specs.Fs.{dir_entry_path, IsDir, IsFile};
@@ -16,7 +16,7 @@ use std::{fs, io};
 /// The files that were found, and the paths that could not be read.
 #[derive(Debug, Drop)]
 pub struct Found {
-    /// In order, and each once.
+    /// The files, in order and each once.
     pub files: Vec<String>,
     pub faults: Vec<PathFault>,
 }
@@ -32,7 +32,7 @@ impl Found {
         }
     }
 
-    /// Notes that the system refused a path. Where it has no memory, nothing more is done.
+    /// Records that the system refused a path. If it has no memory left, this is an error and nothing changes.
     fn refuse(&mut self, alloc: Global, path: &str, kind: ErrorKind) -> Result<(), AllocError>
         ensures files { self.new.files ≡ self.old.files }
         ensures memory { OnOk result (kind ≢ ErrorKind.OutOfMemory) }
@@ -50,8 +50,8 @@ impl Found {
         Ok(())
     }
 
-    /// Takes a path by what is told of it: to the sources, to the folders that are to be walked, to what the system
-    /// refused, or to none of these. Where memory is refused nothing changes.
+    /// Adds a path to the sources, to the folders still to be walked, to the faults, or to none of these, as `told` says.
+    /// If an allocation fails, nothing changes.
     fn take(
         &mut self,
         alloc: Global,
@@ -88,10 +88,10 @@ fn push_path(alloc: Global, path: &str, paths: &mut Vec<String>) -> Result<(), A
     Ok(())
 }
 
-/// The files at these paths: a file itself, whatever its name, and of a folder the Rust sources in it and below it.
+/// Finds the files at these paths: a file itself, whatever its name, and the Rust sources in a folder and below it.
 ///
-/// A walk passes over hidden names and folders with the name `target`, and follows no symbolic link. A path that
-/// can't be read is a fault, and the rest is found. The one error is that a request for memory was refused.
+/// It skips hidden names and folders named `target`, and follows no symbolic links. A path that can't be read is a fault,
+/// and the rest is found. The only error is that an allocation failed.
 pub fn find<R: Files + AllocGlobal + Clone + Drop>(
     rt: &R,
     paths: &[&str],
@@ -135,7 +135,7 @@ fn walk<R: Files + AllocGlobal + Clone + Drop>(
     Ok(())
 }
 
-/// Finds the sources in a folder, and the folders in it that are to be walked.
+/// Finds the sources in a folder, and the folders in it to be walked.
 fn list<R: Files + AllocGlobal + Clone + Drop>(
     rt: &R,
     folder: &str,
@@ -166,7 +166,7 @@ fn list<R: Files + AllocGlobal + Clone + Drop>(
     Ok(())
 }
 
-/// What an entry of a folder is taken for. Of one that is passed over by its name nothing is asked.
+/// Returns what an entry of a folder is taken for. If its name is skipped, the system is not asked for its type.
 fn told_of<R: Files>(entry: &DirEntry<R, Global>) -> Result<Choice, ErrorKind>
     ensures { IsTold (dir_entry_path entry.now) result }
 {
@@ -180,7 +180,7 @@ fn told_of<R: Files>(entry: &DirEntry<R, Global>) -> Result<Choice, ErrorKind>
     }
 }
 
-/// What a path that was asked for is taken for: a folder is walked, and all else is a source, whatever its name.
+/// Returns what an argument is taken for: a folder is walked, and all else is a source, whatever its name.
 fn told_of_path(what: io::Result<Metadata>) -> Result<Choice, ErrorKind>
     ensures { result ≡ told_of_path what }
 {
@@ -191,7 +191,7 @@ fn told_of_path(what: io::Result<Metadata>) -> Result<Choice, ErrorKind>
     }
 }
 
-/// What an entry of a folder is taken for.
+/// What a path is taken for.
 #[derive(Clone, Copy, Debug, PartialEq, Eq)]
 enum Choice {
     Folder,
@@ -199,7 +199,7 @@ enum Choice {
     Neither,
 }
 
-/// What an entry with this name and of this type is taken for.
+/// Returns what an entry with this name and of this type is taken for.
 fn choice_of(name: &str, what: &FileType) -> Choice
     ensures folder { (result ≡ Choice.Folder) ↔ (IsDir what.now × IsFolderName name.now) }
     ensures source { result ≡ Choice.Source → IsFile what.now × IsTrue (is_source_name name.now) }
@@ -214,21 +214,21 @@ fn choice_of(name: &str, what: &FileType) -> Choice
     }
 }
 
-/// Whether a file with this name is taken for a Rust source.
+/// Returns whether a file with this name is taken for a Rust source.
 fn is_source_name(name: &str) -> bool
     ensures { result ≡ is_source_name name.now }
 {
     !is_hidden(name) && name.as_bytes().ends_with(b".rs".as_slice())
 }
 
-/// Whether a folder with this name is walked.
+/// Returns whether a folder with this name is walked.
 fn is_folder_name(name: &str) -> bool
     ensures { IsTrue result ↔ IsFolderName name.now }
 {
     !is_hidden(name) && name != "target"
 }
 
-/// Whether the name begins with a dot.
+/// Returns whether the name begins with a dot.
 fn is_hidden(name: &str) -> bool
     ensures { result ≡ is_hidden name.now }
 {

@@ -1,20 +1,20 @@
-//! The words of a command line: options, and the paths among them.
+//! Options and paths among the arguments.
 ghost use Rattle.std.specs.Prelude.{◌≡◌, IfOk, map, string_bytes};
 ghost use Rattle.sources.specs.Words.{are_known, has, is_option, options_of, paths_of};
 
 use std::alloc::{AllocError, Global};
 
-/// The words of a command line, apart.
+/// Arguments, split into options and paths.
 #[derive(Debug, Drop)]
 pub struct Words<'a> {
-    /// In order.
+    /// The options, in order.
     pub options: Vec<&'a str>,
-    /// In order.
+    /// The paths, in order.
     pub paths: Vec<&'a str>,
 }
 
-/// Takes the words after the program's name apart. What begins with a minus is an option, but for `-` alone; all
-/// else is a path. `--` ends the options, and is neither. The one error is that a request for memory was refused.
+/// Splits the arguments after the program's name. A word that begins with a minus is an option, except `-` alone. Any
+/// other word is a path. `--` ends the options, and is neither. The only error is that an allocation failed.
 pub fn take_apart<'a>(alloc: Global, words: &'a [String]) -> Result<Words<'a>, AllocError>
     ensures options { IfOk result
         (λ apart. map (λ s. s.now) apart.options.items ≡ options_of (map string_bytes words.now)) }
@@ -39,21 +39,21 @@ pub fn take_apart<'a>(alloc: Global, words: &'a [String]) -> Result<Words<'a>, A
     Ok(Words { options, paths })
 }
 
-/// Whether the word is an option, where options are not over.
+/// Returns whether a word before `--` is an option.
 fn is_option(word: &str) -> bool
     ensures { result ≡ is_option word.now }
 {
     word != "-" && word.starts_with('-')
 }
 
-/// Whether an option of this name is among these.
+/// Returns whether these options have one of this name.
 pub fn has(options: &[&str], name: &str) -> bool
     ensures { result ≡ has (map (λ s. s.now) options.now) name.now }
 {
     options.contains(&name)
 }
 
-/// Whether each of the options is a known one, and none stands twice.
+/// Returns whether each option is known, and none is given twice.
 pub fn are_known(options: &[&str], known: &[&str]) -> bool
     ensures { result ≡ are_known (map (λ s. s.now) options.now) (map (λ s. s.now) known.now) }
 {

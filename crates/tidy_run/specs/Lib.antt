@@ -1,5 +1,3 @@
 pub mod Job
 pub mod Order
-pub mod Outcome
 pub mod Program
-pub mod Stop

@@ -9,8 +9,10 @@ use crate::source::push_source;
 use rustc_lexer::{Edition, strip_shebang, tokenize_document};
 use std::alloc::{AllocError, Global};
 
-/// A text with its white space and the line ends of its comments in order, closed by a newline. Its shebang line and
-/// all tokens but white space stay, with their texts but for those line ends, and a text in order stays as it is.
+/// Returns a text with its white space and the line ends of its comments in order, and a newline at its end.
+///
+/// The shebang line stays, and so do all tokens except white space, with their texts except for those line ends. A text in
+/// order stays as it is.
 #[tactic(auto, using(crate::proofs::DocumentLemmas::room, crate::proofs::DocumentLemmas::full_law, crate::proofs::DocumentLemmas::made_shorter), unfolding(crate::specs::Order::tidied))]
 pub fn tidied(alloc: Global, text: &str) -> Result<String, AllocError>
     requires fits { Fits text.now }
@@ -28,7 +30,7 @@ pub fn tidied(alloc: Global, text: &str) -> Result<String, AllocError>
     }
 }
 
-/// The shebang line, and what follows it in order.
+/// Returns the shebang line, and the rest of the text in order.
 fn ordered(alloc: Global, text: &str) -> Result<String, AllocError>
     requires room { length text.now + 1 < 2 ^ 32 }
     ensures text { IfOk result (λ out. string_bytes out ≡ spec.document_in_order text.now) }

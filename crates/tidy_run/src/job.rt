@@ -1,19 +1,19 @@
-//! What a run is to do.
+//! What the arguments ask for.
 ghost use Rattle.std.specs.Prelude.{◌≡◌, map, string_bytes};
 ghost use Rattle.tidy_run.specs.Job.{job_of};
 
-/// What a run is to do.
+/// What a run does.
 #[derive(Clone, Copy, Debug, PartialEq, Eq)]
 pub enum Job {
     /// Write the text of standard input in order.
     Write,
-    /// Say whether it is in order, and write nothing.
+    /// Check whether it is in order, and write nothing.
     Check,
-    /// Say what the program takes.
+    /// Print what the program takes.
     Help,
 }
 
-/// The job that the words after the program's name ask for, or `None` where they ask for none.
+/// Returns the job that the arguments after the program's name ask for, or `None` if they ask for none.
 pub fn read_job(words: &[String]) -> Option<Job>
     ensures { result ≡ job_of (map string_bytes words.now) }
 {

@@ -1,4 +1,4 @@
-//! White space and tokens in order.
+//! Putting white space and tokens in order.
 ghost use Rattle.std.specs.Prelude.{◌≡◌, ◌+◌, ◌<◌, ◌≤◌, ◌^◌, ◌++◌, ◌==◌, IfSome, MatchOption, OnOk, length, string_bytes};
 ghost use Rattle.rustc_lexer.specs.Classes.{Fits};
 ghost use Rattle.rustc_lexer.specs.LanguageText.{mode_of};
@@ -9,7 +9,7 @@ use memchr::memchr;
 use rustc_lexer::{FrontmatterAllowed, LiteralKind, TokenKind, tokenize};
 use std::alloc::AllocError;
 
-/// Appends the tokens of a text, with the white space in order.
+/// Appends the tokens of a text, with its white space in order.
 pub fn push_code(
     text: &str,
     allowed: FrontmatterAllowed,
@@ -28,7 +28,7 @@ pub fn push_code(
     Ok(())
 }
 
-/// Appends a token, or, where it is white space, that in order.
+/// Appends a token. White space is appended in order.
 pub fn push_part(
     kind: TokenKind,
     part: &str,
@@ -51,7 +51,7 @@ pub fn push_part(
     push_in_order(part, output)
 }
 
-/// Appends the text of a token that is no white space; a comment gets unix line ends.
+/// Appends the text of a token that is not white space. A comment gets Unix line ends.
 fn push_text(kind: TokenKind, text: &str, output: &mut String) -> Result<(), AllocError>
     ensures { OnOk result (string_bytes output.new
         ≡ string_bytes output.old ++ spec.text_in_order kind text.now) }
@@ -66,7 +66,7 @@ fn push_text(kind: TokenKind, text: &str, output: &mut String) -> Result<(), All
     }
 }
 
-/// Appends a text with no carriage return before the end of a line; `is_line` says whether its end is one.
+/// Appends a text without the carriage returns at the ends of its lines. `is_line` says whether the text ends a line.
 #[tactic(auto, using(crate::proofs::UnixLemmas::unix_lines_are))]
 fn push_unix(text: &str, is_line: bool, output: &mut String) -> Result<(), AllocError>
     ensures unix { spec.IsUnix is_line (spec.unix_lines is_line text.now) }
@@ -87,7 +87,7 @@ fn push_unix(text: &str, is_line: bool, output: &mut String) -> Result<(), Alloc
     output.push_str(&rest[..end])
 }
 
-/// Where the carriage returns right before a place begin.
+/// Returns where the carriage returns right before a place begin.
 fn line_end(text: &str, place: usize) -> usize
     requires inside { place ≤ length text.now }
     ensures { spec.IsRunBefore (λ c. c == 13) text.now place result }
@@ -100,7 +100,7 @@ fn line_end(text: &str, place: usize) -> usize
     end
 }
 
-/// Whether a newline behind the token would become a part of it: nothing closes it, or it is a frontmatter.
+/// Returns whether a newline after the token would become part of it: it is not closed, or it is a frontmatter.
 fn is_open(kind: TokenKind) -> bool
     ensures { result ≡ spec.is_open kind }
 {
@@ -112,7 +112,7 @@ fn is_open(kind: TokenKind) -> bool
     }
 }
 
-/// Whether nothing closes the literal.
+/// Returns whether the literal is not closed.
 fn is_open_literal(kind: LiteralKind) -> bool
     ensures { result ≡ spec.is_open_literal kind }
 {
@@ -129,14 +129,14 @@ fn is_open_literal(kind: LiteralKind) -> bool
     }
 }
 
-/// Whether the token is white space.
+/// Returns whether the token is white space.
 pub fn is_space(kind: TokenKind) -> bool
     ensures { result ≡ spec.is_space kind }
 {
     matches!(kind, TokenKind::Whitespace)
 }
 
-/// Appends white space in order: no blank before a newline, and no three newlines in a row.
+/// Appends white space in order: with no blank before a newline, and at most two newlines in a row.
 #[tactic(auto, using(crate::proofs::OrderLemmas::in_order_is))]
 fn push_in_order(space: &str, output: &mut String) -> Result<(), AllocError>
     ensures ordered { spec.IsInOrder (spec.in_order space.now) }
@@ -160,7 +160,7 @@ fn push_in_order(space: &str, output: &mut String) -> Result<(), AllocError>
     output.push_str(rest)
 }
 
-/// Where the blanks right before a place begin.
+/// Returns where the blanks right before a place begin.
 fn solid_end(text: &str, place: usize) -> usize
     requires inside { place ≤ length text.now }
     ensures { spec.IsRunBefore spec.is_blank text.now place result }
@@ -173,7 +173,7 @@ fn solid_end(text: &str, place: usize) -> usize
     end
 }
 
-/// Where the first newline of a text stands.
+/// Returns where the first newline of a text is.
 fn newline(text: &str) -> Option<usize>
     ensures found { MatchOption result (spec.HasNoNewline text.now) (spec.IsNewline text.now) }
     ensures few { IfSome result (λ at. at + 1 < 2 ^ 64) }
@@ -181,7 +181,7 @@ fn newline(text: &str) -> Option<usize>
     memchr(b'\n', text.as_bytes())
 }
 
-/// Space, tab and carriage return.
+/// Returns whether the byte is a space, a tab or a carriage return.
 fn is_blank(byte: u8) -> bool
     ensures { result ≡ spec.is_blank byte }
 {

@@ -1,4 +1,4 @@
-//! A source in order, with a frontmatter in front or without.
+//! Putting a source in order, which may begin with a frontmatter.
 ghost use Rattle.std.specs.Prelude.{◌≡◌, ◌+◌, ◌<◌, ◌^◌, ◌++◌, OnOk, length, string_bytes};
 ghost use Rattle.rustc_lexer.specs.Classes.{Fits};
 ghost use Rattle.rustc_lexer.specs.declared.edition.Edition.TheVariants.{E2024};
@@ -28,8 +28,8 @@ pub fn push_source(alloc: Global, text: &str, output: &mut String) -> Result<(),
     push_front(alloc, &text[end..], output)
 }
 
-/// Appends a source in order that begins with no white space. Past a frontmatter it is put in order
-/// only if the frontmatter stays as it is: what ends one that is not closed may stand behind it.
+/// Appends a source in order that does not begin with white space. The text after a frontmatter is put in order only if
+/// the frontmatter stays as it is, since the white space after an unclosed one may decide where it ends.
 fn push_front(alloc: Global, text: &str, output: &mut String) -> Result<(), AllocError>
     requires room { length text.now + 1 < 2 ^ 32 }
     ensures { OnOk result (string_bytes output.new
@@ -53,7 +53,7 @@ fn push_front(alloc: Global, text: &str, output: &mut String) -> Result<(), Allo
     }
 }
 
-/// Whether this is the first token of a text.
+/// Returns whether this is the first token of a text.
 fn begins_with(front: Token, text: &str) -> bool
     requires fits { Fits text.now }
     ensures { result ≡ spec.begins_with front (tokens_of (document E2024) text.now) }
@@ -64,7 +64,7 @@ fn begins_with(front: Token, text: &str) -> bool
     first == front
 }
 
-/// Whether the token is a frontmatter.
+/// Returns whether the token is a frontmatter.
 fn is_front(kind: TokenKind) -> bool
     ensures { result ≡ spec.is_front kind }
 {

@@ -1,27 +1,27 @@
-//! What stands on the lines of a text, and how many lines there are of each sort.
+//! What is on each line of a text, and how many lines there are of each sort.
 
 use rustc_lexer::erased::{Edition, TokenKind, tokenize_document};
 
-/// How many lines of a text have what on them. The first four numbers count each line once.
+/// The lines of a text, counted by what is on them. The first four numbers count each line once.
 #[derive(Clone, Copy, Debug, PartialEq, Eq)]
 pub struct LineCounts {
     /// Lines with code.
     pub code: u64,
     /// Lines with a doc comment and no code.
     pub doc: u64,
-    /// Lines with a comment that is no doc comment, and with neither code nor a doc comment.
+    /// Lines with another comment, and with neither code nor a doc comment.
     pub comment: u64,
     /// Lines with none of these.
     pub blank: u64,
     /// Lines with code and a doc comment.
     pub code_and_doc: u64,
-    /// Lines with code and a comment that is no doc comment.
+    /// Lines with code and another comment.
     pub code_and_comment: u64,
     /// Lines with a doc comment and another comment.
     pub doc_and_comment: u64,
 }
 
-/// What a token is to a counter of lines.
+/// What a token counts as.
 #[derive(Clone, Copy)]
 enum Class {
     Code,
@@ -30,7 +30,7 @@ enum Class {
     Space,
 }
 
-/// What stands on a line.
+/// What is on a line.
 #[derive(Clone, Copy)]
 struct Line {
     code: bool,
@@ -40,9 +40,8 @@ struct Line {
 
 /// Counts the lines of a text of at most `u32::MAX` bytes.
 ///
-/// A token stands on each line on which a byte of it lies, so a blank line inside of a string is code, and
-/// one inside of a comment is a comment. A shebang line and a frontmatter are code. What follows the last newline
-/// is a line if it is not empty.
+/// A token is on each line that has a byte of it. So a blank line in a string is code, and one in a comment is a comment.
+/// A shebang line and a frontmatter are code. If there is text after the last newline, it is a line too.
 pub fn count_lines(text: &str) -> LineCounts {
     let tokens = tokenize_document(text, Edition::E2024);
     let mut start = text.len() - tokens.as_str().len();
@@ -56,7 +55,7 @@ pub fn count_lines(text: &str) -> LineCounts {
     counter.finish()
 }
 
-/// What a token is.
+/// Returns what a token counts as.
 fn class_of(kind: TokenKind) -> Class {
     match kind {
         TokenKind::Whitespace => Class::Space,
@@ -70,7 +69,7 @@ fn class_of(kind: TokenKind) -> Class {
 }
 
 impl Line {
-    /// A line with nothing on it.
+    /// Returns a line with nothing on it.
     fn new() -> Line {
         Line {
             code: false,
@@ -79,7 +78,7 @@ impl Line {
         }
     }
 
-    /// Notes that a token of this class stands on the line.
+    /// Records that a token of this class is on the line.
     fn add(&mut self, class: Class) {
         match class {
             Class::Code => self.code = true,
@@ -91,7 +90,7 @@ impl Line {
 }
 
 impl LineCounts {
-    /// No line.
+    /// Returns the numbers of an empty text.
     pub fn new() -> LineCounts {
         LineCounts {
             code: 0,
@@ -104,7 +103,7 @@ impl LineCounts {
         }
     }
 
-    /// All lines. Past 2^64 the number stays at the greatest one.
+    /// Returns the number of all lines, or `u64::MAX` if there are more.
     pub fn lines(&self) -> u64 {
         self.code
             .saturating_add(self.doc)
@@ -112,7 +111,7 @@ impl LineCounts {
             .saturating_add(self.blank)
     }
 
-    /// Takes other lines too. A sum past 2^64 stays at the greatest number.
+    /// Adds other numbers to these. Each sum saturates at `u64::MAX`.
     pub fn add(&mut self, other: LineCounts) {
         self.code = self.code.saturating_add(other.code);
         self.doc = self.doc.saturating_add(other.doc);
@@ -123,7 +122,7 @@ impl LineCounts {
         self.doc_and_comment = self.doc_and_comment.saturating_add(other.doc_and_comment);
     }
 
-    /// Counts one line more.
+    /// Counts one more line.
     fn count(&mut self, line: Line) {
         let Line { code, doc, comment } = line;
         self.code += one_if(code);
@@ -136,23 +135,23 @@ impl LineCounts {
     }
 }
 
-/// 1 if it holds, else 0.
+/// Returns 1 if it holds, otherwise 0.
 fn one_if(holds: bool) -> u64 {
     if holds { 1 } else { 0 }
 }
 
-/// The lines that ended, and what is known of the one that goes on.
+/// The lines that have ended, and the one that goes on.
 #[derive(Clone, Copy)]
 struct Counter {
     counts: LineCounts,
-    /// What stands on the line so far.
+    /// What is on the line so far.
     line: Line,
     /// Whether the line has a byte.
     is_open: bool,
 }
 
 impl Counter {
-    /// No byte of the text yet.
+    /// Returns a counter that has taken no bytes yet.
     fn new() -> Counter {
         Counter {
             counts: LineCounts::new(),
@@ -161,7 +160,7 @@ impl Counter {
         }
     }
 
-    /// Takes the next byte of the text, which is of a token of this class.
+    /// Takes the next byte of the text, from a token of this class.
     fn take(&mut self, byte: u8, class: Class) {
         self.line.add(class);
         if byte == b'\n' {
@@ -180,7 +179,7 @@ impl Counter {
         }
     }
 
-    /// The lines of the text, of which no byte is left.
+    /// Returns the numbers of the text, whose bytes are all taken.
     fn finish(mut self) -> LineCounts {
         if self.is_open {
             self.counts.count(self.line);

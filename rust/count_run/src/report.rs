@@ -1,4 +1,4 @@
-//! The numbers of files, and how they are written.
+//! The numbers of files, and how they are printed.
 use rattle_std::prelude::String;
 
 use rattle_std::prelude::Vec;
@@ -10,7 +10,7 @@ use crate::lines::LineCounts;
 use json::Writer;
 use rattle_std::alloc::{AllocError, Global};
 
-/// A file, and the numbers of its lines.
+/// A file, with the numbers of its lines.
 #[derive(Debug)]
 pub struct FileCounts {
     pub path: String,
@@ -25,7 +25,7 @@ pub struct Report {
 }
 
 impl Report {
-    /// Of no file.
+    /// Returns a report with no files.
     pub fn new(alloc: Global) -> Report {
         Report {
             files: Vec::new(alloc),
@@ -33,7 +33,7 @@ impl Report {
         }
     }
 
-    /// Takes the numbers of one file more. Where memory for it is refused nothing changes.
+    /// Adds a file and its numbers. If an allocation fails, nothing changes.
     pub fn add(&mut self, path: String, counts: LineCounts) -> Result<(), AllocError> {
         self.files.push(FileCounts { path, counts })?;
         self.total.add(counts);
@@ -41,7 +41,7 @@ impl Report {
     }
 }
 
-/// The text of a report: a table, or a JSON text and a newline.
+/// Returns the text of a report: a table, or JSON and a newline.
 pub fn write_report(alloc: Global, layout: Layout, report: &Report) -> Result<Vec<u8>, AllocError> {
     if layout.json {
         write_json(alloc, layout.by_file, report)
@@ -54,7 +54,7 @@ pub fn write_report(alloc: Global, layout: Layout, report: &Report) -> Result<Ve
 const HEAD: &str =
     "      code       doc   comment     blank     lines  code+doc code+comment doc+comment\n";
 
-/// A line for each file, if that is wanted, and one of the sums.
+/// Returns the table: a line for each file, if `by_file` asks for that, and one with the sums.
 fn write_table(alloc: Global, by_file: bool, report: &Report) -> Result<String, AllocError> {
     let mut table = String::from_str(alloc, HEAD)?;
     if by_file {
@@ -85,7 +85,7 @@ fn push_row(
     table.push_str("\n")
 }
 
-/// The columns of a line: how wide each is, and its number.
+/// Returns the columns of a line, each with its width and its number.
 fn columns(counts: &LineCounts) -> [(usize, u64); 8] {
     [
         (10, counts.code),
@@ -99,7 +99,7 @@ fn columns(counts: &LineCounts) -> [(usize, u64); 8] {
     ]
 }
 
-/// Appends columns, each with its number at the right.
+/// Appends columns, with their numbers aligned to the right.
 fn push_columns(
     alloc: Global,
     columns: &[(usize, u64)],
@@ -111,7 +111,7 @@ fn push_columns(
     Ok(())
 }
 
-/// Appends a number at the right end of a column.
+/// Appends a number, aligned to the right of a column.
 fn push_right(
     alloc: Global,
     width: usize,
@@ -122,7 +122,7 @@ fn push_right(
     table.push_str(cell.as_str())
 }
 
-/// An object with the sums, and with the files, if that is wanted.
+/// Returns the JSON: an object with the sums, and with the files, if `by_file` asks for that.
 fn write_json(alloc: Global, by_file: bool, report: &Report) -> Result<Vec<u8>, AllocError> {
     let mut writer = Writer::new(Vec::new(alloc));
     write_object(by_file, report, &mut writer)?;
@@ -145,7 +145,7 @@ fn write_object(
     writer.end_object()
 }
 
-/// Writes the member with the files, if that is wanted.
+/// Writes the member with the files, if `by_file` asks for it.
 fn write_listed(
     by_file: bool,
     files: &[FileCounts],
@@ -175,7 +175,7 @@ fn write_file(file: &FileCounts, writer: &mut Writer<Global>) -> Result<(), Allo
     write_counts(&file.counts, writer)
 }
 
-/// Writes the members that numbers are, which are the last of their object.
+/// Writes the members with the numbers, and closes the object.
 fn write_counts(counts: &LineCounts, writer: &mut Writer<Global>) -> Result<(), AllocError> {
     write_number("code", counts.code, writer)?;
     write_number("doc", counts.doc, writer)?;

@@ -1,4 +1,4 @@
-//! A whole run: from files, folders or standard input to a report.
+//! Counting files, folders or standard input, and writing the report.
 use rattle_std::prelude::AllocGlobal;
 
 use rattle_std::prelude::String;
@@ -8,8 +8,7 @@ use rattle_std::prelude::Vec;
 use crate::job::Layout;
 use crate::lines::{LineCounts, count_lines};
 use crate::report::{Report, write_report};
-use crate::stop::Stop;
-use ends::{Watched, write_all};
+use ends::{Stop, Watched, write_all};
 use rattle_std::alloc::{AllocError, Global};
 use rattle_std::io::{Read, Write};
 use rattle_std::rt::Files;
@@ -20,7 +19,7 @@ pub fn count_source(bytes: &[u8]) -> Result<LineCounts, Reason> {
     Ok(count_lines(text_of(bytes)?))
 }
 
-/// Counts the lines of all of the input.
+/// Counts the lines of an input, which is read to its end.
 pub fn count_input<R: Read>(alloc: Global, input: &mut Watched<R>) -> Result<LineCounts, Fault> {
     let bytes = read_input(alloc, input)?;
     match count_source(bytes.as_slice()) {
@@ -29,7 +28,7 @@ pub fn count_input<R: Read>(alloc: Global, input: &mut Watched<R>) -> Result<Lin
     }
 }
 
-/// Counts the lines of standard input, as of a file with the name `-`.
+/// Counts the lines of standard input, under the name `-`.
 pub fn count_stdin<R: Read>(alloc: Global, input: &mut Watched<R>) -> Result<Outcome, AllocError> {
     let mut outcome = Outcome::new(alloc);
     let counted = count_input(alloc, input);
@@ -37,7 +36,7 @@ pub fn count_stdin<R: Read>(alloc: Global, input: &mut Watched<R>) -> Result<Out
     Ok(outcome)
 }
 
-/// Counts the lines of the files at these paths, and of the sources in the folders.
+/// Counts the lines of the files at these paths, and of the Rust files in the folders.
 pub fn count_paths<R: Files + AllocGlobal + Clone>(
     rt: &R,
     paths: &[&str],
@@ -45,7 +44,7 @@ pub fn count_paths<R: Files + AllocGlobal + Clone>(
     count_found(rt, find(rt, paths)?)
 }
 
-/// Counts the lines of the files that were found: each is counted or passed over, in order.
+/// Counts the lines of the files that were found, in order. Each is counted or skipped.
 fn count_found<R: Files + AllocGlobal>(rt: &R, found: Found) -> Result<Outcome, AllocError> {
     let mut outcome = Outcome {
         report: Report::new(rt.alloc()),
@@ -58,7 +57,7 @@ fn count_found<R: Files + AllocGlobal>(rt: &R, found: Found) -> Result<Outcome, 
     Ok(outcome)
 }
 
-/// Counts the lines of what was read of a file.
+/// Counts the lines of the bytes of a file, if they could be read.
 fn count_read(read: Result<Vec<u8>, Fault>) -> Result<LineCounts, Fault> {
     match read {
         Ok(bytes) => match count_source(bytes.as_slice()) {
@@ -69,7 +68,7 @@ fn count_read(read: Result<Vec<u8>, Fault>) -> Result<LineCounts, Fault> {
     }
 }
 
-/// What was counted, and what was passed over.
+/// What was counted, and what was skipped.
 #[derive(Debug)]
 pub struct Outcome {
     pub report: Report,
@@ -77,7 +76,7 @@ pub struct Outcome {
 }
 
 impl Outcome {
-    /// Of no source.
+    /// Returns an outcome with no source.
     fn new(alloc: Global) -> Outcome {
         Outcome {
             report: Report::new(alloc),
@@ -85,7 +84,7 @@ impl Outcome {
         }
     }
 
-    /// Takes what came of one source. Where memory is refused nothing changes.
+    /// Adds a source: its numbers, or why it is skipped. If an allocation fails, nothing changes.
     fn take(&mut self, path: String, counted: Result<LineCounts, Fault>) -> Result<(), AllocError> {
         match counted {
             Ok(counts) => self.report.add(path, counts),
@@ -98,7 +97,7 @@ impl Outcome {
     }
 }
 
-/// Writes the report of an outcome, and flushes. What was passed over is a stop, with all else written.
+/// Writes the report of an outcome, and flushes. Returns `Stop::Skipped` if something was skipped, with all else written.
 pub fn put_report<W: Write>(
     alloc: Global,
     layout: Layout,
@@ -110,6 +109,6 @@ pub fn put_report<W: Write>(
     if outcome.faults.is_empty() {
         Ok(())
     } else {
-        Err(Stop::Passed)
+        Err(Stop::Skipped)
     }
 }

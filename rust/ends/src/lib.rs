@@ -1,5 +1,5 @@
-//! The ends of a program: readers and writers that tell how they failed, what is read and written over them, and the
-//! words of the command line.
+//! What the programs share: readers and writers that record how they failed, functions that read and write texts over
+//! them, the arguments, and why a program stops.
 
 mod reading;
 mod run;
@@ -13,4 +13,4 @@ pub use run::{put, read_text};
 pub use stop::{Stop, report};
 pub use watched::{Watched, is_closed};
 pub use words::{given_words, past_name};
-pub use writing::{WriteStop, tell, write_all, write_bytes, write_texts};
+pub use writing::{WriteStop, write_all, write_bytes, write_texts};

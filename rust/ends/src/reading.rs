@@ -1,25 +1,25 @@
-//! All that a reader gives.
+//! Reading all of an input.
 use rattle_std::prelude::Vec;
 
 use crate::watched::Watched;
 use rattle_std::alloc::Global;
 use rattle_std::io::Read;
 
-/// Why reading stops before the end of the input.
+/// Why reading stopped before the end of the input.
 #[derive(Clone, Copy, Debug, PartialEq, Eq)]
 pub enum ReadStop {
     /// The input has more than `u32::MAX` bytes.
     TooLong,
-    /// A request for memory was refused.
+    /// An allocation failed.
     Memory,
     /// The reader failed.
     Failed,
 }
 
-/// How many bytes a read asks for.
+/// The number of bytes that each read asks for.
 const PIECE: usize = 65536;
 
-/// All bytes up to the end of the input, of which there are at most `u32::MAX`.
+/// Reads all bytes up to the end of the input, at most `u32::MAX` of them.
 pub fn read_all<R: Read>(alloc: Global, input: &mut Watched<R>) -> Result<Vec<u8>, ReadStop> {
     let mut bytes = Vec::new(alloc);
     let mut piece = [0u8; PIECE];

@@ -1,4 +1,4 @@
-//! What most runs begin and end with: a text that is read, and one that is written.
+//! Reading a whole text, and writing one.
 use rattle_std::prelude::String;
 
 use crate::reading::read_all;
@@ -8,13 +8,13 @@ use crate::writing::write_all;
 use rattle_std::alloc::Global;
 use rattle_std::io::{Read, Write};
 
-/// Reads all of the input, which is to be a text of at most `u32::MAX` bytes.
+/// Reads all of the input into a string of at most `u32::MAX` bytes.
 pub fn read_text<R: Read>(alloc: Global, input: &mut Watched<R>) -> Result<String, Stop> {
     let bytes = read_all(alloc, input)?;
     String::from_utf8(bytes).map_err(|_| Stop::NotUtf8)
 }
 
-/// Writes all of the text, and flushes.
+/// Writes the whole text, and flushes.
 pub fn put<W: Write>(output: &mut Watched<W>, text: &str) -> Result<(), Stop> {
     write_all(output, text.as_bytes())?;
     Ok(())

@@ -1,4 +1,4 @@
-//! Why a program stops, and what is told of it.
+//! Why a program stops, and what it says then.
 
 use crate::reading::ReadStop;
 use crate::watched::Watched;
@@ -9,57 +9,64 @@ use rattle_std::io::Write;
 /// Why a program stops.
 #[derive(Clone, Copy, Debug, PartialEq, Eq)]
 pub enum Stop {
-    /// The words after the program's name are none that it knows.
+    /// The program does not take these arguments.
     Arguments,
+    /// The text is not tidy, and the program was asked whether it is.
+    Untidy,
+    /// The program skipped a path, which it has named, and has done the rest.
+    Skipped,
     /// The input is not UTF-8.
     NotUtf8,
     /// The input has more than `u32::MAX` bytes.
     TooLong,
-    /// A request for memory was refused.
+    /// An allocation failed.
     Memory,
     /// The reader failed.
     Read,
-    /// The writer failed, or took nothing of what it was given.
+    /// The writer failed, or took none of the bytes that it was given.
     Write,
     /// Nobody reads the output any more.
     ClosedPipe,
 }
 
 impl Stop {
-    /// The status with which the program ends. A closed pipe is no failure.
+    /// Returns the exit status of the program. It is 0 for a closed pipe, which is not a failure.
     pub fn status(&self) -> u8 {
         match self {
             Stop::ClosedPipe => 0,
+            Stop::Untidy => 1,
             Stop::Arguments => 2,
-            Stop::NotUtf8 => 3,
+            Stop::NotUtf8 | Stop::Skipped => 3,
             Stop::TooLong => 4,
             Stop::Memory => 6,
             Stop::Read | Stop::Write => 7,
         }
     }
 
-    /// The words that tell of it. A closed pipe is met in silence.
+    /// Returns the message, if there is one. A closed pipe has none, and skipped paths are named already.
     fn text(&self) -> Option<&'static str> {
         match self {
             Stop::Arguments => Some("unknown words; --help tells what it takes"),
+            Stop::Untidy => Some("not in order"),
             Stop::NotUtf8 => Some("input is not UTF-8"),
             Stop::TooLong => Some("input too long"),
             Stop::Memory => Some("no memory"),
             Stop::Read => Some("read failed"),
             Stop::Write => Some("write failed"),
-            Stop::ClosedPipe => None,
+            Stop::Skipped | Stop::ClosedPipe => None,
         }
     }
 }
 
-/// Where the run stopped, writes the line of the stop behind the name and flushes. Answers the status of the program.
+/// Writes why a run stopped, after the name of the program, and flushes. Returns the exit status.
 ///
-/// What goes out is all of the line where the writer does not fail, else a beginning of it. The status is the same.
+/// If the run did not stop, it writes nothing. If the writer fails, it has written a beginning of the line, and the status
+/// is the same.
 pub fn report<E: Write>(name: &str, outcome: &Result<(), Stop>, errors: &mut Watched<E>) -> u8 {
     let Err(stop) = outcome else {
         return 0;
     };
-    // Where the line can't be written there is nobody to tell.
+    // If this can't be written, there is nobody to tell.
     let _ = match stop.text() {
         Some(text) => write_texts(errors, name, text, "\n"),
         None => write_all(errors, b""),

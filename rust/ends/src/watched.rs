@@ -1,13 +1,14 @@
-//! A reader or a writer, how it has failed, and whether it was flushed last.
+//! Readers and writers that record how they failed.
 
 use rattle_std::io;
 use rattle_std::io::{Error, ErrorKind, Read, Write};
 
-/// A reader or a writer, with how it has failed and whether it was flushed last. It hands on each answer as it is.
+/// A reader or a writer that records how it failed, and whether the last call was a flush that succeeded. It passes on
+/// each call, and each result.
 ///
-/// It has failed if it once answered an error, or took none of the bytes that it was given to write. It was closed if a
-/// write or a flush once answered that nobody reads what is written, and it is faulty if it once failed otherwise. It
-/// was flushed last if the last call was a flush that was not refused.
+/// It has *failed* if a call once returned an error, or a write once took none of the bytes that it was given. It is
+/// *closed* if a write or a flush once failed because nobody reads the output any more, and *faulty* if a call once failed
+/// for another reason.
 pub struct Watched<T> {
     inner: T,
     failed: bool,
@@ -17,7 +18,7 @@ pub struct Watched<T> {
 }
 
 impl<T> Watched<T> {
-    /// An end that has not failed, and of which nothing was asked yet.
+    /// Wraps a reader or a writer. The new one has not failed.
     pub fn new(inner: T) -> Watched<T> {
         Watched {
             inner,
@@ -28,12 +29,12 @@ impl<T> Watched<T> {
         }
     }
 
-    /// Whether it has failed.
+    /// Returns whether it has failed.
     pub fn failed(&self) -> bool {
         self.failed
     }
 
-    /// The reader or writer itself.
+    /// Returns the reader or the writer itself.
     pub fn into_inner(self) -> T {
         let Watched {
             inner,
@@ -45,7 +46,7 @@ impl<T> Watched<T> {
         inner
     }
 
-    /// Notes whether a call failed, whether it found a closed pipe, and whether it was a flush that was not refused.
+    /// Records whether a call failed, whether it found a closed pipe, and whether it was a flush that succeeded.
     fn note(&mut self, failed: bool, closed: bool, flushed: bool) {
         self.failed = self.failed || failed;
         self.faulty = self.faulty || (failed && !closed);
@@ -54,12 +55,12 @@ impl<T> Watched<T> {
     }
 }
 
-/// Whether the error says that nobody reads what is written.
+/// Returns whether the error means that nobody reads the output any more.
 pub fn is_closed(error: &Error) -> bool {
     matches!(error.kind(), ErrorKind::BrokenPipe)
 }
 
-/// Whether the answer says that nobody reads what is written.
+/// Returns whether the result is an error that means that nobody reads the output any more.
 fn has_closed<T>(answer: &io::Result<T>) -> bool {
     match answer {
         Ok(_) => false,

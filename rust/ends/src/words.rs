@@ -1,4 +1,4 @@
-//! The words of the command line.
+//! The arguments of a program.
 use rattle_std::prelude::String;
 
 use rattle_std::prelude::Vec;
@@ -6,7 +6,7 @@ use rattle_std::prelude::Vec;
 use rattle_std::alloc::{AllocError, Global};
 use rattle_std::env::Args;
 
-/// The words after the first, which is the program's name.
+/// Returns the arguments after the first, which is the program's name.
 pub fn past_name(alloc: Global, mut args: Args) -> Result<Vec<String>, AllocError> {
     let _ = args.next();
     let mut words = Vec::new(alloc);
@@ -16,8 +16,8 @@ pub fn past_name(alloc: Global, mut args: Args) -> Result<Vec<String>, AllocErro
     Ok(words)
 }
 
-/// The words after the first, which is the program's name. Where the arguments could not be had, as `None` says, it is as
-/// if memory was refused.
+/// Returns the arguments after the first, which is the program's name. `None` stands for arguments that the program could
+/// not get, and gives the error of a failed allocation.
 pub fn given_words(alloc: Global, args: Option<Args>) -> Result<Vec<String>, AllocError> {
     match args {
         Some(args) => past_name(alloc, args),

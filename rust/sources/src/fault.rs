@@ -1,19 +1,19 @@
-//! Why a path is passed over.
+//! Why a path is skipped.
 use rattle_std::prelude::String;
 
 use rattle_std::io::ErrorKind;
 use rattle_std::{fmt, io};
 
-/// Why bytes are no source, or could not be read.
+/// Why a file is not a source, or could not be read.
 #[derive(Clone, Copy, Debug, PartialEq, Eq)]
 pub enum Reason {
-    /// They are not UTF-8.
+    /// It is not UTF-8.
     NotUtf8,
-    /// There are more than `u32::MAX` of them.
+    /// It has more than `u32::MAX` bytes.
     TooLong,
     /// The reader failed.
     Read,
-    /// The system refused, with this kind of error.
+    /// The system returned an error of this kind.
     System(ErrorKind),
 }
 
@@ -28,12 +28,12 @@ impl fmt::Display for Reason {
     }
 }
 
-/// What stops a reader of sources.
+/// Why a source could not be read.
 #[derive(Clone, Copy, Debug, PartialEq, Eq)]
 pub enum Fault {
-    /// A request for memory was refused.
+    /// An allocation failed, so that the program stops.
     Memory,
-    /// This source alone is at fault.
+    /// It is this source alone, which is skipped.
     Source(Reason),
 }
 
@@ -46,7 +46,7 @@ impl From<io::Error> for Fault {
     }
 }
 
-/// A path that was passed over, and why.
+/// A path that was skipped, and why.
 #[derive(Debug)]
 pub struct PathFault {
     pub path: String,

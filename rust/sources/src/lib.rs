@@ -1,4 +1,4 @@
-//! The Rust sources among files and folders, their texts, and the options and paths among the words of a command line.
+//! The Rust sources in files and folders, their texts, and the options and paths among the arguments of a program.
 
 mod fault;
 mod text;

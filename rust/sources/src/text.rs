@@ -1,4 +1,4 @@
-//! The text of a source.
+//! Reading the text of a source.
 use rattle_std::prelude::AllocGlobal;
 
 use rattle_std::prelude::Vec;
@@ -11,7 +11,7 @@ use rattle_std::io;
 use rattle_std::io::Read;
 use rattle_std::rt::Files;
 
-/// The text that these bytes are, of at most `u32::MAX` of them.
+/// Returns the text of these bytes, if they are UTF-8 and at most `u32::MAX`.
 pub fn text_of(bytes: &[u8]) -> Result<&str, Reason> {
     if bytes.len() > u32::MAX as usize {
         return Err(Reason::TooLong);
@@ -22,7 +22,7 @@ pub fn text_of(bytes: &[u8]) -> Result<&str, Reason> {
     }
 }
 
-/// All bytes of an input, of which there are at most `u32::MAX`.
+/// Reads all bytes of an input, at most `u32::MAX` of them.
 pub fn read_input<R: Read>(alloc: Global, input: &mut Watched<R>) -> Result<Vec<u8>, Fault> {
     match read_all(alloc, input) {
         Ok(bytes) => Ok(bytes),
@@ -32,12 +32,12 @@ pub fn read_input<R: Read>(alloc: Global, input: &mut Watched<R>) -> Result<Vec<
     }
 }
 
-/// All bytes of a file, of which there are at most `u32::MAX`.
+/// Reads all bytes of a file, at most `u32::MAX` of them.
 pub fn read_source<R: Files + AllocGlobal>(rt: &R, path: &str) -> Result<Vec<u8>, Fault> {
     read_opened(rt.alloc(), File::open(rt, path))
 }
 
-/// All bytes of a file that was opened, if it could be.
+/// Reads all bytes of a file, if it could be opened.
 fn read_opened<R: Read>(alloc: Global, opened: io::Result<R>) -> Result<Vec<u8>, Fault> {
     read_input(alloc, &mut Watched::new(opened?))
 }

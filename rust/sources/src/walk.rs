@@ -1,4 +1,4 @@
-//! The files that a walk of folders finds.
+//! Finding the files in folders.
 use rattle_std::prelude::AllocGlobal;
 
 use rattle_std::prelude::String;
@@ -16,7 +16,7 @@ use rattle_std::{fs, io};
 /// The files that were found, and the paths that could not be read.
 #[derive(Debug)]
 pub struct Found {
-    /// In order, and each once.
+    /// The files, in order and each once.
     pub files: Vec<String>,
     pub faults: Vec<PathFault>,
 }
@@ -29,7 +29,7 @@ impl Found {
         }
     }
 
-    /// Notes that the system refused a path. Where it has no memory, nothing more is done.
+    /// Records that the system refused a path. If it has no memory left, this is an error and nothing changes.
     fn refuse(&mut self, alloc: Global, path: &str, kind: ErrorKind) -> Result<(), AllocError> {
         if kind == ErrorKind::OutOfMemory {
             return Err(AllocError);
@@ -41,8 +41,8 @@ impl Found {
         Ok(())
     }
 
-    /// Takes a path by what is told of it: to the sources, to the folders that are to be walked, to what the system
-    /// refused, or to none of these. Where memory is refused nothing changes.
+    /// Adds a path to the sources, to the folders still to be walked, to the faults, or to none of these, as `told` says.
+    /// If an allocation fails, nothing changes.
     fn take(
         &mut self,
         alloc: Global,
@@ -65,10 +65,10 @@ fn push_path(alloc: Global, path: &str, paths: &mut Vec<String>) -> Result<(), A
     Ok(())
 }
 
-/// The files at these paths: a file itself, whatever its name, and of a folder the Rust sources in it and below it.
+/// Finds the files at these paths: a file itself, whatever its name, and the Rust sources in a folder and below it.
 ///
-/// A walk passes over hidden names and folders with the name `target`, and follows no symbolic link. A path that
-/// can't be read is a fault, and the rest is found. The one error is that a request for memory was refused.
+/// It skips hidden names and folders named `target`, and follows no symbolic links. A path that can't be read is a fault,
+/// and the rest is found. The only error is that an allocation failed.
 pub fn find<R: Files + AllocGlobal + Clone>(rt: &R, paths: &[&str]) -> Result<Found, AllocError> {
     let mut found = Found::new(rt.alloc());
     for path in paths {
@@ -101,7 +101,7 @@ fn walk<R: Files + AllocGlobal + Clone>(
     Ok(())
 }
 
-/// Finds the sources in a folder, and the folders in it that are to be walked.
+/// Finds the sources in a folder, and the folders in it to be walked.
 fn list<R: Files + AllocGlobal + Clone>(
     rt: &R,
     folder: &str,
@@ -128,7 +128,7 @@ fn list<R: Files + AllocGlobal + Clone>(
     Ok(())
 }
 
-/// What an entry of a folder is taken for. Of one that is passed over by its name nothing is asked.
+/// Returns what an entry of a folder is taken for. If its name is skipped, the system is not asked for its type.
 fn told_of<R: Files>(entry: &DirEntry<R, Global>) -> Result<Choice, ErrorKind> {
     let name = entry.file_name();
     if !is_source_name(name) && !is_folder_name(name) {
@@ -140,7 +140,7 @@ fn told_of<R: Files>(entry: &DirEntry<R, Global>) -> Result<Choice, ErrorKind> {
     }
 }
 
-/// What a path that was asked for is taken for: a folder is walked, and all else is a source, whatever its name.
+/// Returns what an argument is taken for: a folder is walked, and all else is a source, whatever its name.
 fn told_of_path(what: io::Result<Metadata>) -> Result<Choice, ErrorKind> {
     match what {
         Ok(what) if what.is_dir() => Ok(Choice::Folder),
@@ -149,7 +149,7 @@ fn told_of_path(what: io::Result<Metadata>) -> Result<Choice, ErrorKind> {
     }
 }
 
-/// What an entry of a folder is taken for.
+/// What a path is taken for.
 #[derive(Clone, Copy, Debug, PartialEq, Eq)]
 enum Choice {
     Folder,
@@ -157,7 +157,7 @@ enum Choice {
     Neither,
 }
 
-/// What an entry with this name and of this type is taken for.
+/// Returns what an entry with this name and of this type is taken for.
 fn choice_of(name: &str, what: &FileType) -> Choice {
     if what.is_dir() && is_folder_name(name) {
         Choice::Folder
@@ -168,17 +168,17 @@ fn choice_of(name: &str, what: &FileType) -> Choice {
     }
 }
 
-/// Whether a file with this name is taken for a Rust source.
+/// Returns whether a file with this name is taken for a Rust source.
 fn is_source_name(name: &str) -> bool {
     !is_hidden(name) && name.as_bytes().ends_with(b".rs".as_slice())
 }
 
-/// Whether a folder with this name is walked.
+/// Returns whether a folder with this name is walked.
 fn is_folder_name(name: &str) -> bool {
     !is_hidden(name) && name != "target"
 }
 
-/// Whether the name begins with a dot.
+/// Returns whether the name begins with a dot.
 fn is_hidden(name: &str) -> bool {
     name.as_bytes().starts_with(b".".as_slice())
 }

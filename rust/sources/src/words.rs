@@ -1,21 +1,21 @@
-//! The words of a command line: options, and the paths among them.
+//! Options and paths among the arguments.
 use rattle_std::prelude::String;
 
 use rattle_std::prelude::Vec;
 
 use rattle_std::alloc::{AllocError, Global};
 
-/// The words of a command line, apart.
+/// Arguments, split into options and paths.
 #[derive(Debug)]
 pub struct Words<'a> {
-    /// In order.
+    /// The options, in order.
     pub options: Vec<&'a str>,
-    /// In order.
+    /// The paths, in order.
     pub paths: Vec<&'a str>,
 }
 
-/// Takes the words after the program's name apart. What begins with a minus is an option, but for `-` alone; all
-/// else is a path. `--` ends the options, and is neither. The one error is that a request for memory was refused.
+/// Splits the arguments after the program's name. A word that begins with a minus is an option, except `-` alone. Any
+/// other word is a path. `--` ends the options, and is neither. The only error is that an allocation failed.
 pub fn take_apart<'a>(alloc: Global, words: &'a [String]) -> Result<Words<'a>, AllocError> {
     let mut options = Vec::new(alloc);
     let mut paths = Vec::new(alloc);
@@ -35,17 +35,17 @@ pub fn take_apart<'a>(alloc: Global, words: &'a [String]) -> Result<Words<'a>, A
     Ok(Words { options, paths })
 }
 
-/// Whether the word is an option, where options are not over.
+/// Returns whether a word before `--` is an option.
 fn is_option(word: &str) -> bool {
     word != "-" && word.starts_with('-')
 }
 
-/// Whether an option of this name is among these.
+/// Returns whether these options have one of this name.
 pub fn has(options: &[&str], name: &str) -> bool {
     options.contains(&name)
 }
 
-/// Whether each of the options is a known one, and none stands twice.
+/// Returns whether each option is known, and none is given twice.
 pub fn are_known(options: &[&str], known: &[&str]) -> bool {
     let mut rest = options;
     while let [option, after @ ..] = rest {

@@ -1,11 +1,11 @@
-//! White space and tokens in order.
+//! Putting white space and tokens in order.
 use rattle_std::prelude::String;
 
 use memchr::memchr;
 use rattle_std::alloc::AllocError;
 use rustc_lexer::erased::{FrontmatterAllowed, LiteralKind, TokenKind, tokenize};
 
-/// Appends the tokens of a text, with the white space in order.
+/// Appends the tokens of a text, with its white space in order.
 pub fn push_code(
     text: &str,
     allowed: FrontmatterAllowed,
@@ -20,7 +20,7 @@ pub fn push_code(
     Ok(())
 }
 
-/// Appends a token, or, where it is white space, that in order.
+/// Appends a token. White space is appended in order.
 pub fn push_part(
     kind: TokenKind,
     part: &str,
@@ -40,7 +40,7 @@ pub fn push_part(
     push_in_order(part, output)
 }
 
-/// Appends the text of a token that is no white space; a comment gets unix line ends.
+/// Appends the text of a token that is not white space. A comment gets Unix line ends.
 fn push_text(kind: TokenKind, text: &str, output: &mut String) -> Result<(), AllocError> {
     match kind {
         TokenKind::LineComment { .. } => push_unix(text, true, output),
@@ -51,7 +51,7 @@ fn push_text(kind: TokenKind, text: &str, output: &mut String) -> Result<(), All
     }
 }
 
-/// Appends a text with no carriage return before the end of a line; `is_line` says whether its end is one.
+/// Appends a text without the carriage returns at the ends of its lines. `is_line` says whether the text ends a line.
 fn push_unix(text: &str, is_line: bool, output: &mut String) -> Result<(), AllocError> {
     let mut rest = text;
     while let Some(at) = newline(rest) {
@@ -67,7 +67,7 @@ fn push_unix(text: &str, is_line: bool, output: &mut String) -> Result<(), Alloc
     output.push_str(&rest[..end])
 }
 
-/// Where the carriage returns right before a place begin.
+/// Returns where the carriage returns right before a place begin.
 fn line_end(text: &str, place: usize) -> usize {
     let bytes = text.as_bytes();
     let mut end = place;
@@ -77,7 +77,7 @@ fn line_end(text: &str, place: usize) -> usize {
     end
 }
 
-/// Whether a newline behind the token would become a part of it: nothing closes it, or it is a frontmatter.
+/// Returns whether a newline after the token would become part of it: it is not closed, or it is a frontmatter.
 fn is_open(kind: TokenKind) -> bool {
     match kind {
         TokenKind::BlockComment { terminated, .. } => !terminated,
@@ -87,7 +87,7 @@ fn is_open(kind: TokenKind) -> bool {
     }
 }
 
-/// Whether nothing closes the literal.
+/// Returns whether the literal is not closed.
 fn is_open_literal(kind: LiteralKind) -> bool {
     match kind {
         LiteralKind::Char { terminated }
@@ -102,12 +102,12 @@ fn is_open_literal(kind: LiteralKind) -> bool {
     }
 }
 
-/// Whether the token is white space.
+/// Returns whether the token is white space.
 pub fn is_space(kind: TokenKind) -> bool {
     matches!(kind, TokenKind::Whitespace)
 }
 
-/// Appends white space in order: no blank before a newline, and no three newlines in a row.
+/// Appends white space in order: with no blank before a newline, and at most two newlines in a row.
 fn push_in_order(space: &str, output: &mut String) -> Result<(), AllocError> {
     let mut rest = space;
     let mut newlines: usize = 0;
@@ -126,7 +126,7 @@ fn push_in_order(space: &str, output: &mut String) -> Result<(), AllocError> {
     output.push_str(rest)
 }
 
-/// Where the blanks right before a place begin.
+/// Returns where the blanks right before a place begin.
 fn solid_end(text: &str, place: usize) -> usize {
     let bytes = text.as_bytes();
     let mut end = place;
@@ -136,12 +136,12 @@ fn solid_end(text: &str, place: usize) -> usize {
     end
 }
 
-/// Where the first newline of a text stands.
+/// Returns where the first newline of a text is.
 fn newline(text: &str) -> Option<usize> {
     memchr(b'\n', text.as_bytes())
 }
 
-/// Space, tab and carriage return.
+/// Returns whether the byte is a space, a tab or a carriage return.
 fn is_blank(byte: u8) -> bool {
     matches!(byte, b' ' | b'\t' | b'\r')
 }

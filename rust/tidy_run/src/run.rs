@@ -1,16 +1,14 @@
-//! A whole run: from the bytes of a reader to those of a writer.
-use rattle_std::prelude::String;
+//! The two runs, over any reader and writer: one writes a text in order, the other checks whether it is.
 
 use crate::document;
-use crate::stop::Stop;
-use ends::{Watched, WriteStop, read_all, write_all};
+use ends::{Stop, Watched, put, read_text};
 use rattle_std::alloc::Global;
 use rattle_std::io::{Read, Write};
 
-/// Reads all of the input, and then writes it in order.
+/// Reads all of the input, and writes it in order.
 ///
-/// Nothing is written before all of it is made: unless the output failed or was closed it is as it was.
-/// At `Ok` the last thing asked of the output was a flush, and it was not refused.
+/// It writes nothing before it has the whole text. So unless the writer fails or is closed, an error leaves the output as
+/// it was. After `Ok` the last call of the writer was a flush that succeeded.
 pub fn run<R: Read, W: Write>(
     alloc: Global,
     input: &mut Watched<R>,
@@ -21,7 +19,7 @@ pub fn run<R: Read, W: Write>(
     put(output, made.as_str())
 }
 
-/// Reads all of the input, and says whether it is in order.
+/// Reads all of the input, and checks whether it is in order.
 pub fn check<R: Read>(alloc: Global, input: &mut Watched<R>) -> Result<(), Stop> {
     let text = read_text(alloc, input)?;
     let made = document::tidied(alloc, text.as_str())?;
@@ -29,20 +27,5 @@ pub fn check<R: Read>(alloc: Global, input: &mut Watched<R>) -> Result<(), Stop>
         Ok(())
     } else {
         Err(Stop::Untidy)
-    }
-}
-
-/// Reads all of the input, which is to be a text.
-fn read_text<R: Read>(alloc: Global, input: &mut Watched<R>) -> Result<String, Stop> {
-    let bytes = read_all(alloc, input)?;
-    String::from_utf8(bytes).map_err(|_| Stop::NotUtf8)
-}
-
-/// Writes all of the text, and flushes.
-pub(crate) fn put<W: Write>(output: &mut Watched<W>, text: &str) -> Result<(), Stop> {
-    match write_all(output, text.as_bytes()) {
-        Ok(()) => Ok(()),
-        Err(WriteStop::Failed) => Err(Stop::Write),
-        Err(WriteStop::ClosedPipe) => Err(Stop::ClosedPipe),
     }
 }

@@ -1,4 +1,4 @@
-//! A source in order, with a frontmatter in front or without.
+//! Putting a source in order, which may begin with a frontmatter.
 use rattle_std::prelude::String;
 
 use crate::order::{is_space, push_code, push_part};
@@ -19,8 +19,8 @@ pub fn push_source(alloc: Global, text: &str, output: &mut String) -> Result<(),
     push_front(alloc, &text[end..], output)
 }
 
-/// Appends a source in order that begins with no white space. Past a frontmatter it is put in order
-/// only if the frontmatter stays as it is: what ends one that is not closed may stand behind it.
+/// Appends a source in order that does not begin with white space. The text after a frontmatter is put in order only if
+/// the frontmatter stays as it is, since the white space after an unclosed one may decide where it ends.
 fn push_front(alloc: Global, text: &str, output: &mut String) -> Result<(), AllocError> {
     let mut tokens = tokenize(text, FrontmatterAllowed::Yes);
     let Some(first) = tokens.next() else {
@@ -39,7 +39,7 @@ fn push_front(alloc: Global, text: &str, output: &mut String) -> Result<(), Allo
     }
 }
 
-/// Whether this is the first token of a text.
+/// Returns whether this is the first token of a text.
 fn begins_with(front: Token, text: &str) -> bool {
     let Some(first) = tokenize(text, FrontmatterAllowed::Yes).next() else {
         return false;
@@ -47,7 +47,7 @@ fn begins_with(front: Token, text: &str) -> bool {
     first == front
 }
 
-/// Whether the token is a frontmatter.
+/// Returns whether the token is a frontmatter.
 fn is_front(kind: TokenKind) -> bool {
     matches!(kind, TokenKind::Frontmatter { .. })
 }
