@@ -1,98 +1,27 @@
 //! A text that is kept with its tokens, against lexing it from scratch and against what an edit is to keep.
 
+mod random;
+
+use random::Random;
 use rustc_lexer::{
     Edit, EditError, EditStop, Edition, FrontmatterAllowed, LexedDocument, LexedText, Steps, Token,
     TokenKind, tokenize, tokenize_in,
 };
 use std::ops::Range;
 
-const EDITIONS: [Edition; 4] = [
-    Edition::E2015,
-    Edition::E2018,
-    Edition::E2021,
-    Edition::E2024,
-];
-
 /// What edits are made of: pieces that change what stands around them.
-const BITS: [&str; 40] = [
-    "a",
-    "bc",
-    "r",
-    "k",
-    "br",
-    "c",
-    "1",
-    "0x",
-    "e",
-    ".",
-    "_",
-    " ",
-    "\n",
-    "\t",
-    "é",
-    "😀",
-    "\u{3b1}",
-    "\"",
-    "'",
-    "#",
-    "##",
-    "r#",
-    "r#\"",
-    "\"#",
-    "\\",
-    "/",
-    "//",
-    "/*",
-    "*/",
-    "///",
-    "!",
-    "'r#a",
-    "b'",
-    "::",
-    "->",
-    "..=",
-    "let x = 1;",
-    "fn f() {}\n",
-    "'a",
-    "\u{200d}",
+#[rustfmt::skip]
+const BITS: &[&str] = &[
+    "a", "bc", "r", "k", "br", "c", "1", "0x", "e", ".", "_", " ", "\n", "\t", "é", "😀", "\u{3b1}", "\"", "'",
+    "#", "##", "r#", "r#\"", "\"#", "\\", "/", "//", "/*", "*/", "///", "!", "'r#a", "b'", "::", "->", "..=",
+    "let x = 1;", "fn f() {}\n", "'a", "\u{200d}",
 ];
-
-/// Numbers that look as if drawn by chance (Knuth's linear congruence of 64 bits).
-struct Random(u64);
 
 impl Random {
-    fn below(&mut self, bound: usize) -> usize {
-        self.0 = self
-            .0
-            .wrapping_mul(6_364_136_223_846_793_005)
-            .wrapping_add(1_442_695_040_888_963_407);
-        ((self.0 >> 33) as usize) % bound
-    }
-
-    fn text(&mut self, most: usize) -> String {
-        let count = self.below(most + 1);
-        (0..count).map(|_| BITS[self.below(BITS.len())]).collect()
-    }
-
-    /// A place between characters.
-    fn place(&mut self, text: &str) -> usize {
-        let mut place = self.below(text.len() + 1);
-        while !text.is_char_boundary(place) {
-            place -= 1;
-        }
-        place
-    }
-
+    /// A range between characters, mostly short.
     fn range(&mut self, text: &str) -> Range<usize> {
-        let start = self.place(text);
-        let mut stop = (start + self.below(9)).min(text.len());
-        if self.below(20) == 0 {
-            stop = self.place(text).max(start);
-        }
-        while !text.is_char_boundary(stop) {
-            stop += 1;
-        }
-        start..stop
+        let most = if self.below(20) == 0 { text.len() } else { 8 };
+        self.range_in(text, text.len(), most)
     }
 }
 
@@ -174,9 +103,9 @@ fn edit_and_check(lexed: &mut LexedText, range: Range<usize>, insert: &str) {
 
 #[test]
 fn random_edits_of_short_texts() {
-    let mut random = Random(1);
+    let mut random = Random(1, BITS);
     for round in 0..800 {
-        let edition = EDITIONS[round % 4];
+        let edition = Edition::ALL[round % 4];
         let mut lexed = LexedText::new_in(random.text(40), edition);
         check(&lexed, "at the start");
         for _ in 0..12 {
@@ -192,8 +121,8 @@ fn random_edits_of_short_texts() {
 fn many_edits_of_one_text_in_each_edition() {
     let asked = std::env::var("EDITS").map(|count| count.parse());
     let count = asked.map_or(10_000, |count| count.expect("EDITS is a number"));
-    for edition in EDITIONS {
-        let mut random = Random(u64::from(edition.year()));
+    for edition in Edition::ALL {
+        let mut random = Random(u64::from(edition.year()), BITS);
         let mut lexed = LexedText::new_in(random.text(200), edition);
         for _ in 0..count {
             let range = random.range(lexed.text());
@@ -206,7 +135,7 @@ fn many_edits_of_one_text_in_each_edition() {
 
 #[test]
 fn random_edits_of_a_long_text() {
-    let mut random = Random(2);
+    let mut random = Random(2, BITS);
     let mut lexed =
         LexedText::new("fn add(left: u32, right: u32) -> u32 { left + right } // é\n".repeat(400));
     for _ in 0..400 {
@@ -214,7 +143,7 @@ fn random_edits_of_a_long_text() {
         let insert = random.text(4);
         edit_and_check(&mut lexed, range, &insert);
         if random.below(40) == 0 {
-            let edition = EDITIONS[random.below(4)];
+            let edition = Edition::ALL[random.below(4)];
             lexed.set_edition(edition);
             assert_eq!(lexed.edition(), edition);
             check(&lexed, "in another edition");
@@ -253,9 +182,9 @@ fn the_example_of_the_documents() {
 #[test]
 fn editions() {
     let kinds = |edition| tokenize_in("'r#a##", edition).count();
-    assert_eq!(EDITIONS.map(kinds), [5, 5, 3, 2]);
-    assert_eq!(EDITIONS.map(Edition::year), [2015, 2018, 2021, 2024]);
-    assert!(EDITIONS.is_sorted() && EDITIONS[0] < EDITIONS[1]);
+    assert_eq!(Edition::ALL.map(kinds), [5, 5, 3, 2]);
+    assert_eq!(Edition::ALL.map(Edition::year), [2015, 2018, 2021, 2024]);
+    assert!(Edition::ALL.is_sorted() && Edition::ALL[0] < Edition::ALL[1]);
     let text = "a ".repeat(1000) + "r#\"b\"# c\"d\" 'é";
     assert!(tokenize_in(&text, Edition::E2024).eq(tokenize(&text, FrontmatterAllowed::No)));
     assert_eq!(tokenize_in("", Edition::E2015).next(), None);
