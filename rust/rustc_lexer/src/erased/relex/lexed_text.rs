@@ -10,7 +10,6 @@ use crate::erased::token::Token;
 use crate::support::{AllocError, Global};
 
 mod in_edition;
-mod shrink;
 
 /// A text that is kept with its tokens, and with the stepper that lexed them.
 #[derive(Clone)]
@@ -41,6 +40,13 @@ impl<S: Stepper> LexedText<S> {
     /// Returns the stepper that lexed the tokens.
     pub fn stepper(&self) -> &S {
         &self.kept.stepper
+    }
+
+    /// Gives back memory that edits have left unused, as `Vec::shrink_to_fit` does. Text, tokens and stepper stay. If
+    /// memory is refused on the way, the unused memory stays too.
+    pub fn shrink_to_fit(&mut self) {
+        self.text.shrink_to_fit();
+        self.kept.tokens.shrink_to_fit();
     }
 
     /// Returns where the bound with this number is, in bytes from the start of the text.
