@@ -1,52 +1,13 @@
 //! Readers and writers that move a part, are interrupted or fail, and what is kept where memory is refused.
 
+#[path = "../../rattle_support/tests/refusing/mod.rs"]
+mod refusing;
+
 use rattle_std::alloc::AllocError;
 use rattle_std::io::{Error, ErrorKind, Read, Result, Write};
 use rattle_std::prelude::String;
 use rattle_std::rt;
-use std::alloc::{GlobalAlloc, Layout, System};
-use std::cell::Cell;
-
-thread_local! {
-    /// Whether requests of this thread are given.
-    static GIVEN: Cell<bool> = const { Cell::new(true) };
-}
-
-/// The allocator of the system, which refuses what is not given.
-struct Refusing;
-
-// SAFETY: each call is that of the system's allocator, or answers null, which says that it was refused.
-unsafe impl GlobalAlloc for Refusing {
-    unsafe fn alloc(&self, layout: Layout) -> *mut u8 {
-        if GIVEN.get() {
-            unsafe { System.alloc(layout) }
-        } else {
-            std::ptr::null_mut()
-        }
-    }
-
-    unsafe fn dealloc(&self, at: *mut u8, layout: Layout) {
-        unsafe { System.dealloc(at, layout) }
-    }
-
-    unsafe fn realloc(&self, at: *mut u8, layout: Layout, size: usize) -> *mut u8 {
-        if GIVEN.get() {
-            unsafe { System.realloc(at, layout, size) }
-        } else {
-            std::ptr::null_mut()
-        }
-    }
-}
-
-#[global_allocator]
-static ALLOCATOR: Refusing = Refusing;
-
-fn refused<T>(call: impl FnOnce() -> T) -> T {
-    GIVEN.set(false);
-    let answer = call();
-    GIVEN.set(true);
-    answer
-}
+use refusing::given;
 
 /// An end that moves so many bytes in each call, and is interrupted before every second one.
 struct Slow {
@@ -139,7 +100,7 @@ fn texts_in_new_memory() {
     let rt = rt::start();
     let text = rattle_std::format!(in rt.alloc(); "{} of {}", 1, "two").unwrap();
     assert_eq!(text.as_str(), "1 of two");
-    let answer = refused(|| rattle_std::format!(in rt.alloc(); "{}", 1));
+    let answer = given(0, || rattle_std::format!(in rt.alloc(); "{}", 1));
     assert_eq!(answer.err(), Some(AllocError));
     assert_eq!(
         rattle_std::format!(in rt.alloc(); "").ok(),

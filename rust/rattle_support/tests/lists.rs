@@ -1,51 +1,11 @@
 //! Lists and texts beside Rust's own, and with each request for memory refused: then an error, and nothing changed.
 #![cfg(feature = "alloc")]
 
+mod refusing;
+
 use rattle_support::{AllocError, Global, String, Vec};
-use std::alloc::{GlobalAlloc, Layout, System};
-use std::cell::Cell;
+use refusing::given;
 use std::fmt::Write;
-
-thread_local! {
-    /// Whether requests of this thread are given.
-    static GIVEN: Cell<bool> = const { Cell::new(true) };
-}
-
-/// The allocator of the system, which refuses what is not given.
-struct Refusing;
-
-// SAFETY: each call is that of the system's allocator, or answers null, which says that it was refused.
-unsafe impl GlobalAlloc for Refusing {
-    unsafe fn alloc(&self, layout: Layout) -> *mut u8 {
-        if GIVEN.get() {
-            unsafe { System.alloc(layout) }
-        } else {
-            std::ptr::null_mut()
-        }
-    }
-
-    unsafe fn dealloc(&self, at: *mut u8, layout: Layout) {
-        unsafe { System.dealloc(at, layout) }
-    }
-
-    unsafe fn realloc(&self, at: *mut u8, layout: Layout, size: usize) -> *mut u8 {
-        if GIVEN.get() {
-            unsafe { System.realloc(at, layout, size) }
-        } else {
-            std::ptr::null_mut()
-        }
-    }
-}
-
-#[global_allocator]
-static ALLOCATOR: Refusing = Refusing;
-
-fn refused<T>(call: impl FnOnce() -> T) -> T {
-    GIVEN.set(false);
-    let answer = call();
-    GIVEN.set(true);
-    answer
-}
 
 fn text(text: &str) -> String {
     String::from_str(Global, text).unwrap()
@@ -84,14 +44,14 @@ fn texts() {
         // The room is full, so each that appends has to ask for more.
         let mut held = text("aéb");
         let takes_none = number >= 7;
-        let answer = refused(|| call(&mut held));
+        let answer = given(0, || call(&mut held));
         assert_eq!(answer.is_ok(), takes_none, "call {number}");
         let stays = if takes_none { wanted } else { "aéb" };
         assert_eq!(held.as_str(), stays, "call {number}");
     }
-    assert_eq!(refused(|| String::from_str(Global, "a")), Err(AllocError));
+    assert_eq!(given(0, || String::from_str(Global, "a")), Err(AllocError));
     assert_eq!(
-        refused(|| String::from_str(Global, "")),
+        given(0, || String::from_str(Global, "")),
         Ok(String::new(Global))
     );
     let mut held = text("aéb");
@@ -140,11 +100,11 @@ fn lists() {
         assert_eq!(held.as_slice(), wanted, "call {number}");
         // As many as there is room for are there.
         let mut held = list();
-        while refused(|| held.push(2)).is_ok() {}
+        while given(0, || held.push(2)).is_ok() {}
         let full = held.clone();
         let takes_none = number >= 3;
         assert_eq!(
-            refused(|| call(&mut held)).is_ok() || number == 2,
+            given(0, || call(&mut held)).is_ok() || number == 2,
             takes_none || number == 2
         );
         assert!(takes_none || number == 2 || held == full, "call {number}");
@@ -159,7 +119,7 @@ fn lists() {
     held.truncate(0);
     assert_eq!((held.pop(), held.len()), (None, 0));
     let mut full = Vec::new(Global);
-    assert_eq!(refused(|| full.resize(1, 0u8)), Err(AllocError));
+    assert_eq!(given(0, || full.resize(1, 0u8)), Err(AllocError));
     assert_eq!(full.len(), 0);
 }
 

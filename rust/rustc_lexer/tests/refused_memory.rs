@@ -1,60 +1,12 @@
 //! Each request for memory that an edit makes, refused in turn: text and tokens are then as they were.
 
+#[path = "../../rattle_support/tests/refusing/mod.rs"]
+mod refusing;
+
+use refusing::given;
 use rustc_lexer::{
     AllocError, Edit, EditError, EditStop, Edition, LexedDocument, LexedText, Steps,
 };
-use std::alloc::{GlobalAlloc, Layout, System};
-use std::cell::Cell;
-
-thread_local! {
-    /// How many requests of this thread are still given, counted down.
-    static GIVEN: Cell<usize> = const { Cell::new(usize::MAX) };
-}
-
-/// The allocator of the system, which refuses what is not given.
-struct Refusing;
-
-fn is_given() -> bool {
-    GIVEN.with(|given| {
-        let left = given.get().checked_sub(1);
-        given.set(left.unwrap_or(0));
-        left.is_some()
-    })
-}
-
-// SAFETY: each call is that of the system's allocator, or answers null, which says that it was refused.
-unsafe impl GlobalAlloc for Refusing {
-    unsafe fn alloc(&self, layout: Layout) -> *mut u8 {
-        if is_given() {
-            unsafe { System.alloc(layout) }
-        } else {
-            std::ptr::null_mut()
-        }
-    }
-
-    unsafe fn dealloc(&self, at: *mut u8, layout: Layout) {
-        unsafe { System.dealloc(at, layout) }
-    }
-
-    unsafe fn realloc(&self, at: *mut u8, layout: Layout, size: usize) -> *mut u8 {
-        if is_given() {
-            unsafe { System.realloc(at, layout, size) }
-        } else {
-            std::ptr::null_mut()
-        }
-    }
-}
-
-#[global_allocator]
-static ALLOCATOR: Refusing = Refusing;
-
-/// What a call answers to whom so many requests are given.
-fn given<T>(count: usize, call: impl FnOnce() -> T) -> T {
-    GIVEN.with(|given| given.set(count));
-    let answer = call();
-    GIVEN.with(|given| given.set(usize::MAX));
-    answer
-}
 
 #[test]
 fn each_request_of_an_edit() {

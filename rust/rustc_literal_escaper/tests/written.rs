@@ -2,53 +2,14 @@
 //! refused.
 #![cfg(feature = "alloc")]
 
+#[path = "../../rattle_support/tests/refusing/mod.rs"]
+mod refusing;
+
 use core::num::NonZero;
+use refusing::given;
 use rustc_literal_escaper::{
     AllocError, EscapeCStrError, MixedUnit, escape_byte_str, escape_c_str, escape_str,
 };
-use std::alloc::{GlobalAlloc, Layout, System};
-use std::cell::Cell;
-
-thread_local! {
-    /// Whether requests of this thread are given.
-    static GIVEN: Cell<bool> = const { Cell::new(true) };
-}
-
-/// The allocator of the system, which refuses what is not given.
-struct Refusing;
-
-// SAFETY: each call is that of the system's allocator, or answers null, which says that it was refused.
-unsafe impl GlobalAlloc for Refusing {
-    unsafe fn alloc(&self, layout: Layout) -> *mut u8 {
-        if GIVEN.get() {
-            unsafe { System.alloc(layout) }
-        } else {
-            std::ptr::null_mut()
-        }
-    }
-
-    unsafe fn dealloc(&self, at: *mut u8, layout: Layout) {
-        unsafe { System.dealloc(at, layout) }
-    }
-
-    unsafe fn realloc(&self, at: *mut u8, layout: Layout, size: usize) -> *mut u8 {
-        if GIVEN.get() {
-            unsafe { System.realloc(at, layout, size) }
-        } else {
-            std::ptr::null_mut()
-        }
-    }
-}
-
-#[global_allocator]
-static ALLOCATOR: Refusing = Refusing;
-
-fn refused<T>(call: impl FnOnce() -> T) -> T {
-    GIVEN.set(false);
-    let answer = call();
-    GIVEN.set(true);
-    answer
-}
 
 /// What is written is appended: each text behind all others.
 #[test]
@@ -78,14 +39,14 @@ fn where_nothing_is_written() {
     assert_eq!(out, "front");
     let long = "a".repeat(100);
     out.shrink_to_fit();
-    assert_eq!(refused(|| escape_str(&long, &mut out)), Err(AllocError));
+    assert_eq!(given(0, || escape_str(&long, &mut out)), Err(AllocError));
     let bytes = long.as_bytes();
     assert_eq!(
-        refused(|| escape_byte_str(bytes, &mut out)),
+        given(0, || escape_byte_str(bytes, &mut out)),
         Err(AllocError)
     );
     let memory = Err(EscapeCStrError::OutOfMemory);
-    assert_eq!(refused(|| escape_c_str(bytes, &mut out)), memory);
+    assert_eq!(given(0, || escape_c_str(bytes, &mut out)), memory);
     assert_eq!(out, "front");
     for (error, said) in [
         (EscapeCStrError::Nul, "a C string has no byte that is 0"),

@@ -1,0 +1,53 @@
+//! The allocator of tests that have requests for memory refused, here and in the packages beside this one.
+
+use std::alloc::{GlobalAlloc, Layout, System};
+use std::cell::Cell;
+use std::ptr::null_mut;
+
+thread_local! {
+    /// How many requests of this thread are still given, counted down.
+    static GIVEN: Cell<usize> = const { Cell::new(usize::MAX) };
+}
+
+/// The allocator of the system, which refuses what is not given.
+struct Refusing;
+
+fn is_given() -> bool {
+    let left = GIVEN.get().checked_sub(1);
+    GIVEN.set(left.unwrap_or(0));
+    left.is_some()
+}
+
+// SAFETY: each call is that of the system's allocator, or answers null, which says that it was refused.
+unsafe impl GlobalAlloc for Refusing {
+    unsafe fn alloc(&self, layout: Layout) -> *mut u8 {
+        if is_given() {
+            unsafe { System.alloc(layout) }
+        } else {
+            null_mut()
+        }
+    }
+
+    unsafe fn dealloc(&self, at: *mut u8, layout: Layout) {
+        unsafe { System.dealloc(at, layout) }
+    }
+
+    unsafe fn realloc(&self, at: *mut u8, layout: Layout, size: usize) -> *mut u8 {
+        if is_given() {
+            unsafe { System.realloc(at, layout, size) }
+        } else {
+            null_mut()
+        }
+    }
+}
+
+#[global_allocator]
+static ALLOCATOR: Refusing = Refusing;
+
+/// What a call answers if so many of its requests are given.
+pub fn given<T>(count: usize, call: impl FnOnce() -> T) -> T {
+    GIVEN.set(count);
+    let answer = call();
+    GIVEN.set(usize::MAX);
+    answer
+}
