@@ -1,19 +1,14 @@
 //! What literals stand for, by two escapers with types of their own, as lines that can be compared.
 
-use std::fmt::{Debug, Write};
-
-/// Writes a value with its name as the next line.
-fn line(lines: &mut String, name: &str, value: impl Debug) {
-    writeln!(lines, "{name} {value:?}").expect("a String takes all that is written");
-}
+use crate::lexers::line;
 
 macro_rules! answers_of {
-    ($name:ident, $($escaper:ident)::+) => {
-        pub mod $name {
+    ($name:ident, $escaper:ident) => {
+        mod $name {
             use super::line;
-            use $($escaper)::+::{
-                check_for_errors, check_raw_byte_str, check_raw_c_str, check_raw_str, unescape_byte,
-                unescape_byte_str, unescape_c_str, unescape_char, unescape_str, Mode,
+            use $escaper::{
+                Mode, check_for_errors, check_raw_byte_str, check_raw_c_str, check_raw_str,
+                unescape_byte, unescape_byte_str, unescape_c_str, unescape_char, unescape_str,
             };
 
             const MODES: [Mode; 8] = [
@@ -35,7 +30,9 @@ macro_rules! answers_of {
                 unescape_byte_str(text, |range, unit| line(lines, "byte str", (range, unit)));
                 unescape_c_str(text, |range, unit| line(lines, "C str", (range, unit)));
                 check_raw_str(text, |range, unit| line(lines, "raw str", (range, unit)));
-                check_raw_byte_str(text, |range, unit| line(lines, "raw byte str", (range, unit)));
+                check_raw_byte_str(text, |range, unit| {
+                    line(lines, "raw byte str", (range, unit))
+                });
                 check_raw_c_str(text, |range, unit| line(lines, "raw C str", (range, unit)));
                 for mode in MODES {
                     let of_mode = (mode.in_double_quotes(), mode.prefix_noraw());
@@ -49,5 +46,8 @@ macro_rules! answers_of {
     };
 }
 
-answers_of!(original, original_escaper);
-answers_of!(proved, proved_escaper);
+answers_of!(theirs, original_escaper);
+answers_of!(ours, rustc_literal_escaper);
+
+/// What both answer of what stands between the quotes of a literal, one after the other.
+pub const ANSWERS: [fn(&str, &mut String); 2] = [theirs::answers, ours::answers];

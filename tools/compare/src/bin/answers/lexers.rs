@@ -1,10 +1,9 @@
 //! What a lexer answers of a text, as lines, so that the answers of two lexers with types of their own can be compared.
 
-use crate::literals;
 use std::fmt::{Debug, Write};
 
 /// Writes a value with its name as the next line.
-fn line(lines: &mut String, name: &str, value: impl Debug) {
+pub fn line(lines: &mut String, name: &str, value: impl Debug) {
     writeln!(lines, "{name} {value:?}").expect("a String takes all that is written");
 }
 
@@ -26,11 +25,11 @@ pub struct Classes {
 }
 
 macro_rules! answers_of {
-    ($lexer:ident) => {
-        mod $lexer {
-            use super::{line, order, Classes};
+    ($name:ident, $lexer:ident) => {
+        mod $name {
+            use super::{Classes, line, order};
             use $lexer::{
-                is_ident, strip_shebang, tokenize, validate_raw_str, Cursor, FrontmatterAllowed,
+                Cursor, FrontmatterAllowed, is_ident, strip_shebang, tokenize, validate_raw_str,
             };
             use $lexer::{LiteralKind, RawStrError, TokenKind};
 
@@ -133,53 +132,13 @@ macro_rules! answers_of {
     };
 }
 
-answers_of!(original);
-answers_of!(proved);
+answers_of!(theirs, original);
+answers_of!(ours, rustc_lexer);
 
 /// The classes of a character, by the original and by the proved lexer.
 pub fn classes(c: char) -> [Classes; 2] {
-    [original::classes(c), proved::classes(c)]
+    [theirs::classes(c), ours::classes(c)]
 }
 
-/// The answers of both of one text, kept for their room.
-#[derive(Default)]
-pub struct Pair {
-    original: String,
-    proved: String,
-}
-
-impl Pair {
-    /// The number of answers of a text, or the first that differ.
-    pub fn compare(&mut self, text: &str) -> Result<usize, [String; 2]> {
-        self.compare_by(text, [original::answers, proved::answers])
-    }
-
-    /// The same of a text that stands between the quotes of a literal.
-    pub fn compare_literals(&mut self, text: &str) -> Result<usize, [String; 2]> {
-        self.compare_by(
-            text,
-            [literals::original::answers, literals::proved::answers],
-        )
-    }
-
-    fn compare_by(
-        &mut self,
-        text: &str,
-        [original, proved]: [fn(&str, &mut String); 2],
-    ) -> Result<usize, [String; 2]> {
-        self.original.clear();
-        self.proved.clear();
-        original(text, &mut self.original);
-        proved(text, &mut self.proved);
-        if self.original == self.proved {
-            return Ok(self.original.lines().count());
-        }
-        let (mut left, mut right) = (self.original.lines(), self.proved.lines());
-        loop {
-            let lines = [left.next(), right.next()];
-            if lines[0] != lines[1] {
-                return Err(lines.map(|line| line.unwrap_or("nothing").to_owned()));
-            }
-        }
-    }
-}
+/// What both answer of a text, one after the other.
+pub const ANSWERS: [fn(&str, &mut String); 2] = [theirs::answers, ours::answers];

@@ -95,15 +95,9 @@ impl<'a> Random<'a> {
 
     /// A part of a text, from one character to another, of up to about 300 bytes.
     fn part<'t>(&mut self, text: &'t str) -> &'t str {
-        let boundary = |mut at: usize| {
-            while !text.is_char_boundary(at) {
-                at -= 1;
-            }
-            at
-        };
-        let start = boundary(self.below(text.len() + 1));
-        let end = (start + self.below(300)).min(text.len());
-        &text[start..boundary(end).max(start)]
+        let start = text.floor_char_boundary(self.below(text.len() + 1));
+        let end = text.floor_char_boundary(start + self.below(300));
+        &text[start..end]
     }
 
     /// Pieces that begin, end and break a shebang line or a frontmatter, and others.
@@ -128,16 +122,10 @@ impl<'a> Random<'a> {
     /// A range of a text, from one character to another, often at the front, and often short.
     pub fn range(&mut self, text: &str) -> Range<usize> {
         let near = if self.below(2) == 0 { 24 } else { text.len() };
-        let mut start = self.below(near.min(text.len()) + 1);
-        while !text.is_char_boundary(start) {
-            start -= 1;
-        }
+        let start = text.floor_char_boundary(self.below(near.min(text.len()) + 1));
         let most = [0, 1, 9, text.len()][self.below(4)];
-        let mut end = start + self.below(most.min(text.len() - start) + 1);
-        while !text.is_char_boundary(end) {
-            end += 1;
-        }
-        start..end
+        let end = start + self.below(most.min(text.len() - start) + 1);
+        start..text.ceil_char_boundary(end)
     }
 
     /// A text: pieces alone, or parts of files with pieces between them.

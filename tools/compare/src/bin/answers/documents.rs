@@ -1,7 +1,8 @@
 //! Whole documents that are kept with their tokens under edits.
 
+use crate::same;
 use crate::texts::Random;
-use proved::{tokenize_document, Edition, LexedDocument};
+use rustc_lexer::{Edition, LexedDocument, tokenize_document};
 use std::fmt::{Debug, Write};
 use std::ops::Range;
 
@@ -32,11 +33,11 @@ impl Documents {
             let anew = tokenize_document(&made, lexed.edition());
             let start = made.len() - anew.as_str().len();
             let kept = answers(lexed.text(), lexed.shebang_len(), lexed.tokens().iter());
-            count += same(answers(&made, start, anew), &kept)?;
+            count += same(&[answers(&made, start, anew), kept.clone()])?;
             if lexed.edition() == Edition::E2024 {
                 let start = original::strip_shebang(&made).unwrap_or(0);
                 let tokens = original::tokenize(&made[start..], original::FrontmatterAllowed::Yes);
-                count += same(answers(&made, start, tokens), &kept)?;
+                count += same(&[answers(&made, start, tokens), kept])?;
             }
         }
         Ok(count)
@@ -50,15 +51,4 @@ fn answers(text: &str, start: usize, tokens: impl Iterator<Item = impl Debug>) -
         writeln!(lines, "{token:?}").expect("a String takes all that is written");
     }
     lines
-}
-
-/// The number of lines that are the same, or the first that differ.
-fn same(wanted: String, kept: &str) -> Result<usize, [String; 2]> {
-    if wanted == kept {
-        return Ok(kept.lines().count());
-    }
-    let lines = wanted.lines().zip(kept.lines());
-    let differing = lines.clone().find(|(a, b)| a != b);
-    let [a, b] = differing.map_or(["one has fewer"; 2], |(a, b)| [a, b]);
-    Err([a.to_owned(), b.to_owned()])
 }

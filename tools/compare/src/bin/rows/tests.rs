@@ -1,7 +1,12 @@
-//! The rows, through the binding for Rust.
+//! The rows, through the crate for plain Rust.
 
-use rows::{cases, checks, shebangs};
-use rustc_lexer::{Cursor, Token, TokenKind, strip_shebang, validate_raw_str};
+use crate::tables::raw_strings::CHECKS;
+use crate::tables::{row::Way, shebang};
+use crate::{cases, text_of};
+use rustc_lexer::{
+    Cursor, FrontmatterAllowed, Token, TokenKind, strip_shebang, tokenize, tokenize_as,
+    tokenize_in, validate_raw_str,
+};
 
 #[test]
 fn tokens() {
@@ -9,7 +14,11 @@ fn tokens() {
     // A row more or less is a number more or less here, so that none is lost.
     assert_eq!(cases.len(), 562);
     for case in cases {
-        let mut left = case.lex();
+        let mut left = match case.way {
+            Way::Newest(allowed) => tokenize(&case.text, allowed),
+            Way::Part(edition) => tokenize_in(&case.text, edition),
+            Way::Document(edition) => tokenize_as(&case.text, FrontmatterAllowed::Yes, edition),
+        };
         let shown: String = case.text.chars().take(40).collect();
         for &(kind, len) in &case.tokens {
             assert_eq!(left.next(), Some(Token { kind, len }), "in {shown:?}");
@@ -52,16 +61,17 @@ fn cursors() {
 
 #[test]
 fn shebang_lines() {
-    assert_eq!(shebangs().len(), 44);
-    for (text, line) in shebangs() {
+    assert_eq!(shebang::ROWS.len(), 44);
+    for (text, line) in shebang::ROWS {
         assert_eq!(strip_shebang(text), *line, "in {text:?}");
     }
 }
 
 #[test]
 fn raw_strings() {
-    assert_eq!(checks().len(), 39);
-    for (text, prefix_len, want) in checks() {
-        assert_eq!(validate_raw_str(&text, prefix_len), want, "in {text:?}");
+    assert_eq!(CHECKS.len(), 39);
+    for (parts, prefix_len, want) in CHECKS {
+        let text = text_of(parts);
+        assert_eq!(validate_raw_str(&text, *prefix_len), *want, "in {text:?}");
     }
 }

@@ -1,0 +1,262 @@
+//! Each way to take the tokens of a text, by both, with each consumer.
+
+use crate::Sum;
+use ours::Consumer;
+use rustc_lexer::{FrontmatterAllowed, Token, TokenKind, tokenize};
+
+/// What consumers do with tokens: they read all fields, have a `match` with an arm for each kind, read the lengths of those
+/// that are not `Eof`, or keep all in a `Vec`.
+pub const CONSUMERS: [&str; 4] = ["all fields", "`match`", "lengths", "`push`"];
+
+/// A way to take tokens: its name, and what each consumer makes of the tokens of a text.
+pub type Way = (&'static str, [fn(&str) -> Sum; 4]);
+
+/// A way by a function that takes the number of the consumer.
+macro_rules! way {
+    ($name:literal, $by:ident) => {
+        ($name, [$by::<0>, $by::<1>, $by::<2>, $by::<3>])
+    };
+}
+
+/// A `match` with an arm for each kind: those with fields, and their numbers; and the others, which it numbers.
+macro_rules! numbers {
+    ($kind:ident; $($fields:pat => $number:expr),*; $($plain:ident)*) => {{
+        enum Number { $($plain),* }
+        #[allow(unreachable_patterns)]
+        match $kind {
+            $($fields => $number,)*
+            $(TokenKind::$plain => Number::$plain as u64 + 6,)*
+            _ => 0,
+        }
+    }};
+}
+
+/// The ways that both have, word for word.
+macro_rules! ways {
+    ($module:ident, $lexer:ident) => {
+        mod $module {
+            use super::Way;
+            use crate::Sum;
+            use std::hint::black_box;
+            use $lexer::*;
+
+            fn style(style: Option<DocStyle>) -> u64 {
+                match style {
+                    None => 0,
+                    Some(DocStyle::Outer) => 64,
+                    Some(DocStyle::Inner) => 128,
+                }
+            }
+
+            fn hashes(hashes: Option<u8>) -> u64 {
+                match hashes {
+                    None => 1 << 20,
+                    Some(count) => u64::from(count) << 12,
+                }
+            }
+
+            fn literal(kind: LiteralKind) -> u64 {
+                match kind {
+                    LiteralKind::Int { base, empty_int } => base as u64 * 64 + u64::from(empty_int),
+                    LiteralKind::Float {
+                        base,
+                        empty_exponent,
+                    } => base as u64 * 96 + u64::from(empty_exponent),
+                    LiteralKind::Char { terminated } => 3 + u64::from(terminated),
+                    LiteralKind::Byte { terminated } => 5 + u64::from(terminated),
+                    LiteralKind::Str { terminated } => 7 + u64::from(terminated),
+                    LiteralKind::ByteStr { terminated } => 9 + u64::from(terminated),
+                    LiteralKind::CStr { terminated } => 11 + u64::from(terminated),
+                    LiteralKind::RawStr { n_hashes } => 13 + hashes(n_hashes),
+                    LiteralKind::RawByteStr { n_hashes } => 14 + hashes(n_hashes),
+                    LiteralKind::RawCStr { n_hashes } => 15 + hashes(n_hashes),
+                }
+            }
+
+            /// A number of the kind, with all its fields or alone; 0 for a kind that only one of the two lexers has.
+            #[rustfmt::skip]
+            fn number<const FIELDS: bool>(kind: TokenKind) -> u64 {
+                let with = |number, fields| if FIELDS { number + fields } else { number };
+                use TokenKind::*;
+                numbers!(kind;
+                    LineComment { doc_style } => with(1, style(doc_style)),
+                    BlockComment { doc_style, terminated } => with(2, style(doc_style) + u64::from(terminated) * 256),
+                    Frontmatter { has_invalid_preceding_whitespace: invalid, invalid_infostring } =>
+                        with(3, u64::from(invalid) * 64 + u64::from(invalid_infostring) * 128),
+                    Literal { kind, suffix_start } => with(4, literal(kind) + (u64::from(suffix_start) << 24)),
+                    Lifetime { starts_with_number } => with(5, u64::from(starts_with_number) * 64);
+                    Whitespace Ident InvalidIdent RawIdent ForcedKeywordIdent UnknownPrefix UnknownPrefixLifetime
+                    RawLifetime GuardedStrPrefix Semi Comma Dot OpenParen CloseParen OpenBrace CloseBrace OpenBracket
+                    CloseBracket At Pound Tilde Question Colon Dollar Eq Bang Lt Gt Minus And Or Plus Star Slash Caret
+                    Percent Unknown Eof
+                )
+            }
+
+            /// The consumer of a number.
+            pub struct Consumer<const NUMBER: usize> {
+                sum: Sum,
+                kinds: [u64; 64],
+                tokens: Vec<Token>,
+            }
+
+            impl<const NUMBER: usize> Consumer<NUMBER> {
+                pub fn new() -> Consumer<NUMBER> {
+                    Consumer {
+                        sum: Sum::default(),
+                        kinds: [0; 64],
+                        tokens: Vec::new(),
+                    }
+                }
+
+                #[inline(always)]
+                pub fn take(&mut self, token: Token) {
+                    match NUMBER {
+                        0 => self.sum = self.sum.add(number::<true>(token.kind), token.len),
+                        1 => self.kinds[number::<false>(token.kind) as usize % 64] += 1,
+                        2 if token.kind == TokenKind::Eof => {}
+                        2 => self.sum = self.sum.add(0, token.len),
+                        _ => self.tokens.push(token),
+                    }
+                }
+
+                pub fn sum(&self) -> Sum {
+                    let sum = self.kinds.iter().fold(self.sum, |sum, count| Sum {
+                        count: sum.count + count,
+                        sum: sum.sum.wrapping_mul(31).wrapping_add(*count),
+                    });
+                    let kept = black_box(&self.tokens).len() as u64;
+                    Sum {
+                        count: sum.count + kept,
+                        ..sum
+                    }
+                }
+            }
+
+            fn by_for<const CONSUMER: usize>(text: &str) -> Sum {
+                let mut consumer = Consumer::<CONSUMER>::new();
+                for token in tokenize(text, FrontmatterAllowed::No) {
+                    consumer.take(token);
+                }
+                consumer.sum()
+            }
+
+            fn by_fold<const CONSUMER: usize>(text: &str) -> Sum {
+                let tokens = tokenize(text, FrontmatterAllowed::No);
+                let consumer = Consumer::<CONSUMER>::new();
+                let consumer = tokens.fold(consumer, |mut consumer, token| {
+                    consumer.take(token);
+                    consumer
+                });
+                consumer.sum()
+            }
+
+            fn by_cursor<const CONSUMER: usize>(text: &str) -> Sum {
+                let mut consumer = Consumer::<CONSUMER>::new();
+                let mut cursor = Cursor::new(text, FrontmatterAllowed::No);
+                loop {
+                    let token = cursor.advance_token();
+                    if matches!(token.kind, TokenKind::Eof) {
+                        return consumer.sum();
+                    }
+                    consumer.take(token);
+                }
+            }
+
+            fn fresh<const CONSUMER: usize>(text: &str) -> Sum {
+                let mut consumer = Consumer::<CONSUMER>::new();
+                let mut start = 0;
+                while let Some(token) = tokenize(&text[start..], FrontmatterAllowed::No).next() {
+                    start += token.len as usize;
+                    consumer.take(token);
+                }
+                consumer.sum()
+            }
+
+            fn by_lines<const CONSUMER: usize>(text: &str) -> Sum {
+                let mut consumer = Consumer::<CONSUMER>::new();
+                for line in text.lines() {
+                    for token in tokenize(line, FrontmatterAllowed::No) {
+                        consumer.take(token);
+                    }
+                }
+                consumer.sum()
+            }
+
+            fn boxed<const CONSUMER: usize>(text: &str) -> Sum {
+                let mut consumer = Consumer::<CONSUMER>::new();
+                for line in text.lines() {
+                    let tokens = tokenize(line, FrontmatterAllowed::No);
+                    let tokens: Box<dyn Iterator<Item = Token> + '_> = Box::new(tokens);
+                    for token in tokens {
+                        consumer.take(token);
+                    }
+                }
+                consumer.sum()
+            }
+
+            /// All tokens, by the iterator's own `collect`.
+            pub fn collected(text: &str) -> Sum {
+                let mut consumer = Consumer::<3>::new();
+                consumer.tokens = tokenize(text, FrontmatterAllowed::No).collect();
+                consumer.sum()
+            }
+
+            pub const WAYS: [Way; 6] = [
+                way!("`for` over `tokenize`", by_for),
+                way!("`fold` of `tokenize`", by_fold),
+                way!("`Cursor::advance_token`", by_cursor),
+                way!("`tokenize` for each token", fresh),
+                way!("`tokenize` for each line", by_lines),
+                way!("a boxed `tokenize` for each line", boxed),
+            ];
+        }
+    };
+}
+
+ways!(theirs, original);
+ways!(ours, rustc_lexer);
+
+/// Many tokens at once, which ours alone has.
+fn by_fill<const CONSUMER: usize>(text: &str) -> Sum {
+    let mut consumer = Consumer::<CONSUMER>::new();
+    let eof = Token {
+        kind: TokenKind::Eof,
+        len: 0,
+    };
+    let mut buffer = [eof; 256];
+    let mut tokens = tokenize(text, FrontmatterAllowed::No);
+    while !tokens.as_str().is_empty() {
+        let count = tokens.fill(&mut buffer);
+        buffer[..count]
+            .iter()
+            .for_each(|token| consumer.take(*token));
+    }
+    consumer.sum()
+}
+
+fn into_vec(text: &str) -> Sum {
+    let tokens = tokenize(text, FrontmatterAllowed::No).into_vec();
+    Sum {
+        count: std::hint::black_box(&tokens).len() as u64,
+        sum: 0,
+    }
+}
+
+/// Each way with the functions of both, the original's first, in turns of consumers. What the original has not is beside
+/// what it has.
+pub fn ways() -> Vec<(&'static str, Vec<[fn(&str) -> Sum; 2]>)> {
+    let pairs = |(name, ours): Way, theirs: [fn(&str) -> Sum; 4]| {
+        (name, theirs.into_iter().zip(ours).map(Into::into).collect())
+    };
+    let mut ways = Vec::new();
+    for (ours, theirs) in ours::WAYS.into_iter().zip(theirs::WAYS) {
+        ways.push(pairs(ours, theirs.1));
+    }
+    ways.push(pairs(way!("`Tokens::fill`", by_fill), theirs::WAYS[0].1));
+    ways.push((
+        "`collect` of `tokenize`",
+        vec![[theirs::collected, ours::collected]],
+    ));
+    ways.push(("`Tokens::into_vec`", vec![[theirs::collected, into_vec]]));
+    ways
+}
