@@ -1,5 +1,8 @@
 //! A whole document that is kept with its tokens, against lexing it from scratch.
 
+mod random;
+
+use random::Random;
 use rustc_lexer::{
     Edit, EditStop, Edition, FrontmatterAllowed, LexedDocument, LexedText, Relexed, Stepper, Steps,
     Token, TokenKind, strip_shebang, tokenize_as, tokenize_document,
@@ -12,29 +15,13 @@ const BODY: usize = 19;
 
 /// What documents and edits are made of: pieces that begin, end and break a shebang line or a frontmatter.
 #[rustfmt::skip]
-const BITS: [&str; 44] = [
+const BITS: &[&str] = &[
     "#!", "#", "!", "/", "[", "]", "#![", "bin/sh", "\n", "\n", "\n", "\r\n", "\r", " ", "\t", "\u{2028}",
     "---", "---\n", "\n---", "----", "--", "-", "---a\n", "---\nuse ", "cargo", "a.b", "use ", "\nuse ",
     "//", "//!", "\n//!", "/*", "*/", "/**", "\"", "'", "r#\"", "\"#", "'r#a", "##\"", "z\"", "é", "fn x", "1.",
 ];
 
-/// Numbers that look as if drawn by chance (Knuth's linear congruence of 64 bits).
-struct Random(u64);
-
 impl Random {
-    fn below(&mut self, bound: usize) -> usize {
-        self.0 = self
-            .0
-            .wrapping_mul(6_364_136_223_846_793_005)
-            .wrapping_add(1_442_695_040_888_963_407);
-        ((self.0 >> 33) as usize) % bound
-    }
-
-    fn text(&mut self, most: usize) -> String {
-        let count = self.below(most + 1);
-        (0..count).map(|_| BITS[self.below(BITS.len())]).collect()
-    }
-
     fn document(&mut self) -> String {
         let line = ["", "#!/bin/sh\n", "#!\n"][self.below(3)];
         let front = ["", "---\na\n---\n", "\n ---\n", " \n----\n---\n----\n"][self.below(4)];
@@ -43,17 +30,9 @@ impl Random {
 
     /// A range between characters, often at the front, and often short.
     fn range(&mut self, text: &str) -> Range<usize> {
-        let most = if self.below(2) == 0 { 24 } else { text.len() };
-        let mut start = self.below(most.min(text.len()) + 1);
-        while !text.is_char_boundary(start) {
-            start -= 1;
-        }
+        let first = [24, text.len()][self.below(2)];
         let most = [0, 1, 9, text.len()][self.below(4)];
-        let mut stop = start + self.below(most.min(text.len() - start) + 1);
-        while !text.is_char_boundary(stop) {
-            stop += 1;
-        }
-        start..stop
+        self.range_in(text, first, most)
     }
 }
 
@@ -154,7 +133,7 @@ fn random_edits_in_each_edition() {
     let asked = std::env::var("EDITS").map(|count| count.parse());
     let count: usize = asked.map_or(10_000, |count| count.expect("EDITS is a number"));
     for edition in Edition::ALL {
-        let mut random = Random(u64::from(edition.year()));
+        let mut random = Random(u64::from(edition.year()), BITS);
         let mut lexed = LexedDocument::new_in("", edition);
         for number in 0..count {
             if number % 12 == 0 {

@@ -1,5 +1,8 @@
 //! A text that is kept with its tokens, against lexing it from scratch and against what an edit is to keep.
 
+mod random;
+
+use random::Random;
 use rustc_lexer::{
     Edit, EditError, EditStop, Edition, FrontmatterAllowed, LexedDocument, LexedText, Steps, Token,
     TokenKind, tokenize, tokenize_in,
@@ -7,85 +10,18 @@ use rustc_lexer::{
 use std::ops::Range;
 
 /// What edits are made of: pieces that change what stands around them.
-const BITS: [&str; 40] = [
-    "a",
-    "bc",
-    "r",
-    "k",
-    "br",
-    "c",
-    "1",
-    "0x",
-    "e",
-    ".",
-    "_",
-    " ",
-    "\n",
-    "\t",
-    "é",
-    "😀",
-    "\u{3b1}",
-    "\"",
-    "'",
-    "#",
-    "##",
-    "r#",
-    "r#\"",
-    "\"#",
-    "\\",
-    "/",
-    "//",
-    "/*",
-    "*/",
-    "///",
-    "!",
-    "'r#a",
-    "b'",
-    "::",
-    "->",
-    "..=",
-    "let x = 1;",
-    "fn f() {}\n",
-    "'a",
-    "\u{200d}",
+#[rustfmt::skip]
+const BITS: &[&str] = &[
+    "a", "bc", "r", "k", "br", "c", "1", "0x", "e", ".", "_", " ", "\n", "\t", "é", "😀", "\u{3b1}", "\"", "'",
+    "#", "##", "r#", "r#\"", "\"#", "\\", "/", "//", "/*", "*/", "///", "!", "'r#a", "b'", "::", "->", "..=",
+    "let x = 1;", "fn f() {}\n", "'a", "\u{200d}",
 ];
 
-/// Numbers that look as if drawn by chance (Knuth's linear congruence of 64 bits).
-struct Random(u64);
-
 impl Random {
-    fn below(&mut self, bound: usize) -> usize {
-        self.0 = self
-            .0
-            .wrapping_mul(6_364_136_223_846_793_005)
-            .wrapping_add(1_442_695_040_888_963_407);
-        ((self.0 >> 33) as usize) % bound
-    }
-
-    fn text(&mut self, most: usize) -> String {
-        let count = self.below(most + 1);
-        (0..count).map(|_| BITS[self.below(BITS.len())]).collect()
-    }
-
-    /// A place between characters.
-    fn place(&mut self, text: &str) -> usize {
-        let mut place = self.below(text.len() + 1);
-        while !text.is_char_boundary(place) {
-            place -= 1;
-        }
-        place
-    }
-
+    /// A range between characters, mostly short.
     fn range(&mut self, text: &str) -> Range<usize> {
-        let start = self.place(text);
-        let mut stop = (start + self.below(9)).min(text.len());
-        if self.below(20) == 0 {
-            stop = self.place(text).max(start);
-        }
-        while !text.is_char_boundary(stop) {
-            stop += 1;
-        }
-        start..stop
+        let most = if self.below(20) == 0 { text.len() } else { 8 };
+        self.range_in(text, text.len(), most)
     }
 }
 
@@ -167,7 +103,7 @@ fn edit_and_check(lexed: &mut LexedText, range: Range<usize>, insert: &str) {
 
 #[test]
 fn random_edits_of_short_texts() {
-    let mut random = Random(1);
+    let mut random = Random(1, BITS);
     for round in 0..800 {
         let edition = Edition::ALL[round % 4];
         let mut lexed = LexedText::new_in(random.text(40), edition);
@@ -186,7 +122,7 @@ fn many_edits_of_one_text_in_each_edition() {
     let asked = std::env::var("EDITS").map(|count| count.parse());
     let count = asked.map_or(10_000, |count| count.expect("EDITS is a number"));
     for edition in Edition::ALL {
-        let mut random = Random(u64::from(edition.year()));
+        let mut random = Random(u64::from(edition.year()), BITS);
         let mut lexed = LexedText::new_in(random.text(200), edition);
         for _ in 0..count {
             let range = random.range(lexed.text());
@@ -199,7 +135,7 @@ fn many_edits_of_one_text_in_each_edition() {
 
 #[test]
 fn random_edits_of_a_long_text() {
-    let mut random = Random(2);
+    let mut random = Random(2, BITS);
     let mut lexed =
         LexedText::new("fn add(left: u32, right: u32) -> u32 { left + right } // é\n".repeat(400));
     for _ in 0..400 {

@@ -83,7 +83,7 @@ macro_rules! units {
 /// The search for errors in a mode, of what is named.
 macro_rules! errors {
     ($mode:ident, $texts:ident $(, $of:literal)?) => {
-        (concat!("`check_for_errors`, `", stringify!($mode), "`" $(, " of ", $of)?), |_| {
+        (concat!("`check_for_errors` with `", stringify!($mode), "`" $(, " of ", $of)?), |_| {
             each($texts, |text| {
                 check_for_errors(text, Mode::$mode, |range, error| {
                     black_box((range, error));
@@ -144,7 +144,7 @@ macro_rules! calls {
             pub const CALLS: [Call; 43] = [
                 call!("`strip_shebang`", SHEBANGS, strip_shebang),
                 call!("`next` of a line", LINES, next),
-                call!("`next` of a line, with `Yes`", LINES, next_yes),
+                call!("`next` of a line with `Yes`", LINES, next_yes),
                 call!("`next` of a word", WORDS, next),
                 call!("`advance_token` of a line", LINES, advanced),
                 call!("`collect` of a word", WORDS, collected),

@@ -11,6 +11,9 @@ pub const CONSUMERS: [&str; 4] = ["all fields", "`match`", "lengths", "`push`"];
 /// A way to take tokens: its name, and what each consumer makes of the tokens of a text.
 pub type Way = (&'static str, [fn(&str) -> Sum; 4]);
 
+/// The functions of a way by both, the original's first, for each consumer.
+type Pairs = Vec<[fn(&str) -> Sum; 2]>;
+
 /// A way by a function that takes the number of the consumer.
 macro_rules! way {
     ($name:literal, $by:ident) => {
@@ -242,9 +245,8 @@ fn into_vec(text: &str) -> Sum {
     }
 }
 
-/// Each way with the functions of both, the original's first, in turns of consumers. What the original has not is beside
-/// what it has.
-pub fn ways() -> Vec<(&'static str, Vec<[fn(&str) -> Sum; 2]>)> {
+/// Each way with its functions. What the original has not is beside what it has.
+pub fn ways() -> Vec<(&'static str, Pairs)> {
     let pairs = |(name, ours): Way, theirs: [fn(&str) -> Sum; 4]| {
         (name, theirs.into_iter().zip(ours).map(Into::into).collect())
     };
