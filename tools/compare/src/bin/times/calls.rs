@@ -219,21 +219,15 @@ macro_rules! calls {
 calls!(theirs, original, original_escaper);
 calls!(ours, rustc_lexer, rustc_literal_escaper);
 
-/// The calls of both, the original's first, and those of a long text.
+/// The calls of both, the original's first; and those of a long text.
 pub const CALLS: [[Call; 43]; 2] = [theirs::CALLS, ours::CALLS];
 pub const LONG: [[Call; 7]; 2] = [theirs::LONG, ours::LONG];
 
 /// What stands between the quotes, of each kind of text.
 #[rustfmt::skip]
 pub const TEXTS: [(&str, &str); 7] = [
-    (
-        "plain",
-        "some words that stand for themselves, and no other. ",
-    ),
-    (
-        "an escape a line",
-        "some words that stand for themselves, and no other.\\n",
-    ),
+    ("plain", "some words that stand for themselves, and no other. "),
+    ("an escape a line", "some words that stand for themselves, and no other.\\n"),
     ("short plain runs", "ab\\ncde\\tf\\\\gh\\x41"),
     ("all escapes", "\\n\\x41\\u{e9}\\\\\\t\\0"),
     ("skipped line ends", "a \\\n        b \\\n    "),
