@@ -12,7 +12,7 @@ use crate::elements::{Elements, takes_all};
 use crate::error::EscapeError;
 use crate::mode::Mode;
 use crate::scan::{past_plain, split_first};
-use crate::simple::past_simple;
+use crate::simple::{past_last_simple, past_simple};
 use crate::single;
 use crate::steps::{byte_at, is_plain, line_at, lone_element, more_lines, more_space, pass_over};
 use std::ops::Range;
@@ -269,7 +269,8 @@ fn past_simple_front(rest: &str) -> &str
     }
 }
 
-/// Returns the text after the plain characters at the front, if no plain character is wrong in this mode.
+/// Returns the text after the plain characters at the front, if no plain character is wrong in this mode, and
+/// otherwise after simple ones.
 #[inline(always)]
 fn past_fine(rest: &str, mode: Mode) -> &str
     ensures same { (total : ℕ) → spec.errors_in mode (items_from (front_by false) total (chars result.now))
@@ -280,7 +281,7 @@ fn past_fine(rest: &str, mode: Mode) -> &str
     if takes_all(mode) {
         past_plain(rest, false)
     } else {
-        rest
+        past_last_simple(rest, false)
     }
 }
 

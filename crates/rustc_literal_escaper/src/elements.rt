@@ -11,7 +11,7 @@ use crate::element::Element;
 use crate::error::EscapeError;
 use crate::mode::Mode;
 use crate::scan::past_plain;
-use crate::simple::past_simple;
+use crate::simple::{past_last_simple, past_simple};
 use crate::steps::{Told, advance, first_byte, first_item, first_plain};
 use std::iter::Iterator;
 use std::marker::Model;
@@ -212,7 +212,7 @@ impl<'a> Elements<'a> {
         }
     }
 
-    /// Skips the plain characters at the front, if no plain character is wrong in this mode.
+    /// Skips the plain characters at the front, if no plain character is wrong in this mode, and otherwise simple ones.
     #[inline(always)]
     pub(crate) fn skip_plain(&mut self, mode: Mode)
         ensures same { errors_in mode self.new ≡ errors_in mode self.old }
@@ -220,6 +220,8 @@ impl<'a> Elements<'a> {
     {
         if takes_all(mode) {
             self.rest = past_plain(self.rest, self.raw);
+        } else {
+            self.rest = past_last_simple(self.rest, self.raw);
         }
     }
 }

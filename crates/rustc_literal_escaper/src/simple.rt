@@ -18,6 +18,18 @@ pub(crate) fn past_simple(rest: &str, raw: bool) -> &str
     &rest[end..]
 }
 
+/// Returns the text after simple characters at the front, if fewer than 32 bytes are left, for which [`past_simple`]
+/// does not look. Of a longer text it skips none.
+#[inline(always)]
+pub(crate) fn past_last_simple(rest: &str, raw: bool) -> &str
+    ensures passes { spec.Passes (spec.is_simple raw) (chars rest.now) (chars result.now) }
+    ensures text { IsUtf8 result.now }
+    ensures shorter { length result.now ≤ length rest.now }
+{
+    let end = last_simple_end(rest.as_bytes(), raw);
+    &rest[end..]
+}
+
 /// Splits the text into simple bytes at the front, and the text after them.
 #[inline(always)]
 pub(crate) fn split_simple(rest: &str, raw: bool) -> (&[u8], &str)
@@ -119,6 +131,34 @@ fn simple_end(bytes: &[u8], raw: bool) -> usize
         return simple_end_by_lanes(bytes, false);
     }
     found.trailing_zeros() as usize
+}
+
+/// Returns how many simple bytes are at the front, if there are fewer than 32 bytes, or else 0.
+#[inline(always)]
+fn last_simple_end(bytes: &[u8], raw: bool) -> usize
+    ensures simple { result ≤ prefix_len (spec.is_simple raw) bytes.now }
+    ensures bound { result ≤ length bytes.now }
+{
+    let mut end = 0;
+    'bytes: while bytes.len() < 32 && end < bytes.len() && is_simple(bytes[end], raw) {
+        end += 1;
+    }
+    end
+}
+
+/// Returns whether a byte is a simple character.
+#[inline(always)]
+fn is_simple(byte: u8, raw: bool) -> bool
+    ensures { result ≡ spec.is_simple raw byte }
+{
+    if byte >= 128 || byte == 0 {
+        return false;
+    }
+    if raw {
+        byte != b'\r'
+    } else {
+        byte != b'\\' && byte != b'"' && byte != b'\r'
+    }
 }
 
 /// Returns a number of simple bytes at the front. Looks at 32 bytes at a time.

@@ -5,7 +5,7 @@ use crate::erased::elements::{Elements, takes_all};
 use crate::erased::error::EscapeError;
 use crate::erased::mode::Mode;
 use crate::erased::scan::{past_plain, split_first};
-use crate::erased::simple::past_simple;
+use crate::erased::simple::{past_last_simple, past_simple};
 use crate::erased::single;
 use crate::erased::steps::{
     byte_at, is_plain, line_at, lone_element, more_lines, more_space, pass_over,
@@ -206,13 +206,14 @@ fn past_simple_front(rest: &str) -> &str {
     }
 }
 
-/// Returns the text after the plain characters at the front, if no plain character is wrong in this mode.
+/// Returns the text after the plain characters at the front, if no plain character is wrong in this mode, and
+/// otherwise after simple ones.
 #[inline(always)]
 fn past_fine(rest: &str, mode: Mode) -> &str {
     if takes_all(mode) {
         past_plain(rest, false)
     } else {
-        rest
+        past_last_simple(rest, false)
     }
 }
 

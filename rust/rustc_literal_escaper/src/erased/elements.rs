@@ -4,7 +4,7 @@ use crate::erased::element::Element;
 use crate::erased::error::EscapeError;
 use crate::erased::mode::Mode;
 use crate::erased::scan::past_plain;
-use crate::erased::simple::past_simple;
+use crate::erased::simple::{past_last_simple, past_simple};
 use crate::erased::steps::{Told, advance, first_byte, first_item, first_plain};
 use core::iter::Iterator;
 use core::ops::Range;
@@ -157,11 +157,13 @@ impl<'a> Elements<'a> {
         }
     }
 
-    /// Skips the plain characters at the front, if no plain character is wrong in this mode.
+    /// Skips the plain characters at the front, if no plain character is wrong in this mode, and otherwise simple ones.
     #[inline(always)]
     pub(crate) fn skip_plain(&mut self, mode: Mode) {
         if takes_all(mode) {
             self.rest = past_plain(self.rest, self.raw);
+        } else {
+            self.rest = past_last_simple(self.rest, self.raw);
         }
     }
 }
