@@ -20,7 +20,7 @@ use Rattle.rustc_lexer.proofs.RelexingLemmas.{made_change}
 use Rattle.rustc_lexer_c.specs.declared.head.CHead.{CHead}
 use Rattle.rustc_lexer_c.specs.declared.relex.CEdit.{CEdit}
 use Rattle.rustc_lexer_c.specs.Head.{FindsHead, frontmatter_of, head_numbers, head_of, numbers_of_head, two_of}
-use Rattle.rustc_lexer_c.specs.Numbers.{bool_number, token_numbers}
+use Rattle.rustc_lexer_c.specs.Numbers.{bool_number, first_of, second_of, token_numbers}
 use Rattle.rustc_lexer_c.specs.Relex.{change_of}
 
 bool-back : (b : Bool) → not (nat_eq (bool_number b) 0) ≡ b
@@ -28,14 +28,14 @@ bool-back true = refl
 bool-back false = refl
 
 kind-back : (kind : TokenKind) (len : ℕ) → is_frontmatter kind ≡ true → frontmatter_of (token_numbers (record { kind = kind; len = len })) ≡ record { kind = kind; len = len }
-unfolding token_numbers
+unfolding token_numbers first_of second_of
 kind-back (Frontmatter a b) len is = ap₂ (λ (x y : Bool). let t : Token = record { kind = Frontmatter x y; len = len } in t) (bool-back a) (bool-back b)
 kind-back kind len is = absurd (true≢false (sym is))
 
 -- the numbers of a frontmatter tell it, and so those of a head
 back_with : (n end space : ℕ) (front : Option Token) → (front ≡ None → space ≡ 0) → ((t : Token) → front ≡ Some t → is_frontmatter t.kind ≡ true)
     → head_of (numbers_of_head (record { shebang = n; space = space; front = front; end = end })) ≡ record { shebang = n; space = space; front = front; end = end }
-unfolding token_numbers
+unfolding token_numbers first_of second_of
 back_with n end space None bare is = rw (bare refl) refl
 back_with n end zero (Some t) bare is = ap (λ (f : Token). let h : Head = record { shebang = n; space = 0; front = Some f; end = end } in h) (kind-back t.kind t.len (is t refl))
 back_with n end (suc m) (Some t) bare is = ap (λ (f : Token). let h : Head = record { shebang = n; space = suc m; front = Some f; end = end } in h) (kind-back t.kind t.len (is t refl))

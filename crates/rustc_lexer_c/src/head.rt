@@ -95,7 +95,8 @@ fn find_body_edit(
 
 /// Returns the head that the numbers tell.
 fn head_of(numbers: &CHead) -> Head
-    ensures { result ≡ spec.head_of numbers.now }
+    ensures head { result ≡ spec.head_of numbers.now }
+    ensures end { result.end < 2 ^ 32 }
 {
     let [first, second] = numbers.tokens;
     let (space, front) = match numbers.count {
