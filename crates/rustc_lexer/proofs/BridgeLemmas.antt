@@ -1,15 +1,16 @@
 -- A run of characters whose front is in ASCII, by its bytes.
-use Rattle.std.proofs.Common.{◌≡◌, ℕ, suc, ◌<◌, Bool, true, false, List, [], ◌∷◌, ◌++◌, drop, refl, sym, ap, ◌∙◌, arith, subst}
+use Rattle.std.proofs.Common.{◌≡◌, ℕ, suc, ◌<◌, ◌≤◌, Bool, true, false, true≢false, List, [], ◌∷◌, ◌++◌, length, drop, get_or, nat_lt, refl, sym, ap, ◌∙◌, arith, subst}
 use Rattle.std.specs.Char.{encode_utf8}
 use Rattle.std.specs.List.{prefix_len}
 use Rattle.std.specs.Str.{chars, encode_utf8_all, IsUtf8, IsCharBoundary}
-use Rattle.std.proofs.lemmas.Bool.{lt-ltb, ltb-true}
+use Rattle.std.proofs.lemmas.Bool.{lt-ltb, ltb-false, ltb-true}
 use Rattle.std.proofs.lemmas.Str.{chars-nil, chars_past_char, encodes-chars, IsUtf8-past_char, encode_ascii, IsCharBoundary-from_drop}
 use Rattle.std.proofs.lemmas.List.Sums.{prefix_len-le-length}
 use Rattle.std.proofs.lemmas.Grind.{common_steps}
 use Rattle.rustc_lexer.specs.means.ByteRuns.{is_wide}
 use Rattle.rustc_lexer.specs.means.Scan.{past, next_is, run_len}
 use Rattle.rustc_lexer.specs.laws.Choice.{by_either}
+use Rattle.rustc_lexer.specs.laws.Past.{past-one}
 
 -- a text that begins with a byte of ASCII
 module _ (b : ℕ) (bs : List ℕ) (is : IsUtf8 (b ∷ bs)) (small : b < 128) where
@@ -114,3 +115,52 @@ module _ (q p : ℕ → Bool) (text left : List ℕ) (at : Skips q p text left) 
   pub ends_narrow : IsPart q p → next_is is_wide left ≡ false → left ≡ past (run_len p (chars text)) text
   unfolding past
   ends_narrow part narrow = sym (at.run ∙ stays q p part left at.utf8 at.stops narrow)
+
+-- a class in ASCII: its characters are its bytes
+module _ (p : ℕ → Bool) (small : (c : ℕ) → p c ≡ true → c < 128) where
+  pub next_byte : (text : List ℕ) → IsUtf8 text → next_is p (chars text) ≡ next_is p text
+  next_byte [] is = ap (next_is p) chars-nil
+  next_byte (d ∷ ds) is = by_either (nat_lt d 128)
+      (λ e. ap (next_is p) (chars-ascii d ds is (ltb-true d 128 e)))
+      (λ e. let wide = ltb-false d 128 e in none wide (next_is p (chars (d ∷ ds))) refl ∙ sym (by_either (p d)
+      (λ e. absurd (let in_ascii = small d e in omega arith))
+      (λ e. e)))
+    where
+      first_byte : (cs : List ℕ) → chars (d ∷ ds) ≡ cs → next_is p cs ≡ true → d < 128
+      first_byte [] e f = absurd (true≢false (sym f))
+      first_byte (c ∷ cs) e f =
+          let in_ascii : c < 128 = small c f in
+          let whole : d ∷ ds ≡ c ∷ encode_utf8_all cs = sym (encodes-chars (d ∷ ds) is) ∙ (ap encode_utf8_all e ∙ ap (λ (xs : List ℕ). xs ++ encode_utf8_all cs) (encode_ascii c in_ascii)) in
+          let same : d ≡ c = ap (λ (xs : List ℕ). get_or xs 0 0) whole in
+          omega arith
+
+      none : 128 ≤ d → (t : Bool) → next_is p (chars (d ∷ ds)) ≡ t → next_is p (chars (d ∷ ds)) ≡ false
+      none wide false e = e
+      none wide true e = absurd (let in_ascii = first_byte (chars (d ∷ ds)) refl e in omega arith)
+
+  -- such a byte at the front is a character
+  pub front_small : (text : List ℕ) → IsUtf8 text → next_is p text ≡ true → IsCharBoundary text 1 × (drop 1 text ≡ past 1 text) × (length (drop 1 text) < length text)
+  front_small [] is e = absurd (true≢false (sym e))
+  front_small (d ∷ ds) is e =
+      let in_ascii = small d e in (
+        IsCharBoundary-from_drop (d ∷ ds) 1 (omega arith) (IsUtf8-ascii d ds is in_ascii),
+        sym (past-one (d ∷ ds) ds d is (reads d ds is in_ascii)),
+        omega arith,
+      )
+
+  -- where the bytes end, so does the run
+  whole_part : IsPart p p
+  whole_part = record { small = small; same = λ b less. refl }
+
+  pub may_cut_small : (text bytes : List ℕ) (end : ℕ) → IsUtf8 text → bytes ≡ text → end ≡ prefix_len p bytes → IsCharBoundary text end
+  may_cut_small text bytes end is read counted = may_cut p p whole_part text bytes end is read counted
+
+  pub past_small : (text bytes : List ℕ) (end : ℕ) → IsUtf8 text → bytes ≡ text → end ≡ prefix_len p bytes → (left : List ℕ) → left ≡ drop end text → left ≡ past (run_len p (chars text)) text
+  past_small text bytes end is read counted left f = by_chars (chars left) refl
+    where
+      at : Skips p p text left
+      at = left_there p p whole_part text bytes end is read counted left f
+
+      by_chars : (cs : List ℕ) → chars left ≡ cs → left ≡ past (run_len p (chars text)) text
+      by_chars [] e = ends_none p p text left at e
+      by_chars (c ∷ cs) e = ends_out p p text left at c cs e (sym (ap (next_is p) e) ∙ (next_byte left at.utf8 ∙ at.stops))

@@ -59,7 +59,7 @@ module _ (body left mid end : List ℕ) (n : ℕ) (closed : Bool) (is : IsUtf8 b
   pub closed_read : closed ≡ true → (true, end) ≡ scanned (guarded_body n) body
   closed_read t = grind (arith, common_steps, end_is)
 
-begins-quote : (s : List ℕ) → next_is is_quote s ≡ begins (34 ∷ []) s
+pub begins-quote : (s : List ℕ) → next_is is_quote s ≡ begins (34 ∷ []) s
 begins-quote w0 = grind (arith, common_steps)
 
 -- what follows the n hashes at the front

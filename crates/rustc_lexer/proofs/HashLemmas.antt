@@ -1,7 +1,7 @@
 -- A hash, by the byte after it.
-use Rattle.std.proofs.Common.{◌≡◌, ◌≢◌, ℕ, ◌<◌, ◌≤◌, Bool, true, false, true≢false, List, [], ◌∷◌, ◌++◌, length, get_or, refl, sym, ap, ◌∙◌, arith, nat_lt}
+use Rattle.std.proofs.Common.{◌≡◌, ◌≢◌, ℕ, ◌<◌, ◌≤◌, true, false, true≢false, List, [], ◌∷◌, ◌++◌, length, sym, ap, ◌∙◌, arith}
 use Rattle.std.specs.Str.{chars, encode_utf8_all, IsUtf8}
-use Rattle.std.proofs.lemmas.Bool.{eqb-true, or_cases, ltb-true, ltb-false}
+use Rattle.std.proofs.lemmas.Bool.{eqb-true, or_cases}
 use Rattle.std.proofs.lemmas.Str.{chars-nil, encode_ascii, encodes-chars}
 use Rattle.std.proofs.lemmas.Grind.{common_steps}
 use Rattle.rustc_lexer.specs.{GuardedStrPrefix, Pound}
@@ -9,9 +9,9 @@ use Rattle.rustc_lexer.specs.declared.lexemes.family.Family.TheVariants.{Hash}
 use Rattle.rustc_lexer.specs.means.Hash.{is_guarded_mark, hash}
 use Rattle.rustc_lexer.specs.means.Lexeme.{family_of, past_first}
 use Rattle.rustc_lexer.specs.means.Quick.{BeginsWithNoHash, IsFirstToken}
+use Rattle.rustc_lexer.specs.means.Raw.{is_hash, is_quote}
 use Rattle.rustc_lexer.specs.means.Scan.{after, gives, next_is, past, scanned}
-use Rattle.rustc_lexer.specs.laws.Choice.{by_either}
-use Rattle.rustc_lexer.proofs.BridgeLemmas.{chars-ascii}
+use Rattle.rustc_lexer.proofs.BridgeLemmas.{next_byte}
 use Rattle.rustc_lexer.proofs.FamilyLemmas.{by_family}
 use Rattle.rustc_lexer.specs.laws.Past.{past-one}
 use Rattle.rustc_lexer.proofs.QuickLemmas.{first}
@@ -20,26 +20,15 @@ use Rattle.rustc_lexer.specs.laws.Scan.{scanned-gives, scanned-no, scanned-yes}
 mark-small : (c : ℕ) → is_guarded_mark c ≡ true → c < 128
 mark-small c e = grind (arith, common_steps, or_cases, eqb-true)
 
+pub hash-small : (c : ℕ) → is_hash c ≡ true → c < 128
+hash-small c e = grind (arith, common_steps, eqb-true)
+
+pub quote-small : (c : ℕ) → is_quote c ≡ true → c < 128
+quote-small c e = grind (arith, common_steps, eqb-true)
+
 -- the next character is a mark where the next byte is one
 pub mark-byte : (text : List ℕ) → IsUtf8 text → next_is is_guarded_mark (chars text) ≡ next_is is_guarded_mark text
-mark-byte [] is = ap (next_is is_guarded_mark) chars-nil
-mark-byte (d ∷ ds) is = by_either (nat_lt d 128)
-    (λ e. ap (next_is is_guarded_mark) (chars-ascii d ds is (ltb-true d 128 e)))
-    (λ e. let wide = ltb-false d 128 e in none wide (next_is is_guarded_mark (chars (d ∷ ds))) refl ∙ sym (by_either (is_guarded_mark d)
-    (λ e. absurd (let small = mark-small d e in omega arith))
-    (λ e. e)))
-  where
-    first_byte : (cs : List ℕ) → chars (d ∷ ds) ≡ cs → next_is is_guarded_mark cs ≡ true → d < 128
-    first_byte [] e f = absurd (true≢false (sym f))
-    first_byte (c ∷ cs) e f =
-        let small : c < 128 = mark-small c f in
-        let whole : d ∷ ds ≡ c ∷ encode_utf8_all cs = sym (encodes-chars (d ∷ ds) is) ∙ (ap encode_utf8_all e ∙ ap (λ (xs : List ℕ). xs ++ encode_utf8_all cs) (encode_ascii c small)) in
-        let same : d ≡ c = ap (λ (xs : List ℕ). get_or xs 0 0) whole in
-        omega arith
-
-    none : 128 ≤ d → (t : Bool) → next_is is_guarded_mark (chars (d ∷ ds)) ≡ t → next_is is_guarded_mark (chars (d ∷ ds)) ≡ false
-    none wide false e = e
-    none wide true e = absurd (let small = first_byte (chars (d ∷ ds)) refl e in omega arith)
+mark-byte = next_byte is_guarded_mark mark-small
 
 -- a hash alone chooses the family
 hash-code : (c : ℕ) → family_of c ≡ Hash → c ≡ 35

@@ -5,7 +5,7 @@ ghost use Rattle.rustc_lexer.specs.Classes.{Fits};
 ghost use Rattle.rustc_lexer.specs.LanguageCalls.{StartsRaw};
 ghost use Rattle.rustc_lexer.specs.means.Scan.{past};
 
-use crate::lexemes::raw::{raw_double_quoted_string, short_opening};
+use crate::lexemes::raw::any_raw_string;
 use crate::scan::{first, split_first};
 use crate::token::RawStrError;
 
@@ -34,13 +34,14 @@ pub fn starts_raw(input: &str, prefix_len: u32) -> bool
 /// ```ignore
 /// validate_raw_str("r##\"abc\"#", 1) // NoTerminator { expected: 2, found: 1, possible_terminator_offset: Some(8) }
 /// ```
+#[inline]
 pub fn validate_raw_str(input: &str, prefix_len: u32) -> Result<(), RawStrError>
     requires fits { Fits input.now }
     requires raw { StartsRaw input.now prefix_len }
     ensures check { result ≡ raw_check input.now prefix_len }
 {
     let rest = past_chars(input, prefix_len);
-    let (read, _) = raw_double_quoted_string(rest, short_opening(rest), prefix_len);
+    let (read, _) = any_raw_string(rest, prefix_len);
     match read {
         Ok(_) => Ok(()),
         Err(error) => Err(error),

@@ -1,11 +1,13 @@
 //! Looks at the characters that are left of a text, and skips runs of a class at its front.
 ghost use Rattle.std.specs.Prelude.{◌≡◌, ◌<◌, ◌≤◌, ℕ, ◌∷◌, [], length, Bool, not, ◌&&◌, nat_le, nat_lt, true, false, MatchOption, slice_index};
 ghost use Rattle.std.specs.Char.{is_ascii_digit, is_ascii_hexdigit};
+ghost use Rattle.std.specs.List.{prefix_len};
 ghost use Rattle.std.specs.Str.{chars};
 ghost use Rattle.memchr.specs.Find.{is_byte, is_byte2};
 ghost use Rattle.rustc_lexer.specs.means.ByteRuns.{is_continue_byte, is_wide};
 ghost use Rattle.rustc_lexer.specs.Classes;
 ghost use Rattle.rustc_lexer.specs.means.Number.{or_underscore};
+ghost use Rattle.rustc_lexer.specs.means.Raw.{hash_run, is_hash, is_quote};
 ghost use Rattle.rustc_lexer.specs.means.Scan;
 ghost use Rattle.rustc_lexer.specs.means.Scan.{begins, past, run_len};
 
@@ -75,6 +77,53 @@ pub(crate) fn strip(rest: &str, c: char) -> Option<&str>
 {
     let (first, tail) = split_first(rest)?;
     if first == c { Some(tail) } else { None }
+}
+
+/// Returns whether the next character is a double quote, as the next byte determines.
+#[inline(always)]
+fn begins_quote(rest: &str) -> bool
+    ensures { result ≡ Scan.next_is is_quote rest.now }
+{
+    match rest.as_bytes().first() {
+        Some(byte) => *byte == b'"',
+        None => false,
+    }
+}
+
+/// Returns the text after the double quote at its front, or `None` if it does not begin with one.
+#[inline(always)]
+pub(crate) fn strip_quote(rest: &str) -> Option<&str>
+    ensures { MatchOption result (begins (34 ∷ []) (chars rest.now) ≡ false)
+        (λ tail. (begins (34 ∷ []) (chars rest.now) ≡ true) × (tail.now ≡ past 1 rest.now)
+        × (length tail.now < length rest.now)) }
+{
+    if begins_quote(rest) {
+        Some(&rest[1..])
+    } else {
+        None
+    }
+}
+
+/// Returns how many hashes are at the front.
+#[inline(always)]
+fn hash_end(bytes: &[u8]) -> usize
+    ensures value { result ≡ prefix_len is_hash bytes.now }
+    ensures bound { result ≤ length bytes.now }
+{
+    let mut end = 0;
+    'hashes: while end < bytes.len() && bytes[end] == b'#' {
+        end += 1;
+    }
+    end
+}
+
+/// Returns the text after the hashes at the front.
+#[inline(always)]
+pub(crate) fn eat_hashes(rest: &str) -> &str
+    ensures shorter { length result.now ≤ length rest.now }
+    ensures past { result.now ≡ past (hash_run (chars rest.now)) rest.now }
+{
+    &rest[hash_end(rest.as_bytes())..]
 }
 
 /// Returns the text after the characters at the front that pass the test.

@@ -101,6 +101,7 @@ pub fn check_raw_byte_str<F: FnMut(Range<usize>, Result<u8, EscapeError>)>(
 /// A carriage return and U+0000 are wrong in it.
 ///
 /// Rust Reference, [Raw C string literals](https://doc.rust-lang.org/reference/tokens.html#raw-c-string-literals).
+#[inline]
 pub fn check_raw_c_str<F: FnMut(Range<usize>, Result<NonZeroChar, EscapeError>)>(
     src: &str,
     mut callback: F,

@@ -9,7 +9,7 @@ ghost use Rattle.rustc_lexer.specs.means.Scan.{past, scanned};
 use crate::cursor::Cursor;
 use crate::lexemes::literal::eat_literal_suffix;
 use crate::lexemes::quoted::double_quoted_string;
-use crate::scan::{eat_while, strip};
+use crate::scan::{self, strip_quote};
 use crate::token::GuardedStr;
 
 impl<'a> Cursor<'a> {
@@ -55,7 +55,7 @@ fn count_hashes(rest: &str) -> usize
     ensures count { result ≡ hash_run (chars rest.now) }
     ensures boundary { IsCharBoundary rest.now result }
 {
-    rest.len() - eat_while(rest, |c| c == '#').len()
+    rest.len() - scan::eat_hashes(rest).len()
 }
 
 /// Reads the string that follows the hashes. Returns whether a quote closes it, and the length in bytes of the
@@ -66,7 +66,7 @@ fn string_past(rest: &str, n_hashes: usize) -> Option<(bool, usize)>
     ensures read { result ≡ spec.string_past n_hashes (chars rest.now) }
     ensures boundary { IfSome result (λ string. IsCharBoundary rest.now string.1) }
 {
-    let body = strip(&rest[n_hashes..], '"')?;
+    let body = strip_quote(&rest[n_hashes..])?;
     let (terminated, left) = guarded_body(body, n_hashes);
     Some((terminated, rest.len() - left.len()))
 }

@@ -7,7 +7,7 @@ ghost use Rattle.rustc_lexer.specs.means.Scan.{past, run_len, scanned};
 
 use crate::kernels::find_close;
 use crate::lexemes::literal::eat_literal_suffix;
-use crate::scan::{eat_until, eat_while, split_first, strip};
+use crate::scan::{eat_hashes, eat_until, split_first, strip_quote};
 use crate::token::{LiteralKind, RawStrError, TokenKind};
 
 /// The prefix of a raw string that is a token.
@@ -91,18 +91,27 @@ pub(crate) fn raw_double_quoted_string<'a>(
         if let Some(left) = past_close(text, n_hashes) {
             return (Ok(n_hashes as u8), left);
         }
-        return raw_text(text, n_hashes, prefix_len + n_hashes + 1);
+        return text_by_call(text, n_hashes, prefix_len + n_hashes + 1);
     }
+    any_by_call(rest, prefix_len)
+}
+
+/// Does what [`any_raw_string`] does, and stays a call: in a text few raw strings have more than one hash.
+#[inline(never)]
+fn any_by_call(rest: &str, prefix_len: u32) -> (Result<u8, RawStrError>, &str)
+    requires fits { prefix_len + length rest.now < 2 ^ 32 }
+    ensures { (result.0, result.1.now) ≡ scanned (spec.raw_read prefix_len) rest.now }
+{
     any_raw_string(rest, prefix_len)
 }
 
 /// Returns what [`raw_double_quoted_string`] returns, for any opening.
-#[inline(never)]
-fn any_raw_string(rest: &str, prefix_len: u32) -> (Result<u8, RawStrError>, &str)
+#[inline(always)]
+pub(crate) fn any_raw_string(rest: &str, prefix_len: u32) -> (Result<u8, RawStrError>, &str)
     requires fits { prefix_len + length rest.now < 2 ^ 32 }
     ensures { (result.0, result.1.now) ≡ scanned (spec.raw_read prefix_len) rest.now }
 {
-    let from_starter = eat_while(rest, |c| c == '#');
+    let from_starter = eat_hashes(rest);
     let n_hashes = (rest.len() - from_starter.len()) as u32;
     let Some((starter, text)) = split_first(from_starter) else {
         return (
@@ -149,10 +158,19 @@ fn past_close(text: &str, n_hashes: u32) -> Option<&str>
     Some(&text[place + 1 + n_hashes as usize..])
 }
 
+/// Does what [`raw_text`] does, and stays a call: most raw strings close within 64 bytes.
+#[inline(never)]
+fn text_by_call(text: &str, n_hashes: u32, before: u32) -> (Result<u8, RawStrError>, &str)
+    requires fits { before + length text.now < 2 ^ 32 }
+    ensures { (result.0, result.1.now) ≡ scanned (spec.raw_text n_hashes before) text.now }
+{
+    raw_text(text, n_hashes, before)
+}
+
 /// Reads a raw string from its opening quote on, before which there are `n_hashes` hashes. Returns the number of
 /// hashes, or why the string is refused; and the text after it. An offset counts `before` bytes for all that comes
 /// before `text`.
-#[inline(never)]
+#[inline(always)]
 fn raw_text(text: &str, n_hashes: u32, before: u32) -> (Result<u8, RawStrError>, &str)
     requires fits { before + length text.now < 2 ^ 32 }
     ensures { (result.0, result.1.now) ≡ scanned (spec.raw_text n_hashes before) text.now }
@@ -161,7 +179,7 @@ fn raw_text(text: &str, n_hashes: u32, before: u32) -> (Result<u8, RawStrError>,
     let mut possible_terminator_offset = None;
     let mut rest = text;
     while let Some(tail) = past_quote(rest) {
-        let past_hashes = eat_while(tail, |c| c == '#');
+        let past_hashes = eat_hashes(tail);
         let hashes = (tail.len() - past_hashes.len()) as u32;
         if hashes >= n_hashes {
             return (hash_count(n_hashes), &tail[n_hashes as usize..]);
@@ -189,10 +207,10 @@ fn past_quote(rest: &str) -> Option<&str>
         (λ tail. (drop place (chars rest.now) ≡ byte "\"" ∷ chars tail.now)
         × (tail.now ≡ past (suc place) rest.now) × (length tail.now < length rest.now)) }
 {
-    if let Some(tail) = strip(rest, '"') {
+    if let Some(tail) = strip_quote(rest) {
         return Some(tail);
     }
-    strip(eat_until(rest, b'"'), '"')
+    strip_quote(eat_until(rest, b'"'))
 }
 
 /// Returns the number of hashes, or the error that there are too many.

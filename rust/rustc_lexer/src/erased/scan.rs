@@ -50,6 +50,41 @@ pub(crate) fn strip(rest: &str, c: char) -> Option<&str> {
     if first == c { Some(tail) } else { None }
 }
 
+/// Returns whether the next character is a double quote, as the next byte determines.
+#[inline(always)]
+fn begins_quote(rest: &str) -> bool {
+    match rest.as_bytes().first() {
+        Some(byte) => *byte == b'"',
+        None => false,
+    }
+}
+
+/// Returns the text after the double quote at its front, or `None` if it does not begin with one.
+#[inline(always)]
+pub(crate) fn strip_quote(rest: &str) -> Option<&str> {
+    if begins_quote(rest) {
+        Some(&rest[1..])
+    } else {
+        None
+    }
+}
+
+/// Returns how many hashes are at the front.
+#[inline(always)]
+fn hash_end(bytes: &[u8]) -> usize {
+    let mut end = 0;
+    while end < bytes.len() && bytes[end] == b'#' {
+        end += 1;
+    }
+    end
+}
+
+/// Returns the text after the hashes at the front.
+#[inline(always)]
+pub(crate) fn eat_hashes(rest: &str) -> &str {
+    &rest[hash_end(rest.as_bytes())..]
+}
+
 /// Returns the text after the characters at the front that pass the test.
 pub(crate) fn eat_while<F: Fn(char) -> bool>(rest: &str, test: F) -> &str {
     let mut end = 0;

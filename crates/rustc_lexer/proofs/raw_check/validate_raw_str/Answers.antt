@@ -3,11 +3,11 @@ use Rattle.rustc_lexer.specs.means.Raw.{checked}
 use Rattle.rustc_lexer.proofs.RawReadLemmas.{check_is, prefix_fits}
 use Rattle.rustc_lexer.proofs.raw_check.validate_raw_str.Goals as goal
 
-pub raw_double_quoted_string-read-requires : goal.raw_double_quoted_string-read-requires
-raw_double_quoted_string-read-requires c = record { opens = c.short_opening.ensures; fits = let fits = prefix_fits _ _ _ c.utf8.input c.past_chars-rest.ensures c.requires.raw in omega arith }
+pub any_raw_string-read-requires : goal.any_raw_string-read-requires
+any_raw_string-read-requires c = record { fits = let fits = prefix_fits _ _ _ c.utf8.input c.past_chars-rest.ensures c.requires.raw in omega arith }
 
 pub returns-in-Ok : goal.returns-in-Ok
-returns-in-Ok c = record { check = ap checked (sym c.in-Ok.is) ∙ check_is _ _ _ c.utf8.input c.past_chars-rest.ensures _ _ c.raw_double_quoted_string-read.ensures }
+returns-in-Ok c = record { check = ap checked (sym c.in-Ok.is) ∙ check_is _ _ _ c.utf8.input c.past_chars-rest.ensures _ _ c.any_raw_string-read.ensures }
 
 pub returns-in-Err : goal.returns-in-Err
-returns-in-Err c = record { check = ap checked (sym c.in-Err.is) ∙ check_is _ _ _ c.utf8.input c.past_chars-rest.ensures _ _ c.raw_double_quoted_string-read.ensures }
+returns-in-Err c = record { check = ap checked (sym c.in-Err.is) ∙ check_is _ _ _ c.utf8.input c.past_chars-rest.ensures _ _ c.any_raw_string-read.ensures }

@@ -3,7 +3,7 @@
 use crate::erased::cursor::Cursor;
 use crate::erased::lexemes::literal::eat_literal_suffix;
 use crate::erased::lexemes::quoted::double_quoted_string;
-use crate::erased::scan::{eat_while, strip};
+use crate::erased::scan::{self, strip_quote};
 use crate::erased::token::GuardedStr;
 
 impl<'a> Cursor<'a> {
@@ -43,14 +43,14 @@ impl<'a> Cursor<'a> {
 /// Returns how many hashes are at the front of the text.
 #[inline]
 fn count_hashes(rest: &str) -> usize {
-    rest.len() - eat_while(rest, |c| c == '#').len()
+    rest.len() - scan::eat_hashes(rest).len()
 }
 
 /// Reads the string that follows the hashes. Returns whether a quote closes it, and the length in bytes of the
 /// hashes and the string; or `None` if no string follows the hashes.
 #[inline]
 fn string_past(rest: &str, n_hashes: usize) -> Option<(bool, usize)> {
-    let body = strip(&rest[n_hashes..], '"')?;
+    let body = strip_quote(&rest[n_hashes..])?;
     let (terminated, left) = guarded_body(body, n_hashes);
     Some((terminated, rest.len() - left.len()))
 }

@@ -14,4 +14,4 @@ returns-in-Some c =
     past_quote-is (λ (b : Bor (List ℕ)). b.now) rest rest (Some c.in-Some.tail) c.utf8.rest here (omega arith) c.in-Some.ensures
 
 pub returns : goal.returns
-returns c = past_quote-is (λ (b : Bor (List ℕ)). b.now) _ _ c.strip-2.result c.utf8.rest c.eat_until.ensures.past c.eat_until.ensures.shorter c.strip-2.ensures
+returns c = past_quote-is (λ (b : Bor (List ℕ)). b.now) _ _ c.strip_quote-2.result c.utf8.rest c.eat_until.ensures.past c.eat_until.ensures.shorter c.strip_quote-2.ensures

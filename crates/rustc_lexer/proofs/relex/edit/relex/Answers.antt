@@ -1,8 +1,8 @@
-use Rattle.std.proofs.Common.{◌≡◌, ◌+◌, ◌<◌, ◌≤◌, ◌∷◌, List, ℕ, length, map, drop, refl, ap, ◌∙◌, subst, arith, append_assoc, length-append, [], ◌++◌, sym}
+use Rattle.std.proofs.Common.{◌≡◌, ◌+◌, ◌∷◌, List, ℕ, length, map, drop, refl, ap, ◌∙◌, subst, arith, length-append, [], ◌++◌}
 use Rattle.rustc_lexer.specs.declared.relex.front.Bound.{Bound}
 use Rattle.rustc_lexer.specs.{Token}
 use Rattle.rustc_lexer.specs.Tokens.{tokens_by}
-use Rattle.rustc_lexer.specs.Edits.{IsBound, known}
+use Rattle.rustc_lexer.specs.Edits.{known}
 use Rattle.rustc_lexer.specs.Relexing.{IsMadeOf, IsUnderWay}
 use Rattle.rustc_lexer.specs.means.Relexing.{Stands}
 use Rattle.rustc_lexer.proofs.RelexBlockLemmas.{step_of}
