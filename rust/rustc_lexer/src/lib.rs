@@ -86,6 +86,22 @@ pub use edit_error::EditError;
 /// ```
 #[doc(inline)]
 pub use erased::Edition;
+/// The body of a document, which [`Relexing`] lexes again by that change:
+///
+/// ```
+/// use rustc_lexer::{Change, Head};
+///
+/// let (old, new) = ("#!/bin/sh\nlet a;", "#!/bin/sh\nlet ab;");
+/// // A `b` was put in at 15.
+/// let change = Change { start: 15, old_stop: 15, new_stop: 16 };
+/// let (head, now) = (Head::find(old), Head::find(new));
+/// let body = head.change_to(now, change);
+/// assert!(body.keeps_head);
+/// assert_eq!(&new[now.end..], "\nlet ab;");
+/// assert_eq!(body.change, Change { start: 6, old_stop: 6, new_stop: 7 });
+/// ```
+#[doc(inline)]
+pub use erased::Head;
 /// ```
 /// use rustc_lexer::LiteralKind;
 ///
@@ -144,22 +160,6 @@ pub use erased::Record;
 /// ```
 #[doc(inline)]
 pub use erased::Relexing;
-/// The body of a document, which [`Relexing`] lexes again by that change:
-///
-/// ```
-/// use rustc_lexer::{Change, Head};
-///
-/// let (old, new) = ("#!/bin/sh\nlet a;", "#!/bin/sh\nlet ab;");
-/// // A `b` was put in at 15.
-/// let change = Change { start: 15, old_stop: 15, new_stop: 16 };
-/// let (head, now) = (Head::find(old), Head::find(new));
-/// let body = head.change_to(now, change);
-/// assert!(body.keeps_head);
-/// assert_eq!(&new[now.end..], "\nlet ab;");
-/// assert_eq!(body.change, Change { start: 6, old_stop: 6, new_stop: 7 });
-/// ```
-#[doc(inline)]
-pub use erased::Head;
 /// A grammar whose tokens are single characters:
 ///
 /// ```
@@ -188,8 +188,8 @@ pub use erased::Stepper;
 pub use erased::TokenKind;
 #[doc(inline)]
 pub use erased::{
-    Base, BodyChange, Bound, Change, DocStyle, FrontmatterAllowed, GuardedStr, Measured, RawStrError, Relexed,
-    Steps, Token, UnknownEdition,
+    Base, BodyChange, Bound, Change, DocStyle, FrontmatterAllowed, GuardedStr, Measured,
+    RawStrError, Relexed, Steps, Token, UnknownEdition,
 };
 #[cfg(feature = "alloc")]
 #[doc(inline)]

@@ -293,7 +293,10 @@ fn pieces_past_the_last() {
 /// The tokens of a head.
 fn tokens_of(head: Head) -> Vec<Token> {
     let kind = TokenKind::Whitespace;
-    let space = Token { kind, len: head.space };
+    let space = Token {
+        kind,
+        len: head.space,
+    };
     let space = (head.space > 0).then_some(space);
     space.into_iter().chain(head.front).collect()
 }
@@ -309,7 +312,10 @@ fn lists_of_the_caller() {
         let tokens = held.tokens().to_vec();
         let counts = held.edit(range.clone(), &insert);
         let (head, now) = (Head::find(&old), Head::find(held.text()));
-        assert_eq!((now.shebang, now.end), (held.shebang_len(), held.body().place));
+        assert_eq!(
+            (now.shebang, now.end),
+            (held.shebang_len(), held.body().place)
+        );
         let edit = Change {
             start: range.start,
             old_stop: range.end,
@@ -317,7 +323,13 @@ fn lists_of_the_caller() {
         };
         let of_body = head.change_to(now, edit);
         let (body, old_body) = (&held.text()[now.end..], &tokens[head.count()..]);
-        let (change, first) = (of_body.change, Bound { number: 0, place: 0 });
+        let (change, first) = (
+            of_body.change,
+            Bound {
+                number: 0,
+                place: 0,
+            },
+        );
         assert!(change.may_make(body));
         let mut steps = Steps::new();
         let mut relexing = Relexing::begin(body, old_body, change, first);
