@@ -42,7 +42,8 @@ fn keep_behind(target: Target, behind: Behind, text: &str) -> Option<Behind>
         Behind::NameColon(word) => then(text == ":", path_of(word)),
         Behind::Core => then(is_core(text), Behind::Any),
         Behind::RootColon => then(text != ":", after(target, Behind::Any, text)),
-        Behind::Item | Behind::Open { .. } | Behind::Group { .. } => None,
+        Behind::Alloc | Behind::Simd | Behind::Item => None,
+        Behind::Open { .. } | Behind::Group { .. } => None,
         behind => Some(after(target, behind, text)),
     }
 }
