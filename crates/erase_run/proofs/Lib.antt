@@ -1,1 +1,3 @@
+pub mod BracketLemmas
+pub mod LabelLemmas
 pub mod WriteLemmas

@@ -1,11 +1,17 @@
 -- What is written of a source: its tokens in order, each by its fate.
-use Rattle.std.specs.Prelude.{ℕ, List, [], ◌∷◌, ◌++◌, take, drop, codes}
+use Rattle.std.specs.Prelude.{ℕ, if◌then◌else◌, List, [], ◌∷◌, ◌++◌, take, drop, codes}
 use Rattle.std.specs.List.{flat_map}
+use Rattle.rustc_lexer.specs.LanguageText.{mode_of}
+use Rattle.rustc_lexer.specs.Tokens.{tokens_of}
+use Rattle.rustc_lexer.specs.declared.token.FrontmatterAllowed.TheVariants.{No}
 use Rattle.rustc_lexer.specs.declared.token.Token.{Token}
+use Rattle.rustc_lexer.specs.declared.token.TokenKind.{TokenKind}
 use Rattle.erase_run.specs.declared.fate.Fate.{Fate}
 use Rattle.erase_run.specs.declared.fate.Fate.TheVariants.{Keep, Delete, Replace, Lead}
 use Rattle.erase_run.specs.declared.fate.Line.{Line}
 use Rattle.erase_run.specs.declared.fate.Word.{Word}
+use Rattle.erase_run.specs.declared.source.Piece.{Piece}
+use Rattle.erase_run.specs.Blanks.{is_space}
 
 -- the words that may stand in the place of others
 abbrev pub word_text : Word → List ℕ
@@ -47,3 +53,34 @@ piece lines Lead text = flat_map line_text lines ++ text
 abbrev pub written : List Line → List ℕ → List Token → List Fate → List ℕ
 written lines text (token ∷ tokens) (fate ∷ fates) = piece lines fate (take token.len text) ++ written lines (drop token.len text) tokens fates
 written lines text tokens fates = []
+
+-- a word: a token that is no white space
+abbrev pub word : TokenKind → List ℕ → List (TokenKind × List ℕ)
+word kind text = if is_space kind then [] else (kind, text) ∷ []
+
+abbrev pub words_in : List ℕ → List Token → List (TokenKind × List ℕ)
+words_in text [] = []
+words_in text (token ∷ tokens) = word token.kind (take token.len text) ++ words_in (drop token.len text) tokens
+
+-- the words of a text: what is no white space of its tokens, in order
+abbrev pub words_of : List ℕ → List (TokenKind × List ℕ)
+words_of text = words_in text (tokens_of (mode_of No) text)
+
+abbrev pub line_words : Line → List (TokenKind × List ℕ)
+line_words line = words_of (line_text line)
+
+-- the words that are meant by a token with a fate
+abbrev pub meant : List Line → Fate → TokenKind → List ℕ → List (TokenKind × List ℕ)
+meant lines Keep kind text = word kind text
+meant lines (Delete rule) kind text = []
+meant lines (Replace word) kind text = words_of (word_text word)
+meant lines Lead kind text = flat_map line_words lines ++ word kind text
+
+-- the words that stay and those that are put in, in order
+abbrev pub words_meant : List Line → List ℕ → List Token → List Fate → List (TokenKind × List ℕ)
+words_meant lines text (token ∷ tokens) (fate ∷ fates) = meant lines fate token.kind (take token.len text) ++ words_meant lines (drop token.len text) tokens fates
+words_meant lines text tokens fates = []
+
+-- what a list of tokens has of a text
+abbrev pub lexeme : Piece → TokenKind × List ℕ
+lexeme piece = (piece.kind, piece.text.now)

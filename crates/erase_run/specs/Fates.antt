@@ -1,123 +1,142 @@
--- Which fates the tokens of a source may have: each has one, what is replaced has the text that its word stands for, and
--- what goes is in stretches, each of which begins and ends as its rule says.
-use Rattle.std.specs.Prelude.{ℕ, ◌+◌, ◌-◌, ◌≡◌, Bool, true, false, ◌||◌, ◌&&◌, nat_eq, nat_lt, if◌then◌else◌, List, [], ◌∷◌, take, drop, codes, Option, Some, None}
-use Rattle.std.specs.Bool.{then_some}
-use Rattle.std.specs.List.{starts_with}
+-- Which fates the tokens of a source may have: each has one, and it may have that where it stands.
+use Rattle.std.specs.Prelude.{ℕ, ◌≡◌, Bool, true, false, ◌||◌, ◌&&◌, if◌then◌else◌, List, [], ◌∷◌, take, drop, codes, Option, Some, None}
 use Rattle.std.specs.Str.{bytes_eq}
-use Rattle.rustc_lexer.specs.declared.token.DocStyle.TheVariants.{Outer}
 use Rattle.rustc_lexer.specs.declared.token.Token.{Token}
 use Rattle.rustc_lexer.specs.declared.token.TokenKind.{TokenKind}
-use Rattle.rustc_lexer.specs.declared.token.TokenKind.TheVariants.{Whitespace, LineComment, BlockComment}
+use Rattle.rustc_lexer.specs.declared.token.TokenKind.TheVariants.{Dot, Colon, Eq, Bang, Lt, Gt, Minus, And, Or, Plus, Star, Slash, Caret, Percent}
 use Rattle.erase_run.specs.declared.fate.Fate.{Fate}
 use Rattle.erase_run.specs.declared.fate.Fate.TheVariants.{Keep, Delete, Replace, Lead}
-use Rattle.erase_run.specs.declared.fate.Rule.{Rule}
-use Rattle.erase_run.specs.declared.fate.Word.{Word}
-use Rattle.erase_run.specs.declared.stretch.Stretch.{Stretch}
-use Rattle.erase_run.specs.declared.stretch.Stretch.TheVariants.{Closed, Open}
+use Rattle.erase_run.specs.declared.source.Target.{Target}
+use Rattle.erase_run.specs.declared.stand.Behind.{Behind}
+use Rattle.erase_run.specs.declared.stand.Inside.{Inside}
+use Rattle.erase_run.specs.declared.stand.Stand.{Stand}
+use Rattle.erase_run.specs.declared.stand.Touch.{Touch}
+use Rattle.erase_run.specs.Blanks.{is_blank, is_space}
+use Rattle.erase_run.specs.Gone.{delete}
+use Rattle.erase_run.specs.Kept.{keep, replace, replaced_text, suits}
+use Rattle.erase_run.specs.Labels.{may_have}
+pub use Rattle.erase_run.specs.Kept.{is_free}
 
--- what a word of the table stands in the place of
-abbrev pub replaced_text : Word → List ℕ
-replaced_text Word.Core = codes "std"
-replaced_text Word.Crate = codes "crate"
-replaced_text Word.Support = codes "std"
-replaced_text Word.Simd = codes "std"
-replaced_text Word.RattleStd = codes "std"
-replaced_text Word.Lexer = codes "rustc_lexer"
-replaced_text Word.Escaper = codes "rustc_literal_escaper"
-replaced_text Word.DebugAssert = codes "prove"
-replaced_text Word.DebugAssertEq = codes "prove_eq"
-replaced_text Word.DebugAssertNe = codes "prove_ne"
-replaced_text Word.Start = codes "{"
+-- a token that can be one operator with another one that it touches
+abbrev pub is_operator : TokenKind → Bool
+is_operator Dot = true
+is_operator Colon = true
+is_operator Eq = true
+is_operator Bang = true
+is_operator Lt = true
+is_operator Gt = true
+is_operator Minus = true
+is_operator And = true
+is_operator Or = true
+is_operator Plus = true
+is_operator Star = true
+is_operator Slash = true
+is_operator Caret = true
+is_operator Percent = true
+is_operator kind = false
 
-abbrev pub is_space : TokenKind → Bool
-is_space Whitespace = true
-is_space kind = false
+-- whether what comes behind a token of this kind stands next to an operator
+abbrev pub touch_of : TokenKind → Touch
+touch_of kind = if is_operator kind then Touch.Operator else Touch.Apart
 
--- a doc comment of the item behind it
-abbrev pub is_doc : TokenKind → Bool
-is_doc (LineComment (Some Outer)) = true
-is_doc (BlockComment (Some Outer) terminated) = true
-is_doc kind = false
+abbrev pub gap : Touch → Touch
+gap Touch.Apart = Touch.Apart
+gap touch = Touch.Gap
 
--- the first token of what a rule deletes
-abbrev pub begins : Rule → TokenKind → List ℕ → Bool
-begins Rule.Use kind text = bytes_eq text (codes "ghost")
-begins Rule.Field kind text = bytes_eq text (codes "ghost") || bytes_eq text (codes "pub")
-begins Rule.Member kind text = bytes_eq text (codes "ghost") || bytes_eq text (codes "pub")
-begins Rule.Doc kind text = is_doc kind
-begins Rule.Attribute kind text = bytes_eq text (codes "#")
-begins Rule.Requires kind text = bytes_eq text (codes "requires")
-begins Rule.Ensures kind text = bytes_eq text (codes "ensures")
-begins Rule.Final kind text = bytes_eq text (codes "final")
-begins Rule.Tactic kind text = bytes_eq text (codes "#")
-begins Rule.Tests kind text = bytes_eq text (codes "#")
-begins Rule.Derive kind text = bytes_eq text (codes "#") || bytes_eq text (codes "Drop") || bytes_eq text (codes ",")
-begins Rule.Bound kind text = bytes_eq text (codes ":") || bytes_eq text (codes "+") || bytes_eq text (codes "Drop")
-begins Rule.ModelImpl kind text = bytes_eq text (codes "impl")
-begins Rule.ModelImport kind text = bytes_eq text (codes "use")
-begins Rule.ModelName kind text = bytes_eq text (codes "Model") || bytes_eq text (codes ",")
-begins Rule.Writer kind text = bytes_eq text (codes "<")
-begins Rule.Label kind text = starts_with nat_eq text (codes "'")
-begins Rule.Path kind text = bytes_eq text (codes ":")
-begins Rule.Prove kind text = false
-begins Rule.Handle kind text = bytes_eq text (codes "rt")
-begins Rule.Export kind text = bytes_eq text (codes "#") || bytes_eq text (codes "extern")
-begins Rule.Blank kind text = is_space kind
+abbrev pub meet : Touch → TokenKind → Option Touch
+meet Touch.Gap kind = if is_operator kind then None else Some Touch.Apart
+meet touch kind = Some (touch_of kind)
 
--- its last token: the first such one outside all brackets of the stretch
-abbrev pub ends : Rule → TokenKind → List ℕ → Bool
-ends Rule.Use kind text = bytes_eq text (codes ";")
-ends Rule.Field kind text = bytes_eq text (codes ",")
-ends Rule.Member kind text = bytes_eq text (codes ";")
-ends Rule.Doc kind text = is_doc kind
-ends Rule.Attribute kind text = bytes_eq text (codes "]")
-ends Rule.Requires kind text = bytes_eq text (codes "}")
-ends Rule.Ensures kind text = bytes_eq text (codes "}")
-ends Rule.Final kind text = bytes_eq text (codes "final")
-ends Rule.Tactic kind text = bytes_eq text (codes "]")
-ends Rule.Tests kind text = bytes_eq text (codes ";") || bytes_eq text (codes "}")
-ends Rule.Derive kind text = bytes_eq text (codes "]") || bytes_eq text (codes "Drop") || bytes_eq text (codes ",")
-ends Rule.Bound kind text = bytes_eq text (codes ":") || bytes_eq text (codes "+") || bytes_eq text (codes "Drop")
-ends Rule.ModelImpl kind text = bytes_eq text (codes "}")
-ends Rule.ModelImport kind text = bytes_eq text (codes ";")
-ends Rule.ModelName kind text = bytes_eq text (codes "Model") || bytes_eq text (codes ",")
-ends Rule.Writer kind text = bytes_eq text (codes ">")
-ends Rule.Label kind text = bytes_eq text (codes ":")
-ends Rule.Path kind text = bytes_eq text (codes "alloc") || bytes_eq text (codes "prelude")
-ends Rule.Prove kind text = false
-ends Rule.Handle kind text = bytes_eq text (codes "HostRuntime")
-ends Rule.Export kind text = bytes_eq text (codes "]") || bytes_eq text (codes "\"C\"")
-ends Rule.Blank kind text = is_space kind
+-- no two operators come together where something between them was deleted
+abbrev pub touches : Touch → Fate → TokenKind → Option Touch
+touches touch (Delete rule) kind = Some (gap touch)
+touches touch (Replace word) kind = Some Touch.Apart
+touches touch Lead kind = Some (touch_of kind)
+touches touch Keep kind = meet touch kind
 
-abbrev pub opens : List ℕ → Bool
-opens text = bytes_eq text (codes "(") || bytes_eq text (codes "[") || bytes_eq text (codes "{")
+abbrev pub first_in : List ℕ → Inside → Inside
+first_in text other = if bytes_eq text (codes "use") then Inside.Use else other
 
-abbrev pub closes : List ℕ → Bool
-closes text = bytes_eq text (codes ")") || bytes_eq text (codes "]") || bytes_eq text (codes "}")
+abbrev pub until : List ℕ → List ℕ → Inside → Inside
+until text last inside = if bytes_eq text last then Inside.Other else inside
 
--- what is open behind a token that opens no bracket, where so many are open behind it
-abbrev pub outside : Rule → ℕ → TokenKind → List ℕ → Stretch
-outside rule brackets kind text = if nat_eq brackets 0 && ends rule kind text then Closed else Open rule brackets
+abbrev pub kept_behind : Behind → List ℕ → Inside
+kept_behind Behind.Handle text = Inside.Main
+kept_behind Behind.Derive text = first_in text Inside.Derive
+kept_behind behind text = first_in text Inside.Other
 
--- what is open behind a token of a stretch; brackets match, and at most 255 are open
-abbrev pub go_on : Rule → ℕ → TokenKind → List ℕ → Option Stretch
-go_on rule brackets kind text =
-    if opens text then (if nat_lt brackets 255 then Some (Open rule (brackets + 1)) else None)
-    else (if closes text then (if nat_eq brackets 0 then None else Some (outside rule (brackets - 1) kind text)) else Some (outside rule brackets kind text))
+-- which part of the source follows a word that stays
+abbrev pub kept_inside : Inside → Behind → List ℕ → Inside
+kept_inside Inside.Front behind text = first_in text Inside.Other
+kept_inside Inside.Use behind text = until text (codes ";") Inside.Use
+kept_inside Inside.Derive behind text = until text (codes ")") Inside.Derive
+kept_inside Inside.Main behind text = Inside.Main
+kept_inside Inside.Other behind text = kept_behind behind text
 
--- what is open behind a token with this fate; none where it may not have it
-abbrev pub step : Stretch → Fate → TokenKind → List ℕ → Option Stretch
-step (Open rule brackets) (Delete other) kind text = go_on rule brackets kind text
-step (Open rule brackets) fate kind text = None
-step Closed Keep kind text = Some Closed
-step Closed Lead kind text = Some Closed
-step Closed (Replace word) kind text = then_some (bytes_eq text (replaced_text word)) Closed
-step Closed (Delete rule) kind text = if begins rule kind text then go_on rule 0 kind text else None
+abbrev pub kept_in : Stand → List ℕ → Inside
+kept_in stand text = kept_inside stand.inside stand.behind text
 
--- each token has one fate, which it may have behind those before it, and no stretch stays open
-abbrev pub AreFates : Option Stretch → List ℕ → List Token → List Fate → Type 0
-AreFates None text tokens fates = ⊥
-AreFates (Some stretch) text [] [] = stretch ≡ Closed
-AreFates (Some stretch) text (token ∷ tokens) (fate ∷ fates) =
-    AreFates (step stretch fate token.kind (take token.len text)) (drop token.len text) tokens fates
-AreFates (Some stretch) text tokens fates = ⊥
+-- the head of `main` ends with its `{`, which is replaced
+abbrev pub replaced_in_main : List ℕ → Inside
+replaced_in_main text = if bytes_eq text (codes "{") then Inside.Other else Inside.Main
+
+abbrev pub replaced_in : Inside → List ℕ → Inside
+replaced_in Inside.Front text = Inside.Other
+replaced_in Inside.Main text = replaced_in_main text
+replaced_in inside text = inside
+
+-- which part of the source follows a token with this fate
+abbrev pub next_inside : Stand → Fate → TokenKind → List ℕ → Inside
+next_inside stand (Delete rule) kind text = stand.inside
+next_inside stand (Replace word) kind text = replaced_in stand.inside text
+next_inside stand Keep kind text = if is_blank kind then stand.inside else kept_in stand text
+next_inside stand Lead kind text = if is_blank kind then Inside.Other else kept_in stand text
+
+-- words are deleted there, up to the end of a stretch
+abbrev pub is_within : Behind → Bool
+is_within (Behind.Open rule part) = true
+is_within (Behind.Group rule part brackets) = true
+is_within Behind.Alloc = true
+is_within Behind.Simd = true
+is_within behind = false
+
+abbrev pub lead_in : Inside → Target → Stand → TokenKind → List ℕ → Option Behind
+lead_in Inside.Front target stand kind text = if is_blank kind then Some stand.behind else keep target stand kind text
+lead_in inside target stand kind text = None
+
+-- lines stand before the first word that stays, and once
+abbrev pub lead : Target → Stand → TokenKind → List ℕ → Option Behind
+lead target stand kind text = lead_in stand.inside target stand kind text
+
+-- what is behind a token with this fate; none where it may not have it
+abbrev pub next_behind : Target → Stand → Fate → TokenKind → List ℕ → Option Behind
+next_behind target stand Keep kind text = if is_blank kind then Some stand.behind else keep target stand kind text
+next_behind target stand Lead kind text = lead target stand kind text
+next_behind target stand (Replace word) kind text = if bytes_eq text (replaced_text word) && suits target word then replace stand word else None
+next_behind target stand (Delete rule) kind text =
+    if is_space kind || (is_blank kind && is_within stand.behind) then Some stand.behind
+    else (if is_blank kind then None else delete rule stand kind text)
+
+abbrev pub stand_of : Option Touch → Option Behind → Inside → Option Stand
+stand_of (Some touch) (Some behind) inside = Some (record { inside = inside; behind = behind; touch = touch })
+stand_of touch behind inside = None
+
+-- where the token behind one with this fate stands; none where that may not have it
+abbrev pub step : Target → Stand → Fate → TokenKind → List ℕ → Option Stand
+step target stand fate kind text = stand_of (touches stand.touch fate kind) (next_behind target stand fate kind text) (next_inside stand fate kind text)
+
+-- the same in a source, where no label is deleted that is named
+abbrev pub step_in : List ℕ → Target → Stand → Fate → TokenKind → List ℕ → Option Stand
+step_in source target stand fate kind text = if may_have source fate text then step target stand fate kind text else None
+
+-- where the first token stands
+abbrev pub start : Stand
+start = record { inside = Inside.Front; behind = Behind.Any; touch = Touch.Apart }
+
+-- each token has one fate, which it may have behind those before it, and what was begun has ended
+abbrev pub AreFates : List ℕ → Target → Option Stand → List ℕ → List Token → List Fate → Type 0
+AreFates source target None text tokens fates = ⊥
+AreFates source target (Some stand) text [] [] = is_free stand.behind ≡ true
+AreFates source target (Some stand) text (token ∷ tokens) (fate ∷ fates) =
+    AreFates source target (step_in source target stand fate token.kind (take token.len text)) (drop token.len text) tokens fates
+AreFates source target (Some stand) text tokens fates = ⊥

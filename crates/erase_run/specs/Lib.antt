@@ -1,3 +1,9 @@
+pub mod Blanks
+pub mod Brackets
 pub mod Erased
 pub mod Fates
+pub mod Gone
+pub mod Kept
+pub mod Labels
+pub mod Parts
 pub mod Texts

@@ -5,15 +5,22 @@
 #![tactic(auto)]
 
 mod attributes;
+mod brackets;
 mod fate;
 mod front;
 mod ghosts;
+mod gone;
+mod kept;
+mod labels;
+mod part;
 mod paths;
 mod refusals;
 mod rules;
 mod source;
+mod stand;
+mod step;
 mod stop;
-mod stretch;
+mod words;
 mod write;
 
 pub use fate::{Fate, Line, Rule, Word};

@@ -1,6 +1,6 @@
 //! A source as tokens, and what becomes of each.
 ghost use Rattle.std.specs.Prelude.{◌≡◌};
-ghost use Rattle.erase_run.specs.Fates.{is_doc, is_space};
+ghost use Rattle.erase_run.specs.Blanks.{is_blank, is_doc, is_plain, is_space};
 ghost use Rattle.rustc_lexer.specs.Classes.{Fits};
 
 use crate::fate::{Fate, Rule, Word};
@@ -53,6 +53,29 @@ impl<'a> Piece<'a> {
             self.kind,
             TokenKind::Whitespace | TokenKind::LineComment { .. } | TokenKind::BlockComment { .. }
         )
+    }
+}
+
+/// Whether the token is white space, or a comment that is no document of the item behind it.
+pub fn is_blank(kind: TokenKind) -> bool
+    ensures { result ≡ is_blank kind }
+{
+    match kind {
+        TokenKind::Whitespace => true,
+        TokenKind::LineComment { doc_style } | TokenKind::BlockComment { doc_style, .. } => {
+            is_plain(doc_style)
+        }
+        _ => false,
+    }
+}
+
+/// Whether a comment is no document of the item behind it.
+fn is_plain(style: Option<DocStyle>) -> bool
+    ensures { result ≡ is_plain style }
+{
+    match style {
+        Some(DocStyle::Outer) => false,
+        _ => true,
     }
 }
 

@@ -1,19 +1,25 @@
 //! What is written of a source.
-ghost use Rattle.std.specs.Prelude.{◌≡◌, ◌++◌, IfOk, OnOk, string_bytes};
+ghost use Rattle.std.specs.Prelude.{◌≡◌, ◌++◌, true, IfOk, OnOk, map, string_bytes};
 ghost use Rattle.std.specs.List.{flat_map};
 ghost use Rattle.rustc_lexer.specs.Classes.{Fits};
 ghost use Rattle.rustc_lexer.specs.LanguageText.{mode_of};
 ghost use Rattle.rustc_lexer.specs.Tokens.{tokens_of};
 ghost use Rattle.rustc_lexer.specs.declared.token.FrontmatterAllowed.TheVariants.{No};
+ghost use Rattle.erase_run.specs.Brackets.{are_matched, none};
 ghost use Rattle.erase_run.specs.Erased as spec;
-ghost use Rattle.erase_run.specs.Fates.{AreFates};
+ghost use Rattle.erase_run.specs.Fates.{AreFates, start};
+ghost use Rattle.erase_run.specs.Kept.{lines_suit};
 
+use crate::brackets::are_matched;
 use crate::fate::{Fate, Line, Rule, line_text, word_text};
 use crate::front::{close_lines, lead};
+use crate::kept::{is_free, lines_suit};
 use crate::rules::apply;
 use crate::source::{Piece, Source, Target, newlines};
+use crate::stand::Stand;
+use crate::step::step_in;
 use crate::stop::{Reason, Stop};
-use crate::stretch::{Stretch, step};
+use crate::words::{has_words, push_meant};
 use rustc_lexer::{FrontmatterAllowed, tokenize};
 use std::alloc::{AllocError, Global};
 
@@ -31,19 +37,40 @@ pub struct Erased {
 }
 
 /// The plain Rust of a source: its tokens in order, each as its fate says.
+///
+/// Each fate is one that the token may have where it stands, and what is written lexes to the words that stay and those
+/// that are put in, in order: white space and line ends may differ, and no two words become one.
 pub fn erase(alloc: Global, text: &str, target: Target) -> Result<Erased, Stop>
     requires fits { Fits text.now }
-    ensures fates { IfOk result (λ made. AreFates (Some Stretch.Closed)
+    ensures fates { IfOk result (λ made. AreFates text.now target (Some start)
         text.now (tokens_of (mode_of No) text.now) made.fates.items) }
     ensures written { IfOk result (λ made. string_bytes made.text
         ≡ spec.written made.lines.items text.now (tokens_of (mode_of No) text.now) made.fates.items) }
+    ensures lines { IfOk result (λ made. lines_suit target made.lines.items ≡ true) }
+    ensures brackets { IfOk result (λ _. are_matched none (tokens_of (mode_of No) text.now) ≡ true) }
+    ensures words { IfOk result (λ made. spec.words_of (string_bytes made.text)
+        ≡ spec.words_meant made.lines.items text.now (tokens_of (mode_of No) text.now) made.fates.items) }
 {
     let mut source = Source::new(alloc, text, target)?;
     apply(alloc, &mut source)?;
     let lines = lead(alloc, &mut source)?;
     close_lines(&mut source);
     let Source { fates, used, .. } = source;
-    let made = written(alloc, lines.as_slice(), text, fates.as_slice())?;
+    let mut meant = Vec::new(alloc);
+    let made = written(
+        alloc,
+        target,
+        lines.as_slice(),
+        text,
+        fates.as_slice(),
+        &mut meant,
+    )?;
+    if !lines_suit(target, lines.as_slice())
+        || !are_matched(alloc, text)?
+        || !has_words(alloc, made.as_str(), meant.as_slice())?
+    {
+        return Err(unfit(text));
+    }
     Ok(Erased {
         text: made,
         fates,
@@ -52,37 +79,47 @@ pub fn erase(alloc: Global, text: &str, target: Target) -> Result<Erased, Stop>
     })
 }
 
-/// The tokens of a text in order, each by its fate, if each has one that it may have.
-fn written(alloc: Global, lines: &[Line], text: &str, fates: &[Fate]) -> Result<String, Stop>
+/// The tokens of a text in order, each by its fate, if each has one that it may have. Appends the words that are meant.
+fn written<'a>(
+    alloc: Global,
+    target: Target,
+    lines: &[Line],
+    text: &'a str,
+    fates: &[Fate],
+    meant: &mut Vec<Piece<'a>>,
+) -> Result<String, Stop>
     requires fits { Fits text.now }
     ensures fates { IfOk result
-        (λ _. AreFates (Some Stretch.Closed) text.now (tokens_of (mode_of No) text.now) fates.now) }
+        (λ _. AreFates text.now target (Some start) text.now (tokens_of (mode_of No) text.now) fates.now) }
     ensures written { IfOk result (λ made. string_bytes made
         ≡ spec.written lines.now text.now (tokens_of (mode_of No) text.now) fates.now) }
+    ensures words { IfOk result (λ _. map spec.lexeme meant.new.items
+        ≡ map spec.lexeme meant.old.items ++ spec.words_meant lines.now text.now (tokens_of (mode_of No) text.now) fates.now) }
 {
     let mut made = String::new(alloc);
-    let mut start = 0;
     let mut left = fates;
-    let mut stretch = Stretch::Closed;
+    let mut stand = Stand::START;
+    let mut start = 0;
     for token in tokenize(text, FrontmatterAllowed::No) {
         let end = start + token.len as usize;
         let part = &text[start..end];
-        let Some((fate, later)) = left.split_first() else {
-            return Err(unfit(&text[..start]));
-        };
         let piece = Piece {
             kind: token.kind,
             text: part,
         };
-        let Some(next) = step(stretch, *fate, piece) else {
+        let Some((fate, later)) = left.split_first() else {
             return Err(unfit(&text[..start]));
         };
-        push_piece(lines, *fate, part, &mut made)?;
-        stretch = next;
+        let Some(next) = step_in(text, target, stand, *fate, piece) else {
+            return Err(unfit(&text[..start]));
+        };
+        push_piece(lines, *fate, piece.text, &mut made)?;
+        push_meant(lines, *fate, piece, meant)?;
+        stand = next;
         left = later;
         start = end;
     }
-    if left.is_empty() && stretch == Stretch::Closed {
+    if left.is_empty() && is_free(stand.behind) {
         Ok(made)
     } else {
         Err(unfit(text))

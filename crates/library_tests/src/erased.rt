@@ -52,6 +52,8 @@ static MADE: &[(&str, &str)] = rows! {
         "pub struct S {\n    pub a: u8,\n    pub b: (u8, [u8; 2]),\n}\n";
     "use std::marker::{Copy, Model, Sized};\nuse a::{b, c};\nfn f(d: u8, e: u8) { g(d, e) }" =>
         "use core::marker::{Copy,  Sized};\nuse a::{b, c};\nfn f(d: u8, e: u8) { g(d, e) }";
+    "fn f() { a(| | b); c || d & & e && g = = h }" => "fn f() { a(| | b); c || d & & e && g = = h }";
+    "use b::c;\nuse a::{e, d};\n" => "use b::c;\nuse a::{e, d};\n";
     "fn f() ensures { a ([{ }]) { b } } { if c { d([e]) } else { g }; }" => "fn f()  { if c { d([e]) } else { g }; }";
 };
 

@@ -1,5 +1,5 @@
 use Rattle.rustc_lexer.proofs.PlaceLemmas.{piece_is, stands_past}
-use Rattle.erase_run.proofs.WriteLemmas.{written-step, fates-step}
+use Rattle.erase_run.proofs.WriteLemmas.{written-step, fates-step, words-step}
 use Rattle.erase_run.proofs.write.written.Goals as goal
 
 pub loop-token-preserved : goal.loop-token-preserved
@@ -18,6 +18,7 @@ loop-token-preserved c =
     let split = c.in-Some-split_first.ensures.cases.0 in
     record {
       place = stands_past text start at past token place step;
-      fates = λ more. c.loop-token.invariant.fates (fates-step at past token c.loop-token.left.now later fate c.loop-token.stretch c.in-Some-step.next part step is split c.in-Some-step.ensures more);
+      fates = λ more. c.loop-token.invariant.fates (fates-step text c.args.target at past token c.loop-token.left.now later fate c.loop-token.stand c.in-Some-step_in.next part step is split c.in-Some-step_in.ensures more);
       left = written-step c.args.lines.now at past token c.loop-token.left.now later fate _ _ part _ step is split c.in_ok-push_piece.ensures c.loop-token.invariant.left;
+      words = words-step c.args.lines.now at past token c.loop-token.left.now later fate _ _ part _ step is split c.in_ok-push_meant.ensures c.loop-token.invariant.words;
     }
