@@ -1,5 +1,5 @@
 -- One token more that is written by its fate.
-use Rattle.std.proofs.Common.{◌≡◌, ℕ, List, ◌∷◌, ◌++◌, take, drop, Option, Some, sym, ap, subst, ◌∙◌, append_assoc}
+use Rattle.std.proofs.Common.{◌≡◌, ℕ, List, ◌∷◌, ◌++◌, take, drop, Option, Some, sym, ap, subst, ◌∙◌, append_assoc, map}
 use Rattle.rustc_lexer.specs.declared.token.Token.{Token}
 use Rattle.rustc_lexer.specs.declared.token.TokenKind.{TokenKind}
 use Rattle.rustc_lexer.specs.State.{State}
@@ -7,8 +7,9 @@ use Rattle.rustc_lexer.specs.Tokens.{tokens_left, TakesToken}
 use Rattle.erase_run.specs.declared.fate.Fate.{Fate}
 use Rattle.erase_run.specs.declared.fate.Line.{Line}
 use Rattle.erase_run.specs.declared.stand.Stand.{Stand}
+use Rattle.erase_run.specs.declared.source.Piece.{Piece}
 use Rattle.erase_run.specs.declared.source.Target.{Target}
-use Rattle.erase_run.specs.Erased.{piece, written, meant, words_meant, word, words_in}
+use Rattle.erase_run.specs.Erased.{piece, written, meant, words_meant, word, words_in, lexeme}
 use Rattle.erase_run.specs.Fates.{step_in, AreFates}
 
 pub written-step : (lines : List Line) (s t : State) (token : Token) (fates later : List Fate) (fate : Fate) (before now part whole : List ℕ)
@@ -61,3 +62,14 @@ word-step s t token before now part whole step is made more =
   where
     appended : now ≡ before ++ word token.kind (take token.len s.rest)
     appended = made ∙ ap (λ (xs : List ℕ). before ++ word token.kind xs) is
+
+-- two lists of pieces have the same words if their first ones are the same and those behind them are
+pub same-step : (left rest later after : List Piece) (first other : Piece)
+    → left ≡ first ∷ later → rest ≡ other ∷ after → first.kind ≡ other.kind → first.text.now ≡ other.text.now
+    → map lexeme later ≡ map lexeme after → map lexeme left ≡ map lexeme rest
+same-step left rest later after first other split parts kinds texts more =
+    ap (λ (ps : List Piece). map lexeme ps) split
+    ∙ (ap (λ (kind : TokenKind). (kind, first.text.now) ∷ map lexeme later) kinds
+    ∙ (ap (λ (text : List ℕ). (other.kind, text) ∷ map lexeme later) texts
+    ∙ (ap (λ (ws : List (TokenKind × List ℕ)). lexeme other ∷ ws) more
+    ∙ sym (ap (λ (ps : List Piece). map lexeme ps) parts))))

@@ -92,16 +92,14 @@ pub fn has_words(alloc: Global, text: &str, words: &[Piece<'_>]) -> Result<bool,
 fn are_same(words: &[Piece<'_>], others: &[Piece<'_>]) -> bool
     ensures { result ≡ true → map spec.lexeme words.now ≡ map spec.lexeme others.now }
 {
-    let mut left = words;
     let mut rest = others;
-    while let [word, later @ ..] = left {
-        let [other, after @ ..] = rest else {
+    for word in words {
+        let Some((other, after)) = rest.split_first() else {
             return false;
         };
         if word.kind != other.kind || word.text != other.text {
             return false;
         }
-        left = later;
         rest = after;
     }
     rest.is_empty()
