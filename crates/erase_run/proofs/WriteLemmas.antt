@@ -1,5 +1,6 @@
 -- One token more that is written by its fate.
-use Rattle.std.proofs.Common.{◌≡◌, ℕ, List, ◌∷◌, ◌++◌, take, drop, Option, Some, sym, ap, subst, ◌∙◌, append_assoc, map}
+use Rattle.std.proofs.Common.{◌≡◌, ℕ, List, ◌∷◌, ◌++◌, [], ◌+◌, ◌<◌, length, get_or, take, drop, Option, Some, sym, ap, subst, ◌∙◌, append_assoc, map}
+use Rattle.std.proofs.lemmas.List.{map_more}
 use Rattle.rustc_lexer.specs.declared.token.Token.{Token}
 use Rattle.rustc_lexer.specs.declared.token.TokenKind.{TokenKind}
 use Rattle.rustc_lexer.specs.State.{State}
@@ -63,13 +64,12 @@ word-step s t token before now part whole step is made more =
     appended : now ≡ before ++ word token.kind (take token.len s.rest)
     appended = made ∙ ap (λ (xs : List ℕ). before ++ word token.kind xs) is
 
--- two lists of pieces have the same words if their first ones are the same and those behind them are
-pub same-step : (left rest later after : List Piece) (first other : Piece)
-    → left ≡ first ∷ later → rest ≡ other ∷ after → first.kind ≡ other.kind → first.text.now ≡ other.text.now
-    → map lexeme later ≡ map lexeme after → map lexeme left ≡ map lexeme rest
-same-step left rest later after first other split parts kinds texts more =
-    ap (λ (ps : List Piece). map lexeme ps) split
-    ∙ (ap (λ (kind : TokenKind). (kind, first.text.now) ∷ map lexeme later) kinds
-    ∙ (ap (λ (text : List ℕ). (other.kind, text) ∷ map lexeme later) texts
-    ∙ (ap (λ (ws : List (TokenKind × List ℕ)). lexeme other ∷ ws) more
-    ∙ sym (ap (λ (ps : List Piece). map lexeme ps) parts))))
+-- one piece more of two lists that have the same words up to it
+pub more-same : (xs ys : List Piece) (i : ℕ) (d e : Piece) → i < length xs → length xs ≡ length ys
+    → map lexeme (take i xs) ≡ map lexeme (take i ys) → lexeme (get_or xs i d) ≡ lexeme (get_or ys i e)
+    → map lexeme (take (i + 1) xs) ≡ map lexeme (take (i + 1) ys)
+more-same xs ys i d e below long before same =
+    map_more lexeme xs i d below
+    ∙ (ap (λ (ws : List (TokenKind × List ℕ)). ws ++ lexeme (get_or xs i d) ∷ []) before
+    ∙ (ap (λ (w : TokenKind × List ℕ). map lexeme (take i ys) ++ w ∷ []) same
+    ∙ sym (map_more lexeme ys i e (subst (λ (n : ℕ). i < n) long below))))
