@@ -1,3 +1,4 @@
 pub mod BracketLemmas
+pub mod KindLemmas
 pub mod LabelLemmas
 pub mod WriteLemmas

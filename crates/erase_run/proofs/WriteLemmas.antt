@@ -1,5 +1,6 @@
 -- One token more that is written by its fate.
-use Rattle.std.proofs.Common.{◌≡◌, ℕ, List, ◌∷◌, ◌++◌, take, drop, Option, Some, sym, ap, subst, ◌∙◌, append_assoc}
+use Rattle.std.proofs.Common.{◌≡◌, ℕ, List, ◌∷◌, ◌++◌, [], ◌+◌, ◌<◌, length, get_or, take, drop, Option, Some, sym, ap, subst, ◌∙◌, append_assoc, map}
+use Rattle.std.proofs.lemmas.List.{map_more}
 use Rattle.rustc_lexer.specs.declared.token.Token.{Token}
 use Rattle.rustc_lexer.specs.declared.token.TokenKind.{TokenKind}
 use Rattle.rustc_lexer.specs.State.{State}
@@ -7,8 +8,9 @@ use Rattle.rustc_lexer.specs.Tokens.{tokens_left, TakesToken}
 use Rattle.erase_run.specs.declared.fate.Fate.{Fate}
 use Rattle.erase_run.specs.declared.fate.Line.{Line}
 use Rattle.erase_run.specs.declared.stand.Stand.{Stand}
+use Rattle.erase_run.specs.declared.source.Piece.{Piece}
 use Rattle.erase_run.specs.declared.source.Target.{Target}
-use Rattle.erase_run.specs.Erased.{piece, written, meant, words_meant, word, words_in}
+use Rattle.erase_run.specs.Erased.{piece, written, meant, words_meant, word, words_in, lexeme}
 use Rattle.erase_run.specs.Fates.{step_in, AreFates}
 
 pub written-step : (lines : List Line) (s t : State) (token : Token) (fates later : List Fate) (fate : Fate) (before now part whole : List ℕ)
@@ -61,3 +63,13 @@ word-step s t token before now part whole step is made more =
   where
     appended : now ≡ before ++ word token.kind (take token.len s.rest)
     appended = made ∙ ap (λ (xs : List ℕ). before ++ word token.kind xs) is
+
+-- one piece more of two lists that have the same words up to it
+pub more-same : (xs ys : List Piece) (i : ℕ) (d e : Piece) → i < length xs → length xs ≡ length ys
+    → map lexeme (take i xs) ≡ map lexeme (take i ys) → lexeme (get_or xs i d) ≡ lexeme (get_or ys i e)
+    → map lexeme (take (i + 1) xs) ≡ map lexeme (take (i + 1) ys)
+more-same xs ys i d e below long before same =
+    map_more lexeme xs i d below
+    ∙ (ap (λ (ws : List (TokenKind × List ℕ)). ws ++ lexeme (get_or xs i d) ∷ []) before
+    ∙ (ap (λ (w : TokenKind × List ℕ). map lexeme (take i ys) ++ w ∷ []) same
+    ∙ sym (map_more lexeme ys i e (subst (λ (n : ℕ). i < n) long below))))

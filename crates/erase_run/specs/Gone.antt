@@ -1,5 +1,5 @@
 -- Where a word may be deleted: within a stretch that a rule deletes, or as the first one of it.
-use Rattle.std.specs.Prelude.{ℕ, ◌+◌, ◌-◌, nat_eq, nat_lt, Bool, true, false, ◌||◌, if◌then◌else◌, List, codes, Option, Some, None}
+use Rattle.std.specs.Prelude.{ℕ, ◌+◌, ◌-◌, nat_eq, nat_lt, Bool, true, false, if◌then◌else◌, List, codes, Option, Some, None}
 use Rattle.std.specs.List.{starts_with}
 use Rattle.std.specs.Str.{bytes_eq}
 use Rattle.rustc_lexer.specs.declared.token.TokenKind.{TokenKind}

@@ -3,7 +3,7 @@ ghost use Rattle.std.specs.Prelude.{◌≡◌};
 ghost use Rattle.erase_run.specs.Gone as spec;
 
 use crate::fate::Rule;
-use crate::kept::is_free;
+use crate::kept::{is_free, then};
 use crate::part::{Next, Part, closes, go, opens};
 use crate::source::Piece;
 use crate::stand::{Behind, Inside, Stand};
@@ -257,11 +257,4 @@ fn begun(begins: bool, rule: Rule, part: Part) -> Option<Behind>
     ensures { result ≡ spec.open_if begins rule part }
 {
     then(begins, Behind::Open { rule, part })
-}
-
-/// What a word leads to if it may stand there.
-fn then(may_stand: bool, behind: Behind) -> Option<Behind>
-    ensures { result ≡ spec.then_behind may_stand behind }
-{
-    if may_stand { Some(behind) } else { None }
 }

@@ -44,7 +44,18 @@ fn keep_behind(target: Target, behind: Behind, text: &str) -> Option<Behind>
         Behind::RootColon => then(text != ":", after(target, Behind::Any, text)),
         Behind::Alloc | Behind::Simd | Behind::Item => None,
         Behind::Open { .. } | Behind::Group { .. } => None,
-        behind => Some(after(target, behind, text)),
+        Behind::Colon
+        | Behind::Path
+        | Behind::Function
+        | Behind::Fmt
+        | Behind::Main
+        | Behind::Arguments
+        | Behind::Formatter
+        | Behind::Hash
+        | Behind::Bracket
+        | Behind::Derive
+        | Behind::Any
+        | Behind::Root => Some(after(target, behind, text)),
     }
 }
 
@@ -269,7 +280,7 @@ fn is_core(text: &str) -> bool
 }
 
 /// What a word leads to if it may stand there.
-fn then(may_stand: bool, behind: Behind) -> Option<Behind>
+pub fn then(may_stand: bool, behind: Behind) -> Option<Behind>
     ensures { result ≡ spec.then_behind may_stand behind }
 {
     if may_stand { Some(behind) } else { None }

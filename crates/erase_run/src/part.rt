@@ -137,21 +137,35 @@ fn ghost_part(rule: Rule, part: Part, piece: Piece<'_>) -> Option<Next>
     let text = piece.text;
     match part {
         Part::Public => then(text == "ghost", Next::On(Part::Ghost)),
-        Part::Ghost => match rule {
-            Rule::Use => then(text == "use", Next::On(Part::Import)),
-            _ => then(is_name(piece.kind), Next::On(Part::GhostName)),
-        },
+        Part::Ghost => ghost_of(rule, piece),
         Part::GhostName => then(text == ":" || text == "=", Next::On(Part::GhostBraces)),
         Part::GhostBraces => then(text == "{", Next::Group(Part::GhostEnd)),
         _ => {
             if text == "=" {
                 return Some(Next::On(Part::GhostBraces));
             }
-            match rule {
-                Rule::Field => then(text == ",", Next::Done),
-                _ => then(text == ";", Next::Done),
-            }
+            ghost_end(rule, text)
         }
+    }
+}
+
+/// Behind `ghost`: an import by its rule, and the name of a member or a field by theirs.
+fn ghost_of(rule: Rule, piece: Piece<'_>) -> Option<Next>
+    ensures { result ≡ spec.ghost_of rule piece.entry.kind piece.entry.text.now }
+{
+    match rule {
+        Rule::Use => then(piece.text == "use", Next::On(Part::Import)),
+        _ => then(is_name(piece.kind), Next::On(Part::GhostName)),
+    }
+}
+
+/// What a ghost ends with.
+fn ghost_end(rule: Rule, text: &str) -> Option<Next>
+    ensures { result ≡ spec.ghost_end rule text.now }
+{
+    match rule {
+        Rule::Field => then(text == ",", Next::Done),
+        _ => then(text == ";", Next::Done),
     }
 }
 
@@ -289,7 +303,12 @@ fn words(part: Part, text: &str) -> Option<Next>
             }
             path(text, ":", "prelude", Part::Simd)
         }
-        Part::Handle => path(text, ":", "HostRuntime", Part::Handle),
+        Part::Handle => {
+            if text == "HostRuntime" {
+                return Some(Next::Done);
+            }
+            then(text == ":", Next::On(Part::Handle))
+        }
         Part::Label => then(text == ":", Next::Done),
         Part::Extern => then(text == "\"C\"", Next::Done),
         Part::PlusDrop | Part::ColonDrop | Part::CommaDrop => then(text == "Drop", Next::Done),

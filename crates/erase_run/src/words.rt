@@ -92,17 +92,20 @@ pub fn has_words(alloc: Global, text: &str, words: &[Piece<'_>]) -> Result<bool,
 fn are_same(words: &[Piece<'_>], others: &[Piece<'_>]) -> bool
     ensures { result ≡ true → map spec.lexeme words.now ≡ map spec.lexeme others.now }
 {
-    let mut left = words;
-    let mut rest = others;
-    while let [word, later @ ..] = left {
-        let [other, after @ ..] = rest else {
-            return false;
-        };
-        if word.kind != other.kind || word.text != other.text {
+    if words.len() != others.len() {
+        return false;
+    }
+    for at in 0..words.len() {
+        if !is_same(words[at], others[at]) {
             return false;
         }
-        left = later;
-        rest = after;
     }
-    rest.is_empty()
+    true
+}
+
+/// Whether two tokens are the same word.
+fn is_same(token: Piece<'_>, other: Piece<'_>) -> bool
+    ensures { result ≡ true → spec.lexeme token.entry ≡ spec.lexeme other.entry }
+{
+    token.kind == other.kind && token.text == other.text
 }

@@ -1,0 +1,75 @@
+-- Two kinds of token are one kind where `==` says so.
+use Rattle.std.proofs.Common.{◌≡◌, ℕ, nat_eq, Bool, true, false, ◌&&◌, List, [], ◌∷◌, Option, None, Some, refl, ap, sym, subst}
+use Rattle.std.proofs.lemmas.Bool.{eqb-true}
+use Rattle.std.specs.Option.{option_eq}
+use mathlib.Core.Bool.{beq}
+use mathlib.Core.Logic.{inl, inr}
+use denote.Struct.Field.{Field}
+use denote.Struct.Values.{Values}
+use denote.Enum.Declared.{Choice, values_one}
+use denote.Enum.Compared.{Each, by}
+use denote.Enum.Bare.{sameb, same_true}
+use Rattle.rustc_lexer.specs.declared.token.Base.{Base}
+use Rattle.rustc_lexer.specs.declared.token.DocStyle.{DocStyle}
+use Rattle.rustc_lexer.specs.declared.token.LiteralKind.{LiteralKind}
+use Rattle.rustc_lexer.specs.declared.token.TokenKind.{TokenKind}
+use Rattle.rustc_lexer.specs.contracts.token.Base as bases
+use Rattle.rustc_lexer.specs.contracts.token.DocStyle as styles
+use Rattle.rustc_lexer.specs.contracts.token.LiteralKind as literals
+use Rattle.rustc_lexer.specs.contracts.token.TokenKind as kinds
+use Rattle.rustc_lexer.specs.contracts.token.LiteralKindPartialEq.TheImpl as literal_eq
+use Rattle.rustc_lexer.specs.contracts.token.TokenKindPartialEq.TheImpl as kind_eq
+
+-- of each variant, two values that are told to be the same are
+abbrev pub Sound : (Fss : List (List Field)) → Each Bool Fss → Type 0
+Sound [] each = Unit {0}
+Sound (Fs ∷ Fss) each = ((x y : Values Fs) → each.0 x y ≡ true → x ≡ y) × Sound Fss each.1
+
+abbrev Holds : Bool → Type 0
+Holds true = Unit {0}
+Holds false = ⊥
+
+if-false : {A : Type 0} → false ≡ true → A
+if-false e = absurd (subst Holds (sym e) tt)
+
+pub by-same : (Fss : List (List Field)) (each : Each Bool Fss) (c d : Choice Fss) → by false false Fss each c d ≡ true → Sound Fss each → c ≡ d
+by-same [] each c d e sound = absurd c
+by-same (Fs ∷ Fss) each (inl x) (inl y) e sound = ap inl (sound.0 x y e)
+by-same (Fs ∷ Fss) each (inl x) (inr y) e sound = if-false e
+by-same (Fs ∷ Fss) each (inr x) (inl y) e sound = if-false e
+by-same (Fs ∷ Fss) each (inr x) (inr y) e sound = ap inr (by-same Fss each.1 x y e sound.1)
+
+and-first : (a b : Bool) → (a && b) ≡ true → a ≡ true
+and-first true b e = refl
+and-first false b e = e
+
+and-second : (a b : Bool) → (a && b) ≡ true → b ≡ true
+and-second true b e = e
+and-second false b e = if-false e
+
+bool-same : (a b : Bool) → beq a b ≡ true → a ≡ b
+bool-same true true e = refl
+bool-same true false e = if-false e
+bool-same false true e = if-false e
+bool-same false false e = refl
+
+option-same : {A : Type 0} (eq : A → A → Bool) → ((x y : A) → eq x y ≡ true → x ≡ y) → (a b : Option A) → option_eq eq a b ≡ true → a ≡ b
+option-same eq same None None e = refl
+option-same eq same None (Some y) e = if-false e
+option-same eq same (Some x) None e = if-false e
+option-same eq same (Some x) (Some y) e = ap Some (same x y e)
+
+base-same : (a b : Base) → sameb bases.the_type a b ≡ true → a ≡ b
+base-same a b e = same_true bases.the_type tt a b e
+
+doc-same : (a b : Option DocStyle) → option_eq (sameb styles.the_type) a b ≡ true → a ≡ b
+doc-same a b e = option-same (sameb styles.the_type) (same_true styles.the_type tt) a b e
+
+hashes-same : (a b : Option ℕ) → option_eq nat_eq a b ≡ true → a ≡ b
+hashes-same a b e = option-same nat_eq eqb-true a b e
+
+literal-same : (a b : LiteralKind) → literal_eq.eq-value.it a b ≡ true → a ≡ b
+literal-same a b e = values_one literals.enum a b (by-same literals.enum.parts _ (literals.enum.as_values a) (literals.enum.as_values b) e (λ x y e i. (base-same x.0 y.0 (and-first _ _ e) i, (bool-same x.1.0 y.1.0 (and-second _ _ e) i, tt)), (λ x y e i. (base-same x.0 y.0 (and-first _ _ e) i, (bool-same x.1.0 y.1.0 (and-second _ _ e) i, tt)), (λ x y e i. (bool-same x.0 y.0 e i, tt), (λ x y e i. (bool-same x.0 y.0 e i, tt), (λ x y e i. (bool-same x.0 y.0 e i, tt), (λ x y e i. (bool-same x.0 y.0 e i, tt), (λ x y e i. (bool-same x.0 y.0 e i, tt), (λ x y e i. (hashes-same x.0 y.0 e i, tt), (λ x y e i. (hashes-same x.0 y.0 e i, tt), (λ x y e i. (hashes-same x.0 y.0 e i, tt), tt)))))))))))
+
+pub kind-same : (a b : TokenKind) → kind_eq.eq-value.it a b ≡ true → a ≡ b
+kind-same a b e = values_one kinds.enum a b (by-same kinds.enum.parts _ (kinds.enum.as_values a) (kinds.enum.as_values b) e (λ x y e i. (doc-same x.0 y.0 e i, tt), (λ x y e i. (doc-same x.0 y.0 (and-first _ _ e) i, (bool-same x.1.0 y.1.0 (and-second _ _ e) i, tt)), (λ _ _ _. refl, (λ x y e i. (bool-same x.0 y.0 (and-first _ _ e) i, (bool-same x.1.0 y.1.0 (and-second _ _ e) i, tt)), (λ _ _ _. refl, (λ _ _ _. refl, (λ _ _ _. refl, (λ _ _ _. refl, (λ _ _ _. refl, (λ _ _ _. refl, (λ _ _ _. refl, (λ _ _ _. refl, (λ x y e i. (literal-same x.0 y.0 (and-first _ _ e) i, (eqb-true x.1.0 y.1.0 (and-second _ _ e) i, tt)), (λ x y e i. (bool-same x.0 y.0 e i, tt), (λ _ _ _. refl, (λ _ _ _. refl, (λ _ _ _. refl, (λ _ _ _. refl, (λ _ _ _. refl, (λ _ _ _. refl, (λ _ _ _. refl, (λ _ _ _. refl, (λ _ _ _. refl, (λ _ _ _. refl, (λ _ _ _. refl, (λ _ _ _. refl, (λ _ _ _. refl, (λ _ _ _. refl, (λ _ _ _. refl, (λ _ _ _. refl, (λ _ _ _. refl, (λ _ _ _. refl, (λ _ _ _. refl, (λ _ _ _. refl, (λ _ _ _. refl, (λ _ _ _. refl, (λ _ _ _. refl, (λ _ _ _. refl, (λ _ _ _. refl, (λ _ _ _. refl, (λ _ _ _. refl, (λ _ _ _. refl, (λ _ _ _. refl, tt))))))))))))))))))))))))))))))))))))))))))))
