@@ -149,16 +149,16 @@ fn room() {
     items.resize(1000, 4).unwrap();
     items.truncate(3);
     let room = items.as_slice().as_ptr();
-    refused(|| held.shrink_to_fit());
-    refused(|| items.shrink_to_fit());
+    given(0, || held.shrink_to_fit());
+    given(0, || items.shrink_to_fit());
     assert_eq!((held.as_str(), items.as_slice()), ("aéb", &[1, 2, 2][..]));
     assert_eq!(items.as_slice().as_ptr(), room);
-    assert_eq!(refused(|| held.push_str("123")), Ok(()));
-    assert_eq!(refused(|| items.push(3)), Ok(()));
+    assert_eq!(given(0, || held.push_str("123")), Ok(()));
+    assert_eq!(given(0, || items.push(3)), Ok(()));
     held.shrink_to_fit();
     items.shrink_to_fit();
     assert_eq!(held.as_str(), "aéb123");
     assert_eq!(items.as_slice(), [1, 2, 2, 3]);
-    assert_eq!(refused(|| held.push_str("1")), Err(AllocError));
-    assert_eq!(refused(|| items.push(3)), Err(AllocError));
+    assert_eq!(given(0, || held.push_str("1")), Err(AllocError));
+    assert_eq!(given(0, || items.push(3)), Err(AllocError));
 }
