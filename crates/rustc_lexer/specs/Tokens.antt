@@ -1,10 +1,10 @@
 -- The tokens of a text, and what the calls that take them do.
-use Rattle.std.specs.Prelude.{ℕ, ◌≡◌, ◌↔◌, ◌<◌, ◌≤◌, List, [], ◌∷◌, length, take, drop, chars, codes, IsCharBoundary, Option, is_some, IsSome, Some, None, Ok, zero, suc, Bool, true, false, not, ◌++◌, map}
-use Rattle.rustc_lexer.specs.{Edition, LiteralKind, Token, TokenKind, Char, Byte, Str, ByteStr, CStr, RawStr, RawByteStr, RawCStr, Literal, Eof, Ident, RawIdent, LineComment, BlockComment, Frontmatter, Lifetime}
+use Rattle.std.specs.Prelude.{ℕ, ◌≡◌, ◌↔◌, ◌<◌, ◌≤◌, List, [], ◌∷◌, length, take, drop, chars, codes, IsCharBoundary, Option, is_some, IsSome, Some, None, Ok, zero, suc, Bool, true, false, not, ◌++◌, map, All}
+use Rattle.rustc_lexer.specs.{Edition, FrontmatterAllowed, LiteralKind, Token, TokenKind, Char, Byte, Str, ByteStr, CStr, RawStr, RawByteStr, RawCStr, Literal, Eof, Ident, RawIdent, LineComment, BlockComment, Frontmatter, Lifetime}
 pub use Rattle.rustc_lexer.specs.Answers.{advance, raw_check, tokens_of}
 use Rattle.rustc_lexer.specs.Classes.{is_ident}
 use Rattle.rustc_lexer.specs.LanguageCalls.{StartsRaw}
-use Rattle.rustc_lexer.specs.LanguageText.{part, mode_edition, mode_after}
+use Rattle.rustc_lexer.specs.LanguageText.{part, mode_in, mode_edition, mode_after}
 pub use Rattle.rustc_lexer.specs.Partition.{cut_by, tokens_by, bound, Partitions}
 use Rattle.rustc_lexer.specs.State.{State, token_past, HasSuffixWithin}
 
@@ -83,6 +83,16 @@ EndsFaulty kind len = Unit {0}
 -- where the suffix of a token begins
 abbrev pub HasSuffix : Token → Type 0
 HasSuffix token = HasSuffixWithin token × EndsFaulty token.kind token.len
+
+-- an iterator at the front of a text that fits, as a document or a part in an edition. Its tokens are those of the text:
+-- they cut it, and where it is a part they go on from each bound; the suffix and the text of each is as its kind says
+pub record ReadsAs (allowed : FrontmatterAllowed) (edition : Edition) (text : List ℕ) (at : State) : Type 0 where
+  pub state : at ≡ record { pending = 0; rest = text; mode = mode_in allowed edition }
+  pub tokens : tokens_left at ≡ tokens_of (mode_in allowed edition) text
+  pub partitions : Partitions text (tokens_of (mode_in allowed edition) text)
+  pub restarts : RestartsAtBounds edition text
+  pub suffixes : All HasSuffix (tokens_of (mode_in allowed edition) text)
+  pub texts : HaveTexts text (tokens_of (mode_in allowed edition) text)
 
 -- whether tokens of the kind differ in more than their length
 abbrev pub has_fields : TokenKind → Bool

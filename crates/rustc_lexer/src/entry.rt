@@ -1,11 +1,11 @@
 //! The calls that lex a text, and their iterator.
-ghost use Rattle.std.specs.Prelude.{◌≡◌, ◌<◌, length, All};
+ghost use Rattle.std.specs.Prelude.{◌≡◌, length};
 ghost use Rattle.std.specs.Iterator.{at_most};
 ghost use Rattle.rustc_lexer.specs.{E2015, E2018, E2024, No};
 ghost use Rattle.rustc_lexer.specs.Classes.{Fits};
 ghost use Rattle.rustc_lexer.specs.LanguageText.{mode_edition, mode_in, mode_of, part};
 ghost use Rattle.rustc_lexer.specs.Locality.{AreLocal};
-ghost use Rattle.rustc_lexer.specs.Tokens.{HasSuffix, HaveTexts, tokens_of, tokens_left, Partitions, RestartsAtBounds, YieldsToken};
+ghost use Rattle.rustc_lexer.specs.Tokens.{ReadsAs, tokens_of, YieldsToken};
 
 use crate::cursor::next_allowed;
 use crate::edition::{Edition, token_as};
@@ -43,13 +43,7 @@ pub use stepper::{Stepper, Steps};
 /// ```
 pub fn tokenize<'a>(input: &'a str, frontmatter_allowed: FrontmatterAllowed) -> Tokens<'a>
     requires fits { Fits input.now }
-    ensures state { result
-        ≡ record { pending = 0; rest = input.now; mode = mode_of frontmatter_allowed } }
-    ensures tokens { tokens_left result ≡ tokens_of (mode_of frontmatter_allowed) input.now }
-    ensures partitions { Partitions input.now (tokens_of (mode_of frontmatter_allowed) input.now) }
-    ensures restarts { RestartsAtBounds E2024 input.now }
-    ensures suffixes { All HasSuffix (tokens_of (mode_of frontmatter_allowed) input.now) }
-    ensures texts { HaveTexts input.now (tokens_of (mode_of frontmatter_allowed) input.now) }
+    ensures { ReadsAs frontmatter_allowed E2024 input.now result }
 {
     tokenize_as(input, frontmatter_allowed, Edition::E2024)
 }
@@ -65,12 +59,7 @@ pub fn tokenize<'a>(input: &'a str, frontmatter_allowed: FrontmatterAllowed) -> 
 /// of [`tokenize`].
 pub fn tokenize_in<'a>(text: &'a str, edition: Edition) -> EditionTokens<'a>
     requires fits { Fits text.now }
-    ensures state { result ≡ record { pending = 0; rest = text.now; mode = part edition } }
-    ensures tokens { tokens_left result ≡ tokens_of (part edition) text.now }
-    ensures partitions { Partitions text.now (tokens_of (part edition) text.now) }
-    ensures restarts { RestartsAtBounds edition text.now }
-    ensures suffixes { All HasSuffix (tokens_of (part edition) text.now) }
-    ensures texts { HaveTexts text.now (tokens_of (part edition) text.now) }
+    ensures reads { ReadsAs No edition text.now result }
     ensures local { AreLocal (tokens_of (part edition)) }
     ensures newest { tokens_of (part E2024) text.now ≡ tokens_of (mode_of No) text.now }
     ensures oldest { tokens_of (part E2015) text.now ≡ tokens_of (part E2018) text.now }
@@ -90,13 +79,7 @@ pub fn tokenize_as<'a>(
     edition: Edition,
 ) -> Tokens<'a>
     requires fits { Fits text.now }
-    ensures state { result
-        ≡ record { pending = 0; rest = text.now; mode = mode_in frontmatter_allowed edition } }
-    ensures tokens { tokens_left result ≡ tokens_of (mode_in frontmatter_allowed edition) text.now }
-    ensures partitions { Partitions text.now (tokens_of (mode_in frontmatter_allowed edition) text.now) }
-    ensures restarts { RestartsAtBounds edition text.now }
-    ensures suffixes { All HasSuffix (tokens_of (mode_in frontmatter_allowed edition) text.now) }
-    ensures texts { HaveTexts text.now (tokens_of (mode_in frontmatter_allowed edition) text.now) }
+    ensures { ReadsAs frontmatter_allowed edition text.now result }
 {
     Tokens {
         rest: text,

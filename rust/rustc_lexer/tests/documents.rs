@@ -304,7 +304,7 @@ fn tokens_of(head: Head) -> Vec<Token> {
 /// On lists of one's own, an edit of the body gives the tokens and the counts of a `LexedDocument`.
 #[test]
 fn lists_of_the_caller() {
-    let mut random = Random(55);
+    let mut random = Random(55, BITS);
     for _ in 0..20_000 {
         let old = random.document();
         let (range, insert) = (random.range(&old), random.text(3));

@@ -3,7 +3,7 @@
 #[path = "../../rattle_support/tests/refusing/mod.rs"]
 mod refusing;
 
-use refusing::given;
+use refusing::{given, requests};
 use rustc_lexer::{
     AllocError, Edit, EditError, EditStop, Edition, LexedDocument, LexedText, Steps,
 };
@@ -80,13 +80,6 @@ fn texts_and_another_edition() {
     assert_eq!((lexed.text(), document.text()), ("'r#a", "'r#a"));
     assert_eq!(given(9, || lexed.try_set_edition(Edition::E2015)), Ok(()));
     assert_eq!(lexed.tokens().len(), 3);
-}
-
-/// How many requests a call makes.
-fn requests<T>(call: impl FnOnce() -> T) -> usize {
-    GIVEN.with(|given| given.set(100));
-    call();
-    100 - GIVEN.with(|given| given.replace(usize::MAX))
 }
 
 /// Memory that edits left unused is given back: then an edit has to ask for what it had before. Where the call is refused

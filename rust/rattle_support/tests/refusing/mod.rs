@@ -51,3 +51,11 @@ pub fn given<T>(count: usize, call: impl FnOnce() -> T) -> T {
     GIVEN.set(usize::MAX);
     answer
 }
+
+/// How many requests a call makes, if they are at most 100.
+#[allow(dead_code)] // not each test counts them
+pub fn requests<T>(call: impl FnOnce() -> T) -> usize {
+    GIVEN.set(100);
+    call();
+    100 - GIVEN.replace(usize::MAX)
+}

@@ -1,17 +1,20 @@
-use Rattle.rustc_lexer.specs.LanguageText.{mode_in}
+use Rattle.std.proofs.Common.{refl}
+use Rattle.rustc_lexer.specs.Classes.{IsText}
+use Rattle.rustc_lexer.specs.LanguageText.{Mode, mode_in}
 use Rattle.rustc_lexer.proofs.TextLemmas.{suffixes, texts}
 use Rattle.rustc_lexer.specs.laws.Tokens.{partitions}
 use Rattle.rustc_lexer.proofs.TokensLemmas.{restarts}
 use Rattle.rustc_lexer.proofs.entry.tokenize_as.Goals as goal
 
-pub returns-clause-partitions : goal.returns-clause-partitions
-returns-clause-partitions c = partitions _ (mode_in c.args.frontmatter_allowed c.args.edition) record { utf8 = c.utf8.text; fits = c.requires.fits }
-
-pub returns-clause-restarts : goal.returns-clause-restarts
-returns-clause-restarts c = restarts c.args.edition _ record { utf8 = c.utf8.text; fits = c.requires.fits }
-
-pub returns-clause-suffixes : goal.returns-clause-suffixes
-returns-clause-suffixes c = suffixes _ (mode_in c.args.frontmatter_allowed c.args.edition) record { utf8 = c.utf8.text; fits = c.requires.fits }
-
-pub returns-clause-texts : goal.returns-clause-texts
-returns-clause-texts c = texts _ (mode_in c.args.frontmatter_allowed c.args.edition) record { utf8 = c.utf8.text; fits = c.requires.fits }
+pub returns : goal.returns
+returns c =
+    let mode : Mode = mode_in c.args.frontmatter_allowed c.args.edition in
+    let is : IsText c.args.text.now = record { utf8 = c.utf8.text; fits = c.requires.fits } in
+    record {
+      state = refl;
+      tokens = refl;
+      partitions = partitions _ mode is;
+      restarts = restarts c.args.edition _ is;
+      suffixes = suffixes _ mode is;
+      texts = texts _ mode is;
+    }
