@@ -17,8 +17,8 @@ returns-then-not-may_make-2 c =
     let body = c.change_to-body.result in
     let all : Changes c.args.head.now c.args.edit.now c.find-now.result body.keeps_head body.change = rw (sym c.head_of.ensures.head, sym c.change_of-change.ensures) c.change_to-body.ensures.body in
     let not : ¬ (IsChange c.range_from.result.now body.change) = λ may. true≢false (sym (c.may_make-2.ensures.1 may) ∙ c.if-not-may_make-2.true) in
-    rw c.number-then-not-may_make-2.ensures (refused_body c.args.text.now is c.args.edit.now c.args.head.now c.args.body_edit.now c.args.head_kept.now c.find-now.result body.keeps_head body.change c.find-now.ensures.head all
-        (subst (λ (bytes : List ℕ). ¬ (IsChange bytes body.change)) c.range_from.ensures.value not))
+    let may_not = subst (λ (bytes : List ℕ). ¬ (IsChange bytes body.change)) c.range_from.ensures.value not in
+    rw c.number-then-not-may_make-2.ensures (refused_body c.args.text.now is c.args.edit.now c.args.head.now c.args.body_edit.now c.args.head_kept.now c.find-now.result body.keeps_head body.change c.find-now.ensures.head all may_not)
 
 pub returns : goal.returns
 returns c =
