@@ -29,4 +29,4 @@ returns-clause-whole c =
     let parts = c.loop-token.parts.items in
     let pieces = pieces_of text (tokens_of (part c.args.edition) text) in
     let are = sym (append-nil (map (λ p. p.now) parts)) ∙ (ap (λ ts. map (λ p. p.now) parts ++ texts_of (pieces_from text c.loop-token.start ts)) (sym c.in-None.ensures.steps.0) ∙ c.loop-token.invariant.left) in
-    sym (flat_map-map (λ bs. bs) (λ p. p.now) parts) ∙ (ap (flat_map (λ bs. bs)) are ∙ (flat_map-map (λ bs. bs) (λ piece. piece.text) pieces ∙ joined_whole text _ c.tokenize_in-token-items.ensures.partitions))
+    sym (flat_map-map (λ bs. bs) (λ p. p.now) parts) ∙ (ap (flat_map (λ bs. bs)) are ∙ (flat_map-map (λ bs. bs) (λ piece. piece.text) pieces ∙ joined_whole text _ c.tokenize_in-token-items.ensures.reads.partitions))
