@@ -6,23 +6,27 @@ use Rattle.ends.specs.Known.{AppendsFront}
 use Rattle.rustc_lexer.specs.LanguageText.{mode_of}
 use Rattle.rustc_lexer.specs.Tokens.{tokens_of}
 use Rattle.rustc_lexer.specs.declared.token.FrontmatterAllowed.TheVariants.{No}
-use Rattle.erase_run.specs.Erased.{written}
-use Rattle.erase_run.specs.Fates.{AreFates}
+use Rattle.erase_run.specs.Erased.{written, words_meant, words_of}
+use Rattle.erase_run.specs.Fates.{AreFates, start}
+use Rattle.erase_run.specs.Kept.{lines_suit}
 use Rattle.erase_run.specs.declared.fate.Fate.{Fate}
 use Rattle.erase_run.specs.declared.fate.Line.{Line}
-use Rattle.erase_run.specs.declared.stretch.Stretch.TheVariants.{Closed}
+use Rattle.erase_run.specs.declared.source.Target.{Target}
 use Rattle.erase.specs.declared.job.Job.{Job}
 use Rattle.erase.specs.declared.run.Fault.{Fault}
 use Rattle.erase.specs.declared.run.Fault.TheVariants.{Arguments, Refused, NotUtf8, TooLong, Memory, Read, Write}
 
--- the tokens of the source in order, each by a fate that it may have
-abbrev pub IsErased : List ℕ → List ℕ → Type 0
-IsErased source text = (lines : List Line) × (fates : List Fate) × AreFates (Some Closed) source (tokens_of (mode_of No) source) fates × (text ≡ written lines source (tokens_of (mode_of No) source) fates)
+-- the tokens of the source in order, each by a fate that it may have: the text has the words that are meant, and lines of the target
+abbrev pub IsErased : Target → List ℕ → List ℕ → Type 0
+IsErased target source text =
+    (lines : List Line) × (fates : List Fate) × AreFates source target (Some start) source (tokens_of (mode_of No) source) fates
+    × (text ≡ written lines source (tokens_of (mode_of No) source) fates) × (lines_suit target lines ≡ true)
+    × (words_of text ≡ words_meant lines source (tokens_of (mode_of No) source) fates)
 
 -- what is printed of a source: how often each rule was used, of which nothing is said here, or the erased text
-abbrev pub IsPrinted : Bool → List ℕ → List ℕ → Type 0
-IsPrinted true source text = Unit {0}
-IsPrinted false source text = IsErased source text
+abbrev pub IsPrinted : Bool → Target → List ℕ → List ℕ → Type 0
+IsPrinted true target source text = Unit {0}
+IsPrinted false target source text = IsErased target source text
 
 -- a text that is not too long
 abbrev pub IsSource : List ℕ → Type 0
@@ -31,8 +35,8 @@ IsSource bytes = (length bytes < 2 ^ 32) × IsUtf8 bytes
 -- how a run ends, and what goes out: at Ok all that is printed of the source; where the writer failed a beginning of it;
 -- else nothing
 abbrev pub Ends : Job → List ℕ → Option (List ℕ) → Option (List ℕ) → Result (Unit {0}) Fault → Type 0
-Ends job bytes old new (Ok done) = IsSource bytes × (text : List ℕ) × IsPrinted job.tells_rules bytes text × Appends old new text
-Ends job bytes old new (Err Write) = IsSource bytes × (text : List ℕ) × IsPrinted job.tells_rules bytes text × AppendsFront old new text
+Ends job bytes old new (Ok done) = IsSource bytes × (text : List ℕ) × IsPrinted job.tells_rules job.target bytes text × Appends old new text
+Ends job bytes old new (Err Write) = IsSource bytes × (text : List ℕ) × IsPrinted job.tells_rules job.target bytes text × AppendsFront old new text
 Ends job bytes old new (Err (Refused line reason)) = IsSource bytes × Keeps old new
 Ends job bytes old new (Err NotUtf8) = (length bytes < 2 ^ 32) × ¬ (IsUtf8 bytes) × Keeps old new
 Ends job bytes old new (Err TooLong) = (2 ^ 32 ≤ length bytes) × Keeps old new

@@ -132,7 +132,7 @@ pub fn run<R: Read, W: Write>(
 /// What is printed of a source.
 fn print(alloc: Global, job: Job, text: &str) -> Result<String, Fault>
     requires fits { Fits text.now }
-    ensures printed { IfOk result (λ made. IsPrinted job.tells_rules text.now (string_bytes made)) }
+    ensures printed { IfOk result (λ made. IsPrinted job.tells_rules job.target text.now (string_bytes made)) }
     ensures refused { IfErr result IsRefusal }
 {
     let made = erase(alloc, text, job.target)?;
