@@ -100,6 +100,10 @@ fn an_error_is_one_of_the_output() {
     assert!(!takes(0, 1));
     assert!(takes(3, 1));
     assert!(!takes(3, 2));
+    let marked =
+        |calls, text| write_marked(Style::Html, Edition::E2024, text, &mut Few(calls)).is_ok();
+    assert!(marked(0, "") && !marked(0, "a+1") && !marked(3, "a+1") && marked(99, "a+1"));
+    assert!(!marked(0, "#!/a") && marked(99, "#!/a"), "a shebang line");
 }
 
 /// A text of more than `u32::MAX` bytes is too long for either call, in a release, too.

@@ -4,7 +4,7 @@
 mod refusing;
 
 use rattle_std::alloc::AllocError;
-use rattle_std::io::{Error, ErrorKind, Read, Result, Write};
+use rattle_std::io::{Error, ErrorKind, IsTerminal, Read, Result, Write};
 use rattle_std::prelude::String;
 use rattle_std::rt;
 use refusing::given;
@@ -127,4 +127,32 @@ fn the_process() {
     );
     let unset = rattle_std::env::var(&rt, "a variable that is not set");
     assert!(matches!(unset, Err(rattle_std::env::VarError::NotPresent)));
+}
+
+/// A process whose streams are closed from its beginning, and that has a variable which is no text: this test runs itself
+/// as one.
+#[cfg(unix)]
+#[test]
+fn closed_streams() {
+    use std::os::unix::ffi::OsStrExt;
+    use std::process::Command;
+    const NAME: &str = "RATTLE_STD_NO_TEXT";
+    if std::env::var_os(NAME).is_none() {
+        let ended = Command::new("sh")
+            .args(["-c", "exec \"$0\" --exact closed_streams <&- >&- 2>&-"])
+            .arg(std::env::current_exe().unwrap())
+            .env(NAME, std::ffi::OsStr::from_bytes(b"a\xff"))
+            .status();
+        return assert!(ended.unwrap().success());
+    }
+    let rt = rt::start();
+    let terminals = [rt.stdin(), rt.stdout(), rt.stderr()].map(|stream| stream.is_terminal());
+    assert_eq!(terminals, [false; 3]);
+    assert!(rt.stdin().read(&mut [0]).is_err());
+    for mut stream in [rt.stdout(), rt.stderr()] {
+        assert!(stream.write(b"a").is_err() && stream.flush().is_ok());
+    }
+    assert!(rattle_std::eprintln!(rt; "{} of {}", 1, 2).is_err());
+    let value = rattle_std::env::var(&rt, NAME);
+    assert!(matches!(value, Err(rattle_std::env::VarError::NotUnicode)));
 }

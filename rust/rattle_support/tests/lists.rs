@@ -4,7 +4,7 @@
 mod refusing;
 
 use rattle_support::{AllocError, Global, String, Vec};
-use refusing::given;
+use refusing::{given, requests};
 use std::fmt::Write;
 
 fn text(text: &str) -> String {
@@ -159,6 +159,8 @@ fn room() {
     items.shrink_to_fit();
     assert_eq!(held.as_str(), "aéb123");
     assert_eq!(items.as_slice(), [1, 2, 2, 3]);
+    assert_eq!(requests(|| held.shrink_to_fit()), 0, "it fits");
+    assert_eq!(requests(|| items.shrink_to_fit()), 0, "they fit");
     assert_eq!(given(0, || held.push_str("1")), Err(AllocError));
     assert_eq!(given(0, || items.push(3)), Err(AllocError));
 }

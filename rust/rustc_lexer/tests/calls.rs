@@ -425,6 +425,7 @@ fn what_is_written_of_values() {
     assert_eq!(format!("{:?}", Steps::new()), "Steps { .. }");
     let years = ["2015", "2018", "2021", "2024"];
     assert_eq!(Edition::ALL.map(|edition| edition.to_string()), years);
+    assert_eq!(format!("{:>6}", Edition::E2021), "  2021");
     for (edition, year) in Edition::ALL.into_iter().zip(years) {
         assert_eq!(year.parse(), Ok(edition));
     }

@@ -271,11 +271,12 @@ fn what_is_held() {
         (empty.text(), empty.tokens().len(), empty.body().place),
         ("", 0, 0)
     );
-    let shown = format!("{:?}", LexedDocument::new("#!a\nb"));
-    assert!(
-        shown.starts_with(r##"LexedDocument { text: "#!a\nb", tokens: [Token"##),
-        "{shown}"
-    );
+    let shown = format!("{:?}", LexedDocument::new("#!a+"));
+    let wanted = r##"LexedDocument { text: "#!a+", tokens: [], .. }"##;
+    assert_eq!(shown, wanted);
+    let shown = format!("{:?}", LexedDocument::new("+"));
+    let wanted = r#"LexedDocument { text: "+", tokens: [Token { kind: Plus, len: 1 }], .. }"#;
+    assert_eq!(shown, wanted);
 }
 
 #[test]

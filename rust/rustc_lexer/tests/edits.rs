@@ -214,6 +214,20 @@ fn an_edit_inside_a_character() {
     LexedText::new("é").edit(1..2, "");
 }
 
+#[test]
+#[should_panic(expected = "the tokens 2..4 are not there")]
+fn pieces_past_the_last() {
+    let _ = LexedText::new("a b").pieces_of(2..4);
+}
+
+#[test]
+#[should_panic(expected = "the tokens 2..1 are not there")]
+fn pieces_of_no_range() {
+    #[allow(clippy::reversed_empty_ranges)]
+    let reversed = 2..1;
+    let _ = LexedText::new("a b").pieces_of(reversed);
+}
+
 /// Ranges that are none, and what a call says that has no answer for them. Text and tokens stay as they were.
 #[test]
 fn ranges_that_are_refused() {

@@ -3,10 +3,11 @@
 #[path = "../../rattle_support/tests/refusing/mod.rs"]
 mod refusing;
 
-use refusing::{given, requests};
+use refusing::{given, refused_once, requests};
 use rustc_lexer::{
     AllocError, Edit, EditError, EditStop, Edition, LexedDocument, LexedText, Steps,
 };
+use std::panic::{AssertUnwindSafe, catch_unwind};
 
 #[test]
 fn each_request_of_an_edit() {
@@ -80,6 +81,37 @@ fn texts_and_another_edition() {
     assert_eq!((lexed.text(), document.text()), ("'r#a", "'r#a"));
     assert_eq!(given(9, || lexed.try_set_edition(Edition::E2015)), Ok(()));
     assert_eq!(lexed.tokens().len(), 3);
+}
+
+/// The calls that answer no error say by a panic that memory was refused. Nothing changes then.
+#[test]
+fn calls_that_panic() {
+    type Call = fn(&mut LexedText, &mut LexedDocument);
+    let calls: [Call; 8] = [
+        |_, _| drop(LexedText::new("a")),
+        |_, _| drop(LexedText::new_in("a", Edition::E2018)),
+        |_, _| drop(LexedDocument::new("a")),
+        |_, _| drop(LexedDocument::new_in("a", Edition::E2018)),
+        |text, _| text.set_edition(Edition::E2015),
+        |_, document| document.set_edition(Edition::E2015),
+        |text, _| {
+            text.edit(0..0, "a long text that takes memory");
+        },
+        |_, document| {
+            document.edit(0..0, "a long text that takes memory");
+        },
+    ];
+    for (number, call) in calls.into_iter().enumerate() {
+        let (mut text, mut document) = (LexedText::new("'r#a"), LexedDocument::new("'r#a"));
+        let call = AssertUnwindSafe(|| call(&mut text, &mut document));
+        let said = refused_once(|| catch_unwind(call)).expect_err("it panics");
+        let said = said.downcast_ref::<String>().expect("it says why");
+        assert!(said.ends_with("memory was refused"), "{number}: {said}");
+        assert_eq!((text.text(), document.text()), ("'r#a", "'r#a"));
+        let editions = (text.edition(), document.edition());
+        assert_eq!(editions, (Edition::E2024, Edition::E2024));
+        assert_eq!((text.tokens().len(), document.tokens().len()), (1, 1));
+    }
 }
 
 /// Memory that edits left unused is given back: then an edit has to ask for what it had before. Where the call is refused

@@ -7,6 +7,8 @@ use std::ptr::null_mut;
 thread_local! {
     /// How many requests of this thread are still given, counted down.
     static GIVEN: Cell<usize> = const { Cell::new(usize::MAX) };
+    /// Whether what follows the first that is refused is given.
+    static ONCE: Cell<bool> = const { Cell::new(false) };
 }
 
 /// The allocator of the system, which refuses what is not given.
@@ -14,7 +16,8 @@ struct Refusing;
 
 fn is_given() -> bool {
     let left = GIVEN.get().checked_sub(1);
-    GIVEN.set(left.unwrap_or(0));
+    let after = if ONCE.get() { usize::MAX } else { 0 };
+    GIVEN.set(left.unwrap_or(after));
     left.is_some()
 }
 
@@ -49,6 +52,15 @@ pub fn given<T>(count: usize, call: impl FnOnce() -> T) -> T {
     GIVEN.set(count);
     let answer = call();
     GIVEN.set(usize::MAX);
+    answer
+}
+
+/// What a call answers if its first request alone is refused: a panic takes memory, too.
+#[allow(dead_code)] // not each test has calls that panic
+pub fn refused_once<T>(call: impl FnOnce() -> T) -> T {
+    ONCE.set(true);
+    let answer = given(0, call);
+    ONCE.set(false);
     answer
 }
 
