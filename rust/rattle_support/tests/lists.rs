@@ -123,6 +123,30 @@ fn lists() {
     assert_eq!(full.len(), 0);
 }
 
+/// Room for a part of what a call adds is not enough: then the call is refused, and nothing changes.
+#[test]
+fn room_for_a_part() {
+    for left in 0..20 {
+        for (number, (call, wanted)) in ON_TEXTS.into_iter().enumerate() {
+            let mut held = text(&["aéb", &"x".repeat(left)].concat());
+            held.truncate(4);
+            let is_ok = given(0, || call(&mut held)).is_ok();
+            // What is formatted comes in pieces, of which the first may have room.
+            let stays = held.as_str() == "aéb" || number == 2;
+            let made = held.as_str() == wanted;
+            assert!(if is_ok { made } else { stays }, "call {number}, {left}");
+        }
+        for (number, (call, wanted)) in ON_LISTS.into_iter().enumerate() {
+            let mut held = list();
+            held.resize(3 + left, 0).unwrap();
+            held.truncate(3);
+            let is_ok = given(0, || call(&mut held)).is_ok();
+            let stands = if is_ok { wanted } else { &[1, 2, 2] };
+            assert_eq!(held.as_slice(), stands, "call {number}, {left}");
+        }
+    }
+}
+
 /// Texts are in the order of their bytes: capitals stand before small letters, and those before what is not in ASCII.
 #[test]
 fn sorted_texts() {
