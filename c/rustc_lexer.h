@@ -1,25 +1,25 @@
-/* The lexer for C: the calls of the library rustc_lexer_c, static or shared. Cargo builds it of files that are a proved
- * source less its contracts; its README says what is claimed. Rattle, which proves the source, builds it too, for x86-64
- * Linux, with the same calls and answers.
+/* The lexer for C: the calls of the library rustc_lexer_c, static or shared. It is generated from a proved source; its
+ * README says what is claimed. Rattle, which proves the source, can build it too, for x86-64 Linux, with the same calls
+ * and results.
  *
- * A text is a pointer to its bytes and their number. It needs no zero at its end, and may have zeros in it.
- * Nothing takes memory, and nothing keeps a pointer past its call. Calls may be made from any thread.
+ * A text is a pointer to its bytes and their number. It needs no zero at its end, and may contain zeros. No call
+ * allocates, or keeps a pointer after it returns. Calls may be made from any thread.
  *
- * What the caller promises, which no call can test:
- *   - no pointer is null, but one whose length is 0 may be;
+ * What the caller promises, because no call can test it:
+ *   - no pointer is null, except that one whose length is 0 may be;
  *   - `len` bytes can be read at `text`, and nothing writes to them during the call;
- *   - each pointer that is not const points to memory that the caller may write to, that is aligned for its type
+ *   - each pointer that is not const points to memory that the caller may write to, that is aligned for its type,
  *     and that nothing else uses during the call: `buffer` to `buffer_len` tokens, units or bytes, the others to
- *     one value. What is there before the call does not matter, but for `place`, `head` and `relexing`;
+ *     one value. What is there before the call does not matter, except in `place`, `head` and `relexing`;
  *   - `old_len` tokens can be read at `old`, and one value at `edit`. Both pointers are aligned for their types, and
  *     nothing writes to what they point to during the call;
- *   - what the calls with `_unchecked` say of their texts.
- * All else is tested. Each call answers a status; with one that is not 0 it has written zeros, or nothing where that
- * is said.
+ *   - what the calls with `_unchecked` say about their texts.
+ * Everything else is tested. Most calls return a status. If it is not 0, the call wrote zeros, or nothing where its
+ * comment says so.
  *
  * The numbers here are fixed. A new kind of token gets a new number.
  *
- * This is C11, which first had the unions without a name that a token has, and it is C++ too.
+ * This is C11, the first C with the unnamed unions that a token has. It is C++ too.
  */
 #ifndef RUSTC_LEXER_H
 #define RUSTC_LEXER_H
@@ -32,21 +32,21 @@
 extern "C" {
 #endif
 
-/* Statuses. They are judged in the order 2, 1, and then 3 or 4 or 7, or 5 and 6, or 5, 8 and 9. */
+/* Statuses. They are tested in the order 2, 1, and then 3 or 4 or 7, or 5 and 6, or 5, 8 and 9. */
 enum {
     RUSTC_LEXER_OK = 0,
     RUSTC_LEXER_NOT_UTF8 = 1,  /* the text is not UTF-8 */
     RUSTC_LEXER_TOO_LONG = 2,  /* the text has more than 4294967295 bytes */
     RUSTC_LEXER_BAD_PLACE = 3, /* the place is past the end of the text, or inside a character */
-    RUSTC_LEXER_NOT_RAW = 4,   /* character number prefix_len of the text, counted from 1, is no r */
+    RUSTC_LEXER_NOT_RAW = 4,   /* character number prefix_len of the text, counted from 1, is not an r */
     RUSTC_LEXER_BAD_EDITION = 5, /* the edition is none of 2015, 2018, 2021 and 2024 */
-    RUSTC_LEXER_BAD_EDIT = 6,  /* the edit cannot have made the text, or relexing cannot go on from the numbers */
-    RUSTC_LEXER_BAD_MODE = 7,  /* the mode is none of the kinds of literals from RUSTC_LEXER_CHAR on */
-    RUSTC_LEXER_BAD_STYLE = 8, /* the style is none of RUSTC_LEXER_STYLE_.. */
-    RUSTC_LEXER_SMALL_BUFFER = 9 /* there is more to write than room */
+    RUSTC_LEXER_BAD_EDIT = 6,  /* the edit cannot have made the text, or relexing cannot continue from the numbers */
+    RUSTC_LEXER_BAD_MODE = 7,  /* the mode is not a kind of literal from RUSTC_LEXER_CHAR on */
+    RUSTC_LEXER_BAD_STYLE = 8, /* the style is not one of RUSTC_LEXER_STYLE_.. */
+    RUSTC_LEXER_SMALL_BUFFER = 9 /* the buffer is too small for the output */
 };
 
-/* Kinds of tokens. No token that is written has the kind 0 or 43. */
+/* Kinds of tokens. No call writes a token of the kind 0 or 43. */
 enum {
     RUSTC_LEXER_LINE_COMMENT = 1,
     RUSTC_LEXER_BLOCK_COMMENT = 2,
@@ -114,29 +114,28 @@ enum {
     RUSTC_LEXER_INNER_DOC = 2
 };
 
-/* A token, of 12 bytes. Behind its kind stand the fields of the kind, a byte for each. The names of one union belong to
- * different kinds. A byte that the kind has no field for is 0, and a field that says whether something is so is 0 or
- * 1. */
+/* A token, of 12 bytes. After its kind come the fields of that kind, a byte for each: the members of a union belong to
+ * different kinds. A byte for which the kind has no field is 0. A field that says whether something holds is 0 or 1. */
 struct rustc_lexer_token {
     uint8_t kind;
     union {
         uint8_t doc_style;                        /* of a comment */
         uint8_t literal_kind;                     /* of a literal */
-        uint8_t starts_with_number;               /* of a lifetime: it begins with a digit or holds an emoji */
-        uint8_t has_invalid_preceding_whitespace; /* of a frontmatter: white space stands before it that ends no line */
+        uint8_t starts_with_number;               /* of a lifetime: it begins with a digit, or has an emoji */
+        uint8_t has_invalid_preceding_whitespace; /* of a frontmatter: white space comes before it on its line */
     };
     union {
-        uint8_t terminated;         /* of a block comment, or a literal in quotes that is not raw: it is closed */
+        uint8_t terminated;         /* of a block comment, or a quoted literal that is not raw: it is closed */
         uint8_t base;               /* of an integer or a float: 2, 8, 10 or 16 */
-        uint8_t has_hashes;         /* of a raw string: it is not refused, and n_hashes is the number of its hashes */
-        uint8_t invalid_infostring; /* of a frontmatter: its first line is a bad one */
+        uint8_t has_hashes;         /* of a raw string: it is well-formed, and n_hashes is the number of its hashes */
+        uint8_t invalid_infostring; /* of a frontmatter: its first line is malformed */
     };
     union {
-        uint8_t empty_int;      /* of an integer: it has no digit behind the prefix of its base */
+        uint8_t empty_int;      /* of an integer: it has no digit after the prefix of its base */
         uint8_t empty_exponent; /* of a float: its exponent has no digit */
         uint8_t n_hashes;       /* of a raw string */
     };
-    uint32_t suffix_start; /* of a literal: where its suffix begins, in bytes from the token's start; len: none */
+    uint32_t suffix_start; /* of a literal: where its suffix begins, in bytes from its start; len if it has none */
     uint32_t len;          /* in bytes, at least 1 */
 };
 
@@ -207,54 +206,54 @@ static inline const char *rustc_lexer_literal_kind_name(uint8_t literal_kind) {
     }
 }
 
-/* A place in a text. A text begins at {0, 0}, and a whole document at {line_len, 1}: past its shebang line, of which
- * rustc_lexer_strip_shebang writes the length. */
+/* A place in a text. A part of a file begins at {0, 0}, and a whole file at {line_len, 1}: after its shebang line,
+ * whose length rustc_lexer_strip_shebang writes. */
 struct rustc_lexer_place {
     uint32_t at;                  /* in bytes from the start of the text */
-    uint32_t frontmatter_allowed; /* whether a frontmatter may stand there: 0 for no, any other number for yes */
+    uint32_t frontmatter_allowed; /* whether a frontmatter may come there: 0 for no, any other number for yes */
 };
 
-/* An edit that was made, in bytes from the start of the text. It took out what stood from `start` up to `old_stop` of
- * the old text, and put in what stands from `start` up to `new_stop` of the present one. */
+/* An edit that was made, in bytes from the start of the text. It replaced the bytes from `start` to `old_stop` of the
+ * old text by those from `start` to `new_stop` of the present one. */
 struct rustc_lexer_edit {
     uint32_t start;
     uint32_t old_stop;
     uint32_t new_stop;
 };
 
-/* The head of a document, which is all in front of its body: its shebang line, its frontmatter, and the white space
- * between them where that is a token of its own. All zeros is that of an empty text. */
+/* The head of a document, which is all before its body: its shebang line, its frontmatter, and white space between them
+ * if that is a token of its own. All zeros is the head of an empty text. */
 struct rustc_lexer_head {
     uint32_t shebang_len;               /* of the shebang line, in bytes, or 0; the first token begins there */
     uint32_t body;                      /* where the body begins, in bytes from the start of the text */
-    uint32_t count;                     /* how many tokens stand before the body: 0, 1 or 2 */
-    struct rustc_lexer_token tokens[2]; /* these, and zeros behind them */
+    uint32_t count;                     /* how many tokens come before the body: 0, 1 or 2 */
+    struct rustc_lexer_token tokens[2]; /* these, then zeros */
 };
 
-/* How far an edited text is lexed again. All zeros is a good beginning. */
+/* How far an edited text is lexed again. Begin with all zeros. */
 struct rustc_lexer_relexing {
     size_t kept_front;  /* how many old tokens stay at the front; at stage 0, see rustc_lexer_relex */
     size_t front_place; /* where they end, in bytes from the start of the text */
     size_t lexed;       /* how many tokens all calls together have written */
     size_t kept_back;   /* at stage 2: how many old tokens stay at the back */
     size_t back_place;  /* at stage 2: where those begin, in bytes from the start of the old text */
-    size_t at;          /* where what was written ends, in bytes from the start of the present text; at stage 2 those at
-                           the back begin there */
+    size_t at;          /* where what was written ends, in bytes from the start of the present text; at stage 2 the
+                           tokens at the back begin there */
     size_t stage;       /* 0: to begin; 1: there are more tokens to write; 2: there are none */
 };
 
-/* Why a raw string is refused. A field that the error does not have is 0. */
+/* Why a raw string is malformed. A field that the error does not have is 0. */
 struct rustc_lexer_raw_str_error {
     uint32_t error;      /* 0: none; 1: invalid starter; 2: no terminator; 3: too many delimiters */
     uint32_t bad_char;   /* of 1: the character, or 0 at the end of the text */
     uint32_t expected;   /* of 2: how many hashes would close the string */
-    uint32_t found;      /* of 2: the most hashes behind a quote in it; of 3: how many there are */
+    uint32_t found;      /* of 2: the most hashes after a quote in it; of 3: how many there are */
     uint32_t has_offset; /* of 2: whether there is an offset, 0 or 1 */
-    uint32_t possible_terminator_offset; /* of 2: where the first quote with so many hashes ends: in bytes past the
-                                            prefix, and prefix_len more */
+    uint32_t possible_terminator_offset; /* of 2: where the first quote with so many hashes ends: prefix_len plus
+                                            the bytes after the prefix */
 };
 
-/* A guarded string. All is 0 where there is none. */
+/* A guarded string. All fields are 0 if there is none. */
 struct rustc_lexer_guarded_str {
     uint32_t is_some;    /* whether there is one, 0 or 1 */
     uint32_t n_hashes;   /* before the string */
@@ -266,8 +265,8 @@ struct rustc_lexer_guarded_str {
 enum {
     RUSTC_LEXER_UNIT_CHAR = 1,    /* a character */
     RUSTC_LEXER_UNIT_BYTE = 2,    /* a byte; in a C string one from 128 on */
-    RUSTC_LEXER_UNIT_ERROR = 3,   /* something is wrong */
-    RUSTC_LEXER_UNIT_WARNING = 4  /* something that a reader may want to be warned of */
+    RUSTC_LEXER_UNIT_ERROR = 3,   /* an error */
+    RUSTC_LEXER_UNIT_WARNING = 4  /* a warning */
 };
 
 /* What is wrong in a literal. The last two are warnings. */
@@ -297,78 +296,74 @@ enum {
     RUSTC_LEXER_MULTIPLE_SKIPPED_LINES_WARNING = 23
 };
 
-/* A unit of what a literal stands for, or what is wrong, and its place. */
+/* A unit of what a literal stands for, or an error, and its range. */
 struct rustc_lexer_unit {
-    size_t start;   /* in bytes from the front of the text */
-    size_t end;     /* the same, past the last byte */
+    size_t start;   /* in bytes from the start of the text */
+    size_t end;     /* the same, after the last byte */
     uint32_t kind;  /* RUSTC_LEXER_UNIT_.. */
-    uint32_t value; /* the character, the byte, or the number of what is wrong */
+    uint32_t value; /* the character, the byte, or the number of the error */
 };
 
 /* Styles of marks. */
 enum {
-    RUSTC_LEXER_STYLE_HTML = 1,      /* by the tags of a page, and entities for what a page would read as its own */
-    RUSTC_LEXER_STYLE_COLOURS = 2,   /* by escape sequences, in the colours of a terminal */
-    RUSTC_LEXER_STYLE_NO_COLOURS = 3 /* by the sentences of faults alone */
+    RUSTC_LEXER_STYLE_HTML = 1,      /* HTML tags, with entities in the text */
+    RUSTC_LEXER_STYLE_COLOURS = 2,   /* escape sequences of a terminal */
+    RUSTC_LEXER_STYLE_NO_COLOURS = 3 /* only the messages about errors */
 };
 
-/* RUSTC_LEXER_OK for a text that is UTF-8 and short enough, else the status that the other calls have for it. */
+/* Returns RUSTC_LEXER_OK if the text is UTF-8 and short enough, otherwise the status that other calls return for it. */
 uint32_t rustc_lexer_check(const uint8_t *text, size_t len);
 
-/* Writes the tokens from a place on, as many as there is room for, and their number into `count`. The place moves
- * behind them, and the next call goes on there. The tokens of all calls together are those that one call with room
- * enough gives. `count` is less than `buffer_len` only at the end of the text. With `buffer_len` 0 no step is made:
- * `count` is 0, and `at` stays. With another status than 0 the place and the buffer stay as they were, and `count` is
- * 0.
+/* Writes the tokens from a place on, as many as fit, and their number into `count`. The place moves past them, so the
+ * next call continues there. Buffers of any size give the same tokens. `count` is less than `buffer_len` only at the
+ * end of the text. With `buffer_len` 0, `count` is 0 and the place stays. If the status is not 0, place and buffer stay
+ * as they were, and `count` is 0.
  *
  * Each call tests the whole text. To lex a long text in many batches, call rustc_lexer_check once and then
  * rustc_lexer_tokens_unchecked. */
 uint32_t rustc_lexer_tokens(const uint8_t *text, size_t len, struct rustc_lexer_place *place,
                             struct rustc_lexer_token *buffer, size_t buffer_len, size_t *count);
 
-/* Does what rustc_lexer_tokens does. The caller promises that the text is UTF-8, and this is not tested: on another
- * text the call may do anything. rustc_lexer_check tests it. The length and the place are tested here too.
+/* Does what rustc_lexer_tokens does. The caller promises that the text is UTF-8, which is not tested: on another text
+ * the call may do anything. rustc_lexer_check tests it. The length and the place are tested here too.
  *
- * Each other call with `_unchecked` does what the one without does. It asks for the same promise, and does not test it.
- * It costs what it reads, whatever the length of the text. */
+ * Every call with `_unchecked` does what the call without it does, and relies on the same promise. Its time depends on
+ * what it reads, not on the length of the text. */
 uint32_t rustc_lexer_tokens_unchecked(const uint8_t *text, size_t len, struct rustc_lexer_place *place,
                                       struct rustc_lexer_token *buffer, size_t buffer_len, size_t *count);
 
-/* The first token of a text, for a caller who needs no other. All its bytes are 0 where the text is empty or has more
- * than 4294967295 bytes. `frontmatter_allowed` is as in a place. The caller promises that the text is UTF-8, which is
- * not tested. */
+/* Returns the first token of a text. All its bytes are 0 if the text is empty or has more than 4294967295 bytes.
+ * `frontmatter_allowed` is as in a place. The caller promises that the text is UTF-8, which is not tested. */
 struct rustc_lexer_token rustc_lexer_first_token_unchecked(const uint8_t *text, size_t len,
                                                            uint32_t frontmatter_allowed);
 
-/* Keeps a list of tokens with a text under edits. `text` is the text after an edit, and `old` the tokens of the text
- * before it, all of them. The tokens after it are
+/* Lexes a text again after an edit. `text` is the text after the edit, and `old` has all tokens of the text before it.
+ * The tokens of `text` are
  *
  *     the first `kept_front` of `old`, the `lexed` tokens that are written, the last `kept_back` of `old`.
  *
- * Set `stage` to 0 before the first call for an edit. While it is 1 the buffer was too small: take the tokens from it
- * and call again, with nothing else changed, as often as it takes. It is 2 when all are written. `count` is how many
- * this call wrote; it is `buffer_len` at stage 1. With `buffer_len` 0 no step is made, so such calls alone need not
- * come to stage 2.
+ * Set `stage` to 0 before the first call for an edit. If it is 1 after a call, the buffer was too small: take the
+ * tokens from it and call again, with nothing else changed, until it is 2. `count` is how many tokens this call wrote;
+ * at stage 1 it is `buffer_len`. With `buffer_len` 0 a call writes no token, so such calls alone may never reach stage
+ * 2.
  *
- * At stage 0 the search for the kept front begins at token `kept_front`, which begins at `front_place`. Any bound of
- * the old tokens will do, and a near one makes the call fast: 0 and 0, or what the call for the edit before has left
- * there.
+ * At stage 0 the search for the kept front begins at token `kept_front` of `old`, which begins at `front_place`. Pass 0
+ * and 0, or what the call for the edit before left there: the nearer to the edit, the faster.
  *
- * Of `old` only the lengths are read. Where they are not those of the tokens of the text before the edit, in the
- * edition, or the two numbers at stage 0 are not a bound of them, the answer is of no use, but the call is as safe as
- * with any others: it reads and writes where it may, and it ends. `kept_front` and `kept_back` together are then too
- * no more than `old_len`.
+ * Of `old` only the lengths are read. If they are not those of the tokens of the text before the edit, in the edition,
+ * or if at stage 0 the two numbers are not a boundary of its tokens, the result means nothing. Even so the call is
+ * safe: it reads and writes only what it may, it ends, and `kept_front` and `kept_back` together are at most `old_len`.
  *
  * The edition is a year: 2015, 2018, 2021 or 2024. No frontmatter is allowed, so the tokens of 2024 are those of
  * rustc_lexer_tokens from {0, 0}. To lex a whole text in an edition, pass no old tokens, the edit {0, 0, len} and
  * zeros.
  *
- * With another status than 0 the buffer and `relexing` stay as they were, and `count` is 0. RUSTC_LEXER_BAD_EDIT says
- * that `start` is past one of the others, that `start` or `new_stop` is past the end of the text or inside a
- * character, or that at a later stage relexing cannot go on from the numbers: `at` is past the end of the text or
+ * If the status is not 0, the buffer and `relexing` stay as they were, and `count` is 0. RUSTC_LEXER_BAD_EDIT means
+ * that `start` is greater than one of the others, that `start` or `new_stop` is past the end of the text or inside a
+ * character, or that at a later stage relexing cannot continue from the numbers: `at` is past the end of the text or
  * inside a character, `lexed` is more than `at`, `kept_front` and `kept_back` together are more than `old_len`, or
- * `back_place` is 2 to the power of 63 or more. What a call has left for this text is never refused. A stage past 2
- * counts as 1.
+ * `back_place` is 2 to the power of 63 or more. Numbers that a call left for this text are never refused. A stage
+ * greater than 2 counts as 1.
  *
  * Each call tests the whole text. */
 uint32_t rustc_lexer_relex(const uint8_t *text, size_t len, const struct rustc_lexer_token *old, size_t old_len,
@@ -376,29 +371,29 @@ uint32_t rustc_lexer_relex(const uint8_t *text, size_t len, const struct rustc_l
                            struct rustc_lexer_relexing *relexing, struct rustc_lexer_token *buffer, size_t buffer_len,
                            size_t *count);
 
-/* Does what rustc_lexer_relex does. The caller promises that the text is UTF-8, which is not tested. A text that was
- * UTF-8 is so after an edit between characters, where what is put in is. */
+/* Does what rustc_lexer_relex does. The caller promises that the text is UTF-8, which is not tested. If a text was
+ * UTF-8, it still is after an edit between characters that inserts UTF-8. */
 uint32_t rustc_lexer_relex_unchecked(const uint8_t *text, size_t len, const struct rustc_lexer_token *old,
                                      size_t old_len, const struct rustc_lexer_edit *edit, uint32_t edition,
                                      struct rustc_lexer_relexing *relexing, struct rustc_lexer_token *buffer,
                                      size_t buffer_len, size_t *count);
 
-/* What an edit of a whole document changes in its body. `text` is the document after the edit, with its shebang line,
- * and `head` before the call that of the document before it, as the last call has left it. Writes into `head` that of
- * `text`, into `body_edit` an edit of the body, in bytes from where the body begins, and into `head_kept` 1 where all
- * tokens of the head stay, else 0. The tokens of the document are
+/* Finds what an edit of a whole document changes in its body. `text` is the document after the edit, with its shebang
+ * line. Before the call, `head` is the head of the document before the edit, as the last call left it. The call writes
+ * the head of `text` into `head`, the edit of the body into `body_edit`, in bytes from where the body begins, and 1
+ * into `head_kept` if all tokens of the head stay, otherwise 0. The tokens of the document are
  *
- *     the `count` tokens of `head`, and those of the body, past `body` bytes of `text`.
+ *     the `count` tokens of `head`, and those of the body, which is `text` from byte `body` on.
  *
- * So keep the tokens of the body by rustc_lexer_relex: pass it the new body as the text, `body_edit`, and of the old
- * tokens all but those of the old head. `head_kept` is 1 where the edit is behind the head, and shebang line and tokens
- * of the head are as before. Else no token of the body stays in front of what is written, and `kept_front` is 0.
+ * Keep the tokens of the body by rustc_lexer_relex: pass it the new body as the text, `body_edit`, and all old tokens
+ * except those of the old head. `head_kept` is 1 if the edit is after the head, and the shebang line and the tokens of
+ * the head are as before. Otherwise no token of the body stays in front of what is written, and `kept_front` is 0.
  *
- * Where `head` is not that of the text before the edit, the answer is of no use, but the call is as safe as with any
- * other. To lex a whole document, pass zeros and the edit {0, 0, len}.
+ * If `head` is not that of the text before the edit, the result means nothing, but the call is safe. To lex a whole
+ * document, pass zeros and the edit {0, 0, len}.
  *
- * With another status than 0 nothing is written. RUSTC_LEXER_BAD_EDIT says what it says in rustc_lexer_relex, or that
- * `head` cannot be that of the text before the edit. With status 0, rustc_lexer_relex takes `body_edit` for the body.
+ * If the status is not 0, nothing is written. RUSTC_LEXER_BAD_EDIT means what it means in rustc_lexer_relex, or that
+ * `head` cannot be that of the text before the edit. With status 0, rustc_lexer_relex accepts `body_edit` for the body.
  *
  * Each call tests the whole text. */
 uint32_t rustc_lexer_body_edit(const uint8_t *text, size_t len, const struct rustc_lexer_edit *edit,
@@ -408,27 +403,27 @@ uint32_t rustc_lexer_body_edit_unchecked(const uint8_t *text, size_t len, const 
                                          struct rustc_lexer_head *head, struct rustc_lexer_edit *body_edit,
                                          uint32_t *head_kept);
 
-/* Writes the length in bytes of the shebang line at the front of the text, without the end of the line, or 0 where
- * there is none. A shebang line has at least 2 bytes. */
+/* Writes the length in bytes of the shebang line at the start of the text, without the end of the line, or 0 if there
+ * is none. A shebang line has at least 2 bytes. */
 uint32_t rustc_lexer_strip_shebang(const uint8_t *text, size_t len, size_t *line_len);
 uint32_t rustc_lexer_strip_shebang_unchecked(const uint8_t *text, size_t len, size_t *line_len);
 
-/* Writes the end of the last token that at least two characters follow, in bytes from the start of the text, or 0, with
- * no frontmatter allowed. However the text goes on, its tokens up to there stay. */
+/* Writes the end of the last token that at least two characters follow, in bytes from the start of the text, or 0 if
+ * there is none. However the text continues, its tokens up to there stay. No frontmatter is allowed. */
 uint32_t rustc_lexer_settled(const uint8_t *text, size_t len, size_t *end);
 
-/* Checks the raw string that the text begins with, and writes why it is refused. `prefix_len` is the number of
+/* Checks the raw string that the text begins with, and writes what is wrong with it. `prefix_len` is the number of
  * characters of its prefix, with the r: 1 for r, 2 for br and cr. */
 uint32_t rustc_lexer_validate_raw_str(const uint8_t *text, size_t len, uint32_t prefix_len,
                                       struct rustc_lexer_raw_str_error *error);
 uint32_t rustc_lexer_validate_raw_str_unchecked(const uint8_t *text, size_t len, uint32_t prefix_len,
                                                 struct rustc_lexer_raw_str_error *error);
 
-/* Whether character number `prefix_len` of the text, counted from 1, is an r. The text may have any length. The caller
- * promises that it is UTF-8, which is not tested.
+/* Returns whether character number `prefix_len` of the text, counted from 1, is an r. The text may have any length. The
+ * caller promises that it is UTF-8, which is not tested.
  *
- * For a text of at most 4294967295 bytes this is false exactly where rustc_lexer_validate_raw_str has the status
- * RUSTC_LEXER_NOT_RAW. For a longer one that has the status RUSTC_LEXER_TOO_LONG, whatever this call answers. */
+ * For a text of at most 4294967295 bytes this is false exactly if rustc_lexer_validate_raw_str returns
+ * RUSTC_LEXER_NOT_RAW. For a longer text that returns RUSTC_LEXER_TOO_LONG, whatever this call returns. */
 bool rustc_lexer_starts_raw_unchecked(const uint8_t *text, size_t len, uint32_t prefix_len);
 
 /* Writes the guarded string that the text begins with: hashes, a string, as many hashes at most, a suffix. */
@@ -436,61 +431,60 @@ uint32_t rustc_lexer_guarded_str(const uint8_t *text, size_t len, struct rustc_l
 uint32_t rustc_lexer_guarded_str_unchecked(const uint8_t *text, size_t len,
                                            struct rustc_lexer_guarded_str *string);
 
-/* Writes what a literal stands for: the units of the text that stands between its quotes, in order, as many as there
- * is room for, and their number into `count`. The first `passed` units are passed over. `mode` is the kind of the
- * literal, from RUSTC_LEXER_CHAR to RUSTC_LEXER_RAW_C_STR, as its token has it in `literal_kind`.
+/* Writes what a literal stands for: the units of the text between its quotes, in order, as many as fit, and their
+ * number into `count`. The first `passed` units are skipped. `mode` is the kind of the literal, from RUSTC_LEXER_CHAR
+ * to RUSTC_LEXER_RAW_C_STR, like `literal_kind` of its token.
  *
- * Between double quotes the places follow each other. A backslash at a line's end has no unit, with the white space
- * that it skips. But each of the two warnings may tell of it, at a place that begins at the backslash. Between single
- * quotes there is one unit, and its place is all of the text.
+ * Between double quotes the ranges follow one another. A backslash at the end of a line, with the white space that it
+ * skips, has no unit, except that a warning may begin there. Between single quotes there is one unit, whose range is
+ * the whole text.
  *
- * A text has no more units than bytes, or one where it is empty. Each call reads the text from its front, so room for
- * as many units as bytes makes one call do. With another status than 0 the buffer stays as it was, and `count` is 0. */
+ * A text has at most as many units as bytes, or one if it is empty. Each call reads the text from its start, so use a
+ * buffer of that size to need only one call. If the status is not 0, the buffer stays as it was, and `count` is 0. */
 uint32_t rustc_lexer_unescape(const uint8_t *text, size_t len, uint32_t mode, size_t passed,
                               struct rustc_lexer_unit *buffer, size_t buffer_len, size_t *count);
 uint32_t rustc_lexer_unescape_unchecked(const uint8_t *text, size_t len, uint32_t mode, size_t passed,
                                         struct rustc_lexer_unit *buffer, size_t buffer_len, size_t *count);
 
-/* Writes what is wrong in a literal, errors and warnings in order, and nothing else: as many as there is room for, past
- * the first `passed`, and their number into `count`. It takes what rustc_lexer_unescape takes, and searches past what
- * is not wrong, so it is much faster. Between single quotes one thing is wrong at most, and its place reaches from 0
- * past the character that shows it. With another status than 0 the buffer stays as it was, and `count` is 0. */
+/* Writes only the errors and warnings of a literal, in order: as many as fit, after the first `passed`, and their
+ * number into `count`. Its arguments are those of rustc_lexer_unescape, and it is much faster. Between single quotes
+ * there is at most one, whose range begins at 0 and ends after the character that shows it. If the status is not 0, the
+ * buffer stays as it was, and `count` is 0. */
 uint32_t rustc_lexer_literal_errors(const uint8_t *text, size_t len, uint32_t mode, size_t passed,
                                     struct rustc_lexer_unit *buffer, size_t buffer_len, size_t *count);
 uint32_t rustc_lexer_literal_errors_unchecked(const uint8_t *text, size_t len, uint32_t mode, size_t passed,
                                               struct rustc_lexer_unit *buffer, size_t buffer_len, size_t *count);
 
-/* Writes the first `count` tokens of the text, or all where it has fewer, each between its marks, into the buffer, and
- * the number of bytes into `written`. The marks tell the class of a token and a sentence of what is wrong with it; in a
- * literal they tell its escapes. The text is read as a part of a document in an edition, such as 2024, with no
- * frontmatter and no shebang line. What is written is UTF-8, with no zero behind it. Behind it the buffer stays as it
- * was.
+/* Writes the first `count` tokens of the text, or all if it has fewer, each between its marks, into the buffer, and the
+ * number of bytes into `written`. The marks show the class of a token, a message if it is malformed, and in a literal
+ * its escapes. The text is read as a part of a file, in an edition like 2024, with no frontmatter and no shebang line.
+ * The output is UTF-8, with no zero after it; the rest of the buffer stays as it was.
  *
- * A token depends on nothing before it and on two characters past its end at most. So the caller may pass what is seen
- * of a text from the start of a token on, with two characters more.
+ * A token depends on nothing before it, and on at most two characters after it. So you may pass only the visible part
+ * of a text, from the start of a token on, with two characters more.
  *
- * With RUSTC_LEXER_SMALL_BUFFER any bytes may stand in the buffer, and the call is to be made again with more. With any
- * other status than 0 the buffer stays as it was. With each of these `written` is 0. */
+ * With RUSTC_LEXER_SMALL_BUFFER the buffer may have any bytes: call again with a larger one. With any other status
+ * except 0 the buffer stays as it was. With all of these `written` is 0. */
 uint32_t rustc_lexer_marks(const uint8_t *text, size_t len, uint32_t style, uint32_t edition, size_t count,
                            uint8_t *buffer, size_t buffer_len, size_t *written);
 
-/* Writes 1 where the text is an identifier, else 0. */
+/* Writes 1 if the text is an identifier, otherwise 0. */
 uint32_t rustc_lexer_is_ident(const uint8_t *text, size_t len, uint32_t *is);
 
-/* Whether the text is an identifier. It may have any length. The caller promises that it is UTF-8, which is not
+/* Returns whether the text is an identifier. It may have any length. The caller promises that it is UTF-8, which is not
  * tested. */
 bool rustc_lexer_is_ident_unchecked(const uint8_t *text, size_t len);
 
-/* Classes of characters. False of a number that is no character. */
+/* Classes of characters. The result is false if the number is not a character. */
 bool rustc_lexer_is_whitespace(uint32_t code);
 bool rustc_lexer_is_horizontal_whitespace(uint32_t code);
 bool rustc_lexer_is_id_start(uint32_t code);
 bool rustc_lexer_is_id_continue(uint32_t code);
 
-/* The number of this interface, and the first version that has it. It rises with each change that a program which was
- * built with the header before would not survive. The call answers it, and its name has the number too. Each object
- * file that GCC 11, Clang 13 or a later one builds with this header asks for that name, so the program does not link
- * with a library of another number. CMake takes this version for one that is asked for from the first one on. */
+/* The number of this interface, and the first version that has it. It goes up with every ABI break. The call returns
+ * it, and has it in its name. Each object file that GCC 11, Clang 13 or later builds with this header refers to that
+ * name, so a program does not link with a library of another number. CMake accepts this version in place of an older
+ * one, from the first version on. */
 #define RUSTC_LEXER_ABI 1 /* since version 0.1.0 */
 uint32_t rustc_lexer_abi_1(void);
 #ifdef __has_attribute
