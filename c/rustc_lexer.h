@@ -483,8 +483,8 @@ bool rustc_lexer_is_id_continue(uint32_t code);
 
 /* The number of this interface, and the first version that has it. It goes up with every ABI break. The call returns
  * it, and has it in its name. Each object file that GCC 11, Clang 13 or later builds with this header refers to that
- * name, so a program does not link with a library of another number. CMake accepts this version in place of an older
- * one, from the first version on. */
+ * name, so a program does not link with a library of another number. CMake accepts this version for a program that asks
+ * for any version since that first one. */
 #define RUSTC_LEXER_ABI 1 /* since version 0.1.0 */
 uint32_t rustc_lexer_abi_1(void);
 #ifdef __has_attribute
