@@ -1,5 +1,5 @@
-//! A Rust source with its tokens marked: by the tags of a page, by the colours of a terminal, or by sentences alone
-//! that say what is wrong with a token.
+//! A Rust source with its tokens marked: by HTML tags, by the colours of a terminal, or only by messages about
+//! malformed tokens.
 //!
 //! ```
 //! use marks::{Edition, Style, write_marked};
@@ -13,20 +13,21 @@
 //! );
 //! ```
 //!
-//! Nothing here takes memory, and the crate runs where there is no system below it.
+//! Nothing here allocates, and the crate needs no `std`.
 //!
-//! The modules below `erased` are made from a proved source in Rattle, which is Rust with contracts, by deleting the
-//! contracts. The rest is written by hand. The repository's `docs/ERASED.md` says what is claimed and what is trusted.
+//! The modules below `erased` are generated from a proved source in Rattle, which is Rust with contracts, by deleting
+//! the contracts. The rest is written by hand. The repository's `docs/ERASED.md` says what is claimed and what is
+//! trusted.
 
 #![no_std]
 #![deny(missing_docs)]
 #![forbid(unsafe_code)]
 
-/// The proved source without its contracts, as it is made of `crates/marks`.
+/// The proved source without its contracts, generated from `crates/marks`.
 ///
-/// This is for packages that are made in the same way, such as `highlight` and the library for C: their calls are proved to
-/// meet what the contracts ask for, which the calls here do not test. They stay as they are only as long as the source
-/// does. All other callers take the calls of the crate's root.
+/// This is for packages that are generated in the same way, like `highlight` and the library for C: their calls are
+/// proved to meet the contracts, which the calls here do not test. They may change with the source. All other callers
+/// use the calls at the crate's root.
 // Contracts alone use some of its imports and variables.
 #[allow(missing_docs, unused_imports, unused_variables, dead_code)]
 #[allow(clippy::manual_unwrap_or, clippy::manual_unwrap_or_default)]
@@ -38,7 +39,7 @@ pub use rustc_lexer::Edition;
 
 use core::fmt;
 
-/// The text, which has to fit.
+/// Returns the text. Panics if it is too long.
 fn fitting(text: &str) -> &str {
     assert!(
         rustc_lexer::fits(text),
@@ -47,8 +48,8 @@ fn fitting(text: &str) -> &str {
     text
 }
 
-/// Writes a whole text: its shebang line, where it has one, between the marks of a comment, and the tokens of what
-/// follows between theirs, as the edition reads them. A frontmatter may stand in front.
+/// Writes a whole file in an edition: its shebang line, if it has one, between the marks of a comment, then each token
+/// between its marks. The file may begin with a frontmatter.
 ///
 /// ```
 /// use marks::{Edition, Style, write_marked};
@@ -61,11 +62,11 @@ fn fitting(text: &str) -> &str {
 /// );
 /// ```
 ///
-/// An error is one of the output's. Then the output has a beginning.
+/// An error comes from the output, which then has a beginning of what was to be written.
 ///
 /// # Panics
 ///
-/// Where the text has more than `u32::MAX` bytes.
+/// Panics if the text has more than `u32::MAX` bytes.
 pub fn write_marked<W: fmt::Write>(
     style: Style,
     edition: Edition,
@@ -75,11 +76,11 @@ pub fn write_marked<W: fmt::Write>(
     erased::write_marked(style, edition, fitting(text), output)
 }
 
-/// Writes the first `count` tokens of a text in an edition, each between its marks, or all where it has fewer. No
-/// frontmatter stands in front, and a shebang line is read as tokens: the text is a part of a document.
+/// Writes the first `count` tokens of a text in an edition, or all if it has fewer, each between its marks. The text is
+/// read as a part of a file: a frontmatter or a shebang line is read as other tokens.
 ///
-/// So what is seen of a long text is written without the rest. A token depends on nothing before it, and on two
-/// characters past its end at most.
+/// So the visible part of a long text can be written without the rest. A token depends on nothing before it, and on at
+/// most two characters after it.
 ///
 /// ```
 /// use marks::{Edition, Style, write_first_tokens};
@@ -91,11 +92,11 @@ pub fn write_marked<W: fmt::Write>(
 /// assert_eq!(seen, "a &lt; b");
 /// ```
 ///
-/// An error is one of the output's. Then the output has a beginning.
+/// An error comes from the output, which then has a beginning of what was to be written.
 ///
 /// # Panics
 ///
-/// Where the text has more than `u32::MAX` bytes.
+/// Panics if the text has more than `u32::MAX` bytes.
 pub fn write_first_tokens<W: fmt::Write>(
     style: Style,
     edition: Edition,

@@ -2,8 +2,8 @@
 
 use crate::erased;
 
-/// Returns whether the character is white space in Rust: one of the eleven of `Pattern_White_Space`. No version of Unicode
-/// adds one.
+/// Returns whether the character is white space in Rust: one of the eleven of `Pattern_White_Space`. No version of
+/// Unicode adds one.
 ///
 /// Rust Reference, [Whitespace](https://doc.rust-lang.org/reference/whitespace.html).
 ///
@@ -19,7 +19,7 @@ pub fn is_whitespace(c: char) -> bool {
     erased::is_whitespace(c)
 }
 
-/// Returns whether the character is white space that ends no line: a tab or a space.
+/// Returns whether the character is horizontal white space: a tab or a space.
 ///
 /// Rust Reference, [Whitespace](https://doc.rust-lang.org/reference/whitespace.html).
 ///
@@ -34,8 +34,8 @@ pub fn is_horizontal_whitespace(c: char) -> bool {
     erased::is_horizontal_whitespace(c)
 }
 
-/// Returns whether an identifier may begin with the character: `_`, or `XID_Start` as this build's `unicode-ident` has it,
-/// which is of [`UNICODE_VERSION`](crate::UNICODE_VERSION).
+/// Returns whether an identifier may begin with the character: `_`, or `XID_Start` as this build's `unicode-ident` has
+/// it, which is of [`UNICODE_VERSION`](crate::UNICODE_VERSION).
 ///
 /// Rust Reference, [Identifiers](https://doc.rust-lang.org/reference/identifiers.html).
 ///
@@ -50,8 +50,8 @@ pub fn is_id_start(c: char) -> bool {
     erased::is_id_start(c)
 }
 
-/// Returns whether an identifier may go on with the character: `XID_Continue` as this build's `unicode-ident` has it, which
-/// is of [`UNICODE_VERSION`](crate::UNICODE_VERSION).
+/// Returns whether an identifier may continue with the character: `XID_Continue` as this build's `unicode-ident` has
+/// it, which is of [`UNICODE_VERSION`](crate::UNICODE_VERSION).
 ///
 /// Rust Reference, [Identifiers](https://doc.rust-lang.org/reference/identifiers.html).
 ///
@@ -66,8 +66,8 @@ pub fn is_id_continue(c: char) -> bool {
     erased::is_id_continue(c)
 }
 
-/// Returns whether the text is an identifier, where keywords count as such: a character that may begin one, and then
-/// characters with which one may go on.
+/// Returns whether the text is an identifier or a keyword: a character that may begin one, and then characters with
+/// which one may continue.
 ///
 /// Rust Reference, [Identifiers](https://doc.rust-lang.org/reference/identifiers.html).
 ///
@@ -83,7 +83,7 @@ pub fn is_ident(string: &str) -> bool {
 }
 
 /// Returns whether the text has at most `u32::MAX` bytes, so that each length in it is a `u32`. Calls that take a text
-/// panic where it has more.
+/// panic if it has more.
 ///
 /// ```
 /// assert!(rustc_lexer::fits("fn main() {}"));

@@ -3,7 +3,7 @@
 use crate::{FrontmatterAllowed, GuardedStr, Token, erased, fitting};
 use core::fmt;
 
-/// A place in a text, from which the next token is taken.
+/// A place in a text, at which the next token begins.
 ///
 /// ```
 /// use rustc_lexer::{Cursor, FrontmatterAllowed, TokenKind};
@@ -16,7 +16,7 @@ use core::fmt;
 pub struct Cursor<'a>(erased::Cursor<'a>);
 
 impl<'a> Cursor<'a> {
-    /// Returns a cursor at the front of the text.
+    /// Returns a cursor at the start of the text.
     ///
     /// ```
     /// use rustc_lexer::{Cursor, FrontmatterAllowed};
@@ -26,7 +26,7 @@ impl<'a> Cursor<'a> {
     ///
     /// # Panics
     ///
-    /// Where the text has more than `u32::MAX` bytes.
+    /// Panics if the text has more than `u32::MAX` bytes.
     #[inline]
     #[must_use]
     pub fn new(input: &'a str, frontmatter_allowed: FrontmatterAllowed) -> Cursor<'a> {
@@ -48,7 +48,7 @@ impl<'a> Cursor<'a> {
         self.0.as_str()
     }
 
-    /// Returns the next character, which is not taken, or U+0000 at the end of the text.
+    /// Returns the next character without taking it, or U+0000 at the end of the text.
     ///
     /// ```
     /// use rustc_lexer::{Cursor, FrontmatterAllowed};
@@ -61,7 +61,7 @@ impl<'a> Cursor<'a> {
         self.0.first()
     }
 
-    /// Returns the character after the next two, which are not taken, or U+0000 where there is none.
+    /// Returns the character after the next two without taking any, or U+0000 if there is none.
     ///
     /// ```
     /// use rustc_lexer::{Cursor, FrontmatterAllowed};
@@ -74,8 +74,8 @@ impl<'a> Cursor<'a> {
         self.0.third()
     }
 
-    /// Takes the next token and returns it; at the end of the text `Eof`, of length 0, which changes nothing. Bytes that
-    /// are pending count as part of the token.
+    /// Takes the next token and returns it. At the end of the text that is `Eof`, of length 0, and nothing changes.
+    /// Pending bytes are part of the token.
     ///
     /// ```
     /// use rustc_lexer::{Cursor, FrontmatterAllowed, TokenKind};
@@ -89,8 +89,8 @@ impl<'a> Cursor<'a> {
         self.0.advance_token()
     }
 
-    /// Takes a guarded string and returns it. Where there is none, the hashes at the front are taken, and are part of the next
-    /// token.
+    /// Takes a guarded string, like `#"a"#`, and returns it. If there is none, it takes the hashes at the front, which
+    /// are then part of the next token.
     ///
     /// ```
     /// use rustc_lexer::{Cursor, FrontmatterAllowed};

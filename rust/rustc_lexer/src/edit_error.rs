@@ -4,7 +4,7 @@ use crate::AllocError;
 use core::error::Error;
 use core::fmt;
 
-/// Why an edit was refused, or a text, which is put into the empty one. Text and tokens are then as they were.
+/// Why an edit was refused, or why a text could not be kept. Text and tokens are then as they were.
 ///
 /// ```
 /// use rustc_lexer::{EditError, LexedText};
@@ -15,11 +15,11 @@ use core::fmt;
 /// ```
 #[derive(Clone, Copy, Debug, PartialEq, Eq, Hash)]
 pub enum EditError {
-    /// The range is not inside the text, or one of its ends is not between characters.
+    /// The range is out of bounds, or not on char boundaries.
     Range,
     /// The text has, or would have, more than `u32::MAX` bytes.
     TooLong,
-    /// Memory was refused.
+    /// An allocation failed.
     Memory,
 }
 

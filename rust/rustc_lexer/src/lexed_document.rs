@@ -8,11 +8,11 @@ use crate::{Bound, Edition, Pieces, Relexed, Stepper, Steps, Token};
 use core::fmt;
 use core::ops::Range;
 
-/// A whole document and its tokens, which are always those of [`tokenize_document`](crate::tokenize_document): past a
-/// shebang line, and with a frontmatter where one stands.
+/// A whole file and its tokens, which are always those of [`tokenize_document`](crate::tokenize_document): they begin
+/// after a shebang line, and a frontmatter is one token.
 ///
-/// It is to a file what a [`LexedText`](crate::LexedText) is to a part of one, and its calls are the same. Behind the
-/// head, which is the shebang line and the frontmatter, an edit keeps what it keeps there.
+/// It has the calls of a [`LexedText`](crate::LexedText), which is for a part of a file. An edit after the head, which
+/// is the shebang line and the frontmatter, keeps as many tokens as it does there.
 ///
 /// ```
 /// use rustc_lexer::{LexedDocument, TokenKind};
@@ -27,8 +27,8 @@ use core::ops::Range;
 /// assert_eq!(lexed.pieces().nth(3).map(|piece| (piece.start, piece.text)), Some((28, "fn")));
 /// ```
 ///
-/// Each call that panics where a text does not fit, a range is bad or memory is refused has a twin that returns an error
-/// there, such as [`try_edit`](LexedDocument::try_edit).
+/// Each call that panics if a text is too long, a range is bad or an allocation fails has a twin that returns an error
+/// instead, like [`try_edit`](LexedDocument::try_edit).
 #[derive(Clone)]
 pub struct LexedDocument<S: Stepper = Steps>(erased::LexedDocument<S>);
 
@@ -43,7 +43,7 @@ impl LexedDocument {
     ///
     /// # Panics
     ///
-    /// Where the text has more than `u32::MAX` bytes, or memory is refused.
+    /// Panics if the text has more than `u32::MAX` bytes, or if an allocation fails.
     #[must_use]
     pub fn new(text: impl AsRef<str>) -> LexedDocument {
         LexedDocument::new_in(text, Edition::E2024)
@@ -59,7 +59,7 @@ impl LexedDocument {
     ///
     /// # Panics
     ///
-    /// Where the text has more than `u32::MAX` bytes, or memory is refused.
+    /// Panics if the text has more than `u32::MAX` bytes, or if an allocation fails.
     #[must_use]
     pub fn new_in(text: impl AsRef<str>, edition: Edition) -> LexedDocument {
         LexedDocument::try_new_in(text, edition).unwrap_or_else(|error| panic!("{error}"))
@@ -81,7 +81,7 @@ impl LexedDocument {
         )?))
     }
 
-    /// Returns the edition that the tokens are of. Edits keep it.
+    /// Returns the edition of the tokens. Edits keep it.
     ///
     /// ```
     /// use rustc_lexer::{Edition, LexedDocument};
@@ -93,7 +93,7 @@ impl LexedDocument {
         self.0.edition()
     }
 
-    /// Returns where the body begins, which is what follows the head: how many tokens stand before it, and the byte.
+    /// Returns where the body begins, which is all text after the head: how many tokens come before it, and its offset.
     ///
     /// ```
     /// use rustc_lexer::LexedDocument;
@@ -118,13 +118,13 @@ impl LexedDocument {
     ///
     /// # Panics
     ///
-    /// Where memory is refused. Nothing changes then.
+    /// Panics if an allocation fails. Nothing changes then.
     pub fn set_edition(&mut self, edition: Edition) {
         self.try_set_edition(edition)
             .unwrap_or_else(|error| panic!("{error}"));
     }
 
-    /// Lexes the document again, in another edition. Where memory is refused nothing changes.
+    /// Lexes the document again, in another edition. If an allocation fails, nothing changes.
     ///
     /// ```
     /// use rustc_lexer::{Edition, LexedDocument};
@@ -140,7 +140,7 @@ impl LexedDocument {
 }
 
 impl<S: Stepper> LexedDocument<S> {
-    /// Returns the document with its tokens, those of its body by a stepper of the caller's, or why it could not be made:
+    /// Returns the document with its tokens, those of its body by a stepper of your own, or why it could not be made:
     /// `TooLong` or `Memory`.
     ///
     /// ```
@@ -182,7 +182,7 @@ impl<S: Stepper> LexedDocument<S> {
         self.0.text()
     }
 
-    /// Returns the length of the shebang line, or 0. There the first token begins.
+    /// Returns the length of the shebang line, or 0. The first token begins there.
     ///
     /// ```
     /// use rustc_lexer::LexedDocument;
@@ -195,7 +195,7 @@ impl<S: Stepper> LexedDocument<S> {
         self.0.shebang_len()
     }
 
-    /// Returns its tokens past the shebang line, in order.
+    /// Returns its tokens, which begin after the shebang line, in order.
     ///
     /// ```
     /// use rustc_lexer::{LexedDocument, TokenKind};
@@ -208,7 +208,7 @@ impl<S: Stepper> LexedDocument<S> {
         self.0.tokens()
     }
 
-    /// Returns the tokens with their places and their parts of the text, in order. The first place is
+    /// Returns the tokens with their offsets and their texts, in order. The first offset is
     /// [`shebang_len`](LexedDocument::shebang_len).
     ///
     /// ```
@@ -221,9 +221,9 @@ impl<S: Stepper> LexedDocument<S> {
         self.0.pieces()
     }
 
-    /// Returns the pieces of some tokens, by their numbers: after an edit those of `relexed.range()` are to be painted anew. A
-    /// shebang line is no piece: where it changes, `relexed.kept_front` is 0, and what stands before the first piece is
-    /// to be painted too.
+    /// Returns the pieces of some tokens, by their numbers. After an edit, repaint those of `relexed.range()`. A
+    /// shebang line is not a piece: if it changes, `relexed.kept_front` is 0. Then repaint the text before the first
+    /// piece too.
     ///
     /// ```
     /// use rustc_lexer::LexedDocument;
@@ -236,13 +236,13 @@ impl<S: Stepper> LexedDocument<S> {
     ///
     /// # Panics
     ///
-    /// Where there are no such tokens.
+    /// Panics if there are no such tokens.
     pub fn pieces_of(&self, numbers: Range<usize>) -> Pieces<'_> {
         let numbers = there(numbers, self.tokens());
         self.0.pieces_of(numbers.start, numbers.end)
     }
 
-    /// Returns whether the range is inside the text, between characters, and the edit makes a text of at most `u32::MAX` bytes.
+    /// Returns whether the range is in bounds and on char boundaries, and the new text has at most `u32::MAX` bytes.
     ///
     /// ```
     /// use rustc_lexer::LexedDocument;
@@ -255,7 +255,7 @@ impl<S: Stepper> LexedDocument<S> {
         self.0.accepts(range.start, range.end, insert)
     }
 
-    /// Puts `insert` in place of the range of bytes.
+    /// Replaces the bytes of the range by `insert`.
     ///
     /// ```
     /// use rustc_lexer::LexedDocument;
@@ -269,13 +269,13 @@ impl<S: Stepper> LexedDocument<S> {
     ///
     /// # Panics
     ///
-    /// Where [`try_edit`](LexedDocument::try_edit) returns an error. Text and tokens are then as they were.
+    /// Panics if [`try_edit`](LexedDocument::try_edit) returns an error. Text and tokens are then as they were.
     pub fn edit(&mut self, range: Range<usize>, insert: &str) -> Relexed {
         self.try_edit(range.clone(), insert)
             .unwrap_or_else(|error| panic!("the edit of {range:?}: {error}"))
     }
 
-    /// Puts `insert` in place of the range of bytes, or returns why not. Text and tokens are then as they were.
+    /// Replaces the bytes of the range by `insert`, or returns why not. Text and tokens are then as they were.
     ///
     /// ```
     /// use rustc_lexer::{EditError, LexedDocument};
@@ -290,7 +290,7 @@ impl<S: Stepper> LexedDocument<S> {
         Ok(self.0.edit(range.start, range.end, insert)?)
     }
 
-    /// Makes the edits in order, as far as the first that is refused, and returns which that is, and why.
+    /// Makes the edits in order, up to the first that is refused, and returns which that is, and why.
     ///
     /// ```
     /// use rustc_lexer::{Edit, EditStop, LexedDocument};
@@ -304,8 +304,8 @@ impl<S: Stepper> LexedDocument<S> {
         self.0.edit_all(edits)
     }
 
-    /// Gives back the memory that edits have left unused: what is kept is copied to where it just fits. Text, tokens and
-    /// stepper stay. Where memory is refused, so does the unused memory.
+    /// Gives back the memory that edits have left unused, by copying what is kept. If an allocation fails, the unused
+    /// memory stays. Text, tokens and stepper do not change.
     ///
     /// ```
     /// use rustc_lexer::LexedDocument;

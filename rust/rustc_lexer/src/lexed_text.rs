@@ -8,10 +8,10 @@ use core::fmt;
 use core::iter::FusedIterator;
 use core::ops::Range;
 
-/// A text and its tokens, which are always those of lexing the text from its beginning, as a part of a document. A whole
-/// one, with a shebang line and a frontmatter, is a [`LexedDocument`](crate::LexedDocument).
+/// A text and its tokens, which are always those of lexing the text from scratch, as a part of a file. For a whole
+/// file, with a shebang line and a frontmatter, use [`LexedDocument`](crate::LexedDocument).
 ///
-/// An edit lexes again the tokens about it, and keeps every other as it is.
+/// An edit lexes again only the tokens near it, and keeps all others.
 ///
 /// ```
 /// use rustc_lexer::LexedText;
@@ -22,12 +22,12 @@ use core::ops::Range;
 /// assert_eq!((relexed.kept_front, relexed.lexed, relexed.kept_back), (6, 7, 3));
 /// ```
 ///
-/// Each call that panics where a text does not fit, a range is bad or memory is refused has a twin that returns an error
-/// there, such as [`try_edit`](LexedText::try_edit).
+/// Each call that panics if a text is too long, a range is bad or an allocation fails has a twin that returns an error
+/// instead, like [`try_edit`](LexedText::try_edit).
 #[derive(Clone)]
 pub struct LexedText<S: Stepper = Steps>(erased::LexedText<S>);
 
-/// The numbers of tokens, which have to be there.
+/// Returns the numbers of tokens. Panics if there are no such tokens.
 pub(crate) fn there(numbers: Range<usize>, tokens: &[Token]) -> Range<usize> {
     assert!(
         numbers.start <= numbers.end && numbers.end <= tokens.len(),
@@ -47,7 +47,7 @@ impl LexedText {
     ///
     /// # Panics
     ///
-    /// Where the text has more than `u32::MAX` bytes, or memory is refused.
+    /// Panics if the text has more than `u32::MAX` bytes, or if an allocation fails.
     #[must_use]
     pub fn new(text: impl AsRef<str>) -> LexedText {
         LexedText::new_in(text, Edition::E2024)
@@ -63,7 +63,7 @@ impl LexedText {
     ///
     /// # Panics
     ///
-    /// Where the text has more than `u32::MAX` bytes, or memory is refused.
+    /// Panics if the text has more than `u32::MAX` bytes, or if an allocation fails.
     #[must_use]
     pub fn new_in(text: impl AsRef<str>, edition: Edition) -> LexedText {
         LexedText::try_new_in(text, edition).unwrap_or_else(|error| panic!("{error}"))
@@ -83,7 +83,7 @@ impl LexedText {
         Ok(LexedText(erased::LexedText::new_in(Global, text, edition)?))
     }
 
-    /// Returns the edition that the tokens are of. Edits keep it.
+    /// Returns the edition of the tokens. Edits keep it.
     ///
     /// ```
     /// use rustc_lexer::{Edition, LexedText};
@@ -107,13 +107,13 @@ impl LexedText {
     ///
     /// # Panics
     ///
-    /// Where memory is refused. Nothing changes then.
+    /// Panics if an allocation fails. Nothing changes then.
     pub fn set_edition(&mut self, edition: Edition) {
         self.try_set_edition(edition)
             .unwrap_or_else(|error| panic!("{error}"));
     }
 
-    /// Lexes the text again, in another edition. Where memory is refused nothing changes.
+    /// Lexes the text again, in another edition. If an allocation fails, nothing changes.
     ///
     /// ```
     /// use rustc_lexer::{Edition, LexedText};
@@ -129,7 +129,7 @@ impl LexedText {
 }
 
 impl<S: Stepper> LexedText<S> {
-    /// Returns the text with its tokens by a stepper of the caller's, or why it could not be made: `TooLong` or `Memory`.
+    /// Returns the text with its tokens by a stepper of your own, or why it could not be made: `TooLong` or `Memory`.
     ///
     /// ```
     /// use rustc_lexer::{LexedText, Steps};
@@ -181,7 +181,7 @@ impl<S: Stepper> LexedText<S> {
         self.0.tokens()
     }
 
-    /// Returns the tokens with their places and their parts of the text, in order.
+    /// Returns the tokens with their offsets and their texts, in order.
     ///
     /// ```
     /// use rustc_lexer::LexedText;
@@ -193,7 +193,7 @@ impl<S: Stepper> LexedText<S> {
         self.0.pieces()
     }
 
-    /// Returns the pieces of some tokens, by their numbers: after an edit those of `relexed.range()` are to be painted anew.
+    /// Returns the pieces of some tokens, by their numbers. After an edit, repaint those of `relexed.range()`.
     ///
     /// ```
     /// use rustc_lexer::LexedText;
@@ -206,13 +206,13 @@ impl<S: Stepper> LexedText<S> {
     ///
     /// # Panics
     ///
-    /// Where there are no such tokens.
+    /// Panics if there are no such tokens.
     pub fn pieces_of(&self, numbers: Range<usize>) -> Pieces<'_> {
         let numbers = there(numbers, self.tokens());
         self.0.pieces_of(numbers.start, numbers.end)
     }
 
-    /// Returns whether the range is inside the text, between characters, and the edit makes a text of at most `u32::MAX` bytes.
+    /// Returns whether the range is in bounds and on char boundaries, and the new text has at most `u32::MAX` bytes.
     ///
     /// ```
     /// use rustc_lexer::LexedText;
@@ -225,7 +225,7 @@ impl<S: Stepper> LexedText<S> {
         self.0.accepts(range.start, range.end, insert)
     }
 
-    /// Puts `insert` in place of the range of bytes.
+    /// Replaces the bytes of the range by `insert`.
     ///
     /// ```
     /// use rustc_lexer::LexedText;
@@ -237,13 +237,13 @@ impl<S: Stepper> LexedText<S> {
     ///
     /// # Panics
     ///
-    /// Where [`try_edit`](LexedText::try_edit) returns an error. Text and tokens are then as they were.
+    /// Panics if [`try_edit`](LexedText::try_edit) returns an error. Text and tokens are then as they were.
     pub fn edit(&mut self, range: Range<usize>, insert: &str) -> Relexed {
         self.try_edit(range.clone(), insert)
             .unwrap_or_else(|error| panic!("the edit of {range:?}: {error}"))
     }
 
-    /// Puts `insert` in place of the range of bytes, or returns why not. Text and tokens are then as they were.
+    /// Replaces the bytes of the range by `insert`, or returns why not. Text and tokens are then as they were.
     ///
     /// ```
     /// use rustc_lexer::{EditError, LexedText};
@@ -258,7 +258,7 @@ impl<S: Stepper> LexedText<S> {
         Ok(self.0.edit(range.start, range.end, insert)?)
     }
 
-    /// Makes the edits in order, as far as the first that is refused, and returns which that is, and why.
+    /// Makes the edits in order, up to the first that is refused, and returns which that is, and why.
     ///
     /// ```
     /// use rustc_lexer::{Edit, EditStop, LexedText};
@@ -272,8 +272,8 @@ impl<S: Stepper> LexedText<S> {
         self.0.edit_all(edits)
     }
 
-    /// Gives back the memory that edits have left unused: what is kept is copied to where it just fits. Text, tokens and
-    /// stepper stay. Where memory is refused, so does the unused memory.
+    /// Gives back the memory that edits have left unused, by copying what is kept. If an allocation fails, the unused
+    /// memory stays. Text, tokens and stepper do not change.
     ///
     /// ```
     /// use rustc_lexer::LexedText;
@@ -305,7 +305,7 @@ impl Default for LexedText {
 }
 
 impl Relexed {
-    /// Returns the numbers of the tokens that were lexed, among those behind the edit.
+    /// Returns the numbers of the tokens that were lexed, among those after the edit.
     ///
     /// ```
     /// use rustc_lexer::LexedText;

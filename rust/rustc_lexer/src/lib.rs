@@ -1,7 +1,7 @@
 //! A lexer for Rust source, with the names, types and signatures of the compiler's own `rustc_lexer`.
 //!
-//! A text goes in, tokens come out. A token is a [`TokenKind`] and a length in bytes. The lexer refuses no text: a
-//! fault, such as a comment that nothing closes, is told by the token.
+//! A text goes in, tokens come out. A token is a [`TokenKind`] and a length in bytes. Lexing never fails: a malformed
+//! token, like an unclosed comment, says what is wrong with it.
 //!
 //! ```
 //! use rustc_lexer::{tokenize, FrontmatterAllowed, TokenKind};
@@ -13,24 +13,23 @@
 //! | You want | Take |
 //! |---|---|
 //! | the tokens of a text | [`tokenize`] |
-//! | those of a whole file, past a shebang line, in an edition | [`tokenize_document`] |
-//! | those of a part of an older edition | [`tokenize_in`], [`tokenize_as`] |
+//! | those of a whole file, after its shebang line, in an edition | [`tokenize_document`] |
+//! | those of a part of a file, in an older edition | [`tokenize_in`], [`tokenize_as`] |
 //! | many tokens at once, which is faster | [`Tokens::fill`], `Tokens::into_vec` |
 //! | to take tokens one by one, and look ahead | [`Cursor`] |
-//! | a text that is edited, always with its tokens | [`LexedText`], and [`LexedDocument`] for a whole file |
-//! | the same over lists of your own | [`Relexing`], with [`Head`] for a whole file |
-//! | a text that is still coming | [`settled`] |
+//! | the tokens of a file while it is edited | [`LexedDocument`], or [`LexedText`] for a part of a file |
+//! | the same on lists of your own | [`Relexing`], with [`Head`] for a whole file |
+//! | the final tokens of a text that is still arriving | [`settled`] |
 //! | to test what would panic | [`fits`], [`starts_raw`] |
 //!
 //! # What is proved
 //!
-//! The modules below [`erased`] are made from a source in Rattle, which is Rust with contracts, by deleting the
-//! contracts. Of that source it is proved, for every text, that these are the only tokens which a grammar of the
-//! language allows. The rest of this crate is written by hand. The calls of the original and those of [`LexedText`] and
-//! [`LexedDocument`] test what those contracts ask of a caller, and give what takes memory the forms of plain Rust.
-//! [`Relexing`], a [`Head`] and a [`Stepper`] test nothing: lists or a head that are not those of the old text give wrong
-//! answers or a panic.
-//! The repository's `docs/ERASED.md` says what is claimed and what is trusted.
+//! The modules below [`erased`] are generated from a source in Rattle, which is Rust with contracts, by deleting the
+//! contracts. It is proved of that source that, for every text under 4 GiB, its tokens are the only ones that a grammar
+//! of the language allows. The rest of this crate is written by hand: the calls of the original, of [`LexedText`] and
+//! of [`LexedDocument`] test what the contracts require of a caller. [`Relexing`], a [`Head`] and a [`Stepper`] test
+//! nothing: lists or a head that are not those of the old text give wrong tokens or a panic. The repository's
+//! `docs/ERASED.md` says what is claimed and what is trusted.
 //!
 //! # A program that keeps the tokens of a file
 //!
@@ -52,11 +51,11 @@ mod classes;
 mod cursor;
 #[cfg(feature = "alloc")]
 mod edit_error;
-/// The proved source without its contracts, as it is made of `crates/rustc_lexer`.
+/// The proved source without its contracts, generated from `crates/rustc_lexer`.
 ///
-/// This is for packages that are made in the same way, such as `marks` and the programs: their calls are proved to meet
-/// what the contracts ask for. The calls here test nothing of that, and where it is not met they answer wrongly or panic.
-/// They stay as they are only as long as the source does. All other callers take the calls of the crate's root.
+/// This is for packages that are generated in the same way, like `marks` and the programs: their calls are proved to
+/// meet the contracts. The calls here do not test them, and may return anything or panic if they are not met. They may
+/// change with the source. All other callers use the calls at the crate's root.
 // Contracts alone use some imports of the source, and Clippy would write some of it otherwise.
 #[allow(missing_docs, unused_imports, dead_code)]
 #[allow(clippy::collapsible_if)]
@@ -86,13 +85,13 @@ pub use edit_error::EditError;
 /// ```
 #[doc(inline)]
 pub use erased::Edition;
-/// The body of a document, which [`Relexing`] lexes again by that change:
+/// The change of a document's body, which [`Relexing`] then lexes again:
 ///
 /// ```
 /// use rustc_lexer::{Change, Head};
 ///
 /// let (old, new) = ("#!/bin/sh\nlet a;", "#!/bin/sh\nlet ab;");
-/// // A `b` was put in at 15.
+/// // A `b` was inserted at 15.
 /// let change = Change { start: 15, old_stop: 15, new_stop: 16 };
 /// let (head, now) = (Head::find(old), Head::find(new));
 /// let body = head.change_to(now, change);
@@ -111,7 +110,7 @@ pub use erased::Head;
 /// ```
 #[doc(inline)]
 pub use erased::LiteralKind;
-/// A list of the kinds alone, which a buffer of [`Tokens::fill`] may be:
+/// A record of the kind alone, for a buffer of [`Tokens::fill`]:
 ///
 /// ```
 /// use rustc_lexer::{FrontmatterAllowed, Record, Token, TokenKind, tokenize};
@@ -135,14 +134,14 @@ pub use erased::LiteralKind;
 /// ```
 #[doc(inline)]
 pub use erased::Record;
-/// The lengths of the old tokens are enough, and the new ones go where the caller has them:
+/// It needs only the lengths of the old tokens, and the caller stores the new ones:
 ///
 /// ```
 /// use rustc_lexer::{Bound, Change, FrontmatterAllowed, Relexing, Steps, Token, tokenize};
 ///
 /// let (old, new) = ("let ab = cd;", "let abc = cd;");
 /// let mut tokens: Vec<Token> = tokenize(old, FrontmatterAllowed::No).collect();
-/// // A `c` was put in at 6.
+/// // A `c` was inserted at 6.
 /// let change = Change { start: 6, old_stop: 6, new_stop: 7 };
 /// let first = Bound { number: 0, place: 0 };
 ///
@@ -201,8 +200,8 @@ pub use lexed_text::LexedText;
 use rattle_support as support;
 pub use rattle_support::AllocError;
 pub use tokens::{EditionTokens, Tokens, tokenize, tokenize_as, tokenize_document, tokenize_in};
-/// The version of Unicode of the tables that tell which characters begin or continue an identifier: those of the
-/// `unicode-ident` of this build. The table of emoji is a part of this crate, and that of Unicode 15.
+/// The version of Unicode of the tables that say which characters begin or continue an identifier: those of the
+/// `unicode-ident` of this build. The table of emoji is part of this crate, and is that of Unicode 15.
 ///
 /// ```
 /// assert!(rustc_lexer::UNICODE_VERSION.0 >= 15);
@@ -210,14 +209,14 @@ pub use tokens::{EditionTokens, Tokens, tokenize, tokenize_as, tokenize_document
 #[doc(inline)]
 pub use unicode_ident::UNICODE_VERSION;
 
-/// The text, which has to fit.
+/// Returns the text. Panics if it is too long.
 #[inline(always)]
 fn fitting(text: &str) -> &str {
     assert!(fits(text), "the text has more than u32::MAX bytes");
     text
 }
 
-/// Returns the length of the shebang line at the front of a text, without the end of the line, if one stands there.
+/// Returns the length of the shebang line at the start of a text, without the end of the line, if there is one.
 ///
 /// ```
 /// use rustc_lexer::strip_shebang;
@@ -228,14 +227,14 @@ fn fitting(text: &str) -> &str {
 ///
 /// # Panics
 ///
-/// Where the text has more than `u32::MAX` bytes.
+/// Panics if the text has more than `u32::MAX` bytes.
 #[must_use]
 pub fn strip_shebang(input: &str) -> Option<usize> {
     erased::strip_shebang(fitting(input))
 }
 
-/// Returns `Ok` where the raw string that the text begins with is a good one, or else why it is none. `prefix_len` is the
-/// length of its prefix in characters, with the `r`.
+/// Returns `Ok` if the raw string that the text begins with is well-formed, otherwise what is wrong with it.
+/// `prefix_len` is the length of its prefix in characters, with the `r`.
 ///
 /// ```
 /// use rustc_lexer::{validate_raw_str, RawStrError};
@@ -247,15 +246,15 @@ pub fn strip_shebang(input: &str) -> Option<usize> {
 ///
 /// # Panics
 ///
-/// Where the text has more than `u32::MAX` bytes, or where [`starts_raw`] is false.
+/// Panics if the text has more than `u32::MAX` bytes, or if [`starts_raw`] is false.
 pub fn validate_raw_str(input: &str, prefix_len: u32) -> Result<(), RawStrError> {
     let text = fitting(input);
     assert!(starts_raw(text, prefix_len), "a raw string begins the text");
     erased::validate_raw_str(text, prefix_len)
 }
 
-/// Returns the end of the last token that at least two characters follow, or 0, read with `FrontmatterAllowed::No`. However
-/// the text goes on, its tokens up to there stay.
+/// Returns the end of the last token that at least two characters follow, or 0 if there is none. However the text
+/// continues, its tokens up to there stay. It is read with `FrontmatterAllowed::No`.
 ///
 /// ```
 /// use rustc_lexer::settled;
@@ -265,7 +264,7 @@ pub fn validate_raw_str(input: &str, prefix_len: u32) -> Result<(), RawStrError>
 ///
 /// # Panics
 ///
-/// Where the text has more than `u32::MAX` bytes.
+/// Panics if the text has more than `u32::MAX` bytes.
 #[must_use]
 pub fn settled(input: &str) -> usize {
     erased::settled(fitting(input))

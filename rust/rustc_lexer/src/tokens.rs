@@ -30,19 +30,20 @@ use core::iter::FusedIterator;
 ///
 /// # Panics
 ///
-/// Where the text has more than `u32::MAX` bytes.
+/// Panics if the text has more than `u32::MAX` bytes.
 #[inline]
 pub fn tokenize(input: &str, frontmatter_allowed: FrontmatterAllowed) -> Tokens<'_> {
     tokenize_as(input, frontmatter_allowed, Edition::E2024)
 }
 
-/// An iterator over the tokens of a text, made by [`tokenize`], [`tokenize_in`], [`tokenize_as`] and [`tokenize_document`].
+/// An iterator over the tokens of a text, made by [`tokenize`], [`tokenize_in`], [`tokenize_as`] and
+/// [`tokenize_document`].
 #[derive(Clone)]
 #[must_use = "iterators are lazy and do nothing unless consumed"]
 pub struct Tokens<'a>(erased::Tokens<'a>);
 
 impl<'a> Tokens<'a> {
-    /// Returns the text whose tokens were not given out yet.
+    /// Returns the text whose tokens are still to come.
     ///
     /// ```
     /// use rustc_lexer::{tokenize, FrontmatterAllowed};
@@ -57,7 +58,7 @@ impl<'a> Tokens<'a> {
         self.0.as_str()
     }
 
-    /// Returns whether a frontmatter may stand in front of that text.
+    /// Returns whether that text may begin with a frontmatter.
     ///
     /// ```
     /// use rustc_lexer::{tokenize, FrontmatterAllowed};
@@ -74,10 +75,10 @@ impl<'a> Tokens<'a> {
         self.0.frontmatter_allowed()
     }
 
-    /// Writes the next tokens into the buffer, as many as are left, or as there is room for. Returns their number,
-    /// which is less than the length of the buffer only where no token is left.
+    /// Writes the next tokens into the buffer, as many as are left or as fit. Returns their number, which is less than
+    /// the length of the buffer only if no token is left.
     ///
-    /// They are the tokens that so many calls of `next` give, and take less time.
+    /// They are the tokens that as many calls of `next` return, in less time.
     ///
     /// ```
     /// use rustc_lexer::{tokenize, FrontmatterAllowed, Token, TokenKind};
@@ -98,7 +99,7 @@ impl<'a> Tokens<'a> {
         self.0.fill(buffer)
     }
 
-    /// Returns the tokens that are left, which are found many at a time. `collect` takes them one by one.
+    /// Returns the tokens that are left, and finds many at a time. `collect` takes them one by one.
     ///
     /// ```
     /// use rustc_lexer::{tokenize, FrontmatterAllowed};
@@ -139,15 +140,15 @@ impl Iterator for Tokens<'_> {
 
 impl FusedIterator for Tokens<'_> {}
 
-/// The text whose tokens were not given out yet.
+/// The text whose tokens are still to come.
 impl fmt::Debug for Tokens<'_> {
     fn fmt(&self, f: &mut fmt::Formatter<'_>) -> fmt::Result {
         f.debug_tuple("Tokens").field(&self.as_str()).finish()
     }
 }
 
-/// Returns the tokens of a text in an edition, in order. No frontmatter is allowed: with `Edition::E2024` they are those of
-/// [`tokenize`] with `FrontmatterAllowed::No`.
+/// Returns the tokens of a text in an edition, in order. No frontmatter is allowed: with `Edition::E2024` they are
+/// those of [`tokenize`] with `FrontmatterAllowed::No`.
 ///
 /// ```
 /// use rustc_lexer::{tokenize_in, Edition, TokenKind};
@@ -159,16 +160,16 @@ impl fmt::Debug for Tokens<'_> {
 ///
 /// # Panics
 ///
-/// Where the text has more than `u32::MAX` bytes.
+/// Panics if the text has more than `u32::MAX` bytes.
 #[inline]
 pub fn tokenize_in(text: &str, edition: Edition) -> EditionTokens<'_> {
     tokenize_as(text, FrontmatterAllowed::No, edition)
 }
 
-/// Another name of [`Tokens`], for what [`tokenize_in`] makes.
+/// Another name for [`Tokens`], as [`tokenize_in`] returns it.
 pub type EditionTokens<'a> = Tokens<'a>;
 
-/// Returns the tokens of a text in an edition, in order, where a frontmatter may stand in front or may not.
+/// Returns the tokens of a text in an edition, in order, with or without a frontmatter.
 ///
 /// ```
 /// use rustc_lexer::{tokenize_as, Edition, FrontmatterAllowed};
@@ -180,7 +181,7 @@ pub type EditionTokens<'a> = Tokens<'a>;
 ///
 /// # Panics
 ///
-/// Where the text has more than `u32::MAX` bytes.
+/// Panics if the text has more than `u32::MAX` bytes.
 #[inline]
 pub fn tokenize_as(
     text: &str,
@@ -194,10 +195,10 @@ pub fn tokenize_as(
     ))
 }
 
-/// Returns the tokens of a whole document in an edition, in order: those of what follows its shebang line, where a frontmatter
-/// may stand in front.
+/// Returns the tokens of a whole file in an edition, in order: those of the text after its shebang line, which may
+/// begin with a frontmatter.
 ///
-/// The shebang line is no token. So the first token begins where the text that is left begins:
+/// The shebang line is not a token, so the first token begins where the remaining text begins:
 ///
 /// ```
 /// use rustc_lexer::{tokenize_document, Edition};
@@ -217,7 +218,7 @@ pub fn tokenize_as(
 ///
 /// # Panics
 ///
-/// Where the text has more than `u32::MAX` bytes.
+/// Panics if the text has more than `u32::MAX` bytes.
 #[inline]
 pub fn tokenize_document(text: &str, edition: Edition) -> Tokens<'_> {
     Tokens(erased::tokenize_document(fitting(text), edition))

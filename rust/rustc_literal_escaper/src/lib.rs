@@ -1,8 +1,8 @@
 //! What the literals of Rust stand for, with the names, types and signatures of the compiler's own
 //! `rustc_literal_escaper`.
 //!
-//! A lexer takes `"\q"` for one token. The calls here are given what stands between a literal's quotes, and answer
-//! what it stands for, unit by unit, and what is wrong in it.
+//! To a lexer, `"\q"` is one token. The calls here take the text between the quotes of a literal. They return what it
+//! stands for, unit by unit, and its errors.
 //!
 //! ```
 //! use rustc_literal_escaper::{unescape_str, EscapeError};
@@ -17,8 +17,8 @@
 //! assert_eq!(faults, [(3..5, EscapeError::InvalidEscape)]);
 //! ```
 //!
-//! The modules below `erased` are made from a proved source in Rattle, which is Rust with contracts, by deleting the
-//! contracts. The rest is written by hand. The repository's `docs/ERASED.md` says what is claimed and what is trusted.
+//! The modules below `erased` are generated from a proved source in Rattle, which is Rust with contracts, by deleting
+//! its contracts. The rest is written by hand. The repository's `docs/ERASED.md` says what is claimed and what is trusted.
 
 #![no_std]
 #![deny(missing_docs)]
@@ -29,10 +29,10 @@ extern crate alloc;
 #[cfg(test)]
 extern crate std;
 
-/// The proved source without its contracts, as it is made of `crates/rustc_literal_escaper`.
+/// The proved source without its contracts, generated from `crates/rustc_literal_escaper`.
 ///
-/// This is for packages that are made in the same way, such as `marks`. It has types of its own for units of C strings, and
-/// stays as it is only as long as the source does. All other callers take the calls of the crate's root.
+/// This is for packages that are generated in the same way, like `marks`. It has types of its own for units of C
+/// strings, and may change with the source. All other callers use the calls at the crate's root.
 // Contracts alone use some of its imports and variables.
 #[allow(missing_docs, unused_imports, unused_variables, dead_code)]
 #[allow(clippy::assign_op_pattern, clippy::collapsible_if)]

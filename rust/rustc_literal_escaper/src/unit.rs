@@ -5,10 +5,10 @@ use crate::erased::{self, NonZeroChar};
 use core::num::NonZero;
 use core::ops::Range;
 
-/// A unit of a C string, whose text may have characters and bytes that are in none.
+/// A unit of a C string, which may have bytes that are part of no character.
 #[derive(Clone, Copy, Debug, PartialEq, Eq, Hash)]
 pub enum MixedUnit {
-    /// A character, written as it is, by `\u{..}`, or by an escape for a byte below 128. It stands for its bytes in
+    /// A character, written as itself, as `\u{..}`, or as an escape for a byte below 128. It stands for its bytes in
     /// UTF-8.
     Char(NonZero<char>),
     /// A byte from 128 on, written as `\x80` to `\xff`. It stands for itself.
@@ -30,9 +30,8 @@ fn mixed(unit: erased::MixedUnit) -> MixedUnit {
     }
 }
 
-/// Calls `callback` with each unit that a C string stands for, or what is wrong, and its place in bytes.
-///
-/// It is as [`unescape_str`](crate::unescape_str) is.
+/// Calls `callback` with each unit that a C string stands for, or an error, and its range in bytes, in order, like
+/// [`unescape_str`](crate::unescape_str).
 ///
 /// ```
 /// use rustc_literal_escaper::{MixedUnit, unescape_c_str};
@@ -49,9 +48,9 @@ pub fn unescape_c_str(
     erased::unescape_c_str(src, |range, unit| callback(range, unit.map(mixed)));
 }
 
-/// Calls `callback` with each character of a raw C string, or what is wrong, and its place in bytes.
+/// Calls `callback` with each character of a raw C string, or an error, and its range in bytes, in order.
 ///
-/// A carriage return is wrong, and U+0000.
+/// A carriage return and U+0000 are errors.
 ///
 /// ```
 /// use rustc_literal_escaper::{EscapeError, check_raw_c_str};

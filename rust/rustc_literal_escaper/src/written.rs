@@ -1,4 +1,4 @@
-//! Texts and bytes, written so that they stand between double quotes. The original has no such calls.
+//! Texts and bytes, escaped for the inside of double quotes. The original has no such calls.
 
 pub use crate::erased::EscapeCStrError;
 
@@ -29,11 +29,11 @@ fn lent<T>(out: &mut String, call: impl FnOnce(&mut support::String) -> T) -> T 
     answer
 }
 
-/// Appends `text` to `out`, as it is written between the double quotes of a string.
+/// Appends `text` to `out`, escaped for the inside of a string in double quotes.
 ///
-/// Each character is written as `char::escape_default` writes it, so all of it is ASCII.
-/// [`unescape_str`](crate::unescape_str) reads the characters of `text` from it. Where memory is refused, `out` is as
-/// it was.
+/// Each character is written as by `char::escape_default`, so the output is ASCII, and
+/// [`unescape_str`](crate::unescape_str) reads the characters of `text` from it. If an allocation fails, `out` is as it
+/// was.
 ///
 /// ```
 /// let mut out = String::new();
@@ -44,11 +44,10 @@ pub fn escape_str(text: &str, out: &mut String) -> Result<(), AllocError> {
     lent(out, |out| erased::escape_str(text, out))
 }
 
-/// Appends `bytes` to `out`, as they are written between the double quotes of a byte string.
+/// Appends `bytes` to `out`, escaped for the inside of a byte string in double quotes.
 ///
-/// Each byte is written as `u8::escape_ascii` writes it, so all of it is ASCII.
-/// [`unescape_byte_str`](crate::unescape_byte_str) reads the bytes from it. Where memory is refused, `out` is as it
-/// was.
+/// Each byte is written as by `u8::escape_ascii`, so the output is ASCII, and
+/// [`unescape_byte_str`](crate::unescape_byte_str) reads the bytes from it. If an allocation fails, `out` is as it was.
 ///
 /// ```
 /// let mut out = String::new();
@@ -59,8 +58,8 @@ pub fn escape_byte_str(bytes: &[u8], out: &mut String) -> Result<(), AllocError>
     lent(out, |out| erased::escape_byte_str(bytes, out))
 }
 
-/// Appends `bytes` to `out`, as they are written between the double quotes of a C string, or says that one of them
-/// is 0, which no C string has. Where it answers an error, `out` is as it was.
+/// Appends `bytes` to `out`, escaped for the inside of a C string in double quotes, or returns that one of them is 0,
+/// which no C string has. On an error, `out` is as it was.
 ///
 /// ```
 /// use rustc_literal_escaper::{escape_c_str, EscapeCStrError};
