@@ -1,5 +1,5 @@
-//! What `lexdump` takes of Rattle's `itoa`. Written by hand, and trusted: each item is to do what the contract of its
-//! namesake says.
+//! The parts of Rattle's `itoa` that `lexdump` uses. Written by hand, and trusted: each item must do what the contract
+//! of its namesake in Rattle says.
 
 #![forbid(unsafe_code)]
 
@@ -14,8 +14,8 @@ const PAIRS: [[u8; 2]; 100] = {
     pairs
 };
 
-/// Writes the digits of a number, in decimal and without leading zeros, so that they end before the place `end`, and
-/// answers where they start. All else stays as it was. They have to fit.
+/// Writes the decimal digits of a number, without leading zeros, so that they end before index `end`, and returns the
+/// index where they start. The rest of the buffer stays as it was. The digits must fit.
 #[inline]
 pub fn write_digits(n: u64, buf: &mut [u8], end: usize) -> usize {
     let (mut left, mut at) = (n, end);
@@ -41,13 +41,13 @@ const ROOM: usize = 20;
 pub struct Buffer([u8; ROOM]);
 
 impl Buffer {
-    /// Room in which nothing was written yet.
+    /// Makes an empty buffer.
     #[allow(clippy::new_without_default)]
     pub fn new() -> Buffer {
         Buffer([0; ROOM])
     }
 
-    /// The number in decimal, without leading zeros.
+    /// Returns the number in decimal, without leading zeros.
     pub fn format(&mut self, n: usize) -> &str {
         let start = write_digits(n as u64, &mut self.0, ROOM);
         core::str::from_utf8(&self.0[start..]).expect("digits are text")

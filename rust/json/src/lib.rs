@@ -1,5 +1,5 @@
-//! What `count` takes of Rattle's `json`. Written by hand, and trusted: each item is to do what the contract of its
-//! namesake says, which is to write one more token of a JSON text.
+//! The parts of Rattle's `json` that `count` uses. Written by hand, and trusted: each item must do what the contract of
+//! its namesake in Rattle says, which is to write one more token of a JSON text.
 
 #![forbid(unsafe_code)]
 
@@ -7,14 +7,14 @@ use rattle_std::alloc::AllocError;
 use rattle_std::prelude::Vec;
 use std::marker::PhantomData;
 
-/// Writes JSON with no white space. It puts the commas, and leaves to its caller which token may come next.
+/// Writes JSON without white space. It writes the commas; the caller decides which token comes next.
 pub struct Writer<A> {
     text: Vec<u8>,
     alloc: PhantomData<A>,
 }
 
 impl<A> Writer<A> {
-    /// A writer that appends to these bytes, which are none.
+    /// Makes a writer that appends to these bytes, which must be empty.
     pub fn new(text: Vec<u8>) -> Writer<A> {
         Writer {
             text,
@@ -22,12 +22,12 @@ impl<A> Writer<A> {
         }
     }
 
-    /// All that was written.
+    /// Returns all that was written.
     pub fn into_inner(self) -> Vec<u8> {
         self.text
     }
 
-    /// The comma before a member or an item that is not the first.
+    /// Writes the comma before a member or an item that is not the first.
     fn comma(&mut self) -> Result<(), AllocError> {
         match self.text.last() {
             None | Some(b'{' | b'[' | b':') => Ok(()),

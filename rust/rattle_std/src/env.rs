@@ -1,10 +1,10 @@
-//! The words of the command line, and the environment.
+//! The arguments of the command line, and the environment.
 
 use crate::io::{Error, ErrorKind, Result};
 use crate::prelude::String;
 use crate::rt::HostRuntime;
 
-/// The words of the command line, in order; the program's name is the first.
+/// The arguments of the command line, in order. The first is the program's name.
 pub struct Args(std::vec::IntoIter<std::string::String>);
 
 impl Iterator for Args {
@@ -15,7 +15,7 @@ impl Iterator for Args {
     }
 }
 
-/// All words, or an error where one is not UTF-8.
+/// Returns all arguments, or an error if one is not UTF-8.
 pub fn args(_: &HostRuntime) -> Result<Args> {
     let words = std::env::args_os().map(|word| word.into_string());
     match words.collect::<std::result::Result<Vec<_>, _>>() {
@@ -24,17 +24,17 @@ pub fn args(_: &HostRuntime) -> Result<Args> {
     }
 }
 
-/// Why a variable could not be had.
+/// Why a variable could not be read.
 pub enum VarError {
     /// It is not set.
     NotPresent,
     /// Its value is not UTF-8.
     NotUnicode,
-    /// Memory for its value was refused. This one is never answered: Rust aborts.
+    /// An allocation for its value failed. This is never returned, because Rust aborts.
     OutOfMemory,
 }
 
-/// The value of a variable of the environment.
+/// Returns the value of an environment variable.
 pub fn var(_: &HostRuntime, name: &str) -> std::result::Result<String, VarError> {
     match std::env::var(name) {
         Ok(value) => Ok(String::from(value)),

@@ -1,5 +1,5 @@
-//! Files and folders. Each call is that of Rust with the same name, and its error is the system's; a name that is not
-//! UTF-8 is one, too. What Rust asks for itself, such as for a path that goes to the system, aborts where it is refused.
+//! Files and folders. Each call is Rust's call of the same name, and returns the system's error; a name that is not
+//! UTF-8 is an error too. If an allocation of Rust's own fails, like that of a path for the system, the process aborts.
 
 use crate::alloc::Global;
 use crate::io::{Error, ErrorKind, Read, Result};
@@ -9,32 +9,32 @@ use crate::rt::Files;
 use std::fs;
 use std::marker::PhantomData;
 
-/// What a path leads to, and whether it is a folder or a file.
+/// What a path leads to: whether it is a folder or a file.
 pub use std::fs::{FileType, Metadata};
 
 /// An open file.
 pub struct File(fs::File);
 
 impl File {
-    /// Opens a file to be read.
+    /// Opens a file for reading.
     pub fn open<R: Files, P: AsPath>(_: &R, path: P) -> Result<File> {
         fs::File::open(path.path_text()).map(File)
     }
 }
 
-/// Each read is one call of the system.
+/// Each read is one system call.
 impl Read for File {
     fn read(&mut self, buf: &mut [u8]) -> Result<usize> {
         std::io::Read::read(&mut self.0, buf)
     }
 }
 
-/// What a path leads to. A link is followed.
+/// Returns what a path leads to. It follows symbolic links.
 pub fn metadata<R: Files, P: AsPath>(_: &R, path: P) -> Result<Metadata> {
     fs::metadata(path.path_text())
 }
 
-/// A path as a text.
+/// Returns a path as a text.
 fn text(path: std::path::PathBuf) -> Result<PathBuf> {
     match path.into_os_string().into_string() {
         Ok(text) => Ok(PathBuf(String::from(text))),
@@ -42,7 +42,7 @@ fn text(path: std::path::PathBuf) -> Result<PathBuf> {
     }
 }
 
-/// An entry of a folder. `R` and `A` are what it was read by and what holds its name.
+/// An entry of a folder. `R` is the runtime that read it, and `A` the allocator of its name.
 pub struct DirEntry<R, A> {
     entry: fs::DirEntry,
     name: PathBuf,
@@ -51,23 +51,23 @@ pub struct DirEntry<R, A> {
 }
 
 impl<R, A> DirEntry<R, A> {
-    /// Its name.
+    /// Returns its name.
     pub fn file_name(&self) -> &str {
         self.name.path_text()
     }
 
-    /// The folder's path, and its name in it.
+    /// Returns the folder's path, followed by its name.
     pub fn path(&self) -> &PathBuf {
         &self.path
     }
 
-    /// What it is. No link is followed. The system is asked, which may refuse, and not the folder.
+    /// Returns what it is, without following a symbolic link. It asks the system, which may refuse, and not the folder.
     pub fn file_type(&self) -> Result<FileType> {
         Ok(self.entry.metadata()?.file_type())
     }
 }
 
-/// The entries of a folder, but for the folder itself and the one above, in any order.
+/// Returns the entries of a folder, except itself and the one above, in any order.
 pub fn read_dir<R: Files, P: AsPath>(
     _: &R,
     path: P,

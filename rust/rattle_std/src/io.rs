@@ -1,23 +1,23 @@
 //! Readers and writers.
 
-/// `ErrorKind::BrokenPipe` says that nobody reads what is written.
+/// `ErrorKind::BrokenPipe` means that nobody reads the output any more.
 pub use std::io::{Error, ErrorKind, Result};
 
-/// What gives bytes.
+/// A source of bytes.
 pub trait Read {
-    /// Answers a number of bytes, at most those that there is room for, and they are the next ones; 0 is the end.
+    /// Reads the next bytes, at most as many as fit, and returns how many it read. 0 means the end.
     fn read(&mut self, buf: &mut [u8]) -> Result<usize>;
 }
 
-/// What takes bytes.
+/// A sink for bytes.
 pub trait Write {
-    /// Answers how many bytes it took, of the front of those that it was given; an error took none.
+    /// Returns how many bytes it took from the front of the buffer. If it returns an error, it took none.
     fn write(&mut self, buf: &[u8]) -> Result<usize>;
 
-    /// Sees to it that what was taken goes on.
+    /// Passes on all bytes that it took.
     fn flush(&mut self) -> Result<()>;
 
-    /// Writes all of the bytes. One that takes none of them is an error, and a write that was interrupted is tried again.
+    /// Writes all of the bytes. A write that takes none is an error, and an interrupted one is tried again.
     fn write_all(&mut self, mut buf: &[u8]) -> Result<()> {
         while !buf.is_empty() {
             match self.write(buf) {
@@ -31,8 +31,8 @@ pub trait Write {
     }
 }
 
-/// What may be a terminal.
+/// A stream that may be a terminal.
 pub trait IsTerminal {
-    /// Whether it is one. What is closed is none.
+    /// Returns whether it is a terminal. A closed stream is not one.
     fn is_terminal(&self) -> bool;
 }

@@ -1,10 +1,9 @@
-//! What the programs take of Rattle's `std`, over Rust's. Written by hand, and trusted: each item is to do what the
-//! contract of its namesake says, and its line here says what that is.
+//! The parts of Rattle's `std` that programs use, over Rust's. Written by hand, and trusted: each item must do what the
+//! contract of its namesake in Rattle says, and its comment here says what that is.
 //!
-//! Lists and texts are those of `rattle_support`, and answer where memory is refused. Rust's own calls do not: where
-//! memory is refused to one of them the process is aborted. These are at the start, before any input is read: [`env::args`],
-//! [`env::var`], and the standard streams, where Rust makes buffers that nothing here uses. Those of [`fs`] may be at any
-//! time.
+//! Lists and texts are those of `rattle_support`, which return an error if an allocation fails. If one of Rust's own
+//! fails, the process aborts. These come at the start, before any input is read: those of [`env::args`], of
+//! [`env::var`], and of the standard streams, whose buffers nothing here uses. Those of [`fs`] may come at any time.
 
 #![deny(missing_docs, unsafe_code)]
 
@@ -19,10 +18,10 @@ pub use std::{error, fmt, str};
 
 /// Requests for memory.
 pub mod alloc {
-    /// The allocator, and the error that a refused request answers.
+    /// The allocator, and the error of a failed allocation.
     pub use rattle_support::{AllocError, Global};
 
-    /// A request was refused, and here is the value that it was for.
+    /// An allocation failed, with the value that it was for.
     pub struct AllocFailed<T>(pub T);
 }
 
@@ -32,19 +31,19 @@ pub mod process {
     pub use std::process::ExitCode;
 }
 
-/// What each file of a source in Rattle names without an import.
+/// The prelude of Rattle: what each file of a source names without an import.
 pub mod prelude {
     /// A list and a text. The contracts say what their items and bytes are after each call.
     pub use rattle_support::{String, Vec};
 
-    /// What `main` is handed, and what of it gives memory.
+    /// The argument of `main`, and its allocator.
     pub use crate::rt::{AllocGlobal, HostRuntime};
 
-    /// The texts are those that Rust's macros of the same names write.
+    /// They write the texts of Rust's macros of the same names.
     pub use crate::{eprintln, format};
 }
 
-/// Writes a line to standard error. The answer tells whether it was written.
+/// Writes a line to standard error, and returns whether it was written.
 #[macro_export]
 macro_rules! eprintln {
     ($rt:expr; $($words:tt)*) => {
@@ -52,7 +51,7 @@ macro_rules! eprintln {
     };
 }
 
-/// A text in new memory, or that it was refused.
+/// Returns a copy of the text, or the error of a failed allocation.
 #[macro_export]
 macro_rules! format {
     (in $alloc:expr; $($words:tt)*) => {{

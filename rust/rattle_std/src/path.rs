@@ -2,13 +2,13 @@
 
 use crate::prelude::String;
 
-/// What names a file or a folder.
+/// A type that names a file or a folder.
 pub trait AsPath {
-    /// The path as a text.
+    /// Returns the path as a text.
     fn path_text(&self) -> &str;
 }
 
-/// A path that is held.
+/// An owned path.
 #[derive(Debug)]
 pub struct PathBuf(pub(crate) String);
 

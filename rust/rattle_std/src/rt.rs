@@ -1,12 +1,12 @@
-//! What `main` is handed: memory and the standard streams.
+//! The argument of `main`: the allocator and the standard streams.
 //!
-//! Rust's own streams do not serve. Its standard output holds lines back, and it takes a stream that was closed for one
-//! that took all. So here is a copy of each descriptor, and each call is one call of the system.
+//! Rust's own streams do not serve: standard output holds lines back, and a write to a closed stream succeeds. So this
+//! has a copy of each descriptor, and each call is one system call.
 //!
-//! Where a stream is closed when the process begins, Rust's runtime opens `/dev/null` in its place before `main`, and what
-//! is written is lost. So the copies are made before that, when the system runs what stands in `.init_array`. To be
-//! put there needs the one attribute that is `unsafe`: what it names runs before Rust's runtime is set up. That is
-//! sound here, since nothing of what runs needs it: the calls are `fcntl` and two requests for memory.
+//! If a stream is closed when the process begins, Rust's runtime opens `/dev/null` in its place before `main`, and
+//! output is lost. So the copies are made before that, when the system runs the functions in `.init_array`. That takes
+//! the one `unsafe` attribute, since such a function runs before Rust's runtime is set up. It is sound here, because
+//! the function does not need the runtime: it calls `fcntl`, and allocates twice.
 
 use crate::alloc::Global;
 use crate::io::{Error, IsTerminal, Read, Result, Write};
@@ -15,10 +15,10 @@ use std::fs::File;
 use std::io::ErrorKind;
 use std::sync::OnceLock;
 
-/// Copies of standard input, output and error; `None` for one that is closed, or where the process may have no more.
+/// Copies of standard input, output and error. `None` for one that is closed, or if the process may open no more.
 static STREAMS: OnceLock<[Option<File>; 3]> = OnceLock::new();
 
-/// The copies, which the first call makes.
+/// Returns the copies, which the first call makes.
 fn streams() -> &'static [Option<File>; 3] {
     STREAMS.get_or_init(|| {
         [
@@ -29,19 +29,19 @@ fn streams() -> &'static [Option<File>; 3] {
     })
 }
 
-/// A copy of a stream's descriptor.
+/// Returns a copy of a stream's descriptor.
 #[cfg(unix)]
 fn copy(stream: &impl std::os::fd::AsFd) -> Option<File> {
     stream.as_fd().try_clone_to_owned().ok().map(File::from)
 }
 
-/// A copy of a stream's handle.
+/// Returns a copy of a stream's handle.
 #[cfg(windows)]
 fn copy(stream: &impl std::os::windows::io::AsHandle) -> Option<File> {
     stream.as_handle().try_clone_to_owned().ok().map(File::from)
 }
 
-/// Elsewhere, such as in a browser, no stream is open.
+/// On other targets, like in a browser, no stream is open.
 #[cfg(not(any(unix, windows)))]
 fn copy<S>(_: &S) -> Option<File> {
     None
@@ -67,7 +67,7 @@ static AT_START: extern "C" fn() = at_start;
 #[derive(Clone)]
 pub struct HostRuntime(());
 
-/// What gives memory.
+/// A type that has an allocator.
 pub trait AllocGlobal {
     /// The allocator.
     fn alloc(&self) -> Global;
@@ -79,12 +79,12 @@ impl AllocGlobal for HostRuntime {
     }
 }
 
-/// What reaches files.
+/// A type that has access to files.
 pub trait Files {}
 
 impl Files for HostRuntime {}
 
-/// The handle that `main` is passed in Rattle.
+/// The argument of `main` in Rattle.
 pub fn start() -> HostRuntime {
     HostRuntime(())
 }
@@ -111,8 +111,7 @@ impl HostRuntime {
     }
 }
 
-/// A standard stream, of which nothing is held back. Each call of one that is closed fails, but for a flush, which has
-/// nothing to do.
+/// A standard stream without a buffer. If it is closed, each call fails except a flush, which does nothing.
 pub struct Stream(&'static Option<File>);
 
 impl Stream {
@@ -145,7 +144,7 @@ impl IsTerminal for Stream {
     }
 }
 
-/// Writes a text in pieces, up to the first that can't be written.
+/// Writes a text in pieces, up to the first that cannot be written.
 #[doc(hidden)]
 pub fn say(stream: &mut Stream, words: Arguments<'_>) -> Result<()> {
     Pieces(stream)
@@ -153,7 +152,7 @@ pub fn say(stream: &mut Stream, words: Arguments<'_>) -> Result<()> {
         .map_err(|_| Error::from(ErrorKind::Other))
 }
 
-/// A stream that takes the pieces of a text.
+/// A stream as a writer of text.
 struct Pieces<'a>(&'a mut Stream);
 
 impl std::fmt::Write for Pieces<'_> {

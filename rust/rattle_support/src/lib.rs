@@ -1,5 +1,5 @@
-//! What the sources made from Rattle take of its `std`, and Rust's `core` has not. It is written by hand, and trusted:
-//! each item is to do what the contract of its namesake in Rattle says.
+//! The parts of Rattle's `std` that libraries use and Rust's `core` does not have. It is written by hand, and trusted:
+//! each item must do what the contract of its namesake in Rattle says.
 
 #![no_std]
 #![deny(unsafe_op_in_unsafe_fn)]
@@ -20,11 +20,11 @@ mod lists;
 
 pub use lists::{String, Vec};
 
-/// The allocator of the program. In Rattle what allocates is passed it.
+/// The allocator of the program. In Rattle it is passed to what allocates.
 #[derive(Clone, Copy, Debug, Default, PartialEq, Eq)]
 pub struct Global;
 
-/// Memory was refused.
+/// An allocation failed.
 #[derive(Clone, Copy, Debug, PartialEq, Eq)]
 pub struct AllocError;
 

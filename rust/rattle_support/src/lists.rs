@@ -1,4 +1,4 @@
-//! Lists and texts whose calls answer where memory is refused. Nothing changes then.
+//! Lists and texts whose calls return an error if an allocation fails. Nothing changes then.
 
 use super::{AllocError, Global};
 use alloc::collections::TryReserveError;
@@ -10,7 +10,7 @@ impl From<TryReserveError> for AllocError {
     }
 }
 
-/// A list. The contracts are those of `std::vec::Vec` in Rattle: what `items` is after each call.
+/// A list. Its contracts are those of `std::vec::Vec` in Rattle, which say what `items` is after each call.
 #[derive(Clone, Debug, PartialEq, Eq)]
 pub struct Vec<T>(alloc::vec::Vec<T>);
 
@@ -36,13 +36,13 @@ impl<T> Vec<T> {
         Ok(())
     }
 
-    /// Keeps the first `len` items, or all where there are no more.
+    /// Keeps the first `len` items, or all if there are fewer.
     pub fn truncate(&mut self, len: usize) {
         self.0.truncate(len);
     }
 
-    /// Moves the items to where there is room for no more of them. Where that room is refused they stay: Rust's own call
-    /// ends the program then.
+    /// Moves the items to a buffer that just fits. If its allocation fails they stay, where Rust's own call ends the
+    /// program.
     pub fn shrink_to_fit(&mut self) {
         let mut fitting = alloc::vec::Vec::new();
         if self.0.len() < self.0.capacity() && fitting.try_reserve_exact(self.0.len()).is_ok() {
@@ -54,12 +54,12 @@ impl<T> Vec<T> {
 
 /// What only programs take.
 impl<T> Vec<T> {
-    /// Takes the last item; `None` where there is none.
+    /// Takes the last item. `None` if there is none.
     pub fn pop(&mut self) -> Option<T> {
         self.0.pop()
     }
 
-    /// Of equal items in a row keeps the first.
+    /// Keeps the first of equal items in a row.
     pub fn dedup(&mut self)
     where
         T: PartialEq,
@@ -69,8 +69,8 @@ impl<T> Vec<T> {
 }
 
 impl Vec<String> {
-    /// Puts the texts in the order of their bytes. In place: Rust's stable sort ends the program where memory is refused,
-    /// and equal texts are one as good as the other.
+    /// Sorts the texts by their bytes, in place: Rust's stable sort ends the program if an allocation fails, and equal
+    /// texts need no order.
     pub fn sort(&mut self) -> Result<(), AllocError> {
         self.0.sort_unstable();
         Ok(())
@@ -103,7 +103,7 @@ impl<T: Copy> Vec<T> {
         Ok(())
     }
 
-    /// Makes it `len` items long: the first of them, or all and then `value`, as often as it takes.
+    /// Makes it `len` items long: drops the last items, or appends `value` as often as needed.
     pub fn resize(&mut self, len: usize, value: T) -> Result<(), AllocError> {
         self.0.try_reserve(len.saturating_sub(self.0.len()))?;
         self.0.resize(len, value);
@@ -125,7 +125,7 @@ impl<T> DerefMut for Vec<T> {
     }
 }
 
-/// A text. The contracts are those of `std::string::String` in Rattle: what its bytes are after each call.
+/// A text. Its contracts are those of `std::string::String` in Rattle, which say what its bytes are after each call.
 #[derive(Clone, Debug, PartialEq, Eq, PartialOrd, Ord)]
 pub struct String(alloc::string::String);
 
@@ -160,7 +160,7 @@ impl String {
         self.0.truncate(len);
     }
 
-    /// Moves the text to where there is room for no more of it, as the call of a list does.
+    /// Moves the text to a buffer that just fits, as the call of a list does.
     pub fn shrink_to_fit(&mut self) {
         let mut fitting = alloc::string::String::new();
         if self.0.len() < self.0.capacity() && fitting.try_reserve_exact(self.0.len()).is_ok() {
@@ -169,12 +169,12 @@ impl String {
         }
     }
 
-    /// Makes room for so many bytes more.
+    /// Makes room for that many more bytes.
     pub fn reserve(&mut self, more: usize) -> Result<(), AllocError> {
         Ok(self.0.try_reserve(more)?)
     }
 
-    /// Puts a text in place of the bytes of the range.
+    /// Replaces the bytes of the range by a text.
     pub fn replace_range(&mut self, range: Range<usize>, with: &str) -> Result<(), AllocError> {
         self.0.try_reserve(with.len())?;
         self.0.replace_range(range, with);
@@ -184,7 +184,7 @@ impl String {
 
 /// What only programs take.
 impl String {
-    /// The text of these bytes, or an error where they are none.
+    /// Returns the text of these bytes, or an error if they are not UTF-8.
     pub fn from_utf8(bytes: Vec<u8>) -> Result<String, core::str::Utf8Error> {
         match alloc::string::String::from_utf8(bytes.0) {
             Ok(text) => Ok(String(text)),
@@ -205,7 +205,7 @@ impl String {
         Ok(())
     }
 
-    /// Appends what `write!` is given. In Rattle the error of that is the writer's.
+    /// Appends the arguments of `write!`. In Rattle its error is that of the writer.
     pub fn write_fmt(&mut self, words: core::fmt::Arguments<'_>) -> Result<(), AllocError> {
         core::fmt::Write::write_fmt(self, words).map_err(|_| AllocError)
     }
@@ -217,7 +217,7 @@ impl core::fmt::Display for String {
     }
 }
 
-/// What is written is appended. Where memory is refused nothing is, and that is an error.
+/// Appends what is written. If an allocation fails, it appends nothing and returns an error.
 impl core::fmt::Write for String {
     fn write_str(&mut self, text: &str) -> core::fmt::Result {
         self.push_str(text).map_err(|_| core::fmt::Error)

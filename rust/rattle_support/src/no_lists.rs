@@ -1,4 +1,4 @@
-//! Lists and texts where there is no allocator: each request for memory is refused, so they stay empty.
+//! Lists and texts without an allocator: each allocation fails, so they stay empty.
 
 use super::{AllocError, Global};
 use core::marker::PhantomData;

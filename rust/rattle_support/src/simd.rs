@@ -1,5 +1,6 @@
-//! 32 and 64 bytes at once, with the names of `std::simd`, on stable Rust: over SSE2, NEON, the vectors of WebAssembly,
-//! and elsewhere, or by the feature `portable`, eight bytes in a word. The contracts are those of `std::simd` in Rattle.
+//! 32 and 64 bytes side by side, with the names of `std::simd`, on stable Rust: with SSE2, NEON or the vectors of
+//! WebAssembly; on other targets, or with the feature `portable`, with eight bytes in a word. The contracts are those
+//! of `std::simd` in Rattle.
 
 #[cfg_attr(
     all(
@@ -52,7 +53,7 @@ use lanes::{COUNT, Lanes};
 #[derive(Clone, Copy)]
 pub struct Bytes<const N: usize>([Lanes; N]);
 
-/// What a comparison of bytes side by side answers.
+/// The result of a comparison, lane by lane.
 #[derive(Clone, Copy)]
 pub struct Mask<const N: usize>([Lanes; N]);
 
@@ -83,7 +84,7 @@ impl<const N: usize> Bytes<N> {
         Bytes([lanes::splat(byte); N])
     }
 
-    /// The first bytes of the slice, which has as many at least.
+    /// The first bytes of the slice, which has at least as many.
     #[inline(always)]
     pub fn from_slice(bytes: &[u8]) -> Bytes<N> {
         let bytes = &bytes[..N * COUNT];
