@@ -1,4 +1,4 @@
-//! What C calls. Each call makes the slices of its pointers and lengths, and calls the erased function of its name.
+//! The calls from C. Each makes slices of its pointers and lengths, and calls the erased function of its name.
 
 use crate::erased::batch::CPlace;
 use crate::erased::escapes::CUnit;
@@ -9,12 +9,12 @@ use crate::erased::token::CToken;
 use core::panic::PanicInfo;
 use core::slice::{from_raw_parts, from_raw_parts_mut};
 
-/// A length, cut to the longest that a slice of these may have. No object is longer, so a true length stays as it is.
+/// Cuts a length to the longest that a slice of `T` may have. No object is longer, so a true length stays as it is.
 fn short<T>(len: usize) -> usize {
     len.min(isize::MAX as usize / size_of::<T>())
 }
 
-/// What can be read at a pointer. It may be null where the length is 0.
+/// Returns the items at a pointer, to be read. It may be null if the length is 0.
 unsafe fn read<'a, T>(items: *const T, len: usize) -> &'a [T] {
     if len == 0 {
         return &[];
@@ -23,7 +23,7 @@ unsafe fn read<'a, T>(items: *const T, len: usize) -> &'a [T] {
     unsafe { from_raw_parts(items, short::<T>(len)) }
 }
 
-/// What can be written at a pointer. It may be null where the length is 0.
+/// Returns the items at a pointer, to be written. It may be null if the length is 0.
 unsafe fn write<'a, T>(items: *mut T, len: usize) -> &'a mut [T] {
     if len == 0 {
         return &mut [];
@@ -32,7 +32,7 @@ unsafe fn write<'a, T>(items: *mut T, len: usize) -> &'a mut [T] {
     unsafe { from_raw_parts_mut(items, short::<T>(len)) }
 }
 
-/// The calls, by the modules that they stand in, with their parameters there: a slice crosses as a pointer and a length.
+/// The calls by module, with their parameters there. A slice crosses as a pointer and a length.
 macro_rules! calls {
     ($($module:ident { $(fn $name:ident($($parameters:tt)*) -> $answer:ty;)* })*) => {
         $($(calls!(@ $module $name $answer [] [] $($parameters)*,);)*)*
@@ -135,7 +135,7 @@ unsafe extern "C" {
     safe fn abort() -> !;
 }
 
-/// A panic ends the process. It is proved of the source that none comes where the caller keeps the header's promises.
+/// A panic ends the process. It is proved of the source that none happens if the caller keeps the header's promises.
 #[panic_handler]
 fn stop(_: &PanicInfo<'_>) -> ! {
     abort()
