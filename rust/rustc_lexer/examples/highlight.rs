@@ -1,5 +1,5 @@
-//! Keeps a file in colours while it is edited, as an editor does: its shebang line, its frontmatter and its code. Each line
-//! of standard input is an edit: START STOP TEXT. What is painted anew is printed, and in the end the whole file:
+//! Keeps a file in colours while it is edited, as an editor does: its shebang line, its frontmatter and its code. Each
+//! line of standard input is an edit: START STOP TEXT. Prints what is repainted, and at the end the whole file:
 //! `cargo run --example highlight -- FILE`.
 
 use rustc_lexer::{LexedDocument, Piece, TokenKind};
@@ -38,7 +38,7 @@ fn main() -> io::Result<()> {
         println!("{}  ({kept} tokens kept)", painted.concat());
         shown.splice(relexed.kept_front..shown.len() - relexed.kept_back, painted);
     }
-    // The shebang line is no token.
+    // The shebang line is not a token.
     let shebang = &lexed.text()[..lexed.shebang_len()];
     print!("\x1b[32m{shebang}\x1b[0m{}", shown.concat());
     Ok(())

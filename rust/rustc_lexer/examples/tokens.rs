@@ -1,5 +1,5 @@
-//! Prints the tokens of standard input, a line for each: where it begins, its length in bytes, and its kind. A shebang
-//! line in front is no token. `cargo run --example tokens < FILE`
+//! Prints the tokens of standard input, one a line: offset, length in bytes, and kind. A shebang line is not a token:
+//! `cargo run --example tokens < FILE`.
 use rustc_lexer::{Edition, tokenize_document};
 use std::io;
 

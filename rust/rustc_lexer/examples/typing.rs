@@ -1,5 +1,5 @@
-//! Keeps the tokens of a file while it is typed into: `cargo run --example typing -- FILE`. Each line of standard input
-//! is typed at the end of the file's first line, and the tokens that were lexed again are shown.
+//! Keeps the tokens of a file while you type into it: `cargo run --example typing -- FILE`. Types each line of standard
+//! input at the end of the file's first line, and prints the tokens that were lexed again.
 use rustc_lexer::LexedDocument;
 use std::{env, fs, io};
 
