@@ -137,11 +137,28 @@ async function follows() {
   await setText('0x\n'.repeat(100));
   await value('text.scrollTop = 60 * LINE');
   await untilTrue('at("lines").firstChild.dataset.line === "61" && at("wrong").firstChild.textContent.startsWith("line 61: ")');
+  const place = await value('at("place").textContent');
+  expect(place.startsWith('Caret at 1:1. Literal at 1:1, 2 bytes, kind=Int '), `of a caret that is out of sight it says ${place}`);
   await value('text.scrollTop = 0');
   await untilTrue('at("lines").firstChild.dataset.line === "1"');
   await tell('Emulation.setDeviceMetricsOverride', { width: 700, height: 930, deviceScaleFactor: 1, mobile: false });
   await untilTrue('at("lines").style.getPropertyValue("--wide") === `${text.clientWidth - 70}px`');
   await wide();
+}
+
+// The token at the caret: the sentence about it, and its row, which is in sight.
+async function carets() {
+  for (const [text, sentence] of [['a', 'Ident at 1:1, 1 byte'], ['"a\\n"',
+    'Literal at 1:1, 5 bytes, kind=Str terminated=true suffix_start=5; stands for 2 characters: "a\\n"']]) {
+    await setText(text);
+    const place = await value('at("place").textContent');
+    expect(place === `Caret at 1:1. ${sentence}`, `of ${text} it says ${place}`);
+  }
+  await setText(';'.repeat(200));
+  await value('text.focus(); text.setSelectionRange(150, 150)');
+  await untilTrue('document.querySelector("#tokens [aria-current=true]")?.firstChild.textContent === "1:151"');
+  expect(await value(`(([row, list]) => row.top > list.top && row.bottom < list.bottom)([document.querySelector('#tokens [aria-current]'),
+    document.querySelector('#listed .scroll')].map((part) => part.getBoundingClientRect()))`), 'the row of the token at the caret is out of sight');
 }
 
 // Each class of marks has a colour of its own, a fault is underlined, and what was lexed anew has a ground.
@@ -221,6 +238,7 @@ const tasks = {
   async keys() {
     await wide();
     await open();
+    expect(await value('text.value !== "" && text.value === SAMPLE && at("lines").firstChild.textContent === SAMPLE.split("\\n")[0]'), 'the page begins with a sample');
     await setText('let ab = 1;\n');
     await value('text.focus(); text.setSelectionRange(6, 6)');
     await key('"');
@@ -244,6 +262,7 @@ const tasks = {
     await saves();
     await help();
     await follows();
+    await carets();
     await colours();
     await widths();
     await open(`#edition=2021&document&text=${encodeURIComponent('#!/bin/sh\n---\na = 1\n---\nfn')}`);
