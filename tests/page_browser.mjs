@@ -154,6 +154,9 @@ async function carets() {
     const place = await value('at("place").textContent');
     expect(place === `Caret at 1:1. ${sentence}`, `of ${text} it says ${place}`);
   }
+  const cells = await value(`['#tokens th', '#tokens [aria-current] td'].map((name) => [...document.querySelectorAll(name)].map((cell) => cell.textContent))`);
+  expect(JSON.stringify(cells) === JSON.stringify([['Place', 'Byte', 'Length', 'Text', 'Kind and fields', 'Stands for'],
+    ['1:1', '0', '5', '"a\\n"', 'Literal kind=Str terminated=true suffix_start=5', '2 characters: "a\\n"']]), `the list says ${JSON.stringify(cells)}`);
   await setText(';'.repeat(200));
   await value('text.focus(); text.setSelectionRange(150, 150)');
   await untilTrue('document.querySelector("#tokens [aria-current=true]")?.firstChild.textContent === "1:151"');
@@ -161,7 +164,8 @@ async function carets() {
     document.querySelector('#listed .scroll')].map((part) => part.getBoundingClientRect()))`), 'the row of the token at the caret is out of sight');
 }
 
-// Each class of marks has a colour of its own, a fault is underlined, and what was lexed anew has a ground.
+// Each class of marks has a colour of its own, a fault is underlined, and what was lexed anew has a ground. A light page and a
+// dark one have the contrast that WCAG 2 asks for, 4.5 to 1.
 async function colours() {
   const kinds = ['comment', 'doc', 'keyword', 'type', 'text', 'escape', 'number', 'lifetime'];
   await setText(`// a\n/// a\nfn A "a\\n" 1 'a \u{b7}`);
@@ -172,6 +176,19 @@ async function colours() {
   expect(kinds.every((kind) => colour[kind] && colour[kind] !== colour['']), `colours of classes: ${JSON.stringify(colour)}`);
   expect(styles.filter(([, [, ground]]) => ground !== 'rgba(0, 0, 0, 0)').length === 1, `what is lexed anew is drawn as ${JSON.stringify(styles)}`);
   expect(styles.filter(([, [, , line]]) => line === 'underline').length === 1, `a fault is drawn as ${JSON.stringify(styles)}`);
+  const light = (colour) => colour.match(/[\d.]+/g).slice(0, 3).map((part) => part / 255)
+    .map((part) => (part <= 0.04045 ? part / 12.92 : ((part + 0.055) / 1.055) ** 2.4))
+    .reduce((sum, part, number) => sum + part * [0.2126, 0.7152, 0.0722][number], 0);
+  for (const scheme of ['light', 'dark']) {
+    await tell('Emulation.setEmulatedMedia', { features: [{ name: 'prefers-color-scheme', value: scheme }] });
+    const [ground, ...inks] = await value(`[getComputedStyle(document.body).backgroundColor, ...[...document.querySelectorAll('.code span, .said, h1, header p, #place, #wrong')]
+      .map((part) => getComputedStyle(part).color)]`);
+    for (const ink of inks) {
+      const [low, high] = [light(ground), light(ink)].sort((a, b) => a - b);
+      expect((high + 0.05) / (low + 0.05) >= 4.5, `${scheme}: ${ink} on ${ground}`);
+    }
+    expect((light(ground) > 0.5) === (scheme === 'light'), `${scheme}: the page has the ground ${ground}`);
+  }
 }
 
 // A saved file has the name of its edition, and the listing of that. The first and the last are saved by keys.
@@ -200,6 +217,10 @@ async function help() {
   expect(await value('at("keys").open'), 'the button shows the keys');
   await value('document.querySelector("#keys button").click()');
   expect(await value('!at("keys").open'), 'its button closes the list of keys');
+  // the browser has its own calls for these keys
+  const left = await value(`['F1', 's', 'x'].map((key) => dispatchEvent(new KeyboardEvent('keydown', { key, ctrlKey: key !== 'F1', cancelable: true })))`);
+  expect(left.join() === 'false,false,true', `the keys F1, Ctrl S and Ctrl X are left to the browser: ${left}`);
+  await value('at("keys").close()');
 }
 
 // The text is made wider by a drag, and narrower by a key.
