@@ -133,8 +133,8 @@ int main(int count, char **words) {
     size_t len;
     uint8_t *text = read_all(&len);
     if (text == NULL) {
-        fputs("listing: no input\n", stderr);
-        return 6;
+        fputs(ferror(stdin) ? "listing: read failed\n" : "listing: no memory\n", stderr);
+        return ferror(stdin) ? 7 : 6;
     }
     uint32_t status = shebang ? print_shebang(text, len) : print_tokens(text, len, front);
     free(text);
@@ -146,5 +146,5 @@ int main(int count, char **words) {
         fputs("listing: input too long\n", stderr);
         return 4;
     }
-    return fflush(stdout) == 0 ? 0 : 7;
+    return fflush(stdout) == 0 && !ferror(stdout) ? 0 : 7;
 }

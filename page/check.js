@@ -229,6 +229,15 @@ function known() {
   type(50, 50, ' ');
   const [front, lexed, back] = [...at('bar').children].map((part) => Number(part.style.flexGrow));
   expect(front > 0 && lexed < 5 && back > 50, `an edit kept ${front}, lexed ${lexed}, and kept ${back}`);
+  // how much is listed, in colours and said of one line
+  typeAll(';'.repeat(301));
+  const listedRows = document.querySelectorAll('#tokens tbody tr').length;
+  expect(listedRows === 300, `${listedRows} tokens are listed of 301`);
+  typeAll(`//${'a'.repeat(4100)}`);
+  const runs = [...at('lines').querySelectorAll('.code span')].map((run) => [run.className.split(' ')[0], run.textContent.length]);
+  expect(JSON.stringify(runs) === '[["comment",4000],["",102]]', `a long line is drawn as ${JSON.stringify(runs)}`);
+  typeAll('0x '.repeat(11));
+  expect(at('wrong').children.length === 10, `${at('wrong').children.length} faults are said of 11`);
   typeAll('q#b '.repeat(60));
   run(...Object.keys(checks));
   expect(/in 60 places; the first 50 are here/.test(at('differ').textContent), `60 differences: ${at('differ').textContent}`);

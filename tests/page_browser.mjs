@@ -88,7 +88,7 @@ async function key(text, code = text) {
   await tell('Input.dispatchKeyEvent', { type: 'keyUp', key: code });
 }
 
-// A key that writes nothing, like Backspace. The modifier 2 is Control.
+// A key that writes nothing, like Backspace. The modifier 2 is Control, and 4 is Meta.
 async function command(name, windowsVirtualKeyCode, modifiers = 0) {
   await tell('Input.dispatchKeyEvent', { type: 'rawKeyDown', key: name, code: name, windowsVirtualKeyCode, modifiers });
   await tell('Input.dispatchKeyEvent', { type: 'keyUp', key: name, code: name, windowsVirtualKeyCode, modifiers });
@@ -121,9 +121,77 @@ async function links() {
   }
   await open('#edition=1999&text=a');
   expect(await value(`${labelOf(YEARS.at(-1))}.firstChild.checked && text.value`) === 'a', 'a link of no edition');
+  // a link that is copied is the whole one, and one that is followed in an open page takes the place of what was there
+  const copied = await value(`Object.defineProperty(navigator, 'clipboard', { value: { writeText: async (words) => { copied = words; } } });
+    var copied; at('document').click(); at('link').click(); copied`);
+  expect(copied === await value('location.href') && /^file:.*&document=&text=a$/.test(copied), `the link that is copied is ${copied}`);
+  await value(`location.hash = '#edition=${YEARS[0]}&text=%23!b'`);
+  await untilTrue(`text.value === '#!b' && !at('document').checked && ${labelOf(YEARS[0])}.firstChild.checked
+    && at('kept').textContent === 'All was lexed: 3 tokens, 3 bytes, 1 lines.'`);
 }
 
-// A saved file has the name of its edition, and the listing of that. The last is saved by a key.
+// What is drawn follows the text: by itself, and where the field is scrolled or made smaller.
+async function follows() {
+  await setText('a');
+  await untilTrue(`at('differ').textContent === 'Tokens: ${YEARS.map((year) => `1 in ${year}`).join(', ')}. They are the same.'`);
+  await setText('0x\n'.repeat(100));
+  await value('text.scrollTop = 60 * LINE');
+  await untilTrue('at("lines").firstChild.dataset.line === "61" && at("wrong").firstChild.textContent.startsWith("line 61: ")');
+  const place = await value('at("place").textContent');
+  expect(place.startsWith('Caret at 1:1. Literal at 1:1, 2 bytes, kind=Int '), `of a caret that is out of sight it says ${place}`);
+  await value('text.scrollTop = 0');
+  await untilTrue('at("lines").firstChild.dataset.line === "1"');
+  await tell('Emulation.setDeviceMetricsOverride', { width: 700, height: 930, deviceScaleFactor: 1, mobile: false });
+  await untilTrue('at("lines").style.getPropertyValue("--wide") === `${text.clientWidth - 70}px`');
+  await wide();
+}
+
+// The token at the caret: the sentence about it, and its row, which is in sight.
+async function carets() {
+  for (const [text, sentence] of [['a', 'Ident at 1:1, 1 byte'], ['"a\\n"',
+    'Literal at 1:1, 5 bytes, kind=Str terminated=true suffix_start=5; stands for 2 characters: "a\\n"']]) {
+    await setText(text);
+    const place = await value('at("place").textContent');
+    expect(place === `Caret at 1:1. ${sentence}`, `of ${text} it says ${place}`);
+  }
+  const cells = await value(`['#tokens th', '#tokens [aria-current] td'].map((name) => [...document.querySelectorAll(name)].map((cell) => cell.textContent))`);
+  expect(JSON.stringify(cells) === JSON.stringify([['Place', 'Byte', 'Length', 'Text', 'Kind and fields', 'Stands for'],
+    ['1:1', '0', '5', '"a\\n"', 'Literal kind=Str terminated=true suffix_start=5', '2 characters: "a\\n"']]), `the list says ${JSON.stringify(cells)}`);
+  await setText(';'.repeat(200));
+  await value('text.focus(); text.setSelectionRange(150, 150)');
+  await untilTrue('document.querySelector("#tokens [aria-current=true]")?.firstChild.textContent === "1:151"');
+  expect(await value(`(([row, list]) => row.top > list.top && row.bottom < list.bottom)([document.querySelector('#tokens [aria-current]'),
+    document.querySelector('#listed .scroll')].map((part) => part.getBoundingClientRect()))`), 'the row of the token at the caret is out of sight');
+}
+
+// Each class of marks has a colour of its own, a fault is underlined, and what was lexed anew has a ground. A light page and a
+// dark one have the contrast that WCAG 2 asks for, 4.5 to 1.
+async function colours() {
+  const kinds = ['comment', 'doc', 'keyword', 'type', 'text', 'escape', 'number', 'lifetime'];
+  await setText(`// a\n/// a\nfn A "a\\n" 1 'a \u{b7}`);
+  await value('type(0, 0, " ")');
+  const styles = await value(`[...document.querySelectorAll('.code span')].map((run) => [run.className.split(' ')[0],
+    (({ color, backgroundColor, textDecorationLine }) => [color, backgroundColor, textDecorationLine])(getComputedStyle(run))])`);
+  const colour = Object.fromEntries(styles.map(([name, [first]]) => [name, first]));
+  expect(kinds.every((kind) => colour[kind] && colour[kind] !== colour['']), `colours of classes: ${JSON.stringify(colour)}`);
+  expect(styles.filter(([, [, ground]]) => ground !== 'rgba(0, 0, 0, 0)').length === 1, `what is lexed anew is drawn as ${JSON.stringify(styles)}`);
+  expect(styles.filter(([, [, , line]]) => line === 'underline').length === 1, `a fault is drawn as ${JSON.stringify(styles)}`);
+  const light = (colour) => colour.match(/[\d.]+/g).slice(0, 3).map((part) => part / 255)
+    .map((part) => (part <= 0.04045 ? part / 12.92 : ((part + 0.055) / 1.055) ** 2.4))
+    .reduce((sum, part, number) => sum + part * [0.2126, 0.7152, 0.0722][number], 0);
+  for (const scheme of ['light', 'dark']) {
+    await tell('Emulation.setEmulatedMedia', { features: [{ name: 'prefers-color-scheme', value: scheme }] });
+    const [ground, ...inks] = await value(`[getComputedStyle(document.body).backgroundColor, ...[...document.querySelectorAll('.code span, .said, h1, header p, #place, #wrong')]
+      .map((part) => getComputedStyle(part).color)]`);
+    for (const ink of inks) {
+      const [low, high] = [light(ground), light(ink)].sort((a, b) => a - b);
+      expect((high + 0.05) / (low + 0.05) >= 4.5, `${scheme}: ${ink} on ${ground}`);
+    }
+    expect((light(ground) > 0.5) === (scheme === 'light'), `${scheme}: the page has the ground ${ground}`);
+  }
+}
+
+// A saved file has the name of its edition, and the listing of that. The first and the last are saved by keys.
 async function saves() {
   await tell('Browser.setDownloadBehavior', { behavior: 'allow', downloadPath: profile });
   await setText(DIFFERENT);
@@ -131,7 +199,7 @@ async function saves() {
   for (const year of YEARS) {
     await setEdition(year);
     const file = join(profile, `tokens-${year}.txt`);
-    await (year === YEARS.at(-1) ? command('s', 83, 2) : value('at("save").click()'));
+    await (year === YEARS.at(-1) ? command('s', 83, 2) : year === YEARS[0] ? command('s', 83, 4) : value('at("save").click()'));
     await until(`a file ${file}`, () => existsSync(file) && readFileSync(file, 'utf8') !== '');
     const saved = readFileSync(file, 'utf8');
     expect(saved.split(' ')[2].trim().startsWith(kinds[year]) && saved.includes('GuardedStrPrefix') === (year === 2024), `${year}: saved is ${saved}`);
@@ -149,6 +217,10 @@ async function help() {
   expect(await value('at("keys").open'), 'the button shows the keys');
   await value('document.querySelector("#keys button").click()');
   expect(await value('!at("keys").open'), 'its button closes the list of keys');
+  // the browser has its own calls for these keys
+  const left = await value(`['F1', 's', 'x'].map((key) => dispatchEvent(new KeyboardEvent('keydown', { key, ctrlKey: key !== 'F1', cancelable: true })))`);
+  expect(left.join() === 'false,false,true', `the keys F1, Ctrl S and Ctrl X are left to the browser: ${left}`);
+  await value('at("keys").close()');
 }
 
 // The text is made wider by a drag, and narrower by a key.
@@ -164,7 +236,16 @@ async function widths() {
   await command('ArrowLeft', 37);
   const pressed = await width();
   expect(pressed < dragged && pressed > old, `the text has a width of ${pressed} after a key`);
+  for (const [name, code, share] of [['Home', 36, 20], ['ArrowLeft', 37, 20], ['ArrowRight', 39, 22], ['End', 35, 80], ['ArrowRight', 39, 80]]) {
+    await command(name, code);
+    const [said, part] = await value(`[Number(at('split').getAttribute('aria-valuenow')),
+      100 * at('typing').clientWidth / (at('typing').clientWidth + at('listed').clientWidth)]`);
+    expect(said === share && Math.abs(part - share) < 1, `${name}: the text has ${part} of the width, and said is ${said}`);
+  }
 }
+
+// Wide enough for the text beside its tokens.
+const wide = () => tell('Emulation.setDeviceMetricsOverride', { width: 1180, height: 930, deviceScaleFactor: 1, mobile: false });
 
 const tasks = {
   async check() {
@@ -176,9 +257,9 @@ const tasks = {
   },
 
   async keys() {
-    // wide enough for the text beside its tokens
-    await tell('Emulation.setDeviceMetricsOverride', { width: 1180, height: 930, deviceScaleFactor: 1, mobile: false });
+    await wide();
     await open();
+    expect(await value('text.value !== "" && text.value === SAMPLE && at("lines").firstChild.textContent === SAMPLE.split("\\n")[0]'), 'the page begins with a sample');
     await setText('let ab = 1;\n');
     await value('text.focus(); text.setSelectionRange(6, 6)');
     await key('"');
@@ -201,10 +282,15 @@ const tasks = {
     await links();
     await saves();
     await help();
+    await follows();
+    await carets();
+    await colours();
     await widths();
     await open(`#edition=2021&document&text=${encodeURIComponent('#!/bin/sh\n---\na = 1\n---\nfn')}`);
     const kinds = await value('show().tokens.map((token) => token.kind).join(" ")');
     expect(kinds === 'Whitespace Frontmatter Whitespace Ident', `a whole document: ${kinds}`);
+    await value('dispatchEvent(new ErrorEvent("error", { message: "no" }))');
+    expect(await value('at("kept").textContent') === 'This page has failed, load it again: no', 'a failure of the page is told');
     const names = (await tell('Accessibility.getFullAXTree')).nodes.filter((node) => !node.ignored)
       .map((node) => `${node.role?.value}: ${node.name?.value}`);
     for (const name of ['textbox: Text', 'checkbox: whole document', 'button: Copy a link', 'heading: Where the editions differ',

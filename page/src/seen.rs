@@ -94,7 +94,6 @@ pub fn show(source: &Source, first: usize, count: usize, caret: usize, edition: 
     let mut out = "{".to_string();
     push_name(&mut out, "lines");
     push_list(&mut out, &lines, push_line);
-    push_number(&mut out, "more", (past - begin).saturating_sub(MOST_TOKENS));
     push_number(&mut out, "count", there);
     push_number(&mut out, "begin", source.begin());
     push_name(&mut out, "tokens");

@@ -85,6 +85,34 @@ fn names_of_a_folder() {
     );
 }
 
+/// What an entry is now, and not what it was when the folder was read: the system is asked, which may know none.
+#[test]
+fn entries_that_have_changed() {
+    let rt = rt::start();
+    let folder = Folder::new("changed");
+    for name in ["gone", "new"] {
+        std::fs::write(folder.at(name), "").unwrap();
+    }
+    let entries: std::vec::Vec<_> = fs::read_dir(&rt, folder.0.to_str().unwrap())
+        .unwrap()
+        .map(Result::unwrap)
+        .collect();
+    for name in ["gone", "new"] {
+        std::fs::remove_file(folder.at(name)).unwrap();
+    }
+    std::fs::create_dir(folder.at("new")).unwrap();
+    for entry in entries {
+        let what = entry.file_type();
+        let wanted = std::fs::symlink_metadata(folder.at(entry.file_name()));
+        assert_eq!(
+            what.map(|what| what.is_dir()).map_err(|error| error.kind()),
+            wanted
+                .map(|what| what.is_dir())
+                .map_err(|error| error.kind())
+        );
+    }
+}
+
 #[test]
 fn a_name_that_is_no_text() {
     let rt = rt::start();

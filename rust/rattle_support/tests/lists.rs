@@ -60,6 +60,8 @@ fn texts() {
         (held.as_str(), held.to_string()),
         ("aé", std::string::String::from("aé"))
     );
+    // A width counts characters, as of each text in Rust.
+    assert_eq!(std::format!("{held:>4}|{held:-<3}"), "  aé|aé-");
     assert_eq!(std::string::String::from(held), "aé");
     assert_eq!(&*text("aé").into_bytes(), "aé".as_bytes());
     let mut bytes = Vec::new(Global);
@@ -162,6 +164,19 @@ fn sorted_texts() {
 #[test]
 fn an_error_says_so() {
     assert_eq!(AllocError.to_string(), "memory was refused");
+    assert_eq!(
+        std::boxed::Box::<dyn std::error::Error + Send + Sync>::from(AllocError).to_string(),
+        "memory was refused"
+    );
+}
+
+/// What room was made for takes no memory, however much stood there before.
+#[test]
+fn room_that_was_made() {
+    let mut held = text(&"a".repeat(100));
+    held.reserve(60).unwrap();
+    let more = "b".repeat(60);
+    assert_eq!(given(0, || held.push_str(&more)), Ok(()));
 }
 
 /// Room for more is given back, and where the smaller room is refused the larger one stays.

@@ -413,6 +413,27 @@ fn a_check_of_no_raw_string() {
     let _ = validate_raw_str("b\"a\"", 2);
 }
 
+/// What callers count on: an error goes behind `?`, an iterator that has ended stays so, and each type has a name here.
+#[test]
+fn traits_that_are_taken_for_granted() {
+    fn is_error<T: std::error::Error + Send + Sync + Copy + 'static>() {}
+    fn stays_at_its_end<T: std::iter::FusedIterator + Clone + std::fmt::Debug>() {}
+    fn is_measured<T: rustc_lexer::Measured>() {}
+    fn is_there<T>() {}
+    is_error::<rustc_lexer::AllocError>();
+    is_error::<rustc_lexer::UnknownEdition>();
+    is_error::<RawStrError>();
+    stays_at_its_end::<rustc_lexer::EditionTokens<'_>>();
+    is_measured::<Token>();
+    is_there::<rustc_lexer::BodyChange>();
+    #[cfg(feature = "alloc")]
+    {
+        is_error::<rustc_lexer::EditError>();
+        is_error::<rustc_lexer::EditStop>();
+        stays_at_its_end::<rustc_lexer::Pieces<'_>>();
+    }
+}
+
 #[test]
 fn what_is_written_of_values() {
     assert_eq!(format!("{:?}", FrontmatterAllowed::Yes), "Yes");

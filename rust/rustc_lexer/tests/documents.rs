@@ -280,7 +280,9 @@ fn what_is_held() {
 }
 
 #[test]
-#[should_panic(expected = "between characters")]
+#[should_panic(
+    expected = "the edit of 1..2: the range has to be inside the text, between characters"
+)]
 fn an_edit_inside_a_character() {
     LexedDocument::new("é").edit(1..2, "");
 }

@@ -52,6 +52,7 @@ fn where_nothing_is_written() {
         (EscapeCStrError::Nul, "a C string has no byte that is 0"),
         (EscapeCStrError::OutOfMemory, "memory was refused"),
     ] {
+        let error: Box<dyn std::error::Error + Send + Sync> = error.into();
         assert_eq!(error.to_string(), said);
     }
 }
