@@ -63,18 +63,19 @@ pub(crate) fn put_tokens(
     old_count: usize,
     head: Option<Head>,
     at: Relexing,
-    lexed: &[Token],
+    lexed: Vec<Token>,
 ) -> Result<(), AllocError> {
     let from = old_count + at.front.number;
     let to = old_count + at.back.number;
     match head {
         None => replace(tokens, from, to, lexed),
         Some(head) => {
-            let mut all = Vec::new(alloc);
-            head.push_to(&mut all)?;
-            all.extend_from_slice(&tokens.as_slice()[old_count..from])?;
-            all.extend_from_slice(lexed)?;
-            replace(tokens, 0, to, all.as_slice())
+            let mut front = Vec::new(alloc);
+            head.push_to(&mut front)?;
+            front.extend_from_slice(&tokens.as_slice()[old_count..from])?;
+            let mut all = lexed;
+            replace(&mut all, 0, 0, front)?;
+            replace(tokens, 0, to, all)
         }
     }
 }
