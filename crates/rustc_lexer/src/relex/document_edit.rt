@@ -39,7 +39,7 @@ pub(crate) fn body_change(kept: bool, from: usize, to: usize, edit: Change) -> C
 pub(crate) fn keeps_head(old: Head, now: Head, start: usize) -> bool
     ensures { IsTrue result ↔ (old ≡ now) × (old.end ≤ start) }
 {
-    old.end <= start && old.is_same(now)
+    old.end <= start && old == now
 }
 
 /// Returns the head to put in, or `None` if the old one stays.
