@@ -1,5 +1,5 @@
 -- The head of a document: where it ends.
-use Rattle.std.proofs.Common.{◌≡◌, ℕ, ◌+◌, ◌-◌, true, false, List, length, drop, refl, sym, ap, ◌∙◌, subst, arith, drop-drop, IsUtf8, IsCharBoundary, chars, length-drop, Some, None, Option, Bool, IsTrue, ◌↔◌}
+use Rattle.std.proofs.Common.{◌≡◌, ℕ, ◌+◌, ◌-◌, true, false, List, length, drop, refl, sym, ap, ◌∙◌, subst, arith, drop-drop, IsUtf8, IsCharBoundary, chars, length-drop, Some, None, Bool}
 use Rattle.std.proofs.lemmas.Str.{IsUtf8-drop, IsCharBoundary-from_rest}
 use Rattle.rustc_lexer.specs.{Token}
 use Rattle.rustc_lexer.specs.Document.{shebang_len}
@@ -47,16 +47,6 @@ module _ (text rest : List ℕ) (n : ℕ) (is : IsUtf8 text) (at : IsCharBoundar
       let here : tail ≡ drop (n + (length rest - length tail)) text = g ∙ (past-drop k rest rest-utf8 ∙ (ap (λ j. drop j rest) m ∙ (ap (drop (length rest - length tail)) f ∙ (drop-drop (length rest - length tail) n text ∙ (let turned : n + (length rest - length tail) ≡ n + (length rest - length tail) = refl in refl))))) in
       let there : IsCharBoundary (drop (n + (length rest - length tail)) text) front.len = rw (is_frontmatter, ← here) cut.boundary in
       IsCharBoundary-from_rest text (n + (length rest - length tail)) front.len (omega (arith, at.0, ap length f, length-drop n text)) there
-
--- two frontmatters that are there are the same where the tokens are
-some_is : Token → Option Token → Token
-some_is other None = other
-some_is other (Some t) = t
-
-pub some-same : (answer : Bool) (front other : Option Token) (a b : Token) → front ≡ Some a → other ≡ Some b → IsTrue answer ↔ (a ≡ b) → IsTrue answer ↔ (front ≡ other)
-unfolding some_is
-some-same answer front other a b e f told =
-    (λ t. e ∙ (ap (λ (x : Token). Some x) (told.0 t) ∙ sym f), λ g. told.1 (ap (some_is a) (sym e ∙ (g ∙ f))))
 
 shebang_by : (text : List ℕ) (a b : Bool) → opens (chars (drop (shebang_len text) text)) ≡ a → opens (chars (past (spaces_len (chars (drop (shebang_len text) text))) (drop (shebang_len text) text))) ≡ b → (head_of text).shebang ≡ shebang_len text
 unfolding head_of

@@ -13,10 +13,10 @@ use Rattle.rustc_lexer.specs.{Token}
 use Rattle.rustc_lexer.specs.Tokens.{bound, tokens_by}
 use Rattle.rustc_lexer.specs.Edits.{apply, kept_front, IsEdit, IsBound, known}
 use Rattle.rustc_lexer.specs.Relexing.{IsChange, IsMadeOf, IsWhole}
-use Rattle.rustc_lexer.specs.means.Relexing.{IsFollowed, IsFront, damage_of, old_stop_of, least_from, meet, meets_at, relexed_of, Stands}
+use Rattle.rustc_lexer.specs.means.Relexing.{IsFollowed, IsFront, IsLast, damage_of, old_stop_of, least_from, meet, meets_at, relexed_of, Stands}
 use Rattle.rustc_lexer.specs.Locality.{has_two, IsGrammar}
 use Rattle.rustc_lexer.specs.Classes.{IsText}
-use Rattle.rustc_lexer.proofs.BoundLemmas.{least_from_ge, bound-last}
+use Rattle.rustc_lexer.proofs.BoundLemmas.{least_from_ge, bound-last, bound_mono, rises}
 use Rattle.rustc_lexer.specs.laws.Cuts.{IsCutAt, at_bound, tokens-cons}
 use Rattle.rustc_lexer.proofs.EditLemmas.{IsEdited, edited, bound-same, start_inside}
 use Rattle.rustc_lexer.proofs.MeetingLemmas.{IsGoing, IsMet, going_inside, going_least, going_met, test}
@@ -54,7 +54,7 @@ unfolding meet
 meet_ge old new old_stop new_stop k = least_from_ge (λ i. meets_at old old_stop new_stop (bound new i)) (length new - k) k
 
 -- what a change did to a text ends where the change does
-pub damage_stop : (text : List ℕ) (change : Change) → IsChange text change → old_stop_of (damage_of change) ≡ change.old_stop
+pub damage_stop : (text : List ℕ) (change : Change) → IsChange text change → old_stop_of (damage_of text change) ≡ change.old_stop
 damage_stop text change is = let a = is.start_le_old in let b = is.inserted.start_le_stop in omega arith
 
 module _ {first : List ℕ → Token} (law : IsGrammar first) (before lengths insert text : List ℕ) (change : Change) (is : IsMadeOf first before lengths change insert text) where
@@ -101,6 +101,23 @@ module _ {first : List ℕ → Token} (law : IsGrammar first) (before lengths in
         start_le_old = a;
         old_short = omega arith;
       }
+
+  -- both texts end alike behind the edit
+  text_end : (bound old (length old) + change.new_stop ≡ length text + change.old_stop) × (change.new_stop ≤ length text)
+  text_end =
+      let l = ed.len in
+      let e = is.edit.inside.start_le_stop in
+      let f = is.edit.inside.stop_inside in
+      let m : length text ≡ length (apply before change.start change.old_stop insert) = ap (λ (t : List ℕ). length t) is.made in
+      let n = is.new_stop in
+      let s : change.start + length insert ≤ length (apply before change.start change.old_stop insert) = start_inside law before change.start change.old_stop insert _ is.is_text is.edit ed in
+      (omega (arith, bound-last law before is.is_text), omega arith)
+
+  -- the end of the text, moved back, is the end of the old tokens
+  pub end_last : (place : ℕ) → place ≡ length text → IsLast old (place - change.new_stop + old_stop_of (damage_of text change))
+  end_last place at =
+      let ends : bound old (length old) ≡ place - change.new_stop + old_stop_of (damage_of text change) = omega (arith, damage_stop text change made_change, text_end.0, text_end.1) in
+      (ends, λ k less. omega (arith, ends, rises law before is.is_text k less, bound_mono old (suc k) (length old) less))
 
   -- what lexing from the kept front asks
   ready : (kept : Bound) → IsBound old kept → (0 < kept.number → has_two before kept.place change.start ≡ true) → IsReady first old text kept change.start
@@ -159,15 +176,7 @@ module _ {first : List ℕ → Token} (law : IsGrammar first) (before lengths in
     -- where the old tokens are not met, more text is left
     pub stands_inside : at.met ≡ false → at.at < length text
     stands_inside out =
-        let l = ed.len in
-        let e = is.edit.inside.start_le_stop in
-        let f = is.edit.inside.stop_inside in
-        let m : length text ≡ length (apply before change.start change.old_stop insert) = ap (λ (t : List ℕ). length t) is.made in
-        let n = is.new_stop in
-        let s : change.start + length insert ≤ length (apply before change.start change.old_stop insert) = start_inside law before change.start change.old_stop insert _ is.is_text is.edit ed in
-        let past : change.new_stop ≤ length text = omega arith in
-        let ends : bound old (length old) + change.new_stop ≡ length text + change.old_stop = omega (arith, bound-last law before is.is_text) in
-        going_inside first old text change.old_stop change.new_stop at.front.number law made_text items at.at at.back.number at.back.place at.met going past ends out
+        going_inside first old text change.old_stop change.new_stop at.front.number law made_text items at.at at.back.number at.back.place at.met going text_end.1 text_end.0 out
 
     -- at the end of the text they are met
     pub over_met : at.met ≡ false → eqb at.at (length text) ≡ at.met

@@ -1,4 +1,4 @@
--- What `==` of two tokens tells: that they are the same.
+-- What `==` of two tokens, or of two heads, tells: that they are the same.
 use Rattle.std.proofs.Common.{◌≡◌, ◌↔◌, IsTrue, Bool, true, false, true≢false, refl, sym, ap, ◌∙◌, ◌==◌, List, [], ◌∷◌, Option, ◌&&◌, inl, inr, arith}
 use Rattle.std.specs.Cmp.Derive.{of_values}
 use Rattle.std.specs.Option.{option_eq}
@@ -9,12 +9,14 @@ use denote.Enum.Compared.{Each, by}
 use denote.Enum.Declared.{Record, Choice, values_one}
 use denote.Struct.Field.{Field}
 use mathlib.Core.Bool.{beq}
+use Rattle.rustc_lexer.specs.contracts.relex.head.HeadEq.TheImpl.Laws as equal
+use Rattle.rustc_lexer.specs.contracts.relex.head.HeadPartialEq.TheImpl as head
 use Rattle.rustc_lexer.specs.contracts.token.DocStyle as doc_style
 use Rattle.rustc_lexer.specs.contracts.token.LiteralKindPartialEq.TheImpl as literal
-use Rattle.rustc_lexer.specs.contracts.token.TokenEq.TheImpl.Laws as equal
 use Rattle.rustc_lexer.specs.contracts.token.TokenKind as token_kind
 use Rattle.rustc_lexer.specs.contracts.token.TokenKindPartialEq.TheImpl as kind
 use Rattle.rustc_lexer.specs.contracts.token.TokenPartialEq.TheImpl as token
+use Rattle.rustc_lexer.specs.declared.relex.head.Head.{Head}
 use Rattle.rustc_lexer.specs.{Token}
 
 -- what `==` answers
@@ -79,9 +81,16 @@ kind-tells =
 pub same_token : (a b : Token) → is_same a b ≡ true → a ≡ b
 same_token a b e = grind (arith, common_steps, and_parts, kind-tells, eqb-true)
 
-token_same : (a b : Token) → a ≡ b → is_same a b ≡ true
-token_same a b e = ap (is_same a) (sym e) ∙ equal.laws-law.refl a
+-- ---- heads
+
+heads_by : (E : Option Token → Option Token → Bool) → ((x y : Option Token) → E x y ≡ true → x ≡ y) → (a b : Head) → (a.shebang == b.shebang && (a.space == b.space && (E a.front b.front && a.end == b.end))) ≡ true → a ≡ b
+heads_by E tells a b e =
+    let p = and_parts (a.shebang == b.shebang) (a.space == b.space && (E a.front b.front && a.end == b.end)) e in
+    let q = and_parts (a.space == b.space) (E a.front b.front && a.end == b.end) p.1 in
+    let r = and_parts (E a.front b.front) (a.end == b.end) q.1 in
+    λ i. record { shebang = eqb-true a.shebang b.shebang p.0 i; space = eqb-true a.space b.space q.0 i; front = tells a.front b.front r.0 i; end = eqb-true a.end b.end r.1 i }
 
 -- of an answer of `==`
-pub told_same : (answer : Bool) (a b : Token) → answer ≡ is_same a b → IsTrue answer ↔ (a ≡ b)
-told_same answer a b told = (λ t. same_token a b (sym told ∙ t), λ e. told ∙ token_same a b e)
+pub told_head : (answer : Bool) (a b : Head) → answer ≡ head.ghosts.eq a b → IsTrue answer ↔ (a ≡ b)
+told_head answer a b told =
+    (λ t. heads_by (option_eq is_same) (option-tells is_same (record { tells = same_token })) a b (sym told ∙ t), λ e. told ∙ (ap (head.ghosts.eq a) (sym e) ∙ equal.laws-law.refl a))

@@ -80,13 +80,17 @@ pub record IsFront (old : List ℕ) (tokens : List Token) (lengths text : List �
   pub lengths_are : HasLengths tokens lengths
   pub same : take start text ≡ take start old
 
--- what a change did to a text
-abbrev pub damage_of : Change → Damage
-damage_of change = record { past = change.new_stop; added = change.new_stop - change.start; removed = change.old_stop - change.start }
+-- what a change did to the text that it made
+abbrev pub damage_of : List ℕ → Change → Damage
+damage_of text change = record { past = change.new_stop; added = change.new_stop - change.start; removed = change.old_stop - change.start; end = length text }
 
 -- where its end was in the old text
 abbrev pub old_stop_of : Damage → ℕ
 old_stop_of damage = damage.past - damage.added + damage.removed
+
+-- the last bound of the tokens is here, and no other
+abbrev pub IsLast : List Token → ℕ → Type 0
+IsLast tokens place = (bound tokens (length tokens) ≡ place) × ((k : ℕ) → k < length tokens → bound tokens k < place)
 
 -- a place of the new text was followed to a bound of the old tokens, and whether it meets it
 pub record IsFollowed (old : List Token) (old_stop new_stop place : ℕ) (back : Bound) (met : Bool) : Type 0 where

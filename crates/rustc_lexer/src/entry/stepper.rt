@@ -120,7 +120,7 @@ impl Stepper for Steps {
     ghost law = { λ s. edition_grammar s.edition };
 
     fn step(&mut self, rest: &str) -> Token {
-        self.tally.tick();
+        self.tally.tick_by(1);
         token_in(rest, self.edition)
     }
 

@@ -25,13 +25,6 @@ impl Tally {
         }
     }
 
-    /// Adds one to the count.
-    pub(crate) fn tick(&mut self)
-        ensures { self.new.count ≡ self.old.count + 1 }
-    {
-        self.tick_by(1);
-    }
-
     /// Adds this many to the count.
     pub(crate) fn tick_by(&mut self, _more: usize)
         ensures { self.new.count ≡ self.old.count + _more }

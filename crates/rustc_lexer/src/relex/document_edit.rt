@@ -39,7 +39,7 @@ pub(crate) fn body_change(kept: bool, from: usize, to: usize, edit: Change) -> C
 pub(crate) fn keeps_head(old: Head, now: Head, start: usize) -> bool
     ensures { IsTrue result ↔ (old ≡ now) × (old.end ≤ start) }
 {
-    old.end <= start && old.is_same(now)
+    old.end <= start && old == now
 }
 
 /// Returns the head to put in, or `None` if the old one stays.
@@ -81,7 +81,7 @@ pub(crate) fn put_tokens(
     old_count: usize,
     head: Option<Head>,
     at: Relexing,
-    lexed: &[Token],
+    lexed: Vec<Token>,
 ) -> Result<(), AllocError>
     requires order { at.front.number ≤ at.back.number }
     requires inside { old_count + at.back.number ≤ length tokens.old.items }
@@ -89,7 +89,7 @@ pub(crate) fn put_tokens(
         (tokens.new.items
         ≡ means.head_put (take old_count tokens.old.items) head
         ++ (take at.front.number (drop old_count tokens.old.items)
-        ++ (lexed.now ++ drop at.back.number (drop old_count tokens.old.items)))) }
+        ++ (lexed.items ++ drop at.back.number (drop old_count tokens.old.items)))) }
     ensures same { OnErr result (tokens.new.items ≡ tokens.old.items) }
 {
     let from = old_count + at.front.number;
@@ -97,11 +97,12 @@ pub(crate) fn put_tokens(
     match head {
         None => replace(tokens, from, to, lexed),
         Some(head) => {
-            let mut all = Vec::new(alloc);
-            head.push_to(&mut all)?;
-            all.extend_from_slice(&tokens.as_slice()[old_count..from])?;
-            all.extend_from_slice(lexed)?;
-            replace(tokens, 0, to, all.as_slice())
+            let mut front = Vec::new(alloc);
+            head.push_to(&mut front)?;
+            front.extend_from_slice(&tokens.as_slice()[old_count..from])?;
+            let mut all = lexed;
+            replace(&mut all, 0, 0, front)?;
+            replace(tokens, 0, to, all)
         }
     }
 }

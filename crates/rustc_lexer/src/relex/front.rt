@@ -7,7 +7,7 @@ ghost use Rattle.rustc_lexer.specs.{Token};
 ghost use Rattle.rustc_lexer.specs.Edits.{kept_front, IsBound};
 ghost use Rattle.rustc_lexer.specs.Locality.{has_two};
 ghost use Rattle.rustc_lexer.specs.Tokens.{bound};
-ghost use Rattle.rustc_lexer.specs.means.Relexing.{IsFollowed, IsFront, HasLengths, old_stop_of};
+ghost use Rattle.rustc_lexer.specs.means.Relexing.{IsFollowed, IsFront, IsLast, HasLengths, old_stop_of};
 
 use crate::token::Token;
 
@@ -203,16 +203,18 @@ pub(crate) struct Meeting {
 }
 
 /// The effect of an edit on the text. The edit ends at `past` in the new text, where it replaced `removed` bytes
-/// with `added` bytes.
+/// with `added` bytes. The new text ends at `end`.
 #[derive(Clone, Copy)]
 pub(crate) struct Damage {
     pub past: usize,
     pub added: usize,
     pub removed: usize,
+    pub end: usize,
 }
 
 /// Returns how far the old tokens are followed, and whether the new ones meet them there: whether the new bound at
-/// `place` is past the edit and, moved back, a bound of the old tokens.
+/// `place` is past the edit and, moved back, a bound of the old tokens. The end of the new text is always one, the last
+/// one, so no length is read there.
 pub(crate) fn follow<T: Measured>(
     tokens: &[T],
     from: Bound,
@@ -231,6 +233,7 @@ pub(crate) fn follow<T: Measured>(
     ensures followed { (ts : List Token) → HasLengths ts (map T.bytes tokens.now) → IsBound ts from
         → ((k : ℕ) → k < from.number
         → bound ts k + damage.past < max damage.past place + old_stop_of damage)
+        → (place ≡ damage.end → IsLast ts (place - damage.past + old_stop_of damage))
         → IsFollowed ts (old_stop_of damage) damage.past place result.at result.met }
 {
     if place < damage.past {
@@ -240,6 +243,15 @@ pub(crate) fn follow<T: Measured>(
         };
     }
     let target = place - damage.added + damage.removed;
+    if place == damage.end {
+        return Meeting {
+            at: Bound {
+                number: tokens.len(),
+                place: target,
+            },
+            met: true,
+        };
+    }
     let at = next_bound(tokens, from, target);
     Meeting {
         at,

@@ -1,5 +1,5 @@
 //! The head of a document: the part before its body.
-ghost use Rattle.std.specs.Prelude.{◌≡◌, ◌↔◌, ◌++◌, OnOk, IsTrue, length};
+ghost use Rattle.std.specs.Prelude.{◌≡◌, ◌++◌, OnOk, length};
 ghost use Rattle.std.specs.Str.{IsCharBoundary};
 ghost use Rattle.rustc_lexer.specs.Classes.{Fits};
 ghost use Rattle.rustc_lexer.specs.Head as spec;
@@ -114,26 +114,5 @@ impl Head {
             list.push(front)?;
         }
         Ok(())
-    }
-
-    /// Returns whether the head is the same as the other.
-    pub(crate) fn is_same(self, other: Head) -> bool
-        ensures { IsTrue result ↔ (self ≡ other) }
-    {
-        same_front(self.front, other.front)
-            && self.shebang == other.shebang
-            && self.space == other.space
-            && self.end == other.end
-    }
-}
-
-/// Returns whether both are the same frontmatter, or both are none.
-fn same_front(front: Option<Token>, other: Option<Token>) -> bool
-    ensures { IsTrue result ↔ (front ≡ other) }
-{
-    match (front, other) {
-        (Some(front), Some(other)) => front == other,
-        (None, None) => true,
-        _ => false,
     }
 }

@@ -63,7 +63,7 @@ impl<S: Stepper> Kept<S> {
         let (mut tokens, checkpoints) = lex_all(alloc, &mut stepper, &text[head.end..])?;
         let mut front = Vec::new(alloc);
         head.push_to(&mut front)?;
-        replace(&mut tokens, 0, 0, front.as_slice())?;
+        replace(&mut tokens, 0, 0, front)?;
         Ok(Kept {
             alloc,
             tokens,
@@ -113,14 +113,7 @@ impl<S: Stepper> Kept<S> {
     {
         let old = &self.tokens.as_slice()[old_count..];
         let (lexed, at) = relex(self.alloc, &mut self.stepper, old, near, body, change)?;
-        put_tokens(
-            self.alloc,
-            &mut self.tokens,
-            old_count,
-            head,
-            at,
-            lexed.as_slice(),
-        )?;
+        put_tokens(self.alloc, &mut self.tokens, old_count, head, at, lexed)?;
         Ok(at)
     }
 

@@ -47,16 +47,17 @@ impl Change {
             && text.is_char_boundary(self.new_stop)
     }
 
-    /// Returns what the change did to the text.
-    fn damage(self) -> Damage
+    /// Returns what the change did to the text that it made.
+    fn damage(self, text: &str) -> Damage
         requires old { self.start ≤ self.old_stop }
         requires new { self.start ≤ self.new_stop }
-        ensures { result ≡ damage_of self }
+        ensures { result ≡ damage_of text.now self }
     {
         Damage {
             past: self.new_stop,
             added: self.new_stop - self.start,
             removed: self.old_stop - self.start,
+            end: text.len(),
         }
     }
 }
@@ -105,7 +106,7 @@ impl Relexing {
             → IsUnderWay first before change text.now result }
     {
         let front = kept_front(text, old, change.start, near);
-        let to = follow(old, front, front.place, change.damage());
+        let to = follow(old, front, front.place, change.damage(text));
         Relexing {
             front,
             lexed: 0,
@@ -173,7 +174,7 @@ impl Relexing {
         }
         let token = stepper.step(&text[self.at..]);
         let at = self.at + token.len as usize;
-        let to = follow(old, self.back, at, change.damage());
+        let to = follow(old, self.back, at, change.damage(text));
         *self = Relexing {
             front: self.front,
             lexed: self.lexed + 1,
@@ -283,7 +284,7 @@ impl Relexing {
     {
         let (count, bytes) = stepper.fill(&text[self.at..], far, buffer);
         let at = self.at + bytes;
-        let to = follow(old, self.back, at, change.damage());
+        let to = follow(old, self.back, at, change.damage(text));
         *self = Relexing {
             front: self.front,
             lexed: self.lexed + count,

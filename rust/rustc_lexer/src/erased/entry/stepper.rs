@@ -62,7 +62,7 @@ impl Steps {
 
 impl Stepper for Steps {
     fn step(&mut self, rest: &str) -> Token {
-        self.tally.tick();
+        self.tally.tick_by(1);
         token_in(rest, self.edition)
     }
 

@@ -16,11 +16,6 @@ impl Tally {
         }
     }
 
-    /// Adds one to the count.
-    pub(crate) fn tick(&mut self) {
-        self.tick_by(1);
-    }
-
     /// Adds this many to the count.
     pub(crate) fn tick_by(&mut self, _more: usize) {}
 }

@@ -29,7 +29,7 @@ pub(crate) fn body_change(kept: bool, from: usize, to: usize, edit: Change) -> C
 
 /// Returns whether the head stays: whether the edit, which begins at `start`, is behind it and leaves it the same.
 pub(crate) fn keeps_head(old: Head, now: Head, start: usize) -> bool {
-    old.end <= start && old.is_same(now)
+    old.end <= start && old == now
 }
 
 /// Returns the head to put in, or `None` if the old one stays.
@@ -63,18 +63,19 @@ pub(crate) fn put_tokens(
     old_count: usize,
     head: Option<Head>,
     at: Relexing,
-    lexed: &[Token],
+    lexed: Vec<Token>,
 ) -> Result<(), AllocError> {
     let from = old_count + at.front.number;
     let to = old_count + at.back.number;
     match head {
         None => replace(tokens, from, to, lexed),
         Some(head) => {
-            let mut all = Vec::new(alloc);
-            head.push_to(&mut all)?;
-            all.extend_from_slice(&tokens.as_slice()[old_count..from])?;
-            all.extend_from_slice(lexed)?;
-            replace(tokens, 0, to, all.as_slice())
+            let mut front = Vec::new(alloc);
+            head.push_to(&mut front)?;
+            front.extend_from_slice(&tokens.as_slice()[old_count..from])?;
+            let mut all = lexed;
+            replace(&mut all, 0, 0, front)?;
+            replace(tokens, 0, to, all)
         }
     }
 }

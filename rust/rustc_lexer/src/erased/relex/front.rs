@@ -141,16 +141,18 @@ pub(crate) struct Meeting {
 }
 
 /// The effect of an edit on the text. The edit ends at `past` in the new text, where it replaced `removed` bytes
-/// with `added` bytes.
+/// with `added` bytes. The new text ends at `end`.
 #[derive(Clone, Copy)]
 pub(crate) struct Damage {
     pub past: usize,
     pub added: usize,
     pub removed: usize,
+    pub end: usize,
 }
 
 /// Returns how far the old tokens are followed, and whether the new ones meet them there: whether the new bound at
-/// `place` is past the edit and, moved back, a bound of the old tokens.
+/// `place` is past the edit and, moved back, a bound of the old tokens. The end of the new text is always one, the last
+/// one, so no length is read there.
 pub(crate) fn follow<T: Measured>(
     tokens: &[T],
     from: Bound,
@@ -164,6 +166,15 @@ pub(crate) fn follow<T: Measured>(
         };
     }
     let target = place - damage.added + damage.removed;
+    if place == damage.end {
+        return Meeting {
+            at: Bound {
+                number: tokens.len(),
+                place: target,
+            },
+            met: true,
+        };
+    }
     let at = next_bound(tokens, from, target);
     Meeting {
         at,

@@ -101,21 +101,4 @@ impl Head {
         }
         Ok(())
     }
-
-    /// Returns whether the head is the same as the other.
-    pub(crate) fn is_same(self, other: Head) -> bool {
-        same_front(self.front, other.front)
-            && self.shebang == other.shebang
-            && self.space == other.space
-            && self.end == other.end
-    }
-}
-
-/// Returns whether both are the same frontmatter, or both are none.
-fn same_front(front: Option<Token>, other: Option<Token>) -> bool {
-    match (front, other) {
-        (Some(front), Some(other)) => front == other,
-        (None, None) => true,
-        _ => false,
-    }
 }

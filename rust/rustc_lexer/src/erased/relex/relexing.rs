@@ -36,12 +36,13 @@ impl Change {
             && text.is_char_boundary(self.new_stop)
     }
 
-    /// Returns what the change did to the text.
-    fn damage(self) -> Damage {
+    /// Returns what the change did to the text that it made.
+    fn damage(self, text: &str) -> Damage {
         Damage {
             past: self.new_stop,
             added: self.new_stop - self.start,
             removed: self.old_stop - self.start,
+            end: text.len(),
         }
     }
 }
@@ -81,7 +82,7 @@ impl Relexing {
     /// begins at `near`, which may be any bound of the old tokens.
     pub fn begin<T: Measured>(text: &str, old: &[T], change: Change, near: Bound) -> Relexing {
         let front = kept_front(text, old, change.start, near);
-        let to = follow(old, front, front.place, change.damage());
+        let to = follow(old, front, front.place, change.damage(text));
         Relexing {
             front,
             lexed: 0,
@@ -120,7 +121,7 @@ impl Relexing {
         }
         let token = stepper.step(&text[self.at..]);
         let at = self.at + token.len as usize;
-        let to = follow(old, self.back, at, change.damage());
+        let to = follow(old, self.back, at, change.damage(text));
         *self = Relexing {
             front: self.front,
             lexed: self.lexed + 1,
@@ -186,7 +187,7 @@ impl Relexing {
     ) -> usize {
         let (count, bytes) = stepper.fill(&text[self.at..], far, buffer);
         let at = self.at + bytes;
-        let to = follow(old, self.back, at, change.damage());
+        let to = follow(old, self.back, at, change.damage(text));
         *self = Relexing {
             front: self.front,
             lexed: self.lexed + count,

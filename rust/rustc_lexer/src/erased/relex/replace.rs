@@ -5,18 +5,22 @@ use crate::erased::token::{Token, TokenKind};
 use crate::support::AllocError;
 
 /// Replaces the tokens from `from` up to `to`. It asks for memory at most once, only if the list has no room, and
-/// before it changes anything.
+/// before it changes anything. A list that keeps no token and is to grow is not written: `with` becomes the list.
 pub(crate) fn replace(
     list: &mut Vec<Token>,
     from: usize,
     to: usize,
-    with: &[Token],
+    with: Vec<Token>,
 ) -> Result<(), AllocError> {
-    if with.len() == to - from {
-        put(list.as_mut_slice(), from, with);
+    let old_len = list.len();
+    if to - from == old_len && with.len() > old_len {
+        *list = with;
         return Ok(());
     }
-    let old_len = list.len();
+    if with.len() == to - from {
+        put(list.as_mut_slice(), from, with.as_slice());
+        return Ok(());
+    }
     let new_len = old_len - (to - from) + with.len();
     if new_len > old_len {
         let filler = Token {
@@ -27,7 +31,7 @@ pub(crate) fn replace(
     }
     list.copy_within(to..old_len, from + with.len());
     list.truncate(new_len);
-    put(list.as_mut_slice(), from, with);
+    put(list.as_mut_slice(), from, with.as_slice());
     Ok(())
 }
 

@@ -4,7 +4,7 @@ use Rattle.rustc_lexer.specs.{Token}
 use Rattle.rustc_lexer.specs.Tokens.{IsFilledTo, bound, tokens_by}
 use Rattle.rustc_lexer.specs.means.Relexing.{IsFollowed, old_stop_of}
 use Rattle.rustc_lexer.proofs.RelexBlockLemmas.{stretch, stands_filled}
-use Rattle.rustc_lexer.proofs.RelexingLemmas.{below_later, damage_stop}
+use Rattle.rustc_lexer.proofs.RelexingLemmas.{below_later, damage_stop, end_last}
 use Rattle.rustc_lexer.proofs.relex.relexing.Relexing.fill_far.Goals as goal
 
 pub overflow_add-at : goal.overflow_add-at
@@ -46,7 +46,7 @@ returns-clause-stands g c = λ before insert is_made stands.
     let s = stretch law c.utf8.text c.requires.fits c.requires.may_go_on.boundary c.range_from.ensures.value c.fill-count.ensures.filled c.fill-count.ensures.bytes c.requires.places c.requires.some in
     let bytes = c.fill-count.result.1 in
     let later = below_later law before _ insert _ c.args.change is_made at stands.stands (at.at + bytes) (omega arith) in
-    let to = c.follow-to.ensures.followed (tokens_by first before) is_made.lengths_are stands.stands.back_bound (rw c.damage.ensures (λ n less. let b = later n less in let e = damage_stop c.args.text.now c.args.change c.requires.change in omega arith)) in
+    let to = c.follow-to.ensures.followed (tokens_by first before) is_made.lengths_are stands.stands.back_bound (rw c.damage.ensures (λ n less. let b = later n less in let e = damage_stop c.args.text.now c.args.change c.requires.change in omega arith)) (rw c.damage.ensures (end_last law before _ insert _ c.args.change is_made (at.at + bytes))) in
     let Followed : Damage → Type 0 = λ d. IsFollowed (tokens_by first before) (old_stop_of d) d.past (at.at + bytes) c.follow-to.result.at c.follow-to.result.met in
     let followed = subst (λ n. IsFollowed (tokens_by first before) n c.args.change.new_stop (at.at + bytes) c.follow-to.result.at c.follow-to.result.met) (damage_stop c.args.text.now c.args.change c.requires.change) (subst Followed c.damage.ensures to) in
     let left = c.range_from.ensures.value in

@@ -4,7 +4,7 @@ use Rattle.rustc_lexer.specs.Tokens.{tokens_by}
 use Rattle.rustc_lexer.specs.means.Relexing.{IsFollowed, old_stop_of}
 use Rattle.rustc_lexer.specs.Classes.{IsText}
 use Rattle.rustc_lexer.proofs.RelexBlockLemmas.{one_step}
-use Rattle.rustc_lexer.proofs.RelexingLemmas.{damage_stop, stands_next, gives_next, below_later, not_over, step_place}
+use Rattle.rustc_lexer.proofs.RelexingLemmas.{damage_stop, end_last, stands_next, gives_next, below_later, not_over, step_place}
 use Rattle.rustc_lexer.proofs.relex.relexing.Relexing.next.Goals as goal
 
 pub range_from-requires : goal.range_from-requires
@@ -65,7 +65,7 @@ returns-clause-stands g c = λ before insert is stands.
     let token = c.step-token.ensures.token ∙ ap (g.S.Stepper.grammar c.args.stepper.now) c.range_from.ensures.value in
     let out = sym (c.is_over.ensures.met (g.S.Stepper.grammar c.args.stepper.now) before _ insert c.args.change law is stands) ∙ c.if-is_over.false in
     let later = below_later law before _ insert _ c.args.change is at stands.stands (at.at + c.step-token.result.len) (omega arith) in
-    let to = c.follow-to.ensures.followed (tokens_by (g.S.Stepper.grammar c.args.stepper.now) before) is.lengths_are stands.stands.back_bound (rw c.damage.ensures (λ n less. let b = later n less in let e = damage_stop c.args.text.now c.args.change c.requires.change in omega arith)) in
+    let to = c.follow-to.ensures.followed (tokens_by (g.S.Stepper.grammar c.args.stepper.now) before) is.lengths_are stands.stands.back_bound (rw c.damage.ensures (λ n less. let b = later n less in let e = damage_stop c.args.text.now c.args.change c.requires.change in omega arith)) (rw c.damage.ensures (end_last law before _ insert _ c.args.change is (at.at + c.step-token.result.len))) in
     let Followed : Damage → Type 0 = λ d. IsFollowed (tokens_by (g.S.Stepper.grammar c.args.stepper.now) before) (old_stop_of d) d.past (at.at + c.step-token.result.len) c.follow-to.result.at c.follow-to.result.met in
     let followed = subst (λ n. IsFollowed (tokens_by (g.S.Stepper.grammar c.args.stepper.now) before) n c.args.change.new_stop (at.at + c.step-token.result.len) c.follow-to.result.at c.follow-to.result.met) (damage_stop c.args.text.now c.args.change c.requires.change) (subst Followed c.damage.ensures to) in
     let stays : at.at + c.step-token.result.len < c.args.change.new_stop → c.follow-to.result.at ≡ at.back = λ early. c.follow-to.ensures.stays (rw c.damage.ensures early) in (
