@@ -423,10 +423,12 @@ fn what_is_written_of_values() {
     tokens.next();
     assert_eq!(format!("{tokens:?}"), r#"Tokens(" b")"#);
     assert_eq!(format!("{:?}", Steps::new()), "Steps { .. }");
-    let years = ["2015", "2018", "2021", "2024"];
-    assert_eq!(Edition::ALL.map(|edition| edition.to_string()), years);
     assert_eq!(format!("{:>6}", Edition::E2021), "  2021");
-    for (edition, year) in Edition::ALL.into_iter().zip(years) {
+    for edition in Edition::ALL {
+        let year = edition.to_string();
+        assert_eq!(format!("{edition:?}"), format!("E{year}"));
+        assert_eq!(year, edition.year().to_string());
         assert_eq!(year.parse(), Ok(edition));
+        assert_eq!(Edition::try_from(edition.year()), Ok(edition));
     }
 }
