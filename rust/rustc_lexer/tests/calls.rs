@@ -413,6 +413,29 @@ fn a_check_of_no_raw_string() {
     let _ = validate_raw_str("b\"a\"", 2);
 }
 
+/// A long text with a frontmatter, many tokens at once and one by one.
+#[test]
+fn a_long_document_is_filled_as_it_is_stepped() {
+    let text = format!("\n---\na = 1\n---\n{}", "let x = 'r#a + \"b\";".repeat(30));
+    for edition in Edition::ALL {
+        let start = || tokenize_as(&text, FrontmatterAllowed::Yes, edition);
+        let mut tokens = start();
+        let stepped: Vec<Token> = std::iter::from_fn(|| tokens.next()).collect();
+        assert!(matches!(stepped[1].kind, TokenKind::Frontmatter { .. }));
+        for room in [1, 2, 3, 40, 2 * stepped.len()] {
+            let (mut tokens, mut filled) = (start(), Vec::new());
+            let mut buffer = vec![stepped[0]; room];
+            while !tokens.as_str().is_empty() {
+                let count = tokens.fill(&mut buffer);
+                filled.extend_from_slice(&buffer[..count]);
+            }
+            assert_eq!(filled, stepped);
+        }
+        #[cfg(feature = "alloc")]
+        assert_eq!(start().into_vec(), stepped);
+    }
+}
+
 #[test]
 fn what_is_written_of_values() {
     assert_eq!(format!("{:?}", FrontmatterAllowed::Yes), "Yes");
