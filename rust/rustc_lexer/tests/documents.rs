@@ -250,6 +250,38 @@ impl Stepper for Characters {
     }
 }
 
+/// A stepper that has no `fill` of its own, and one that has: the tokens that begin before the end, as many as fit.
+#[test]
+fn steppers_fill_up_to_an_end() {
+    let nothing = Token {
+        kind: TokenKind::Eof,
+        len: 0,
+    };
+    let mut buffer = [nothing; 9];
+    let mut by_characters = Characters(0);
+    for (end, room, wanted) in [
+        (0, 9, (0, 0)),
+        (1, 9, (1, 1)),
+        (2, 9, (2, 3)),
+        (3, 9, (2, 3)),
+        (4, 9, (3, 4)),
+        (4, 1, (1, 1)),
+    ] {
+        let filled = by_characters.fill("aéb", end, &mut buffer[..room]);
+        assert_eq!(filled, wanted);
+    }
+    assert_eq!(by_characters.0, 9);
+    for (end, room, wanted) in [
+        (3, 9, (1, 3)),
+        (4, 9, (2, 4)),
+        (5, 9, (3, 5)),
+        (5, 2, (2, 4)),
+    ] {
+        let filled = Steps::new().fill("let x", end, &mut buffer[..room]);
+        assert_eq!(filled, wanted);
+    }
+}
+
 #[test]
 fn what_is_held() {
     let lexed = LexedDocument::try_with(SCRIPT, Steps::new_in(Edition::E2018)).unwrap();
