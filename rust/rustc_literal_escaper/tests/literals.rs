@@ -24,6 +24,24 @@ fn errors(text: &str, mode: Mode) -> Vec<(Range<usize>, EscapeError)> {
     errors
 }
 
+/// A carriage return behind texts of many lengths is told in each kind of string.
+#[test]
+fn a_bare_carriage_return_anywhere() {
+    for front in ["", "a", "é", "\\n", "\\né", "é\\n", "é\\\"ü"] {
+        for (times, back) in [(1, ""), (1, "é"), (7, "b"), (40, "\u{80}")] {
+            let front = front.repeat(times);
+            let (text, range) = (format!("{front}\r{back}"), front.len()..front.len() + 1);
+            for mode in [Mode::Str, Mode::CStr] {
+                assert_eq!(errors(&text, mode), [(range.clone(), BareCarriageReturn)]);
+            }
+            for mode in [Mode::RawStr, Mode::RawCStr] {
+                let raw = [(range.clone(), BareCarriageReturnInRawString)];
+                assert_eq!(errors(&text, mode), raw);
+            }
+        }
+    }
+}
+
 #[test]
 fn characters() {
     for (text, end, want) in [
