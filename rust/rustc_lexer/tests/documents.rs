@@ -371,9 +371,24 @@ fn lists_of_the_caller() {
         made.extend(&old_body[..relexing.front.number]);
         while let Some(token) = relexing.next(&mut steps, body, old_body, change) {
             made.push(token);
+            let passed = relexing.at.checked_sub(change.new_stop);
+            assert!(passed.is_none_or(|passed| relexing.back.place >= change.old_stop + passed));
         }
         let mut wanted = relexing.counts(old_body.len());
         assert_eq!(made.len(), kept + wanted.lexed);
+        // the same by a buffer, which is filled but at the end
+        let mut again = Relexing::begin(body, old_body, change, first);
+        let mut buffer = [Token {
+            kind: TokenKind::Eof,
+            len: 0,
+        }; 3];
+        let mut filled = Vec::new();
+        while !again.is_over(body) {
+            let count = again.fill(&mut steps, body, old_body, change, &mut buffer);
+            filled.extend_from_slice(&buffer[..count]);
+            assert!(count == buffer.len() || again.is_over(body));
+        }
+        assert_eq!((filled, again), (made[kept..].to_vec(), relexing));
         made.extend(&old_body[old_body.len() - wanted.kept_back..]);
         assert_eq!(made, held.tokens(), "{range:?} of {old:?} is {insert:?}");
         if of_body.keeps_head {
