@@ -413,6 +413,36 @@ fn a_check_of_no_raw_string() {
     let _ = validate_raw_str("b\"a\"", 2);
 }
 
+/// Runs of each length up to some blocks of bytes, with the token that ends them, and with nothing behind them.
+#[test]
+fn runs_of_each_length() {
+    for (front, run, stop) in [
+        ("a", "b", "+"),
+        (" ", " ", "a"),
+        ("\n", "\t", "é"),
+        ("1", "2", ";"),
+        ("//", "c", "\n"),
+        ("_", "_", "\u{2028}"),
+        ("'a", "b", " "),
+        ("0x", "f", ")"),
+    ] {
+        for times in 1..200 {
+            let token = format!("{front}{}", run.repeat(times));
+            for text in [token.clone(), format!("{token}{stop}{token}")] {
+                let mut tokens = tokenize(&text, FrontmatterAllowed::No);
+                assert_eq!(
+                    tokens.next().unwrap().len as usize,
+                    token.len(),
+                    "in {text:?}"
+                );
+                let mut buffer = [tokenize("a", FrontmatterAllowed::No).next().unwrap(); 1];
+                tokenize(&text, FrontmatterAllowed::No).fill(&mut buffer);
+                assert_eq!(buffer[0].len as usize, token.len(), "in {text:?}");
+            }
+        }
+    }
+}
+
 /// A long text with a frontmatter, many tokens at once and one by one.
 #[test]
 fn a_long_document_is_filled_as_it_is_stepped() {
