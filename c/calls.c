@@ -404,15 +404,18 @@ static int check_long_edit(relex_call *relex) {
 }
 
 static int check_editions(relex_call *relex) {
-    static const struct {
-        uint32_t edition;
-        size_t count;
-    } years[] = {{2015, 4}, {2018, 4}, {2021, 3}, {2024, 2}};
     struct held held;
-    for (size_t i = 0; i < 4; i++) {
+    for (uint32_t year = 2000; year < 2100; year++) {
         memset(&held, 0, sizeof held);
-        CHECK(edit_held(relex, &held, 0, 0, "'r#a##", years[i].edition, BUFFER_LEN) == RUSTC_LEXER_OK);
-        CHECK(held.count == years[i].count + (years[i].edition < 2021));
+        uint32_t status = edit_held(relex, &held, 0, 0, "'r#a##", year, BUFFER_LEN);
+        if (year > 2024 && status == RUSTC_LEXER_BAD_EDITION)
+            continue;
+        if (year != 2015 && year != 2018 && year != 2021 && year < 2024) {
+            CHECK(status == RUSTC_LEXER_BAD_EDITION && held.relexing.stage == 0);
+            continue;
+        }
+        CHECK(status == RUSTC_LEXER_OK);
+        CHECK(held.count == (year < 2021 ? 5 : year < 2024 ? 3 : 2));
     }
     memset(&held, 0, sizeof held);
     CHECK(edit_held(relex, &held, 0, 0, "a", 2022, BUFFER_LEN) == RUSTC_LEXER_BAD_EDITION);
@@ -676,6 +679,9 @@ static bool is_unit(struct rustc_lexer_unit unit, size_t start, size_t end, uint
     return unit.start == start && unit.end == end && unit.kind == kind && unit.value == value;
 }
 
+/* A line end that is skipped with two warnings, and what follows it. */
+static const uint8_t warned[] = "\\\n\n\xc2\xa0x";
+
 static int check_units(unescape_call *unescape) {
     static const uint8_t text[] = "a\\q\\xff\\\n\n b";
     struct rustc_lexer_unit units[16];
@@ -701,6 +707,14 @@ static int check_units(unescape_call *unescape) {
     CHECK(unescape(text, len, RUSTC_LEXER_FLOAT, 0, units, 16, &count) == RUSTC_LEXER_BAD_MODE && count == 0);
     CHECK(unescape(text, len, 11, 0, units, 16, &count) == RUSTC_LEXER_BAD_MODE && count == 0);
     CHECK(is_unit(units[0], 0, 0, RUSTC_LEXER_UNIT_ERROR, RUSTC_LEXER_ZERO_CHARS));
+    for (size_t passed = 0; passed < 4; passed++) {
+        CHECK(unescape(warned, 6, RUSTC_LEXER_STR, passed, units, 16, &count) == RUSTC_LEXER_OK && count == 4 - passed);
+        CHECK(passed > 0 || is_unit(units[0], 0, 3, RUSTC_LEXER_UNIT_WARNING, RUSTC_LEXER_MULTIPLE_SKIPPED_LINES_WARNING));
+        CHECK(passed > 1 ||
+              is_unit(units[1 - passed], 0, 5, RUSTC_LEXER_UNIT_WARNING, RUSTC_LEXER_UNSKIPPED_WHITESPACE_WARNING));
+        CHECK(passed > 2 || is_unit(units[2 - passed], 3, 5, RUSTC_LEXER_UNIT_CHAR, 0xa0));
+        CHECK(is_unit(units[3 - passed], 5, 6, RUSTC_LEXER_UNIT_CHAR, 'x'));
+    }
     return 0;
 }
 
@@ -714,6 +728,10 @@ static int check_errors(unescape_call *errors) {
     CHECK(is_unit(units[2], 7, 11, RUSTC_LEXER_UNIT_WARNING, RUSTC_LEXER_MULTIPLE_SKIPPED_LINES_WARNING));
     CHECK(errors(text, len, RUSTC_LEXER_C_STR, 1, units, 16, &count) == RUSTC_LEXER_OK && count == 1);
     CHECK(is_unit(units[0], 7, 11, RUSTC_LEXER_UNIT_WARNING, RUSTC_LEXER_MULTIPLE_SKIPPED_LINES_WARNING));
+    for (size_t passed = 0; passed < 2; passed++) {
+        CHECK(errors(warned, 6, RUSTC_LEXER_STR, passed, units, 16, &count) == RUSTC_LEXER_OK && count == 2 - passed);
+        CHECK(is_unit(units[1 - passed], 0, 5, RUSTC_LEXER_UNIT_WARNING, RUSTC_LEXER_UNSKIPPED_WHITESPACE_WARNING));
+    }
     CHECK(errors(text, len, RUSTC_LEXER_RAW_STR, 0, units, 16, &count) == RUSTC_LEXER_OK && count == 0);
     CHECK(errors(text, len, RUSTC_LEXER_CHAR, 0, units, 16, &count) == RUSTC_LEXER_OK && count == 1);
     CHECK(is_unit(units[0], 0, 2, RUSTC_LEXER_UNIT_ERROR, RUSTC_LEXER_MORE_THAN_ONE_CHAR));

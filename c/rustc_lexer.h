@@ -39,7 +39,7 @@ enum {
     RUSTC_LEXER_TOO_LONG = 2,  /* the text has more than 4294967295 bytes */
     RUSTC_LEXER_BAD_PLACE = 3, /* the place is past the end of the text, or inside a character */
     RUSTC_LEXER_NOT_RAW = 4,   /* character number prefix_len of the text, counted from 1, is no r */
-    RUSTC_LEXER_BAD_EDITION = 5, /* the edition is none of 2015, 2018, 2021 and 2024 */
+    RUSTC_LEXER_BAD_EDITION = 5, /* no edition of Rust has this year */
     RUSTC_LEXER_BAD_EDIT = 6,  /* the edit cannot have made the text, or relexing cannot go on from the numbers */
     RUSTC_LEXER_BAD_MODE = 7,  /* the mode is not a kind of literal from RUSTC_LEXER_CHAR on */
     RUSTC_LEXER_BAD_STYLE = 8, /* the style is not one of RUSTC_LEXER_STYLE_.. */

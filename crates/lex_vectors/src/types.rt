@@ -1,8 +1,8 @@
 //! The types of the answers by themselves: names, numbers, orders, equality, and the messages of errors.
 use crate::tables::all::all;
+use crate::tables::editions::YEARS;
 use crate::tables::row::Row;
 use rustc_lexer::Base::*;
-use rustc_lexer::Edition::*;
 use rustc_lexer::LiteralKind::*;
 use rustc_lexer::RawStrError::*;
 use rustc_lexer::{EditStop, Edition, GuardedStr, RawStrError, Token, TokenKind, UnknownEdition};
@@ -125,7 +125,7 @@ macro_rules! ascending {
 #[test]
 fn orders(rt: HostRuntime) {
     ascending!(rt; Binary, Octal, Decimal, Hexadecimal);
-    ascending!(rt; E2015, E2018, E2021, E2024);
+    assert!(rt; ascend(&Edition::ALL));
     ascending!(rt;
         Int { base: Binary, empty_int: true }, Int { base: Octal, empty_int: false },
         Int { base: Octal, empty_int: true }, Float { base: Binary, empty_exponent: true },
@@ -161,16 +161,10 @@ fn is_edition(index: usize, word: &str, year: u16, edition: Edition) -> bool {
 
 #[test]
 fn a_year_names_its_edition(rt: HostRuntime) {
-    let named = [
-        ("2015", 2015, E2015),
-        ("2018", 2018, E2018),
-        ("2021", 2021, E2021),
-        ("2024", 2024, E2024),
-    ];
-    for (index, (word, year, edition)) in named.into_iter().enumerate() {
+    for (index, (word, year, edition)) in YEARS.iter().copied().enumerate() {
         assert!(rt; is_edition(index, word, year, edition), "{word}");
     }
-    assert_eq!(rt; Edition::ALL.len(), named.len());
+    assert_eq!(rt; Edition::ALL.len(), YEARS.len());
 }
 
 #[test]

@@ -434,6 +434,59 @@ fn traits_that_are_taken_for_granted() {
     }
 }
 
+/// Runs of each length up to some blocks of bytes, with the token that ends them, and with nothing behind them.
+#[test]
+fn runs_of_each_length() {
+    for (front, run, stop) in [
+        ("a", "b", "+"),
+        (" ", " ", "a"),
+        ("\n", "\t", "é"),
+        ("1", "2", ";"),
+        ("//", "c", "\n"),
+        ("_", "_", "\u{2028}"),
+        ("'a", "b", " "),
+        ("0x", "f", ")"),
+    ] {
+        for times in 1..200 {
+            let token = format!("{front}{}", run.repeat(times));
+            for text in [token.clone(), format!("{token}{stop}{token}")] {
+                let mut tokens = tokenize(&text, FrontmatterAllowed::No);
+                assert_eq!(
+                    tokens.next().unwrap().len as usize,
+                    token.len(),
+                    "in {text:?}"
+                );
+                let mut buffer = [tokenize("a", FrontmatterAllowed::No).next().unwrap(); 1];
+                tokenize(&text, FrontmatterAllowed::No).fill(&mut buffer);
+                assert_eq!(buffer[0].len as usize, token.len(), "in {text:?}");
+            }
+        }
+    }
+}
+
+/// A long text with a frontmatter, many tokens at once and one by one.
+#[test]
+fn a_long_document_is_filled_as_it_is_stepped() {
+    let text = format!("\n---\na = 1\n---\n{}", "let x = 'r#a + \"b\";".repeat(30));
+    for edition in Edition::ALL {
+        let start = || tokenize_as(&text, FrontmatterAllowed::Yes, edition);
+        let mut tokens = start();
+        let stepped: Vec<Token> = std::iter::from_fn(|| tokens.next()).collect();
+        assert!(matches!(stepped[1].kind, TokenKind::Frontmatter { .. }));
+        for room in [1, 2, 3, 40, 2 * stepped.len()] {
+            let (mut tokens, mut filled) = (start(), Vec::new());
+            let mut buffer = vec![stepped[0]; room];
+            while !tokens.as_str().is_empty() {
+                let count = tokens.fill(&mut buffer);
+                filled.extend_from_slice(&buffer[..count]);
+            }
+            assert_eq!(filled, stepped);
+        }
+        #[cfg(feature = "alloc")]
+        assert_eq!(start().into_vec(), stepped);
+    }
+}
+
 #[test]
 fn what_is_written_of_values() {
     assert_eq!(format!("{:?}", FrontmatterAllowed::Yes), "Yes");
@@ -444,10 +497,12 @@ fn what_is_written_of_values() {
     tokens.next();
     assert_eq!(format!("{tokens:?}"), r#"Tokens(" b")"#);
     assert_eq!(format!("{:?}", Steps::new()), "Steps { .. }");
-    let years = ["2015", "2018", "2021", "2024"];
-    assert_eq!(Edition::ALL.map(|edition| edition.to_string()), years);
     assert_eq!(format!("{:>6}", Edition::E2021), "  2021");
-    for (edition, year) in Edition::ALL.into_iter().zip(years) {
+    for edition in Edition::ALL {
+        let year = edition.to_string();
+        assert_eq!(format!("{edition:?}"), format!("E{year}"));
+        assert_eq!(year, edition.year().to_string());
         assert_eq!(year.parse(), Ok(edition));
+        assert_eq!(Edition::try_from(edition.year()), Ok(edition));
     }
 }

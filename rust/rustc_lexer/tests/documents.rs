@@ -250,6 +250,38 @@ impl Stepper for Characters {
     }
 }
 
+/// A stepper that has no `fill` of its own, and one that has: the tokens that begin before the end, as many as fit.
+#[test]
+fn steppers_fill_up_to_an_end() {
+    let nothing = Token {
+        kind: TokenKind::Eof,
+        len: 0,
+    };
+    let mut buffer = [nothing; 9];
+    let mut by_characters = Characters(0);
+    for (end, room, wanted) in [
+        (0, 9, (0, 0)),
+        (1, 9, (1, 1)),
+        (2, 9, (2, 3)),
+        (3, 9, (2, 3)),
+        (4, 9, (3, 4)),
+        (4, 1, (1, 1)),
+    ] {
+        let filled = by_characters.fill("aéb", end, &mut buffer[..room]);
+        assert_eq!(filled, wanted);
+    }
+    assert_eq!(by_characters.0, 9);
+    for (end, room, wanted) in [
+        (3, 9, (1, 3)),
+        (4, 9, (2, 4)),
+        (5, 9, (3, 5)),
+        (5, 2, (2, 4)),
+    ] {
+        let filled = Steps::new().fill("let x", end, &mut buffer[..room]);
+        assert_eq!(filled, wanted);
+    }
+}
+
 #[test]
 fn what_is_held() {
     let lexed = LexedDocument::try_with(SCRIPT, Steps::new_in(Edition::E2018)).unwrap();
@@ -341,9 +373,24 @@ fn lists_of_the_caller() {
         made.extend(&old_body[..relexing.front.number]);
         while let Some(token) = relexing.next(&mut steps, body, old_body, change) {
             made.push(token);
+            let passed = relexing.at.checked_sub(change.new_stop);
+            assert!(passed.is_none_or(|passed| relexing.back.place >= change.old_stop + passed));
         }
         let mut wanted = relexing.counts(old_body.len());
         assert_eq!(made.len(), kept + wanted.lexed);
+        // the same by a buffer, which is filled but at the end
+        let mut again = Relexing::begin(body, old_body, change, first);
+        let mut buffer = [Token {
+            kind: TokenKind::Eof,
+            len: 0,
+        }; 3];
+        let mut filled = Vec::new();
+        while !again.is_over(body) {
+            let count = again.fill(&mut steps, body, old_body, change, &mut buffer);
+            filled.extend_from_slice(&buffer[..count]);
+            assert!(count == buffer.len() || again.is_over(body));
+        }
+        assert_eq!((filled, again), (made[kept..].to_vec(), relexing));
         made.extend(&old_body[old_body.len() - wanted.kept_back..]);
         assert_eq!(made, held.tokens(), "{range:?} of {old:?} is {insert:?}");
         if of_body.keeps_head {

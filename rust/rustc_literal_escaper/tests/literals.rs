@@ -24,6 +24,52 @@ fn errors(text: &str, mode: Mode) -> Vec<(Range<usize>, EscapeError)> {
     errors
 }
 
+/// The errors that are told of a string are those among its units, in texts of up to four of these pieces.
+#[test]
+fn errors_are_those_of_the_units() {
+    let pieces = [
+        "a", "é", "\\", "\n", "\r", " ", "\u{a0}", "\"", "n", "xff", "u{e9}", "0", "\0",
+    ];
+    macro_rules! same {
+        ($text:expr; $($mode:ident $call:ident),*) => {
+            $(
+                let told = units!($call, $text).into_iter();
+                let told: Vec<_> = told.filter_map(|(range, unit)| Some((range, unit.err()?))).collect();
+                assert_eq!(errors($text, Mode::$mode), told, "in {:?}", $text);
+            )*
+        };
+    }
+    let mut texts = vec![String::new()];
+    for _ in 0..4 {
+        let longer = texts
+            .iter()
+            .flat_map(|text| pieces.map(|piece| text.clone() + piece));
+        texts = [String::new()].into_iter().chain(longer).collect();
+    }
+    for text in &texts {
+        same!(text; Str unescape_str, ByteStr unescape_byte_str, CStr unescape_c_str);
+        same!(text; RawStr check_raw_str, RawByteStr check_raw_byte_str, RawCStr check_raw_c_str);
+    }
+}
+
+/// A carriage return behind texts of many lengths is told in each kind of string.
+#[test]
+fn a_bare_carriage_return_anywhere() {
+    for front in ["", "a", "é", "\\n", "\\né", "é\\n", "é\\\"ü"] {
+        for (times, back) in [(1, ""), (1, "é"), (7, "b"), (40, "\u{80}")] {
+            let front = front.repeat(times);
+            let (text, range) = (format!("{front}\r{back}"), front.len()..front.len() + 1);
+            for mode in [Mode::Str, Mode::CStr] {
+                assert_eq!(errors(&text, mode), [(range.clone(), BareCarriageReturn)]);
+            }
+            for mode in [Mode::RawStr, Mode::RawCStr] {
+                let raw = [(range.clone(), BareCarriageReturnInRawString)];
+                assert_eq!(errors(&text, mode), raw);
+            }
+        }
+    }
+}
+
 #[test]
 fn characters() {
     for (text, end, want) in [
