@@ -2,7 +2,8 @@
 use Rattle.std.specs.Prelude.{ℕ, ◌++◌, List, Option, Some, codes, decimal}
 use Rattle.ends.specs.declared.reading.ReadStop.{ReadStop}
 use Rattle.ends.specs.declared.reading.ReadStop.TheVariants.{TooLong as TooLongRead, Memory as MemoryRead, Failed}
-use Rattle.erase_run.specs.Texts.{reason_text}
+use Rattle.erase_run.specs.Texts.{misfit_text, reason_text}
+use Rattle.erase_run.specs.declared.misfit.Misfit.{Misfit}
 use Rattle.erase_run.specs.declared.stop.Stop.{Stop}
 use Rattle.erase_run.specs.declared.stop.Stop.TheVariants.{Memory as MemoryStop, Refused as RefusedStop}
 use Rattle.erase.specs.declared.run.Fault.{Fault}
@@ -10,6 +11,7 @@ use Rattle.erase.specs.declared.run.Fault.TheVariants.{Arguments, Refused, NotUt
 
 abbrev pub status_of : Fault → ℕ
 status_of (Refused line reason) = 1
+status_of (Fault.Misfit misfit) = 1
 status_of Arguments = 2
 status_of NotUtf8 = 3
 status_of TooLong = 4
@@ -26,10 +28,15 @@ abbrev pub stop_fault : Stop → Fault
 stop_fault MemoryStop = Memory
 stop_fault (RefusedStop line reason) = Refused line reason
 
+abbrev pub misfit_fault : Misfit → Fault
+misfit_fault Misfit.Memory = Memory
+misfit_fault misfit = Fault.Misfit misfit
+
 -- what is said of a fault
 abbrev pub fault_text : Fault → Option (List ℕ)
 fault_text Arguments = Some (codes "bad arguments")
 fault_text (Refused line reason) = Some (codes "line " ++ (decimal line ++ (codes ": " ++ reason_text reason)))
+fault_text (Fault.Misfit misfit) = misfit_text misfit
 fault_text NotUtf8 = Some (codes "input is not UTF-8")
 fault_text TooLong = Some (codes "input too long")
 fault_text Memory = Some (codes "no memory")

@@ -3,25 +3,22 @@ use Rattle.std.specs.Prelude.{ℕ, ◌<◌, ◌≤◌, ◌^◌, ◌≡◌, Bool,
 use Rattle.std.specs.Str.{IsUtf8}
 use Rattle.std.specs.Io.KnownBytes.{Keeps, Appends}
 use Rattle.ends.specs.Known.{AppendsFront}
-use Rattle.rustc_lexer.specs.LanguageText.{mode_of}
-use Rattle.rustc_lexer.specs.Tokens.{tokens_of}
-use Rattle.rustc_lexer.specs.declared.token.FrontmatterAllowed.TheVariants.{No}
-use Rattle.erase_run.specs.Erased.{written, words_meant, words_of}
-use Rattle.erase_run.specs.Fates.{AreFates, start}
+use Rattle.erase_run.specs.Causes.{is_refused}
+use Rattle.erase_run.specs.Erased.{meant_of, words_of, written_of}
+use Rattle.erase_run.specs.Fates.{AreFates}
 use Rattle.erase_run.specs.Kept.{lines_suit}
 use Rattle.erase_run.specs.declared.fate.Fate.{Fate}
 use Rattle.erase_run.specs.declared.fate.Line.{Line}
 use Rattle.erase_run.specs.declared.source.Target.{Target}
 use Rattle.erase.specs.declared.job.Job.{Job}
 use Rattle.erase.specs.declared.run.Fault.{Fault}
-use Rattle.erase.specs.declared.run.Fault.TheVariants.{Arguments, Refused, NotUtf8, TooLong, Memory, Read, Write}
+use Rattle.erase.specs.declared.run.Fault.TheVariants.{Arguments, Refused, Misfit, NotUtf8, TooLong, Memory, Read, Write}
 
 -- the tokens of the source in order, each by a fate that it may have: the text has the words that are meant, and lines of the target
 abbrev pub IsErased : Target → List ℕ → List ℕ → Type 0
 IsErased target source text =
-    (lines : List Line) × (fates : List Fate) × AreFates source target (Some start) source (tokens_of (mode_of No) source) fates
-    × (text ≡ written lines source (tokens_of (mode_of No) source) fates) × (lines_suit target lines ≡ true)
-    × (words_of text ≡ words_meant lines source (tokens_of (mode_of No) source) fates)
+    (lines : List Line) × (fates : List Fate) × AreFates source target fates × (text ≡ written_of lines source fates)
+    × (lines_suit target lines ≡ true) × (words_of text ≡ meant_of lines source fates)
 
 -- what is printed of a source: how often each rule was used, of which nothing is said here, or the erased text
 abbrev pub IsPrinted : Bool → Target → List ℕ → List ℕ → Type 0
@@ -37,15 +34,17 @@ IsSource bytes = (length bytes < 2 ^ 32) × IsUtf8 bytes
 abbrev pub Ends : Job → List ℕ → Option (List ℕ) → Option (List ℕ) → Result (Unit {0}) Fault → Type 0
 Ends job bytes old new (Ok done) = IsSource bytes × (text : List ℕ) × IsPrinted job.tells_rules job.target bytes text × Appends old new text
 Ends job bytes old new (Err Write) = IsSource bytes × (text : List ℕ) × IsPrinted job.tells_rules job.target bytes text × AppendsFront old new text
-Ends job bytes old new (Err (Refused line reason)) = IsSource bytes × Keeps old new
+Ends job bytes old new (Err (Refused line reason)) = IsSource bytes × (is_refused bytes job.target line reason ≡ true) × Keeps old new
+Ends job bytes old new (Err (Misfit misfit)) = IsSource bytes × Keeps old new
 Ends job bytes old new (Err NotUtf8) = (length bytes < 2 ^ 32) × ¬ (IsUtf8 bytes) × Keeps old new
 Ends job bytes old new (Err TooLong) = (2 ^ 32 ≤ length bytes) × Keeps old new
 Ends job bytes old new (Err Memory) = Keeps old new
 Ends job bytes old new (Err Read) = Keeps old new
 Ends job bytes old new (Err Arguments) = ⊥
 
--- why nothing is printed of a source
-abbrev pub IsRefusal : Fault → Type 0
-IsRefusal (Refused line reason) = Unit {0}
-IsRefusal Memory = Unit {0}
-IsRefusal fault = ⊥
+-- why nothing is printed of a source: it has what is told, or what the rules propose is not right
+abbrev pub IsRefusal : Target → List ℕ → Fault → Type 0
+IsRefusal target source (Refused line reason) = is_refused source target line reason ≡ true
+IsRefusal target source (Misfit misfit) = Unit {0}
+IsRefusal target source Memory = Unit {0}
+IsRefusal target source fault = ⊥

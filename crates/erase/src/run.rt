@@ -3,13 +3,13 @@ ghost use Rattle.std.specs.Prelude.{◌≡◌, ◌≢◌, ◌↔◌, false, true
 ghost use Rattle.std.specs.Io.KnownBytes.{Appends, Keeps};
 ghost use Rattle.rustc_lexer.specs.Classes.{Fits};
 ghost use Rattle.ends.specs.Known.{AppendsFront};
-ghost use Rattle.erase.specs.Fault.{fault_text, read_fault, status_of, stop_fault};
+ghost use Rattle.erase.specs.Fault.{fault_text, misfit_fault, read_fault, status_of, stop_fault};
 ghost use Rattle.erase.specs.Outcome.{Ends, IsPrinted, IsRefusal};
 ghost use Rattle.erase.specs.declared.run.Fault.TheVariants.{Memory};
 
 use crate::job::Job;
 use ends::{ReadStop, Watched, read_all, write_all};
-use erase_run::{Erased, Reason, Rule, Stop, erase};
+use erase_run::{Misfit, Reason, Rule, Stop, erase, propose};
 use std::alloc::{AllocError, Global};
 use std::fmt;
 use std::io::{Read, Write};
@@ -21,6 +21,8 @@ pub enum Fault {
     Arguments,
     /// The source has on this line what no rule knows.
     Refused { line: usize, reason: Reason },
+    /// What the rules propose is not right.
+    Misfit(Misfit),
     /// The input is not UTF-8.
     NotUtf8,
     /// The input has more than `u32::MAX` bytes.
@@ -39,7 +41,7 @@ impl Fault {
         ensures { result ≡ status_of self }
     {
         match self {
-            Fault::Refused { .. } => 1,
+            Fault::Refused { .. } | Fault::Misfit(_) => 1,
             Fault::Arguments => 2,
             Fault::NotUtf8 => 3,
             Fault::TooLong => 4,
@@ -59,6 +61,7 @@ impl fmt::Display for Fault {
                 let reason = reason.text();
                 write!(f, "line {line}: {reason}")
             }
+            Fault::Misfit(misfit) => write!(f, "{misfit}"),
             Fault::NotUtf8 => f.write_str("input is not UTF-8"),
             Fault::TooLong => f.write_str("input too long"),
             Fault::Memory => f.write_str("no memory"),
@@ -83,6 +86,17 @@ impl From<Stop> for Fault {
         match stop {
             Stop::Memory => Fault::Memory,
             Stop::Refused { line, reason } => Fault::Refused { line, reason },
+        }
+    }
+}
+
+impl From<Misfit> for Fault {
+    ghost from_gives = { λ misfit fault. fault ≡ misfit_fault misfit };
+
+    fn from(misfit: Misfit) -> Fault {
+        match misfit {
+            Misfit::Memory => Fault::Memory,
+            _ => Fault::Misfit(misfit),
         }
     }
 }
@@ -133,20 +147,21 @@ pub fn run<R: Read, W: Write>(
 fn print(alloc: Global, job: Job, text: &str) -> Result<String, Fault>
     requires fits { Fits text.now }
     ensures printed { IfOk result (λ made. IsPrinted job.tells_rules job.target text.now (string_bytes made)) }
-    ensures refused { IfErr result IsRefusal }
+    ensures refused { IfErr result (IsRefusal job.target text.now) }
 {
-    let made = erase(alloc, text, job.target)?;
+    let proposal = propose(alloc, text, job.target)?;
+    let made = erase(alloc, text, job.target, &proposal)?;
     if job.tells_rules {
-        return Ok(tell_rules(alloc, &made)?);
+        return Ok(tell_rules(alloc, proposal.used.as_slice())?);
     }
-    Ok(made.text)
+    Ok(made)
 }
 
 /// How often each rule was used, a rule a line.
-fn tell_rules(alloc: Global, made: &Erased) -> Result<String, AllocError> {
+fn tell_rules(alloc: Global, used: &[Rule]) -> Result<String, AllocError> {
     let mut told = String::new(alloc);
     for rule in &Rule::COUNTED {
-        let count = made.used.iter().filter(|used| **used == *rule).count();
+        let count = used.iter().filter(|used| **used == *rule).count();
         let name = rule.text();
         let line = format!(in alloc; "{count:>6}  {name}\n")?;
         told.push_str(line.as_str())?;

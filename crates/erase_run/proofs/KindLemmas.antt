@@ -1,6 +1,6 @@
 -- Two kinds of token are one kind where `==` says so.
-use Rattle.std.proofs.Common.{◌≡◌, ℕ, nat_eq, Bool, true, false, ◌&&◌, List, [], ◌∷◌, Option, None, Some, refl, ap, sym, subst}
-use Rattle.std.proofs.lemmas.Bool.{eqb-true}
+use Rattle.std.proofs.Common.{◌≡◌, ℕ, nat_eq, Bool, true, false, ◌&&◌, List, [], ◌∷◌, Option, None, Some, refl, ap, sym, subst, ◌∙◌, ◌≢◌, MatchBool}
+use Rattle.std.proofs.lemmas.Bool.{eqb-true, eq-eqb}
 use Rattle.std.specs.Option.{option_eq}
 use mathlib.Core.Bool.{beq}
 use mathlib.Core.Logic.{inl, inr}
@@ -8,7 +8,11 @@ use denote.Struct.Field.{Field}
 use denote.Struct.Values.{Values}
 use denote.Enum.Declared.{Choice, values_one}
 use denote.Enum.Compared.{Each, by}
-use denote.Enum.Bare.{sameb, same_true}
+use denote.Enum.Bare.{sameb, same_true, true_same}
+use Rattle.std.specs.Cmp.Lexicographic.{same_text, other_text}
+use Rattle.std.specs.Str.{bytes_eq}
+use Rattle.erase_run.specs.declared.source.Piece.{Piece}
+use Rattle.erase_run.specs.Erased.{lexeme}
 use Rattle.rustc_lexer.specs.declared.token.Base.{Base}
 use Rattle.rustc_lexer.specs.declared.token.DocStyle.{DocStyle}
 use Rattle.rustc_lexer.specs.declared.token.LiteralKind.{LiteralKind}
@@ -73,3 +77,52 @@ literal-same a b e = values_one literals.enum a b (by-same literals.enum.parts _
 
 pub kind-same : (a b : TokenKind) → kind_eq.eq-value.it a b ≡ true → a ≡ b
 kind-same a b e = values_one kinds.enum a b (by-same kinds.enum.parts _ (kinds.enum.as_values a) (kinds.enum.as_values b) e (λ x y e i. (doc-same x.0 y.0 e i, tt), (λ x y e i. (doc-same x.0 y.0 (and-first _ _ e) i, (bool-same x.1.0 y.1.0 (and-second _ _ e) i, tt)), (λ _ _ _. refl, (λ x y e i. (bool-same x.0 y.0 (and-first _ _ e) i, (bool-same x.1.0 y.1.0 (and-second _ _ e) i, tt)), (λ _ _ _. refl, (λ _ _ _. refl, (λ _ _ _. refl, (λ _ _ _. refl, (λ _ _ _. refl, (λ _ _ _. refl, (λ _ _ _. refl, (λ _ _ _. refl, (λ x y e i. (literal-same x.0 y.0 (and-first _ _ e) i, (eqb-true x.1.0 y.1.0 (and-second _ _ e) i, tt)), (λ x y e i. (bool-same x.0 y.0 e i, tt), (λ _ _ _. refl, (λ _ _ _. refl, (λ _ _ _. refl, (λ _ _ _. refl, (λ _ _ _. refl, (λ _ _ _. refl, (λ _ _ _. refl, (λ _ _ _. refl, (λ _ _ _. refl, (λ _ _ _. refl, (λ _ _ _. refl, (λ _ _ _. refl, (λ _ _ _. refl, (λ _ _ _. refl, (λ _ _ _. refl, (λ _ _ _. refl, (λ _ _ _. refl, (λ _ _ _. refl, (λ _ _ _. refl, (λ _ _ _. refl, (λ _ _ _. refl, (λ _ _ _. refl, (λ _ _ _. refl, (λ _ _ _. refl, (λ _ _ _. refl, (λ _ _ _. refl, (λ _ _ _. refl, (λ _ _ _. refl, (λ _ _ _. refl, tt))))))))))))))))))))))))))))))))))))))))))))
+
+-- of each variant, a value is told to be the same as itself
+abbrev pub Own : (Fss : List (List Field)) → Each Bool Fss → Type 0
+Own [] each = Unit {0}
+Own (Fs ∷ Fss) each = ((x : Values Fs) → each.0 x x ≡ true) × Own Fss each.1
+
+pub by-own : (Fss : List (List Field)) (each : Each Bool Fss) (c : Choice Fss) → Own Fss each → by false false Fss each c c ≡ true
+by-own [] each c own = absurd c
+by-own (Fs ∷ Fss) each (inl x) own = own.0 x
+by-own (Fs ∷ Fss) each (inr x) own = by-own Fss each.1 x own.1
+
+and-own : (a b : Bool) → a ≡ true → b ≡ true → (a && b) ≡ true
+and-own true b e f = f
+and-own false b e f = e
+
+bool-own : (a : Bool) → beq a a ≡ true
+bool-own true = refl
+bool-own false = refl
+
+eqb-own : (n : ℕ) → nat_eq n n ≡ true
+eqb-own n = eq-eqb n n refl
+
+option-own : {A : Type 0} (eq : A → A → Bool) → ((x : A) → eq x x ≡ true) → (a : Option A) → option_eq eq a a ≡ true
+option-own eq own None = refl
+option-own eq own (Some x) = own x
+
+base-own : (a : Base) → sameb bases.the_type a a ≡ true
+base-own a = true_same bases.the_type a a refl
+
+doc-own : (a : Option DocStyle) → option_eq (sameb styles.the_type) a a ≡ true
+doc-own a = option-own (sameb styles.the_type) (λ x. true_same styles.the_type x x refl) a
+
+hashes-own : (a : Option ℕ) → option_eq nat_eq a a ≡ true
+hashes-own a = option-own nat_eq eqb-own a
+
+literal-own : (a : LiteralKind) → literal_eq.eq-value.it a a ≡ true
+literal-own a = by-own literals.enum.parts _ (literals.enum.as_values a) (λ x. and-own _ _ (base-own x.0) (bool-own x.1.0), (λ x. and-own _ _ (base-own x.0) (bool-own x.1.0), (λ x. bool-own x.0, (λ x. bool-own x.0, (λ x. bool-own x.0, (λ x. bool-own x.0, (λ x. bool-own x.0, (λ x. hashes-own x.0, (λ x. hashes-own x.0, (λ x. hashes-own x.0, tt))))))))))
+
+pub kind-own : (a : TokenKind) → kind_eq.eq-value.it a a ≡ true
+kind-own a = by-own kinds.enum.parts _ (kinds.enum.as_values a) (λ x. doc-own x.0, (λ x. and-own _ _ (doc-own x.0) (bool-own x.1.0), (λ _. refl, (λ x. and-own _ _ (bool-own x.0) (bool-own x.1.0), (λ _. refl, (λ _. refl, (λ _. refl, (λ _. refl, (λ _. refl, (λ _. refl, (λ _. refl, (λ _. refl, (λ x. and-own _ _ (literal-own x.0) (eqb-own x.1.0), (λ x. bool-own x.0, (λ _. refl, (λ _. refl, (λ _. refl, (λ _. refl, (λ _. refl, (λ _. refl, (λ _. refl, (λ _. refl, (λ _. refl, (λ _. refl, (λ _. refl, (λ _. refl, (λ _. refl, (λ _. refl, (λ _. refl, (λ _. refl, (λ _. refl, (λ _. refl, (λ _. refl, (λ _. refl, (λ _. refl, (λ _. refl, (λ _. refl, (λ _. refl, (λ _. refl, (λ _. refl, (λ _. refl, (λ _. refl, (λ _. refl, tt)))))))))))))))))))))))))))))))))))))))))))
+
+-- two tokens with different texts or kinds are different words
+pub same-lexeme : (a b : Piece) (same : Bool) → a.kind ≡ b.kind → same ≡ bytes_eq a.text.now b.text.now → MatchBool same (lexeme a ≡ lexeme b) (lexeme a ≢ lexeme b)
+same-lexeme a b true kinds e = ap (λ (kind : TokenKind). (kind, a.text.now)) kinds ∙ ap (λ (text : List ℕ). (b.kind, text)) (same_text a.text.now b.text.now e)
+same-lexeme a b false kinds e = λ same. other_text a.text.now b.text.now e (ap (λ (w : TokenKind × List ℕ). w.1) same)
+
+pub other-kind : (a b : Piece) (same : Bool) → same ≡ kind_eq.eq-value.it a.kind b.kind → same ≡ false → MatchBool same (lexeme a ≡ lexeme b) (lexeme a ≢ lexeme b)
+other-kind a b true is e = if-false (sym e)
+other-kind a b false is e = λ same. if-false (is ∙ (sym (ap (λ (kind : TokenKind). kind_eq.eq-value.it a.kind kind) (ap (λ (w : TokenKind × List ℕ). w.0) same)) ∙ kind-own a.kind))

@@ -1,4 +1,5 @@
 pub mod BracketLemmas
+pub mod CauseLemmas
 pub mod KindLemmas
 pub mod LabelLemmas
 pub mod WriteLemmas

@@ -15,6 +15,13 @@ is_doc (LineComment (Some Outer)) = true
 is_doc (BlockComment (Some Outer) terminated) = true
 is_doc kind = false
 
+-- white space, or a comment
+abbrev pub is_comment : TokenKind → Bool
+is_comment Whitespace = true
+is_comment (LineComment style) = true
+is_comment (BlockComment style terminated) = true
+is_comment kind = false
+
 -- a comment that is no document of the item behind it
 abbrev pub is_plain : Option DocStyle → Bool
 is_plain (Some Outer) = false

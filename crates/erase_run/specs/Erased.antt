@@ -84,3 +84,10 @@ words_meant lines text tokens fates = []
 -- what a list of tokens has of a text
 abbrev pub lexeme : Piece → TokenKind × List ℕ
 lexeme piece = (piece.kind, piece.text.now)
+
+-- what is written of a source, and the words that are meant by it
+abbrev pub written_of : List Line → List ℕ → List Fate → List ℕ
+written_of lines source fates = written lines source (tokens_of (mode_of No) source) fates
+
+abbrev pub meant_of : List Line → List ℕ → List Fate → List (TokenKind × List ℕ)
+meant_of lines source fates = words_meant lines source (tokens_of (mode_of No) source) fates

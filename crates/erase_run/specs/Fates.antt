@@ -1,6 +1,9 @@
 -- Which fates the tokens of a source may have: each has one, and it may have that where it stands.
-use Rattle.std.specs.Prelude.{ℕ, ◌≡◌, Bool, true, false, ◌||◌, ◌&&◌, if◌then◌else◌, List, [], ◌∷◌, take, drop, codes, Option, Some, None}
+use Rattle.std.specs.Prelude.{ℕ, ◌+◌, ◌≡◌, Bool, true, false, ◌||◌, ◌&&◌, if◌then◌else◌, List, [], ◌∷◌, take, drop, codes, Option, Some, None}
 use Rattle.std.specs.Str.{bytes_eq}
+use Rattle.rustc_lexer.specs.LanguageText.{mode_of}
+use Rattle.rustc_lexer.specs.Tokens.{tokens_of}
+use Rattle.rustc_lexer.specs.declared.token.FrontmatterAllowed.TheVariants.{No}
 use Rattle.rustc_lexer.specs.declared.token.Token.{Token}
 use Rattle.rustc_lexer.specs.declared.token.TokenKind.{TokenKind}
 use Rattle.rustc_lexer.specs.declared.token.TokenKind.TheVariants.{Dot, Colon, Eq, Bang, Lt, Gt, Minus, And, Or, Plus, Star, Slash, Caret, Percent}
@@ -133,10 +136,23 @@ step_in source target stand fate kind text = if may_have source fate text then s
 abbrev pub start : Stand
 start = record { inside = Inside.Front; behind = Behind.Any; touch = Touch.Apart }
 
+-- where the first token begins that may not have its fate, if the one at a place may stand there
+abbrev pub misfit_behind : ℕ → Option Stand → (Stand → Option ℕ) → Option ℕ
+misfit_behind place None later = Some place
+misfit_behind place (Some stand) later = later stand
+
+abbrev pub misfit_in : List ℕ → Target → ℕ → Stand → List ℕ → List Token → List Fate → Option ℕ
+misfit_in source target place stand text [] [] = if is_free stand.behind then None else Some place
+misfit_in source target place stand text (token ∷ tokens) (fate ∷ fates) =
+    misfit_behind place (step_in source target stand fate token.kind (take token.len text))
+    (λ (next : Stand). misfit_in source target (place + token.len) next (drop token.len text) tokens fates)
+misfit_in source target place stand text tokens fates = Some place
+
+-- where the first token of a source begins that may not have its fate, or its end, where fates are left over or what was
+-- begun has not ended
+abbrev pub misfit : List ℕ → Target → List Fate → Option ℕ
+misfit source target fates = misfit_in source target 0 start source (tokens_of (mode_of No) source) fates
+
 -- each token has one fate, which it may have behind those before it, and what was begun has ended
-abbrev pub AreFates : List ℕ → Target → Option Stand → List ℕ → List Token → List Fate → Type 0
-AreFates source target None text tokens fates = ⊥
-AreFates source target (Some stand) text [] [] = is_free stand.behind ≡ true
-AreFates source target (Some stand) text (token ∷ tokens) (fate ∷ fates) =
-    AreFates source target (step_in source target stand fate token.kind (take token.len text)) (drop token.len text) tokens fates
-AreFates source target (Some stand) text tokens fates = ⊥
+abbrev pub AreFates : List ℕ → Target → List Fate → Type 0
+AreFates source target fates = misfit source target fates ≡ None

@@ -1,9 +1,12 @@
 pub mod Blanks
 pub mod Brackets
+pub mod Causes
 pub mod Erased
 pub mod Fates
 pub mod Gone
 pub mod Kept
 pub mod Labels
+pub mod Lines
+pub mod Misfits
 pub mod Parts
 pub mod Texts

@@ -1,9 +1,19 @@
--- The words for rules and for what no rule knows.
-use Rattle.std.specs.Prelude.{ℕ, List, codes}
+-- The words for rules, for what no rule knows, and for what does not fit.
+use Rattle.std.specs.Prelude.{ℕ, List, ◌++◌, codes, decimal, Option, Some}
 use Rattle.erase_run.specs.declared.fate.Rule.{Rule}
 use Rattle.erase_run.specs.declared.fate.Rule.TheVariants.{Use, Field, Member, Doc, Attribute, Requires, Ensures, Final, Tactic, Tests, Derive, Bound, ModelImpl, ModelImport, ModelName, Writer, Label, Path, Prove, Handle, Export, Blank}
+use Rattle.erase_run.specs.declared.misfit.Misfit.{Misfit}
 use Rattle.erase_run.specs.declared.stop.Reason.{Reason}
-use Rattle.erase_run.specs.declared.stop.Reason.TheVariants.{Bracket, Clause, Ghost, Item, Attribute as NoAttribute, Path as NoPath, Macro, Word, Token, Fate, Front}
+use Rattle.erase_run.specs.declared.stop.Reason.TheVariants.{Bracket, Clause, Ghost, Item, Attribute as NoAttribute, Path as NoPath, Macro, Word, Token, Front}
+
+-- why a proposal is not written
+abbrev pub misfit_text : Misfit → Option (List ℕ)
+misfit_text Misfit.Memory = Some (codes "no memory")
+misfit_text (Misfit.Fate line) = Some (codes "line " ++ (decimal line ++ codes ": a rule that does not fit"))
+misfit_text Misfit.Lines = Some (codes "an import that does not fit")
+misfit_text Misfit.Brackets = Some (codes "brackets that do not match")
+misfit_text Misfit.TooLong = Some (codes "output too long")
+misfit_text Misfit.Words = Some (codes "words that come together")
 
 -- what no rule knows, as a part of a sentence
 abbrev pub reason_text : Reason → List ℕ
@@ -16,7 +26,6 @@ reason_text NoPath = codes "a path that is not known"
 reason_text Macro = codes "a macro that is not known"
 reason_text Word = codes "a word that is not known"
 reason_text Token = codes "a token that is none of Rust"
-reason_text Fate = codes "a rule that does not fit"
 reason_text Front = codes "no place for an import"
 
 -- a rule as it is told

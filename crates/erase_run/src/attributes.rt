@@ -16,6 +16,9 @@ pub fn attribute(alloc: Global, source: &mut Source<'_>, n: usize) -> Result<usi
     } else {
         past(n, 1)
     };
+    if source.word(open) != "[" {
+        return Err(source.refused(n, Reason::Attribute));
+    }
     let end = source.past_group(alloc, open)?;
     match source.word(past(open, 1)) {
         "tactic" | "cycle" => cut(source, Rule::Tactic, n, end),

@@ -1,5 +1,6 @@
 //! What becomes of tokens, and the table of what is put in their place.
 ghost use Rattle.std.specs.Prelude.{◌≡◌};
+ghost use Rattle.rustc_lexer.specs.Classes.{Fits};
 ghost use Rattle.erase_run.specs.Erased as spec;
 ghost use Rattle.erase_run.specs.Texts.{rule_text};
 
@@ -93,7 +94,8 @@ pub const PROGRAM_LINES: [(&str, Line); 9] = [
 
 /// A word as it is written.
 pub fn word_text(word: Word) -> &'static str
-    ensures { result.now ≡ spec.word_text word }
+    ensures text { result.now ≡ spec.word_text word }
+    ensures fits { Fits result.now }
 {
     match word {
         Word::Core => "core",
@@ -112,7 +114,8 @@ pub fn word_text(word: Word) -> &'static str
 
 /// A line as it is written.
 pub fn line_text(line: Line) -> &'static str
-    ensures { result.now ≡ spec.line_text line }
+    ensures text { result.now ≡ spec.line_text line }
+    ensures fits { Fits result.now }
 {
     match line {
         Line::String => "\nuse crate::support::{String};\n",

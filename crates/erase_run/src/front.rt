@@ -1,7 +1,9 @@
 //! The lines that a source needs, where they stand, and the lines that are emptied.
 
+use crate::cause::is_imported;
 use crate::fate::{Fate, Line, PROGRAM_LINES, Rule};
-use crate::source::{Source, Target, newlines, past};
+use crate::lines::newlines;
+use crate::source::{Source, Target, past};
 use crate::stop::{Reason, Stop};
 use std::alloc::{AllocError, Global};
 
@@ -10,11 +12,18 @@ pub fn lead(alloc: Global, source: &mut Source<'_>) -> Result<Vec<Line>, Stop> {
     let lines = lines_of(alloc, source)?;
     if !lines.is_empty() {
         let Some(place) = front(source) else {
-            return Err(source.refused(0, Reason::Front));
+            return Err(source.refused(imported(source), Reason::Front));
         };
         source.set(place, Fate::Lead);
     }
     Ok(lines)
+}
+
+/// The first word that is kept and has to be imported.
+fn imported(source: &Source<'_>) -> usize {
+    (0..source.len())
+        .find(|n| source.is_kept(*n) && is_imported(source.target, source.word(*n)))
+        .unwrap_or(source.len())
 }
 
 /// The lines that the source needs.

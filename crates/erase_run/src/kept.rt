@@ -234,7 +234,7 @@ fn is_root(target: Target, text: &str) -> bool
 }
 
 /// Whether the name may not stay: a word of Rattle, or what Rust takes otherwise.
-fn is_foreign(target: Target, text: &str) -> bool
+pub fn is_foreign(target: Target, text: &str) -> bool
     ensures { result ≡ spec.is_foreign target text.now }
 {
     if is_ghost(text) || is_other(text) {

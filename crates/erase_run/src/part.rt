@@ -366,7 +366,7 @@ pub fn is_name(kind: TokenKind) -> bool
 }
 
 /// Whether the word is a bracket.
-fn is_bracket(text: &str) -> bool
+pub fn is_bracket(text: &str) -> bool
     ensures { result ≡ spec.is_bracket text.now }
 {
     opens(text) || closes(text)

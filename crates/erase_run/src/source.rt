@@ -1,9 +1,10 @@
 //! A source as tokens, and what becomes of each.
-ghost use Rattle.std.specs.Prelude.{◌≡◌};
-ghost use Rattle.erase_run.specs.Blanks.{is_blank, is_doc, is_plain, is_space};
+ghost use Rattle.std.specs.Prelude.{◌≡◌, not};
+ghost use Rattle.erase_run.specs.Blanks.{is_blank, is_comment, is_doc, is_plain, is_space};
 ghost use Rattle.rustc_lexer.specs.Classes.{Fits};
 
 use crate::fate::{Fate, Rule, Word};
+use crate::lines::newlines;
 use crate::stop::{Reason, Stop};
 use rustc_lexer::{DocStyle, FrontmatterAllowed, TokenKind, tokenize};
 use std::alloc::{AllocError, Global};
@@ -48,7 +49,9 @@ impl<'a> Piece<'a> {
     }
 
     /// Whether it is neither white space nor a comment.
-    pub fn is_word(&self) -> bool {
+    pub fn is_word(&self) -> bool
+        ensures { result ≡ not (is_comment self.now.kind) }
+    {
         !matches!(
             self.kind,
             TokenKind::Whitespace | TokenKind::LineComment { .. } | TokenKind::BlockComment { .. }
@@ -301,12 +304,4 @@ fn close_of(word: &str) -> Option<&'static str> {
 /// Whether the word closes a group.
 fn is_close(word: &str) -> bool {
     word == ")" || word == "]" || word == "}"
-}
-
-/// How many newlines a text has.
-pub fn newlines(text: &str) -> usize {
-    text.as_bytes()
-        .iter()
-        .filter(|byte| **byte == b'\n')
-        .count()
 }

@@ -1,11 +1,11 @@
-//! Why nothing is made of a source.
+//! Why nothing is proposed for a source.
 ghost use Rattle.std.specs.Prelude.{◌≡◌};
 ghost use Rattle.erase_run.specs.Texts.{reason_text};
 ghost use Rattle.erase_run.specs.declared.stop.Stop.TheVariants.{Memory};
 
 use std::alloc::AllocError;
 
-/// Why nothing is made of a source.
+/// Why nothing is proposed for a source.
 #[derive(Clone, Copy, Debug, PartialEq, Eq)]
 pub enum Stop {
     /// A request for memory was refused.
@@ -43,8 +43,6 @@ pub enum Reason {
     Word,
     /// A token that is none of Rust.
     Token,
-    /// A fate that a token may not have: a fault of the rules.
-    Fate,
     /// Lines are to be put in, and there is no place for them.
     Front,
 }
@@ -64,7 +62,6 @@ impl Reason {
             Reason::Macro => "a macro that is not known",
             Reason::Word => "a word that is not known",
             Reason::Token => "a token that is none of Rust",
-            Reason::Fate => "a rule that does not fit",
             Reason::Front => "no place for an import",
         }
     }

@@ -1,5 +1,5 @@
 //! What is written of a source.
-ghost use Rattle.std.specs.Prelude.{◌≡◌, ◌++◌, true, IfOk, OnOk, map, string_bytes};
+ghost use Rattle.std.specs.Prelude.{◌≡◌, ◌++◌, true, IfErr, IfOk, OnOk, map, string_bytes};
 ghost use Rattle.std.specs.List.{flat_map};
 ghost use Rattle.rustc_lexer.specs.Classes.{Fits};
 ghost use Rattle.rustc_lexer.specs.LanguageText.{mode_of};
@@ -7,76 +7,63 @@ ghost use Rattle.rustc_lexer.specs.Tokens.{tokens_of};
 ghost use Rattle.rustc_lexer.specs.declared.token.FrontmatterAllowed.TheVariants.{No};
 ghost use Rattle.erase_run.specs.Brackets.{are_matched, none};
 ghost use Rattle.erase_run.specs.Erased as spec;
-ghost use Rattle.erase_run.specs.Fates.{AreFates, start};
+ghost use Rattle.erase_run.specs.Fates.{AreFates};
 ghost use Rattle.erase_run.specs.Kept.{lines_suit};
+ghost use Rattle.erase_run.specs.Lines.{line_behind};
+ghost use Rattle.erase_run.specs.Misfits.{IsFateMisfit, IsMisfit};
+ghost use Rattle.erase_run.specs.declared.misfit.Misfit.TheVariants as misfits;
 
 use crate::brackets::are_matched;
-use crate::fate::{Fate, Line, Rule, line_text, word_text};
-use crate::front::{close_lines, lead};
+use crate::fate::{Fate, Line, line_text, word_text};
 use crate::kept::{is_free, lines_suit};
-use crate::rules::apply;
-use crate::source::{Piece, Source, Target, newlines};
+use crate::lines::line_behind;
+use crate::misfit::Misfit;
+use crate::proposal::Proposal;
+use crate::source::{Piece, Target};
 use crate::stand::Stand;
 use crate::step::step_in;
-use crate::stop::{Reason, Stop};
 use crate::words::{has_words, push_meant};
-use rustc_lexer::{FrontmatterAllowed, tokenize};
+use rustc_lexer::{FrontmatterAllowed, fits, tokenize};
 use std::alloc::{AllocError, Global};
 
-/// What is made of a source, and how.
-#[derive(Drop)]
-pub struct Erased {
-    /// The plain Rust.
-    pub text: String,
-    /// What became of each token.
-    pub fates: Vec<Fate>,
-    /// The lines that were put in.
-    pub lines: Vec<Line>,
-    /// The rules that were used, each as often as it was.
-    pub used: Vec<Rule>,
-}
-
-/// The plain Rust of a source: its tokens in order, each as its fate says.
+/// The plain Rust of a source by a proposal: its tokens in order, each as its fate says.
 ///
 /// Each fate is one that the token may have where it stands, and what is written lexes to the words that stay and those
-/// that are put in, in order: white space and line ends may differ, and no two words become one.
-pub fn erase(alloc: Global, text: &str, target: Target) -> Result<Erased, Stop>
+/// that are put in, in order: white space and line ends may differ, and no two words become one. Where that does not
+/// hold of the proposal, the error tells what of it does not.
+pub fn erase(
+    alloc: Global,
+    text: &str,
+    target: Target,
+    proposal: &Proposal,
+) -> Result<String, Misfit>
     requires fits { Fits text.now }
-    ensures fates { IfOk result (λ made. AreFates text.now target (Some start)
-        text.now (tokens_of (mode_of No) text.now) made.fates.items) }
-    ensures written { IfOk result (λ made. string_bytes made.text
-        ≡ spec.written made.lines.items text.now (tokens_of (mode_of No) text.now) made.fates.items) }
-    ensures lines { IfOk result (λ made. lines_suit target made.lines.items ≡ true) }
+    ensures fates { IfOk result (λ _. AreFates text.now target proposal.now.fates.items) }
+    ensures written { IfOk result (λ made. string_bytes made
+        ≡ spec.written_of proposal.now.lines.items text.now proposal.now.fates.items) }
+    ensures lines { IfOk result (λ _. lines_suit target proposal.now.lines.items ≡ true) }
     ensures brackets { IfOk result (λ _. are_matched none (tokens_of (mode_of No) text.now) ≡ true) }
-    ensures words { IfOk result (λ made. spec.words_of (string_bytes made.text)
-        ≡ spec.words_meant made.lines.items text.now (tokens_of (mode_of No) text.now) made.fates.items) }
+    ensures words { IfOk result (λ made. spec.words_of (string_bytes made)
+        ≡ spec.meant_of proposal.now.lines.items text.now proposal.now.fates.items) }
+    ensures misfit { IfErr result (IsMisfit text.now target proposal.now.lines.items proposal.now.fates.items) }
 {
-    let mut source = Source::new(alloc, text, target)?;
-    apply(alloc, &mut source)?;
-    let lines = lead(alloc, &mut source)?;
-    close_lines(&mut source);
-    let Source { fates, used, .. } = source;
+    let lines = proposal.lines.as_slice();
+    let fates = proposal.fates.as_slice();
     let mut meant = Vec::new(alloc);
-    let made = written(
-        alloc,
-        target,
-        lines.as_slice(),
-        text,
-        fates.as_slice(),
-        &mut meant,
-    )?;
-    if !lines_suit(target, lines.as_slice())
-        || !are_matched(alloc, text)?
-        || !has_words(alloc, made.as_str(), meant.as_slice())?
-    {
-        return Err(unfit(text));
+    let made = written(alloc, target, lines, text, fates, &mut meant)?;
+    if !lines_suit(target, lines) {
+        return Err(Misfit::Lines);
     }
-    Ok(Erased {
-        text: made,
-        fates,
-        lines,
-        used,
-    })
+    if !are_matched(alloc, text)? {
+        return Err(Misfit::Brackets);
+    }
+    if !fits(made.as_str()) {
+        return Err(Misfit::TooLong);
+    }
+    if !has_words(alloc, made.as_str(), meant.as_slice())? {
+        return Err(Misfit::Words);
+    }
+    Ok(made)
 }
 
 /// The tokens of a text in order, each by its fate, if each has one that it may have. Appends the words that are meant.
@@ -87,14 +74,13 @@ fn written<'a>(
     text: &'a str,
     fates: &[Fate],
     meant: &mut Vec<Piece<'a>>,
-) -> Result<String, Stop>
+) -> Result<String, Misfit>
     requires fits { Fits text.now }
-    ensures fates { IfOk result
-        (λ _. AreFates text.now target (Some start) text.now (tokens_of (mode_of No) text.now) fates.now) }
-    ensures written { IfOk result (λ made. string_bytes made
-        ≡ spec.written lines.now text.now (tokens_of (mode_of No) text.now) fates.now) }
+    ensures fates { IfOk result (λ _. AreFates text.now target fates.now) }
+    ensures written { IfOk result (λ made. string_bytes made ≡ spec.written_of lines.now text.now fates.now) }
     ensures words { IfOk result (λ _. map spec.lexeme meant.new.items
-        ≡ map spec.lexeme meant.old.items ++ spec.words_meant lines.now text.now (tokens_of (mode_of No) text.now) fates.now) }
+        ≡ map spec.lexeme meant.old.items ++ spec.meant_of lines.now text.now fates.now) }
+    ensures misfit { IfErr result (IsFateMisfit text.now target fates.now) }
 {
     let mut made = String::new(alloc);
     let mut left = fates;
@@ -122,15 +108,16 @@ fn written<'a>(
     if left.is_empty() && is_free(stand.behind) {
         Ok(made)
     } else {
-        Err(unfit(text))
+        Err(unfit(&text[..start]))
     }
 }
 
-/// The refusal of a fate behind this part of the text: a fault of the rules.
-fn unfit(before: &str) -> Stop {
-    Stop::Refused {
-        line: newlines(before).saturating_add(1),
-        reason: Reason::Fate,
+/// What does not fit is the fate of the token behind this part of the text.
+fn unfit(before: &str) -> Misfit
+    ensures { result ≡ misfits.Fate (line_behind before.now) }
+{
+    Misfit::Fate {
+        line: line_behind(before),
     }
 }
 

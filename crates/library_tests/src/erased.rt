@@ -1,6 +1,6 @@
 //! What is made of small sources, worked out by hand, and what is refused.
 use crate::table::rows;
-use erase_run::{Reason, Rule, Stop, Target, erase};
+use erase_run::{Fate, Misfit, Proposal, Reason, Rule, Stop, Target, erase, propose};
 use rustc_lexer::fits;
 use std::alloc::Global;
 
@@ -100,6 +100,7 @@ static REFUSED: &[(&str, (usize, Reason))] = rows! {
     "fn f() { a'b }" => (1, Reason::Token);
     "fn f() { a\"b\" }" => (1, Reason::Token);
     "fn f() { #\"a\"# }" => (1, Reason::Token);
+    "fn f() {}\n#" => (2, Reason::Attribute);
 };
 
 /// A module, a rule, and how often the rule is used in it.
@@ -124,31 +125,53 @@ static USED: &[(&str, (Rule, usize))] = rows! {
     "#[unsafe(no_mangle)]\npub extern \"C\" fn f() {}" => (Rule::Export, 2);
 };
 
-/// The text that is made of a source. None of these is too long.
-fn made(alloc: Global, text: &str, target: Target) -> Result<String, Stop> {
+/// A module, a token of it, another fate for that, and why it is not written then.
+static MISFITS: &[(&str, (usize, Fate, Misfit))] = rows! {
+    "fn f() {}\nfn g() {}\n" => (9, Fate::Delete(Rule::Use), Misfit::Fate { line: 2 });
+    "fn f()\n    ensures { a }\n" => (6, Fate::Keep, Misfit::Fate { line: 2 });
+    "fn f() { ( }" => (0, Fate::Keep, Misfit::Brackets);
+    "// a\nfn f() {}" => (1, Fate::Delete(Rule::Blank), Misfit::Words);
+};
+
+/// What is proposed for a source. None of these is too long.
+fn proposed(alloc: Global, text: &str, target: Target) -> Result<Proposal, Stop> {
     if !fits(text) {
         return Err(Stop::Memory);
     }
-    Ok(erase(alloc, text, target)?.text)
+    propose(alloc, text, target)
 }
 
 /// Whether this rule is used so often in a source, and no other rule but that of paths.
 fn is_used(alloc: Global, text: &str, rule: Rule, wanted: usize) -> bool {
-    fits(text)
-        && erase(alloc, text, Target::Library).is_ok_and(|made| {
-            let count = made.used.iter().filter(|used| **used == rule).count();
-            let others = made
-                .used
-                .iter()
-                .filter(|used| **used != rule && **used != Rule::Path)
-                .count();
-            count == wanted && others == 0
-        })
+    proposed(alloc, text, Target::Library).is_ok_and(|proposal| {
+        let used = &proposal.used;
+        let count = used.iter().filter(|used| **used == rule).count();
+        let others = used
+            .iter()
+            .filter(|used| **used != rule && **used != Rule::Path)
+            .count();
+        count == wanted && others == 0
+    })
+}
+
+/// What is made of a source by a proposal. None of these is too long.
+fn written(
+    alloc: Global,
+    text: &str,
+    target: Target,
+    proposal: &Proposal,
+) -> Result<String, Misfit> {
+    if !fits(text) {
+        return Err(Misfit::Memory);
+    }
+    erase(alloc, text, target, proposal)
 }
 
 /// Whether this is made of a source.
 fn is_made(alloc: Global, text: &str, target: Target, wanted: &str) -> bool {
-    made(alloc, text, target).is_ok_and(|erased| erased.as_str() == wanted)
+    proposed(alloc, text, target).is_ok_and(|proposal| {
+        written(alloc, text, target, &proposal).is_ok_and(|made| made.as_str() == wanted)
+    })
 }
 
 #[test]
@@ -174,8 +197,27 @@ fn what_is_not_known_is_refused(rt: HostRuntime) {
             line: *line,
             reason: *reason,
         };
-        let came = made(rt.alloc(), text, Target::Library);
+        let came = proposed(rt.alloc(), text, Target::Library);
         assert!(rt; came.is_err_and(|stop| stop == refused), "{text}");
+    }
+}
+
+/// Why a source is not written where one token has another fate than the one that is proposed.
+fn misfit(alloc: Global, text: &str, place: usize, fate: Fate) -> Option<Misfit> {
+    let Ok(mut proposal) = proposed(alloc, text, Target::Library) else {
+        return None;
+    };
+    if let Some(slot) = proposal.fates.get_mut(place) {
+        *slot = fate;
+    }
+    written(alloc, text, Target::Library, &proposal).err()
+}
+
+#[test]
+fn what_does_not_fit_is_told(rt: HostRuntime) {
+    for (text, (place, fate, wanted)) in MISFITS {
+        let came = misfit(rt.alloc(), text, *place, *fate);
+        assert!(rt; came == Some(*wanted), "{text}");
     }
 }
 
