@@ -3,9 +3,9 @@ use Rattle.std.specs.Prelude.{ℕ, ◌<◌, ◌≤◌, ◌^◌, ◌≡◌, Bool,
 use Rattle.std.specs.Str.{IsUtf8}
 use Rattle.std.specs.Io.KnownBytes.{Keeps, Appends}
 use Rattle.ends.specs.Known.{AppendsFront}
-use Rattle.rustc_lexer.specs.LanguageText.{mode_of}
+use Rattle.rustc_lexer.specs.declared.edition.Edition.TheVariants.{E2024}
+use Rattle.rustc_lexer.specs.LanguageText.{part}
 use Rattle.rustc_lexer.specs.Tokens.{tokens_of}
-use Rattle.rustc_lexer.specs.declared.token.FrontmatterAllowed.TheVariants.{No}
 use Rattle.erase_run.specs.Erased.{written, words_meant, words_of}
 use Rattle.erase_run.specs.Fates.{AreFates, start}
 use Rattle.erase_run.specs.Kept.{lines_suit}
@@ -19,9 +19,9 @@ use Rattle.erase.specs.declared.run.Fault.TheVariants.{Arguments, Refused, NotUt
 -- the tokens of the source in order, each by a fate that it may have: the text has the words that are meant, and lines of the target
 abbrev pub IsErased : Target → List ℕ → List ℕ → Type 0
 IsErased target source text =
-    (lines : List Line) × (fates : List Fate) × AreFates source target (Some start) source (tokens_of (mode_of No) source) fates
-    × (text ≡ written lines source (tokens_of (mode_of No) source) fates) × (lines_suit target lines ≡ true)
-    × (words_of text ≡ words_meant lines source (tokens_of (mode_of No) source) fates)
+    (lines : List Line) × (fates : List Fate) × AreFates source target (Some start) source (tokens_of (part E2024) source) fates
+    × (text ≡ written lines source (tokens_of (part E2024) source) fates) × (lines_suit target lines ≡ true)
+    × (words_of text ≡ words_meant lines source (tokens_of (part E2024) source) fates)
 
 -- what is printed of a source: how often each rule was used, of which nothing is said here, or the erased text
 abbrev pub IsPrinted : Bool → Target → List ℕ → List ℕ → Type 0

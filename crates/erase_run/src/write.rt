@@ -1,10 +1,10 @@
 //! What is written of a source.
 ghost use Rattle.std.specs.Prelude.{◌≡◌, ◌++◌, true, IfOk, OnOk, map, string_bytes};
 ghost use Rattle.std.specs.List.{flat_map};
+ghost use Rattle.rustc_lexer.specs.declared.edition.Edition.TheVariants.{E2024};
 ghost use Rattle.rustc_lexer.specs.Classes.{Fits};
-ghost use Rattle.rustc_lexer.specs.LanguageText.{mode_of};
+ghost use Rattle.rustc_lexer.specs.LanguageText.{part};
 ghost use Rattle.rustc_lexer.specs.Tokens.{tokens_of};
-ghost use Rattle.rustc_lexer.specs.declared.token.FrontmatterAllowed.TheVariants.{No};
 ghost use Rattle.erase_run.specs.Brackets.{are_matched, none};
 ghost use Rattle.erase_run.specs.Erased as spec;
 ghost use Rattle.erase_run.specs.Fates.{AreFates, start};
@@ -43,13 +43,13 @@ pub struct Erased {
 pub fn erase(alloc: Global, text: &str, target: Target) -> Result<Erased, Stop>
     requires fits { Fits text.now }
     ensures fates { IfOk result (λ made. AreFates text.now target (Some start)
-        text.now (tokens_of (mode_of No) text.now) made.fates.items) }
+        text.now (tokens_of (part E2024) text.now) made.fates.items) }
     ensures written { IfOk result (λ made. string_bytes made.text
-        ≡ spec.written made.lines.items text.now (tokens_of (mode_of No) text.now) made.fates.items) }
+        ≡ spec.written made.lines.items text.now (tokens_of (part E2024) text.now) made.fates.items) }
     ensures lines { IfOk result (λ made. lines_suit target made.lines.items ≡ true) }
-    ensures brackets { IfOk result (λ _. are_matched none (tokens_of (mode_of No) text.now) ≡ true) }
+    ensures brackets { IfOk result (λ _. are_matched none (tokens_of (part E2024) text.now) ≡ true) }
     ensures words { IfOk result (λ made. spec.words_of (string_bytes made.text)
-        ≡ spec.words_meant made.lines.items text.now (tokens_of (mode_of No) text.now) made.fates.items) }
+        ≡ spec.words_meant made.lines.items text.now (tokens_of (part E2024) text.now) made.fates.items) }
 {
     let mut source = Source::new(alloc, text, target)?;
     apply(alloc, &mut source)?;
@@ -90,11 +90,11 @@ fn written<'a>(
 ) -> Result<String, Stop>
     requires fits { Fits text.now }
     ensures fates { IfOk result
-        (λ _. AreFates text.now target (Some start) text.now (tokens_of (mode_of No) text.now) fates.now) }
+        (λ _. AreFates text.now target (Some start) text.now (tokens_of (part E2024) text.now) fates.now) }
     ensures written { IfOk result (λ made. string_bytes made
-        ≡ spec.written lines.now text.now (tokens_of (mode_of No) text.now) fates.now) }
+        ≡ spec.written lines.now text.now (tokens_of (part E2024) text.now) fates.now) }
     ensures words { IfOk result (λ _. map spec.lexeme meant.new.items
-        ≡ map spec.lexeme meant.old.items ++ spec.words_meant lines.now text.now (tokens_of (mode_of No) text.now) fates.now) }
+        ≡ map spec.lexeme meant.old.items ++ spec.words_meant lines.now text.now (tokens_of (part E2024) text.now) fates.now) }
 {
     let mut made = String::new(alloc);
     let mut left = fates;
