@@ -2,9 +2,9 @@
 use Rattle.std.specs.Prelude.{ℕ, ◌+◌, ◌≡◌, nat_eq, nat_lt, Bool, true, false, ◌||◌, ◌&&◌, not, if◌then◌else◌, List, [], ◌∷◌, ◌++◌, take, drop, codes}
 use Rattle.std.specs.List.{list_all}
 use Rattle.std.specs.Str.{bytes_eq}
-use Rattle.rustc_lexer.specs.LanguageText.{mode_of}
+use Rattle.rustc_lexer.specs.declared.edition.Edition.TheVariants.{E2024}
+use Rattle.rustc_lexer.specs.LanguageText.{part}
 use Rattle.rustc_lexer.specs.Tokens.{tokens_of}
-use Rattle.rustc_lexer.specs.declared.token.FrontmatterAllowed.TheVariants.{No}
 use Rattle.rustc_lexer.specs.declared.token.Token.{Token}
 use Rattle.rustc_lexer.specs.declared.token.TokenKind.{TokenKind}
 use Rattle.rustc_lexer.specs.declared.token.TokenKind.TheVariants.{Unknown, InvalidIdent, UnknownPrefix, UnknownPrefixLifetime, GuardedStrPrefix, RawIdent, ForcedKeywordIdent}
@@ -37,7 +37,7 @@ words_in line text (token ∷ tokens) = word line token.kind (take token.len tex
 
 -- the words of a text, in order
 abbrev pub words_of : List ℕ → List Word
-words_of text = words_in 1 text (tokens_of (mode_of No) text)
+words_of text = words_in 1 text (tokens_of (part E2024) text)
 
 -- a token that is none of Rust, or one whose meaning is not known to be the same
 abbrev pub is_strange : TokenKind → Bool
@@ -110,7 +110,7 @@ has_cause target matched line reason [] = false
 has_cause target matched line reason (word ∷ words) = (nat_eq word.line line && is_cause target matched reason word words) || has_cause target matched line reason words
 
 abbrev pub is_refused : List ℕ → Target → ℕ → Reason → Bool
-is_refused source target line reason = has_cause target (are_matched none (tokens_of (mode_of No) source)) line reason (words_of source)
+is_refused source target line reason = has_cause target (are_matched none (tokens_of (part E2024) source)) line reason (words_of source)
 
 -- a source is refused for what it has, or for want of memory
 abbrev pub IsStop : List ℕ → Target → Stop → Type 0

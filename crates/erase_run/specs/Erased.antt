@@ -1,9 +1,9 @@
 -- What is written of a source: its tokens in order, each by its fate.
 use Rattle.std.specs.Prelude.{ℕ, if◌then◌else◌, List, [], ◌∷◌, ◌++◌, take, drop, codes}
 use Rattle.std.specs.List.{flat_map}
-use Rattle.rustc_lexer.specs.LanguageText.{mode_of}
+use Rattle.rustc_lexer.specs.declared.edition.Edition.TheVariants.{E2024}
+use Rattle.rustc_lexer.specs.LanguageText.{part}
 use Rattle.rustc_lexer.specs.Tokens.{tokens_of}
-use Rattle.rustc_lexer.specs.declared.token.FrontmatterAllowed.TheVariants.{No}
 use Rattle.rustc_lexer.specs.declared.token.Token.{Token}
 use Rattle.rustc_lexer.specs.declared.token.TokenKind.{TokenKind}
 use Rattle.erase_run.specs.declared.fate.Fate.{Fate}
@@ -64,7 +64,7 @@ words_in text (token ∷ tokens) = word token.kind (take token.len text) ++ word
 
 -- the words of a text: what is no white space of its tokens, in order
 abbrev pub words_of : List ℕ → List (TokenKind × List ℕ)
-words_of text = words_in text (tokens_of (mode_of No) text)
+words_of text = words_in text (tokens_of (part E2024) text)
 
 abbrev pub line_words : Line → List (TokenKind × List ℕ)
 line_words line = words_of (line_text line)
@@ -87,7 +87,7 @@ lexeme piece = (piece.kind, piece.text.now)
 
 -- what is written of a source, and the words that are meant by it
 abbrev pub written_of : List Line → List ℕ → List Fate → List ℕ
-written_of lines source fates = written lines source (tokens_of (mode_of No) source) fates
+written_of lines source fates = written lines source (tokens_of (part E2024) source) fates
 
 abbrev pub meant_of : List Line → List ℕ → List Fate → List (TokenKind × List ℕ)
-meant_of lines source fates = words_meant lines source (tokens_of (mode_of No) source) fates
+meant_of lines source fates = words_meant lines source (tokens_of (part E2024) source) fates

@@ -1,9 +1,9 @@
 -- Labels that a `break` or a `continue` names.
 use Rattle.std.specs.Prelude.{ℕ, Bool, true, false, ◌||◌, ◌&&◌, not, if◌then◌else◌, List, [], ◌∷◌, take, drop, codes}
 use Rattle.std.specs.Str.{bytes_eq}
-use Rattle.rustc_lexer.specs.LanguageText.{mode_of}
+use Rattle.rustc_lexer.specs.declared.edition.Edition.TheVariants.{E2024}
+use Rattle.rustc_lexer.specs.LanguageText.{part}
 use Rattle.rustc_lexer.specs.Tokens.{tokens_of}
-use Rattle.rustc_lexer.specs.declared.token.FrontmatterAllowed.TheVariants.{No}
 use Rattle.rustc_lexer.specs.declared.token.Token.{Token}
 use Rattle.rustc_lexer.specs.declared.token.TokenKind.{TokenKind}
 use Rattle.erase_run.specs.declared.fate.Fate.{Fate}
@@ -26,7 +26,7 @@ named_in found jumps label text (token ∷ tokens) =
 
 -- a `break` or a `continue` of a source names the label
 abbrev pub is_named : List ℕ → List ℕ → Bool
-is_named source label = named_in false false label source (tokens_of (mode_of No) source)
+is_named source label = named_in false false label source (tokens_of (part E2024) source)
 
 -- a word of this text may have the fate in a source: a label that is deleted is named nowhere in it
 abbrev pub may_have : List ℕ → Fate → List ℕ → Bool

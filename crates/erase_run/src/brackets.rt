@@ -1,9 +1,9 @@
 //! Brackets of a source.
 ghost use Rattle.std.specs.Prelude.{◌≡◌, IfOk, reverse};
+ghost use Rattle.rustc_lexer.specs.declared.edition.Edition.TheVariants.{E2024};
 ghost use Rattle.rustc_lexer.specs.Classes.{Fits};
-ghost use Rattle.rustc_lexer.specs.LanguageText.{mode_of};
+ghost use Rattle.rustc_lexer.specs.LanguageText.{part};
 ghost use Rattle.rustc_lexer.specs.Tokens.{tokens_of};
-ghost use Rattle.rustc_lexer.specs.declared.token.FrontmatterAllowed.TheVariants.{No};
 ghost use Rattle.erase_run.specs.Brackets as spec;
 
 use rustc_lexer::{FrontmatterAllowed, TokenKind, tokenize};
@@ -22,7 +22,7 @@ pub enum Bracket {
 pub fn are_matched(alloc: Global, text: &str) -> Result<bool, AllocError>
     requires fits { Fits text.now }
     ensures { IfOk result (λ matched. matched
-        ≡ spec.are_matched spec.none (tokens_of (mode_of No) text.now)) }
+        ≡ spec.are_matched spec.none (tokens_of (part E2024) text.now)) }
 {
     let mut stack = Vec::new(alloc);
     for token in tokenize(text, FrontmatterAllowed::No) {

@@ -1,10 +1,10 @@
 //! What is written of a source.
 ghost use Rattle.std.specs.Prelude.{◌≡◌, ◌++◌, true, IfErr, IfOk, OnOk, map, string_bytes};
 ghost use Rattle.std.specs.List.{flat_map};
+ghost use Rattle.rustc_lexer.specs.declared.edition.Edition.TheVariants.{E2024};
 ghost use Rattle.rustc_lexer.specs.Classes.{Fits};
-ghost use Rattle.rustc_lexer.specs.LanguageText.{mode_of};
+ghost use Rattle.rustc_lexer.specs.LanguageText.{part};
 ghost use Rattle.rustc_lexer.specs.Tokens.{tokens_of};
-ghost use Rattle.rustc_lexer.specs.declared.token.FrontmatterAllowed.TheVariants.{No};
 ghost use Rattle.erase_run.specs.Brackets.{are_matched, none};
 ghost use Rattle.erase_run.specs.Erased as spec;
 ghost use Rattle.erase_run.specs.Fates.{AreFates};
@@ -42,7 +42,7 @@ pub fn erase(
     ensures written { IfOk result (λ made. string_bytes made
         ≡ spec.written_of proposal.now.lines.items text.now proposal.now.fates.items) }
     ensures lines { IfOk result (λ _. lines_suit target proposal.now.lines.items ≡ true) }
-    ensures brackets { IfOk result (λ _. are_matched none (tokens_of (mode_of No) text.now) ≡ true) }
+    ensures brackets { IfOk result (λ _. are_matched none (tokens_of (part E2024) text.now) ≡ true) }
     ensures words { IfOk result (λ made. spec.words_of (string_bytes made)
         ≡ spec.meant_of proposal.now.lines.items text.now proposal.now.fates.items) }
     ensures misfit { IfErr result (IsMisfit text.now target proposal.now.lines.items proposal.now.fates.items) }

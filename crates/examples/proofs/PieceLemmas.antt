@@ -3,7 +3,7 @@ use Rattle.std.proofs.Common.{◌≡◌, ℕ, ◌+◌, List, [], ◌∷◌, ◌+
 use Rattle.std.specs.Fmt.{WritesInCalls}
 use Rattle.std.specs.List.{flat_map}
 use Rattle.rustc_lexer.specs.declared.token.Token.{Token}
-use Rattle.rustc_lexer.specs.Edits.{Placed, pieces_from, pieces_of}
+use Rattle.rustc_lexer.specs.Edits.{Placed, pieces_from}
 use Rattle.rustc_lexer.specs.Tokens.{bound, Partitions}
 use Rattle.examples.specs.Repaint.{close_mark, marked, open_mark}
 
@@ -21,7 +21,7 @@ pieces-joined text start (token ∷ tokens) =
     ap (λ bs. take token.len (drop start text) ++ bs) (pieces-joined text (start + token.len) tokens ∙ ap (take (bound tokens (length tokens))) (sym (drop-drop token.len start text)))
     ∙ sym (take-add token.len (bound tokens (length tokens)) (drop start text))
 
-pub joined_whole : (text : List ℕ) (tokens : List Token) → Partitions text tokens → flat_map (λ (piece : Placed). piece.text) (pieces_of text tokens) ≡ text
+pub joined_whole : (text : List ℕ) (tokens : List Token) → Partitions text tokens → flat_map (λ (piece : Placed). piece.text) (pieces_from text 0 tokens) ≡ text
 joined_whole text tokens cut = pieces-joined text 0 tokens ∙ take_all (bound tokens (length tokens)) text (let w = cut.whole in omega arith)
 
 module _ {W : Type 0} (took : W → List ℕ → W → Type 0) where

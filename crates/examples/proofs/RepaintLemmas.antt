@@ -4,7 +4,7 @@ use Rattle.std.proofs.lemmas.List.{drop-take}
 use Rattle.rustc_lexer.specs.declared.relex.relexing.Relexed.{Relexed}
 use Rattle.rustc_lexer.specs.declared.token.Token.{Token}
 use Rattle.rustc_lexer.specs.Tokens.{bound, tokens_by}
-use Rattle.rustc_lexer.specs.Edits.{IsEdit, IsMeeting, IsRelexed, apply, kept_front, Placed, pieces_from, pieces_of}
+use Rattle.rustc_lexer.specs.Edits.{IsEdit, IsMeeting, IsRelexed, apply, kept_front, Placed, pieces_from}
 use Rattle.rustc_lexer.specs.Locality.{has_two, IsGrammar}
 use Rattle.rustc_lexer.specs.Classes.{IsText}
 use Rattle.rustc_lexer.proofs.EditLemmas.{IsEdited, edited, has_two-before, bound-take, met_rest, same_rest}
@@ -59,10 +59,10 @@ module _ {first : List ℕ → Token} (law : IsGrammar first) (text : List ℕ) 
   ed = edited text start stop insert is its edit
 
   abbrev shown : List Placed
-  shown = pieces_of text old
+  shown = pieces_from text 0 old
 
   abbrev to_show : List Placed
-  to_show = pieces_of new_text new
+  to_show = pieces_from new_text 0 new
 
   front_shown : take kept to_show ≡ take kept shown
   front_shown =
@@ -104,7 +104,7 @@ module _ {first : List ℕ → Token} (law : IsGrammar first) (text : List ℕ) 
 
   pub enough_for : {E : Type 0} (result : Result Relexed E) (bytes : List ℕ) (tokens held : List Token) → held ≡ tokens_by first text → tokens ≡ tokens_by first bytes
       → OnOk result (bytes ≡ apply text start stop insert) → IfOk result (IsRelexed first text start stop insert)
-      → IfOk result (λ r. pieces_of bytes tokens ≡ shown_after r (length insert) (stop - start) (pieces_of text held) (changed r (pieces_of bytes tokens)))
+      → IfOk result (λ r. pieces_from bytes 0 tokens ≡ shown_after r (length insert) (stop - start) (pieces_from text 0 held) (changed r (pieces_from bytes 0 tokens)))
   enough_for (Err e) bytes tokens held h t b r = tt
   enough_for (Ok x) bytes tokens held h t b r =
       let t' : tokens ≡ tokens_by first new_text = t ∙ ap (tokens_by first) b in

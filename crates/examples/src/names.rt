@@ -3,7 +3,7 @@ ghost use Rattle.std.specs.Prelude.{◌≡◌, true, IfSome};
 ghost use Rattle.std.specs.Option.{option_map};
 ghost use Rattle.std.specs.Str.{chars};
 ghost use Rattle.rustc_lexer.specs.Classes.{is_ident, Fits};
-ghost use Rattle.rustc_lexer.specs.Edits.{pieces_of};
+ghost use Rattle.rustc_lexer.specs.Edits.{pieces_from};
 ghost use Rattle.rustc_lexer.specs.LanguageText.{part};
 ghost use Rattle.rustc_lexer.specs.Tokens.{tokens_of, HasText};
 ghost use Rattle.examples.specs.Names.{first_name_of, name_of};
@@ -14,7 +14,7 @@ use rustc_lexer::{Edition, TokenKind, tokenize_in};
 pub fn first_name<'a>(text: &'a str, edition: Edition) -> Option<&'a str>
     requires fits { Fits text.now }
     ensures first { option_map (λ name. name.now) result
-        ≡ first_name_of (pieces_of text.now (tokens_of (part edition) text.now)) }
+        ≡ first_name_of (pieces_from text.now 0 (tokens_of (part edition) text.now)) }
     ensures ident { IfSome result (λ name. is_ident (chars name.now) ≡ true) }
 {
     let mut start = 0;

@@ -1,7 +1,7 @@
 //! Repaints the tokens of a text that an edit changed.
 ghost use Rattle.std.specs.Prelude.{◌≡◌, ◌+◌, ◌-◌, OnOk, OnErr, IfOk, length};
 ghost use Rattle.std.specs.Fmt.{WritesInCalls};
-ghost use Rattle.rustc_lexer.specs.Edits.{IsEdit, apply, pieces_of};
+ghost use Rattle.rustc_lexer.specs.Edits.{IsEdit, apply, pieces_from};
 ghost use Rattle.examples.specs.Repaint.{changed, close_mark, marked, open_mark, shown_after};
 
 use rustc_lexer::{LexedText, Relexed, Stepper, TokenKind};
@@ -25,9 +25,9 @@ pub fn edit_shown<S: Stepper>(
     ensures all { IfOk result (λ relexed.
         relexed.kept_front + relexed.lexed + relexed.kept_back ≡ length lexed.new.tokens) }
     ensures enough { IfOk result (λ relexed.
-        let new = pieces_of lexed.new.text lexed.new.tokens in
+        let new = pieces_from lexed.new.text 0 lexed.new.tokens in
         new ≡ shown_after relexed (length insert.now) (stop - start)
-        (pieces_of lexed.old.text lexed.old.tokens) (changed relexed new)) }
+        (pieces_from lexed.old.text 0 lexed.old.tokens) (changed relexed new)) }
 {
     // So the tokens are those of the text.
     prove!(lexed.tokens().len() <= lexed.text().len());
@@ -42,7 +42,7 @@ pub fn repaint<S: Stepper, W: fmt::Write>(
 ) -> fmt::Result
     requires all { relexed.kept_front + relexed.lexed + relexed.kept_back ≡ length lexed.now.tokens }
     ensures { OnOk result (WritesInCalls W.write_str_gives output.old
-        (marked (changed relexed (pieces_of lexed.now.text lexed.now.tokens)))
+        (marked (changed relexed (pieces_from lexed.now.text 0 lexed.now.tokens)))
         output.new) }
 {
     let back = lexed.tokens().len() - relexed.kept_back;

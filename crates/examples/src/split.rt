@@ -3,7 +3,7 @@ ghost use Rattle.std.specs.Prelude.{◌≡◌, IfOk, map};
 ghost use Rattle.rustc_lexer.specs.Classes.{Fits};
 ghost use Rattle.rustc_lexer.specs.LanguageText.{part};
 ghost use Rattle.rustc_lexer.specs.Tokens.{tokens_of};
-ghost use Rattle.rustc_lexer.specs.Edits.{pieces_of};
+ghost use Rattle.rustc_lexer.specs.Edits.{pieces_from};
 ghost use Rattle.examples.specs.Joined.{joined};
 ghost use Rattle.examples.specs.Split.{texts_of};
 
@@ -19,7 +19,7 @@ pub fn split_in<'a>(
     requires fits { Fits text.now }
     ensures parts { IfOk result
         (λ parts. map (λ part. part.now) parts.items
-        ≡ texts_of (pieces_of text.now (tokens_of (part edition) text.now))) }
+        ≡ texts_of (pieces_from text.now 0 (tokens_of (part edition) text.now))) }
     ensures whole { IfOk result (λ parts. joined parts.items ≡ text.now) }
 {
     let mut parts = Vec::new(alloc);

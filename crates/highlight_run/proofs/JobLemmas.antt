@@ -3,7 +3,7 @@ use Rattle.std.proofs.Common.{◌≡◌, ◌<◌, ℕ, Bool, true, false, if◌t
 use Rattle.std.specs.Prelude.{codes}
 use Rattle.std.specs.Option.{option_and_then, option_map}
 use Rattle.std.specs.Str.{bytes_eq}
-use Rattle.rustc_lexer.specs.LanguageText.{edition_of}
+use Rattle.rustc_lexer.specs.LanguageCalls.{edition_of}
 use Rattle.highlight_run.specs.declared.job.Options.{Options}
 use Rattle.highlight_run.specs.Job.{in_edition, option_of, options_of, page, when_of, with_colours}
 

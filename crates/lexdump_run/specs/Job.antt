@@ -5,7 +5,7 @@ use Rattle.std.specs.Str.{all_ascii_digits, bytes_eq}
 use Rattle.rustc_lexer.specs.declared.edition.Edition.{Edition}
 use Rattle.rustc_lexer.specs.declared.edition.Edition.TheVariants.{E2024}
 use Rattle.rustc_lexer.specs.declared.relex.edit.Edit.{Edit as TextEdit}
-use Rattle.rustc_lexer.specs.LanguageText.{edition_of}
+use Rattle.rustc_lexer.specs.LanguageCalls.{edition_of}
 use Rattle.lexdump_run.specs.declared.fault.Fault.{Fault}
 use Rattle.lexdump_run.specs.declared.fault.Fault.TheVariants.{Arguments, Memory}
 use Rattle.lexdump_run.specs.declared.job.Job.{Job}

@@ -6,9 +6,9 @@ use Rattle.rustc_lexer.specs.declared.relex.relexing.{Change.Change, Relexed.Rel
 use Rattle.rustc_lexer.specs.Classes.{IsText}
 use Rattle.rustc_lexer.specs.Document.{body_start, head_tokens, IsRelexedDocument, KeepsHead}
 use Rattle.rustc_lexer.specs.Edits.{apply, IsEdit, IsRelexed}
-use Rattle.rustc_lexer.specs.Head.{body_change, counted, IsBodyChange, IsEditOf, IsHeadOf}
+use Rattle.rustc_lexer.specs.Head.{body_change, counted, IsBodyChange, IsHeadOf}
 use Rattle.rustc_lexer.specs.Locality.{IsGrammar}
-use Rattle.rustc_lexer.specs.Relexing.{IsMadeOf}
+use Rattle.rustc_lexer.specs.Relexing.{IsEditOf, IsMadeOf}
 use Rattle.rustc_lexer.specs.Tokens.{tokens_by}
 use Rattle.rustc_lexer.specs.means.Document.{body_insert, head_of, HeadStays, IsRelexedWith}
 use Rattle.rustc_lexer.proofs.DocumentLemmas.{made_body}

@@ -183,9 +183,6 @@ shorter_left text left tokens parts buffer count e cut some_buffer some_text =
 pub record Fills {X : Type 0} (written : Token → X) (s t : State) (buffer filled : List X) (count : ℕ) : Type 0 where
   pub holds : IsFilled written (tokens_left s) buffer filled count
   pub state_is : t ≡ state_past count s
-  pub left : tokens_left t ≡ drop count (tokens_left s)
-  pub rest : t.rest ≡ drop (bound (tokens_left s) count) s.rest
-  pub progress : 0 < length buffer → 0 < length s.rest → length t.rest < length s.rest
 
 pub fills : {X : Type 0} (written : Token → X) (edition : Edition) (s t : State) (text : List ℕ) → IsText text → text ≡ s.rest → s.pending ≡ 0 → s.mode ≡ part edition → (buffer filled : List X) (count bytes : ℕ)
     → IsFilled written (tokens_of (part edition) text) buffer filled count → bytes ≡ bound (tokens_of (part edition) text) count → t ≡ state 0 (drop bytes s.rest) s.mode → Fills written s t buffer filled count
@@ -200,9 +197,6 @@ fills written edition s t text is e pending none buffer filled count bytes filli
     record {
       holds = here;
       state_is = past ∙ sym (state_past-no edition s.rest whole s (plain_state edition s s.rest pending refl none) count few);
-      left = ap (λ (x : State). tokens_left x) past ∙ (restarts edition s.rest whole count few ∙ sym (ap (drop count) no));
-      rest = ap (λ (x : State). x.rest) past ∙ ap (λ (ts : List Token). drop (bound ts count) s.rest) (sym no);
-      progress = λ places some. shorter_left s.rest t.rest (tokens_of (part edition) s.rest) (partitions s.rest (part edition) whole) (length buffer) count (here.as_many ∙ ap (λ (ts : List Token). min (length buffer) (length ts)) no) (ap (λ (x : State). x.rest) past) places some;
     }
 
 -- ---- one token after another

@@ -116,7 +116,7 @@ module _ {heads : List ℕ → Head} {first : List ℕ → Token} (law : IsGramm
   whole = record { start = change.start; old_stop = change.old_stop; new_stop = change.start + length put }
 
   whole_is : change ≡ whole
-  whole_is = ap (λ (p : ℕ). let ch : Change = record { start = change.start; old_stop = change.old_stop; new_stop = p } in ch) b.made_of.new_stop
+  whole_is = ap (λ (p : ℕ). let ch : Change = record { start = change.start; old_stop = change.old_stop; new_stop = p } in ch) b.made_of.edit_of.new_stop
 
   whole_made : IsMadeOf first (drop old.end text) (map (λ (t : Token). t.len) (drop n tokens)) whole put body
   whole_made = subst (λ (ch : Change). IsMadeOf first (drop old.end text) (map (λ (t : Token). t.len) (drop n tokens)) ch put body) whole_is b.made_of
@@ -234,8 +234,8 @@ module _ {heads : List ℕ → Head} {first : List ℕ → Token} (law : IsGramm
     pub counted_few : IsText text → counts.kept_front < 2 ^ 33
     counted_few is =
         let front = ap (λ (x : Relexed). x.kept_front) counts_are in
-        let many = tokens_le_bytes law (drop old.end text) b.made_of.is_text in
-        let short = b.made_of.is_text.fits in
+        let many = tokens_le_bytes law (drop old.end text) b.made_of.edit_of.is_text in
+        let short = b.made_of.edit_of.is_text.fits in
         omega (arith, front, many, short, r.renewed.lexed_is.stands.front_bound.0)
 
 -- ---- an edit that is refused
@@ -248,7 +248,7 @@ module _ {heads : List ℕ → Head} {first : List ℕ → Token} (law : IsGramm
   same_counts : (r : Relexed) → IsRelexedWith heads kept first text start stop insert r → r ≡ counted kept (length (tokens_of_head old)) (length (tokens_of_head now)) of_body
   same_counts r is =
       let x = of_texts b r is in
-      let only : x.0 ≡ of_body = relexed_found law (drop old.end text) b.made_of.is_text change.start change.old_stop (body_insert kept change insert body) b.made_of.inserted b.made_of.edit x.0 x.1 in
+      let only : x.0 ≡ of_body = relexed_found law (drop old.end text) b.made_of.edit_of.is_text change.start change.old_stop (body_insert kept change insert body) b.made_of.edit_of.inserted b.made_of.edit_of.is_edit x.0 x.1 in
       x.2 ∙ ap (counted kept (length (tokens_of_head old)) (length (tokens_of_head now))) only
 
   -- it takes no more steps than it would have

@@ -8,7 +8,7 @@ use Rattle.rustc_lexer.specs.declared.relex.head.Head.{Head}
 use Rattle.rustc_lexer.specs.declared.relex.relexing.Change.{Change}
 use Rattle.rustc_lexer.specs.{Token}
 use Rattle.rustc_lexer.specs.Classes.{IsText}
-use Rattle.rustc_lexer.specs.means.Document.{body_change, body_insert, front_change, head_put, moved, unlike_past}
+use Rattle.rustc_lexer.specs.means.Document.{body_change, body_insert, head_put}
 use Rattle.rustc_lexer.specs.Edits.{apply, IsEdit}
 use Rattle.rustc_lexer.specs.Relexing.{IsMadeOf}
 use Rattle.rustc_lexer.specs.Locality.{IsGrammar}
@@ -76,31 +76,33 @@ module _ {first : List ℕ → Token} (law : IsGrammar first) (text insert made 
         let few : from ≤ length (take start text) = omega (arith, length-take-le start text (omega arith)) in
         ap (λ n. drop n made) (sym same) ∙ (ap (drop from) e ∙ (drop-append-le from (take start text) (insert ++ drop stop text) few ∙ ap₂ (λ xs ys. xs ++ (insert ++ ys)) front back))
 
-    kept_body : from ≡ to → from ≤ start → IsMadeOf first (drop from text) (map (λ (t : Token). t.len) tokens) (moved from as_change) insert body
+    kept_body : from ≡ to → from ≤ start → IsMadeOf first (drop from text) (map (λ (t : Token). t.len) tokens) (body_change true from to as_change) insert body
     kept_body same before =
         let a = edit.inside.start_le_stop in
         let b = edit.inside.stop_inside in
         let s = edit.short in
         record {
-          is_text = old_text;
-          lengths_are = lengths;
-          edit = record {
-            inside = record {
-              start_le_stop = omega arith;
-              stop_inside = omega (arith, length-drop from text);
-              start_boundary = boundary-past text from start is.utf8 before edit.inside.start_boundary;
-              stop_boundary = boundary-past text from stop is.utf8 (omega arith) edit.inside.stop_boundary;
+          edit_of = record {
+            is_text = old_text;
+            is_edit = record {
+              inside = record {
+                start_le_stop = omega arith;
+                stop_inside = omega (arith, length-drop from text);
+                start_boundary = boundary-past text from start is.utf8 before edit.inside.start_boundary;
+                stop_boundary = boundary-past text from stop is.utf8 (omega arith) edit.inside.stop_boundary;
+              };
+              short = omega (arith, length-drop from text);
             };
-            short = omega (arith, length-drop from text);
+            inserted = its;
+            made = body_is ∙ kept_made same before;
+            new_stop = omega arith;
           };
-          inserted = its;
-          made = body_is ∙ kept_made same before;
-          new_stop = omega arith;
+          lengths_are = lengths;
         }
 
     -- it does not: up to here both differ
     abbrev past : ℕ
-    past = unlike_past as_change from to
+    past = max (from - stop) (to - (start + length insert))
 
     abbrev old_end : ℕ
     old_end = stop + past
@@ -136,7 +138,7 @@ module _ {first : List ℕ → Token} (law : IsGrammar first) (text insert made 
         let same : drop (start + length insert + m) made ≡ drop (stop + m) text = same_rest law text start stop insert made is edit ed (start + length insert + m) (omega arith) ∙ ap (λ n. drop n text) there in
         subst IsUtf8 same (by_past (λ n. IsUtf8 (drop n made)) (start + length insert) to (subst IsUtf8 (sym ed.back) (IsUtf8-drop text stop is.utf8 edit.inside.stop_boundary)) (IsUtf8-drop made to ed.text_is.utf8 now_at)))
 
-    front_body : IsMadeOf first (drop from text) (map (λ (t : Token). t.len) tokens) (front_change from to as_change) (take (new_end - to) body) body
+    front_body : IsMadeOf first (drop from text) (map (λ (t : Token). t.len) tokens) (body_change false from to as_change) (take (new_end - to) body) body
     unfolding ed apply same_back ends_inside back_utf8
     front_body =
         let i = ends_inside in
@@ -151,20 +153,22 @@ module _ {first : List ℕ → Token} (law : IsGrammar first) (text insert made 
         let long : length (take (new_end - to) body) ≡ new_end - to = length-take-le (new_end - to) body (omega arith) in
         let old_back : drop old_end text ≡ drop (old_end - from) (drop from text) = drop-past text from old_end i.0 in
         record {
-          is_text = old_text;
-          lengths_are = lengths;
-          edit = record {
-            inside = record {
-              start_le_stop = omega arith;
-              stop_inside = omega (arith, length-drop from text, i.2);
-              start_boundary = IsCharBoundary-from_drop (drop from text) 0 (omega arith) old_text.utf8;
-              stop_boundary = IsCharBoundary-from_drop (drop from text) (old_end - from) (omega (arith, length-drop from text, i.2)) (subst IsUtf8 old_back back_utf8);
+          edit_of = record {
+            is_text = old_text;
+            is_edit = record {
+              inside = record {
+                start_le_stop = omega arith;
+                stop_inside = omega (arith, length-drop from text, i.2);
+                start_boundary = IsCharBoundary-from_drop (drop from text) 0 (omega arith) old_text.utf8;
+                stop_boundary = IsCharBoundary-from_drop (drop from text) (old_end - from) (omega (arith, length-drop from text, i.2)) (subst IsUtf8 old_back back_utf8);
+              };
+              short = omega (arith, length-drop from text, long, i.2, i.3, i.0, i.1);
             };
-            short = omega (arith, length-drop from text, long, i.2, i.3, i.0, i.1);
+            inserted = IsUtf8-take body (new_end - to) body_utf8 cut;
+            made = sym (take-append-drop (new_end - to) body) ∙ ap (λ ys. take (new_end - to) body ++ ys) (back ∙ old_back);
+            new_stop = omega (arith, long);
           };
-          inserted = IsUtf8-take body (new_end - to) body_utf8 cut;
-          made = sym (take-append-drop (new_end - to) body) ∙ ap (λ ys. take (new_end - to) body ++ ys) (back ∙ old_back);
-          new_stop = omega (arith, long);
+          lengths_are = lengths;
         }
 
     -- what an edit is to the body

@@ -3,25 +3,12 @@ use Rattle.std.proofs.Common.{◌≡◌, ℕ, zero, suc, ◌+◌, ◌<◌, List,
 use Rattle.std.proofs.lemmas.Grind.{common_steps}
 use Rattle.rustc_lexer.specs.{Token}
 use Rattle.rustc_lexer.specs.declared.relex.edit.Edit.{Edit}
-use Rattle.rustc_lexer.specs.declared.relex.relexing.Relexed.{Relexed}
-use Rattle.rustc_lexer.specs.Edits.{IsEdit, IsRelexed, applied, apply_list, AreEdits, AreRelexed}
-
--- the counts of an edit
-abbrev pub IsRelexedBy : (List ℕ → Token) → List ℕ → Edit → Relexed → Type 0
-IsRelexedBy first text e r = IsRelexed first text e.start e.stop e.insert.now r
+use Rattle.rustc_lexer.specs.Edits.{IsEdit, applied, apply_list, AreEdits, AreStepped}
 
 pub apply-next : (text : List ℕ) (es : List Edit) (n : ℕ) (d : Edit) → n < length es → apply_list text (take (suc n) es) ≡ applied (apply_list text (take n es)) (get_or es n d)
 apply-next text [] n d few = absurd (omega arith)
 apply-next text (e ∷ es) zero d few = refl
 apply-next text (e ∷ es) (suc n) d few = apply-next (applied text e) es n d (omega arith)
-
--- one edit more lexes so many tokens more
-relexed-next : (first : List ℕ → Token) (text : List ℕ) (es : List Edit) (n : ℕ) (d : Edit) (lexed : ℕ) (r : Relexed) → n < length es → AreRelexed first text (take n es) lexed → IsRelexedBy first (apply_list text (take n es)) (get_or es n d) r → AreRelexed first text (take (suc n) es) (lexed + r.lexed)
-relexed-next first text [] n d lexed r few are is = absurd (omega arith)
-relexed-next first text (e ∷ es) zero d lexed r few are is = (r, 0, is, refl, omega (arith, are))
-relexed-next first text (e ∷ es) (suc n) d lexed r few are is =
-    let sum = are.4 in
-    (are.0, are.1 + r.lexed, are.2, relexed-next first (applied text e) es n d are.1 r (omega arith) are.3 is, omega arith)
 
 abbrev pub none : Edit
 none = record { start = 0; stop = 0; insert = record { ref_ptr = (0, 0); now = [] } }
@@ -30,11 +17,23 @@ none = record { start = 0; stop = 0; insert = record { ref_ptr = (0, 0); now = [
 pub text-more : (text now after : List ℕ) (es : List Edit) (n : ℕ) → n < length es → now ≡ apply_list text (take n es) → after ≡ applied now (get_or es n none) → after ≡ apply_list text (take (n + 1) es)
 text-more text now after es n few is made = grind (arith, common_steps, apply-next)
 
-pub relexed-more : (first then : List ℕ → Token) (text now : List ℕ) (es : List Edit) (n lexed : ℕ) (r : Relexed) → n < length es → now ≡ apply_list text (take n es) → then ≡ first → AreRelexed first text (take n es) lexed → IsRelexedBy then now (get_or es n none) r → AreRelexed first text (take (n + 1) es) (lexed + r.lexed)
-relexed-more first then text now es n lexed r few is same are one =
-    let more : suc n ≡ n + 1 = omega arith in
-    let here : IsRelexedBy first (apply_list text (take n es)) (get_or es n none) r = subst (λ f. IsRelexedBy f (apply_list text (take n es)) (get_or es n none) r) same (subst (λ xs. IsRelexedBy then xs (get_or es n none) r) is one) in
-    subst (λ k. AreRelexed first text (take k es) (lexed + r.lexed)) more (relexed-next first text es n none lexed r few are here)
+-- one more edit takes its steps more
+module _ (Steps : (List ℕ → Token) → List ℕ → ℕ → ℕ → List ℕ → ℕ → ℕ → Type 0) (first : List ℕ → Token) where
+  abbrev IsSteppedBy : List ℕ → Edit → ℕ → ℕ → Type 0
+  IsSteppedBy text e before after = Steps first text e.start e.stop e.insert.now before after
+
+  stepped-next : (text : List ℕ) (es : List Edit) (n : ℕ) (d : Edit) (before between after : ℕ) → n < length es → AreStepped (Steps first) text (take n es) before between → IsSteppedBy (apply_list text (take n es)) (get_or es n d) between after → AreStepped (Steps first) text (take (suc n) es) before after
+  stepped-next text [] n d before between after few are is = absurd (omega arith)
+  stepped-next text (e ∷ es) zero d before between after few are is = (after, subst (λ (k : ℕ). IsSteppedBy text e k after) are is, refl)
+  stepped-next text (e ∷ es) (suc n) d before between after few are is = (are.0, are.1, stepped-next (applied text e) es n d are.0 between after (omega arith) are.2 is)
+
+  pub stepped-more : (then : List ℕ → Token) (text now : List ℕ) (es : List Edit) (n before between after : ℕ) → n < length es → now ≡ apply_list text (take n es) → then ≡ first → AreStepped (Steps first) text (take n es) before between
+      → Steps then now (get_or es n none).start (get_or es n none).stop (get_or es n none).insert.now between after → AreStepped (Steps first) text (take (n + 1) es) before after
+  stepped-more then text now es n before between after few is same are one =
+      let e : Edit = get_or es n none in
+      let more : suc n ≡ n + 1 = omega arith in
+      let here : IsSteppedBy (apply_list text (take n es)) e between after = subst (λ f. Steps f (apply_list text (take n es)) e.start e.stop e.insert.now between after) same (subst (λ xs. Steps then xs e.start e.stop e.insert.now between after) is one) in
+      subst (λ k. AreStepped (Steps first) text (take k es) before after) more (stepped-next text es n none before between after few are here)
 
 edits-next : (text : List ℕ) (es : List Edit) (n : ℕ) (d : Edit) → n < length es → AreEdits text (take n es) → IsEdit (apply_list text (take n es)) (get_or es n d).start (get_or es n d).stop (get_or es n d).insert.now → AreEdits text (take (suc n) es)
 edits-next text [] n d few are is = absurd (omega arith)

@@ -10,11 +10,11 @@ pub mod BulkLemmas
 pub mod ClassLemmas
 pub mod CloseLemmas
 pub mod DocumentEditLemmas
-pub mod DocumentEdits
 pub mod DocumentHead
 pub mod DocumentLemmas
 pub mod DocumentPage
 pub mod DocumentPieces
+pub mod DocumentSteps
 pub mod DocumentTokens
 pub mod EditLemmas
 pub mod EditListLemmas
@@ -22,6 +22,7 @@ pub mod EditionLemmas
 pub mod EmojiLemmas
 pub mod EndsLemmas
 pub mod FamilyLemmas
+pub mod FillLemmas
 pub mod FindLemmas
 pub mod FrontLemmas
 pub mod GuardedLemmas

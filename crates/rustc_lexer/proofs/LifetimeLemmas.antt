@@ -7,9 +7,8 @@ use Rattle.std.proofs.lemmas.Str.{length-encode, length-le-encodes}
 use Rattle.std.proofs.Math.Bool.{not-not}
 use Rattle.std.proofs.lemmas.Grind.{common_steps}
 use Rattle.rustc_lexer.specs.{TokenKind, Char, Literal, Lifetime, UnknownPrefixLifetime}
-use Rattle.rustc_lexer.specs.Classes.{is_id_continue}
+use Rattle.rustc_lexer.specs.Classes.{is_id_continue, is_word_continue}
 use Rattle.rustc_lexer.specs.Tables.{is_emoji}
-use Rattle.rustc_lexer.specs.means.Ident.{is_word}
 use Rattle.rustc_lexer.specs.means.Lifetime.{past_name, plain_lifetime, lifetime, is_character, is_character_at, lifetime_or_char}
 use Rattle.rustc_lexer.specs.laws.Lifetime.{name_of, quoted_name, unquoted_name}
 use Rattle.rustc_lexer.specs.means.Literal.{literal}
@@ -46,12 +45,12 @@ past-unquoted_name c name end is t =
     ap (λ (xs : List ℕ). ((unquoted_name c name (chars end)).0, xs)) (sym (past-zero end is)) ∙ sym (scanned-no (begins (codes "'")) (quoted_name c name) (unquoted_name c name) end t)
 
 -- the run of a name was read in two parts
-module _ (c : ℕ) (rest part end : List ℕ) (is : IsUtf8 rest) (first : part ≡ past (run_len is_id_continue (chars rest)) rest) (second : end ≡ past (run_len is_word (chars part)) part) where
+module _ (c : ℕ) (rest part end : List ℕ) (is : IsUtf8 rest) (first : part ≡ past (run_len is_id_continue (chars rest)) rest) (second : end ≡ past (run_len is_word_continue (chars part)) part) where
   plain : ℕ
   plain = run_len is_id_continue (chars rest)
 
   whole : ℕ
-  whole = run_len is_word (chars rest)
+  whole = run_len is_word_continue (chars rest)
 
   part-chars : chars part ≡ drop plain (chars rest)
   unfolding plain
@@ -65,8 +64,8 @@ module _ (c : ℕ) (rest part end : List ℕ) (is : IsUtf8 rest) (first : part �
   unfolding plain whole
   emoji-is =
       let utf8 : IsUtf8 part = rw first (IsUtf8-past plain rest is) in
-      shorter-by (run_len is_word (chars part)) part end utf8 (run_len_le is_word (chars part)) second
-      ∙ (ap (λ ds. ltb 0 (run_len is_word ds)) part-chars ∙ (word_more (chars rest) ∙ sym (ap not (word_all (chars rest)) ∙ not-not (has_emoji (chars rest)))))
+      shorter-by (run_len is_word_continue (chars part)) part end utf8 (run_len_le is_word_continue (chars part)) second
+      ∙ (ap (λ ds. ltb 0 (run_len is_word_continue ds)) part-chars ∙ (word_more (chars rest) ∙ sym (ap not (word_all (chars rest)) ∙ not-not (has_emoji (chars rest)))))
 
   plain_lifetime-is : scanned (plain_lifetime c) rest ≡ scanned (past_name c (take whole (chars rest))) end
   unfolding whole

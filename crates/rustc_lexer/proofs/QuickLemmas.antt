@@ -9,9 +9,9 @@ use Rattle.std.proofs.lemmas.Grind.{common_steps}
 use Rattle.unicode_ident.proofs.IdentLemmas.{is_xid_continue-ascii}
 use Rattle.rustc_lexer.specs.{TokenKind, Ident, UnknownPrefix, Whitespace}
 use Rattle.rustc_lexer.specs.means.ByteRuns.{is_continue_byte, is_space_byte, is_wide}
-use Rattle.rustc_lexer.specs.Classes.{is_id_continue}
+use Rattle.rustc_lexer.specs.Classes.{is_id_continue, ends_prefix}
 use Rattle.rustc_lexer.specs.Tables.{is_emoji}
-use Rattle.rustc_lexer.specs.means.Ident.{ident_or_unknown_prefix, is_prefix_mark, marks_ident}
+use Rattle.rustc_lexer.specs.means.Ident.{ident_or_unknown_prefix, marks_ident}
 use Rattle.rustc_lexer.specs.laws.Family.{by_letter}
 use Rattle.rustc_lexer.specs.means.Lexeme.{family_of, word, symbol_kind, past_first, is_raw_mark, begins_raw}
 use Rattle.rustc_lexer.specs.means.Quick.{is_space_lead, turns_word, IsFirstToken}
@@ -32,10 +32,10 @@ emoji-ascii b l = rw (lt-leb 128 b l) refl
 
 -- ---- a word is an identifier where no mark follows it
 
-mark-continues : (c : ℕ) → is_prefix_mark c ≡ true → is_id_continue c ≡ false
+mark-continues : (c : ℕ) → ends_prefix c ≡ true → is_id_continue c ≡ false
 mark-continues c e = grind (arith, common_steps, or_cases, eqb-true, is_xid_continue-ascii)
 
-no_mark : (s : List ℕ) → next_is is_prefix_mark (drop (run_len is_id_continue s) s) ≡ false → next_is is_prefix_mark s ≡ false
+no_mark : (s : List ℕ) → next_is ends_prefix (drop (run_len is_id_continue s) s) ≡ false → next_is ends_prefix s ≡ false
 no_mark w0 h = grind (arith, common_steps, mark-continues)
 
 r-continues : is_id_continue 114 ≡ true
@@ -47,10 +47,10 @@ record Unmarked (c : ℕ) : Type 0 where
   double : (c == 34) ≡ false
   single : (c == 39) ≡ false
 
-unmarked : (c : ℕ) → is_prefix_mark c ≡ false → Unmarked c
+unmarked : (c : ℕ) → ends_prefix c ≡ false → Unmarked c
 unmarked c e = grind (arith, common_steps, or_parts)
 
-no_raw : (s : List ℕ) → next_is is_prefix_mark s ≡ false → next_is is_raw_mark s ≡ false
+no_raw : (s : List ℕ) → next_is ends_prefix s ≡ false → next_is is_raw_mark s ≡ false
 no_raw [] e = refl
 no_raw (c ∷ cs) e = let u = unmarked c e in rw (u.hash, u.double) refl
 
@@ -62,7 +62,7 @@ record IsPlain (s : List ℕ) : Type 0 where
   no_hash : next_is is_raw_mark s ≡ false
   no_letter : begins_raw s ≡ false
 
-is_plain : (s : List ℕ) → next_is is_prefix_mark (drop (run_len is_id_continue s) s) ≡ false → IsPlain s
+is_plain : (s : List ℕ) → next_is ends_prefix (drop (run_len is_id_continue s) s) ≡ false → IsPlain s
 is_plain [] h = record { no_ident = refl; no_char = refl; no_string = refl; no_hash = refl; no_letter = refl }
 is_plain (c ∷ cs) h =
     let u = unmarked c (no_mark (c ∷ cs) h) in
@@ -72,16 +72,16 @@ is_plain (c ∷ cs) h =
     by_r false e = rw e refl
     by_r true e =
         let more : run_len is_id_continue (c ∷ cs) ≡ suc (run_len is_id_continue cs) = rw (ap is_id_continue (eqb-true c 114 e) ∙ r-continues) refl in
-        rw e (no_raw cs (no_mark cs (subst (λ n. next_is is_prefix_mark (drop n (c ∷ cs)) ≡ false) more h)))
+        rw e (no_raw cs (no_mark cs (subst (λ n. next_is ends_prefix (drop n (c ∷ cs)) ≡ false) more h)))
 
-word-plain : (b : ℕ) (s : List ℕ) → next_is is_prefix_mark (drop (run_len is_id_continue s) s) ≡ false → word b s ≡ ident_or_unknown_prefix s
+word-plain : (b : ℕ) (s : List ℕ) → next_is ends_prefix (drop (run_len is_id_continue s) s) ≡ false → word b s ≡ ident_or_unknown_prefix s
 word-plain b s h =
     let p = is_plain s h in
     by_letter (λ c scan. scan s ≡ ident_or_unknown_prefix s) b (rw (p.no_ident, p.no_hash) refl) (rw p.no_ident refl) (rw (p.no_char, p.no_string, p.no_letter) refl) (rw (p.no_string, p.no_letter) refl) (λ r k c d. refl)
 
 -- ---- the next character, by the next byte
 
-pub turned-emoji : (left : List ℕ) → IsUtf8 left → next_is turns_word left ≡ false → (next_is is_emoji (chars left) ≡ false) × ((next_is is_prefix_mark (chars left) ≡ false) × (next_is is_wide left ≡ false))
+pub turned-emoji : (left : List ℕ) → IsUtf8 left → next_is turns_word left ≡ false → (next_is is_emoji (chars left) ≡ false) × ((next_is ends_prefix (chars left) ≡ false) × (next_is is_wide left ≡ false))
 turned-emoji w0 is e = grind (arith, common_steps, chars-nil, or_parts, ltb-true, not-false, chars-ascii, emoji-ascii)
 
 -- ---- the tokens
@@ -113,8 +113,8 @@ word_first text b rest end is e small family counted ends = first text b rest Id
         let whole : IsUtf8 left = subst (λ k. IsUtf8 (drop k rest)) (sym counted) (skips is_continue_byte is_id_continue continue_part rest inner).utf8 in
         let next = turned-emoji left whole (not-true _ ends) in
         let place : left ≡ past (run_len is_id_continue (chars rest)) rest = stops_here is_continue_byte is_id_continue continue_part rest rest end inner refl counted left refl next.1.1 in
-        let unmarked : next_is is_prefix_mark (drop (run_len is_id_continue (chars rest)) (chars rest)) ≡ false =
-        sym (ap (next_is is_prefix_mark) (ap chars place ∙ chars-past (run_len is_id_continue (chars rest)) rest inner)) ∙ next.1.0 in
+        let unmarked : next_is ends_prefix (drop (run_len is_id_continue (chars rest)) (chars rest)) ≡ false =
+        sym (ap (next_is ends_prefix) (ap chars place ∙ chars-past (run_len is_id_continue (chars rest)) rest inner)) ∙ next.1.0 in
         by_family Word b rest _ (ap (λ (t : Bool). let k : TokenKind = if t then UnknownPrefix else Ident in (k, left)) (sym next.1.0) ∙ (ident_or_unknown_prefix-valid rest left inner place next.0 ∙ sym (scanned-same (word b) ident_or_unknown_prefix rest (word-plain b (chars rest) unmarked)))) family
 
 pub space_first : (text : List ℕ) (b : ℕ) (rest : List ℕ) (end : ℕ) → IsUtf8 text → text ≡ b ∷ rest → b < 128 → Space ≡ family_of b → end ≡ prefix_len is_space_byte rest → not (next_is is_space_lead (drop end rest)) ≡ true

@@ -65,37 +65,37 @@ module _ {first : List ℕ → Token} (law : IsGrammar first) (before lengths in
   new = tokens_by first text
 
   ed : IsEdited before change.start change.old_stop insert (apply before change.start change.old_stop insert)
-  ed = edited before change.start change.old_stop insert is.is_text is.inserted is.edit
+  ed = edited before change.start change.old_stop insert is.edit_of.is_text is.edit_of.inserted is.edit_of.is_edit
 
   pub made_text : IsText text
-  made_text = rw is.made ed.text_is
+  made_text = rw is.edit_of.made ed.text_is
 
   pub made_front : IsFront before old lengths text change.start
   made_front = record {
-    utf8 = is.is_text.utf8;
-    cuts = cuts law before is.is_text;
+    utf8 = is.edit_of.is_text.utf8;
+    cuts = cuts law before is.edit_of.is_text;
     lengths_are = is.lengths_are;
-    same = ap (take change.start) is.made ∙ ed.front;
+    same = ap (take change.start) is.edit_of.made ∙ ed.front;
   }
 
   -- such a change may have made the text
   pub made_change : IsChange text change
   unfolding apply
   made_change =
-      let e = is.edit.inside in
+      let e = is.edit_of.is_edit.inside in
       let a = e.start_le_stop in
       let b = e.stop_inside in
-      let f = is.is_text.fits in
-      let n = is.new_stop in
+      let f = is.edit_of.is_text.fits in
+      let n = is.edit_of.new_stop in
       let short : length (take change.start before) ≡ change.start = length-take-le change.start before (omega arith) in
-      let back : IsUtf8 (drop change.old_stop before) = IsUtf8-drop before change.old_stop is.is_text.utf8 e.stop_boundary in
+      let back : IsUtf8 (drop change.old_stop before) = IsUtf8-drop before change.old_stop is.edit_of.is_text.utf8 e.stop_boundary in
       let next : length (take change.start before ++ insert) ≡ change.new_stop = omega (arith, length-append (take change.start before) insert, short) in
-      let stop_boundary : IsCharBoundary text change.new_stop = subst (IsCharBoundary text) next (IsCharBoundary-at_seam text (take change.start before ++ insert) (drop change.old_stop before) (is.made ∙ sym (append_assoc (take change.start before) insert (drop change.old_stop before))) back) in
+      let stop_boundary : IsCharBoundary text change.new_stop = subst (IsCharBoundary text) next (IsCharBoundary-at_seam text (take change.start before ++ insert) (drop change.old_stop before) (is.edit_of.made ∙ sym (append_assoc (take change.start before) insert (drop change.old_stop before))) back) in
       record {
         inserted = record {
           start_le_stop = omega arith;
           stop_inside = stop_boundary.0;
-          start_boundary = subst (IsCharBoundary text) short (IsCharBoundary-at_seam text (take change.start before) (insert ++ drop change.old_stop before) is.made (IsUtf8-append insert _ is.inserted back));
+          start_boundary = subst (IsCharBoundary text) short (IsCharBoundary-at_seam text (take change.start before) (insert ++ drop change.old_stop before) is.edit_of.made (IsUtf8-append insert _ is.edit_of.inserted back));
           stop_boundary = stop_boundary;
         };
         start_le_old = a;
@@ -106,29 +106,29 @@ module _ {first : List ℕ → Token} (law : IsGrammar first) (before lengths in
   text_end : (bound old (length old) + change.new_stop ≡ length text + change.old_stop) × (change.new_stop ≤ length text)
   text_end =
       let l = ed.len in
-      let e = is.edit.inside.start_le_stop in
-      let f = is.edit.inside.stop_inside in
-      let m : length text ≡ length (apply before change.start change.old_stop insert) = ap (λ (t : List ℕ). length t) is.made in
-      let n = is.new_stop in
-      let s : change.start + length insert ≤ length (apply before change.start change.old_stop insert) = start_inside law before change.start change.old_stop insert _ is.is_text is.edit ed in
-      (omega (arith, bound-last law before is.is_text), omega arith)
+      let e = is.edit_of.is_edit.inside.start_le_stop in
+      let f = is.edit_of.is_edit.inside.stop_inside in
+      let m : length text ≡ length (apply before change.start change.old_stop insert) = ap (λ (t : List ℕ). length t) is.edit_of.made in
+      let n = is.edit_of.new_stop in
+      let s : change.start + length insert ≤ length (apply before change.start change.old_stop insert) = start_inside law before change.start change.old_stop insert _ is.edit_of.is_text is.edit_of.is_edit ed in
+      (omega (arith, bound-last law before is.edit_of.is_text), omega arith)
 
   -- the end of the text, moved back, is the end of the old tokens
   pub end_last : (place : ℕ) → place ≡ length text → IsLast old (place - change.new_stop + old_stop_of (damage_of text change))
   end_last place at =
       let ends : bound old (length old) ≡ place - change.new_stop + old_stop_of (damage_of text change) = omega (arith, damage_stop text change made_change, text_end.0, text_end.1) in
-      (ends, λ k less. omega (arith, ends, rises law before is.is_text k less, bound_mono old (suc k) (length old) less))
+      (ends, λ k less. omega (arith, ends, rises law before is.edit_of.is_text k less, bound_mono old (suc k) (length old) less))
 
   -- what lexing from the kept front asks
   ready : (kept : Bound) → IsBound old kept → (0 < kept.number → has_two before kept.place change.start ≡ true) → IsReady first old text kept change.start
   ready kept at two =
-      ready_for law before is.is_text change.start change.old_stop insert is.inserted is.edit old text kept refl is.made at.0 at.1 two
+      ready_for law before is.edit_of.is_text change.start change.old_stop insert is.edit_of.inserted is.edit_of.is_edit old text kept refl is.edit_of.made at.0 at.1 two
 
   -- each bound before the kept front is before the edit
   pub front_below : (kept : Bound) → IsBound old kept → (0 < kept.number → has_two before kept.place change.start ≡ true) → (k : ℕ) → k < kept.number → bound old k + change.new_stop < max change.new_stop kept.place + change.old_stop
   front_below kept at two k less =
       let b = (ready kept at two).kept_before k less in
-      let a = is.edit.inside.start_le_stop in
+      let a = is.edit_of.is_edit.inside.start_le_stop in
       let m = le-max_left change.new_stop kept.place in
       omega arith
 
@@ -193,13 +193,13 @@ module _ {first : List ℕ → Token} (law : IsGrammar first) (before lengths in
     is_met hit = going_met first old text change.old_stop change.new_stop at.front.number items at.at at.back.number at.back.place at.met going hit
 
     met_by : at.met ≡ true → IsMet first old text change.old_stop (change.start + length insert) at.front.number items at.back.number
-    met_by hit = subst (λ end. IsMet first old text change.old_stop end at.front.number items at.back.number) is.new_stop (is_met hit)
+    met_by hit = subst (λ end. IsMet first old text change.old_stop end at.front.number items at.back.number) is.edit_of.new_stop (is_met hit)
 
     -- no more was lexed than the whole edit lexes
     pub few_lexed : at.lexed ≤ (relexed_of first before change.start change.old_stop insert).lexed
     few_lexed =
-        let all = lexed_for law before is.is_text change.start change.old_stop insert is.inserted is.edit old text at.front.number refl is.made stands.front_number in
-        let few : known at ≤ meet old new change.old_stop (change.start + length insert) at.front.number = subst (λ end. known at ≤ meet old new change.old_stop end at.front.number) is.new_stop stands.not_past in
+        let all = lexed_for law before is.edit_of.is_text change.start change.old_stop insert is.edit_of.inserted is.edit_of.is_edit old text at.front.number refl is.edit_of.made stands.front_number in
+        let few : known at ≤ meet old new change.old_stop (change.start + length insert) at.front.number = subst (λ end. known at ≤ meet old new change.old_stop end at.front.number) is.edit_of.new_stop stands.not_past in
         omega arith
 
     -- at the meeting: the counts are those of the edit, and the new tokens are whole
@@ -207,9 +207,9 @@ module _ {first : List ℕ → Token} (law : IsGrammar first) (before lengths in
     counts_met hit =
         let met = met_by hit in
         let counted : relexed_of first before change.start change.old_stop insert ≡ record { kept_front = at.front.number; lexed = length items - at.front.number; kept_back = length old - at.back.number } =
-        counts_for law before is.is_text change.start change.old_stop insert is.inserted is.edit old text items at.back.number at.front.number refl is.made stands.front_number met in
+        counts_for law before is.edit_of.is_text change.start change.old_stop insert is.edit_of.inserted is.edit_of.is_edit old text items at.back.number at.front.number refl is.edit_of.made stands.front_number met in
         let lexed : length items - at.front.number ≡ at.lexed = omega (arith, long) in
-        let whole : items ++ drop at.back.number old ≡ new = whole_for law before is.is_text change.start change.old_stop insert is.inserted is.edit old text items at.back.number at.front.number refl is.made met ∙ ap (tokens_by first) (sym is.made) in
+        let whole : items ++ drop at.back.number old ≡ new = whole_for law before is.edit_of.is_text change.start change.old_stop insert is.edit_of.inserted is.edit_of.is_edit old text items at.back.number at.front.number refl is.edit_of.made met ∙ ap (tokens_by first) (sym is.edit_of.made) in
         let split : items ≡ take at.front.number old ++ take at.lexed (drop at.front.number new) = take-add at.front.number at.lexed new ∙ ap (λ (ts : List Token). ts ++ take at.lexed (drop at.front.number new)) (sym stands.front_same) in (
           ap (λ (ns : List ℕ). length ns) is.lengths_are ∙ length-map old (λ (t : Token). t.len),
           counted ∙ ap (λ (n : ℕ). let r : Relexed = record { kept_front = at.front.number; lexed = n; kept_back = length old - at.back.number } in r) lexed,

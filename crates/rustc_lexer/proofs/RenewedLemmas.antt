@@ -26,7 +26,7 @@ module _ {first : List ℕ → Token} (law : IsGrammar first) {text insert made 
 
   -- they are the tokens of the changed text
   pub renewed_are : now ≡ tokens_by first made
-  renewed_are = renewed.now_is ∙ (put_together law text is.is_text start stop insert is.inserted is.edit tokens made renewed.lexed at.back.number at.front.number e is.made is_met ∙ ap (tokens_by first) (sym is.made))
+  renewed_are = renewed.now_is ∙ (put_together law text is.edit_of.is_text start stop insert is.edit_of.inserted is.edit_of.is_edit tokens made renewed.lexed at.back.number at.front.number e is.edit_of.made is_met ∙ ap (tokens_by first) (sym is.edit_of.made))
 
   -- the kept front, what was lexed and the kept back are as many
   pub renewed_all : at.front.number + at.lexed + (length tokens - at.back.number) ≡ length now
@@ -51,4 +51,4 @@ module _ {first : List ℕ → Token} (law : IsGrammar first) {text insert made 
       let front : IsBound tokens at.front = rw e l.stands.front_bound in
       let back : IsBound tokens at.back = rw e l.stands.back_bound in
       let place : at.at ≡ bound (tokens_by first made) (at.front.number + length renewed.lexed) = l.stands.place ∙ ap (λ n. bound (tokens_by first made) (at.front.number + n)) l.lexed in
-      replaced_for law text is.is_text start stop insert is.inserted is.edit tokens made renewed.lexed now at.front at.back at.lexed at.at checkpoints e is.made renewed.now_is l.lexed front.0 front.1 back.1 place is_met are
+      replaced_for law text is.edit_of.is_text start stop insert is.edit_of.inserted is.edit_of.is_edit tokens made renewed.lexed now at.front at.back at.lexed at.at checkpoints e is.edit_of.made renewed.now_is l.lexed front.0 front.1 back.1 place is_met are

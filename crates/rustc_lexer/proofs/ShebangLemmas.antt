@@ -6,7 +6,7 @@ use Rattle.std.proofs.lemmas.Bool.{cases_lt, eqb-true, eq-eqb, ne_eqb}
 use Rattle.std.proofs.lemmas.List.Sums.{prefix_len-le-length, prefix_len_passes, prefix_len_stops}
 use Rattle.std.proofs.lemmas.Grind.{common_steps}
 use Rattle.rustc_lexer.specs.{E2024}
-use Rattle.rustc_lexer.specs.means.Comment.{is_no_newline}
+use Rattle.rustc_lexer.specs.Classes.{is_inline}
 use Rattle.rustc_lexer.specs.means.Scan.{begins}
 use Rattle.rustc_lexer.specs.means.Shebang.{is_attribute, before_newline, line_len, shebang_past, read_shebang}
 use Rattle.rustc_lexer.specs.LanguageText.{part}
@@ -33,10 +33,10 @@ module _ (text : List ℕ) where
   abbrev line_to : ℕ → ℕ
   line_to n = if begins (codes "\r\n") (drop (n - 1) text) then n - 1 else n
 
-  newline-stops : (k : ℕ) → get_or text k 0 ≡ 10 → is_no_newline (get_or text k 0) ≡ false
+  newline-stops : (k : ℕ) → get_or text k 0 ≡ 10 → is_inline (get_or text k 0) ≡ false
   newline-stops k e = rw e refl
 
-  stop-newline : (k : ℕ) → is_no_newline (get_or text k 0) ≡ false → get_or text k 0 ≡ 10
+  stop-newline : (k : ℕ) → is_inline (get_or text k 0) ≡ false → get_or text k 0 ≡ 10
   stop-newline k e = grind (arith, common_steps, eqb-true)
 
   -- no newline
@@ -51,16 +51,16 @@ module _ (text : List ℕ) where
           by_test false f = ap (λ (b : Bool). if b then length text - 1 else length text) (sym f)
 
       by_end : (before_newline text < length text) ⊎ (length text ≤ before_newline text) → length text ≡ line_len text
-      by_end (inl less) = absurd (none (before_newline text) less (stop-newline (before_newline text) (prefix_len_stops is_no_newline text 0 less)))
-      by_end (inr more) = whole (let le = prefix_len-le-length is_no_newline text in omega arith)
+      by_end (inl less) = absurd (none (before_newline text) less (stop-newline (before_newline text) (prefix_len_stops is_inline text 0 less)))
+      by_end (inr more) = whole (let le = prefix_len-le-length is_inline text in omega arith)
 
   -- the first newline stands at k
   module _ (k : ℕ) (inside : k < length text) (newline : get_or text k 0 ≡ 10) (first : (i : ℕ) → i < k → get_or text i 0 ≢ 10) where
     place : before_newline text ≡ k
     place = elim (cases_lt (before_newline text) k) [
-      | inl less ↦ absurd (first (before_newline text) less (stop-newline (before_newline text) (prefix_len_stops is_no_newline text 0 (omega arith))))
+      | inl less ↦ absurd (first (before_newline text) less (stop-newline (before_newline text) (prefix_len_stops is_inline text 0 (omega arith))))
       | inr more ↦ elim (cases_lt k (before_newline text)) [
-        | inl less ↦ absurd (true≢false (sym (prefix_len_passes is_no_newline text k 0 less) ∙ newline-stops k newline))
+        | inl less ↦ absurd (true≢false (sym (prefix_len_passes is_inline text k 0 less) ∙ newline-stops k newline))
         | inr same ↦ omega arith
       ]
     ]

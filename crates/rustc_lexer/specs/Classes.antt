@@ -1,12 +1,9 @@
--- Texts: their characters and bytes, what stands in them, and classes of characters. What begins
--- an identifier and what continues one is told by the crate `unicode_ident`: by the rows of
--- `DerivedCoreProperties.txt` of Unicode 18.0. White space is `Pattern_White_Space`, which no
--- version of Unicode changes. Names in capitals are productions of the Rust Reference (see
--- Language.antt).
-use Rattle.std.specs.Prelude.{◌≡◌, ◌==◌, ◌&&◌, ◌||◌, ℕ, not, Bool, true, false, List, [], ◌∷◌, length, drop, ◌<◌, ◌^◌}
-use Rattle.std.specs.Char.{is_ascii_digit}
-use Rattle.std.specs.List.{list_all, list_any}
-use Rattle.std.specs.Str.{byte, encode_utf8_all, IsUtf8}
+-- Texts: their characters and bytes, what stands in them, and classes of characters. What begins an identifier and what
+-- continues one is told by the crate `unicode_ident`: by the rows of `DerivedCoreProperties.txt` of Unicode 18.0. White
+-- space is `Pattern_White_Space`, which no version of Unicode changes. Names in capitals are productions of the Rust
+-- Reference (see Language.antt).
+use Rattle.std.specs.Prelude.{◌≡◌, ◌==◌, ◌&&◌, ◌||◌, ℕ, not, Bool, true, false, List, [], ◌∷◌, length, drop, ◌<◌, ◌^◌, codes, encode_utf8_all, IsUtf8}
+use Rattle.std.specs.{Char.is_ascii_digit, List.list_all, List.list_any, Str.byte}
 use Rattle.unicode_ident.specs.Ident.{is_xid_start, is_xid_continue}
 use Rattle.rustc_lexer.specs.Tables.{is_emoji}
 
@@ -74,6 +71,20 @@ is_word_continue c = is_id_continue c || is_emoji c
 -- what the name of a lifetime begins with, right or wrong: a digit makes it wrong too
 abbrev pub is_name_start : ℕ → Bool
 is_name_start c = is_id_start c || is_ascii_digit c || is_emoji c
+
+-- a name that no lifetime of Rust has (not in the Reference): a digit or an emoji comes first, or
+-- later an emoji that no identifier goes on with: `1`, `😀`, `ℹ`, `a😀`; not `aℹ`
+abbrev pub is_bad_name : Chars → Bool
+is_bad_name [] = false
+is_bad_name (c ∷ w) = is_ascii_digit c || is_emoji c || not (list_all is_id_continue w)
+
+-- a word right before one of these is a prefix: the marks of RESERVED_TOKEN_POUND, _DOUBLE_QUOTE and _SINGLE_QUOTE
+abbrev pub ends_prefix : ℕ → Bool
+ends_prefix c = is_among (codes "#\"'") c
+
+-- what an infostring of a frontmatter goes on with
+abbrev pub is_info : ℕ → Bool
+is_info c = is_id_continue c || is_among (codes "-.") c
 
 -- ---- what stands in a text, and what follows it
 

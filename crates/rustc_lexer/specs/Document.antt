@@ -1,13 +1,10 @@
--- A whole document: its tokens; its head, which is a shebang line and a frontmatter; its body, which is all else; and what
--- an edit keeps of its tokens.
-use Rattle.std.specs.Prelude.{ℕ, zero, suc, ◌+◌, ◌-◌, ◌≤◌, ◌≡◌, if◌then◌else◌, List, [], ◌∷◌, ◌++◌, length, take, drop, Bool, true, false, IfSome, slice_get}
-use Rattle.std.specs.Option.{unwrap_or}
-use Rattle.rustc_lexer.specs.declared.relex.{edit.Edit.Edit, edit_list.EditStop.EditStop, relexing.Relexed.Relexed}
-use Rattle.rustc_lexer.specs.declared.relex.edit_list.EditStop.TheVariants.{Memory}
+-- A whole document: its tokens; its head, a shebang line and a frontmatter; its body, all else; and what an edit keeps.
+use Rattle.std.specs.Prelude.{ℕ, zero, suc, ◌+◌, ◌-◌, ◌≤◌, ◌≡◌, if◌then◌else◌, List, [], ◌∷◌, ◌++◌, length, take, drop, Bool, true, false, unwrap_or}
+use Rattle.rustc_lexer.specs.declared.relex.relexing.Relexed.{Relexed}
 use Rattle.rustc_lexer.specs.{Edition, Token, TokenKind, E2024, Frontmatter}
 use Rattle.rustc_lexer.specs.Answers.{shebang, tokens_of}
 use Rattle.rustc_lexer.specs.LanguageText.{document}
-use Rattle.rustc_lexer.specs.Edits.{applied, apply, apply_list, stop_at, IsRelexed}
+use Rattle.rustc_lexer.specs.Edits.{apply, IsRelexed}
 use Rattle.rustc_lexer.specs.Partition.{bound, tokens_by}
 
 -- the length of the shebang line, or 0
@@ -91,23 +88,7 @@ pub record IsCountedDocument (text : List ℕ) (start stop : ℕ) (insert : List
   pub kept : KeepsHead text start stop insert → after ≡ before + lexed
   pub changed : (KeepsHead text start stop insert → ⊥) → after + length (head_tokens (apply text start stop insert)) ≡ before + lexed
 
--- the count of steps rose by what an edit lexes
-abbrev pub IsStepped : (List ℕ → Token) → List ℕ → ℕ → ℕ → List ℕ → ℕ → ℕ → Type 0
-IsStepped first text start stop insert before after =
+-- it rose by what an edit lexes
+abbrev pub IsSteppedDocument : (List ℕ → Token) → List ℕ → ℕ → ℕ → List ℕ → ℕ → ℕ → Type 0
+IsSteppedDocument first text start stop insert before after =
     (r : Relexed) × IsRelexedDocument first text start stop insert r × IsCountedDocument text start stop insert before after r.lexed
-
--- ---- edits in a row
-
--- the count of steps rose by what the edits lex, one after another
-abbrev pub AreStepped : (List ℕ → Token) → List ℕ → List Edit → ℕ → ℕ → Type 0
-AreStepped first text [] before after = after ≡ before
-AreStepped first text (e ∷ es) before after =
-    (between : ℕ) × IsStepped first text e.start e.stop e.insert.now before between × AreStepped first (applied text e) es between after
-
--- it rose by what the edits before the refused one lex. Where memory was refused it rose by at most what that edit lexes
--- more
-abbrev pub IsStopStepped : EditStop → (List ℕ → Token) → List ℕ → List Edit → ℕ → ℕ → Type 0
-IsStopStepped (Memory at) first text edits before after =
-    (between : ℕ) × AreStepped first text (take at edits) before between × (between ≤ after)
-    × IfSome (slice_get edits at) (λ e. (most : ℕ) → IsStepped first (apply_list text (take at edits)) e.start e.stop e.insert.now between most → after ≤ most)
-IsStopStepped s first text edits before after = AreStepped first text (take (stop_at s) edits) before after

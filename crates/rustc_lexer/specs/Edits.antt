@@ -33,9 +33,8 @@ ends_from from (t ∷ ts) = (from + t.len) ∷ ends_from (from + t.len) ts
 abbrev pub kept_front : List ℕ → List Token → ℕ → ℕ
 kept_front text tokens to = count_by (λ end. has_two text end to) (ends_from 0 tokens)
 
--- bound `number` of the new tokens is a bound of the old ones too, moved by the edit, and `back` old tokens follow it: it
--- is not before `new_stop`, the end of what was put in, and as far past that as the old bound is past `old_stop`, the end
--- of what was taken out
+-- bound `number` of the new tokens is one of the old tokens, moved by the edit, and `back` old tokens follow it: it is as
+-- far past `new_stop`, the end of what was put in, as the old bound is past `old_stop`, the end of what was taken out
 pub record IsMeeting (old new : List Token) (old_stop new_stop number back : ℕ) : Type 0 where
   pub number_inside : number ≤ length new
   pub past_edit : new_stop ≤ bound new number
@@ -66,16 +65,16 @@ abbrev pub AreEdits : List ℕ → List Edit → Type 0
 AreEdits text [] = Unit {0}
 AreEdits text (e ∷ es) = IsEdit text e.start e.stop e.insert.now × AreEdits (applied text e) es
 
--- the edits lex so many tokens, one edit after another
-abbrev pub AreRelexed : (List ℕ → Token) → List ℕ → List Edit → ℕ → Type 0
-AreRelexed first text [] lexed = lexed ≡ 0
-AreRelexed first text (e ∷ es) lexed =
-    (r : Relexed) × (more : ℕ) × IsRelexed first text e.start e.stop e.insert.now r × AreRelexed first (applied text e) es more
-    × (lexed ≡ r.lexed + more)
+-- the count of steps rose by the tokens that an edit lexes
+abbrev pub IsStepped : (List ℕ → Token) → List ℕ → ℕ → ℕ → List ℕ → ℕ → ℕ → Type 0
+IsStepped first text start stop insert before after =
+    (r : Relexed) × IsRelexed first text start stop insert r × (after ≡ before + r.lexed)
 
--- the count rose by what the edits lex
-abbrev pub AreCounted : (List ℕ → Token) → List ℕ → List Edit → ℕ → ℕ → Type 0
-AreCounted first text edits before after = (lexed : ℕ) × AreRelexed first text edits lexed × (after ≡ before + lexed)
+-- it rose by what the edits lex, one after another. `Steps` says so of one edit: IsStepped, or IsSteppedDocument
+abbrev pub AreStepped : (List ℕ → ℕ → ℕ → List ℕ → ℕ → ℕ → Type 0) → List ℕ → List Edit → ℕ → ℕ → Type 0
+AreStepped Steps text [] before after = after ≡ before
+AreStepped Steps text (e ∷ es) before after =
+    (between : ℕ) × Steps text e.start e.stop e.insert.now before between × AreStepped Steps (applied text e) es between after
 
 -- the number of the edit that was refused
 abbrev pub stop_at : EditStop → ℕ
@@ -98,13 +97,13 @@ IsRefusedOn (Memory at) text e = IsEdit text e.start e.stop e.insert.now
 abbrev pub IsStop : EditStop → List ℕ → List Edit → Type 0
 IsStop s text edits = (stop_at s < length edits) × IfSome (slice_get edits (stop_at s)) (IsRefusedOn s text)
 
--- the count rose by what the edits before the refused one lex. Where memory was refused it rose by at most what that
--- edit lexes more
-abbrev pub IsCounted : EditStop → (List ℕ → Token) → List ℕ → List Edit → ℕ → ℕ → Type 0
-IsCounted (Memory at) first text edits before after =
-    (least most : ℕ) × AreRelexed first text (take at edits) least × AreRelexed first text (take (at + 1) edits) most
-    × (before + least ≤ after) × (after ≤ before + most)
-IsCounted s first text edits before after = AreCounted first text (take (stop_at s) edits) before after
+-- the count of steps rose by what the edits before the refused one lex. Where memory was refused it rose by at most what
+-- that edit lexes more
+abbrev pub IsStopStepped : EditStop → (List ℕ → ℕ → ℕ → List ℕ → ℕ → ℕ → Type 0) → List ℕ → List Edit → ℕ → ℕ → Type 0
+IsStopStepped (Memory at) Steps text edits before after =
+    (least most : ℕ) × AreStepped Steps text (take at edits) before least × AreStepped Steps text (take (at + 1) edits) before most
+    × (least ≤ after) × (after ≤ most)
+IsStopStepped s Steps text edits before after = AreStepped Steps text (take (stop_at s) edits) before after
 
 -- ---- a text that is kept with its tokens, and its pieces
 
@@ -127,10 +126,6 @@ placed piece = record { start = piece.start; token = piece.token; text = piece.t
 abbrev pub pieces_from : List ℕ → ℕ → List Token → List Placed
 pieces_from text start [] = []
 pieces_from text start (token ∷ tokens) = record { start = start; token = token; text = take token.len (drop start text) } ∷ pieces_from text (start + token.len) tokens
-
--- one piece for each token of a text
-abbrev pub pieces_of : List ℕ → List Token → List Placed
-pieces_of text tokens = pieces_from text 0 tokens
 
 -- what `next` does: where no piece is left it gives none and changes nothing; else it takes the first, whose text is as
 -- long as its token, and whose end is below 2 ^ 32

@@ -1,9 +1,9 @@
 -- The language of a frontmatter: how it opens and ends. It is not in the Reference. RFC 3503 has the
 -- opening, and the closing fence, of as many dashes; the other ends are those of the compiler's lexer,
 -- for its messages. `w` and `next` are as in Language.antt; all texts here are characters.
-use Rattle.std.specs.Prelude.{◌≡◌, ◌≤◌, ◌||◌, ℕ, zero, suc, Bool, true, false, List, [], ◌∷◌, ◌++◌, length, codes}
+use Rattle.std.specs.Prelude.{◌≡◌, ◌≤◌, ℕ, zero, suc, Bool, true, false, List, [], ◌∷◌, ◌++◌, length, codes}
 use Rattle.std.specs.Str.{byte}
-use Rattle.rustc_lexer.specs.Classes.{is_among, is_whitespace, is_horizontal_whitespace, is_id_start, is_id_continue, Chars, begins, AreAll, NextIsNot, NextNotIn, is_inline}
+use Rattle.rustc_lexer.specs.Classes.{is_whitespace, is_horizontal_whitespace, is_info, is_id_start, Chars, begins, AreAll, NextIsNot, NextNotIn, is_inline}
 
 -- ---- its opening
 
@@ -11,10 +11,6 @@ use Rattle.rustc_lexer.specs.Classes.{is_among, is_whitespace, is_horizontal_whi
 abbrev pub fence : ℕ → List ℕ
 fence zero = []
 fence (suc n) = byte "-" ∷ fence n
-
--- what an infostring goes on with
-abbrev pub is_info : ℕ → Bool
-is_info c = is_id_continue c || is_among (codes "-.") c
 
 -- what follows the dashes on their line: spaces and tabs; and where an infostring begins, that, and
 -- spaces and tabs again: ` cargo-1.0 `, not ` 1`

@@ -37,9 +37,8 @@ reach Slash w = 1
 reach Pound w = 1
 reach kind w = 0
 
--- what is proved of the grammar: laws, which speak of no call. Answers.antt takes the tokens of a text, and
--- the first of them, from a value of this type. So a contract that names these rests on all of the laws. That value, and
--- the proofs, stand in laws/TheLaws.antt
+-- what is proved of the grammar. Answers.antt takes the tokens of a text, and the first of them, from a value of this
+-- type, so a contract that names these rests on all of the laws. That value and the proofs are in laws/TheLaws.antt
 pub record TheLaws : Type 0 where
   -- a text has one list of tokens, as a document and as a part in each edition, and the grammar allows no other
   pub tokens : (mode : Mode) (text : Utf8) → TheOnly (IsText text) (AreTokens mode (chars text))

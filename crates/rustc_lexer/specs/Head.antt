@@ -1,10 +1,9 @@
 -- The head of a document as a value, and what an edit of the document is to its body: for callers who keep lists of their own.
-use Rattle.std.specs.Prelude.{ℕ, zero, suc, ◌+◌, ◌-◌, ◌≡◌, ◌↔◌, if◌then◌else◌, IsTrue, List, [], ◌∷◌, length, map, take, drop, max, Option, Some, None, Bool, true, false, IsUtf8}
+use Rattle.std.specs.Prelude.{ℕ, zero, suc, ◌+◌, ◌-◌, ◌≡◌, ◌↔◌, IsTrue, List, [], ◌∷◌, length, map, take, drop, max, Option, Some, None, Bool, true, false}
 use Rattle.rustc_lexer.specs.declared.relex.{head.Head.Head, relexing.Change.Change, relexing.Relexed.Relexed}
 use Rattle.rustc_lexer.specs.{Token, Whitespace}
-use Rattle.rustc_lexer.specs.Classes.{IsText}
 use Rattle.rustc_lexer.specs.Document.{body_start, head_tokens, shebang_len, IsRelexedDocument, KeepsHead}
-use Rattle.rustc_lexer.specs.Edits.{apply, IsEdit, IsRelexed}
+use Rattle.rustc_lexer.specs.Edits.{IsRelexed}
 use Rattle.rustc_lexer.specs.Partition.{tokens_by}
 use Rattle.rustc_lexer.specs.Relexing.{IsMadeOf}
 
@@ -25,36 +24,18 @@ pub record IsHeadOf (text : List ℕ) (head : Head) : Type 0 where
   pub bare : head.front ≡ None → head.space ≡ 0
   pub end_is : head.end ≡ body_start text
 
--- ---- what an edit changes of the body, which began at `from` and now begins at `to`
-
--- how far past the edit the two bodies differ
-abbrev pub unlike_past : Change → ℕ → ℕ → ℕ
-unlike_past edit from to = max (from - edit.old_stop) (to - edit.new_stop)
-
--- where the head stays, the edit, by places of the body
-abbrev pub moved : ℕ → Change → Change
-moved from edit = record { start = edit.start - from; old_stop = edit.old_stop - from; new_stop = edit.new_stop - from }
-
--- where it does not, all up to where the bodies are alike
-abbrev pub front_change : ℕ → ℕ → Change → Change
-front_change from to edit = record { start = 0; old_stop = edit.old_stop + unlike_past edit from to - from; new_stop = edit.new_stop + unlike_past edit from to - to }
-
--- either of them
+-- what an edit changes of the body, which began at `from` and now begins at `to`, by places of the body: where the head
+-- stays the edit itself, else all up to the first place past it at which both bodies have begun
 abbrev pub body_change : Bool → ℕ → ℕ → Change → Change
-body_change kept from to edit = if kept then moved from edit else front_change from to edit
+body_change true from to edit = record { start = edit.start - from; old_stop = edit.old_stop - from; new_stop = edit.new_stop - from }
+body_change false from to edit =
+    let more : ℕ = max (from - edit.old_stop) (to - edit.new_stop) in
+    record { start = 0; old_stop = edit.old_stop + more - from; new_stop = edit.new_stop + more - to }
 
 -- the counts of all tokens, by those of the body
 abbrev pub counted : Bool → ℕ → ℕ → Relexed → Relexed
 counted true old new r = record { kept_front = old + r.kept_front; lexed = r.lexed; kept_back = r.kept_back }
 counted false old new r = record { kept_front = r.kept_front; lexed = new + r.lexed; kept_back = r.kept_back }
-
--- the edit made the text of the one before, by putting in `insert`
-pub record IsEditOf (before : List ℕ) (edit : Change) (insert text : List ℕ) : Type 0 where
-  pub is_text : IsText before
-  pub inserted : IsUtf8 insert
-  pub is_edit : IsEdit before edit.start edit.old_stop insert
-  pub made : text ≡ apply before edit.start edit.old_stop insert
-  pub new_stop : edit.new_stop ≡ edit.start + length insert
 
 -- the change is what such an edit is to the body: it made the present body of the old one. `kept` tells whether the edit
 -- keeps the head, and with the counts of the body it tells those of the edit

@@ -1,28 +1,23 @@
--- The language of the tokens of Rust, as the compiler's lexer has them: which texts a token of each
--- kind may have, and before what. One rule for each form, and nothing of how a text is read.
--- docs/LEXEMES.md has the rules in words.
+-- The language of the tokens of Rust, as the compiler's lexer has them: which texts a token of each kind may have, and
+-- before what. One rule for each form, and nothing of how a text is read. docs/LEXEMES.md has the rules in words.
 --
--- Names in capitals are productions of the Rust Reference for Rust 1.95; SHEBANG is one of 1.97. A
--- rule has each text of the productions beside it, but what follows a token (a newline, the mark
--- after a prefix) is in `next`. Beyond them, what is unclosed, empty or has an emoji is a token too,
--- for a compiler's messages, and what is inside a comment or quotes is not checked: escapes,
--- carriage returns, the length of a character. Such forms are marked "not in the Reference" where
--- they have a rule of their own.
+-- Names in capitals are productions of the Rust Reference for Rust 1.95; SHEBANG is one of 1.97. A rule has each text
+-- of the productions beside it, but what follows a token (a newline, the mark after a prefix) is in `next`. Beyond
+-- them, what is unclosed, empty or has an emoji is a token too, for a compiler's messages, and what is inside a comment
+-- or quotes is not checked: escapes, carriage returns, the length of a character. Such forms are marked "not in the
+-- Reference" where they have a rule of their own.
 --
--- Notation. `w` is the text of a token and `next` all that follows it. Both are characters (type
--- `Chars`), and at the end of the text `next` is []. In bytes is where a suffix begins. A NUL is a
--- character like others. `P → ⊥` denies P. No rule denies what it defines, so each relation is the
--- least one that its rules make. Fields stand in the order of src/token.rt: LineComment doc_style,
--- BlockComment doc_style terminated, Lifetime starts_with_number, Literal kind suffix_start,
--- Frontmatter has_invalid_preceding_whitespace invalid_infostring.
-use Rattle.std.specs.Prelude.{◌≡◌, ℕ, ◌||◌, not, Bool, true, false, List, [], ◌∷◌, ◌++◌, take, codes, Option, Some, None}
-use Rattle.std.specs.Char.{is_ascii_digit}
-use Rattle.std.specs.List.{list_all, list_any}
-use Rattle.std.specs.Str.{byte}
+-- Notation. `w` is the text of a token and `next` all that follows it. Both are characters (type `Chars`), and at the
+-- end of the text `next` is []. In bytes is where a suffix begins. A NUL is a character like others. `P → ⊥` denies P.
+-- No rule denies what it defines, so each relation is the least one that its rules make. Fields stand in the order of
+-- src/token.rt: LineComment doc_style, BlockComment doc_style terminated, Lifetime starts_with_number, Literal kind
+-- suffix_start, Frontmatter has_invalid_preceding_whitespace invalid_infostring.
+use Rattle.std.specs.Prelude.{◌≡◌, ℕ, ◌||◌, Bool, true, false, List, [], ◌∷◌, ◌++◌, take, codes, Option, Some, None}
+use Rattle.std.specs.{Char.is_ascii_digit, List.list_any, Str.byte}
 use Rattle.rustc_lexer.specs.{DocStyle, LiteralKind, TokenKind, Outer, Inner, Whitespace, Eof, LineComment, BlockComment, Ident, InvalidIdent, RawIdent, ForcedKeywordIdent, Lifetime, UnknownPrefix, RawLifetime, UnknownPrefixLifetime, Literal, GuardedStrPrefix, Slash, Pound}
-use Rattle.rustc_lexer.specs.Classes.{is_among, is_whitespace, is_id_continue, is_ident, Chars, begins, AreAll, NextIs, NextIsNot, NextIn, NextNotIn, bytes, is_inline, is_word_start, is_word_continue, is_name_start, begins_ident_after}
+use Rattle.rustc_lexer.specs.Classes.{is_among, is_whitespace, is_id_continue, is_ident, Chars, begins, AreAll, NextIs, NextIsNot, NextIn, NextNotIn, bytes, is_inline, is_word_start, is_word_continue, is_name_start, is_bad_name, ends_prefix, begins_ident_after}
 use Rattle.rustc_lexer.specs.LiteralGrammar.{IsLiteralBefore, IsSuffixBefore}
-use Rattle.rustc_lexer.specs.Tables.{is_emoji, symbol_kind}
+use Rattle.rustc_lexer.specs.Tables.{symbol_kind}
 
 -- ---- comments
 
@@ -50,11 +45,6 @@ pub data IsCommentRest : Chars → Type 0 where
 
 -- ---- words
 
--- a word right before one of these is a prefix: the marks of RESERVED_TOKEN_POUND, _DOUBLE_QUOTE and
--- _SINGLE_QUOTE
-abbrev pub ends_prefix : ℕ → Bool
-ends_prefix c = is_among (codes "#\"'") c
-
 -- the prefixes that are known, with the mark after them: those that these productions except, which
 -- begin literals and raw identifiers; and `k#` where an identifier follows it (not in the Reference)
 abbrev pub known_prefixes : List Chars
@@ -65,12 +55,6 @@ known_prefixes =
 abbrev pub begins_prefixed : Chars → Bool
 begins_prefixed s =
     list_any (λ prefix. begins prefix s) known_prefixes || begins_ident_after (codes "k#") s
-
--- a name that no lifetime of Rust has (not in the Reference): a digit or an emoji comes first, or
--- later an emoji that no identifier goes on with: `1`, `😀`, `ℹ`, `a😀`; not `aℹ`
-abbrev pub is_bad_name : Chars → Bool
-is_bad_name [] = false
-is_bad_name (c ∷ w) = is_ascii_digit c || is_emoji c || not (list_all is_id_continue w)
 
 -- a character that another rule begins with
 abbrev pub has_rule : ℕ → Bool
@@ -117,8 +101,7 @@ pub data IsTokenBefore (next : Chars) : TokenKind → Chars → Type 0 where
       → NextIs ends_prefix next
       → begins_prefixed (w ++ next) ≡ false
       → IsTokenBefore next UnknownPrefix w
-  -- not in the Reference: a word that is no identifier, as it has an emoji: `a😀`, `😀a`; not `ℹ`,
-  -- which is a start too
+  -- not in the Reference: a word that is no identifier, as it has an emoji: `a😀`, `😀a`; not `ℹ`, which is a start too
   invalid_ident : {c : ℕ} {w : Chars}
       → is_word_start c ≡ true
       → AreAll is_word_continue w
@@ -135,8 +118,7 @@ pub data IsTokenBefore (next : Chars) : TokenKind → Chars → Type 0 where
       → is_ident w ≡ true
       → NextIsNot is_id_continue next
       → IsTokenBefore next ForcedKeywordIdent (codes "k#" ++ w)
-  -- LIFETIME_TOKEN, if not raw: `'a`; not `'a'`, nor `'a` before a hash. Not in the Reference: `'1`,
-  -- also before a hash
+  -- LIFETIME_TOKEN, if not raw: `'a`; not `'a'`, nor `'a` before a hash. Not in the Reference: `'1`, also before a hash
   lifetime : {c : ℕ} {w : Chars}
       → is_name_start c ≡ true
       → AreAll is_word_continue w
@@ -174,6 +156,5 @@ pub data IsTokenBefore (next : Chars) : TokenKind → Chars → Type 0 where
   guarded_prefix : {c : ℕ}
       → is_among (codes "\"#") c ≡ true
       → IsTokenBefore next GuardedStrPrefix (byte "#" ∷ c ∷ [])
-  -- PUNCTUATION, a character at a time: `+`, `;`. Not in the Reference: what is no symbol is Unknown,
-  -- such as `\`
+  -- PUNCTUATION, a character at a time: `+`, `;`. Not in the Reference: what is no symbol is Unknown, such as `\`
   symbol : {c : ℕ} → has_rule c ≡ false → IsTokenBefore next (symbol_kind c) (c ∷ [])

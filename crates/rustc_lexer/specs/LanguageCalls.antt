@@ -1,10 +1,11 @@
 -- What the calls beside the tokens answer, in the words of the language. `w`, `next` and names in capitals are as in
 -- Language.antt; texts are characters where nothing else is said, and places are in bytes.
-use Rattle.std.specs.Prelude.{◌≡◌, ◌==◌, ◌+◌, ◌-◌, ◌<◌, ◌≤◌, ℕ, suc, Bool, true, false, [], ◌∷◌, ◌++◌, length, drop, codes, Contains, Option, Some, None, Result, Ok, Err, List, decimal}
-use Rattle.std.specs.Str.{byte, chars}
-use Rattle.rustc_lexer.specs.{LiteralKind, RawStrError, TokenKind, Int, Float, Char, Byte, Str, ByteStr, CStr, RawStr, RawByteStr, RawCStr, InvalidStarter, NoTerminator, TooManyDelimiters, LineComment, BlockComment, Whitespace, Frontmatter, Ident, InvalidIdent, RawIdent, ForcedKeywordIdent, UnknownPrefix, UnknownPrefixLifetime, RawLifetime, GuardedStrPrefix, Literal, Lifetime, Semi, Comma, Dot, OpenParen, CloseParen, OpenBrace, CloseBrace, OpenBracket, CloseBracket, At, Pound, Tilde, Question, Colon, Dollar, Eq, Bang, Lt, Gt, Minus, And, Or, Plus, Star, Slash, Caret, Percent, Unknown, Eof}
+use Rattle.std.specs.Prelude.{◌≡◌, ◌==◌, ◌+◌, ◌-◌, ◌<◌, ◌≤◌, ℕ, suc, Bool, true, false, [], ◌∷◌, ◌++◌, length, drop, codes, Contains, Option, Some, None, Result, Ok, Err, List, decimal, bytes_eq, chars, find, if◌then◌else◌, nat_eq}
+use Rattle.std.specs.Str.{byte}
+use Rattle.rustc_lexer.specs.{Edition, LiteralKind, RawStrError, TokenKind, Int, Float, Char, Byte, Str, ByteStr, CStr, RawStr, RawByteStr, RawCStr, E2015, E2018, E2021, E2024, InvalidStarter, NoTerminator, TooManyDelimiters, LineComment, BlockComment, Whitespace, Frontmatter, Ident, InvalidIdent, RawIdent, ForcedKeywordIdent, UnknownPrefix, UnknownPrefixLifetime, RawLifetime, GuardedStrPrefix, Literal, Lifetime, Semi, Comma, Dot, OpenParen, CloseParen, OpenBrace, CloseBrace, OpenBracket, CloseBracket, At, Pound, Tilde, Question, Colon, Dollar, Eq, Bang, Lt, Gt, Minus, And, Or, Plus, Star, Slash, Caret, Percent, Unknown, Eof}
 use Rattle.rustc_lexer.specs.Classes.{is_among, Chars, Utf8, begins, next_is, AreAll, NextNotIn, bytes, is_inline}
 use Rattle.rustc_lexer.specs.Language.{IsTokenBefore}
+use Rattle.rustc_lexer.specs.LanguageText.{year}
 use Rattle.rustc_lexer.specs.LiteralGrammar.{hashes, NoQuoteWith, IsRaw, IsDoubleQuoted, IsSuffixBefore}
 
 -- ---- why a raw string is refused
@@ -73,6 +74,21 @@ pub data IsShebang (text : Utf8) : Option ℕ → Type 0 where
   shebang : (w next : Utf8) → text ≡ codes "#!" ++ (w ++ next) → (IsAttributeRest (chars (w ++ next)) → ⊥)
       → IsLineBefore next w → IsShebang text (Some (length (codes "#!" ++ w)))
   none : ((rest : Utf8) → text ≡ codes "#!" ++ rest → IsAttributeRest (chars rest)) → IsShebang text None
+
+-- ---- editions, by their years
+
+-- the edition of a year
+abbrev pub edition_of_year : ℕ → Option Edition
+edition_of_year number = find (λ edition. nat_eq number (year edition)) (E2015 ∷ E2018 ∷ E2021 ∷ E2024 ∷ [])
+
+-- the edition that a word names, by its year
+abbrev pub edition_of : List ℕ → Option Edition
+edition_of word =
+    if bytes_eq word (codes "2015") then Some E2015
+    else (if bytes_eq word (codes "2018") then Some E2018
+    else (if bytes_eq word (codes "2021") then Some E2021
+    else (if bytes_eq word (codes "2024") then Some E2024
+    else None)))
 
 -- ---- kinds
 

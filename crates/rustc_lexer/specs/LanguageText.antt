@@ -1,15 +1,14 @@
--- The language of whole texts: which tokens a text has in an edition, read as a document or as a
--- part of one. `w` and `next` are as in Language.antt, which has the tokens of the newest edition.
--- An older one has others in the place of what the compiler's lexer leaves to its caller: guarded
--- strings, raw lifetimes and reserved prefixes (in the Rust Reference, "2021 Edition differences" and
--- "2024 Edition differences" of these). C strings and `k#` are read alike in all editions, though Rust
--- has C strings since 2021 only (docs/EDITIONS.md, "What is left to a compiler").
-use Rattle.std.specs.Prelude.{◌≡◌, ◌<◌, ◌≤◌, ℕ, nat_eq, if◌then◌else◌, find, true, false, List, ◌∷◌, codes, Option, Some, None, ◌+◌, not, Bool, [], ◌++◌, ◌↔◌}
-use Rattle.std.specs.Str.{byte, bytes_eq}
+-- The language of whole texts: which tokens a text has in an edition, read as a document or as a part of one. `w` and
+-- `next` are as in Language.antt, which has the tokens of the newest edition. An older one has others in the place of
+-- what the compiler's lexer leaves to its caller: guarded strings, raw lifetimes and reserved prefixes (in the Rust
+-- Reference, "2021 Edition differences" and "2024 Edition differences" of these). C strings and `k#` are read alike in
+-- all editions, though Rust has C strings since 2021 only (docs/EDITIONS.md, "What is left to a compiler").
+use Rattle.std.specs.Prelude.{◌≡◌, ◌<◌, ◌≤◌, ℕ, true, false, List, ◌∷◌, codes, ◌+◌, not, Bool, [], ◌++◌, ◌↔◌}
+use Rattle.std.specs.Str.{byte}
 use Rattle.rustc_lexer.specs.{Edition, FrontmatterAllowed, Token, TokenKind, E2015, E2018, E2021, E2024, Yes, No, Ident, UnknownPrefix, Lifetime, UnknownPrefixLifetime, Pound, RawLifetime, GuardedStrPrefix, Whitespace, Frontmatter, Eof}
-use Rattle.rustc_lexer.specs.Classes.{Chars, begins_ident_after, is_among, is_whitespace, next_is, bytes}
+use Rattle.rustc_lexer.specs.Classes.{Chars, begins_ident_after, is_among, is_whitespace, next_is, bytes, is_bad_name}
 use Rattle.rustc_lexer.specs.FrontmatterGrammar.{IsOpeningBefore, OpensNone, endings, IsBodyBefore}
-use Rattle.rustc_lexer.specs.Language.{is_bad_name, IsTokenBefore}
+use Rattle.rustc_lexer.specs.Language.{IsTokenBefore}
 
 -- the year that names an edition
 abbrev pub year : Edition → ℕ
@@ -18,22 +17,8 @@ year E2018 = 2018
 year E2021 = 2021
 year E2024 = 2024
 
--- the edition of a year
-abbrev pub edition_of_year : ℕ → Option Edition
-edition_of_year number = find (λ edition. nat_eq number (year edition)) (E2015 ∷ E2018 ∷ E2021 ∷ E2024 ∷ [])
-
--- the edition that a word names, by its year
-abbrev pub edition_of : List ℕ → Option Edition
-edition_of word =
-    if bytes_eq word (codes "2015") then Some E2015
-    else (if bytes_eq word (codes "2018") then Some E2018
-    else (if bytes_eq word (codes "2021") then Some E2021
-    else (if bytes_eq word (codes "2024") then Some E2024
-    else None)))
-
--- the year of the first edition that has tokens of the kind as Language.antt says. An older one cuts
--- them, or gives them another kind. It is 2015 if no edition changes them here, also if Rust has the
--- kind only since a later one
+-- the year of the first edition that has tokens of the kind as Language.antt says. An older one cuts them, or gives
+-- them another kind. It is 2015 if no edition changes them here, also if Rust has the kind only since a later one
 abbrev pub kept_since : TokenKind → ℕ
 kept_since GuardedStrPrefix = 2024
 kept_since RawLifetime = 2021
@@ -73,14 +58,10 @@ pub data Mode : Type 0 where
   document : Edition → Mode
   part : Edition → Mode
 
--- by the flag of a call and an edition
+-- by the flag of a call and an edition, which is the newest one where a call names none
 abbrev pub mode_in : FrontmatterAllowed → Edition → Mode
 mode_in Yes edition = document edition
 mode_in No edition = part edition
-
--- where a call names no edition it is the newest one
-abbrev pub mode_of : FrontmatterAllowed → Mode
-mode_of allowed = mode_in allowed E2024
 
 -- the edition whose tokens stand in the text
 abbrev pub mode_edition : Mode → Edition

@@ -2,8 +2,7 @@
 -- have a suffix. `w`, `next` and names in capitals are as in Language.antt; all texts here are
 -- characters. The field of RawStr, RawByteStr and RawCStr is n_hashes, that of the other quoted kinds
 -- is terminated. What is unclosed or refused is not in the Reference.
-use Rattle.std.specs.Prelude.{◌≡◌, ◌<◌, ◌≤◌, ℕ, zero, suc, ◌==◌, Bool, true, false, [], ◌∷◌, ◌++◌, length, codes, Option, Some, None}
-use Rattle.std.specs.Option.{is_some}
+use Rattle.std.specs.Prelude.{◌≡◌, ◌<◌, ◌≤◌, ℕ, zero, suc, ◌==◌, Bool, true, false, [], ◌∷◌, ◌++◌, length, codes, is_some, Option, Some, None}
 use Rattle.std.specs.Str.{byte}
 use Rattle.rustc_lexer.specs.{LiteralKind, Char, Byte, Str, ByteStr, CStr, RawStr, RawByteStr, RawCStr}
 use Rattle.rustc_lexer.specs.Classes.{is_among, is_id_start, is_id_continue, is_ident, Chars, begins, AreAll, NextIsNot, BeginsNot, NextIn, is_word_continue, is_name_start, begins_ident_after}
@@ -21,9 +20,8 @@ pub data QuotedTo (close : Chars) (special : ℕ → Bool) : Chars → Type 0 wh
       → QuotedTo close special w
       → QuotedTo close special (byte "\\" ∷ c ∷ w)
 
--- STRING_LITERAL, BYTE_STRING_LITERAL, C_STRING_LITERAL, past the quote that opens them, and whether
--- a quote closes them: `a"`, `\""`. If none does, it is all that is left of the text, of which a lone
--- backslash may be the last: `a\`
+-- STRING_LITERAL, BYTE_STRING_LITERAL, C_STRING_LITERAL, past the quote that opens them, and whether a quote closes
+-- them: `a"`, `\""`. If none does, it is all that is left of the text, of which a lone backslash may be the last: `a\`
 pub data IsDoubleQuoted (next : Chars) : (terminated : Bool) → Chars → Type 0 where
   closed : {w : Chars}
       → QuotedTo (codes "\"") (is_among (codes "\"\\")) w
@@ -90,11 +88,10 @@ hashes (suc n) = byte "#" ∷ hashes n
 abbrev pub NoQuoteWith : ℕ → Chars → Type 0
 NoQuoteWith n w = (u v : Chars) → w ≡ u ++ (byte "\"" ∷ hashes n ++ v) → ⊥
 
--- RAW_STRING_LITERAL, RAW_BYTE_STRING_LITERAL, RAW_C_STRING_LITERAL, past their `r` and up to a
--- suffix: n hashes, a quote, a text that has no quote with n hashes, a quote, n hashes. The number is
--- given if it is 255 or less and the string is closed: `#"a"b"#` has 1, `"a"` has 0. What is not
--- closed takes all that is left of the text: `#"a"`. If no quote follows the hashes, one character
--- more is taken: `#~`
+-- RAW_STRING_LITERAL, RAW_BYTE_STRING_LITERAL, RAW_C_STRING_LITERAL, past their `r` and up to a suffix: n hashes, a
+-- quote, a text that has no quote with n hashes, a quote, n hashes. The number is given if it is 255 or less and the
+-- string is closed: `#"a"b"#` has 1, `"a"` has 0. What is not closed takes all that is left of the text: `#"a"`. If no
+-- quote follows the hashes, one character more is taken: `#~`
 pub data IsRaw (next : Chars) : (n_hashes : Option ℕ) → Chars → Type 0 where
   closed : (n : ℕ) (w : Chars)
       → n ≤ 255
@@ -123,8 +120,7 @@ pub data IsLiteralBefore (next : Chars) : LiteralKind → (may_suffix : Bool) �
   char_of_one : {c : ℕ}
       → (c == byte "\\") ≡ false
       → IsLiteralBefore next (Char true) true (byte "'" ∷ c ∷ codes "'")
-  -- CHAR_LITERAL: `'\n'`. Not in the Reference: `'+-'`, `'+` at the end. Not `'ab'`, whose `a` begins a
-  -- name
+  -- CHAR_LITERAL: `'\n'`. Not in the Reference: `'+-'`, `'+` at the end. Not `'ab'`, whose `a` begins a name
   char : {t : Bool} {w : Chars}
       → IsSingleQuoted next t w
       → BeginsNot is_name_start w
@@ -149,8 +145,7 @@ pub data IsLiteralBefore (next : Chars) : LiteralKind → (may_suffix : Bool) �
   c_str : {t : Bool} {w : Chars}
       → IsDoubleQuoted next t w
       → IsLiteralBefore next (CStr t) t (codes "c\"" ++ w)
-  -- RAW_STRING_LITERAL: `r"a"`, `r#"a"#`. Not in the Reference: `r#1`. Not `r#a`, which is a raw
-  -- identifier
+  -- RAW_STRING_LITERAL: `r"a"`, `r#"a"#`. Not in the Reference: `r#1`. Not `r#a`, which is a raw identifier
   raw_str : {n : Option ℕ} {w : Chars}
       → IsRaw next n w
       → begins_ident_after (codes "#") w ≡ false

@@ -2,9 +2,7 @@
 -- All texts are characters, and `next` is what follows; names in capitals are as in Language.antt. The
 -- fields are those of Int base empty_int and Float base empty_exponent.
 use Rattle.std.specs.Prelude.{◌≡◌, ℕ, ◌≤◌, ◌==◌, ◌||◌, not, Bool, true, false, [], ◌∷◌, ◌++◌, length}
-use Rattle.std.specs.Char.{is_ascii_digit, is_ascii_hexdigit}
-use Rattle.std.specs.List.{list_all, list_any}
-use Rattle.std.specs.Str.{byte}
+use Rattle.std.specs.{Char.is_ascii_digit, Char.is_ascii_hexdigit, List.list_all, List.list_any, Str.byte}
 use Rattle.rustc_lexer.specs.{Base, LiteralKind, Binary, Octal, Decimal, Hexadecimal, Int, Float}
 use Rattle.rustc_lexer.specs.Classes.{is_id_start, Chars, next_is}
 
@@ -93,8 +91,7 @@ pub data IsTailBefore (next : Chars) : Base → LiteralKind → Chars → Type 0
 
 -- ---- numbers
 
--- w has the form of a number before `next`: its whole part, if that is empty; else that and what
--- follows it
+-- w has the form of a number before `next`: its whole part, if that is empty; else that and what follows it
 pub data HasNumberForm (next : Chars) : LiteralKind → Chars → Type 0 where
   of_prefix : {base : Base} {whole : Chars}
       → IsWholePart base true whole

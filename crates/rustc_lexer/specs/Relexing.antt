@@ -7,21 +7,24 @@ use Rattle.rustc_lexer.specs.Edits.{IsEdit, IsInside, apply, known}
 use Rattle.rustc_lexer.specs.Partition.{bound, tokens_by}
 use Rattle.rustc_lexer.specs.means.Relexing.{Stands}
 
--- the change may have made the text: what it put in lies inside the text, and its old places are in order and below
--- 2 ^ 32
+-- the change may have made the text: what it put in lies inside it, and its old places are in order and below 2 ^ 32
 pub record IsChange (text : List ℕ) (change : Change) : Type 0 where
   pub inserted : IsInside text change.start change.new_stop
   pub start_le_old : change.start ≤ change.old_stop
   pub old_short : change.old_stop < 2 ^ 32
 
--- the change made the text of `old`, whose tokens have the lengths, by putting in `insert`
-pub record IsMadeOf (first : List ℕ → Token) (old lengths : List ℕ) (change : Change) (insert text : List ℕ) : Type 0 where
-  pub is_text : IsText old
-  pub lengths_are : lengths ≡ map (λ (t : Token). t.len) (tokens_by first old)
-  pub edit : IsEdit old change.start change.old_stop insert
+-- the edit made the text of the one before, by putting in `insert`
+pub record IsEditOf (before : List ℕ) (edit : Change) (insert text : List ℕ) : Type 0 where
+  pub is_text : IsText before
   pub inserted : IsUtf8 insert
-  pub made : text ≡ apply old change.start change.old_stop insert
-  pub new_stop : change.new_stop ≡ change.start + length insert
+  pub is_edit : IsEdit before edit.start edit.old_stop insert
+  pub made : text ≡ apply before edit.start edit.old_stop insert
+  pub new_stop : edit.new_stop ≡ edit.start + length insert
+
+-- the same of a text whose tokens have the lengths
+pub record IsMadeOf (first : List ℕ → Token) (before lengths : List ℕ) (edit : Change) (insert text : List ℕ) : Type 0 where
+  pub edit_of : IsEditOf before edit insert text
+  pub lengths_are : lengths ≡ map (λ (t : Token). t.len) (tokens_by first before)
 
 -- the numbers are such that relexing may go on from them
 pub record MayGoOn (text : List ℕ) (count : ℕ) (at : Relexing) : Type 0 where
@@ -46,9 +49,8 @@ pub record TakesSteps (first : List ℕ → Token) (text : List ℕ) (past : ℕ
   pub same_back : at'.at < past → at'.back ≡ at.back
   pub not_met : 0 < count → at'.at < past → at'.met ≡ false
 
--- relexing of a change of the old text is under way at these numbers. What that says of them need not be known, and
--- nothing is promised of it but by the clauses that name it: `begin` gives such numbers, `next` and `fill` keep them so,
--- and where the old tokens are met, `counts` says of such numbers what they are
+-- relexing of a change of the old text is under way at these numbers. What that says of them need not be known: `begin`
+-- gives such numbers, `next` and `fill` keep them so, and where the old tokens are met, `counts` says what they are
 pub record IsUnderWay (first : List ℕ → Token) (old : List ℕ) (change : Change) (text : List ℕ) (at : Relexing) : Type 0 where
   pub stands : Stands first old change text at
 

@@ -12,8 +12,7 @@ pub record State : Type 0 where
   pub rest : List ℕ
   pub mode : Mode
 
--- the kind of a token, and the token, with the pending bytes in front: they count in the length and in where the suffix
--- begins
+-- the kind of a token, and the token, with the pending bytes in its length and in where its suffix begins
 abbrev pub kind_past : ℕ → TokenKind → TokenKind
 kind_past pending (Literal kind suffix_start) = Literal kind (pending + suffix_start)
 kind_past pending kind = kind

@@ -4,7 +4,7 @@ ghost use Rattle.std.specs.Str.{chars, IsCharBoundary};
 ghost use Rattle.rustc_lexer.specs.{Edition, E2024};
 ghost use Rattle.rustc_lexer.specs.Classes.{Fits};
 ghost use Rattle.rustc_lexer.specs.Tokens.{TakesFirst, tokens_left};
-ghost use Rattle.rustc_lexer.specs.LanguageText.{mode_after, mode_edition, mode_in, mode_of, part};
+ghost use Rattle.rustc_lexer.specs.LanguageText.{mode_after, mode_edition, mode_in, part};
 ghost use Rattle.rustc_lexer.specs.Answers.{advance};
 ghost use Rattle.rustc_lexer.specs.State.{token_past, HasSuffixWithin};
 
@@ -47,8 +47,9 @@ pub struct Cursor<'a> {
 impl<'a> Model for Cursor<'a> {
     ghost use Rattle.std.specs.Prelude.{◌-◌, ◌≤◌, drop};
     ghost use Rattle.std.specs.Str.{IsCharBoundary};
+    ghost use Rattle.rustc_lexer.specs.{E2024};
     ghost use Rattle.rustc_lexer.specs.Classes.{Fits};
-    ghost use Rattle.rustc_lexer.specs.LanguageText.{mode_of};
+    ghost use Rattle.rustc_lexer.specs.LanguageText.{mode_in};
     ghost use Rattle.rustc_lexer.specs.State.{State};
 
     ghost Value = { State };
@@ -56,7 +57,7 @@ impl<'a> Model for Cursor<'a> {
     ghost view = { λ c. record {
       pending = c.index - c.start;
       rest = drop c.index c.text.now;
-      mode = mode_of c.frontmatter_allowed;
+      mode = mode_in c.frontmatter_allowed E2024;
     } };
 
     ghost invariant = { λ c. (c.start ≤ c.index) × IsCharBoundary c.text.now c.index
@@ -69,7 +70,7 @@ impl<'a> Cursor<'a> {
     pub fn new(input: &'a str, frontmatter_allowed: FrontmatterAllowed) -> Cursor<'a>
         requires fits { Fits input.now }
         ensures { result
-            ≡ record { pending = 0; rest = input.now; mode = mode_of frontmatter_allowed } }
+            ≡ record { pending = 0; rest = input.now; mode = mode_in frontmatter_allowed E2024 } }
     {
         Cursor {
             text: input,

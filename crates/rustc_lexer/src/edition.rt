@@ -3,10 +3,10 @@ ghost use Rattle.std.specs.Prelude.{◌≡◌, ◌<◌, not, codes, length, take
 ghost use Rattle.std.specs.List.{list_all};
 ghost use Rattle.std.specs.Result.{result_ok};
 ghost use Rattle.std.specs.Str.{chars};
-ghost use Rattle.rustc_lexer.specs.Classes.{Fits, is_id_continue};
-ghost use Rattle.rustc_lexer.specs.LanguageText.{edition_of, edition_of_year, year, mode_in};
+ghost use Rattle.rustc_lexer.specs.Classes.{Fits, is_id_continue, is_word_continue};
+ghost use Rattle.rustc_lexer.specs.LanguageCalls.{edition_of, edition_of_year};
+ghost use Rattle.rustc_lexer.specs.LanguageText.{year, mode_in};
 ghost use Rattle.rustc_lexer.specs.means.Edition as spec;
-ghost use Rattle.rustc_lexer.specs.means.Ident.{is_word};
 ghost use Rattle.rustc_lexer.specs.means.Scan.{run_len};
 ghost use Rattle.rustc_lexer.specs.means.Taking as state;
 
@@ -214,7 +214,7 @@ fn has_marked_name(text: &str) -> bool
 /// Returns whether the rest of a name holds an emoji that may not continue an identifier.
 fn holds_emoji(rest: &str) -> bool
     ensures { result
-        ≡ not (list_all is_id_continue (take (run_len is_word (chars rest.now)) (chars rest.now))) }
+        ≡ not (list_all is_id_continue (take (run_len is_word_continue (chars rest.now)) (chars rest.now))) }
 {
     next_is(eat_continue(rest), is_emoji)
 }

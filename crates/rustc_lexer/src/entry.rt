@@ -3,7 +3,7 @@ ghost use Rattle.std.specs.Prelude.{◌≡◌, length};
 ghost use Rattle.std.specs.Iterator.{at_most};
 ghost use Rattle.rustc_lexer.specs.{E2015, E2018, E2024, No};
 ghost use Rattle.rustc_lexer.specs.Classes.{Fits};
-ghost use Rattle.rustc_lexer.specs.LanguageText.{mode_edition, mode_in, mode_of, part};
+ghost use Rattle.rustc_lexer.specs.LanguageText.{mode_edition, mode_in, part};
 ghost use Rattle.rustc_lexer.specs.Locality.{AreLocal};
 ghost use Rattle.rustc_lexer.specs.Tokens.{ReadsAs, tokens_of, YieldsToken};
 
@@ -61,7 +61,6 @@ pub fn tokenize_in<'a>(text: &'a str, edition: Edition) -> EditionTokens<'a>
     requires fits { Fits text.now }
     ensures reads { ReadsAs No edition text.now result }
     ensures local { AreLocal (tokens_of (part edition)) }
-    ensures newest { tokens_of (part E2024) text.now ≡ tokens_of (mode_of No) text.now }
     ensures oldest { tokens_of (part E2015) text.now ≡ tokens_of (part E2018) text.now }
 {
     tokenize_as(text, FrontmatterAllowed::No, edition)

@@ -2,8 +2,9 @@
 ghost use Rattle.std.specs.Prelude.{◌≡◌, ◌+◌, ◌-◌, ◌≤◌, ◌<◌, ◌==◌, ◌&&◌, true, false, length, nat_lt, slice_index, drop, codes, MatchOption, IfSome, ◌∷◌};
 ghost use Rattle.std.specs.Str.{chars, IsCharBoundary};
 ghost use Rattle.rustc_lexer.specs.{E2024};
+ghost use Rattle.rustc_lexer.specs.Classes;
 ghost use Rattle.rustc_lexer.specs.Classes.{Fits, begins, is_among, next_is};
-ghost use Rattle.rustc_lexer.specs.LanguageText.{document, mode_of};
+ghost use Rattle.rustc_lexer.specs.LanguageText.{document, mode_in};
 ghost use Rattle.rustc_lexer.specs.means.Frontmatter as spec;
 ghost use Rattle.rustc_lexer.specs.means.Scan.{past, run_len};
 ghost use Rattle.rustc_lexer.specs.means.Taking as state;
@@ -22,7 +23,7 @@ const MIN_DASHES: usize = 3;
 #[inline(always)]
 pub(crate) fn token_at(text: &str, allowed: FrontmatterAllowed) -> Token
     requires fits { Fits text.now }
-    ensures token { result ≡ state.token_at (mode_of allowed) text.now }
+    ensures token { result ≡ state.token_at (mode_in allowed E2024) text.now }
     ensures inside { result.len ≤ length text.now }
     ensures boundary { IsCharBoundary text.now result.len }
     ensures suffix { HasSuffixWithin result }
@@ -94,12 +95,12 @@ fn eat_infostring(rest: &str) -> &str
     if !is_id_start(first) {
         return rest;
     }
-    eat_while(tail, is_infostring)
+    eat_while(tail, is_info)
 }
 
 /// Returns whether an infostring may continue with the character.
-fn is_infostring(c: char) -> bool
-    ensures { result ≡ spec.is_infostring c }
+fn is_info(c: char) -> bool
+    ensures { result ≡ Classes.is_info c }
 {
     is_id_continue(c) || c == '-' || c == '.'
 }

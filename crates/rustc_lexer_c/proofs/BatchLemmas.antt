@@ -8,10 +8,11 @@ use Rattle.rustc_lexer.specs.declared.token.FrontmatterAllowed.{FrontmatterAllow
 use Rattle.rustc_lexer.specs.declared.token.FrontmatterAllowed.TheVariants.{Yes, No}
 use Rattle.rustc_lexer.specs.Tokens.{bound, tokens_of, tokens_left}
 use Rattle.rustc_lexer.specs.means.Tokens.{IsFilled}
-use Rattle.rustc_lexer.specs.LanguageText.{Mode, mode_edition, mode_in, mode_of}
+use Rattle.rustc_lexer.specs.LanguageText.{Mode, mode_edition, mode_in}
 use Rattle.rustc_lexer.specs.Classes.{IsText}
 use Rattle.rustc_lexer.specs.State.{State}
 use Rattle.rustc_lexer.specs.laws.Tokens.{partitions}
+use Rattle.rustc_lexer.proofs.FillLemmas.{past_fill, Leaves}
 use Rattle.rustc_lexer_c.specs.declared.batch.CPlace.{CPlace}
 use Rattle.rustc_lexer_c.specs.declared.token.CToken.{CToken}
 use Rattle.rustc_lexer_c.specs.Batch.{IsBatch, allowed_of, allowed_number, mode_number, state_at, state_past}
@@ -22,25 +23,27 @@ allowed_back No = refl
 allowed_back Yes = refl
 
 -- the number of a flag is that of what it asks for, which is of the newest edition
-number_of-mode : (allowed : FrontmatterAllowed) → allowed_number allowed ≡ mode_number (mode_of allowed)
+number_of-mode : (allowed : FrontmatterAllowed) → allowed_number allowed ≡ mode_number (mode_in allowed E2024)
 number_of-mode Yes = refl
 number_of-mode No = refl
 
-mode_of-edition : (allowed : FrontmatterAllowed) → mode_edition (mode_of allowed) ≡ E2024
+mode_of-edition : (allowed : FrontmatterAllowed) → mode_edition (mode_in allowed E2024) ≡ E2024
 mode_of-edition Yes = refl
 mode_of-edition No = refl
 
 module _ (text : List ℕ) (is : IsText text) (place : CPlace) (boundary : IsCharBoundary text place.at) (s t : State) (buffer filled : List CToken) (count : ℕ) (begun : s ≡ state_at text place)
-    (filling : IsFilled token_numbers (tokens_left s) buffer filled count) (past : t ≡ state_past count s) (left : tokens_left t ≡ drop count (tokens_left s)) (rest : t.rest ≡ drop (bound (tokens_left s) count) s.rest)
-    (edition : mode_edition t.mode ≡ mode_edition s.mode) where
+    (filling : IsFilled token_numbers (tokens_left s) buffer filled count) (past : t ≡ state_past count s) where
   abbrev cut : List ℕ
   cut = drop place.at text
 
   abbrev mode : Mode
-  mode = mode_of (allowed_of place.frontmatter_allowed)
+  mode = mode_in (allowed_of place.frontmatter_allowed) E2024
 
   cut_is : IsText cut
   cut_is = record { utf8 = IsUtf8-drop text place.at is.utf8 boundary; fits = let f = is.fits in omega (arith, length-drop place.at text) }
+
+  leaves : Leaves s t (length buffer) count
+  leaves = past_fill s t (length buffer) count (subst IsText (sym (ap (λ (x : State). x.rest) begun)) cut_is) (ap (λ (x : State). x.pending) begun) filling.as_many past
 
   here : IsFilled token_numbers (tokens_of mode cut) buffer filled count
   here = subst (λ (x : State). IsFilled token_numbers (tokens_left x) buffer filled count) begun filling
@@ -55,7 +58,10 @@ module _ (text : List ℕ) (is : IsText text) (place : CPlace) (boundary : IsCha
   inside = (partitions cut mode cut_is).boundaries count few
 
   rest_is : t.rest ≡ drop end cut
-  rest_is = rest ∙ ap (λ (x : State). drop (bound (tokens_left x) count) x.rest) begun
+  rest_is = leaves.rest ∙ ap (λ (x : State). drop (bound (tokens_left x) count) x.rest) begun
+
+  pub left_within : length t.rest ≤ length text
+  left_within = omega (arith, ap (λ (xs : List ℕ). length xs) rest_is, length-drop end cut, length-drop place.at text)
 
   place_is : length text - length t.rest ≡ place.at + end
   place_is = let long : length t.rest ≡ length (drop end cut) = ap length rest_is in let b = boundary.0 in let i = inside.0 in omega (arith, long, b, i, length-drop end cut, length-drop place.at text)
@@ -64,21 +70,21 @@ module _ (text : List ℕ) (is : IsText text) (place : CPlace) (boundary : IsCha
   state_is = ap (state_past count) (sym begun) ∙ sym past
 
   newest : mode_edition t.mode ≡ E2024
-  newest = edition ∙ (ap (λ (x : State). mode_edition x.mode) begun ∙ mode_of-edition (allowed_of place.frontmatter_allowed))
+  newest = leaves.edition ∙ (ap (λ (x : State). mode_edition x.mode) begun ∙ mode_of-edition (allowed_of place.frontmatter_allowed))
 
   pub batch_is : (place' : CPlace) (allowed : FrontmatterAllowed) → place'.at ≡ length text - length t.rest → t.mode ≡ mode_in allowed (mode_edition t.mode) → place'.frontmatter_allowed ≡ allowed_number allowed → IsBatch text (state_at text place) buffer place' filled count
   batch_is place' allowed at held number =
       let there : place'.at ≡ place.at + end = at ∙ place_is in
       let follows : drop place'.at text ≡ t.rest = ap (λ n. drop n text) there ∙ (sym (drop-drop end place.at text) ∙ sym rest_is) in
-      let mode_is : t.mode ≡ mode_of allowed = held ∙ ap (mode_in allowed) newest in
+      let mode_is : t.mode ≡ mode_in allowed E2024 = held ∙ ap (mode_in allowed) newest in
       record {
         as_many = here.as_many;
         tokens = here.tokens;
         boundary = subst (λ n. IsCharBoundary text n) (sym there) (IsCharBoundary-from_rest text place.at end boundary.0 inside);
         rest = follows ∙ sym (ap (λ (x : State). x.rest) state_is);
         allowed = number ∙ (number_of-mode allowed ∙ (sym (ap mode_number mode_is) ∙ sym (ap (λ (x : State). mode_number x.mode) state_is)));
-        left = ap (λ n. tokens_of (mode_of (allowed_of n)) (drop place'.at text)) number
-            ∙ (ap (λ (a : FrontmatterAllowed). tokens_of (mode_of a) (drop place'.at text)) (allowed_back allowed)
+        left = ap (λ n. tokens_of (mode_in (allowed_of n) E2024) (drop place'.at text)) number
+            ∙ (ap (λ (a : FrontmatterAllowed). tokens_of (mode_in a E2024) (drop place'.at text)) (allowed_back allowed)
             ∙ (ap (λ (m : Mode). tokens_of m (drop place'.at text)) (sym mode_is)
-            ∙ (ap (tokens_of t.mode) follows ∙ (left ∙ ap (λ (x : State). drop count (tokens_left x)) begun))));
+            ∙ (ap (tokens_of t.mode) follows ∙ (leaves.tokens ∙ ap (λ (x : State). drop count (tokens_left x)) begun))));
       }

@@ -9,9 +9,9 @@ use Rattle.rustc_lexer.specs.declared.token.TokenKind.TheVariants.{Frontmatter}
 use Rattle.rustc_lexer.specs.Answers.{first_in}
 use Rattle.rustc_lexer.specs.Classes.{IsText}
 use Rattle.rustc_lexer.specs.Document.{is_frontmatter}
-use Rattle.rustc_lexer.specs.Head.{IsBodyChange, IsEditOf, IsHeadOf}
+use Rattle.rustc_lexer.specs.Head.{IsBodyChange, IsHeadOf}
 use Rattle.rustc_lexer.specs.Locality.{IsGrammar}
-use Rattle.rustc_lexer.specs.Relexing.{IsChange, IsMadeOf}
+use Rattle.rustc_lexer.specs.Relexing.{IsChange, IsEditOf, IsMadeOf}
 use Rattle.rustc_lexer.specs.Tokens.{tokens_by}
 use Rattle.rustc_lexer.specs.laws.Edition.{edition_grammar}
 use Rattle.rustc_lexer.proofs.BodyChangeLemmas.{head_is, is_head}
@@ -60,7 +60,7 @@ first = first_in E2024
 -- an edit that made the text is one that may have made it
 made_fine : (before insert text : List ℕ) (edit : Change) → IsEditOf before edit insert text → IsChange text edit
 made_fine before insert text edit e =
-    let made : IsMadeOf first before (map (λ (t : Token). t.len) (tokens_by first before)) edit insert text = record { is_text = e.is_text; lengths_are = refl; edit = e.is_edit; inserted = e.inserted; made = e.made; new_stop = e.new_stop } in
+    let made : IsMadeOf first before (map (λ (t : Token). t.len) (tokens_by first before)) edit insert text = record { edit_of = e; lengths_are = refl } in
     made_change (edition_grammar E2024) before _ insert text edit made
 
 -- what `change_to` promises of each text before

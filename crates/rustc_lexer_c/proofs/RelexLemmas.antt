@@ -120,7 +120,7 @@ module _ (edition : Edition) (text : List ℕ) (old : List CToken) (change : CEd
     relexed = λ before insert is passed.
         let law = edition_grammar edition in
         let so = stands before insert is (begun first before insert law is passed) in
-        let found : IsRelexed first before change.start change.old_stop insert (relexed_of first before change.start change.old_stop insert) = relexed_is law before is.is_text change.start change.old_stop insert is.inserted is.edit in
+        let found : IsRelexed first before change.start change.old_stop insert (relexed_of first before change.start change.old_stop insert) = relexed_is law before is.edit_of.is_text change.start change.old_stop insert is.edit_of.inserted is.edit_of.is_edit in
         let lexed = steps.lexed in
         let over = over_is before insert is so.0 in
         let same = relex_back text (length old) at may.number over in

@@ -1,11 +1,12 @@
 -- Tokens in batches: as many as there is room for, and where to go on.
 use Rattle.std.specs.Prelude.{ℕ, zero, suc, ◌≡◌, ◌≢◌, List, [], ◌∷◌, ◌++◌, length, map, take, drop, min}
 use Rattle.std.specs.Str.{IsCharBoundary}
+use Rattle.rustc_lexer.specs.declared.edition.Edition.TheVariants.{E2024}
 use Rattle.rustc_lexer.specs.declared.token.FrontmatterAllowed.{FrontmatterAllowed}
 use Rattle.rustc_lexer.specs.declared.token.FrontmatterAllowed.TheVariants.{Yes, No}
 use Rattle.rustc_lexer.specs.declared.token.Token.{Token}
 pub use Rattle.rustc_lexer.specs.Tokens.{state_past}
-use Rattle.rustc_lexer.specs.LanguageText.{Mode, document, part, mode_of}
+use Rattle.rustc_lexer.specs.LanguageText.{Mode, document, part, mode_in}
 use Rattle.rustc_lexer.specs.State.{State}
 use Rattle.rustc_lexer.specs.Tokens.{tokens_left}
 use Rattle.rustc_lexer_c.specs.declared.batch.CPlace.{CPlace}
@@ -38,7 +39,7 @@ first_numbers (token ∷ tokens) = token_numbers token
 
 -- the state of a cursor that stands at the place, with nothing pending
 abbrev pub state_at : List ℕ → CPlace → State
-state_at text place = record { pending = 0; rest = drop place.at text; mode = mode_of (allowed_of place.frontmatter_allowed) }
+state_at text place = record { pending = 0; rest = drop place.at text; mode = mode_in (allowed_of place.frontmatter_allowed) E2024 }
 
 -- the batch at a state: as many of the tokens that are left there as there is room for, as numbers, at the front of the
 -- buffer, whose rest stays; and the place behind them, from which the tokens are those that are left past the batch

@@ -2,7 +2,7 @@
 use Rattle.std.specs.Prelude.{ℕ, ◌≡◌, ◌≤◌, ◌<◌, ◌^◌, ◌⊎◌, nat_eq, if◌then◌else◌, List, length, take, drop, Option, Some, None}
 use Rattle.std.specs.Str.{IsUtf8}
 use Rattle.rustc_lexer.specs.declared.edition.Edition.{Edition}
-use Rattle.rustc_lexer.specs.LanguageText.{edition_of_year}
+use Rattle.rustc_lexer.specs.LanguageCalls.{edition_of_year}
 use Rattle.rustc_lexer.specs.Classes.{IsText}
 use Rattle.marks.specs.declared.style.Style.{Style}
 use Rattle.marks.specs.declared.style.Style.TheVariants.{Html, Colours, NoColours}

@@ -8,7 +8,7 @@ use Rattle.rustc_lexer.specs.declared.relex.relexing.Relexed.{Relexed}
 use Rattle.rustc_lexer.specs.declared.relex.relexing.Relexing.{Relexing}
 use Rattle.rustc_lexer.specs.declared.token.Token.{Token}
 use Rattle.rustc_lexer.specs.Tokens.{tokens_by}
-use Rattle.rustc_lexer.specs.LanguageText.{edition_of_year}
+use Rattle.rustc_lexer.specs.LanguageCalls.{edition_of_year}
 use Rattle.rustc_lexer.specs.Answers.{first_in}
 use Rattle.rustc_lexer.specs.Edits.{IsBound, IsRelexed}
 use Rattle.rustc_lexer.specs.Relexing.{IsChange, IsMadeOf, IsUnderWay, MayGoOn, is_over}

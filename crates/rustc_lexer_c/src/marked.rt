@@ -2,7 +2,8 @@
 ghost use Rattle.std.specs.Prelude.{◌≡◌, ◌≢◌, Some, OnOk, take};
 ghost use Rattle.rustc_lexer.specs.declared.edition.Edition.{Edition};
 ghost use Rattle.rustc_lexer.specs.Classes.{Fits};
-ghost use Rattle.rustc_lexer.specs.LanguageText.{edition_of_year, part};
+ghost use Rattle.rustc_lexer.specs.LanguageCalls.{edition_of_year};
+ghost use Rattle.rustc_lexer.specs.LanguageText.{part};
 ghost use Rattle.rustc_lexer.specs.Tokens.{tokens_of};
 ghost use Rattle.marks.specs.declared.style.Style.{Style};
 ghost use Rattle.marks.specs.Marked.{marked_tokens};

@@ -9,11 +9,11 @@ use Rattle.unicode_ident.proofs.Computing.{unicode_ident}
 use Rattle.rustc_lexer.specs.declared.token.LiteralKind.{LiteralKind}
 use Rattle.rustc_lexer.specs.declared.token.TokenKind.{TokenKind}
 use Rattle.rustc_lexer.specs.declared.token.TokenKind.TheVariants.{Whitespace, Eof}
-use Rattle.rustc_lexer.specs.Classes.{is_among, is_whitespace, is_id_start, is_id_continue, is_word_continue, begins_ident_after, AreAll, NextIsNot, is_inline, begins, next_is}
+use Rattle.rustc_lexer.specs.Classes.{is_among, is_whitespace, is_id_start, is_id_continue, is_word_continue, begins_ident_after, AreAll, NextIsNot, is_inline, begins, next_is, ends_prefix}
 use Rattle.rustc_lexer.specs.Tables.{is_emoji, emoji_ranges, symbols, symbol_kind}
 use Rattle.rustc_lexer.specs.Language as the
 use Rattle.rustc_lexer.specs.LiteralGrammar as lit
-use Rattle.rustc_lexer.specs.Language.{ends_prefix, known_prefixes, begins_prefixed, IsTokenBefore}
+use Rattle.rustc_lexer.specs.Language.{known_prefixes, begins_prefixed, IsTokenBefore}
 use Rattle.rustc_lexer.specs.LiteralGrammar.{IsDoubleQuoted, IsSingleQuoted, IsRaw, IsLiteralBefore, IsSuffixBefore}
 use Rattle.rustc_lexer.specs.laws.LanguageRuns.{none-among, begins-next}
 use Rattle.rustc_lexer.specs.laws.Choice.{by_symbol}

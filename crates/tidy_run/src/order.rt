@@ -1,7 +1,8 @@
 //! Putting white space and tokens in order.
 ghost use Rattle.std.specs.Prelude.{◌≡◌, ◌+◌, ◌<◌, ◌≤◌, ◌^◌, ◌++◌, ◌==◌, IfSome, MatchOption, OnOk, length, string_bytes};
+ghost use Rattle.rustc_lexer.specs.declared.edition.Edition.TheVariants.{E2024};
 ghost use Rattle.rustc_lexer.specs.Classes.{Fits};
-ghost use Rattle.rustc_lexer.specs.LanguageText.{mode_of};
+ghost use Rattle.rustc_lexer.specs.LanguageText.{mode_in};
 ghost use Rattle.rustc_lexer.specs.Tokens.{tokens_of};
 ghost use Rattle.tidy_run.specs.Order as spec;
 
@@ -17,7 +18,7 @@ pub fn push_code(
 ) -> Result<(), AllocError>
     requires fits { Fits text.now }
     ensures { OnOk result (string_bytes output.new
-        ≡ string_bytes output.old ++ spec.code_in_order text.now (tokens_of (mode_of allowed) text.now)) }
+        ≡ string_bytes output.old ++ spec.code_in_order text.now (tokens_of (mode_in allowed E2024) text.now)) }
 {
     let mut start = 0;
     for token in tokenize(text, allowed) {

@@ -4,6 +4,7 @@ use lib.Utf8.{encode}
 use Rattle.std.proofs.lemmas.Bool.{and_parts, eqb-true}
 use Rattle.std.specs.Str.{byte, chars}
 use Rattle.std.proofs.lemmas.Grind.{common_steps}
+use Rattle.rustc_lexer.specs.Classes.{is_word_continue, is_bad_name}
 use Rattle.rustc_lexer.specs.{Edition, Token, TokenKind, E2018, E2021, Ident, UnknownPrefix, UnknownPrefixLifetime, RawLifetime, Lifetime, GuardedStrPrefix, Pound, Eof, Slash}
 use Rattle.rustc_lexer.specs.declared.lexemes.raw.RawPrefix.{RawPrefix}
 use Rattle.rustc_lexer.specs.means.BlockComment.{block_comment, block_comment_to, comment_end}
@@ -11,9 +12,9 @@ use Rattle.rustc_lexer.specs.means.Comment.{line_comment, slash}
 use Rattle.rustc_lexer.specs.LanguageText.{year}
 use Rattle.rustc_lexer.specs.means.Edition.{token, before_2024, before_2021, first_token_in}
 use Rattle.rustc_lexer.specs.means.Hash.{is_guarded_mark, hash}
-use Rattle.rustc_lexer.specs.means.Ident.{is_word, ident_or_unknown_prefix, marks_ident}
+use Rattle.rustc_lexer.specs.means.Ident.{ident_or_unknown_prefix, marks_ident}
 use Rattle.rustc_lexer.specs.means.Lexeme.{raw_or_ident, is_raw_mark, begins_raw, raw_past_or_ident, letter_b, word, symbols, past_first, lexeme, first_token}
-use Rattle.rustc_lexer.specs.means.Lifetime.{is_marked, plain_lifetime, is_character, is_character_at, is_raw, lifetime_or_char}
+use Rattle.rustc_lexer.specs.means.Lifetime.{plain_lifetime, is_character, is_character_at, is_raw, lifetime_or_char}
 use Rattle.rustc_lexer.specs.means.Literal.{literal}
 use Rattle.rustc_lexer.specs.means.Quoted.{char_body, byte_str_body}
 use Rattle.rustc_lexer.specs.means.Scan.{IsLocal, after, and_then, begins, bytes_of, gives, next_is, read_as, run_len, token_by}
@@ -149,14 +150,14 @@ quote_kinds : (P : TokenKind × ℕ → Type 0) (c : ℕ) (s : List ℕ) → (is
 quote_kinds w0 c s character is_raw_one name = grind (arith, common_steps)
 
 abbrev name_in : List ℕ → List ℕ
-name_in s = take (run_len is_word s) s
+name_in s = take (run_len is_word_continue s) s
 
 abbrev past_name_in : List ℕ → List ℕ
-past_name_in s = drop (run_len is_word s) s
+past_name_in s = drop (run_len is_word_continue s) s
 
 -- what a name is by what follows it
-named_kinds : (P : TokenKind × ℕ → Type 0) (c : ℕ) (s : List ℕ) → (begins (codes "'") (past_name_in s) ≡ true → P ((quoted_name c (name_in s) (past_name_in s)).0, run_len is_word s + 1))
-    → (begins (codes "'") (past_name_in s) ≡ false → P (UnknownPrefixLifetime, run_len is_word s + 0)) → (begins (codes "'") (past_name_in s) ≡ false → P (Lifetime (is_marked c (name_in s)), run_len is_word s + 0)) → P (plain_lifetime c s)
+named_kinds : (P : TokenKind × ℕ → Type 0) (c : ℕ) (s : List ℕ) → (begins (codes "'") (past_name_in s) ≡ true → P ((quoted_name c (name_in s) (past_name_in s)).0, run_len is_word_continue s + 1))
+    → (begins (codes "'") (past_name_in s) ≡ false → P (UnknownPrefixLifetime, run_len is_word_continue s + 0)) → (begins (codes "'") (past_name_in s) ≡ false → P (Lifetime (is_bad_name (c ∷ (name_in s))), run_len is_word_continue s + 0)) → P (plain_lifetime c s)
 named_kinds w0 c s quoted prefix plain = grind (arith, common_steps)
 
 abbrev in_2021 : List ℕ → TokenKind → ℕ → Token
@@ -201,14 +202,14 @@ keeps_2018 cs kind len e = grind (arith, common_steps)
 
 -- what follows a name, where no hash makes a prefix of it
 abbrev past_any_name : ℕ → List ℕ → List ℕ → TokenKind × ℕ
-past_any_name c name s = if begins (codes "'") s then quoted_name c name s else gives (Lifetime (is_marked c name)) s
+past_any_name c name s = if begins (codes "'") s then quoted_name c name s else gives (Lifetime (is_bad_name (c ∷ name))) s
 
 abbrev any_named : ℕ → List ℕ → TokenKind × ℕ
 any_named c s = and_then name_of (past_any_name c) s
 
 any_named_local : (c : ℕ) → IsLocal TokenKind 1 (any_named c)
 any_named_local c = and_then_local 1 name_of (past_any_name c) name_local (λ name s.
-    either_at 1 1 (begins (codes "'")) (quoted_name c name) (gives (Lifetime (is_marked c name))) (begins-told (codes "'")) s (omega arith) (λ t. wider 0 1 (omega arith) (quoted_name_at c name s t)) (λ t. gives_local 1 (Lifetime (is_marked c name)) s))
+    either_at 1 1 (begins (codes "'")) (quoted_name c name) (gives (Lifetime (is_bad_name (c ∷ name)))) (begins-told (codes "'")) s (omega arith) (λ t. wider 0 1 (omega arith) (quoted_name_at c name s t)) (λ t. gives_local 1 (Lifetime (is_bad_name (c ∷ name))) s))
 
 -- what follows the first character of a lifetime, where none is raw
 abbrev cut_lifetime : ℕ → List ℕ → TokenKind × ℕ

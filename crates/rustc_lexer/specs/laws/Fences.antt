@@ -5,9 +5,8 @@ use Rattle.std.proofs.lemmas.List.{get_or-drop, get_or-take}
 use Rattle.std.proofs.lemmas.List.Folds.{list_all_at}
 use Rattle.std.specs.List.{list_all}
 use Rattle.std.proofs.lemmas.Grind.{common_steps}
-use Rattle.rustc_lexer.specs.Classes.{is_horizontal_whitespace}
+use Rattle.rustc_lexer.specs.Classes.{is_horizontal_whitespace, is_inline}
 use Rattle.memchr.specs.Find.{FindsNeedle, IsFirstByte, OccursAt, is_byte}
-use Rattle.rustc_lexer.specs.means.Comment.{is_no_newline}
 use Rattle.rustc_lexer.specs.means.Frontmatter.{dashes, first, first_alone, is_dash, is_newline, line_end, line_start, places, places_from, stands_alone}
 use Rattle.rustc_lexer.specs.means.Least.{more, one_more}
 use Rattle.rustc_lexer.specs.means.Raw.{least_place}
@@ -70,27 +69,27 @@ module _ (hay pattern : List ℕ) (some : 0 < length pattern) where
       })
 
 -- the run up to the first newline, as a search answers it
-run-none : (s : List ℕ) → ((k : ℕ) → k < length s → is_newline (get_or s k 0) ≡ true → ⊥) → run_len is_no_newline s ≡ length s
+run-none : (s : List ℕ) → ((k : ℕ) → k < length s → is_newline (get_or s k 0) ≡ true → ⊥) → run_len is_inline s ≡ length s
 run-none [] none = refl
 run-none (c ∷ s) none = by_test (run-none s (λ k l e. none (suc k) (omega arith) e)) (is_newline c) refl
   where
-    by_test : run_len is_no_newline s ≡ length s → (b : Bool) → is_newline c ≡ b → run_len is_no_newline (c ∷ s) ≡ suc (length s)
+    by_test : run_len is_inline s ≡ length s → (b : Bool) → is_newline c ≡ b → run_len is_inline (c ∷ s) ≡ suc (length s)
     by_test ih true e = absurd (none 0 (omega arith) e)
     by_test ih false e = rw e (ap suc ih)
 
-run-some : (s : List ℕ) (k : ℕ) → k < length s → is_newline (get_or s k 0) ≡ true → ((j : ℕ) → j < k → is_newline (get_or s j 0) ≡ true → ⊥) → run_len is_no_newline s ≡ k
+run-some : (s : List ℕ) (k : ℕ) → k < length s → is_newline (get_or s k 0) ≡ true → ((j : ℕ) → j < k → is_newline (get_or s j 0) ≡ true → ⊥) → run_len is_inline s ≡ k
 run-some [] k l e none = absurd (omega arith)
 run-some (c ∷ s) zero l e none = rw e refl
 run-some (c ∷ s) (suc k) l e none = by_test (run-some s k (omega arith) e (λ j m f. none (suc j) (omega arith) f)) (is_newline c) refl
   where
-    by_test : run_len is_no_newline s ≡ k → (b : Bool) → is_newline c ≡ b → run_len is_no_newline (c ∷ s) ≡ suc k
+    by_test : run_len is_inline s ≡ k → (b : Bool) → is_newline c ≡ b → run_len is_inline (c ∷ s) ≡ suc k
     by_test ih true f = absurd (none 0 (omega arith) f)
     by_test ih false f = rw f (ap suc ih)
 
-pub line-none : (s : List ℕ) → IsFirstByte (is_byte 10) s None → run_len is_no_newline s ≡ length s
+pub line-none : (s : List ℕ) → IsFirstByte (is_byte 10) s None → run_len is_inline s ≡ length s
 line-none s none = run-none s (λ k l e. none k (omega arith) l e)
 
-pub line-some : (s : List ℕ) (k : ℕ) → IsFirstByte (is_byte 10) s (Some k) → run_len is_no_newline s ≡ k
+pub line-some : (s : List ℕ) (k : ℕ) → IsFirstByte (is_byte 10) s (Some k) → run_len is_inline s ≡ k
 line-some s k at = run-some s k at.0.high at.1 (λ j l e. at.0.before j (omega arith) l e)
 
 -- the same from a place on
@@ -98,7 +97,7 @@ pub line_end-none : (rest cut : List ℕ) (place : ℕ) → place ≤ length res
 line_end-none rest cut place inside e none = grind (arith, common_steps, line-none, length-drop)
 
 pub line_end-some : (rest cut : List ℕ) (place step : ℕ) → cut ≡ drop place rest → IsFirstByte (is_byte 10) cut (Some step) → place + step ≡ line_end place rest
-line_end-some rest cut place step e at = ap (λ n. place + n) (sym (line-some cut step at) ∙ ap (run_len is_no_newline) e)
+line_end-some rest cut place step e at = ap (λ n. place + n) (sym (line-some cut step at) ∙ ap (run_len is_inline) e)
 
 -- places that no match begins at are passed over
 module _ (p : ℕ → Bool) (test : List ℕ → Bool) (fails : (c : ℕ) (s : List ℕ) → p c ≡ true → test (c ∷ s) ≡ false) where

@@ -10,11 +10,10 @@ use Rattle.std.proofs.lemmas.Str.{encode_ascii, byte_from_char, inside_one, leng
 use Rattle.std.proofs.Math.Bool.{and-false}
 use Rattle.std.proofs.lemmas.Grind.{common_steps}
 use Rattle.rustc_lexer.specs.{Edition, Token, Frontmatter}
-use Rattle.rustc_lexer.specs.Classes.{is_whitespace, is_id_start}
+use Rattle.rustc_lexer.specs.Classes.{is_whitespace, is_id_start, is_info, is_inline}
 use Rattle.rustc_lexer.specs.LanguageText.{Mode}
-use Rattle.rustc_lexer.specs.means.Comment.{is_no_newline}
 use Rattle.rustc_lexer.specs.means.Edition.{first_token_in}
-use Rattle.rustc_lexer.specs.means.Frontmatter.{closing_end, dashes, ends_line, fence_len, first, first_alone, first_some, frontmatter, full_fence, infostring_len, inner_attribute, inner_doc, is_dash, is_infostring, is_newline, label_len, line_end, lone_dashes, newline, opening_len, opens, past_newline, past_opening, past_place, places, places_from, recoveries, recovery, short_fence, spaces_len, stands_alone, then_len, use_item}
+use Rattle.rustc_lexer.specs.means.Frontmatter.{closing_end, dashes, ends_line, fence_len, first, first_alone, first_some, frontmatter, full_fence, infostring_len, inner_attribute, inner_doc, is_dash, is_newline, label_len, line_end, lone_dashes, newline, opening_len, opens, past_newline, past_opening, past_place, places, places_from, recoveries, recovery, short_fence, spaces_len, stands_alone, then_len, use_item}
 use Rattle.rustc_lexer.specs.means.Least.{one_more}
 use Rattle.rustc_lexer.specs.laws.Choice.{by_either}
 use Rattle.rustc_lexer.specs.laws.Least.{place-here, place-on}
@@ -31,11 +30,11 @@ pub past-then : (f g : List ℕ → ℕ) (text mid left : List ℕ) → IsUtf8 t
 past-then f g text mid left is e h = grind (arith, common_steps, chars-past, past-past)
 
 module _ (rest : List ℕ) (is : IsUtf8 rest) where
-  pub infostring-yes : (tail left : List ℕ) → next_is is_id_start (chars rest) ≡ true → tail ≡ past 1 rest → left ≡ past (run_len is_infostring (chars tail)) tail → left ≡ past (infostring_len (chars rest)) rest
+  pub infostring-yes : (tail left : List ℕ) → next_is is_id_start (chars rest) ≡ true → tail ≡ past 1 rest → left ≡ past (run_len is_info (chars tail)) tail → left ≡ past (infostring_len (chars rest)) rest
   infostring-yes tail left e at f = grind (arith, common_steps, chars-past, past-past)
 
   pub infostring-no : next_is is_id_start (chars rest) ≡ false → rest ≡ past (infostring_len (chars rest)) rest
-  infostring-no e = sym (past-zero rest is) ∙ ap (λ (b : Bool). past (if b then 1 + run_len is_infostring (drop 1 (chars rest)) else 0) rest) (sym e)
+  infostring-no e = sym (past-zero rest is) ∙ ap (λ (b : Bool). past (if b then 1 + run_len is_info (drop 1 (chars rest)) else 0) rest) (sym e)
 
 -- dashes are one byte each
 dash_bytes : (n : ℕ) (s : List ℕ) → n ≤ run_len is_dash s → bytes_of n s ≡ n
@@ -166,11 +165,11 @@ record IsLineEnd (rest : List ℕ) (place : ℕ) : Type 0 where
   inside : place ≤ length rest
   here : place < length rest → get_or rest place 0 ≡ 10
 
-run-ends : (s : List ℕ) → run_len is_no_newline s < length s → get_or s (run_len is_no_newline s) 0 ≡ 10
+run-ends : (s : List ℕ) → run_len is_inline s < length s → get_or s (run_len is_inline s) 0 ≡ 10
 run-ends [] l = absurd (omega arith)
 run-ends (c ∷ s) l = by_either (is_newline c)
     (λ e. rw e (eqb-true c 10 e))
-    (λ e. rw e (run-ends s (let more : suc (run_len is_no_newline s) < suc (length s) = rw e at l in omega arith)))
+    (λ e. rw e (run-ends s (let more : suc (run_len is_inline s) < suc (length s) = rw e at l in omega arith)))
 
 line_end-ends : (place : ℕ) (rest : List ℕ) → place ≤ length rest → IsLineEnd rest (line_end place rest)
 line_end-ends place rest le = grind (arith, common_steps, run_len_le, length-drop, get_or-drop, run-ends)

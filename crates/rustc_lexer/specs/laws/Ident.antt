@@ -3,17 +3,17 @@ use Rattle.std.proofs.Common.{◌≡◌, ℕ, ◌≤◌, Bool, true, if◌then�
 use Rattle.std.specs.List.{list_all}
 use Rattle.std.proofs.lemmas.Grind.{common_steps}
 use Rattle.rustc_lexer.specs.{TokenKind, Ident, InvalidIdent, UnknownPrefix}
-use Rattle.rustc_lexer.specs.Classes.{is_id_continue}
-use Rattle.rustc_lexer.specs.means.Ident.{is_word, is_prefix_mark, ident_kind, ident_or_unknown_prefix, invalid_ident, marks_ident, marked}
+use Rattle.rustc_lexer.specs.Classes.{is_id_continue, ends_prefix, is_word_continue}
+use Rattle.rustc_lexer.specs.means.Ident.{ident_kind, ident_or_unknown_prefix, invalid_ident, marks_ident, marked}
 use Rattle.rustc_lexer.specs.laws.Reach.{IsToldBy, next_is-told, wider, after_at, either_at, run_as_local, run_local}
 use Rattle.rustc_lexer.specs.means.Scan.{IsLocalAt, IsLocal, after, run}
 
 -- an identifier looks at the character after it
 pub ident_or_unknown_prefix_local : IsLocal TokenKind 1 ident_or_unknown_prefix
-ident_or_unknown_prefix_local = run_as_local ident_kind is_word (λ front s. ap (λ (b : Bool). if list_all is_id_continue front then (if b then UnknownPrefix else Ident) else InvalidIdent) (next_is-told is_prefix_mark s))
+ident_or_unknown_prefix_local = run_as_local ident_kind is_word_continue (λ front s. ap (λ (b : Bool). if list_all is_id_continue front then (if b then UnknownPrefix else Ident) else InvalidIdent) (next_is-told ends_prefix s))
 
 pub invalid_ident_local : IsLocal TokenKind 1 invalid_ident
-invalid_ident_local = run_local InvalidIdent is_word
+invalid_ident_local = run_local InvalidIdent is_word_continue
 
 -- a marked identifier is told by the hash and the character after it
 pub marks_ident-told : IsToldBy 2 marks_ident

@@ -11,7 +11,6 @@ use Rattle.std.specs.Str.{encode_utf8_all}
 use Rattle.rustc_lexer.specs.Classes.{is_horizontal_whitespace, is_inline, bytes, Chars, AreAll, NextIsNot}
 use Rattle.rustc_lexer.specs.FrontmatterGrammar as the
 use Rattle.rustc_lexer.specs.FrontmatterGrammar.{fence, IsFirstPlaceOf, IsNowhere, IsAt, IsEdge, IsLone, endings, IsBodyBefore}
-use Rattle.rustc_lexer.specs.means.Comment.{is_no_newline}
 use Rattle.rustc_lexer.specs.means.Frontmatter.{newline, dashes, first, line_end, past_newline, past_place, places, first_alone, first_some, recoveries, closing_end}
 use Rattle.rustc_lexer.specs.laws.Choice.{by_either, by_found}
 use Rattle.rustc_lexer.specs.laws.Fences.{begins-whole}
@@ -367,28 +366,28 @@ lone-finds = finds IsLone IsLoneAt alone record { from_bytes = lone-from_bytes; 
 
 -- ---- lines
 
-newline-stops : (s : List ℕ) → NextIsNot is_inline s → NextIsNot is_no_newline (encode_utf8_all s)
+newline-stops : (s : List ℕ) → NextIsNot is_inline s → NextIsNot is_inline (encode_utf8_all s)
 newline-stops [] stop = refl
 newline-stops (c ∷ s) stop =
     let is : c ≡ 10 = by_either (c == 10) (λ e. eqb-true c 10 e) (λ e. let clash : true ≡ false = rw e at stop in absurd (true≢false clash)) in
-    subst (λ (x : ℕ). NextIsNot is_no_newline (encode_utf8_all (x ∷ s))) (sym is) (ap (λ (xs : List ℕ). next_is is_no_newline (xs ++ encode_utf8_all s)) (encode_ascii 10 (omega arith)))
+    subst (λ (x : ℕ). NextIsNot is_inline (encode_utf8_all (x ∷ s))) (sym is) (ap (λ (xs : List ℕ). next_is is_inline (xs ++ encode_utf8_all s)) (encode_ascii 10 (omega arith)))
 
-line-read : (line next : List ℕ) → AreAll is_inline line → NextIsNot is_inline next → run_len is_no_newline (encode_utf8_all (line ++ next)) ≡ bytes line
-line-read line next all stop = ap (run_len is_no_newline) (encodes-append line next) ∙ run_len-here is_no_newline (encode_utf8_all line) (encode_utf8_all next) (inline-bytes line all) (newline-stops next stop)
+line-read : (line next : List ℕ) → AreAll is_inline line → NextIsNot is_inline next → run_len is_inline (encode_utf8_all (line ++ next)) ≡ bytes line
+line-read line next all stop = ap (run_len is_inline) (encodes-append line next) ∙ run_len-here is_inline (encode_utf8_all line) (encode_utf8_all next) (inline-bytes line all) (newline-stops next stop)
   where
-    one : (c : ℕ) → is_inline c ≡ true → AreAll is_no_newline (encode_utf8 c)
+    one : (c : ℕ) → is_inline c ≡ true → AreAll is_inline (encode_utf8 c)
     one c e = elim (cases_lt c 128) [
-      | inl lt ↦ ap (list_all is_no_newline) (encode_ascii c lt) ∙ rw e refl
-      | inr ge ↦ points-all is_no_newline (encode_utf8 c) (λ n lt.
+      | inl lt ↦ ap (list_all is_inline) (encode_ascii c lt) ∙ rw e refl
+      | inr ge ↦ points-all is_inline (encode_utf8 c) (λ n lt.
           let far : 128 ≤ get_or (encode_utf8 c) n 0 = subst (λ (xs : List ℕ). 128 ≤ get_or xs n 0) (append-nil (encode_utf8 c)) (high c [] n ge lt) in
           rw (ne_eqb (get_or (encode_utf8 c) n 0) 10 (omega arith)) refl)
     ]
 
-    inline-bytes : (w : List ℕ) → AreAll is_inline w → AreAll is_no_newline (encode_utf8_all w)
+    inline-bytes : (w : List ℕ) → AreAll is_inline w → AreAll is_inline (encode_utf8_all w)
     inline-bytes [] all = refl
     inline-bytes (c ∷ w) all =
         let parts = and_parts (is_inline c) (list_all is_inline w) all in
-        list_all-append is_no_newline (encode_utf8 c) (encode_utf8_all w) ∙ rw (one c parts.0, inline-bytes w parts.1) refl
+        list_all-append is_inline (encode_utf8 c) (encode_utf8_all w) ∙ rw (one c parts.0, inline-bytes w parts.1) refl
 
 -- a text up to the end of its first line
 record Lined (s : List ℕ) : Type 0 where
@@ -435,7 +434,7 @@ endings-patterns n = rw (fence-ascii n) refl
 
 -- where the line of a place ends
 at-line : (u line next : List ℕ) → AreAll is_inline line → NextIsNot is_inline next → line_end (bytes u) (encode_utf8_all (u ++ (line ++ next))) ≡ bytes (u ++ line)
-at-line u line next all stop = ap (λ n. bytes u + n) (ap (run_len is_no_newline) (past-front u (line ++ next)) ∙ line-read line next all stop) ∙ sym (bytes-append u line)
+at-line u line next all stop = ap (λ n. bytes u + n) (ap (run_len is_inline) (past-front u (line ++ next)) ∙ line-read line next all stop) ∙ sym (bytes-append u line)
 
 past-line : (u line next : List ℕ) → AreAll is_inline line → NextIsNot is_inline next → line_end (suc (bytes u)) (encode_utf8_all (u ++ (10 ∷ line ++ next))) ≡ bytes (u ++ (10 ∷ line))
 past-line u line next all stop =

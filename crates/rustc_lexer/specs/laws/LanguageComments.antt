@@ -8,7 +8,7 @@ use Rattle.rustc_lexer.specs.{DocStyle, TokenKind, Outer, Inner, LineComment, Bl
 use Rattle.rustc_lexer.specs.means.BlockComment.{at_closing, at_opening, block_doc_style, block_comment_to, block_comment, comment_end}
 use Rattle.rustc_lexer.specs.means.BlockGrammar.{Closes as ClosesIn, at_mark, nested as nested_in, past_one}
 use Rattle.rustc_lexer.specs.Classes.{is_among, is_whitespace, NextIn, NextNotIn, AreAll, NextIsNot, is_inline}
-use Rattle.rustc_lexer.specs.means.Comment.{line_doc_style, is_no_newline, line_comment, slash}
+use Rattle.rustc_lexer.specs.means.Comment.{line_doc_style, line_comment, slash}
 use Rattle.rustc_lexer.specs.means.Hash.{is_guarded_mark, hash}
 use Rattle.rustc_lexer.specs.laws.BlockComment.{two_at_least, closes-inside, at_closing_told, at_opening_told, style_told}
 use Rattle.rustc_lexer.specs.laws.BlockGrammar.{comment_end-found, comment_end-allowed}
@@ -91,12 +91,12 @@ line-style-is (neither {w} stop) = by_first w stop
 
 line-sound : (s : List ℕ) → IsTokenBefore (drop (line_comment s).1 s) (line_comment s).0 (47 ∷ 47 ∷ take (line_comment s).1 s)
 line-sound s =
-    let n : ℕ = run_len is_no_newline s in
-    the.line_comment (run_all is_no_newline s) (run-stops is_no_newline s) (subst (λ (style : Option DocStyle). IsLineStyle style (take n s)) (line_doc_style-own s) (line-styled (take n s)))
+    let n : ℕ = run_len is_inline s in
+    the.line_comment (run_all is_inline s) (run-stops is_inline s) (subst (λ (style : Option DocStyle). IsLineStyle style (take n s)) (line_doc_style-own s) (line-styled (take n s)))
 
 pub line-read : (style : Option DocStyle) (w next : List ℕ) → AreAll is_inline w → NextIsNot is_inline next → IsLineStyle style w → Read (LineComment style) (suc (suc (length w))) (47 ∷ 47 ∷ w ++ next)
 line-read style w next all stop is =
-    let len : run_len is_no_newline (w ++ next) ≡ length w = run_len-here is_no_newline w next all stop in
+    let len : run_len is_inline (w ++ next) ≡ length w = run_len-here is_inline w next all stop in
     let own : line_doc_style w ≡ line_doc_style (w ++ next) = ap line_doc_style (sym (ap (λ (n : ℕ). take n (w ++ next)) len ∙ take-append_seam w next)) ∙ line_doc_style-own (w ++ next) in
     read-first 47 slash (47 ∷ w ++ next) (LineComment style) (1 + length w) _ chooses-slash
     (pair _ _ _ _ (ap LineComment (sym own ∙ line-style-is is)) (ap (λ (n : ℕ). 1 + n) len)) (omega arith)

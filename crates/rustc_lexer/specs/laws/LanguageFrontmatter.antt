@@ -3,13 +3,13 @@ use Rattle.std.proofs.Common.{◌≡◌, ℕ, zero, suc, ◌+◌, ◌≤◌, ◌
 use Rattle.std.proofs.Math.Seq.{take-append_seam, drop-append_seam}
 use Rattle.std.proofs.lemmas.Bool.{and_parts, eqb-true, or_parts, not-true, false_from_ne_true}
 use Rattle.unicode_ident.proofs.Computing.{unicode_ident}
-use Rattle.rustc_lexer.specs.Classes.{is_among, is_whitespace, is_horizontal_whitespace, is_id_start, AreAll, NextIsNot}
-use Rattle.rustc_lexer.specs.means.Frontmatter.{is_dash, dashes, then_len, spaces_len, fence_len, blanks_len, is_infostring, infostring_len, label_len, opening_len, ends_line, opens}
+use Rattle.rustc_lexer.specs.Classes.{is_among, is_whitespace, is_horizontal_whitespace, is_id_start, AreAll, NextIsNot, is_info}
+use Rattle.rustc_lexer.specs.means.Frontmatter.{is_dash, dashes, then_len, spaces_len, fence_len, blanks_len, infostring_len, label_len, opening_len, ends_line, opens}
 use Rattle.rustc_lexer.specs.laws.LanguageRuns.{run_len-here, run-stops, either-way, none-among}
 use Rattle.rustc_lexer.specs.laws.Reach.{run_all, run_len-out}
 use Rattle.rustc_lexer.specs.laws.Fences.{begins-dashes}
 use Rattle.rustc_lexer.specs.FrontmatterGrammar as the
-use Rattle.rustc_lexer.specs.FrontmatterGrammar.{is_info, fence, IsLabelBefore, IsOpeningBefore, OpensNone}
+use Rattle.rustc_lexer.specs.FrontmatterGrammar.{fence, IsLabelBefore, IsOpeningBefore, OpensNone}
 use Rattle.rustc_lexer.specs.means.Scan.{begins, next_is, run_len}
 
 -- ---- classes
@@ -99,7 +99,7 @@ label-read {next} (the.named u c v w blanks start info info_stops more stop) =
     let text : (u ++ (c ∷ v ++ w)) ++ next ≡ (u ++ (c ∷ v)) ++ (w ++ next) = append_assoc u (c ∷ v ++ w) next ∙ (ap (λ (xs : List ℕ). u ++ (c ∷ xs)) (append_assoc v w next) ∙ sym (append_assoc u (c ∷ v) (w ++ next))) in
     let text_first : (u ++ (c ∷ v ++ w)) ++ next ≡ u ++ (c ∷ v ++ (w ++ next)) = append_assoc u (c ∷ v ++ w) next ∙ ap (λ (xs : List ℕ). u ++ (c ∷ xs)) (append_assoc v w next) in
     let first : blanks_len ((u ++ (c ∷ v ++ w)) ++ next) ≡ length u = ap blanks_len text_first ∙ run_len-here is_horizontal_whitespace u (c ∷ v ++ (w ++ next)) blanks (start-no_blank c start) in
-    let named : infostring_len (c ∷ v ++ (w ++ next)) ≡ 1 + length v = rw start (ap (λ (n : ℕ). 1 + n) (run_len-here is_infostring v (w ++ next) info info_stops)) in
+    let named : infostring_len (c ∷ v ++ (w ++ next)) ≡ 1 + length v = rw start (ap (λ (n : ℕ). 1 + n) (run_len-here is_info v (w ++ next) info info_stops)) in
     let one : then_len blanks_len infostring_len ((u ++ (c ∷ v ++ w)) ++ next) ≡ length (u ++ (c ∷ v)) =
     then-read blanks_len infostring_len u (c ∷ v ++ (w ++ next)) ((u ++ (c ∷ v ++ w)) ++ next) text_first first ∙ omega (arith, named, length-append u (c ∷ v)) in
     then-read (then_len blanks_len infostring_len) blanks_len (u ++ (c ∷ v)) (w ++ next) ((u ++ (c ∷ v ++ w)) ++ next) text one

@@ -7,11 +7,11 @@ use Rattle.std.specs.List.{list_all}
 use Rattle.std.specs.Str.{chars}
 use Rattle.std.proofs.lemmas.Grind.{common_steps}
 use Rattle.rustc_lexer.specs.{Edition, Token, TokenKind, E2024, Ident, UnknownPrefix, UnknownPrefixLifetime, RawLifetime, Lifetime, GuardedStrPrefix, Pound}
-use Rattle.rustc_lexer.specs.Classes.{is_among, is_id_start, is_id_continue, is_ident, is_word_continue, is_word_start, begins_ident_after, AreAll, NextIs, bytes, IsText}
+use Rattle.rustc_lexer.specs.Classes.{is_among, is_id_start, is_id_continue, is_ident, is_word_continue, is_word_start, begins_ident_after, AreAll, NextIs, bytes, IsText, is_bad_name}
 use Rattle.rustc_lexer.specs.LanguageText.{year, kept_since, IsTokenIn, kept, pound, ident, lifetime, lifetime_r}
 use Rattle.rustc_lexer.specs.means.Edition.{token, has_marked_name, before_2024, before_2021, changed, first_token_in}
 use Rattle.rustc_lexer.specs.Language as the
-use Rattle.rustc_lexer.specs.Language.{is_bad_name, IsTokenBefore}
+use Rattle.rustc_lexer.specs.Language.{IsTokenBefore}
 use Rattle.rustc_lexer.specs.means.Lexeme.{past_first, lexeme, first_token, symbols, symbol_kind}
 use Rattle.rustc_lexer.specs.means.Scan.{bytes_of, next_is, run_len}
 use Rattle.rustc_lexer.specs.laws.Choice.{by_either, by_symbol}

@@ -9,7 +9,7 @@ use Rattle.std.proofs.Math.Bool.{or-true}
 use Rattle.std.proofs.lemmas.Grind.{common_steps}
 use Rattle.unicode_ident.proofs.Computing.{unicode_ident}
 use Rattle.rustc_lexer.specs.{TokenKind, Char, Literal, Lifetime, RawLifetime, UnknownPrefixLifetime}
-use Rattle.rustc_lexer.specs.Classes.{is_among, is_id_continue, is_ident, NextIn, is_word_continue, is_word_start, is_name_start, begins_ident_after, AreAll, NextIs, NextIsNot, bytes}
+use Rattle.rustc_lexer.specs.Classes.{is_among, is_id_continue, is_ident, NextIn, is_word_continue, is_word_start, is_name_start, begins_ident_after, AreAll, NextIs, NextIsNot, bytes, ends_prefix, is_bad_name}
 use Rattle.rustc_lexer.specs.Tables.{is_emoji, emoji_ranges}
 use Rattle.rustc_lexer.specs.means.Ident.{marks_ident}
 use Rattle.rustc_lexer.specs.laws.Choice.{by_either, by_test}
@@ -21,9 +21,9 @@ use Rattle.rustc_lexer.specs.laws.Lifetime.{raw, quoted_name, unquoted_name}
 use Rattle.rustc_lexer.specs.laws.Reach.{run_all}
 use Rattle.rustc_lexer.specs.Language as the
 use Rattle.rustc_lexer.specs.LiteralGrammar as lit
-use Rattle.rustc_lexer.specs.Language.{ends_prefix, IsTokenBefore}
+use Rattle.rustc_lexer.specs.Language.{IsTokenBefore}
 use Rattle.rustc_lexer.specs.LiteralGrammar.{ends, plain, escape, IsSingleQuoted, IsLiteralBefore}
-use Rattle.rustc_lexer.specs.means.Lifetime.{is_marked, past_name, plain_lifetime, lifetime, is_character, is_raw, lifetime_or_char}
+use Rattle.rustc_lexer.specs.means.Lifetime.{past_name, plain_lifetime, lifetime, is_character, is_raw, lifetime_or_char}
 use Rattle.rustc_lexer.specs.means.Literal.{Body, literal}
 use Rattle.rustc_lexer.specs.means.Quoted.{single_quoted_string, char_body}
 use Rattle.rustc_lexer.specs.means.Scan.{begins, run_len}
@@ -63,7 +63,7 @@ no_raw-word c w next all other = grind (arith, common_steps, word-begins)
 pub lifetime-read : (c : ℕ) (w next : List ℕ) → is_name_start c ≡ true → AreAll is_word_continue w → NextIsNot is_word_continue next → NextIsNot (is_among (codes "'")) next → (NextIs (is_among (codes "#")) next → is_ascii_digit c ≡ true)
     → Read (Lifetime (is_ascii_digit c || is_emoji c || not (list_all is_id_continue w))) (suc (suc (length w))) (39 ∷ c ∷ w ++ next)
 lifetime-read c w next start all stop quote hash =
-    plain-read c w next (Lifetime (is_marked c w)) 0 start (word-begins 39 w next refl all (begins-none 39 next quote)) (no_raw-word c w next all (λ e. other_than is_ascii_digit 114 c refl (hash (sym (begins-next 35 next) ∙ e)))) all stop
+    plain-read c w next (Lifetime (is_bad_name (c ∷ w))) 0 start (word-begins 39 w next refl all (begins-none 39 next quote)) (no_raw-word c w next all (λ e. other_than is_ascii_digit 114 c refl (hash (sym (begins-next 35 next) ∙ e)))) all stop
     (rw (begins-none 39 next quote) (by_either (begins (codes "#") next)
     (λ e. let digit : is_ascii_digit c ≡ true = hash (sym (begins-next 35 next) ∙ e) in rw (e, digit) refl)
     (λ e. rw e refl)))
@@ -141,7 +141,7 @@ name-sound c s start none no_raw = by_test (λ r. IsLifetime c s (r.0, n + r.1))
     stops : NextIsNot is_word_continue left
     stops = run-stops is_word_continue s
 
-    unquoted : begins (codes "'") left ≡ false → (hash digit : Bool) → begins (codes "#") left ≡ hash → is_ascii_digit c ≡ digit → IsTokenBefore left (if hash && not digit then UnknownPrefixLifetime else Lifetime (is_marked c name)) (39 ∷ c ∷ name)
+    unquoted : begins (codes "'") left ≡ false → (hash digit : Bool) → begins (codes "#") left ≡ hash → is_ascii_digit c ≡ digit → IsTokenBefore left (if hash && not digit then UnknownPrefixLifetime else Lifetime (is_bad_name (c ∷ name))) (39 ∷ c ∷ name)
     unquoted e true false f g = the.unknown_prefix_lifetime (no_digit-start c start g) (run_all is_word_continue s) (sym (begins-next 35 left) ∙ f) (raw-same c (name ++ left) ∙ (ap (is_raw c) (take-append-drop n s) ∙ no_raw))
     unquoted e true true f g = the.lifetime start (run_all is_word_continue s) stops (sym (begins-next 39 left) ∙ e) (λ h. g)
     unquoted e false digit f g = the.lifetime start (run_all is_word_continue s) stops (sym (begins-next 39 left) ∙ e) (λ h. absurd (either-way (begins (codes "#") left) (begins-next 35 left ∙ h) f))

@@ -9,13 +9,13 @@ use Rattle.std.specs.List.{list_all, list_any}
 use Rattle.std.specs.Option.{is_some}
 use Rattle.std.proofs.Math.Bool.{and-false}
 use Rattle.std.proofs.lemmas.Grind.{common_steps}
-use Rattle.rustc_lexer.specs.Classes.{is_among, Chars, is_id_start, is_ident, AreAll, NextIs, NextIsNot, is_word_continue, is_name_start, begins_ident_after}
+use Rattle.rustc_lexer.specs.Classes.{is_among, Chars, is_id_start, is_ident, AreAll, NextIs, NextIsNot, is_word_continue, is_name_start, begins_ident_after, ends_prefix}
 use Rattle.unicode_ident.proofs.Computing.{unicode_ident}
 use Rattle.rustc_lexer.specs.{Base, LiteralKind, TokenKind, Decimal, Int, Float, Char, Byte, Str, ByteStr, CStr, RawStr, RawByteStr, RawCStr, LineComment, BlockComment, Whitespace, Ident, InvalidIdent, RawIdent, ForcedKeywordIdent, RawLifetime, Lifetime, Slash, Pound, Eof, Literal, UnknownPrefix, UnknownPrefixLifetime}
 use Rattle.rustc_lexer.specs.Language as the
 use Rattle.rustc_lexer.specs.LiteralGrammar as lit
 use Rattle.rustc_lexer.specs.LiteralGrammar.{IsDoubleQuoted, SingleTo, IsSingleQuoted, IsRaw, IsLiteralBefore, IsSuffixBefore}
-use Rattle.rustc_lexer.specs.Language.{ends_prefix, known_prefixes, begins_prefixed, IsTokenBefore}
+use Rattle.rustc_lexer.specs.Language.{known_prefixes, begins_prefixed, IsTokenBefore}
 use Rattle.rustc_lexer.specs.GrammarLaws.{reach}
 use Rattle.rustc_lexer.specs.means.Lexeme.{past_first, lexeme}
 use Rattle.rustc_lexer.specs.Tables.{is_emoji, emoji_ranges, symbols}

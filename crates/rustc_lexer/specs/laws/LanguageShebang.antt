@@ -11,7 +11,6 @@ use Rattle.std.proofs.Math.Bool.{and-false}
 use Rattle.std.proofs.lemmas.Grind.{common_steps}
 use Rattle.unicode_ident.proofs.Computing.{unicode_ident}
 use Rattle.rustc_lexer.specs.{Token, TokenKind, LineComment, BlockComment, Whitespace, OpenBracket}
-use Rattle.rustc_lexer.specs.means.Comment.{is_no_newline}
 use Rattle.rustc_lexer.specs.Partition.{tokens_by}
 use Rattle.rustc_lexer.specs.Tables.{is_emoji, emoji_ranges}
 use Rattle.rustc_lexer.specs.Language as grammar
@@ -126,11 +125,11 @@ more k = omega arith
 prefix-here : (w next : List ℕ) → AreAll is_inline w → begins (codes "\n") next ≡ true → before_newline (w ++ next) ≡ length w
 prefix-here [] [] all e = absurd (true≢false (sym e))
 prefix-here [] (c ∷ next) all e = rw (and_parts (c == 10) true e).0 refl
-prefix-here (c ∷ w) next all e = let parts = and_parts (is_inline c) (list_all is_inline w) all in rw parts.0 (more (prefix_len is_no_newline (w ++ next)) ∙ ap suc (prefix-here w next parts.1 e))
+prefix-here (c ∷ w) next all e = let parts = and_parts (is_inline c) (list_all is_inline w) all in rw parts.0 (more (prefix_len is_inline (w ++ next)) ∙ ap suc (prefix-here w next parts.1 e))
 
 prefix-all : (w : List ℕ) → AreAll is_inline w → before_newline w ≡ length w
 prefix-all [] all = refl
-prefix-all (c ∷ w) all = let parts = and_parts (is_inline c) (list_all is_inline w) all in rw parts.0 (more (prefix_len is_no_newline w) ∙ ap suc (prefix-all w parts.1))
+prefix-all (c ∷ w) all = let parts = and_parts (is_inline c) (list_all is_inline w) all in rw parts.0 (more (prefix_len is_inline w) ∙ ap suc (prefix-all w parts.1))
 
 abbrev line_to : List ℕ → ℕ → ℕ
 line_to text n = if begins (codes "\r\n") (drop (n - 1) text) then n - 1 else n
@@ -141,8 +140,8 @@ prefix-return [] [] all e = absurd (true≢false (sym e))
 prefix-return [] (c ∷ next) all e =
     let parts = and_parts (c == 13) (begins (codes "\n") next) e in
     let is : c ≡ 13 = eqb-true c 13 parts.0 in
-    ap (λ (x : ℕ). before_newline (x ∷ next)) is ∙ (more (prefix_len is_no_newline next) ∙ ap suc (prefix-here [] next refl parts.1))
-prefix-return (c ∷ w) next all e = let parts = and_parts (is_inline c) (list_all is_inline w) all in rw parts.0 (more (prefix_len is_no_newline (w ++ next)) ∙ ap suc (prefix-return w next parts.1 e))
+    ap (λ (x : ℕ). before_newline (x ∷ next)) is ∙ (more (prefix_len is_inline next) ∙ ap suc (prefix-here [] next refl parts.1))
+prefix-return (c ∷ w) next all e = let parts = and_parts (is_inline c) (list_all is_inline w) all in rw parts.0 (more (prefix_len is_inline (w ++ next)) ∙ ap suc (prefix-return w next parts.1 e))
 
 pub short : (s : List ℕ) → length s ≤ 1 → begins (codes "\r\n") s ≡ false
 short w0 le = grind (arith, common_steps, and-false)

@@ -6,7 +6,7 @@ use Rattle.std.specs.List.{list_all}
 use Rattle.std.proofs.lemmas.Grind.{common_steps}
 use Rattle.unicode_ident.proofs.Computing.{unicode_ident}
 use Rattle.rustc_lexer.specs.{TokenKind, Ident, InvalidIdent, RawIdent, ForcedKeywordIdent, UnknownPrefix}
-use Rattle.rustc_lexer.specs.Classes.{is_id_start, is_id_continue, is_ident, is_word_continue, is_word_start, begins_ident_after, AreAll, NextIs, NextIsNot}
+use Rattle.rustc_lexer.specs.Classes.{is_id_start, is_id_continue, is_ident, is_word_continue, is_word_start, begins_ident_after, AreAll, NextIs, NextIsNot, ends_prefix}
 use Rattle.rustc_lexer.specs.Tables.{is_emoji, emoji_ranges}
 use Rattle.rustc_lexer.specs.means.Ident.{ident_kind, ident_or_unknown_prefix, invalid_ident, marks_ident, marked}
 use Rattle.rustc_lexer.specs.laws.Choice.{by_either}
@@ -14,7 +14,7 @@ use Rattle.rustc_lexer.specs.laws.Family.{by_letter}
 use Rattle.rustc_lexer.specs.laws.LanguageRuns.{run_len-here, run-stops, either-way, Sound, Read, read-first, begins-next, chooses-word, chooses-emoji, word-no_mark, mark-stops, start-word_start}
 use Rattle.rustc_lexer.specs.laws.Reach.{run_all}
 use Rattle.rustc_lexer.specs.Language as the
-use Rattle.rustc_lexer.specs.Language.{IsTokenBefore, ends_prefix, begins_prefixed}
+use Rattle.rustc_lexer.specs.Language.{IsTokenBefore, begins_prefixed}
 use Rattle.rustc_lexer.specs.means.Lexeme.{letter_r, letter_k, letter_b, letter_c, raw_or_ident, word, is_raw_mark, begins_raw}
 use Rattle.rustc_lexer.specs.means.Scan.{after, begins, next_is, run, run_len}
 

@@ -5,10 +5,10 @@ use Rattle.std.specs.Char.{is_ascii_digit}
 use Rattle.std.specs.Str.{byte, encode_utf8_all}
 use Rattle.std.proofs.lemmas.Grind.{common_steps}
 use Rattle.rustc_lexer.specs.{TokenKind, Char, Literal, Lifetime, RawLifetime, UnknownPrefixLifetime}
-use Rattle.rustc_lexer.specs.Classes.{is_id_continue}
-use Rattle.rustc_lexer.specs.means.Ident.{is_word, marks_ident}
+use Rattle.rustc_lexer.specs.Classes.{is_id_continue, is_word_continue, is_bad_name}
+use Rattle.rustc_lexer.specs.means.Ident.{marks_ident}
 use Rattle.rustc_lexer.specs.laws.Ident.{marks_ident-told, past_mark_at}
-use Rattle.rustc_lexer.specs.means.Lifetime.{is_name_start, is_marked, past_name, plain_lifetime, lifetime, is_character_at, is_raw, lifetime_or_char}
+use Rattle.rustc_lexer.specs.means.Lifetime.{is_name_start, past_name, plain_lifetime, lifetime, is_character_at, is_raw, lifetime_or_char}
 use Rattle.rustc_lexer.specs.means.Literal.{literal}
 use Rattle.rustc_lexer.specs.means.Quoted.{char_body}
 use Rattle.rustc_lexer.specs.laws.Quoted.{char_local}
@@ -17,7 +17,7 @@ use Rattle.rustc_lexer.specs.means.Scan.{IsLocalAt, IsLocal, after, begins, give
 
 -- what a name is that no quote follows, and one that a quote follows
 abbrev pub unquoted_name : ℕ → List ℕ → List ℕ → TokenKind × ℕ
-unquoted_name c name s = gives (if begins (codes "#") s && not (is_ascii_digit c) then UnknownPrefixLifetime else Lifetime (is_marked c name)) s
+unquoted_name c name s = gives (if begins (codes "#") s && not (is_ascii_digit c) then UnknownPrefixLifetime else Lifetime (is_bad_name (c ∷ name))) s
 
 abbrev pub quoted_name : ℕ → List ℕ → List ℕ → TokenKind × ℕ
 quoted_name c name s = (Literal (Char true) (2 + length (encode_utf8_all (c ∷ name))), 1)
@@ -33,10 +33,10 @@ past_name_local c name s =
     either_at 1 1 (begins (codes "'")) (quoted_name c name) (unquoted_name c name) (begins-told (codes "'")) s (omega arith) (λ t. wider 0 1 (omega arith) (quoted_name_at c name s t)) (λ t. unquoted_name_local c name s)
 
 abbrev pub name_of : List ℕ → List ℕ × ℕ
-name_of s = run_as (λ name rest. name) is_word s
+name_of s = run_as (λ name rest. name) is_word_continue s
 
 pub name_local : IsLocal (List ℕ) 1 name_of
-name_local = run_as_local (λ name rest. name) is_word (λ front s. refl)
+name_local = run_as_local (λ name rest. name) is_word_continue (λ front s. refl)
 
 pub plain_lifetime_local : (c : ℕ) → IsLocal TokenKind 1 (plain_lifetime c)
 plain_lifetime_local c = and_then_local 1 name_of (past_name c) name_local (past_name_local c)

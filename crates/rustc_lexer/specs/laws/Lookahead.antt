@@ -8,8 +8,8 @@ use Rattle.rustc_lexer.specs.{LiteralKind, TokenKind, Byte, ByteStr, CStr, LineC
 use Rattle.rustc_lexer.specs.means.BlockComment.{block_comment}
 use Rattle.rustc_lexer.specs.laws.BlockComment.{block_comment_local}
 use Rattle.rustc_lexer.specs.laws.Family.{by_letter, EachFamily, each_family}
-use Rattle.rustc_lexer.specs.Classes.{is_whitespace}
-use Rattle.rustc_lexer.specs.means.Comment.{line_comment, line_doc_style, is_no_newline, slash}
+use Rattle.rustc_lexer.specs.Classes.{is_whitespace, is_inline}
+use Rattle.rustc_lexer.specs.means.Comment.{line_comment, line_doc_style, slash}
 use Rattle.rustc_lexer.specs.means.Ident.{ident_or_unknown_prefix}
 use Rattle.rustc_lexer.specs.laws.Ident.{ident_or_unknown_prefix_local, invalid_ident_local, marked_local}
 use Rattle.rustc_lexer.specs.means.Lexeme.{letter_b, word, symbol_kind, past_first, lexeme, first_token, raw_or_ident, begins_raw, raw_past_or_ident, is_raw_mark}
@@ -28,12 +28,12 @@ use Rattle.rustc_lexer.specs.laws.TokenBy.{token_by_local}
 use Rattle.rustc_lexer.specs.laws.Hash.{hash_local}
 
 -- the style of a comment is told by the comment
-pub line_doc_style-own : (s : List ℕ) → line_doc_style (take (run_len is_no_newline s) s) ≡ line_doc_style s
+pub line_doc_style-own : (s : List ℕ) → line_doc_style (take (run_len is_inline s) s) ≡ line_doc_style s
 line_doc_style-own w0 = grind (arith, common_steps, eqb-true)
 
 pub line_comment_local : IsLocal TokenKind 1 line_comment
-line_comment_local s = same_at 1 line_comment (run_as (λ front rest. LineComment (line_doc_style front)) is_no_newline) s (λ s. ap (λ d. (LineComment d, run_len is_no_newline s)) (sym (line_doc_style-own s)))
-    (run_as_local (λ front rest. LineComment (line_doc_style front)) is_no_newline (λ front s. refl) s)
+line_comment_local s = same_at 1 line_comment (run_as (λ front rest. LineComment (line_doc_style front)) is_inline) s (λ s. ap (λ d. (LineComment d, run_len is_inline s)) (sym (line_doc_style-own s)))
+    (run_as_local (λ front rest. LineComment (line_doc_style front)) is_inline (λ front s. refl) s)
 
 pub slash_local : IsLocal TokenKind 1 slash
 slash_local =

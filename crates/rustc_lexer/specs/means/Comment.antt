@@ -1,6 +1,7 @@
 -- Means, by how it is read: comments.
-use Rattle.std.specs.Prelude.{ℕ, ◌==◌, ◌&&◌, not, Bool, if◌then◌else◌, List, codes, Option, Some, None}
+use Rattle.std.specs.Prelude.{ℕ, ◌&&◌, not, Bool, if◌then◌else◌, List, codes, Option, Some, None}
 use Rattle.rustc_lexer.specs.{DocStyle, TokenKind, Outer, Inner, LineComment, Slash}
+use Rattle.rustc_lexer.specs.Classes.{is_inline}
 use Rattle.rustc_lexer.specs.means.BlockComment.{block_comment}
 use Rattle.rustc_lexer.specs.means.Scan.{after, begins, gives, run_len}
 
@@ -9,12 +10,9 @@ use Rattle.rustc_lexer.specs.means.Scan.{after, begins, gives, run_len}
 abbrev pub line_doc_style : List ℕ → Option DocStyle
 line_doc_style s = if begins (codes "!") s then Some Inner else (if begins (codes "/") s && not (begins (codes "//") s) then Some Outer else None)
 
-abbrev pub is_no_newline : ℕ → Bool
-is_no_newline c = not (c == 10)
-
 -- what follows `//`, up to the newline or the end
 abbrev pub line_comment : List ℕ → TokenKind × ℕ
-line_comment s = (LineComment (line_doc_style s), run_len is_no_newline s)
+line_comment s = (LineComment (line_doc_style s), run_len is_inline s)
 
 -- what follows `/`
 abbrev pub slash : List ℕ → TokenKind × ℕ

@@ -6,7 +6,7 @@ use Rattle.rustc_lexer.specs.declared.relex.relexing.{Change.Change, Relexed.Rel
 use Rattle.rustc_lexer.specs.{Token, Whitespace}
 use Rattle.rustc_lexer.specs.Classes.{IsText}
 use Rattle.rustc_lexer.specs.Document.{shebang_len}
-pub use Rattle.rustc_lexer.specs.Head.{body_change, counted, front_change, front_tokens, moved, tokens_of_head, unlike_past}
+pub use Rattle.rustc_lexer.specs.Head.{body_change, counted, front_tokens, tokens_of_head}
 use Rattle.rustc_lexer.specs.Edits.{apply, IsRelexed}
 use Rattle.rustc_lexer.specs.Partition.{tokens_by}
 use Rattle.rustc_lexer.specs.means.Checkpoints.{AreBounds}

@@ -3,9 +3,8 @@ use Rattle.std.specs.Prelude.{ℕ, nat_le, if◌then◌else◌, Bool, false, Lis
 use Rattle.std.specs.Str.{chars}
 use Rattle.rustc_lexer.specs.{Edition, Token, TokenKind, Ident, UnknownPrefix, UnknownPrefixLifetime, RawLifetime, Lifetime, GuardedStrPrefix, Pound}
 use Rattle.rustc_lexer.specs.LanguageText.{year}
-use Rattle.rustc_lexer.specs.means.Ident.{is_word}
+use Rattle.rustc_lexer.specs.Classes.{is_word_continue, is_bad_name}
 use Rattle.rustc_lexer.specs.means.Lexeme.{first_token}
-use Rattle.rustc_lexer.specs.means.Lifetime.{is_marked}
 use Rattle.rustc_lexer.specs.means.Scan.{run_len}
 
 abbrev pub token : TokenKind → ℕ → Token
@@ -15,7 +14,7 @@ token kind len = record { kind = kind; len = len }
 abbrev pub has_marked_name : List ℕ → Bool
 has_marked_name [] = false
 has_marked_name (quote ∷ []) = false
-has_marked_name (quote ∷ c ∷ s) = is_marked c (take (run_len is_word s) s)
+has_marked_name (quote ∷ c ∷ s) = is_bad_name (c ∷ (take (run_len is_word_continue s) s))
 
 -- a token as an edition before 2024 has it, where no guarded string is reserved: a hash is a symbol, whatever follows it
 abbrev pub before_2024 : TokenKind → ℕ → Token

@@ -3,8 +3,7 @@ use Rattle.std.specs.Prelude.{ℕ, zero, suc, ◌+◌, ◌-◌, ◌==◌, ◌&&�
 use Rattle.std.specs.List.{list_all}
 use Rattle.std.specs.Str.{byte, chars}
 use Rattle.rustc_lexer.specs.{Token, Frontmatter}
-use Rattle.rustc_lexer.specs.Classes.{is_among, is_whitespace, is_horizontal_whitespace, is_id_start, is_id_continue}
-use Rattle.rustc_lexer.specs.means.Comment.{is_no_newline}
+use Rattle.rustc_lexer.specs.Classes.{is_whitespace, is_horizontal_whitespace, is_info, is_id_start, is_inline}
 use Rattle.rustc_lexer.specs.means.Raw.{least_place}
 use Rattle.rustc_lexer.specs.means.Scan.{begins, bytes_of, next_is, past, run_len}
 
@@ -39,13 +38,9 @@ fence_len s = run_len is_dash (drop (spaces_len s) s)
 abbrev pub blanks_len : List ℕ → ℕ
 blanks_len s = run_len is_horizontal_whitespace s
 
--- what an infostring goes on with
-abbrev pub is_infostring : ℕ → Bool
-is_infostring c = is_id_continue c || is_among (codes "-.") c
-
 -- an infostring, if one stands here; it begins as an identifier does
 abbrev pub infostring_len : List ℕ → ℕ
-infostring_len s = if next_is is_id_start s then 1 + run_len is_infostring (drop 1 s) else 0
+infostring_len s = if next_is is_id_start s then 1 + run_len is_info (drop 1 s) else 0
 
 -- what follows the dashes on their line
 abbrev pub label_len : List ℕ → ℕ
@@ -78,7 +73,7 @@ or_here None here place = if here then Some place else None
 
 -- the first newline at or past a place, or the end
 abbrev pub line_end : ℕ → List ℕ → ℕ
-line_end place rest = place + run_len is_no_newline (drop place rest)
+line_end place rest = place + run_len is_inline (drop place rest)
 
 -- up to the end of the line that a newline begins, and of the line that a place is in
 abbrev pub past_newline : List ℕ → Option ℕ → Option ℕ

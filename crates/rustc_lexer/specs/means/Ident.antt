@@ -1,30 +1,21 @@
 -- Means, by how it is read: identifiers, with what may stand before and after them.
-use Rattle.std.specs.Prelude.{ℕ, ◌||◌, ◌&&◌, Bool, if◌then◌else◌, List, drop, codes}
+use Rattle.std.specs.Prelude.{ℕ, ◌&&◌, Bool, if◌then◌else◌, List, drop, codes}
 use Rattle.std.specs.List.{list_all}
 use Rattle.rustc_lexer.specs.{TokenKind, Ident, InvalidIdent, UnknownPrefix}
-use Rattle.rustc_lexer.specs.Classes.{is_among, is_id_start, is_id_continue}
-use Rattle.rustc_lexer.specs.Tables.{is_emoji}
+use Rattle.rustc_lexer.specs.Classes.{ends_prefix, is_id_start, is_id_continue, is_word_continue}
 use Rattle.rustc_lexer.specs.means.Scan.{after, begins, next_is, run, run_as}
-
--- what an identifier or the name of a lifetime goes on with, right or wrong
-abbrev pub is_word : ℕ → Bool
-is_word c = is_id_continue c || is_emoji c
-
--- before one of these an identifier is a prefix
-abbrev pub is_prefix_mark : ℕ → Bool
-is_prefix_mark c = is_among (codes "#\"'") c
 
 -- of the rest of a word, and what follows it: an emoji makes it invalid
 abbrev pub ident_kind : List ℕ → List ℕ → TokenKind
-ident_kind word rest = if list_all is_id_continue word then (if next_is is_prefix_mark rest then UnknownPrefix else Ident) else InvalidIdent
+ident_kind word rest = if list_all is_id_continue word then (if next_is ends_prefix rest then UnknownPrefix else Ident) else InvalidIdent
 
 -- what follows the first character of an identifier
 abbrev pub ident_or_unknown_prefix : List ℕ → TokenKind × ℕ
-ident_or_unknown_prefix s = run_as ident_kind is_word s
+ident_or_unknown_prefix s = run_as ident_kind is_word_continue s
 
 -- what follows an emoji that no identifier may begin with
 abbrev pub invalid_ident : List ℕ → TokenKind × ℕ
-invalid_ident s = run InvalidIdent is_word s
+invalid_ident s = run InvalidIdent is_word_continue s
 
 -- a hash and an identifier
 abbrev pub marks_ident : List ℕ → Bool

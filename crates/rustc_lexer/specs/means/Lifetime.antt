@@ -1,31 +1,25 @@
 -- Means, by how it is read: what follows a single quote: a character, or a lifetime.
 use Rattle.std.specs.Prelude.{ℕ, suc, ◌+◌, ◌==◌, ◌&&◌, ◌||◌, not, Bool, true, if◌then◌else◌, List, [], ◌∷◌, length, codes}
 use Rattle.std.specs.Char.{is_ascii_digit}
-use Rattle.std.specs.List.{list_all}
 use Rattle.std.specs.Str.{byte, encode_utf8_all}
 use Rattle.rustc_lexer.specs.{TokenKind, Char, Literal, Lifetime, RawLifetime, UnknownPrefixLifetime}
-use Rattle.rustc_lexer.specs.Classes.{is_id_continue}
+use Rattle.rustc_lexer.specs.Classes.{is_id_continue, is_word_continue, is_bad_name}
 pub use Rattle.rustc_lexer.specs.Classes.{is_name_start}
-use Rattle.rustc_lexer.specs.Tables.{is_emoji}
-use Rattle.rustc_lexer.specs.means.Ident.{is_word, marks_ident}
+use Rattle.rustc_lexer.specs.means.Ident.{marks_ident}
 use Rattle.rustc_lexer.specs.means.Literal.{literal}
 use Rattle.rustc_lexer.specs.means.Quoted.{char_body}
 use Rattle.rustc_lexer.specs.means.Scan.{after, and_then, begins, gives, run, run_as}
-
--- a name that begins with `c` and goes on with `name`, and that no lifetime of Rust has
-abbrev pub is_marked : ℕ → List ℕ → Bool
-is_marked c name = is_ascii_digit c || is_emoji c || not (list_all is_id_continue name)
 
 -- what follows a name: a quote makes a character of it, with no suffix
 abbrev pub past_name : ℕ → List ℕ → List ℕ → TokenKind × ℕ
 past_name c name s =
     if begins (codes "'") s
     then (Literal (Char true) (2 + length (encode_utf8_all (c ∷ name))), 1)
-    else gives (if begins (codes "#") s && not (is_ascii_digit c) then UnknownPrefixLifetime else Lifetime (is_marked c name)) s
+    else gives (if begins (codes "#") s && not (is_ascii_digit c) then UnknownPrefixLifetime else Lifetime (is_bad_name (c ∷ name))) s
 
 -- what follows the first character `c` of a name, where no raw lifetime stands there
 abbrev pub plain_lifetime : ℕ → List ℕ → TokenKind × ℕ
-plain_lifetime c s = and_then (run_as (λ name rest. name) is_word) (past_name c) s
+plain_lifetime c s = and_then (run_as (λ name rest. name) is_word_continue) (past_name c) s
 
 -- `r`, a hash and the start of an identifier begin a raw lifetime
 abbrev pub is_raw : ℕ → List ℕ → Bool

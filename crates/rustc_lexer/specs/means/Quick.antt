@@ -4,7 +4,7 @@ use Rattle.std.specs.Str.{chars, IsCharBoundary}
 use Rattle.rustc_lexer.specs.declared.lexemes.family.Family.TheVariants.{Hash}
 use Rattle.rustc_lexer.specs.{Token}
 use Rattle.rustc_lexer.specs.means.ByteRuns.{is_wide}
-use Rattle.rustc_lexer.specs.means.Ident.{is_prefix_mark}
+use Rattle.rustc_lexer.specs.Classes.{ends_prefix}
 use Rattle.rustc_lexer.specs.means.Lexeme.{family_of, first_token}
 use Rattle.rustc_lexer.specs.State.{HasSuffixWithin}
 
@@ -21,7 +21,7 @@ BeginsWithNoHash text = (first : ℕ) (cs : List ℕ) → chars text ≡ first �
 
 -- after one of these bytes a word may be no identifier, or may go on
 abbrev pub turns_word : ℕ → Bool
-turns_word b = is_wide b || is_prefix_mark b
+turns_word b = is_wide b || ends_prefix b
 
 -- the bytes that white space outside ASCII begins with
 abbrev pub is_space_lead : ℕ → Bool

@@ -3,7 +3,7 @@ use Rattle.std.specs.Prelude.{ℕ, ◌+◌, ◌-◌, Bool, true, false, if◌the
 use Rattle.std.specs.List.{prefix_len}
 use Rattle.rustc_lexer.specs.{Token, TokenKind, E2024, LineComment, BlockComment, Whitespace, OpenBracket}
 use Rattle.rustc_lexer.specs.LanguageText.{part}
-use Rattle.rustc_lexer.specs.means.Comment.{is_no_newline}
+use Rattle.rustc_lexer.specs.Classes.{is_inline}
 use Rattle.rustc_lexer.specs.means.Scan.{begins}
 use Rattle.rustc_lexer.specs.means.Tokens.{read_tokens}
 
@@ -25,7 +25,7 @@ is_attribute (token ∷ tokens) = if is_passed token.kind then is_attribute toke
 
 -- how many bytes stand before the first newline
 abbrev pub before_newline : List ℕ → ℕ
-before_newline text = prefix_len is_no_newline text
+before_newline text = prefix_len is_inline text
 
 -- the same, less a carriage return directly before that newline
 abbrev pub line_len : List ℕ → ℕ

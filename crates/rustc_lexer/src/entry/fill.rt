@@ -1,5 +1,5 @@
 //! Writes many tokens of a text at once.
-ghost use Rattle.std.specs.Prelude.{◌≡◌, ◌<◌, ◌++◌, drop, length, map, min, take, IsCharBoundary, IsTrue};
+ghost use Rattle.std.specs.Prelude.{◌≡◌, ◌++◌, drop, length, map, min, take, IsCharBoundary, IsTrue};
 ghost use Rattle.rustc_lexer.specs.Tokens.{IsFilledTo, state_past, bound, tokens_left, tokens_of};
 ghost use Rattle.rustc_lexer.specs.Classes.{Fits};
 ghost use Rattle.rustc_lexer.specs.LanguageText.{mode_edition, part};
@@ -37,17 +37,6 @@ impl<'a> Tokens<'a> {
         ensures tokens { buffer.new
             ≡ map R.written (take result (tokens_left self.old)) ++ drop result buffer.old }
         ensures state { self.new ≡ state_past result self.old }
-        ensures left { tokens_left self.new ≡ drop result (tokens_left self.old) }
-        ensures rest { self.new.rest ≡ drop (bound (tokens_left self.old) result) self.old.rest }
-        ensures edition { mode_edition self.new.mode ≡ mode_edition self.old.mode }
-        ensures part { self.old.mode ≡ part (mode_edition self.old.mode) → self.new
-            ≡ record {
-              pending = self.old.pending;
-              rest = drop (bound (tokens_left self.old) result) self.old.rest;
-              mode = self.old.mode;
-            } }
-        ensures progress { 0 < length buffer.old → 0 < length self.old.rest
-            → length self.new.rest < length self.old.rest }
     {
         let rest = self.as_str();
         if self.is_part() && rest.len() >= BLOCK {
@@ -70,8 +59,6 @@ impl<'a> Tokens<'a> {
     fn fill_singly<R: Record>(&mut self, buffer: &mut [R]) -> usize
         ensures filled { IsFilled R.written (tokens_left self.old) buffer.old buffer.new result }
         ensures state { self.new ≡ state_past result self.old }
-        ensures left { tokens_left self.new ≡ drop result (tokens_left self.old) }
-        ensures rest { self.new.rest ≡ drop (bound (tokens_left self.old) result) self.old.rest }
     {
         let mut count = 0;
         'places: while count < buffer.len() {

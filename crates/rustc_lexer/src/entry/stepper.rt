@@ -1,10 +1,10 @@
 //! Steppers: they lex by a grammar, one token at a time or many at once.
 ghost use Rattle.std.specs.Prelude.{◌≡◌, ◌+◌, ◌<◌, ◌≤◌, List, ℕ, length};
 ghost use Rattle.rustc_lexer.specs.{Token, E2024};
-ghost use Rattle.rustc_lexer.specs.Tokens.{IsFilledTo, bound, tokens_by, tokens_of};
+ghost use Rattle.rustc_lexer.specs.Tokens.{IsFilledTo, bound, tokens_by};
 ghost use Rattle.rustc_lexer.specs.Classes.{Fits};
 ghost use Rattle.rustc_lexer.specs.Answers.{first_in};
-ghost use Rattle.rustc_lexer.specs.LanguageText.{year, part};
+ghost use Rattle.rustc_lexer.specs.LanguageText.{year};
 ghost use Rattle.rustc_lexer.specs.Locality.{IsGrammar};
 
 use crate::bulk::{self, Record};
@@ -80,8 +80,6 @@ impl Steps {
         ensures count { ⟦<Steps as Stepper>⟧.count result ≡ 0 }
         ensures number { ⟦<Steps as Stepper>⟧.number result ≡ 2024 }
         ensures grammar { ⟦<Steps as Stepper>⟧.grammar result ≡ first_in E2024 }
-        ensures tokens { (text : List ℕ)
-            → tokens_by (⟦<Steps as Stepper>⟧.grammar result) text ≡ tokens_of (part E2024) text }
     {
         Steps::new_in(Edition::E2024)
     }

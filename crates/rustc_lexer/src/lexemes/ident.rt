@@ -24,7 +24,7 @@ pub(crate) fn ident_or_unknown_prefix(tail: &str) -> (TokenKind, &str)
     if next_is(rest, is_emoji) {
         return invalid_ident(rest);
     }
-    if next_is(rest, is_prefix_mark) {
+    if next_is(rest, ends_prefix) {
         (TokenKind::UnknownPrefix, rest)
     } else {
         (TokenKind::Ident, rest)
@@ -36,7 +36,7 @@ pub(crate) fn ident_or_unknown_prefix(tail: &str) -> (TokenKind, &str)
 pub(crate) fn invalid_ident(tail: &str) -> (TokenKind, &str)
     ensures { (result.0, result.1.now) ≡ scanned spec.invalid_ident tail.now }
 {
-    (TokenKind::InvalidIdent, eat_while(tail, is_word))
+    (TokenKind::InvalidIdent, eat_while(tail, is_word_continue))
 }
 
 /// Returns the text after a hash and an identifier, or `None` if these are not at the front.
@@ -69,15 +69,15 @@ pub fn is_ident(string: &str) -> bool
 }
 
 /// Returns whether an identifier or the name of a lifetime, right or wrong, continues with the character.
-pub(crate) fn is_word(c: char) -> bool
-    ensures { result ≡ spec.is_word c }
+pub(crate) fn is_word_continue(c: char) -> bool
+    ensures { result ≡ Classes.is_word_continue c }
 {
     is_id_continue(c) || is_emoji(c)
 }
 
 /// Returns whether an identifier right before the character is a prefix.
-fn is_prefix_mark(c: char) -> bool
-    ensures { result ≡ spec.is_prefix_mark c }
+fn ends_prefix(c: char) -> bool
+    ensures { result ≡ Classes.ends_prefix c }
 {
     matches!(c, '#' | '"' | '\'')
 }

@@ -11,7 +11,7 @@ ghost use Rattle.rustc_lexer.specs.means.Scan.{begins, scanned};
 
 use crate::classes::emoji::is_emoji;
 use crate::classes::is_id_start;
-use crate::lexemes::ident::{eat_marked, is_word};
+use crate::lexemes::ident::{eat_marked, is_word_continue};
 use crate::lexemes::literal::{eat_literal_suffix, literal};
 use crate::lexemes::quoted::{QuotedPrefix, quoted_literal};
 use crate::scan::{eat_continue, eat_while, split_first, strip};
@@ -97,7 +97,7 @@ fn plain_lifetime(first: char, rest: &str) -> (TokenKind, &str)
     ensures { (result.0, result.1.now) ≡ scanned (spec.plain_lifetime first) rest.now }
 {
     let past_plain = eat_continue(rest);
-    let past_name = eat_while(past_plain, is_word);
+    let past_name = eat_while(past_plain, is_word_continue);
     if let Some(left) = strip(past_name, '\'') {
         let name_len = first.len_utf8() + (rest.len() - past_name.len());
         let kind = LiteralKind::Char { terminated: true };

@@ -1,7 +1,7 @@
 //! Several edits, one after another.
 ghost use Rattle.std.specs.Prelude.{◌≡◌, IfErr, OnOk, Some, take};
 ghost use Rattle.rustc_lexer.specs.Tokens.{tokens_by};
-ghost use Rattle.rustc_lexer.specs.Edits.{apply_list, AreCounted, AreEdits, stop_at, stop_text, IsStop, IsCounted};
+ghost use Rattle.rustc_lexer.specs.Edits.{apply_list, AreEdits, AreStepped, stop_at, stop_text, IsStepped, IsStop, IsStopStepped};
 
 use crate::entry::stepper::Stepper;
 use crate::relex::edit::{Edit, contains_range};
@@ -47,7 +47,7 @@ impl<S: Stepper> LexedText<S> {
         ensures grammar { S.grammar self.new.stepper ≡ S.grammar self.old.stepper }
         ensures number { S.number self.new.stepper ≡ S.number self.old.stepper }
         ensures count { OnOk result
-            (AreCounted (S.grammar self.old.stepper) self.old.text edits.now
+            (AreStepped (IsStepped (S.grammar self.old.stepper)) self.old.text edits.now
             (S.count self.old.stepper) (S.count self.new.stepper)) }
         ensures stop { IfErr result (λ e. IsStop e self.new.text edits.now) }
         ensures stop_accepted { IfErr result
@@ -55,7 +55,7 @@ impl<S: Stepper> LexedText<S> {
         ensures stop_text { IfErr result
             (λ e. self.new.text ≡ apply_list self.old.text (take (stop_at e) edits.now)) }
         ensures stop_count { IfErr result
-            (λ e. IsCounted e (S.grammar self.old.stepper) self.old.text edits.now
+            (λ e. IsStopStepped e (IsStepped (S.grammar self.old.stepper)) self.old.text edits.now
             (S.count self.old.stepper) (S.count self.new.stepper)) }
     {
         // So the tokens are those of the text, even if there is no edit.

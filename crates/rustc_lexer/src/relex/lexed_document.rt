@@ -164,9 +164,9 @@ impl<S: Stepper> LexedDocument<S> {
         ensures same_tokens { OnErr result (self.new.tokens ≡ self.old.tokens) }
         ensures few { OnErr result
             ((most : ℕ)
-            → spec.IsStepped (S.grammar self.old.stepper) self.old.text start stop insert.now
+            × spec.IsSteppedDocument (S.grammar self.old.stepper) self.old.text start stop insert.now
             (S.count self.old.stepper) most
-            → S.count self.new.stepper ≤ most) }
+            × (S.count self.new.stepper ≤ most)) }
     {
         let edit = Edit {
             start,

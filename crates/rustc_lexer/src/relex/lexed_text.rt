@@ -1,10 +1,9 @@
 //! A text that is kept with its tokens.
-ghost use Rattle.std.specs.Prelude.{◌≡◌, ◌+◌, ◌-◌, ◌<◌, ◌≤◌, ◌↔◌, IfOk, OnOk, OnErr, IsTrue, drop, length, take};
+ghost use Rattle.std.specs.Prelude.{◌≡◌, ◌+◌, ◌-◌, ◌<◌, ◌≤◌, ◌↔◌, IfOk, OnOk, OnErr, IsTrue, ℕ, drop, length, take};
 ghost use Rattle.rustc_lexer.specs.{E2024};
 ghost use Rattle.rustc_lexer.specs.Classes.{Fits};
 ghost use Rattle.rustc_lexer.specs.Tokens.{bound, tokens_by, tokens_of};
-ghost use Rattle.rustc_lexer.specs.declared.relex.relexing.Relexed.{Relexed};
-ghost use Rattle.rustc_lexer.specs.Edits.{IsEdit, IsRelexed, apply};
+ghost use Rattle.rustc_lexer.specs.Edits.{IsEdit, IsRelexed, IsStepped, apply};
 ghost use Rattle.rustc_lexer.specs.LanguageText.{part};
 ghost use Rattle.rustc_lexer.specs.Answers.{first_in};
 
@@ -136,8 +135,10 @@ impl<S: Stepper> LexedText<S> {
         ensures same_text { OnErr result (self.new.text ≡ self.old.text) }
         ensures same_tokens { OnErr result (self.new.tokens ≡ self.old.tokens) }
         ensures few { OnErr result
-            ((r : Relexed) × IsRelexed (S.grammar self.old.stepper) self.old.text start stop insert.now r
-            × (S.count self.new.stepper ≤ S.count self.old.stepper + r.lexed)) }
+            ((most : ℕ)
+            × IsStepped (S.grammar self.old.stepper) self.old.text start stop insert.now
+            (S.count self.old.stepper) most
+            × (S.count self.new.stepper ≤ most)) }
     {
         let edit = Edit {
             start,

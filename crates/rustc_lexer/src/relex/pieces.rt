@@ -3,7 +3,7 @@ ghost use Rattle.std.specs.Prelude.{◌≡◌, ◌-◌, ◌≤◌, IfSome, Some,
 ghost use Rattle.std.specs.Iterator.{UpTo, at_most};
 ghost use Rattle.std.specs.Iterator.SizeHint.{IsWithinCount};
 ghost use Rattle.rustc_lexer.specs.Document.{shebang_len};
-ghost use Rattle.rustc_lexer.specs.Edits.{pieces_from, pieces_of, YieldsPiece};
+ghost use Rattle.rustc_lexer.specs.Edits.{pieces_from, YieldsPiece};
 
 use crate::entry::stepper::Stepper;
 use crate::relex::lexed_document::LexedDocument;
@@ -89,8 +89,7 @@ impl<'a> ExactSizeIterator for Pieces<'a> {
 impl<S: Stepper> LexedText<S> {
     /// Returns an iterator over the pieces of the text, one for each token, in order.
     pub fn pieces(&self) -> Pieces<'_>
-        ensures pieces { result ≡ pieces_of self.now.text self.now.tokens }
-        ensures number { length result ≡ length self.now.tokens }
+        ensures pieces { result ≡ pieces_from self.now.text 0 self.now.tokens }
     {
         Pieces {
             text: self.text(),
@@ -105,8 +104,7 @@ impl<S: Stepper> LexedText<S> {
         requires from_le_to { from ≤ to }
         requires to_inside { to ≤ length self.now.tokens }
         ensures pieces { result
-            ≡ take (to - from) (drop from (pieces_of self.now.text self.now.tokens)) }
-        ensures number { length result ≡ to - from }
+            ≡ take (to - from) (drop from (pieces_from self.now.text 0 self.now.tokens)) }
     {
         Pieces {
             text: self.text(),
@@ -122,7 +120,6 @@ impl<S: Stepper> LexedDocument<S> {
     pub fn pieces(&self) -> Pieces<'_>
         ensures pieces { result
             ≡ pieces_from self.now.text (shebang_len self.now.text) self.now.tokens }
-        ensures number { length result ≡ length self.now.tokens }
     {
         Pieces {
             text: self.text(),
@@ -148,7 +145,6 @@ impl<S: Stepper> LexedDocument<S> {
         ensures pieces { result
             ≡ take (to - from)
             (drop from (pieces_from self.now.text (shebang_len self.now.text) self.now.tokens)) }
-        ensures number { length result ≡ to - from }
     {
         let start = self.place_of(from);
         let tokens = &self.tokens()[from..to];

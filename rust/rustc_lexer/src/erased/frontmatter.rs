@@ -65,11 +65,11 @@ fn eat_infostring(rest: &str) -> &str {
     if !is_id_start(first) {
         return rest;
     }
-    eat_while(tail, is_infostring)
+    eat_while(tail, is_info)
 }
 
 /// Returns whether an infostring may continue with the character.
-fn is_infostring(c: char) -> bool {
+fn is_info(c: char) -> bool {
     is_id_continue(c) || c == '-' || c == '.'
 }
 

@@ -1,5 +1,5 @@
 use Rattle.std.proofs.Common.{◌≡◌}
-use Rattle.rustc_lexer.specs.Edits.{pieces_from, pieces_of}
+use Rattle.rustc_lexer.specs.Edits.{pieces_from}
 use Rattle.rustc_lexer.specs.LanguageText.{part}
 use Rattle.rustc_lexer.specs.laws.State.{StandsAt}
 use Rattle.rustc_lexer.specs.Tokens.{tokens_of, tokens_left, HaveTexts}
@@ -10,5 +10,5 @@ abbrev pub invariant-loop-token : goal.invariant-loop-token
 invariant-loop-token l = record {
   place : StandsAt l.text l.start l.token-iterator;
   texts : HaveTexts l.token-iterator.rest (tokens_left l.token-iterator);
-  left : first_name_of (pieces_from l.text l.start (tokens_left l.token-iterator)) ≡ first_name_of (pieces_of l.text (tokens_of (part l.fn.edition) l.text));
+  left : first_name_of (pieces_from l.text l.start (tokens_left l.token-iterator)) ≡ first_name_of (pieces_from l.text 0 (tokens_of (part l.fn.edition) l.text));
 }

@@ -2,7 +2,7 @@ use Rattle.std.proofs.Common.{drop, refl, map, sym, ap, ◌∙◌, ◌∷◌, []
 use Rattle.std.specs.List.{flat_map}
 use Rattle.std.proofs.lemmas.List.{map-append}
 use Rattle.std.proofs.lemmas.List.Folds.{flat_map-map}
-use Rattle.rustc_lexer.specs.Edits.{pieces_from, pieces_of}
+use Rattle.rustc_lexer.specs.Edits.{pieces_from}
 use Rattle.rustc_lexer.specs.LanguageText.{part}
 use Rattle.rustc_lexer.specs.Tokens.{tokens_of}
 use Rattle.rustc_lexer.proofs.PlaceLemmas.{piece_is, stands_past}
@@ -27,6 +27,6 @@ pub returns-clause-whole : goal.returns-clause-whole
 returns-clause-whole c =
     let text = c.args.text.now in
     let parts = c.loop-token.parts.items in
-    let pieces = pieces_of text (tokens_of (part c.args.edition) text) in
+    let pieces = pieces_from text 0 (tokens_of (part c.args.edition) text) in
     let are = sym (append-nil (map (λ p. p.now) parts)) ∙ (ap (λ ts. map (λ p. p.now) parts ++ texts_of (pieces_from text c.loop-token.start ts)) (sym c.in-None.ensures.steps.0) ∙ c.loop-token.invariant.left) in
     sym (flat_map-map (λ bs. bs) (λ p. p.now) parts) ∙ (ap (flat_map (λ bs. bs)) are ∙ (flat_map-map (λ bs. bs) (λ piece. piece.text) pieces ∙ joined_whole text _ c.tokenize_in-token-items.ensures.reads.partitions))

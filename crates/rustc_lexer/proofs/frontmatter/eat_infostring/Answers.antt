@@ -1,6 +1,5 @@
 use Rattle.std.proofs.Common.{sym, ◌∙◌}
-use Rattle.rustc_lexer.specs.Classes.{is_id_start}
-use Rattle.rustc_lexer.specs.means.Frontmatter.{is_infostring}
+use Rattle.rustc_lexer.specs.Classes.{is_id_start, is_info}
 use Rattle.rustc_lexer.specs.laws.Frontmatter.{infostring-yes, infostring-no}
 use Rattle.rustc_lexer.specs.laws.Scan.{next_is-cons, next_is-nil}
 use Rattle.rustc_lexer.proofs.frontmatter.eat_infostring.Goals as goal
@@ -13,4 +12,4 @@ returns-then-not-is_id_start-clause-past c = infostring-no _ c.utf8.rest (next_i
 
 pub returns-clause-past : goal.returns-clause-past
 returns-clause-past c =
-    infostring-yes _ c.utf8.rest _ _ (next_is-cons is_id_start _ _ _ c.in-Some.ensures.0 ∙ sym c.if-not-is_id_start.ensures) c.in-Some.ensures.1 (c.eat_while.ensures.past is_infostring (λ d b e. e))
+    infostring-yes _ c.utf8.rest _ _ (next_is-cons is_id_start _ _ _ c.in-Some.ensures.0 ∙ sym c.if-not-is_id_start.ensures) c.in-Some.ensures.1 (c.eat_while.ensures.past is_info (λ d b e. e))

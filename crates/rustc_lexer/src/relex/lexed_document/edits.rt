@@ -1,7 +1,7 @@
 //! Several edits of a document, one after another.
 ghost use Rattle.std.specs.Prelude.{◌≡◌, IfErr, OnOk, take};
-ghost use Rattle.rustc_lexer.specs.Document.{AreStepped, IsStopStepped, document_tokens_by};
-ghost use Rattle.rustc_lexer.specs.Edits.{apply_list, AreEdits, stop_at, IsStop};
+ghost use Rattle.rustc_lexer.specs.Document.{document_tokens_by, IsSteppedDocument};
+ghost use Rattle.rustc_lexer.specs.Edits.{apply_list, AreEdits, AreStepped, stop_at, IsStop, IsStopStepped};
 
 use crate::entry::stepper::Stepper;
 use crate::relex::edit::{Edit, contains_range};
@@ -19,7 +19,7 @@ impl<S: Stepper> LexedDocument<S> {
         ensures grammar { S.grammar self.new.stepper ≡ S.grammar self.old.stepper }
         ensures number { S.number self.new.stepper ≡ S.number self.old.stepper }
         ensures count { OnOk result
-            (AreStepped (S.grammar self.old.stepper) self.old.text edits.now
+            (AreStepped (IsSteppedDocument (S.grammar self.old.stepper)) self.old.text edits.now
             (S.count self.old.stepper) (S.count self.new.stepper)) }
         ensures stop { IfErr result (λ e. IsStop e self.new.text edits.now) }
         ensures stop_accepted { IfErr result
@@ -27,7 +27,7 @@ impl<S: Stepper> LexedDocument<S> {
         ensures stop_text { IfErr result
             (λ e. self.new.text ≡ apply_list self.old.text (take (stop_at e) edits.now)) }
         ensures stop_count { IfErr result
-            (λ e. IsStopStepped e (S.grammar self.old.stepper) self.old.text edits.now
+            (λ e. IsStopStepped e (IsSteppedDocument (S.grammar self.old.stepper)) self.old.text edits.now
             (S.count self.old.stepper) (S.count self.new.stepper)) }
     {
         // So the tokens are those of the text, even if there is no edit.

@@ -53,8 +53,6 @@ impl LexedDocument<Steps> {
     /// Returns the edition of the tokens. Edits keep it.
     pub fn edition(&self) -> Edition
         ensures number { ⟦<Steps as Stepper>⟧.number self.now.stepper ≡ year result }
-        ensures only { (edition : Edition)
-            → ⟦<Steps as Stepper>⟧.number self.now.stepper ≡ year edition → result ≡ edition }
         ensures grammar { ⟦<Steps as Stepper>⟧.grammar self.now.stepper ≡ first_in result }
         ensures from_scratch { self.now.tokens ≡ spec.document_tokens result self.now.text }
     {

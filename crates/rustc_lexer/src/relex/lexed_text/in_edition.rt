@@ -1,6 +1,5 @@
 //! A text that is kept with its tokens in an edition.
 ghost use Rattle.std.specs.Prelude.{◌≡◌, IfOk, OnErr, OnOk, length};
-ghost use Rattle.rustc_lexer.specs.{Edition};
 ghost use Rattle.rustc_lexer.specs.Classes.{Fits};
 ghost use Rattle.rustc_lexer.specs.Answers.{first_in};
 ghost use Rattle.rustc_lexer.specs.LanguageText.{year, part};
@@ -34,8 +33,6 @@ impl LexedText<Steps> {
     /// Returns the edition of the tokens. Edits keep it.
     pub fn edition(&self) -> Edition
         ensures number { ⟦<Steps as Stepper>⟧.number self.now.stepper ≡ year result }
-        ensures only { (edition : Edition)
-            → ⟦<Steps as Stepper>⟧.number self.now.stepper ≡ year edition → result ≡ edition }
         ensures grammar { ⟦<Steps as Stepper>⟧.grammar self.now.stepper ≡ first_in result }
         ensures from_scratch { self.now.tokens ≡ tokens_of (part result) self.now.text }
     {

@@ -1,16 +1,17 @@
-use Rattle.std.proofs.Common.{◌≡◌, ◌-◌, ℕ, List, length, ap, ◌∙◌}
+use Rattle.std.proofs.Common.{◌≡◌, ◌-◌, ℕ, List, length, ap, ◌∙◌, arith}
+use Rattle.rustc_lexer.specs.declared.edition.Edition.TheVariants.{E2024}
 use Rattle.rustc_lexer.specs.declared.token.FrontmatterAllowed.{FrontmatterAllowed}
-use Rattle.rustc_lexer.specs.LanguageText.{mode_of}
+use Rattle.rustc_lexer.specs.LanguageText.{mode_in}
 use Rattle.rustc_lexer.specs.Classes.{IsText}
 use Rattle.rustc_lexer.specs.State.{State}
 use Rattle.rustc_lexer.specs.laws.State.{state}
 use Rattle.rustc_lexer_c.specs.Batch.{state_at}
-use Rattle.rustc_lexer_c.proofs.BatchLemmas.{batch_is}
+use Rattle.rustc_lexer_c.proofs.BatchLemmas.{batch_is, left_within}
 use Rattle.rustc_lexer_c.proofs.batch.fill.Goals as goal
 
-begun : (rest cut : List ℕ) (allowed given : FrontmatterAllowed) (s : State) → s ≡ record { pending = 0; rest = rest; mode = mode_of allowed } → rest ≡ cut → allowed ≡ given
-    → s ≡ record { pending = 0; rest = cut; mode = mode_of given }
-begun rest cut allowed given s e f g = e ∙ (ap (λ xs. state 0 xs (mode_of allowed)) f ∙ ap (λ (a : FrontmatterAllowed). state 0 cut (mode_of a)) g)
+begun : (rest cut : List ℕ) (allowed given : FrontmatterAllowed) (s : State) → s ≡ record { pending = 0; rest = rest; mode = mode_in allowed E2024 } → rest ≡ cut → allowed ≡ given
+    → s ≡ record { pending = 0; rest = cut; mode = mode_in given E2024 }
+begun rest cut allowed given s e f g = e ∙ (ap (λ xs. state 0 xs (mode_in allowed E2024)) f ∙ ap (λ (a : FrontmatterAllowed). state 0 cut (mode_in a E2024)) g)
 
 pub returns : goal.returns
 returns c =
@@ -18,5 +19,13 @@ returns c =
     let is : IsText text = record { utf8 = c.utf8.text; fits = c.requires.fits } in
     let from : c.tokenize-tokens.result ≡ state_at text c.args.place.now = begun _ _ _ _ c.tokenize-tokens.result c.tokenize-tokens.ensures.state c.range_from.ensures.value c.allowed_of-allowed.ensures in
     batch_is text is c.args.place.now c.requires.boundary c.tokenize-tokens.result c.fill-count.new.self c.args.buffer.now c.fill-count.new.buffer c.fill-count.result from
-    (record { as_many = c.fill-count.ensures.count; tokens = c.fill-count.ensures.tokens }) c.fill-count.ensures.state c.fill-count.ensures.left c.fill-count.ensures.rest c.fill-count.ensures.edition _ c.frontmatter_allowed.result
+    (record { as_many = c.fill-count.ensures.count; tokens = c.fill-count.ensures.tokens }) c.fill-count.ensures.state _ c.frontmatter_allowed.result
     (ap (λ (xs : List ℕ). length text - length xs) c.as_str.ensures.rest) c.frontmatter_allowed.ensures c.allowed_number.ensures
+
+pub overflow_sub-place : goal.overflow_sub-place
+overflow_sub-place c =
+    let text : List ℕ = c.args.text.now in
+    let is : IsText text = record { utf8 = c.utf8.text; fits = c.requires.fits } in
+    let from : c.tokenize-tokens.result ≡ state_at text c.args.place.now = begun _ _ _ _ c.tokenize-tokens.result c.tokenize-tokens.ensures.state c.range_from.ensures.value c.allowed_of-allowed.ensures in
+    omega (arith, ap (λ (xs : List ℕ). length xs) c.as_str.ensures.rest, left_within text is c.args.place.now c.requires.boundary c.tokenize-tokens.result c.fill-count.new.self c.args.buffer.now c.fill-count.new.buffer c.fill-count.result from
+    (record { as_many = c.fill-count.ensures.count; tokens = c.fill-count.ensures.tokens }) c.fill-count.ensures.state)

@@ -17,7 +17,7 @@ pub(crate) fn ident_or_unknown_prefix(tail: &str) -> (TokenKind, &str) {
     if next_is(rest, is_emoji) {
         return invalid_ident(rest);
     }
-    if next_is(rest, is_prefix_mark) {
+    if next_is(rest, ends_prefix) {
         (TokenKind::UnknownPrefix, rest)
     } else {
         (TokenKind::Ident, rest)
@@ -27,7 +27,7 @@ pub(crate) fn ident_or_unknown_prefix(tail: &str) -> (TokenKind, &str) {
 /// Lexes a word that would be an identifier without an emoji in it. Returns its kind, and the text after it. `tail`
 /// is the text after that emoji.
 pub(crate) fn invalid_ident(tail: &str) -> (TokenKind, &str) {
-    (TokenKind::InvalidIdent, eat_while(tail, is_word))
+    (TokenKind::InvalidIdent, eat_while(tail, is_word_continue))
 }
 
 /// Returns the text after a hash and an identifier, or `None` if these are not at the front.
@@ -53,11 +53,11 @@ pub fn is_ident(string: &str) -> bool {
 }
 
 /// Returns whether an identifier or the name of a lifetime, right or wrong, continues with the character.
-pub(crate) fn is_word(c: char) -> bool {
+pub(crate) fn is_word_continue(c: char) -> bool {
     is_id_continue(c) || is_emoji(c)
 }
 
 /// Returns whether an identifier right before the character is a prefix.
-fn is_prefix_mark(c: char) -> bool {
+fn ends_prefix(c: char) -> bool {
     matches!(c, '#' | '"' | '\'')
 }

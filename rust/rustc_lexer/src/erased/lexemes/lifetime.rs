@@ -2,7 +2,7 @@
 
 use crate::erased::classes::emoji::is_emoji;
 use crate::erased::classes::is_id_start;
-use crate::erased::lexemes::ident::{eat_marked, is_word};
+use crate::erased::lexemes::ident::{eat_marked, is_word_continue};
 use crate::erased::lexemes::literal::{eat_literal_suffix, literal};
 use crate::erased::lexemes::quoted::{QuotedPrefix, quoted_literal};
 use crate::erased::scan::{eat_continue, eat_while, split_first, strip};
@@ -71,7 +71,7 @@ fn lifetime(first: char, rest: &str) -> (TokenKind, &str) {
 #[inline(always)]
 fn plain_lifetime(first: char, rest: &str) -> (TokenKind, &str) {
     let past_plain = eat_continue(rest);
-    let past_name = eat_while(past_plain, is_word);
+    let past_name = eat_while(past_plain, is_word_continue);
     if let Some(left) = strip(past_name, '\'') {
         let name_len = first.len_utf8() + (rest.len() - past_name.len());
         let kind = LiteralKind::Char { terminated: true };

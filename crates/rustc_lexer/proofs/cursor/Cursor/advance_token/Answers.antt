@@ -1,6 +1,6 @@
 use Rattle.std.proofs.Common.{◌≡◌, ◌+◌, ◌-◌, ◌==◌, List, ℕ, length, drop, drop-drop, refl, sym, ap, subst, ◌∙◌, arith}
 use Rattle.rustc_lexer.specs.{Token, E2024}
-use Rattle.rustc_lexer.specs.LanguageText.{mode_of}
+use Rattle.rustc_lexer.specs.LanguageText.{mode_in}
 use Rattle.rustc_lexer.specs.State.{State, token_past}
 use Rattle.rustc_lexer.specs.means.Taking.{token_at}
 use Rattle.rustc_lexer.specs.Classes.{IsText}
@@ -39,11 +39,11 @@ returns c =
     let none : (i + n) - (i + n) ≡ 0 = omega arith in
     let some = advance-some _ _ _ _ c.self.view_is (sym (ap (λ (xs : List ℕ). length xs == 0) is) ∙ sym c.if-is_empty.ensures) in
     let token = c.with_pending.ensures
-    ∙ (ap (λ (t : Token). token_past (c.self.inside.index - c.self.inside.start) t) (c.token_at-token.ensures.token ∙ ap (token_at (mode_of c.self.inside.frontmatter_allowed)) is)
+    ∙ (ap (λ (t : Token). token_past (c.self.inside.index - c.self.inside.start) t) (c.token_at-token.ensures.token ∙ ap (token_at (mode_in c.self.inside.frontmatter_allowed E2024)) is)
     ∙ sym (ap (λ (r : Token × State). r.0) some)) in
-    let state = ap (λ p. state p (drop (i + n) c.self.inside.text.now) (mode_of c.next_allowed-self-inside.result)) none
-    ∙ (past_token-is (drop i c.self.inside.text.now) _ (mode_of c.self.inside.frontmatter_allowed) _ c.token_at-token.result (sym (drop-drop n i c.self.inside.text.now)) (c.next_allowed-self-inside.ensures E2024)
-    ∙ (ap (λ (t : Token). past_token (drop i c.self.inside.text.now) (mode_of c.self.inside.frontmatter_allowed) t) (c.token_at-token.ensures.token ∙ ap (token_at (mode_of c.self.inside.frontmatter_allowed)) is)
+    let state = ap (λ p. state p (drop (i + n) c.self.inside.text.now) (mode_in c.next_allowed-self-inside.result E2024)) none
+    ∙ (past_token-is (drop i c.self.inside.text.now) _ (mode_in c.self.inside.frontmatter_allowed E2024) _ c.token_at-token.result (sym (drop-drop n i c.self.inside.text.now)) (c.next_allowed-self-inside.ensures E2024)
+    ∙ (ap (λ (t : Token). past_token (drop i c.self.inside.text.now) (mode_in c.self.inside.frontmatter_allowed E2024) t) (c.token_at-token.ensures.token ∙ ap (token_at (mode_in c.self.inside.frontmatter_allowed E2024)) is)
     ∙ sym (ap (λ (r : Token × State). r.1) some))) in
     let text : IsText c.args.self.now.rest = subst IsText c.as_str-rest.ensures.rest record { utf8 = c.as_str-rest.utf8; fits = c.as_str-rest.ensures.fits } in
     let left = something _ _ c.as_str-rest.ensures.rest (sym c.if-is_empty.ensures) in

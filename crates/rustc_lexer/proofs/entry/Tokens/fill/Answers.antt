@@ -29,21 +29,4 @@ returns-then-rest-ge-BLOCK g c =
       count = all.holds.as_many;
       tokens = all.holds.tokens;
       state = all.state_is;
-      left = all.left;
-      rest = all.rest;
-      edition = ap (λ (x : State). mode_edition x.mode) all.state_is ∙ edition-stays c.fill_part-count.result.0 s;
-      part = part-left s (state 0 left mode) c.fill_part-count.result.0 _ c.as_str-rest.ensures.pending all.state_is all.rest;
-      progress = all.progress;
     }
-
-pub returns-clause-edition : goal.returns-clause-edition
-returns-clause-edition g c = ap (λ (x : State). mode_edition x.mode) c.fill_singly.ensures.state ∙ edition-stays c.fill_singly.result c.args.self.now
-
-pub returns-clause-part : goal.returns-clause-part
-returns-clause-part g c = part-left c.args.self.now c.fill_singly.new.self c.fill_singly.result _ c.as_str-rest.ensures.pending c.fill_singly.ensures.state c.fill_singly.ensures.rest
-
-pub returns-clause-progress : goal.returns-clause-progress
-returns-clause-progress g c =
-    let s : State = c.args.self.now in
-    let whole : IsText s.rest = subst IsText c.as_str-rest.ensures.rest record { utf8 = c.as_str-rest.utf8; fits = c.as_str-rest.ensures.fits } in
-    λ places some. shorter_left s.rest c.fill_singly.new.self.rest (tokens_left s) (partitions s.rest s.mode whole) (length c.args.buffer.now) c.fill_singly.result c.fill_singly.ensures.filled.as_many c.fill_singly.ensures.rest places some

@@ -1,7 +1,7 @@
 use Rattle.std.proofs.Common.{Bool, if◌then◌else◌, sym, ap, ◌∙◌}
 use Rattle.rustc_lexer.specs.{TokenKind, Ident, UnknownPrefix}
 use Rattle.rustc_lexer.specs.Tables.{is_emoji}
-use Rattle.rustc_lexer.specs.means.Ident.{is_prefix_mark}
+use Rattle.rustc_lexer.specs.Classes.{ends_prefix}
 use Rattle.rustc_lexer.proofs.IdentLemmas.{ident_or_unknown_prefix-invalid, ident_or_unknown_prefix-valid}
 use Rattle.rustc_lexer.proofs.QuickLemmas.{ident_or_unknown_prefix_ends}
 use Rattle.rustc_lexer.proofs.lexemes.ident.ident_or_unknown_prefix.Goals as goal
@@ -15,10 +15,10 @@ returns-then-next_is c =
 
 pub returns-then-next_is-2 : goal.returns-then-next_is-2
 returns-then-next_is-2 c =
-    ap (λ (b : Bool). let k : TokenKind = if b then UnknownPrefix else Ident in (k, c.eat_continue-rest.result.now)) (sym (sym (c.next_is-2.ensures is_prefix_mark (λ d b e. e)) ∙ c.if-next_is-2.true))
+    ap (λ (b : Bool). let k : TokenKind = if b then UnknownPrefix else Ident in (k, c.eat_continue-rest.result.now)) (sym (sym (c.next_is-2.ensures ends_prefix (λ d b e. e)) ∙ c.if-next_is-2.true))
     ∙ ident_or_unknown_prefix-valid _ _ c.utf8.tail (c.eat_continue-rest.ensures.past) (sym (c.next_is.ensures is_emoji (λ d b e. e)) ∙ c.if-next_is.false)
 
 pub returns-else-next_is-2 : goal.returns-else-next_is-2
 returns-else-next_is-2 c =
-    ap (λ (b : Bool). let k : TokenKind = if b then UnknownPrefix else Ident in (k, c.eat_continue-rest.result.now)) (sym (sym (c.next_is-2.ensures is_prefix_mark (λ d b e. e)) ∙ c.if-next_is-2.false))
+    ap (λ (b : Bool). let k : TokenKind = if b then UnknownPrefix else Ident in (k, c.eat_continue-rest.result.now)) (sym (sym (c.next_is-2.ensures ends_prefix (λ d b e. e)) ∙ c.if-next_is-2.false))
     ∙ ident_or_unknown_prefix-valid _ _ c.utf8.tail (c.eat_continue-rest.ensures.past) (sym (c.next_is.ensures is_emoji (λ d b e. e)) ∙ c.if-next_is.false)

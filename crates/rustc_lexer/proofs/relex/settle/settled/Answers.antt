@@ -1,15 +1,13 @@
-use Rattle.std.proofs.Common.{List, subst}
+use Rattle.std.proofs.Common.{List, ℕ, ap, subst}
 use Rattle.rustc_lexer.specs.{Token}
 use Rattle.rustc_lexer.specs.Locality.{IsSettled}
+use Rattle.rustc_lexer.specs.Tokens.{tokens_by}
 use Rattle.rustc_lexer.specs.laws.Lookahead.{first_token_grammar}
-use Rattle.rustc_lexer.proofs.SettledLemmas.{stays, local}
+use Rattle.rustc_lexer.proofs.SettledLemmas.{stays}
 use Rattle.rustc_lexer.proofs.relex.settle.settled.Goals as goal
 
 pub returns-clause-settled : goal.returns-clause-settled
-returns-clause-settled c = subst (λ (tokens : List Token). IsSettled c.args.text.now tokens c.settled_by.result) (c.new.ensures.tokens c.args.text.now) c.settled_by.ensures
+returns-clause-settled c = subst (λ (tokens : List Token). IsSettled c.args.text.now tokens c.settled_by.result) (ap (λ (first : List ℕ → Token). tokens_by first c.args.text.now) c.new.ensures.grammar) c.settled_by.ensures
 
 pub returns-clause-stays : goal.returns-clause-stays
 returns-clause-stays c = stays first_token_grammar _ record { utf8 = c.utf8.text; fits = c.requires.fits } _ (returns-clause-settled c)
-
-pub returns-clause-local : goal.returns-clause-local
-returns-clause-local c = local first_token_grammar

@@ -1,8 +1,9 @@
 use Rattle.std.proofs.Common.{List, ℕ, IfOk, OnErr, ◌≤◌, ◌≡◌, ◌∙◌, ap, sym, subst, string_bytes}
 use Rattle.rustc_lexer.specs.Classes.{IsText}
-use Rattle.rustc_lexer.specs.Document.{document_tokens_by, IsRelexedDocument, IsCountedDocument, IsStepped}
+use Rattle.rustc_lexer.specs.Document.{document_tokens_by, IsRelexedDocument, IsCountedDocument, IsSteppedDocument}
 use Rattle.rustc_lexer.specs.Edits.{IsEdit, apply}
 use Rattle.rustc_lexer.proofs.DocumentPage.{OnErr-map, page_relexed, page_stepped, past_law, relexed_page, stepped_page}
+use Rattle.rustc_lexer.proofs.DocumentSteps.{some_steps}
 use Rattle.rustc_lexer.proofs.EditLemmas.{edited, IfOk-two}
 use Rattle.rustc_lexer.proofs.relex.lexed_document.LexedDocument.edit.Goals as goal
 
@@ -35,4 +36,7 @@ returns-clause-few g c =
     let is = c.self.invariant.0 in
     let edit = subst (λ l. IsEdit l.text c.args.start c.args.stop c.args.insert.now) (sym c.self.view_is) c.requires.accepted in
     let its : IsText (apply text c.args.start c.args.stop c.args.insert.now) = (edited text c.args.start c.args.stop c.args.insert.now is c.utf8.insert edit).text_is in
-    subst (λ l. OnErr c.edit.result ((most : ℕ) → IsStepped (g.S.Stepper.grammar l.stepper) l.text c.args.start c.args.stop c.args.insert.now (g.S.Stepper.count l.stepper) most → g.S.Stepper.count c.edit.new.self.stepper ≤ most)) c.self.view_is (OnErr-map c.edit.result (λ few most p. few p.0 most (page_relexed (g.S.Stepper.grammar c.self.inside.kept.stepper) text _ _ _ is its p.1) (page_stepped (g.S.Stepper.grammar c.self.inside.kept.stepper) text _ _ _ is its p.2)) c.edit.ensures.few)
+    let first = g.S.Stepper.grammar c.self.inside.kept.stepper in
+    let some = some_steps (g.S.Stepper.law c.self.inside.kept.stepper) text c.args.insert.now c.args.start c.args.stop is c.utf8.insert edit (g.S.Stepper.count c.self.inside.kept.stepper) in
+    subst (λ l. OnErr c.edit.result ((most : ℕ) × IsSteppedDocument (g.S.Stepper.grammar l.stepper) l.text c.args.start c.args.stop c.args.insert.now (g.S.Stepper.count l.stepper) most × (g.S.Stepper.count c.edit.new.self.stepper ≤ most))) c.self.view_is
+    (OnErr-map c.edit.result (λ few. (some.0, some.1, few some.1.0 some.0 (page_relexed first text _ _ _ is its some.1.1) (page_stepped first text _ _ _ is its some.1.2))) c.edit.ensures.few)

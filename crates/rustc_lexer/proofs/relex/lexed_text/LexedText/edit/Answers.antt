@@ -1,6 +1,6 @@
-use Rattle.std.proofs.Common.{List, ℕ, IfOk, OnErr, ◌≡◌, ◌+◌, ◌≤◌, sym, subst, string_bytes}
+use Rattle.std.proofs.Common.{List, ℕ, IfOk, OnErr, ◌≡◌, ◌+◌, ◌≤◌, refl, sym, subst, string_bytes}
 use Rattle.rustc_lexer.specs.declared.relex.relexing.Relexed.{Relexed}
-use Rattle.rustc_lexer.specs.Edits.{IsEdit, IsRelexed}
+use Rattle.rustc_lexer.specs.Edits.{IsEdit, IsRelexed, IsStepped}
 use Rattle.rustc_lexer.specs.means.Relexing.{relexed_of}
 use Rattle.rustc_lexer.proofs.DocumentPage.{OnErr-map}
 use Rattle.rustc_lexer.proofs.EditLemmas.{IfOk-two}
@@ -25,5 +25,5 @@ returns-clause-few g c =
     let edit = subst (λ l. IsEdit l.text c.args.start c.args.stop c.args.insert.now) (sym c.self.view_is) c.requires.accepted in
     let found = relexed_is (g.S.Stepper.law c.self.inside.kept.stepper) text c.self.invariant.0 c.args.start c.args.stop c.args.insert.now c.utf8.insert edit in
     let r : Relexed = relexed_of first text c.args.start c.args.stop c.args.insert.now in
-    subst (λ l. OnErr c.edit.result ((r : Relexed) × IsRelexed (g.S.Stepper.grammar l.stepper) l.text c.args.start c.args.stop c.args.insert.now r × (g.S.Stepper.count c.edit.new.self.stepper ≤ g.S.Stepper.count l.stepper + r.lexed))) c.self.view_is
-    (OnErr-map c.edit.result (λ few. (r, found, few r _ (relexed_part first text _ _ _ r found) (counted_part text _ _ _ _ r.lexed))) c.edit.ensures.few)
+    subst (λ l. OnErr c.edit.result ((most : ℕ) × IsStepped (g.S.Stepper.grammar l.stepper) l.text c.args.start c.args.stop c.args.insert.now (g.S.Stepper.count l.stepper) most × (g.S.Stepper.count c.edit.new.self.stepper ≤ most))) c.self.view_is
+    (OnErr-map c.edit.result (λ few. (_, (r, found, refl), few r _ (relexed_part first text _ _ _ r found) (counted_part text _ _ _ _ r.lexed))) c.edit.ensures.few)

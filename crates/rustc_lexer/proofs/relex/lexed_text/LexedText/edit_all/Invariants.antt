@@ -1,6 +1,6 @@
 use Rattle.std.proofs.Common.{◌≡◌, take}
 use Rattle.rustc_lexer.specs.Tokens.{tokens_by}
-use Rattle.rustc_lexer.specs.Edits.{apply_list, AreCounted, AreEdits}
+use Rattle.rustc_lexer.specs.Edits.{apply_list, AreEdits, AreStepped, IsStepped}
 use Rattle.rustc_lexer.proofs.relex.lexed_text.LexedText.edit_all.Given as goal
 
 abbrev pub invariant-loop-at : goal.invariant-loop-at
@@ -9,4 +9,4 @@ invariant-loop-at g l = AreEdits l.fn.self.text (take l.at l.edits)
     × (l.self.tokens ≡ tokens_by (g.S.Stepper.grammar l.fn.self.stepper) l.self.text)
     × (g.S.Stepper.grammar l.self.stepper ≡ g.S.Stepper.grammar l.fn.self.stepper)
     × (g.S.Stepper.number l.self.stepper ≡ g.S.Stepper.number l.fn.self.stepper)
-    × AreCounted (g.S.Stepper.grammar l.fn.self.stepper) l.fn.self.text (take l.at l.edits) (g.S.Stepper.count l.fn.self.stepper) (g.S.Stepper.count l.self.stepper)
+    × AreStepped (IsStepped (g.S.Stepper.grammar l.fn.self.stepper)) l.fn.self.text (take l.at l.edits) (g.S.Stepper.count l.fn.self.stepper) (g.S.Stepper.count l.self.stepper)
