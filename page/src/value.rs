@@ -1,58 +1,52 @@
 //! What a literal stands for.
 
-use rustc_lexer::{LiteralKind, TokenKind};
+use marks::inside;
+use rustc_lexer::TokenKind;
 use rustc_literal_escaper::{
-    EscapeError, MixedUnit, check_raw_byte_str, check_raw_c_str, check_raw_str, escape_byte_str,
-    escape_str, unescape_byte, unescape_byte_str, unescape_c_str, unescape_char, unescape_str,
+    EscapeError, MixedUnit, Mode, check_raw_byte_str, check_raw_c_str, check_raw_str,
+    escape_byte_str, escape_str, unescape_byte, unescape_byte_str, unescape_c_str, unescape_char,
+    unescape_str,
 };
 
 /// What a literal with quotes stands for, written with escapes. `None` for what is no such literal, or is not closed.
 pub fn value(kind: TokenKind, text: &str) -> Option<String> {
-    let TokenKind::Literal { kind, suffix_start } = kind else {
-        return None;
-    };
-    let text = &text[..suffix_start as usize];
-    let single = matches!(kind, LiteralKind::Char { .. } | LiteralKind::Byte { .. });
-    let quote = if single { '\'' } else { '"' };
-    let (first, last) = (text.find(quote)?, text.rfind(quote)?);
-    let inside = text.get(first + 1..last)?;
+    let (mode, inside) = inside(kind, text)?;
     let mut read = Read::default();
-    let unit = match kind {
-        LiteralKind::Char { terminated: true } => {
+    let unit = match mode {
+        Mode::Char => {
             read.char(unescape_char(inside));
             "character"
         }
-        LiteralKind::Byte { terminated: true } => {
+        Mode::Byte => {
             read.byte(unescape_byte(inside));
             "byte"
         }
-        LiteralKind::Str { terminated: true } => {
+        Mode::Str => {
             unescape_str(inside, |_, c| read.char(c));
             "character"
         }
-        LiteralKind::RawStr { n_hashes: Some(_) } => {
+        Mode::RawStr => {
             check_raw_str(inside, |_, c| read.char(c));
             "character"
         }
-        LiteralKind::ByteStr { terminated: true } => {
+        Mode::ByteStr => {
             unescape_byte_str(inside, |_, byte| read.byte(byte));
             "byte"
         }
-        LiteralKind::RawByteStr { n_hashes: Some(_) } => {
+        Mode::RawByteStr => {
             check_raw_byte_str(inside, |_, byte| read.byte(byte));
             "byte"
         }
-        LiteralKind::CStr { terminated: true } => {
+        Mode::CStr => {
             unescape_c_str(inside, |_, unit| read.unit(unit));
             read.byte(Ok(0));
             "byte"
         }
-        LiteralKind::RawCStr { n_hashes: Some(_) } => {
+        Mode::RawCStr => {
             check_raw_c_str(inside, |_, c| read.unit(c.map(MixedUnit::Char)));
             read.byte(Ok(0));
             "byte"
         }
-        _ => return None,
     };
     Some(read.sentence(unit))
 }

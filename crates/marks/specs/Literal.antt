@@ -2,6 +2,7 @@
 use Rattle.std.specs.Prelude.{ℕ, length, not, ◌+◌, ◌-◌, ◌==◌, nat_eq, nat_lt, codes, true, if◌then◌else◌, List, [], ◌∷◌, ◌++◌, take, drop, Option, Some, None}
 use Rattle.std.specs.Fmt.{WritesInCalls}
 use Rattle.std.specs.List.{position_or_len, starts_with, suffix_len}
+use Rattle.std.specs.Option.{option_and_then, option_map}
 use Rattle.std.specs.Result.{result_err}
 use Rattle.std.specs.Str.{byte, chars}
 use Rattle.rustc_lexer.specs.declared.token.LiteralKind.{LiteralKind}
@@ -56,6 +57,20 @@ last_place b text = length text - suffix_len (λ x. not (x == b)) text - 1
 abbrev pub between : ℕ → ℕ → List ℕ → List ℕ
 between start end text = take (end - start) (drop start text)
 
+-- where the text between the first quote and the last one begins and ends
+abbrev pub between_places : ℕ → ℕ → Option (ℕ × ℕ)
+between_places first last = if nat_lt first last then Some (first + 1, last) else None
+
+abbrev pub between_quotes : Mode → List ℕ → Option (ℕ × ℕ)
+between_quotes mode text = between_places (first_place (quote_of mode) text) (last_place (quote_of mode) text)
+
+-- what is between the quotes of a literal that is closed, with its mode
+abbrev pub inside_in : Mode → List ℕ → Option (Mode × List ℕ)
+inside_in mode text = option_map (λ (places : ℕ × ℕ). (mode, between places.0 places.1 text)) (between_quotes mode text)
+
+abbrev pub inside : TokenKind → List ℕ → Option (Mode × List ℕ)
+inside kind text = option_and_then (λ (mode : Mode). inside_in mode text) (mode_of kind)
+
 -- ---- the stretches, each with its places in the literal
 
 pub record Stretch : Type 0 where
@@ -108,11 +123,12 @@ abbrev pub stretches_in : Mode → ℕ → ℕ → List ℕ → List Stretch
 stretches_in mode begin close text = if is_single mode then single_stretches mode begin close text else string_stretches mode begin close text
 
 -- those of a literal: between its first quote and its last
-abbrev pub stretches_at : Mode → ℕ → ℕ → List ℕ → List Stretch
-stretches_at mode first last text = if nat_lt first last then stretches_in mode (first + 1) last text else []
+abbrev pub stretches_at : Mode → Option (ℕ × ℕ) → List ℕ → List Stretch
+stretches_at mode None text = []
+stretches_at mode (Some places) text = stretches_in mode places.0 places.1 text
 
 abbrev pub stretches_of : Mode → List ℕ → List Stretch
-stretches_of mode text = stretches_at mode (first_place (quote_of mode) text) (last_place (quote_of mode) text) text
+stretches_of mode text = stretches_at mode (between_quotes mode text) text
 
 -- ---- the parts
 

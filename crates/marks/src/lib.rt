@@ -10,5 +10,6 @@ mod marked;
 mod part;
 mod style;
 
+pub use literal::inside;
 pub use marked::{write_first_tokens, write_marked};
 pub use style::Style;

@@ -1,5 +1,6 @@
 //! Writes literals: their escapes, and what is wrong in them.
-ghost use Rattle.std.specs.Prelude.{◌≡◌, ◌+◌, ◌≤◌, ◌<◌, length, MatchResult, OnOk};
+ghost use Rattle.std.specs.Prelude.{◌≡◌, ◌+◌, ◌≤◌, ◌<◌, length, IfSome, MatchResult, OnOk};
+ghost use Rattle.std.specs.Option.{option_map};
 ghost use Rattle.std.specs.Fmt.{WritesInCalls};
 ghost use Rattle.std.specs.Str.{IsCharBoundary};
 ghost use Rattle.rustc_lexer.specs.Classes.{Fits};
@@ -27,7 +28,8 @@ pub enum Look {
     Wrong(EscapeError),
 }
 
-/// Returns the kind of a closed literal. Returns `None` for a number, and for a token that is not a literal.
+/// Returns the `Mode` of a closed literal. Returns `None` for a number, for a literal that is not closed, and for a token
+/// that is not a literal.
 pub fn mode_of(kind: TokenKind) -> Option<Mode>
     ensures { result ≡ spec.mode_of kind }
 {
@@ -47,6 +49,34 @@ pub fn mode_of(kind: TokenKind) -> Option<Mode>
     }
 }
 
+/// Returns the text between the quotes of a literal, given the literal's kind and text, and the `Mode` in which its
+/// escapes are read. Returns `None` for a number, for a literal that is not closed, and for a token that is not a literal.
+///
+/// These are the arguments that the calls of `rustc_literal_escaper` take. A suffix may follow the closing quote.
+pub fn inside<'a>(kind: TokenKind, text: &'a str) -> Option<(Mode, &'a str)>
+    ensures { option_map (λ found. (found.0, found.1.now)) result ≡ spec.inside kind text.now }
+{
+    let mode = mode_of(kind)?;
+    let (start, end) = between_quotes(mode, text)?;
+    Some((mode, &text[start..end]))
+}
+
+/// Returns where the text between the quotes of a literal begins and ends, or `None` if there are no two quotes.
+fn between_quotes(mode: Mode, text: &str) -> Option<(usize, usize)>
+    ensures places { result ≡ spec.between_quotes mode text.now }
+    ensures inside { IfSome result (λ places. IsCharBoundary text.now places.0 × IsCharBoundary text.now places.1
+        × (places.0 ≤ places.1)) }
+{
+    let quote = quote_of(mode);
+    let first = first_place(quote, text);
+    let last = last_place(quote, text);
+    if first < last {
+        Some((first + 1, last))
+    } else {
+        None
+    }
+}
+
 /// Writes a closed literal: its escapes in their class, its faults between their marks, and the rest as text.
 pub fn write_literal<W: fmt::Write>(
     style: Style,
@@ -58,15 +88,13 @@ pub fn write_literal<W: fmt::Write>(
     ensures { OnOk result (WritesInCalls W.write_str_gives output.old
         (with_marks style (spec.literal_parts mode text.now)) output.new) }
 {
-    let quote = quote_of(mode);
-    let first = first_place(quote, text);
-    let last = last_place(quote, text);
-    if first >= last {
-        write_in_class(style, Class::Text, text, output)
-    } else if is_single(mode) {
-        write_single(style, mode, text, first + 1, last, output)
+    let Some((start, end)) = between_quotes(mode, text) else {
+        return write_in_class(style, Class::Text, text, output);
+    };
+    if is_single(mode) {
+        write_single(style, mode, text, start, end, output)
     } else {
-        write_string(style, mode, text, first + 1, last, output)
+        write_string(style, mode, text, start, end, output)
     }
 }
 

@@ -35,6 +35,22 @@ pub mod erased;
 
 #[doc(inline)]
 pub use erased::Style;
+/// ```
+/// use marks::inside;
+/// use rustc_lexer::{FrontmatterAllowed, tokenize};
+/// use rustc_literal_escaper::{Mode, unescape_str};
+///
+/// let text = r#""a\tb"suffix"#;
+/// let token = tokenize(text, FrontmatterAllowed::No).next().unwrap();
+/// let (mode, between) = inside(token.kind, text).unwrap();
+/// assert_eq!((mode, between), (Mode::Str, r"a\tb"));
+///
+/// let mut value = String::new();
+/// unescape_str(between, |_, c| value.extend(c));
+/// assert_eq!(value, "a\tb");
+/// ```
+#[doc(inline)]
+pub use erased::inside;
 pub use rustc_lexer::Edition;
 
 use core::fmt;

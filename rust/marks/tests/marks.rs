@@ -1,7 +1,9 @@
 //! The calls by hand: what they write, in each style and edition, and an output that fails.
 
 use core::fmt;
-use marks::{Edition, Style, write_first_tokens, write_marked};
+use marks::{Edition, Style, inside, write_first_tokens, write_marked};
+use rustc_lexer::{FrontmatterAllowed, tokenize};
+use rustc_literal_escaper::Mode;
 
 /// What is written of the first tokens of a text.
 fn first(style: Style, edition: Edition, count: usize, text: &str) -> String {
@@ -30,6 +32,29 @@ fn each_style_has_its_marks() {
     ] {
         assert_eq!(whole(style, Edition::E2024, text), wanted);
         assert_eq!(first(style, Edition::E2024, 3, text), wanted);
+    }
+}
+
+#[test]
+fn what_is_between_the_quotes() {
+    for (text, wanted) in [
+        (r"'a'", Some((Mode::Char, "a"))),
+        (r"b'\''", Some((Mode::Byte, r"\'"))),
+        (r#""""#, Some((Mode::Str, ""))),
+        (r#""\"é"s"#, Some((Mode::Str, r#"\"é"#))),
+        (r#"b"'""#, Some((Mode::ByteStr, "'"))),
+        (r#"c"a""#, Some((Mode::CStr, "a"))),
+        (r##"r#"a"b"#"##, Some((Mode::RawStr, r#"a"b"#))),
+        (r#"br"\""#, Some((Mode::RawByteStr, r"\"))),
+        (r###"cr##""##"###, Some((Mode::RawCStr, ""))),
+        (r#""a"#, None),
+        (r##"r#"a""##, None),
+        ("1", None),
+        ("'a", None),
+        ("a", None),
+    ] {
+        let kind = tokenize(text, FrontmatterAllowed::No).next().unwrap().kind;
+        assert_eq!(inside(kind, text), wanted, "of {text}");
     }
 }
 

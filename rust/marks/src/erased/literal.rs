@@ -20,7 +20,8 @@ pub enum Look {
     Wrong(EscapeError),
 }
 
-/// Returns the kind of a closed literal. Returns `None` for a number, and for a token that is not a literal.
+/// Returns the `Mode` of a closed literal. Returns `None` for a number, for a literal that is not closed, and for a token
+/// that is not a literal.
 pub fn mode_of(kind: TokenKind) -> Option<Mode> {
     let TokenKind::Literal { kind, .. } = kind else {
         return None;
@@ -38,6 +39,28 @@ pub fn mode_of(kind: TokenKind) -> Option<Mode> {
     }
 }
 
+/// Returns the text between the quotes of a literal, given the literal's kind and text, and the `Mode` in which its
+/// escapes are read. Returns `None` for a number, for a literal that is not closed, and for a token that is not a literal.
+///
+/// These are the arguments that the calls of `rustc_literal_escaper` take. A suffix may follow the closing quote.
+pub fn inside<'a>(kind: TokenKind, text: &'a str) -> Option<(Mode, &'a str)> {
+    let mode = mode_of(kind)?;
+    let (start, end) = between_quotes(mode, text)?;
+    Some((mode, &text[start..end]))
+}
+
+/// Returns where the text between the quotes of a literal begins and ends, or `None` if there are no two quotes.
+fn between_quotes(mode: Mode, text: &str) -> Option<(usize, usize)> {
+    let quote = quote_of(mode);
+    let first = first_place(quote, text);
+    let last = last_place(quote, text);
+    if first < last {
+        Some((first + 1, last))
+    } else {
+        None
+    }
+}
+
 /// Writes a closed literal: its escapes in their class, its faults between their marks, and the rest as text.
 pub fn write_literal<W: fmt::Write>(
     style: Style,
@@ -45,15 +68,13 @@ pub fn write_literal<W: fmt::Write>(
     text: &str,
     output: &mut W,
 ) -> fmt::Result {
-    let quote = quote_of(mode);
-    let first = first_place(quote, text);
-    let last = last_place(quote, text);
-    if first >= last {
-        write_in_class(style, Class::Text, text, output)
-    } else if is_single(mode) {
-        write_single(style, mode, text, first + 1, last, output)
+    let Some((start, end)) = between_quotes(mode, text) else {
+        return write_in_class(style, Class::Text, text, output);
+    };
+    if is_single(mode) {
+        write_single(style, mode, text, start, end, output)
     } else {
-        write_string(style, mode, text, first + 1, last, output)
+        write_string(style, mode, text, start, end, output)
     }
 }
 
