@@ -10,7 +10,7 @@ use Rattle.rustc_lexer.specs.Edits.{apply, IsEdit}
 use Rattle.rustc_lexer.specs.Head.{body_change, counted, IsBodyChange}
 use Rattle.rustc_lexer.specs.Locality.{IsGrammar}
 use Rattle.rustc_lexer.specs.Relexing.{IsEditOf}
-use Rattle.rustc_lexer.specs.laws.Same.{is_same, same_token, told_same}
+use Rattle.rustc_lexer.specs.laws.Same.{is_same, same_token, token_same}
 use Rattle.rustc_lexer.specs.means.Document.{head_of}
 use Rattle.rustc_lexer.specs.means.Relexing.{relexed_of}
 use Rattle.rustc_lexer.proofs.BodyChangeLemmas.{body_is, is_head}
@@ -51,7 +51,7 @@ tokens (x ∷ xs) (y ∷ ys) = by_first (is_same x y) refl (tokens xs ys)
     by_first : (t : Bool) → is_same x y ≡ t → Told (xs ≡ ys) → Told ((x ∷ xs) ≡ (y ∷ ys))
     by_first true e (inl same) = inl (ap₂ (λ (t : Token) (ts : List Token). t ∷ ts) (same_token x y e) same)
     by_first true e (inr none) = inr (λ all. none (ap (λ (ts : List Token). drop 1 ts) all))
-    by_first false e rest = inr (λ all. true≢false (sym ((told_same (is_same x y) x y refl).1 (ap (λ (ts : List Token). get_or ts 0 x) all)) ∙ e))
+    by_first false e rest = inr (λ all. true≢false (sym (token_same x y (ap (λ (ts : List Token). get_or ts 0 x) all)) ∙ e))
 
 keeps : (text : List ℕ) (start stop : ℕ) (insert : List ℕ) → Told (KeepsHead text start stop insert)
 keeps text start stop insert = all (numbers (shebang_len text) (shebang_len (apply text start stop insert))) (tokens (head_tokens text) (head_tokens (apply text start stop insert))) (at_most (body_start text) start)

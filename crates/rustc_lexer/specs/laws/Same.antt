@@ -13,6 +13,7 @@ use Rattle.rustc_lexer.specs.contracts.relex.head.HeadEq.TheImpl.Laws as equal
 use Rattle.rustc_lexer.specs.contracts.relex.head.HeadPartialEq.TheImpl as head
 use Rattle.rustc_lexer.specs.contracts.token.DocStyle as doc_style
 use Rattle.rustc_lexer.specs.contracts.token.LiteralKindPartialEq.TheImpl as literal
+use Rattle.rustc_lexer.specs.contracts.token.TokenEq.TheImpl.Laws as token_equal
 use Rattle.rustc_lexer.specs.contracts.token.TokenKind as token_kind
 use Rattle.rustc_lexer.specs.contracts.token.TokenKindPartialEq.TheImpl as kind
 use Rattle.rustc_lexer.specs.contracts.token.TokenPartialEq.TheImpl as token
@@ -80,6 +81,9 @@ kind-tells =
 
 pub same_token : (a b : Token) → is_same a b ≡ true → a ≡ b
 same_token a b e = grind (arith, common_steps, and_parts, kind-tells, eqb-true)
+
+pub token_same : (a b : Token) → a ≡ b → is_same a b ≡ true
+token_same a b e = ap (is_same a) (sym e) ∙ token_equal.laws-law.refl a
 
 -- ---- heads
 
