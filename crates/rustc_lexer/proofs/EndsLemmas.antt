@@ -1,18 +1,19 @@
 -- The ends of runs, what is known past them, and the tokens that are classified by them.
-use Rattle.std.proofs.Common.{◌≡◌, ◌≢◌, ℕ, zero, suc, ◌+◌, ◌-◌, ◌/◌, ◌^◌, bit_and, ◌<◌, ◌≤◌, Bool, true, false, true≢false, not, ◌&&◌, ◌||◌, List, ◌∷◌, length, map, drop, get_or, refl, sym, ap, ap₂, subst, ◌∙◌, arith, length-drop, ◌⊎◌, inl, inr}
+use Rattle.std.proofs.Common.{◌≡◌, ℕ, zero, suc, ◌+◌, ◌-◌, ◌/◌, ◌^◌, bit_and, ◌<◌, ◌≤◌, Bool, true, false, true≢false, not, ◌&&◌, ◌||◌, List, ◌∷◌, length, map, drop, get_or, refl, sym, ap, ap₂, subst, ◌∙◌, arith, length-drop, ◌⊎◌, inl, inr, Option, Some, None, is_some}
 use Rattle.std.specs.List.{prefix_len}
 use Rattle.std.specs.Str.{IsUtf8}
 use Rattle.std.proofs.Math.Seq.{drop-cons}
 use Rattle.std.proofs.lemmas.Bool.{agree_below_at, and_from, and_parts, and_cases, or_parts, or_cases, cases_lt, not-true, not-false, le-ltb, lt-ltb}
 use Rattle.std.proofs.lemmas.List.{get_or-drop}
+use Rattle.std.proofs.lemmas.Option.{none-some, same_Some}
 use Rattle.std.proofs.lemmas.List.FromFn.{get_or-map-range_with_len}
 use Rattle.std.proofs.lemmas.List.Sums.{prefix_len_is}
 use Rattle.std.proofs.Math.Bool.{and_comm, or_comm}
 use Rattle.std.proofs.lemmas.Grind.{common_steps}
 use lib.Lanes.{chunk, mask_l}
 use Rattle.unicode_ident.proofs.Computing.{unicode_ident}
-use Rattle.rustc_lexer.specs.{Edition, TokenKind, Token, Ident, Whitespace, GuardedStrPrefix, RawLifetime, UnknownPrefix, UnknownPrefixLifetime, Eof}
-use Rattle.rustc_lexer.specs.declared.lexemes.classified.TheConstants.{CLASSIFIED}
+use Rattle.rustc_lexer.specs.{Edition, TokenKind, Token, Ident, Whitespace, GuardedStrPrefix, RawLifetime, UnknownPrefix, UnknownPrefixLifetime}
+use Rattle.rustc_lexer.specs.declared.lexemes.classified.TheConstants.{CLASSIFIED, SYMBOLS}
 use Rattle.rustc_lexer.specs.declared.lexemes.family.Family.{Family}
 use Rattle.rustc_lexer.specs.declared.lexemes.family.Family.TheVariants.{Slash, Space, Word, Number, Quote, Str, Emoji, Hash, Symbol}
 use Rattle.rustc_lexer.specs.Tokens.{has_fields}
@@ -120,13 +121,12 @@ module _ (p other : ℕ → Bool) (parted : (b : ℕ) → (p b && other b) ≡ f
 
 -- ---- what the first byte tells
 
-pub classified_table : (b : ℕ) (none : TokenKind) → b < 256 → get_or CLASSIFIED b none ≡ classified b
+pub classified_table : (b : ℕ) (none : Option TokenKind) → b < 256 → get_or CLASSIFIED b none ≡ classified b
 unfolding is_emoji unicode_ident
 classified_table b none small = get_or-map-range_with_len classified 0 256 b b none small (omega arith)
 
--- a symbol is classified by itself
-pub classified_symbol : (b : ℕ) → b < 128 → family_of b ≡ Symbol → classified b ≡ symbol_kind b
-classified_symbol b small symbol = rw (lt-ltb b 128 small, symbol) refl
+pub symbols_table : (b : ℕ) (none : TokenKind) → b < 128 → get_or SYMBOLS b none ≡ symbol_kind b
+symbols_table b none small = get_or-map-range_with_len symbol_kind 0 128 b b none small (omega arith)
 
 is_word_family : Family → Bool
 is_word_family Word = true
@@ -155,26 +155,26 @@ symbol_alone : (b : ℕ) → b < 128 → Symbol ≡ family_of b → not (is_cont
 unfolding is_emoji unicode_ident is_symbol_family
 symbol_alone b l e = holds _ _ (agree_below_at (λ x. not (is_symbol_family (family_of x)) || not (is_continue_byte x || is_space_byte x)) (λ _. true) 128 b refl l) (sym (ap is_symbol_family e))
 
-pub record Tells (b : ℕ) : Type 0 where
+pub record Tells (b : ℕ) (kind : TokenKind) : Type 0 where
   pub small : b < 128
-  pub by : ((classified b ≡ Ident) × (Word ≡ family_of b)) ⊎ (((classified b ≡ Whitespace) × (Space ≡ family_of b)) ⊎ ((classified b ≡ symbol_kind b) × (Symbol ≡ family_of b)))
+  pub by : ((kind ≡ Ident) × (Word ≡ family_of b)) ⊎ (((kind ≡ Whitespace) × (Space ≡ family_of b)) ⊎ ((kind ≡ symbol_kind b) × (Symbol ≡ family_of b)))
 
-pub tells : (b : ℕ) → classified b ≢ Eof → Tells b
-tells b some = elim (cases_lt b 128) [
-  | inl small ↦ let at : classified b ≡ classified_in (family_of b) b = rw (lt-ltb b 128 small) refl in record { small = small; by = by_family (family_of b) refl at }
-  | inr wide ↦ absurd (some (rw (le-ltb b 128 wide) refl))
+pub tells : (b : ℕ) (kind : TokenKind) → classified b ≡ Some kind → Tells b kind
+tells b kind some = elim (cases_lt b 128) [
+  | inl small ↦ let at : classified b ≡ classified_in (family_of b) b = rw (lt-ltb b 128 small) refl in record { small = small; by = by_family (family_of b) refl (sym some ∙ at) }
+  | inr wide ↦ let none : classified b ≡ None = rw (le-ltb b 128 wide) refl in absurd (none-some kind (sym none ∙ some))
 ]
   where
-    by_family : (f : Family) → family_of b ≡ f → classified b ≡ classified_in f b → ((classified b ≡ Ident) × (Word ≡ family_of b)) ⊎ (((classified b ≡ Whitespace) × (Space ≡ family_of b)) ⊎ ((classified b ≡ symbol_kind b) × (Symbol ≡ family_of b)))
-    by_family Word e is = inl (is, sym e)
-    by_family Space e is = inr (inl (is, sym e))
-    by_family Symbol e is = inr (inr (is, sym e))
-    by_family Slash e is = absurd (some is)
-    by_family Number e is = absurd (some is)
-    by_family Quote e is = absurd (some is)
-    by_family Str e is = absurd (some is)
-    by_family Emoji e is = absurd (some is)
-    by_family Hash e is = absurd (some is)
+    by_family : (f : Family) → family_of b ≡ f → Some kind ≡ classified_in f b → ((kind ≡ Ident) × (Word ≡ family_of b)) ⊎ (((kind ≡ Whitespace) × (Space ≡ family_of b)) ⊎ ((kind ≡ symbol_kind b) × (Symbol ≡ family_of b)))
+    by_family Word e is = inl (same_Some kind Ident is, sym e)
+    by_family Space e is = inr (inl (same_Some kind Whitespace is, sym e))
+    by_family Symbol e is = inr (inr (same_Some kind (symbol_kind b) is, sym e))
+    by_family Slash e is = absurd (none-some kind (sym is))
+    by_family Number e is = absurd (none-some kind (sym is))
+    by_family Quote e is = absurd (none-some kind (sym is))
+    by_family Str e is = absurd (none-some kind (sym is))
+    by_family Emoji e is = absurd (none-some kind (sym is))
+    by_family Hash e is = absurd (none-some kind (sym is))
 
 -- ---- a token by its run and the byte past that
 
@@ -213,77 +213,88 @@ module _ (text : List ℕ) (is : IsUtf8 text) (b : ℕ) (rest : List ℕ) (e : t
       alone zero f = sym f
       alone (suc m) f = absurd (true≢false (sym (run.on 0 (omega arith)) ∙ rw (ap is_continue_byte front ∙ out.0, ap is_space_byte front ∙ out.1) refl))
 
-  pub as_classified : Tells b → StaysWithin (classified b) next → IsFirstToken text record { kind = classified b; len = suc n }
-  as_classified t stays = subst (λ k. IsFirstToken text record { kind = classified b; len = k }) (let z : 1 + n ≡ suc n = omega arith in z) (by_kind t.by)
+  pub as_classified : (kind : TokenKind) → Tells b kind → StaysWithin kind next → IsFirstToken text record { kind = kind; len = suc n }
+  as_classified kind t stays = subst (λ k. IsFirstToken text record { kind = kind; len = k }) (let z : 1 + n ≡ suc n = omega arith in z) (by_kind t.by)
     where
-      by_kind : ((classified b ≡ Ident) × (Word ≡ family_of b)) ⊎ (((classified b ≡ Whitespace) × (Space ≡ family_of b)) ⊎ ((classified b ≡ symbol_kind b) × (Symbol ≡ family_of b))) → IsFirstToken text record { kind = classified b; len = 1 + n }
+      by_kind : ((kind ≡ Ident) × (Word ≡ family_of b)) ⊎ (((kind ≡ Whitespace) × (Space ≡ family_of b)) ⊎ ((kind ≡ symbol_kind b) × (Symbol ≡ family_of b))) → IsFirstToken text record { kind = kind; len = 1 + n }
       by_kind (inl w) = subst (λ (k : TokenKind). IsFirstToken text record { kind = k; len = 1 + n }) (sym w.0) (as_word t.small w.1 (stays.word w.0))
       by_kind (inr (inl s)) = subst (λ (k : TokenKind). IsFirstToken text record { kind = k; len = 1 + n }) (sym s.0) (as_space t.small s.1 (stays.space s.0))
       by_kind (inr (inr y)) = subst (λ (k : TokenKind). IsFirstToken text record { kind = k; len = 1 + n }) (sym y.0) (as_symbol t.small y.1)
 
 -- the token that the first byte and the lowest end tell
-module _ (text : List ℕ) (is : IsUtf8 text) (b : ℕ) (rest : List ℕ) (e : text ≡ b ∷ rest) (some : classified b ≢ Eof) (ends end next : ℕ) (are : IsEnds text ends) (set : bit ends end ≡ true) (least : (k : ℕ) → k < end → bit ends k ≡ false)
-    (last : next ≡ get_or text end 0) where
-  at_end : StaysWithin (classified b) next → (n : ℕ) → end ≡ n → IsFirstToken text record { kind = classified b; len = n }
-  at_end stays zero f = absurd (true≢false (sym set ∙ (ap (bit ends) f ∙ (are end set).1 0 (omega arith))))
-  at_end stays (suc n) f = as_classified text is b rest e n next (runs_to text ends n are (ap (bit ends) (sym f) ∙ set) (λ k l. least k (omega arith))) (last ∙ ap (λ i. get_or text i 0) f) (tells b some) stays
+module _ (text : List ℕ) (is : IsUtf8 text) (b : ℕ) (rest : List ℕ) (e : text ≡ b ∷ rest) (kind : TokenKind) (some : classified b ≡ Some kind) (ends end next : ℕ) (are : IsEnds text ends) (set : bit ends end ≡ true)
+    (least : (k : ℕ) → k < end → bit ends k ≡ false) (last : next ≡ get_or text end 0) (stays : StaysWithin kind next) where
+  at_end : (n : ℕ) → end ≡ n → IsFirstToken text record { kind = kind; len = n }
+  at_end zero f = absurd (true≢false (sym set ∙ (ap (bit ends) f ∙ (are end set).1 0 (omega arith))))
+  at_end (suc n) f = as_classified text is b rest e n next (runs_to text ends n are (ap (bit ends) (sym f) ∙ set) (λ k l. least k (omega arith))) (last ∙ ap (λ i. get_or text i 0) f) kind (tells b kind some) stays
 
-  pub token_classified : (kind : TokenKind) → kind ≡ classified b → StaysWithin kind next → IsFirstToken text record { kind = kind; len = end }
-  token_classified kind f stays = subst (λ (k : TokenKind). IsFirstToken text record { kind = k; len = end }) (sym f) (at_end (subst (λ (k : TokenKind). StaysWithin k next) f stays) end refl)
+  pub token_classified : IsFirstToken text record { kind = kind; len = end }
+  token_classified = at_end end refl
 
 -- ---- a byte that tells a token turns none before it
 
-abbrev is_eof : TokenKind → Bool
-is_eof Eof = true
-is_eof kind = false
-
-no_eof : (kind : TokenKind) → kind ≢ Eof → is_eof kind ≡ false
-no_eof Eof some = absurd (some refl)
-no_eof kind some = refl
-
-turns_eof : (b : ℕ) → classified b ≢ Eof → (is_eof (classified b) || not (turns_word b)) ≡ true
+turns_none : (b : ℕ) → b < 128 → (not (is_some (classified b)) || not (turns_word b)) ≡ true
 unfolding is_emoji unicode_ident
-turns_eof b some = agree_below_at (λ x. is_eof (classified x) || not (turns_word x)) (λ _. true) 128 b refl (tells b some).small
+turns_none b small = agree_below_at (λ x. not (is_some (classified x)) || not (turns_word x)) (λ _. true) 128 b refl small
 
-pub classified_stays : (kind : TokenKind) (next : ℕ) → classified next ≢ Eof → StaysWithin kind next
+pub classified_stays : (kind : TokenKind) (next : ℕ) → is_some (classified next) ≡ true → StaysWithin kind next
 classified_stays kind next some = record {
-  word = λ _. not-true _ (sym (ap (λ b. b || not (turns_word next)) (no_eof (classified next) some)) ∙ turns_eof next some);
-  space = λ _. agree_below_at (λ x. is_space_lead x) (λ _. false) 128 next refl (tells next some).small;
+  word = λ _. not-true _ (holds _ _ (turns_none next small) some);
+  space = λ _. agree_below_at (λ x. is_space_lead x) (λ _. false) 128 next refl small;
 }
+  where
+    small : next < 128
+    small = elim (cases_lt next 128) [
+      | inl near ↦ near
+      | inr wide ↦ let none : is_some (classified next) ≡ false = rw (le-ltb next 128 wide) refl in absurd (true≢false (sym some ∙ none))
+    ]
+
+-- from this place on the first byte and the lowest end past it tell a token of the kind
+pub record TellsAt (text : List ℕ) (from ends end : ℕ) (kind : TokenKind) : Type 0 where
+  pub utf8 : IsUtf8 (drop from text)
+  pub tells : classified (get_or text from 0) ≡ Some kind
+  pub known : AreEndsPast text from ends
+  pub small : ends < 2 ^ 64
+  pub lowest : IsLowest ends end
+  pub stays : StaysWithin kind (get_or text end 0)
 
 -- the same behind a place, up to which no end is classified
-module _ (text : List ℕ) (from ends end first next : ℕ) (utf8 : IsUtf8 (drop from text)) (are : AreEndsPast text from ends) (small : ends < 2 ^ 64) (low : IsLowest ends end) (of_first : first ≡ get_or text from 0) (some : classified first ≢ Eof)
-    (of_next : next ≡ get_or text end 0) (stays : StaysWithin (classified first) next) where
+module _ (text : List ℕ) (from ends end : ℕ) (kind : TokenKind) (at : TellsAt text from ends end kind) where
   abbrev late : ℕ
   late = bit_and (ends / 2 ^ from) high
 
-  begins : drop from text ≡ first ∷ drop 1 (drop from text)
+  begins : drop from text ≡ get_or text from 0 ∷ drop 1 (drop from text)
   begins =
-      let after = (are end low.set).0 in
-      let inside = (are end low.set).1 in
-      drop-cons (drop from text) 0 0 (omega (arith, length-drop from text, after, inside)) ∙ ap (λ (b : ℕ). b ∷ drop 1 (drop from text)) (get_or-drop from text 0 0 ∙ (ap (λ i. get_or text i 0) (let z : from + 0 ≡ from = omega arith in z) ∙ sym of_first))
+      let after = (at.known end at.lowest.set).0 in
+      let inside = (at.known end at.lowest.set).1 in
+      drop-cons (drop from text) 0 0 (omega (arith, length-drop from text, after, inside)) ∙ ap (λ (b : ℕ). b ∷ drop 1 (drop from text)) (get_or-drop from text 0 0 ∙ ap (λ i. get_or text i 0) (let z : from + 0 ≡ from = omega arith in z))
 
-  by_len : (n : ℕ) → from + suc n ≡ end → IsFirstToken (drop from text) record { kind = classified first; len = suc n }
+  by_len : (n : ℕ) → from + suc n ≡ end → IsFirstToken (drop from text) record { kind = kind; len = suc n }
   by_len n e =
-      let later = past-later ends from small in
-      token_classified (drop from text) utf8 first (drop 1 (drop from text)) begins some late (suc n) next (ends_past text ends from from late (omega arith) are (past-first ends from) later)
-      (later n ∙ (ap (bit ends) e ∙ low.set)) least (of_next ∙ (ap (λ i. get_or text i 0) (sym e) ∙ sym (get_or-drop from text (suc n) 0))) (classified first) refl stays
+      let later = past-later ends from at.small in
+      token_classified (drop from text) at.utf8 (get_or text from 0) (drop 1 (drop from text)) begins kind at.tells late (suc n) (get_or text end 0) (ends_past text ends from from late (omega arith) at.known (past-first ends from) later)
+      (later n ∙ (ap (bit ends) e ∙ at.lowest.set)) least (ap (λ i. get_or text i 0) (sym e) ∙ sym (get_or-drop from text (suc n) 0)) at.stays
     where
       least : (k : ℕ) → k < suc n → bit late k ≡ false
       least zero l = past-first ends from
-      least (suc k) l = past-later ends from small k ∙ low.least (from + suc k) (omega arith)
+      least (suc k) l = past-later ends from at.small k ∙ at.lowest.least (from + suc k) (omega arith)
 
-  pub classified_behind : IsFirstToken (drop from text) record { kind = classified first; len = end - from }
-  classified_behind = let after = (are end low.set).0 in
+  pub classified_behind : IsFirstToken (drop from text) record { kind = kind; len = end - from }
+  classified_behind = let after = (at.known end at.lowest.set).0 in
       let e : from + suc (end - from - 1) ≡ end = omega (arith, after) in
       let n : suc (end - from - 1) ≡ end - from = omega (arith, after) in
-      subst (λ k. IsFirstToken (drop from text) record { kind = classified first; len = k }) n (by_len (end - from - 1) e)
+      subst (λ k. IsFirstToken (drop from text) record { kind = kind; len = k }) n (by_len (end - from - 1) e)
 
 -- ---- what is classified has no fields, and each edition has it
 
-pub classified_bare : (b : ℕ) → classified b ≢ Eof → has_fields (classified b) ≡ false
+-- whether a kind is told of which a test holds
+abbrev said : (TokenKind → Bool) → Option TokenKind → Bool
+said test None = false
+said test (Some kind) = test kind
+
+pub classified_bare : (b : ℕ) (kind : TokenKind) → classified b ≡ Some kind → has_fields kind ≡ false
 unfolding is_emoji unicode_ident
-classified_bare b some = agree_below_at (λ x. has_fields (classified x)) (λ _. false) 128 b refl (tells b some).small
+classified_bare b kind some = sym (ap (said has_fields) some) ∙ agree_below_at (λ x. said has_fields (classified x)) (λ _. false) 128 b refl (tells b kind some).small
 
 -- whether an older edition has another token in place of one of this kind
 abbrev is_newer : TokenKind → Bool
@@ -293,9 +304,9 @@ is_newer UnknownPrefix = true
 is_newer UnknownPrefixLifetime = true
 is_newer kind = false
 
-classified_older : (b : ℕ) → classified b ≢ Eof → is_newer (classified b) ≡ false
+classified_older : (b : ℕ) (kind : TokenKind) → classified b ≡ Some kind → is_newer kind ≡ false
 unfolding is_emoji unicode_ident
-classified_older b some = agree_below_at (λ x. is_newer (classified x)) (λ _. false) 128 b refl (tells b some).small
+classified_older b kind some = sym (ap (said is_newer) some) ∙ agree_below_at (λ x. said is_newer (classified x)) (λ _. false) 128 b refl (tells b kind some).small
 
 older_2021 : (kind : TokenKind) (len : ℕ) → is_newer kind ≡ false → before_2024 kind len ≡ record { kind = kind; len = len }
 older_2021 GuardedStrPrefix len old = absurd (true≢false old)
@@ -307,5 +318,5 @@ older_2018 cs kind len old = grind (arith, common_steps)
 older : (edition : Edition) (cs : List ℕ) (t : Token) → is_newer t.kind ≡ false → changed edition cs t ≡ t
 older edition cs t old = grind (arith, common_steps, older_2021, older_2018)
 
-pub classified_same : (b : ℕ) → classified b ≢ Eof → (edition : Edition) (cs : List ℕ) (kind : TokenKind) (len : ℕ) → kind ≡ classified b → changed edition cs record { kind = kind; len = len } ≡ record { kind = kind; len = len }
-classified_same b some edition cs kind len e = older edition cs record { kind = kind; len = len } (ap is_newer e ∙ classified_older b some)
+pub classified_same : (b : ℕ) (kind : TokenKind) → classified b ≡ Some kind → (edition : Edition) (cs : List ℕ) (len : ℕ) → changed edition cs record { kind = kind; len = len } ≡ record { kind = kind; len = len }
+classified_same b kind some edition cs len = older edition cs record { kind = kind; len = len } (classified_older b kind some)

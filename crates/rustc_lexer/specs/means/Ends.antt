@@ -1,10 +1,9 @@
 -- Means, by how it is read: where runs of bytes end, as the bits of a number, and the tokens that these tell.
-use Rattle.std.specs.Prelude.{ℕ, zero, suc, Bool, true, false, not, ◌&&◌, ◌||◌, ◌==◌, ◌≡◌, ◌<◌, ◌≤◌, ◌^◌, nat_lt, List, length, drop, slice_index, if◌then◌else◌}
+use Rattle.std.specs.Prelude.{ℕ, zero, suc, Bool, true, false, not, ◌&&◌, ◌||◌, ◌==◌, ◌≡◌, ◌<◌, ◌≤◌, nat_lt, List, length, slice_index, if◌then◌else◌, Option, Some, None}
 use Rattle.std.specs.Int.{bit_at}
-use Rattle.std.specs.Str.{IsUtf8}
 use Rattle.rustc_lexer.specs.declared.lexemes.family.Family.{Family}
 use Rattle.rustc_lexer.specs.declared.lexemes.family.Family.TheVariants.{Space, Symbol, Word}
-use Rattle.rustc_lexer.specs.{TokenKind, Ident, Whitespace, Eof}
+use Rattle.rustc_lexer.specs.{TokenKind, Ident, Whitespace}
 use Rattle.rustc_lexer.specs.means.ByteRuns.{is_continue_byte, is_space_byte}
 use Rattle.rustc_lexer.specs.means.Lexeme.{family_of, symbol_kind}
 use Rattle.rustc_lexer.specs.means.Quick.{is_space_lead, turns_word}
@@ -33,25 +32,17 @@ pub record IsLowest (m low : ℕ) : Type 0 where
   pub set : bit m low ≡ true
   pub least : (k : ℕ) → k < low → bit m k ≡ false
 
--- the kind of a token that the first character, of ASCII, and its run tell; Eof where they tell none
-abbrev pub classified_in : Family → ℕ → TokenKind
-classified_in Word c = Ident
-classified_in Space c = Whitespace
-classified_in Symbol c = symbol_kind c
-classified_in other c = Eof
+-- the kind of a token that the first character, of ASCII, and its run tell
+abbrev pub classified_in : Family → ℕ → Option TokenKind
+classified_in Word c = Some Ident
+classified_in Space c = Some Whitespace
+classified_in Symbol c = Some (symbol_kind c)
+classified_in other c = None
 
-abbrev pub classified : ℕ → TokenKind
-classified b = if nat_lt b 128 then classified_in (family_of b) b else Eof
+abbrev pub classified : ℕ → Option TokenKind
+classified b = if nat_lt b 128 then classified_in (family_of b) b else None
 
 -- a byte after which a token of the kind neither turns nor goes on
 pub record StaysWithin (kind : TokenKind) (next : ℕ) : Type 0 where
   pub word : kind ≡ Ident → turns_word next ≡ false
   pub space : kind ≡ Whitespace → is_space_lead next ≡ false
-
--- from this place on the first byte and the lowest end past it tell a token, if they tell any
-pub record TellsAt (text : List ℕ) (from ends end : ℕ) : Type 0 where
-  pub utf8 : IsUtf8 (drop from text)
-  pub known : AreEndsPast text from ends
-  pub small : ends < 2 ^ 64
-  pub lowest : IsLowest ends end
-  pub stays : StaysWithin (classified (slice_index text from)) (slice_index text end)

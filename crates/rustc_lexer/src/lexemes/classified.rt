@@ -1,74 +1,129 @@
 //! The most common tokens, classified by their first byte and the ends of runs.
-ghost use Rattle.std.specs.Prelude.{◌≡◌, ◌≢◌, ◌≤◌, ◌<◌, ◌+◌, ◌-◌, suc, ℕ, List, false, drop, slice_index, true, IsTrue, IsFalse};
-ghost use Rattle.rustc_lexer.specs.{Edition};
-ghost use Rattle.rustc_lexer.specs.Tokens.{has_fields};
-ghost use Rattle.rustc_lexer.specs.means.Edition.{changed};
+ghost use Rattle.std.specs.Prelude.{◌≡◌, ◌≢◌, ◌≤◌, ◌<◌, ◌+◌, suc, ℕ, List, false, drop, true, IsFalse};
 ghost use Rattle.rustc_lexer.specs.means.Ends as spec;
-ghost use Rattle.rustc_lexer.specs.declared.lexemes.family.Family.TheVariants.{Symbol};
-ghost use Rattle.rustc_lexer.specs.means.Ends.{bit, AreEndsPast, IsEnds, IsLowest, StaysWithin, TellsAt};
+ghost use Rattle.rustc_lexer.specs.means.Ends.{bit, AreEndsPast, IsEnds, IsLowest, StaysWithin};
 ghost use Rattle.rustc_lexer.specs.means.Lexeme;
-ghost use Rattle.rustc_lexer.specs.means.Quick.{turns_word, IsFirstToken};
+ghost use Rattle.rustc_lexer.specs.means.Quick.{turns_word};
 
 use crate::kernels::ends_of_runs;
+use crate::token::TokenKind;
 use crate::token::TokenKind::{
     And, At, Bang, Caret, CloseBrace, CloseBracket as ShutSquare, CloseParen, Colon, Comma, Dollar,
-    Dot, Eof, Eq, Gt, Ident, Lt, Minus, OpenBrace, OpenBracket as OpenSquare, OpenParen, Or,
-    Percent, Plus, Question, Semi, Star, Tilde, Unknown, Whitespace,
+    Dot, Eq, Gt, Ident, Lt, Minus, OpenBrace, OpenBracket as OpenSquare, OpenParen, Or, Percent,
+    Plus, Question, Semi, Star, Tilde, Unknown, Whitespace,
 };
-use crate::token::{Token, TokenKind};
 
-/// The kind of the token that begins with a byte, if the token's run and the byte past the run determine all of it.
-/// Otherwise the entry is `Eof`. A look in a table costs less than a branch, since the next byte is hard to
-/// predict.
-static CLASSIFIED: [TokenKind; 256] = [
-    Unknown, Unknown, Unknown, Unknown, Unknown, Unknown, Unknown, Unknown, Unknown, Whitespace,
-    Whitespace, Whitespace, Whitespace, Whitespace, Unknown, Unknown, Unknown, Unknown, Unknown,
-    Unknown, Unknown, Unknown, Unknown, Unknown, Unknown, Unknown, Unknown, Unknown, Unknown,
-    Unknown, Unknown, Unknown, Whitespace, Bang, Eof, Eof, Dollar, Percent, And, Eof, OpenParen,
-    CloseParen, Star, Plus, Comma, Minus, Dot, Eof, Eof, Eof, Eof, Eof, Eof, Eof, Eof, Eof, Eof,
-    Eof, Colon, Semi, Lt, Eq, Gt, Question, At, Ident, Ident, Ident, Ident, Ident, Ident, Ident,
-    Ident, Ident, Ident, Ident, Ident, Ident, Ident, Ident, Ident, Ident, Ident, Ident, Ident,
-    Ident, Ident, Ident, Ident, Ident, Ident, OpenSquare, Unknown, ShutSquare, Caret, Ident,
-    Unknown, Ident, Ident, Ident, Ident, Ident, Ident, Ident, Ident, Ident, Ident, Ident, Ident,
-    Ident, Ident, Ident, Ident, Ident, Ident, Ident, Ident, Ident, Ident, Ident, Ident, Ident,
-    Ident, OpenBrace, Or, CloseBrace, Tilde, Unknown, Eof, Eof, Eof, Eof, Eof, Eof, Eof, Eof, Eof,
-    Eof, Eof, Eof, Eof, Eof, Eof, Eof, Eof, Eof, Eof, Eof, Eof, Eof, Eof, Eof, Eof, Eof, Eof, Eof,
-    Eof, Eof, Eof, Eof, Eof, Eof, Eof, Eof, Eof, Eof, Eof, Eof, Eof, Eof, Eof, Eof, Eof, Eof, Eof,
-    Eof, Eof, Eof, Eof, Eof, Eof, Eof, Eof, Eof, Eof, Eof, Eof, Eof, Eof, Eof, Eof, Eof, Eof, Eof,
-    Eof, Eof, Eof, Eof, Eof, Eof, Eof, Eof, Eof, Eof, Eof, Eof, Eof, Eof, Eof, Eof, Eof, Eof, Eof,
-    Eof, Eof, Eof, Eof, Eof, Eof, Eof, Eof, Eof, Eof, Eof, Eof, Eof, Eof, Eof, Eof, Eof, Eof, Eof,
-    Eof, Eof, Eof, Eof, Eof, Eof, Eof, Eof, Eof, Eof, Eof, Eof, Eof, Eof, Eof, Eof, Eof, Eof, Eof,
-    Eof, Eof, Eof, Eof, Eof,
+// Short names keep the table in rows.
+const AND: Option<TokenKind> = Some(And);
+
+const AT: Option<TokenKind> = Some(At);
+
+const BANG: Option<TokenKind> = Some(Bang);
+
+const CARET: Option<TokenKind> = Some(Caret);
+
+const COLON: Option<TokenKind> = Some(Colon);
+
+const COMMA: Option<TokenKind> = Some(Comma);
+
+const DOLLAR: Option<TokenKind> = Some(Dollar);
+
+const DOT: Option<TokenKind> = Some(Dot);
+
+const EQUALS: Option<TokenKind> = Some(Eq);
+
+const GREATER: Option<TokenKind> = Some(Gt);
+
+const LESS: Option<TokenKind> = Some(Lt);
+
+const MINUS: Option<TokenKind> = Some(Minus);
+
+const OPEN: Option<TokenKind> = Some(OpenParen);
+
+const OPEN_BR: Option<TokenKind> = Some(OpenBrace);
+
+const OPEN_SQ: Option<TokenKind> = Some(OpenSquare);
+
+const OR: Option<TokenKind> = Some(Or);
+
+const OTHER: Option<TokenKind> = Some(Unknown);
+
+const PERCENT: Option<TokenKind> = Some(Percent);
+
+const PLUS: Option<TokenKind> = Some(Plus);
+
+const QUESTION: Option<TokenKind> = Some(Question);
+
+const SEMI: Option<TokenKind> = Some(Semi);
+
+const SHUT: Option<TokenKind> = Some(CloseParen);
+
+const SHUT_BR: Option<TokenKind> = Some(CloseBrace);
+
+const SHUT_SQ: Option<TokenKind> = Some(ShutSquare);
+
+const SPACE: Option<TokenKind> = Some(Whitespace);
+
+const STAR: Option<TokenKind> = Some(Star);
+
+const TILDE: Option<TokenKind> = Some(Tilde);
+
+const WORD: Option<TokenKind> = Some(Ident);
+
+/// The kind of the token that begins with a byte, if the token's run and the byte past the run determine all of it. A
+/// look in a table costs less than a branch, since the next byte is hard to predict.
+static CLASSIFIED: [Option<TokenKind>; 256] = [
+    OTHER, OTHER, OTHER, OTHER, OTHER, OTHER, OTHER, OTHER, OTHER, SPACE, SPACE, SPACE, SPACE,
+    SPACE, OTHER, OTHER, OTHER, OTHER, OTHER, OTHER, OTHER, OTHER, OTHER, OTHER, OTHER, OTHER,
+    OTHER, OTHER, OTHER, OTHER, OTHER, OTHER, SPACE, BANG, None, None, DOLLAR, PERCENT, AND, None,
+    OPEN, SHUT, STAR, PLUS, COMMA, MINUS, DOT, None, None, None, None, None, None, None, None,
+    None, None, None, COLON, SEMI, LESS, EQUALS, GREATER, QUESTION, AT, WORD, WORD, WORD, WORD,
+    WORD, WORD, WORD, WORD, WORD, WORD, WORD, WORD, WORD, WORD, WORD, WORD, WORD, WORD, WORD, WORD,
+    WORD, WORD, WORD, WORD, WORD, WORD, OPEN_SQ, OTHER, SHUT_SQ, CARET, WORD, OTHER, WORD, WORD,
+    WORD, WORD, WORD, WORD, WORD, WORD, WORD, WORD, WORD, WORD, WORD, WORD, WORD, WORD, WORD, WORD,
+    WORD, WORD, WORD, WORD, WORD, WORD, WORD, WORD, OPEN_BR, OR, SHUT_BR, TILDE, OTHER, None, None,
+    None, None, None, None, None, None, None, None, None, None, None, None, None, None, None, None,
+    None, None, None, None, None, None, None, None, None, None, None, None, None, None, None, None,
+    None, None, None, None, None, None, None, None, None, None, None, None, None, None, None, None,
+    None, None, None, None, None, None, None, None, None, None, None, None, None, None, None, None,
+    None, None, None, None, None, None, None, None, None, None, None, None, None, None, None, None,
+    None, None, None, None, None, None, None, None, None, None, None, None, None, None, None, None,
+    None, None, None, None, None, None, None, None, None, None, None, None, None, None, None, None,
+    None, None, None, None, None, None, None, None, None, None, None, None, None, None,
 ];
 
-/// Returns whether the ends of runs may classify a token that begins with the byte.
-#[inline(always)]
-pub(crate) fn is_classified(first: u8) -> bool
-    ensures { IsTrue result → spec.classified first ≢ TokenKind.Eof }
-{
-    !matches!(classified_by(first), TokenKind::Eof)
-}
+/// The kind of each character in ASCII by itself.
+static SYMBOLS: [TokenKind; 128] = [
+    Unknown, Unknown, Unknown, Unknown, Unknown, Unknown, Unknown, Unknown, Unknown, Unknown,
+    Unknown, Unknown, Unknown, Unknown, Unknown, Unknown, Unknown, Unknown, Unknown, Unknown,
+    Unknown, Unknown, Unknown, Unknown, Unknown, Unknown, Unknown, Unknown, Unknown, Unknown,
+    Unknown, Unknown, Unknown, Bang, Unknown, Unknown, Dollar, Percent, And, Unknown, OpenParen,
+    CloseParen, Star, Plus, Comma, Minus, Dot, Unknown, Unknown, Unknown, Unknown, Unknown,
+    Unknown, Unknown, Unknown, Unknown, Unknown, Unknown, Colon, Semi, Lt, Eq, Gt, Question, At,
+    Unknown, Unknown, Unknown, Unknown, Unknown, Unknown, Unknown, Unknown, Unknown, Unknown,
+    Unknown, Unknown, Unknown, Unknown, Unknown, Unknown, Unknown, Unknown, Unknown, Unknown,
+    Unknown, Unknown, Unknown, Unknown, Unknown, Unknown, OpenSquare, Unknown, ShutSquare, Caret,
+    Unknown, Unknown, Unknown, Unknown, Unknown, Unknown, Unknown, Unknown, Unknown, Unknown,
+    Unknown, Unknown, Unknown, Unknown, Unknown, Unknown, Unknown, Unknown, Unknown, Unknown,
+    Unknown, Unknown, Unknown, Unknown, Unknown, Unknown, Unknown, Unknown, OpenBrace, Or,
+    CloseBrace, Tilde, Unknown,
+];
 
-/// Returns the table's kind for a token that begins with the byte.
+/// Returns the kind of the token that begins with the byte, if its run and the byte past the run determine all of it.
 #[inline(always)]
-fn classified_by(first: u8) -> TokenKind
+pub(crate) fn classified_by(first: u8) -> Option<TokenKind>
     ensures { result ≡ spec.classified first }
 {
     CLASSIFIED[first as usize]
 }
 
-/// Returns the kind of a character with which no longer token begins.
+/// Returns the kind of a character by itself, which is `Unknown` unless it is a symbol.
 #[inline(always)]
 pub(crate) fn symbol_kind(c: char) -> TokenKind
-    requires { Lexeme.family_of c ≡ Symbol }
     ensures { result ≡ Lexeme.symbol_kind c }
 {
     let code = c as usize;
-    if code < 128 {
-        CLASSIFIED[code]
-    } else {
-        Unknown
-    }
+    if code < 128 { SYMBOLS[code] } else { Unknown }
 }
 
 /// Returns the ends of runs that are known, or else those of the first 64 bytes.
@@ -126,31 +181,13 @@ fn ends_past(ends: u64, len: u32) -> u64
     (ends >> len) & !1
 }
 
-/// Returns the token that begins with the byte and is `len` bytes long, as the ends of runs determine. It has no
-/// fields, and is the same in each edition.
+/// Returns whether the byte `next` after the run may change the token of that kind, or continue it.
 #[inline(always)]
-pub(crate) fn classified(first: u8, len: u32) -> Token
-    requires { spec.classified first ≢ TokenKind.Eof }
-    ensures token { (text : List ℕ) (from ends end : ℕ) → TellsAt text from ends end
-        → first ≡ slice_index text from → len ≡ end - from → IsFirstToken (drop from text) result }
-    ensures bare { has_fields result.kind ≡ false }
-    ensures same { (edition : Edition) (cs : List ℕ) → changed edition cs result ≡ result }
-    ensures len { result.len ≡ len }
-{
-    Token {
-        kind: classified_by(first),
-        len,
-    }
-}
-
-/// Returns whether the byte `next` after the run may change the token that begins with the byte `first`, or
-/// continue it.
-#[inline(always)]
-pub(crate) fn turns(first: u8, next: u8) -> bool
-    ensures { IsFalse result → StaysWithin (spec.classified first) next }
+pub(crate) fn turns(kind: TokenKind, next: u8) -> bool
+    ensures { IsFalse result → StaysWithin kind next }
 {
     is_mark(next)
-        && match classified_by(first) {
+        && match kind {
             TokenKind::Ident => true,
             TokenKind::Whitespace => next == 0xC2 || next == 0xE2,
             _ => false,

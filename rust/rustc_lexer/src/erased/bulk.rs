@@ -2,7 +2,7 @@
 
 use crate::erased::edition::{Edition, token_in};
 use crate::erased::lexemes::classified::{
-    classified, ends_before, ends_for, ends_left, is_classified, past_lowest, turns,
+    classified_by, ends_before, ends_for, ends_left, past_lowest, turns,
 };
 use crate::erased::token::{Token, TokenKind};
 
@@ -46,26 +46,26 @@ pub(crate) fn fill<R: Record>(
     while count < buffer.len() && at < stop {
         let rest = &text[at..];
         let bytes = rest.as_bytes();
-        let mut first = bytes[0];
-        let mut tells = is_classified(first);
-        if tells {
+        let mut told = classified_by(bytes[0]);
+        if told.is_some() {
             ends = ends_before(ends_for(rest, ends), stop - at);
         }
         // How many bytes of `rest` the classified tokens take: 0 until one is classified.
         let mut from = 0;
-        while tells && ends != 0 && count < buffer.len() {
+        while ends != 0 && count < buffer.len() {
+            let Some(kind) = told else {
+                break;
+            };
             let end = ends.trailing_zeros();
             let next = bytes[end as usize];
             // A byte that determines its own token never changes the token before it.
-            tells = is_classified(next);
-            if !tells && turns(first, next) {
+            told = classified_by(next);
+            if told.is_none() && turns(kind, next) {
                 break;
             }
-            let token = classified(first, end - from);
-            buffer[count] = R::bare(token.kind, token.len);
+            buffer[count] = R::bare(kind, end - from);
             count += 1;
             from = end;
-            first = next;
             ends = past_lowest(ends);
         }
         if from == 0 {

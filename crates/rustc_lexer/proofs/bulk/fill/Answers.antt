@@ -1,8 +1,8 @@
-use Rattle.std.proofs.Common.{◌≡◌, ◌≢◌, ◌+◌, ◌-◌, ◌^◌, ◌<◌, ◌≤◌, ℕ, List, length, drop, get_or, slice_set, refl, sym, ap, subst, ◌∙◌, arith, drop-drop, true≢false, inl, inr}
+use Rattle.std.proofs.Common.{◌≡◌, ◌+◌, ◌-◌, ◌^◌, ◌<◌, ◌≤◌, ℕ, List, length, drop, get_or, slice_set, refl, sym, ap, subst, ◌∙◌, arith, drop-drop, true≢false, inl, inr, Some, is_some}
 use Rattle.std.specs.Str.{chars, IsUtf8}
 use Rattle.std.proofs.lemmas.Bool.{cases_lt}
 use lib.Count.{count_trailing_zeros}
-use Rattle.rustc_lexer.specs.{Token, Eof}
+use Rattle.rustc_lexer.specs.{Token, TokenKind}
 use Rattle.rustc_lexer.specs.means.Edition.{changed, first_token_in}
 use Rattle.rustc_lexer.specs.Tokens.{bound, tokens_of}
 use Rattle.rustc_lexer.specs.LanguageText.{part}
@@ -11,9 +11,9 @@ use Rattle.rustc_lexer.specs.Classes.{IsText}
 use Rattle.rustc_lexer.specs.laws.Edition.{edition_grammar}
 use Rattle.rustc_lexer.proofs.BitLemmas.{lowest, below-lowest}
 use Rattle.rustc_lexer.proofs.BulkLemmas.{IsWritten, begun_more, none_written, one_written, stands, next_token, next_place, next_some}
-use Rattle.rustc_lexer.proofs.EndsLemmas.{all_past, no_ends, past_end, classified_stays}
+use Rattle.rustc_lexer.proofs.EndsLemmas.{all_past, no_ends, past_end, classified_bare, classified_behind, classified_same, classified_stays}
 use Rattle.rustc_lexer.proofs.bulk.fill.Goals as goal
-use Rattle.rustc_lexer.proofs.bulk.fill.Goals.{then-tells, else-tells, else-not-tells-via-then-not-tells+else-turns, else-not-tells-via-else-not-tells, then-from-eq0, else-from-eq0}
+use Rattle.rustc_lexer.proofs.bulk.fill.Goals.{then-is_some, else-is_some, else-is_none-via-then-is_none+else-turns, else-is_none-via-else-is_none, then-from-eq0, else-from-eq0}
 
 pub tokens-init : goal.tokens-init
 tokens-init g c = record { written = none_written _ _ _; begun = λ k less. absurd (omega arith); place = refl; ends = no_ends _; small = omega arith }
@@ -32,8 +32,8 @@ classified-init g c =
     let rest : c.range_from-rest.result.now ≡ drop at text = c.range_from-rest.ensures.value in
     let here : at + 0 ≡ at = omega arith in
     let first : get_or c.as_bytes-bytes.result.now 0 0 ≡ get_or (drop at text) 0 0 = ap (λ (xs : List ℕ). get_or xs 0 0) (c.as_bytes-bytes.ensures.value ∙ rest) in
-    elim c.if-tells.branch [
-      | then-tells w ↦
+    elim c.if-is_some.branch [
+      | then-is_some w ↦
           let known = w.ends_before-ends.ensures.known (drop at text) (subst (λ (xs : List ℕ). IsEnds xs w.ends_for.result) rest w.ends_for.ensures) in
           rw w.ends-is record {
             written = inv.written;
@@ -41,68 +41,69 @@ classified-init g c =
             place = here ∙ inv.place;
             ends = all_past (drop at text) w.ends_before-ends.result known;
             small = omega arith;
-            before = λ _ k set. let low = w.ends_before-ends.ensures.before k set in omega arith;
+            before = λ _ _ k set. let low = w.ends_before-ends.ensures.before k set in omega arith;
             inside = omega arith;
-            first = first;
-            tells = λ e. c.is_classified-tells.ensures e;
+            told = c.classified_by-told.ensures ∙ ap classified first;
             some = λ _. omega arith;
           }
-      | else-tells w ↦
+      | else-is_some w ↦
           rw w.ends-is record {
             written = inv.written;
             begun = inv.begun;
             place = here ∙ inv.place;
             ends = all_past (drop at text) c.tokens.ends inv.ends;
             small = inv.small;
-            before = λ e k set. absurd (true≢false (sym e ∙ w.if-tells.false));
+            before = λ kind e k set. absurd (true≢false (sym (w.if-is_some.ensures ∙ ap is_some e)));
             inside = omega arith;
-            first = first;
-            tells = λ e. c.is_classified-tells.ensures e;
+            told = c.classified_by-told.ensures ∙ ap classified first;
             some = λ _. omega arith;
           }
     ]
 
 pub bounds-bytes-end : goal.bounds-bytes-end
 bounds-bytes-end g c =
-    let low = least c.classified.ends (omega (arith, c.if-ends-ne0.true)) c.classified.invariant.small in
+    let low = least c.classified.ends (omega (arith, c.classified-test.true)) c.classified.invariant.small in
     subst (λ (xs : List ℕ). count_trailing_zeros 64 c.classified.ends < length xs) (sym (c.as_bytes-bytes.ensures.value ∙ c.range_from-rest.ensures.value)) (c.classified.invariant.ends _ low.set).1
 
 pub overflow_sub-end : goal.overflow_sub-end
 overflow_sub-end g c =
-    let low = least c.classified.ends (omega (arith, c.if-ends-ne0.true)) c.classified.invariant.small in
+    let low = least c.classified.ends (omega (arith, c.classified-test.true)) c.classified.invariant.small in
     let after = (c.classified.invariant.ends _ low.set).0 in
     omega (arith, after)
+
+pub bare-requires : goal.bare-requires
+bare-requires g c = classified_bare (get_or (drop c.tokens.at c.args.text.now) c.classified.from 0) c.in-Some.kind (sym c.classified.invariant.told ∙ c.in-Some.is)
 
 pub classified-preserved : goal.classified-preserved
 classified-preserved g c =
     let text : List ℕ = c.args.text.now in
     let at : ℕ = c.tokens.at in
     let from : ℕ = c.classified.from in
-    let first : ℕ = c.classified.first in
     let end : ℕ = count_trailing_zeros 64 c.classified.ends in
     let is : IsText text = record { utf8 = c.utf8.text; fits = c.requires.fits } in
     let law = edition_grammar c.args.edition in
     let inv = c.classified.invariant in
-    let low = least c.classified.ends (omega (arith, c.if-ends-ne0.true)) inv.small in
+    let low = least c.classified.ends (omega (arith, c.classified-test.true)) inv.small in
     let after = (inv.ends end low.set).0 in
     let inside = (inv.ends end low.set).1 in
     let joined : drop from (drop at text) ≡ drop (at + from) text = drop-drop from at text in
     let utf8 : IsUtf8 (drop from (drop at text)) = subst IsUtf8 (sym joined) (stands law text is c.classified.count (at + from) inv.place).past.utf8 in
     let bytes : c.as_bytes-bytes.result.now ≡ drop at text = c.as_bytes-bytes.ensures.value ∙ c.range_from-rest.ensures.value in
-    let some : classified first ≢ Eof = inv.tells c.classified-test.true in
-    let stays : StaysWithin (classified first) (get_or c.as_bytes-bytes.result.now end 0) = elim c.else-not-tells.branch [
-      | else-not-tells-via-then-not-tells+else-turns w ↦ w.turns.ensures w.if-turns.false
-      | else-not-tells-via-else-not-tells w ↦ classified_stays (classified first) _ (c.is_classified-tells-in-classified.ensures w.if-not-tells.false)
-    ] in
+    let kind : TokenKind = c.in-Some.kind in
+    let tells : classified (get_or (drop at text) from 0) ≡ Some kind = sym inv.told ∙ c.in-Some.is in
     let next : get_or c.as_bytes-bytes.result.now end 0 ≡ get_or (drop at text) end 0 = ap (λ (xs : List ℕ). get_or xs end 0) bytes in
-    let stays_at : StaysWithin (classified (get_or (drop at text) from 0)) (get_or (drop at text) end 0) = subst (λ b. StaysWithin (classified (get_or (drop at text) from 0)) b) next (subst (λ b. StaysWithin (classified b) (get_or c.as_bytes-bytes.result.now end 0)) inv.first stays) in
-    let token = c.classified-token.ensures.token (drop at text) from c.classified.ends end record { utf8 = utf8; known = inv.ends; small = inv.small; lowest = low; stays = stays_at } inv.first refl in
-    let one : Token = c.classified-token.result in
-    let here : first_token_in c.args.edition (drop from (drop at text)) ≡ one = ap (λ (t : Token). changed c.args.edition (chars (drop from (drop at text))) t) (sym token.token) ∙ c.classified-token.ensures.same c.args.edition (chars (drop from (drop at text))) in
+    let stays : StaysWithin kind (get_or c.as_bytes-bytes.result.now end 0) = elim c.else-is_none.branch [
+      | else-is_none-via-then-is_none+else-turns w ↦ w.turns.ensures w.if-turns.false
+      | else-is_none-via-else-is_none w ↦ classified_stays kind _ (ap is_some (sym c.classified_by-told-in-classified.ensures) ∙ w.if-is_none.ensures)
+    ] in
+    let at_end : StaysWithin kind (get_or (drop at text) end 0) = subst (StaysWithin kind) next stays in
+    let one : Token = record { kind = kind; len = end - from } in
+    let token = classified_behind (drop at text) from c.classified.ends end kind record { utf8 = utf8; tells = tells; known = inv.ends; small = inv.small; lowest = low; stays = at_end } in
+    let here : first_token_in c.args.edition (drop from (drop at text)) ≡ one = ap (λ (t : Token). changed c.args.edition (chars (drop from (drop at text))) t) (sym token.token) ∙ classified_same (get_or (drop at text) from 0) kind tells c.args.edition (chars (drop from (drop at text))) (end - from) in
     let there : first_token_in c.args.edition (drop (at + from) text) ≡ one = ap (λ (xs : List ℕ). first_token_in c.args.edition xs) (sym joined) ∙ here in
     let more : at + from < length text = omega (arith, inv.inside) in
-    let before = inv.before c.classified-test.true in
-    let long : (first_token_in c.args.edition (drop (at + from) text)).len ≡ end - from = ap (λ (t : Token). t.len) there ∙ c.classified-token.ensures.len in
+    let before = inv.before kind c.in-Some.is in
+    let long : (first_token_in c.args.edition (drop (at + from) text)).len ≡ end - from = ap (λ (t : Token). t.len) there in
     let same : at + end ≡ at + from + (first_token_in c.args.edition (drop (at + from) text)).len = omega (arith, after, long) in
     record {
       written = one_written g.R.Record.written (tokens_of (part c.args.edition) text) _ c.args.buffer.now c.classified.buffer c.classified.count (first_token_in c.args.edition (drop (at + from) text)) inv.written
@@ -112,13 +113,12 @@ classified-preserved g c =
       place = same ∙ next_place law text is c.classified.count (at + from) inv.place more;
       ends = past_end (drop at text) c.classified.ends from end c.past_lowest-ends.result inv.ends low (λ k le. c.past_lowest-ends.ensures.gone end k low le) (λ k l. c.past_lowest-ends.ensures.others end k low l);
       small = omega arith;
-      before = λ _ k set. before k (elim (cases_lt end k) [
+      before = λ _ _ k set. before k (elim (cases_lt end k) [
         | inl later ↦ sym (c.past_lowest-ends.ensures.others end k low later) ∙ set
         | inr sooner ↦ absurd (true≢false (sym set ∙ c.past_lowest-ends.ensures.gone end k low (omega arith)))
       ]);
       inside = before end low.set;
-      first = next;
-      tells = λ e. c.is_classified-tells-in-classified.ensures e;
+      told = c.classified_by-told-in-classified.ensures ∙ ap classified next;
       some = λ e. absurd (omega (arith, after, e));
     }
 

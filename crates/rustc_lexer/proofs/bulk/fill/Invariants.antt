@@ -1,5 +1,5 @@
-use Rattle.std.proofs.Common.{◌≡◌, ◌≢◌, ◌+◌, ◌-◌, ◌^◌, ◌<◌, ℕ, true, length, drop, get_or}
-use Rattle.rustc_lexer.specs.{Eof}
+use Rattle.std.proofs.Common.{◌≡◌, ◌+◌, ◌-◌, ◌^◌, ◌<◌, ℕ, true, length, drop, get_or, Some}
+use Rattle.rustc_lexer.specs.{TokenKind}
 use Rattle.rustc_lexer.specs.Tokens.{bound, tokens_of}
 use Rattle.rustc_lexer.specs.LanguageText.{part}
 use Rattle.rustc_lexer.specs.means.Ends.{classified, bit, AreEndsPast, IsEnds}
@@ -25,10 +25,9 @@ invariant-classified g l = record {
   place : l.at + l.from ≡ bound (tokens_of (part l.edition) l.text) l.count;
   ends : AreEndsPast (drop l.at l.text) l.from l.ends;
   small : l.ends < 2 ^ 64;
-  before : l.tells ≡ true → (k : ℕ) → bit l.ends k ≡ true → l.at + k < l.stop;
+  before : (kind : TokenKind) → l.told ≡ Some kind → (k : ℕ) → bit l.ends k ≡ true → l.at + k < l.stop;
   inside : l.at + l.from < l.stop;
-  first : l.first ≡ get_or (drop l.at l.text) l.from 0;
-  tells : l.tells ≡ true → classified l.first ≢ Eof;
+  told : l.told ≡ classified (get_or (drop l.at l.text) l.from 0);
   some : l.from ≡ 0 → l.count < length l.buffer;
 }
 

@@ -1,58 +1,120 @@
 //! The most common tokens, classified by their first byte and the ends of runs.
 
 use crate::erased::kernels::ends_of_runs;
+use crate::erased::token::TokenKind;
 use crate::erased::token::TokenKind::{
     And, At, Bang, Caret, CloseBrace, CloseBracket as ShutSquare, CloseParen, Colon, Comma, Dollar,
-    Dot, Eof, Eq, Gt, Ident, Lt, Minus, OpenBrace, OpenBracket as OpenSquare, OpenParen, Or,
-    Percent, Plus, Question, Semi, Star, Tilde, Unknown, Whitespace,
+    Dot, Eq, Gt, Ident, Lt, Minus, OpenBrace, OpenBracket as OpenSquare, OpenParen, Or, Percent,
+    Plus, Question, Semi, Star, Tilde, Unknown, Whitespace,
 };
-use crate::erased::token::{Token, TokenKind};
 
-/// The kind of the token that begins with a byte, if the token's run and the byte past the run determine all of it.
-/// Otherwise the entry is `Eof`. A look in a table costs less than a branch, since the next byte is hard to
-/// predict.
-static CLASSIFIED: [TokenKind; 256] = [
-    Unknown, Unknown, Unknown, Unknown, Unknown, Unknown, Unknown, Unknown, Unknown, Whitespace,
-    Whitespace, Whitespace, Whitespace, Whitespace, Unknown, Unknown, Unknown, Unknown, Unknown,
-    Unknown, Unknown, Unknown, Unknown, Unknown, Unknown, Unknown, Unknown, Unknown, Unknown,
-    Unknown, Unknown, Unknown, Whitespace, Bang, Eof, Eof, Dollar, Percent, And, Eof, OpenParen,
-    CloseParen, Star, Plus, Comma, Minus, Dot, Eof, Eof, Eof, Eof, Eof, Eof, Eof, Eof, Eof, Eof,
-    Eof, Colon, Semi, Lt, Eq, Gt, Question, At, Ident, Ident, Ident, Ident, Ident, Ident, Ident,
-    Ident, Ident, Ident, Ident, Ident, Ident, Ident, Ident, Ident, Ident, Ident, Ident, Ident,
-    Ident, Ident, Ident, Ident, Ident, Ident, OpenSquare, Unknown, ShutSquare, Caret, Ident,
-    Unknown, Ident, Ident, Ident, Ident, Ident, Ident, Ident, Ident, Ident, Ident, Ident, Ident,
-    Ident, Ident, Ident, Ident, Ident, Ident, Ident, Ident, Ident, Ident, Ident, Ident, Ident,
-    Ident, OpenBrace, Or, CloseBrace, Tilde, Unknown, Eof, Eof, Eof, Eof, Eof, Eof, Eof, Eof, Eof,
-    Eof, Eof, Eof, Eof, Eof, Eof, Eof, Eof, Eof, Eof, Eof, Eof, Eof, Eof, Eof, Eof, Eof, Eof, Eof,
-    Eof, Eof, Eof, Eof, Eof, Eof, Eof, Eof, Eof, Eof, Eof, Eof, Eof, Eof, Eof, Eof, Eof, Eof, Eof,
-    Eof, Eof, Eof, Eof, Eof, Eof, Eof, Eof, Eof, Eof, Eof, Eof, Eof, Eof, Eof, Eof, Eof, Eof, Eof,
-    Eof, Eof, Eof, Eof, Eof, Eof, Eof, Eof, Eof, Eof, Eof, Eof, Eof, Eof, Eof, Eof, Eof, Eof, Eof,
-    Eof, Eof, Eof, Eof, Eof, Eof, Eof, Eof, Eof, Eof, Eof, Eof, Eof, Eof, Eof, Eof, Eof, Eof, Eof,
-    Eof, Eof, Eof, Eof, Eof, Eof, Eof, Eof, Eof, Eof, Eof, Eof, Eof, Eof, Eof, Eof, Eof, Eof, Eof,
-    Eof, Eof, Eof, Eof, Eof,
+// Short names keep the table in rows.
+const AND: Option<TokenKind> = Some(And);
+
+const AT: Option<TokenKind> = Some(At);
+
+const BANG: Option<TokenKind> = Some(Bang);
+
+const CARET: Option<TokenKind> = Some(Caret);
+
+const COLON: Option<TokenKind> = Some(Colon);
+
+const COMMA: Option<TokenKind> = Some(Comma);
+
+const DOLLAR: Option<TokenKind> = Some(Dollar);
+
+const DOT: Option<TokenKind> = Some(Dot);
+
+const EQUALS: Option<TokenKind> = Some(Eq);
+
+const GREATER: Option<TokenKind> = Some(Gt);
+
+const LESS: Option<TokenKind> = Some(Lt);
+
+const MINUS: Option<TokenKind> = Some(Minus);
+
+const OPEN: Option<TokenKind> = Some(OpenParen);
+
+const OPEN_BR: Option<TokenKind> = Some(OpenBrace);
+
+const OPEN_SQ: Option<TokenKind> = Some(OpenSquare);
+
+const OR: Option<TokenKind> = Some(Or);
+
+const OTHER: Option<TokenKind> = Some(Unknown);
+
+const PERCENT: Option<TokenKind> = Some(Percent);
+
+const PLUS: Option<TokenKind> = Some(Plus);
+
+const QUESTION: Option<TokenKind> = Some(Question);
+
+const SEMI: Option<TokenKind> = Some(Semi);
+
+const SHUT: Option<TokenKind> = Some(CloseParen);
+
+const SHUT_BR: Option<TokenKind> = Some(CloseBrace);
+
+const SHUT_SQ: Option<TokenKind> = Some(ShutSquare);
+
+const SPACE: Option<TokenKind> = Some(Whitespace);
+
+const STAR: Option<TokenKind> = Some(Star);
+
+const TILDE: Option<TokenKind> = Some(Tilde);
+
+const WORD: Option<TokenKind> = Some(Ident);
+
+/// The kind of the token that begins with a byte, if the token's run and the byte past the run determine all of it. A
+/// look in a table costs less than a branch, since the next byte is hard to predict.
+static CLASSIFIED: [Option<TokenKind>; 256] = [
+    OTHER, OTHER, OTHER, OTHER, OTHER, OTHER, OTHER, OTHER, OTHER, SPACE, SPACE, SPACE, SPACE,
+    SPACE, OTHER, OTHER, OTHER, OTHER, OTHER, OTHER, OTHER, OTHER, OTHER, OTHER, OTHER, OTHER,
+    OTHER, OTHER, OTHER, OTHER, OTHER, OTHER, SPACE, BANG, None, None, DOLLAR, PERCENT, AND, None,
+    OPEN, SHUT, STAR, PLUS, COMMA, MINUS, DOT, None, None, None, None, None, None, None, None,
+    None, None, None, COLON, SEMI, LESS, EQUALS, GREATER, QUESTION, AT, WORD, WORD, WORD, WORD,
+    WORD, WORD, WORD, WORD, WORD, WORD, WORD, WORD, WORD, WORD, WORD, WORD, WORD, WORD, WORD, WORD,
+    WORD, WORD, WORD, WORD, WORD, WORD, OPEN_SQ, OTHER, SHUT_SQ, CARET, WORD, OTHER, WORD, WORD,
+    WORD, WORD, WORD, WORD, WORD, WORD, WORD, WORD, WORD, WORD, WORD, WORD, WORD, WORD, WORD, WORD,
+    WORD, WORD, WORD, WORD, WORD, WORD, WORD, WORD, OPEN_BR, OR, SHUT_BR, TILDE, OTHER, None, None,
+    None, None, None, None, None, None, None, None, None, None, None, None, None, None, None, None,
+    None, None, None, None, None, None, None, None, None, None, None, None, None, None, None, None,
+    None, None, None, None, None, None, None, None, None, None, None, None, None, None, None, None,
+    None, None, None, None, None, None, None, None, None, None, None, None, None, None, None, None,
+    None, None, None, None, None, None, None, None, None, None, None, None, None, None, None, None,
+    None, None, None, None, None, None, None, None, None, None, None, None, None, None, None, None,
+    None, None, None, None, None, None, None, None, None, None, None, None, None, None, None, None,
+    None, None, None, None, None, None, None, None, None, None, None, None, None, None,
 ];
 
-/// Returns whether the ends of runs may classify a token that begins with the byte.
-#[inline(always)]
-pub(crate) fn is_classified(first: u8) -> bool {
-    !matches!(classified_by(first), TokenKind::Eof)
-}
+/// The kind of each character in ASCII by itself.
+static SYMBOLS: [TokenKind; 128] = [
+    Unknown, Unknown, Unknown, Unknown, Unknown, Unknown, Unknown, Unknown, Unknown, Unknown,
+    Unknown, Unknown, Unknown, Unknown, Unknown, Unknown, Unknown, Unknown, Unknown, Unknown,
+    Unknown, Unknown, Unknown, Unknown, Unknown, Unknown, Unknown, Unknown, Unknown, Unknown,
+    Unknown, Unknown, Unknown, Bang, Unknown, Unknown, Dollar, Percent, And, Unknown, OpenParen,
+    CloseParen, Star, Plus, Comma, Minus, Dot, Unknown, Unknown, Unknown, Unknown, Unknown,
+    Unknown, Unknown, Unknown, Unknown, Unknown, Unknown, Colon, Semi, Lt, Eq, Gt, Question, At,
+    Unknown, Unknown, Unknown, Unknown, Unknown, Unknown, Unknown, Unknown, Unknown, Unknown,
+    Unknown, Unknown, Unknown, Unknown, Unknown, Unknown, Unknown, Unknown, Unknown, Unknown,
+    Unknown, Unknown, Unknown, Unknown, Unknown, Unknown, OpenSquare, Unknown, ShutSquare, Caret,
+    Unknown, Unknown, Unknown, Unknown, Unknown, Unknown, Unknown, Unknown, Unknown, Unknown,
+    Unknown, Unknown, Unknown, Unknown, Unknown, Unknown, Unknown, Unknown, Unknown, Unknown,
+    Unknown, Unknown, Unknown, Unknown, Unknown, Unknown, Unknown, Unknown, OpenBrace, Or,
+    CloseBrace, Tilde, Unknown,
+];
 
-/// Returns the table's kind for a token that begins with the byte.
+/// Returns the kind of the token that begins with the byte, if its run and the byte past the run determine all of it.
 #[inline(always)]
-fn classified_by(first: u8) -> TokenKind {
+pub(crate) fn classified_by(first: u8) -> Option<TokenKind> {
     CLASSIFIED[first as usize]
 }
 
-/// Returns the kind of a character with which no longer token begins.
+/// Returns the kind of a character by itself, which is `Unknown` unless it is a symbol.
 #[inline(always)]
 pub(crate) fn symbol_kind(c: char) -> TokenKind {
     let code = c as usize;
-    if code < 128 {
-        CLASSIFIED[code]
-    } else {
-        Unknown
-    }
+    if code < 128 { SYMBOLS[code] } else { Unknown }
 }
 
 /// Returns the ends of runs that are known, or else those of the first 64 bytes.
@@ -93,22 +155,11 @@ fn ends_past(ends: u64, len: u32) -> u64 {
     (ends >> len) & !1
 }
 
-/// Returns the token that begins with the byte and is `len` bytes long, as the ends of runs determine. It has no
-/// fields, and is the same in each edition.
+/// Returns whether the byte `next` after the run may change the token of that kind, or continue it.
 #[inline(always)]
-pub(crate) fn classified(first: u8, len: u32) -> Token {
-    Token {
-        kind: classified_by(first),
-        len,
-    }
-}
-
-/// Returns whether the byte `next` after the run may change the token that begins with the byte `first`, or
-/// continue it.
-#[inline(always)]
-pub(crate) fn turns(first: u8, next: u8) -> bool {
+pub(crate) fn turns(kind: TokenKind, next: u8) -> bool {
     is_mark(next)
-        && match classified_by(first) {
+        && match kind {
             TokenKind::Ident => true,
             TokenKind::Whitespace => next == 0xC2 || next == 0xE2,
             _ => false,
