@@ -2,7 +2,7 @@
 use Rattle.std.specs.Prelude.{ℕ, ◌+◌, ◌≡◌, Bool, true, false, ◌||◌, ◌&&◌, if◌then◌else◌, List, [], ◌∷◌, take, drop, codes, Option, Some, None}
 use Rattle.std.specs.Str.{bytes_eq}
 use Rattle.rustc_lexer.specs.declared.edition.Edition.TheVariants.{E2024}
-use Rattle.rustc_lexer.specs.LanguageText.{part}
+use Rattle.rustc_lexer.specs.LanguageText.{part as as_part}
 use Rattle.rustc_lexer.specs.Tokens.{tokens_of}
 use Rattle.rustc_lexer.specs.declared.token.Token.{Token}
 use Rattle.rustc_lexer.specs.declared.token.TokenKind.{TokenKind}
@@ -151,7 +151,7 @@ misfit_in source target place stand text tokens fates = Some place
 -- where the first token of a source begins that may not have its fate, or its end, where fates are left over or what was
 -- begun has not ended
 abbrev pub misfit : List ℕ → Target → List Fate → Option ℕ
-misfit source target fates = misfit_in source target 0 start source (tokens_of (part E2024) source) fates
+misfit source target fates = misfit_in source target 0 start source (tokens_of (as_part E2024) source) fates
 
 -- each token has one fate, which it may have behind those before it, and what was begun has ended
 abbrev pub AreFates : List ℕ → Target → List Fate → Type 0

@@ -53,7 +53,7 @@ pub fn mode_of(kind: TokenKind) -> Option<Mode>
 /// escapes are read. Returns `None` for a number, for a literal that is not closed, and for a token that is not a literal.
 ///
 /// These are the arguments that the calls of `rustc_literal_escaper` take. A suffix may follow the closing quote.
-pub fn inside<'a>(kind: TokenKind, text: &'a str) -> Option<(Mode, &'a str)>
+pub fn inside(kind: TokenKind, text: &str) -> Option<(Mode, &str)>
     ensures { option_map (λ found. (found.0, found.1.now)) result ≡ spec.inside kind text.now }
 {
     let mode = mode_of(kind)?;
