@@ -85,6 +85,10 @@ same_token a b e = grind (arith, common_steps, and_parts, kind-tells, eqb-true)
 pub token_same : (a b : Token) → a ≡ b → is_same a b ≡ true
 token_same a b e = ap (is_same a) (sym e) ∙ token_equal.laws-law.refl a
 
+-- of an answer of `==`
+pub told_same : (answer : Bool) (a b : Token) → answer ≡ is_same a b → IsTrue answer ↔ (a ≡ b)
+told_same answer a b told = (λ t. same_token a b (sym told ∙ t), λ e. told ∙ token_same a b e)
+
 -- ---- heads
 
 heads_by : (E : Option Token → Option Token → Bool) → ((x y : Option Token) → E x y ≡ true → x ≡ y) → (a b : Head) → (a.shebang == b.shebang && (a.space == b.space && (E a.front b.front && a.end == b.end))) ≡ true → a ≡ b
@@ -94,7 +98,6 @@ heads_by E tells a b e =
     let r = and_parts (E a.front b.front) (a.end == b.end) q.1 in
     λ i. record { shebang = eqb-true a.shebang b.shebang p.0 i; space = eqb-true a.space b.space q.0 i; front = tells a.front b.front r.0 i; end = eqb-true a.end b.end r.1 i }
 
--- of an answer of `==`
 pub told_head : (answer : Bool) (a b : Head) → answer ≡ head.ghosts.eq a b → IsTrue answer ↔ (a ≡ b)
 told_head answer a b told =
     (λ t. heads_by (option_eq is_same) (option-tells is_same (record { tells = same_token })) a b (sym told ∙ t), λ e. told ∙ (ap (head.ghosts.eq a) (sym e) ∙ equal.laws-law.refl a))
