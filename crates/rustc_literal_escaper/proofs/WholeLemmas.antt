@@ -1,17 +1,27 @@
 -- An element that is the whole text between single quotes.
-use Rattle.std.proofs.Common.{◌≡◌, ◌≤◌, ◌<◌, ℕ, Bool, true, false, List, [], ◌∷◌, length, Result, Ok, Err, Option, Some, None, refl, sym, ap, subst, ◌∙◌, arith, absurd}
+use Rattle.std.proofs.Common.{◌≡◌, ◌≤◌, ◌<◌, ℕ, Bool, true, false, List, [], ◌∷◌, length, Result, Ok, Err, Option, Some, None, refl, sym, ap, subst, ◌∙◌, arith, absurd, true≢false}
 use Rattle.std.specs.Char.{digit_value, is_ascii}
 use Rattle.std.specs.List.{list_all, slice_index}
 use Rattle.std.specs.Str.{chars}
 use Rattle.std.proofs.lemmas.Bool.Decides.{nat_tests}
 use Rattle.std.proofs.lemmas.Grind.{common_steps}
-use Rattle.std.proofs.lemmas.Str.{chars-IsAscii}
+use Rattle.std.proofs.lemmas.List.{nil_from_length}
+use Rattle.std.proofs.lemmas.Str.{chars-IsAscii, chars-nil}
 use Rattle.rustc_literal_escaper.specs.declared.element.Element.{Element}
 use Rattle.rustc_literal_escaper.specs.declared.error.EscapeError.{EscapeError}
 use Rattle.rustc_literal_escaper.specs.declared.element.Element.TheVariants.{Unicode}
+use Rattle.rustc_literal_escaper.specs.declared.mode.Mode.{Mode}
+use Rattle.rustc_literal_escaper.specs.declared.mode.Mode.TheVariants.{Char, Byte}
+use Rattle.rustc_literal_escaper.specs.Elements.{front_by, items_from, items_of}
+use Rattle.rustc_literal_escaper.specs.Errors.{errors_in, errors_of, is_raw, is_single}
+use Rattle.rustc_literal_escaper.specs.Plain.{is_simple, Passes}
 use Rattle.rustc_literal_escaper.specs.Escape.{braced, closed_at_run, is_hex}
 use Rattle.rustc_literal_escaper.specs.Single.{alone, literal, single, StartsWithSingle}
 use Rattle.rustc_literal_escaper.proofs.DigitLemmas.{left_at, left_at-brace, left_at-start, hex-yes}
+use Rattle.rustc_literal_escaper.proofs.ErrorLemmas.{errors_of-strings}
+use Rattle.rustc_literal_escaper.proofs.ItemLemmas.{nothing}
+use Rattle.rustc_literal_escaper.proofs.SimpleLemmas.{simple-fine}
+use Rattle.rustc_literal_escaper.proofs.SkipLemmas.{errors-skip}
 use Rattle.rustc_literal_escaper.proofs.SingleLemmas.{literal-starts}
 use Rattle.rustc_literal_escaper.proofs.WrittenLemmas.{is-ascii}
 
@@ -64,3 +74,16 @@ pub number_ends : (v n c : ℕ) (s : List ℕ) → n ≤ 6 → digit_value c < 1
 number_ends v n c s few digit at =
     let fits : left_at v n (125 ∷ []) ≡ (Unicode v, []) = left_at-brace v n 125 [] refl ∙ grind (arith, common_steps, nat_tests) in
     sym fits ∙ (at ∙ (left_at-start (c ∷ s) ∙ sym (braced_digit c s digit)))
+
+-- a raw string of simple characters
+pub raw_double : (mode : Mode) → true ≡ is_raw mode → false ≡ is_single mode
+raw_double Char raw = absurd (true≢false raw)
+raw_double Byte raw = absurd (true≢false raw)
+raw_double mode raw = refl
+
+pub raw_simple : (mode : Mode) (src left : List ℕ) → true ≡ is_raw mode → Passes (is_simple true) (chars src) (chars left) → length left ≡ 0 → errors_of mode src ≡ []
+raw_simple mode src left raw passes none =
+    let empty : chars left ≡ [] = ap chars (nil_from_length left none) ∙ chars-nil in
+    sym (errors_of-strings mode src (items_of true src) (raw_double mode raw) (ap (λ (r : Bool). items_of r src) raw))
+    ∙ (sym (errors-skip mode true (is_simple true) (simple-fine mode true) (length src) None (chars src) (chars left) passes)
+    ∙ (ap (λ (xs : List ℕ). errors_in mode (items_from (front_by true) (length src) xs)) empty ∙ ap (errors_in mode) (nothing (front_by true) (length src))))

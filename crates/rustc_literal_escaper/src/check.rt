@@ -55,6 +55,7 @@ fn each_error<F: FnMut(Range<usize>, EscapeError)>(src: &str, mode: Mode, callba
 ///
 /// Only the look at a short text of simple characters is put into the caller.
 #[inline(always)]
+#[tactic(auto, using(crate::proofs::WholeLemmas::raw_double, crate::proofs::WholeLemmas::raw_simple))]
 fn check_raw<F: FnMut(Range<usize>, EscapeError)>(src: &str, mode: Mode, callback: &mut F)
     requires callable { F.IsAlwaysCallable callback.old }
     requires raw { true ≡ spec.is_raw mode }
