@@ -35,17 +35,17 @@ chars-preserved-then-is_ascii g c =
 pub chars-preserved : goal.chars-preserved
 chars-preserved g c =
     let text : chars_rest c.chars.chars ≡ encode_utf8 c.in-Some.c ++ chars_rest c.next.new.self = c.in-Some.ensures.steps.0 in (
-      mut_next g.F.FnMut _ _ _ _ _ c.callback-in-chars.ensures refl c.chars.invariant.0,
+      mut_next g.F.FnMut _ _ _ _ _ c.callback-in-Some.ensures refl c.chars.invariant.0,
       IsUtf8-past_char _ _ _ c.chars.invariant.1 text,
       omega (arith, ap length text, length-append (encode_utf8 c.in-Some.c) (chars_rest c.next.new.self), length-encode c.in-Some.c, len_utf8_bounds c.in-Some.c, c.chars.invariant.2),
       ap (λ (xs : List ℕ). c.args.end - length xs) c.as_str.ensures,
       λ last calls. c.chars.invariant.4 last
           (subst (λ (is : List Item). FoldsTo (λ f item h. goal.F-step g f item.0 (g.M.Meaning.meaning item.1) tt h) c.chars.callback is last)
           (sym (first-raw c.args.end (chars_rest c.chars.chars) (chars_rest c.next.new.self) c.in-Some.c c.chars.invariant.1 (IsUtf8-past_char _ _ _ c.chars.invariant.1 text) (chars_past_char _ _ _ c.chars.invariant.1 text))) (
-            c.callback-in-chars.new.self,
-            subst (λ (from : ℕ). goal.F-step g c.chars.callback (record { start = from; end = c.args.end - length (chars_rest c.next.new.self) }) (g.M.Meaning.meaning (raw_element c.in-Some.c)) tt c.callback-in-chars.new.self) c.chars.invariant.3
-                (subst (λ (xs : List ℕ). goal.F-step g c.chars.callback (record { start = c.chars.start; end = c.args.end - length xs }) (g.M.Meaning.meaning (raw_element c.in-Some.c)) tt c.callback-in-chars.new.self) c.as_str.ensures
-                (subst (λ meant. goal.F-step g c.chars.callback (record { start = c.chars.start; end = c.args.end - length c.as_str.result.now }) meant tt c.callback-in-chars.new.self) c.of_raw-in-chars.ensures c.callback-in-chars.ensures)),
+            c.callback-in-Some.new.self,
+            subst (λ (from : ℕ). goal.F-step g c.chars.callback (record { start = from; end = c.args.end - length (chars_rest c.next.new.self) }) (g.M.Meaning.meaning (raw_element c.in-Some.c)) tt c.callback-in-Some.new.self) c.chars.invariant.3
+                (subst (λ (xs : List ℕ). goal.F-step g c.chars.callback (record { start = c.chars.start; end = c.args.end - length xs }) (g.M.Meaning.meaning (raw_element c.in-Some.c)) tt c.callback-in-Some.new.self) c.as_str.ensures
+                (subst (λ meant. goal.F-step g c.chars.callback (record { start = c.chars.start; end = c.args.end - length c.as_str.result.now }) meant tt c.callback-in-Some.new.self) c.of_raw-in-Some.ensures c.callback-in-Some.ensures)),
             calls,
           )),
     )
