@@ -57,7 +57,7 @@ fn read<M: Meaning>(src: &str) -> Result<M::Meant, EscapeError>
 
 /// Returns the element that is the whole text, if it is a plain character of ASCII or a short escape.
 #[inline(always)]
-#[tactic(auto, using(crate::proofs::WholeLemmas::chars_one, crate::proofs::WholeLemmas::chars_two))]
+#[tactic(auto, using(crate::proofs::WholeLemmas::chars_one, crate::proofs::WholeLemmas::chars_two, crate::proofs::WholeLemmas::short_whole))]
 pub(crate) fn whole(src: &str) -> Option<Element>
     ensures { IfSome result (λ e. spec.StartsWithSingle (chars src.now) e []) }
 {
