@@ -3,6 +3,7 @@ use Rattle.std.proofs.Common.{◌≡◌, ◌≤◌, ◌<◌, ◌+◌, ◌*◌, �
 use Rattle.std.specs.Char.{digit_value, is_ascii}
 use Rattle.std.specs.List.{list_all, slice_index}
 use Rattle.std.specs.Str.{chars}
+use Rattle.std.proofs.lemmas.Bool.{not-true}
 use Rattle.std.proofs.lemmas.Bool.Decides.{nat_tests}
 use Rattle.std.proofs.lemmas.Grind.{common_steps}
 use Rattle.std.proofs.Math.ListN.{drop_of_length-le}
@@ -13,10 +14,10 @@ use Rattle.std.proofs.lemmas.Nat.{pow-add}
 use Rattle.std.proofs.lemmas.Str.{chars-IsAscii, chars-nil}
 use Rattle.rustc_literal_escaper.specs.declared.element.Element.{Element}
 use Rattle.rustc_literal_escaper.specs.declared.error.EscapeError.{EscapeError}
-use Rattle.rustc_literal_escaper.specs.declared.element.Element.TheVariants.{Unicode}
+use Rattle.rustc_literal_escaper.specs.declared.element.Element.TheVariants.{Plain, Unicode}
 use Rattle.rustc_literal_escaper.specs.declared.mode.Mode.{Mode}
 use Rattle.rustc_literal_escaper.specs.declared.mode.Mode.TheVariants.{Char, Byte}
-use Rattle.rustc_literal_escaper.specs.Elements.{front_by, items_from, items_of}
+use Rattle.rustc_literal_escaper.specs.Elements.{front_by, items_from, items_of, raw_element}
 use Rattle.rustc_literal_escaper.specs.Errors.{errors_in, errors_of, is_raw, is_single}
 use Rattle.rustc_literal_escaper.specs.Plain.{is_simple, Passes}
 use Rattle.rustc_literal_escaper.specs.Escape.{braced, closed_at_run, escape, short}
@@ -24,7 +25,7 @@ use Rattle.rustc_literal_escaper.specs.Single.{alone, literal, single, StartsWit
 use Rattle.rustc_literal_escaper.proofs.DigitLemmas.{with_digit, left_at, left_at-brace, left_at-digit, left_at-start, hex-yes}
 use Rattle.rustc_literal_escaper.proofs.ErrorLemmas.{errors_of-strings}
 use Rattle.rustc_literal_escaper.proofs.ItemLemmas.{nothing}
-use Rattle.rustc_literal_escaper.proofs.SimpleLemmas.{simple-fine}
+use Rattle.rustc_literal_escaper.proofs.SimpleLemmas.{simple-fine, simple-parts}
 use Rattle.rustc_literal_escaper.proofs.SkipLemmas.{errors-skip}
 use Rattle.rustc_literal_escaper.proofs.SingleLemmas.{literal-starts}
 use Rattle.rustc_literal_escaper.proofs.WrittenLemmas.{is-ascii}
@@ -147,6 +148,10 @@ pub number_escape : (bs : List ℕ) (r : Option Element) → 4 ≤ length bs →
     → IfSome r (λ e. (e, []) ≡ escape (chars bs))
 number_escape bs None l u brace close h = tt
 number_escape bs (Some e) l u brace close h = braces_whole bs (slice_index bs 2 ∷ take (length bs - 1 - 3) (drop 3 bs)) e (braces_is bs (length bs - 1 - 3) (omega arith) u brace close) h
+
+-- what a simple character of a raw string is
+pub raw_plain : (c : ℕ) → is_simple true c ≡ true → Plain c ≡ raw_element c
+raw_plain c e = grind (arith, common_steps, simple-parts, not-true, nat_tests)
 
 -- a raw string of simple characters
 pub raw_double : (mode : Mode) → true ≡ is_raw mode → false ≡ is_single mode
