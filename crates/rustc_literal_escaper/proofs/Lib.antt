@@ -15,3 +15,4 @@ pub mod RebuiltLemmas
 pub mod RunLemmas
 pub mod FewLemmas
 pub mod PartLemmas
+pub mod WholeLemmas

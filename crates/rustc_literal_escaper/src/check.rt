@@ -1,5 +1,5 @@
 //! Finds the errors and warnings in a literal, and nothing else.
-ghost use Rattle.std.specs.Prelude.{◌≡◌, ◌≤◌, ◌∷◌, [], ℕ, false, length, map};
+ghost use Rattle.std.specs.Prelude.{◌≡◌, ◌≤◌, ◌∷◌, [], ℕ, true, false, length, map};
 ghost use Rattle.std.specs.List.{FoldsTo};
 ghost use Rattle.std.specs.Option.{option_to_list};
 ghost use Rattle.std.specs.Str.{chars, IsUtf8};
@@ -47,7 +47,23 @@ fn each_error<F: FnMut(Range<usize>, EscapeError)>(src: &str, mode: Mode, callba
     match mode {
         Mode::Char | Mode::Byte => check_single(src, mode, callback),
         Mode::Str | Mode::ByteStr | Mode::CStr => check_double(src, mode, callback),
-        Mode::RawStr | Mode::RawByteStr | Mode::RawCStr => check_double(src, mode, callback),
+        Mode::RawStr | Mode::RawByteStr | Mode::RawCStr => check_raw(src, mode, callback),
+    }
+}
+
+/// Calls `callback` with each error in a raw string.
+///
+/// Only the look at a short text of simple characters is put into the caller.
+#[inline(always)]
+#[tactic(auto, using(crate::proofs::WholeLemmas::raw_double, crate::proofs::WholeLemmas::raw_simple))]
+fn check_raw<F: FnMut(Range<usize>, EscapeError)>(src: &str, mode: Mode, callback: &mut F)
+    requires callable { F.IsAlwaysCallable callback.old }
+    requires raw { true ≡ spec.is_raw mode }
+    ensures calls { FoldsTo (λ f error g. F.step f error.0 error.1 tt g)
+        callback.old (spec.errors_of mode src.now) callback.new }
+{
+    if !past_last_simple(src, true).is_empty() {
+        check_double(src, mode, callback);
     }
 }
 
@@ -98,14 +114,34 @@ fn check_single<F: FnMut(Range<usize>, EscapeError)>(src: &str, mode: Mode, call
 pub(crate) fn single_error(src: &str, mode: Mode) -> Option<(Range<usize>, EscapeError)>
     ensures { result ≡ spec.single_error (length src.now) mode (chars src.now) }
 {
+    if let Some(element) = single::whole(src) {
+        return whole_error(element, src.len(), mode);
+    }
+    other_error(src, mode)
+}
+
+/// Returns the error of an element that is the whole text of `total` bytes.
+#[inline(always)]
+fn whole_error(element: Element, total: usize, mode: Mode) -> Option<(Range<usize>, EscapeError)>
+    ensures { result ≡ spec.alone_error total (spec.error_of mode element) [] }
+{
+    let error = element.error_in(mode)?;
+    Some((0..total, error))
+}
+
+/// Does what [`single_error`] does, and stays a call.
+#[inline(never)]
+fn other_error(src: &str, mode: Mode) -> Option<(Range<usize>, EscapeError)>
+    ensures { result ≡ spec.single_error (length src.now) mode (chars src.now) }
+{
     let Some((c, tail)) = split_first(src) else {
         return Some((0..0, EscapeError::ZeroChars));
     };
     if single::is_plain(c) {
         return alone_error(Element::Plain(c).error_in(mode), tail, src.len());
     }
-    if let Some((byte, left)) = single::byte_at(c, tail) {
-        return alone_error(Element::Byte(byte).error_in(mode), left, src.len());
+    if let Some(element) = single::whole_at(c, tail) {
+        return whole_error(element, src.len(), mode);
     }
     let (element, left) = single::first_by_call(c, tail);
     alone_error(element.error_in(mode), left, src.len())

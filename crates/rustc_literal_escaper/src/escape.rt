@@ -1,6 +1,7 @@
 //! The escapes after a backslash.
-ghost use Rattle.std.specs.Prelude.{◌≡◌, ◌≤◌, ◌<◌, ◌^◌, ◌+◌, ◌*◌, min, nat_le, nat_lt, if◌then◌else◌, length, IfSome, MatchOption};
-ghost use Rattle.std.specs.Char.{digit_value};
+ghost use Rattle.std.specs.Prelude.{◌≡◌, ◌≤◌, ◌<◌, ◌^◌, ◌+◌, ◌*◌, ◌∷◌, [], ◌++◌, true, min, nat_le, nat_lt, if◌then◌else◌, length, IfSome, MatchOption};
+ghost use Rattle.std.specs.Char.{digit_value, is_ascii};
+ghost use Rattle.std.specs.List.{list_all};
 ghost use Rattle.std.specs.Str.{chars, IsUtf8};
 ghost use Rattle.rustc_literal_escaper.specs.Escape as spec;
 ghost use Rattle.rustc_literal_escaper.specs.Escape.{closed_at_run};
@@ -62,6 +63,57 @@ fn two_digits(rest: &str) -> Option<(u8, &str)>
     Some(((high * 16 + low) as u8, left))
 }
 
+/// Returns the escape that is the whole text after a backslash, if it has two digits or is a number that is right.
+///
+/// It looks at all bytes at once, so the compiler tests the length a single time.
+#[inline(always)]
+#[tactic(auto, using(crate::proofs::WholeLemmas::chars_three))]
+pub(crate) fn whole_escape(rest: &str) -> Option<Element>
+    ensures { IfSome result (λ e. (e, []) ≡ spec.escape (chars rest.now)) }
+{
+    match rest.as_bytes() {
+        [b'x', high, low] => whole_byte(*high, *low),
+        [b'u', b'{', first, digits @ .., b'}'] => whole_number(*first, digits),
+        _ => None,
+    }
+}
+
+/// Returns the byte of two digits, if they are digits.
+#[inline(always)]
+fn whole_byte(high: u8, low: u8) -> Option<Element>
+    ensures { IfSome result (λ e. (high < 128) × (low < 128) × ((e, []) ≡ spec.hex (high ∷ low ∷ []))) }
+{
+    let high = hex_digit(high as char)?;
+    let low = hex_digit(low as char)?;
+    Some(Element::Byte((high * 16 + low) as u8))
+}
+
+/// Returns the number of a digit and of those after it, among which underscores may be, if there are not too many.
+#[inline(always)]
+fn whole_number(first: u8, digits: &[u8]) -> Option<Element>
+    ensures { IfSome result (λ e. (list_all is_ascii (first ∷ digits.now) ≡ true)
+        × ((e, []) ≡ spec.braced (first ∷ digits.now ++ (125 ∷ [])))) }
+{
+    let mut value = hex_digit(first as char)?;
+    let mut count: usize = 1;
+    let mut rest = digits;
+    'digits: while let Some((byte, tail)) = rest.split_first() {
+        rest = tail;
+        if let Some(digit) = hex_digit(*byte as char) {
+            if count == MOST_DIGITS {
+                return None;
+            }
+            value = value * 16 + digit;
+            count += 1;
+            continue;
+        }
+        if *byte != b'_' {
+            return None;
+        }
+    }
+    Some(Element::Unicode(value))
+}
+
 /// The element for a backslash and a character that begin no escape.
 const NONE: Element = Fault(EscapeError::InvalidEscape);
 
@@ -96,7 +148,7 @@ static SHORT: [Element; 128] = [
 
 /// Returns the element for a backslash and this character.
 #[inline(always)]
-fn short(c: char) -> Element
+pub(crate) fn short(c: char) -> Element
     ensures { result ≡ spec.short c }
 {
     let code = c as usize;

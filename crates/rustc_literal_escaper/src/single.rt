@@ -1,5 +1,5 @@
 //! Reads characters and bytes, the literals between single quotes.
-ghost use Rattle.std.specs.Prelude.{◌≡◌, ◌≤◌, ◌<◌, ℕ, List, true, IfSome, length};
+ghost use Rattle.std.specs.Prelude.{◌≡◌, ◌≤◌, ℕ, List, [], true, IfSome, length};
 ghost use Rattle.std.specs.Str.{chars, IsUtf8};
 ghost use Rattle.rustc_literal_escaper.specs.RoundTrip.{ByteComesBack, CharComesBack};
 ghost use Rattle.rustc_literal_escaper.specs.Single as spec;
@@ -7,7 +7,7 @@ ghost use Rattle.rustc_literal_escaper.specs.Single.{byte_literal, char_literal}
 
 use crate::element::Element;
 use crate::error::EscapeError;
-use crate::escape::{escape, escaped_byte};
+use crate::escape::{escape, short, whole_escape};
 use crate::scan::split_first;
 use crate::strings::{AsByte, AsChar, Meaning};
 
@@ -43,9 +43,37 @@ pub fn unescape_byte(src: &str) -> Result<u8, EscapeError>
 
 /// Returns what the only element stands for, if no text is left after it.
 ///
-/// A plain character has a call of its own, which the compiler makes short and puts into the caller.
+/// Only the look at a plain character of ASCII or a short escape is put into the caller.
 #[inline(always)]
+#[tactic(auto, using(crate::proofs::WholeLemmas::literal_is))]
 fn read<M: Meaning>(src: &str) -> Result<M::Meant, EscapeError>
+    ensures { result ≡ spec.literal M.meaning (chars src.now) }
+{
+    if let Some(element) = whole(src) {
+        return M::of(element);
+    }
+    read_other::<M>(src)
+}
+
+/// Returns the element that is the whole text, if it is a plain character of ASCII or a short escape.
+#[inline(always)]
+#[tactic(auto, using(crate::proofs::WholeLemmas::chars_one, crate::proofs::WholeLemmas::chars_two, crate::proofs::WholeLemmas::short_whole))]
+pub(crate) fn whole(src: &str) -> Option<Element>
+    ensures { IfSome result (λ e. spec.StartsWithSingle (chars src.now) e []) }
+{
+    match src.as_bytes() {
+        [byte] if byte.is_ascii() && is_plain(*byte as char) => Some(Element::Plain(*byte as char)),
+        [b'\\', c] if c.is_ascii() => match short(*c as char) {
+            Element::Byte(byte) => Some(Element::Byte(byte)),
+            _ => None,
+        },
+        _ => None,
+    }
+}
+
+/// Does what [`read`] does, and stays a call.
+#[inline(never)]
+fn read_other<M: Meaning>(src: &str) -> Result<M::Meant, EscapeError>
     ensures { result ≡ spec.literal M.meaning (chars src.now) }
 {
     let Some((c, tail)) = split_first(src) else {
@@ -59,18 +87,19 @@ fn read<M: Meaning>(src: &str) -> Result<M::Meant, EscapeError>
 
 /// Returns what the element that begins with the character `c` stands for, if no text is left after it.
 #[inline(never)]
+#[tactic(auto, using(crate::proofs::WholeLemmas::alone_at))]
 fn read_marked<M: Meaning>(c: char, tail: &str) -> Result<M::Meant, EscapeError>
     ensures { result ≡ spec.alone (M.meaning (spec.single c (chars tail.now)).0) (spec.single c (chars tail.now)).1 }
 {
-    if let Some((byte, left)) = byte_at(c, tail) {
-        return alone(M::of(Element::Byte(byte)), left);
+    if let Some(element) = whole_at(c, tail) {
+        return M::of(element);
     }
-    read_other::<M>(c, tail)
+    read_rest::<M>(c, tail)
 }
 
 /// Does what [`read_marked`] does, for the elements that few literals have.
 #[inline(never)]
-fn read_other<M: Meaning>(c: char, tail: &str) -> Result<M::Meant, EscapeError>
+fn read_rest<M: Meaning>(c: char, tail: &str) -> Result<M::Meant, EscapeError>
     ensures { result ≡ spec.alone (M.meaning (spec.single c (chars tail.now)).0) (spec.single c (chars tail.now)).1 }
 {
     let (element, left) = first(c, tail);
@@ -98,15 +127,12 @@ pub(crate) fn is_plain(c: char) -> bool
     !matches!(c, '\n' | '\t' | '\'' | '\r' | '\\')
 }
 
-/// Returns the byte of an escape that begins with the character `c`, before `tail`, and the text after it.
-///
-/// Returns `None` if another element begins there.
+/// Returns the escape that is the character `c` with all of `tail`, if it has two digits or is a number.
 #[inline(always)]
-pub(crate) fn byte_at(c: char, tail: &str) -> Option<(u8, &str)>
-    ensures { IfSome result (λ r. ((Element.Byte r.0, chars r.1.now) ≡ spec.single c (chars tail.now))
-        × IsUtf8 r.1.now × (length r.1.now < length tail.now)) }
+pub(crate) fn whole_at(c: char, tail: &str) -> Option<Element>
+    ensures { IfSome result (λ e. (e, []) ≡ spec.single c (chars tail.now)) }
 {
-    if c == '\\' { escaped_byte(tail) } else { None }
+    if c == '\\' { whole_escape(tail) } else { None }
 }
 
 /// Returns the element that begins with the character `c`, and the text after it.

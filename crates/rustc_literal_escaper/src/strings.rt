@@ -10,7 +10,7 @@ ghost use Rattle.rustc_literal_escaper.specs.Plain.{is_fine, plain_items};
 use crate::element::Element;
 use crate::error::EscapeError;
 use crate::scan::split_first;
-use crate::simple::{run_behind, split_alone, split_simple};
+use crate::simple::{is_simple, run_behind, split_alone, split_simple};
 use crate::steps::{byte_at, is_plain, line_at, lone_element, more_lines, more_space, pass_over};
 use crate::unit::{MixedUnit, NonZeroChar};
 use std::ops::Range;
@@ -394,6 +394,11 @@ fn each_raw_char<M: Meaning, F: FnMut(Range<usize>, Result<M::Meant, EscapeError
     let mut chars = part.chars();
     let mut start = end - part.len();
     'chars: while let Some(c) = chars.next() {
+        if c.is_ascii() && is_simple(c as u8, true) {
+            callback(start..start + 1, M::of_fine(c as u8));
+            start += 1;
+            continue;
+        }
         let past = end - chars.as_str().len();
         callback(start..past, M::of_raw(c));
         start = past;

@@ -34,7 +34,17 @@ fn each_error<F: FnMut(Range<usize>, EscapeError)>(src: &str, mode: Mode, callba
     match mode {
         Mode::Char | Mode::Byte => check_single(src, mode, callback),
         Mode::Str | Mode::ByteStr | Mode::CStr => check_double(src, mode, callback),
-        Mode::RawStr | Mode::RawByteStr | Mode::RawCStr => check_double(src, mode, callback),
+        Mode::RawStr | Mode::RawByteStr | Mode::RawCStr => check_raw(src, mode, callback),
+    }
+}
+
+/// Calls `callback` with each error in a raw string.
+///
+/// Only the look at a short text of simple characters is put into the caller.
+#[inline(always)]
+fn check_raw<F: FnMut(Range<usize>, EscapeError)>(src: &str, mode: Mode, callback: &mut F) {
+    if !past_last_simple(src, true).is_empty() {
+        check_double(src, mode, callback);
     }
 }
 
@@ -72,14 +82,30 @@ fn check_single<F: FnMut(Range<usize>, EscapeError)>(src: &str, mode: Mode, call
 /// `src` is the text between the quotes. The place goes from 0 to the end of the character that shows the error.
 #[inline(always)]
 pub(crate) fn single_error(src: &str, mode: Mode) -> Option<(Range<usize>, EscapeError)> {
+    if let Some(element) = single::whole(src) {
+        return whole_error(element, src.len(), mode);
+    }
+    other_error(src, mode)
+}
+
+/// Returns the error of an element that is the whole text of `total` bytes.
+#[inline(always)]
+fn whole_error(element: Element, total: usize, mode: Mode) -> Option<(Range<usize>, EscapeError)> {
+    let error = element.error_in(mode)?;
+    Some((0..total, error))
+}
+
+/// Does what [`single_error`] does, and stays a call.
+#[inline(never)]
+fn other_error(src: &str, mode: Mode) -> Option<(Range<usize>, EscapeError)> {
     let Some((c, tail)) = split_first(src) else {
         return Some((0..0, EscapeError::ZeroChars));
     };
     if single::is_plain(c) {
         return alone_error(Element::Plain(c).error_in(mode), tail, src.len());
     }
-    if let Some((byte, left)) = single::byte_at(c, tail) {
-        return alone_error(Element::Byte(byte).error_in(mode), left, src.len());
+    if let Some(element) = single::whole_at(c, tail) {
+        return whole_error(element, src.len(), mode);
     }
     let (element, left) = single::first_by_call(c, tail);
     alone_error(element.error_in(mode), left, src.len())

@@ -47,6 +47,49 @@ fn two_digits(rest: &str) -> Option<(u8, &str)> {
     Some(((high * 16 + low) as u8, left))
 }
 
+/// Returns the escape that is the whole text after a backslash, if it has two digits or is a number that is right.
+///
+/// It looks at all bytes at once, so the compiler tests the length a single time.
+#[inline(always)]
+pub(crate) fn whole_escape(rest: &str) -> Option<Element> {
+    match rest.as_bytes() {
+        [b'x', high, low] => whole_byte(*high, *low),
+        [b'u', b'{', first, digits @ .., b'}'] => whole_number(*first, digits),
+        _ => None,
+    }
+}
+
+/// Returns the byte of two digits, if they are digits.
+#[inline(always)]
+fn whole_byte(high: u8, low: u8) -> Option<Element> {
+    let high = hex_digit(high as char)?;
+    let low = hex_digit(low as char)?;
+    Some(Element::Byte((high * 16 + low) as u8))
+}
+
+/// Returns the number of a digit and of those after it, among which underscores may be, if there are not too many.
+#[inline(always)]
+fn whole_number(first: u8, digits: &[u8]) -> Option<Element> {
+    let mut value = hex_digit(first as char)?;
+    let mut count: usize = 1;
+    let mut rest = digits;
+    while let Some((byte, tail)) = rest.split_first() {
+        rest = tail;
+        if let Some(digit) = hex_digit(*byte as char) {
+            if count == MOST_DIGITS {
+                return None;
+            }
+            value = value * 16 + digit;
+            count += 1;
+            continue;
+        }
+        if *byte != b'_' {
+            return None;
+        }
+    }
+    Some(Element::Unicode(value))
+}
+
 /// The element for a backslash and a character that begin no escape.
 const NONE: Element = Fault(EscapeError::InvalidEscape);
 
@@ -81,7 +124,7 @@ static SHORT: [Element; 128] = [
 
 /// Returns the element for a backslash and this character.
 #[inline(always)]
-fn short(c: char) -> Element {
+pub(crate) fn short(c: char) -> Element {
     let code = c as usize;
     if code < 128 { SHORT[code] } else { NONE }
 }

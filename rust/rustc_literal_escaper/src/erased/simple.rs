@@ -74,14 +74,17 @@ fn split_part(text: &str) -> (&str, &str) {
     ("", text)
 }
 
-/// Returns a number of simple bytes at the front. It is 0 if fewer than 32 bytes are left.
+/// Returns a number of simple bytes at the front.
 ///
 /// In a string with escapes, one look at 32 bytes mostly finds where they end. The end is hard to predict, so
 /// nothing branches on it. Two looks that share a comparison are not in one function, because the compiler would
 /// split its lanes.
 #[inline(always)]
 fn simple_end(bytes: &[u8], raw: bool) -> usize {
-    if bytes.len() < 32 || bytes[0] >= 128 {
+    if bytes.len() < 32 {
+        return last_simple_end(bytes, raw);
+    }
+    if bytes[0] >= 128 {
         return 0;
     }
     if raw {
@@ -109,7 +112,7 @@ fn last_simple_end(bytes: &[u8], raw: bool) -> usize {
 
 /// Returns whether a byte is a simple character.
 #[inline(always)]
-fn is_simple(byte: u8, raw: bool) -> bool {
+pub(crate) fn is_simple(byte: u8, raw: bool) -> bool {
     if byte >= 128 || byte == 0 {
         return false;
     }

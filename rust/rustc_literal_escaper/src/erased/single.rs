@@ -2,7 +2,7 @@
 
 use crate::erased::element::Element;
 use crate::erased::error::EscapeError;
-use crate::erased::escape::{escape, escaped_byte};
+use crate::erased::escape::{escape, short, whole_escape};
 use crate::erased::scan::split_first;
 use crate::erased::strings::{AsByte, AsChar, Meaning};
 
@@ -32,9 +32,31 @@ pub fn unescape_byte(src: &str) -> Result<u8, EscapeError> {
 
 /// Returns what the only element stands for, if no text is left after it.
 ///
-/// A plain character has a call of its own, which the compiler makes short and puts into the caller.
+/// Only the look at a plain character of ASCII or a short escape is put into the caller.
 #[inline(always)]
 fn read<M: Meaning>(src: &str) -> Result<M::Meant, EscapeError> {
+    if let Some(element) = whole(src) {
+        return M::of(element);
+    }
+    read_other::<M>(src)
+}
+
+/// Returns the element that is the whole text, if it is a plain character of ASCII or a short escape.
+#[inline(always)]
+pub(crate) fn whole(src: &str) -> Option<Element> {
+    match src.as_bytes() {
+        [byte] if byte.is_ascii() && is_plain(*byte as char) => Some(Element::Plain(*byte as char)),
+        [b'\\', c] if c.is_ascii() => match short(*c as char) {
+            Element::Byte(byte) => Some(Element::Byte(byte)),
+            _ => None,
+        },
+        _ => None,
+    }
+}
+
+/// Does what [`read`] does, and stays a call.
+#[inline(never)]
+fn read_other<M: Meaning>(src: &str) -> Result<M::Meant, EscapeError> {
     let Some((c, tail)) = split_first(src) else {
         return Err(EscapeError::ZeroChars);
     };
@@ -47,15 +69,15 @@ fn read<M: Meaning>(src: &str) -> Result<M::Meant, EscapeError> {
 /// Returns what the element that begins with the character `c` stands for, if no text is left after it.
 #[inline(never)]
 fn read_marked<M: Meaning>(c: char, tail: &str) -> Result<M::Meant, EscapeError> {
-    if let Some((byte, left)) = byte_at(c, tail) {
-        return alone(M::of(Element::Byte(byte)), left);
+    if let Some(element) = whole_at(c, tail) {
+        return M::of(element);
     }
-    read_other::<M>(c, tail)
+    read_rest::<M>(c, tail)
 }
 
 /// Does what [`read_marked`] does, for the elements that few literals have.
 #[inline(never)]
-fn read_other<M: Meaning>(c: char, tail: &str) -> Result<M::Meant, EscapeError> {
+fn read_rest<M: Meaning>(c: char, tail: &str) -> Result<M::Meant, EscapeError> {
     let (element, left) = first(c, tail);
     alone(M::of(element), left)
 }
@@ -77,12 +99,10 @@ pub(crate) fn is_plain(c: char) -> bool {
     !matches!(c, '\n' | '\t' | '\'' | '\r' | '\\')
 }
 
-/// Returns the byte of an escape that begins with the character `c`, before `tail`, and the text after it.
-///
-/// Returns `None` if another element begins there.
+/// Returns the escape that is the character `c` with all of `tail`, if it has two digits or is a number.
 #[inline(always)]
-pub(crate) fn byte_at(c: char, tail: &str) -> Option<(u8, &str)> {
-    if c == '\\' { escaped_byte(tail) } else { None }
+pub(crate) fn whole_at(c: char, tail: &str) -> Option<Element> {
+    if c == '\\' { whole_escape(tail) } else { None }
 }
 
 /// Returns the element that begins with the character `c`, and the text after it.

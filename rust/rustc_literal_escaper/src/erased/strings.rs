@@ -3,7 +3,7 @@
 use crate::erased::element::Element;
 use crate::erased::error::EscapeError;
 use crate::erased::scan::split_first;
-use crate::erased::simple::{run_behind, split_alone, split_simple};
+use crate::erased::simple::{is_simple, run_behind, split_alone, split_simple};
 use crate::erased::steps::{
     byte_at, is_plain, line_at, lone_element, more_lines, more_space, pass_over,
 };
@@ -304,6 +304,11 @@ fn each_raw_char<M: Meaning, F: FnMut(Range<usize>, Result<M::Meant, EscapeError
     let mut chars = part.chars();
     let mut start = end - part.len();
     while let Some(c) = chars.next() {
+        if c.is_ascii() && is_simple(c as u8, true) {
+            callback(start..start + 1, M::of_fine(c as u8));
+            start += 1;
+            continue;
+        }
         let past = end - chars.as_str().len();
         callback(start..past, M::of_raw(c));
         start = past;

@@ -1,30 +1,55 @@
-use Rattle.std.proofs.Common.{◌≡◌, ◌-◌, ◌++◌, ℕ, List, [], true, length, length-append, refl, sym, subst, ap, ◌∙◌, arith}
+use Rattle.std.proofs.Common.{◌≡◌, ◌+◌, ◌-◌, ◌++◌, ◌∷◌, ℕ, List, [], true, length, length-append, refl, sym, subst, ap, ◌∙◌, arith}
 use Rattle.std.specs.Char.{encode_utf8}
 use Rattle.std.specs.List.{FoldsTo}
 use Rattle.std.specs.Str.{chars}
 use Rattle.std.specs.Str.Iter.{chars_rest}
 use denote.Param.Always.{mut_next}
-use Rattle.std.proofs.lemmas.Str.{chars-nil, chars_past_char, length-encode, len_utf8_bounds, IsUtf8-past_char}
+use Rattle.std.proofs.lemmas.Str.{chars-nil, chars_past_char, encode_ascii, length-encode, len_utf8_bounds, IsUtf8-past_char}
+use Rattle.std.proofs.lemmas.Bool.{ltb-true}
 use Rattle.std.proofs.lemmas.List.{nil_from_length}
 use Rattle.rustc_literal_escaper.specs.Elements.{Item, front_by, items_from, raw_element}
+use Rattle.rustc_literal_escaper.specs.Plain.{is_simple}
 use Rattle.rustc_literal_escaper.proofs.ItemLemmas.{nothing}
 use Rattle.rustc_literal_escaper.proofs.PartLemmas.{first-raw}
+use Rattle.rustc_literal_escaper.proofs.SimpleLemmas.{simple-parts}
+use Rattle.rustc_literal_escaper.proofs.WholeLemmas.{raw_plain}
 use Rattle.rustc_literal_escaper.proofs.strings.each_raw_char.Goals as goal
+
+pub chars-preserved-then-is_simple : goal.chars-preserved-then-is_simple
+chars-preserved-then-is_simple g c =
+    let text : chars_rest c.chars.chars ≡ encode_utf8 c.in-Some.c ++ chars_rest c.next.new.self = c.in-Some.ensures.steps.0 in
+    let simple : is_simple true c.in-Some.c ≡ true = sym c.is_simple.ensures ∙ c.if-is_simple.true in
+    let byte : encode_utf8 c.in-Some.c ≡ c.in-Some.c ∷ [] = encode_ascii c.in-Some.c (ltb-true c.in-Some.c 128 (simple-parts true c.in-Some.c simple).0) in
+    let past : c.chars.start + 1 ≡ c.args.end - length (chars_rest c.next.new.self) = omega (arith, ap length text, length-append (encode_utf8 c.in-Some.c) (chars_rest c.next.new.self), ap length byte, c.chars.invariant.2, c.chars.invariant.3) in (
+      mut_next g.F.FnMut _ _ _ _ _ c.callback.ensures refl c.chars.invariant.0,
+      IsUtf8-past_char _ _ _ c.chars.invariant.1 text,
+      omega (arith, ap length text, length-append (encode_utf8 c.in-Some.c) (chars_rest c.next.new.self), length-encode c.in-Some.c, len_utf8_bounds c.in-Some.c, c.chars.invariant.2),
+      past,
+      λ last calls. c.chars.invariant.4 last
+          (subst (λ (is : List Item). FoldsTo (λ f item h. goal.F-step g f item.0 (g.M.Meaning.meaning item.1) tt h) c.chars.callback is last)
+          (sym (first-raw c.args.end (chars_rest c.chars.chars) (chars_rest c.next.new.self) c.in-Some.c c.chars.invariant.1 (IsUtf8-past_char _ _ _ c.chars.invariant.1 text) (chars_past_char _ _ _ c.chars.invariant.1 text))) (
+            c.callback.new.self,
+            subst (λ (from : ℕ). goal.F-step g c.chars.callback (record { start = from; end = c.args.end - length (chars_rest c.next.new.self) }) (g.M.Meaning.meaning (raw_element c.in-Some.c)) tt c.callback.new.self) c.chars.invariant.3
+                (subst (λ (to : ℕ). goal.F-step g c.chars.callback (record { start = c.chars.start; end = to }) (g.M.Meaning.meaning (raw_element c.in-Some.c)) tt c.callback.new.self) past
+                (subst (λ meant. goal.F-step g c.chars.callback (record { start = c.chars.start; end = c.chars.start + 1 }) meant tt c.callback.new.self) (c.of_fine.ensures ∙ ap g.M.Meaning.meaning (raw_plain c.in-Some.c simple)) c.callback.ensures)),
+            calls,
+          )),
+    )
 
 pub chars-preserved : goal.chars-preserved
 chars-preserved g c =
     let text : chars_rest c.chars.chars ≡ encode_utf8 c.in-Some.c ++ chars_rest c.next.new.self = c.in-Some.ensures.steps.0 in (
-      mut_next g.F.FnMut _ _ _ _ _ c.callback.ensures refl c.chars.invariant.0,
+      mut_next g.F.FnMut _ _ _ _ _ c.callback-in-Some.ensures refl c.chars.invariant.0,
       IsUtf8-past_char _ _ _ c.chars.invariant.1 text,
       omega (arith, ap length text, length-append (encode_utf8 c.in-Some.c) (chars_rest c.next.new.self), length-encode c.in-Some.c, len_utf8_bounds c.in-Some.c, c.chars.invariant.2),
       ap (λ (xs : List ℕ). c.args.end - length xs) c.as_str.ensures,
       λ last calls. c.chars.invariant.4 last
           (subst (λ (is : List Item). FoldsTo (λ f item h. goal.F-step g f item.0 (g.M.Meaning.meaning item.1) tt h) c.chars.callback is last)
           (sym (first-raw c.args.end (chars_rest c.chars.chars) (chars_rest c.next.new.self) c.in-Some.c c.chars.invariant.1 (IsUtf8-past_char _ _ _ c.chars.invariant.1 text) (chars_past_char _ _ _ c.chars.invariant.1 text))) (
-            c.callback.new.self,
-            subst (λ (from : ℕ). goal.F-step g c.chars.callback (record { start = from; end = c.args.end - length (chars_rest c.next.new.self) }) (g.M.Meaning.meaning (raw_element c.in-Some.c)) tt c.callback.new.self) c.chars.invariant.3
-                (subst (λ (xs : List ℕ). goal.F-step g c.chars.callback (record { start = c.chars.start; end = c.args.end - length xs }) (g.M.Meaning.meaning (raw_element c.in-Some.c)) tt c.callback.new.self) c.as_str.ensures
-                (subst (λ meant. goal.F-step g c.chars.callback (record { start = c.chars.start; end = c.args.end - length c.as_str.result.now }) meant tt c.callback.new.self) c.of_raw.ensures c.callback.ensures)),
+            c.callback-in-Some.new.self,
+            subst (λ (from : ℕ). goal.F-step g c.chars.callback (record { start = from; end = c.args.end - length (chars_rest c.next.new.self) }) (g.M.Meaning.meaning (raw_element c.in-Some.c)) tt c.callback-in-Some.new.self) c.chars.invariant.3
+                (subst (λ (xs : List ℕ). goal.F-step g c.chars.callback (record { start = c.chars.start; end = c.args.end - length xs }) (g.M.Meaning.meaning (raw_element c.in-Some.c)) tt c.callback-in-Some.new.self) c.as_str.ensures
+                (subst (λ meant. goal.F-step g c.chars.callback (record { start = c.chars.start; end = c.args.end - length c.as_str.result.now }) meant tt c.callback-in-Some.new.self) c.of_raw.ensures c.callback-in-Some.ensures)),
             calls,
           )),
     )

@@ -1,0 +1,167 @@
+-- An element that is the whole text between single quotes.
+use Rattle.std.proofs.Common.{◌≡◌, ◌≤◌, ◌<◌, ◌+◌, ◌*◌, ◌^◌, ◌&&◌, ◌++◌, ◌-◌, suc, min, take, drop, drop-cons, zero-add, ℕ, Bool, true, false, List, [], ◌∷◌, length, Result, Ok, Err, Option, Some, None, refl, sym, ap, subst, ◌∙◌, arith, true≢false}
+use Rattle.std.specs.Char.{digit_value, is_ascii}
+use Rattle.std.specs.List.{list_all, slice_index}
+use Rattle.std.specs.Str.{chars}
+use Rattle.std.proofs.lemmas.Bool.{not-true}
+use Rattle.std.proofs.lemmas.Bool.Decides.{nat_tests}
+use Rattle.std.proofs.lemmas.Grind.{common_steps}
+use Rattle.std.proofs.Math.ListN.{drop_of_length-le}
+use Rattle.std.proofs.lemmas.List.Folds.{list_all-append}
+use Rattle.std.specs.Option.{IfSome}
+use Rattle.std.proofs.lemmas.List.{nil_from_length, take-append-drop, get_or-drop}
+use Rattle.std.proofs.lemmas.Nat.{pow-add}
+use Rattle.std.proofs.lemmas.Str.{chars-IsAscii, chars-nil}
+use Rattle.rustc_literal_escaper.specs.declared.element.Element.{Element}
+use Rattle.rustc_literal_escaper.specs.declared.error.EscapeError.{EscapeError}
+use Rattle.rustc_literal_escaper.specs.declared.element.Element.TheVariants.{Plain, Unicode}
+use Rattle.rustc_literal_escaper.specs.declared.mode.Mode.{Mode}
+use Rattle.rustc_literal_escaper.specs.declared.mode.Mode.TheVariants.{Char, Byte}
+use Rattle.rustc_literal_escaper.specs.Elements.{front_by, items_from, items_of, raw_element}
+use Rattle.rustc_literal_escaper.specs.Errors.{errors_in, errors_of, is_raw, is_single}
+use Rattle.rustc_literal_escaper.specs.Plain.{is_simple, Passes}
+use Rattle.rustc_literal_escaper.specs.Escape.{braced, closed_at_run, escape, short}
+use Rattle.rustc_literal_escaper.specs.Single.{alone, literal, single, StartsWithSingle}
+use Rattle.rustc_literal_escaper.proofs.DigitLemmas.{with_digit, left_at, left_at-brace, left_at-digit, left_at-start, hex-yes}
+use Rattle.rustc_literal_escaper.proofs.ErrorLemmas.{errors_of-strings}
+use Rattle.rustc_literal_escaper.proofs.ItemLemmas.{nothing}
+use Rattle.rustc_literal_escaper.proofs.SimpleLemmas.{simple-fine, simple-parts}
+use Rattle.rustc_literal_escaper.proofs.SkipLemmas.{errors-skip}
+use Rattle.rustc_literal_escaper.proofs.SingleLemmas.{literal-starts}
+use Rattle.rustc_literal_escaper.proofs.WrittenLemmas.{is-ascii}
+
+pub alone_whole : {U : Type 0} (meant : Result U EscapeError) → alone meant [] ≡ meant
+alone_whole (Ok u) = refl
+alone_whole (Err e) = refl
+
+pub alone_at : {U : Type 0} (meaning : Element → Result U EscapeError) (c : ℕ) (s : List ℕ) (e : Element) → (e, []) ≡ single c s → meaning e ≡ alone (meaning (single c s).0) (single c s).1
+alone_at meaning c s e at = subst (λ (p : Element × List ℕ). meaning e ≡ alone (meaning p.0) p.1) at (sym (alone_whole (meaning e)))
+
+pub literal_is : {U : Type 0} (meaning : Element → Result U EscapeError) (s : List ℕ) (e : Element) → StartsWithSingle s e [] → meaning e ≡ literal meaning s
+literal_is meaning s e h = sym (literal-starts meaning s [] e h ∙ alone_whole (meaning e))
+
+-- texts of one, two and three bytes of ASCII
+one_byte : (bs : List ℕ) → 1 ≤ length bs → length bs < 2 → bs ≡ slice_index bs 0 ∷ []
+one_byte [] l m = absurd (omega arith)
+one_byte (b ∷ []) l m = refl
+one_byte (b ∷ c ∷ s) l m = absurd (omega arith)
+
+two_bytes : (bs : List ℕ) → 2 ≤ length bs → length bs < 3 → bs ≡ slice_index bs 0 ∷ slice_index bs 1 ∷ []
+two_bytes [] l m = absurd (omega arith)
+two_bytes (b ∷ []) l m = absurd (omega arith)
+two_bytes (b ∷ c ∷ []) l m = refl
+two_bytes (b ∷ c ∷ d ∷ s) l m = absurd (omega arith)
+
+three_bytes : (bs : List ℕ) → 3 ≤ length bs → length bs < 4 → bs ≡ slice_index bs 0 ∷ slice_index bs 1 ∷ slice_index bs 2 ∷ []
+three_bytes [] l m = absurd (omega arith)
+three_bytes (b ∷ []) l m = absurd (omega arith)
+three_bytes (b ∷ c ∷ []) l m = absurd (omega arith)
+three_bytes (b ∷ c ∷ d ∷ []) l m = refl
+three_bytes (b ∷ c ∷ d ∷ f ∷ s) l m = absurd (omega arith)
+
+chars_are : (bs xs : List ℕ) → bs ≡ xs → list_all is_ascii xs ≡ true → chars bs ≡ xs
+chars_are bs xs e a = ap chars e ∙ chars-IsAscii xs (is-ascii xs a)
+
+pub chars_one : (bs : List ℕ) → 1 ≤ length bs → length bs < 2 → slice_index bs 0 < 128 → chars bs ≡ slice_index bs 0 ∷ []
+chars_one bs l m a = chars_are bs _ (one_byte bs l m) (grind (arith, common_steps, nat_tests))
+
+pub chars_two : (bs : List ℕ) → 2 ≤ length bs → length bs < 3 → slice_index bs 0 < 128 → slice_index bs 1 < 128 → chars bs ≡ slice_index bs 0 ∷ slice_index bs 1 ∷ []
+chars_two bs l m a b = chars_are bs _ (two_bytes bs l m) (grind (arith, common_steps, nat_tests))
+
+pub chars_three : (bs : List ℕ) → 3 ≤ length bs → length bs < 4 → slice_index bs 0 < 128 → slice_index bs 1 < 128 → slice_index bs 2 < 128 → chars bs ≡ slice_index bs 0 ∷ slice_index bs 1 ∷ slice_index bs 2 ∷ []
+chars_three bs l m a b d = chars_are bs _ (three_bytes bs l m) (grind (arith, common_steps, nat_tests))
+
+-- a backslash and a character that makes a byte with it
+pub short_alone : (b c : ℕ) → Element.Byte b ≡ short c → (Element.Byte b, []) ≡ escape (c ∷ [])
+short_alone b c e = grind (arith, common_steps, nat_tests)
+
+pub short_whole : (bs : List ℕ) (b : ℕ) → chars bs ≡ 92 ∷ slice_index bs 1 ∷ [] → Element.Byte b ≡ short (slice_index bs 1) → StartsWithSingle (chars bs) (Element.Byte b) []
+short_whole bs b at e = subst (λ (xs : List ℕ). StartsWithSingle xs (Element.Byte b) []) (sym at) (short_alone b (slice_index bs 1) e)
+
+-- a number between braces that is the whole text
+braced_digit : (c : ℕ) (s : List ℕ) → digit_value c < 16 → braced (c ∷ s) ≡ closed_at_run (c ∷ s)
+braced_digit c s l = grind (arith, common_steps, nat_tests)
+
+pub number_ends : (v n c : ℕ) (s : List ℕ) → n ≤ 6 → digit_value c < 16 → left_at v n (125 ∷ []) ≡ left_at 0 0 (c ∷ s) → (Unicode v, []) ≡ braced (c ∷ s)
+number_ends v n c s few digit at =
+    let fits : left_at v n (125 ∷ []) ≡ (Unicode v, []) = left_at-brace v n 125 [] refl ∙ grind (arith, common_steps, nat_tests) in
+    sym fits ∙ (at ∙ (left_at-start (c ∷ s) ∙ sym (braced_digit c s digit)))
+
+-- digits after others
+pub read_digit : (v n c d : ℕ) (s : List ℕ) → digit_value c < 16 → d ≡ digit_value c → n < 6 → left_at (v * 16 + d) (n + 1) s ≡ left_at v n (c ∷ s)
+read_digit v n c d s l is few =
+    let value : v * 16 + d ≡ with_digit v n (digit_value c) = grind (arith, common_steps, nat_tests) in
+    ap (λ (x : ℕ). left_at x (n + 1) s) value ∙ sym (left_at-digit v n c s (hex-yes c l))
+
+pub first_digit : (c d : ℕ) (s : List ℕ) → digit_value c < 16 → d ≡ digit_value c → left_at d 1 s ≡ left_at 0 0 (c ∷ s)
+first_digit c d s l is = ap (λ (x : ℕ). left_at x 1 s) (sym (zero-add d)) ∙ read_digit 0 0 c d s l is (omega arith)
+
+pub no_digits : (v n : ℕ) (rest : List ℕ) (read : Element × List ℕ) → length rest ≡ 0 → left_at v n (rest ++ (125 ∷ [])) ≡ read → left_at v n (125 ∷ []) ≡ read
+no_digits v n rest read none at = ap (λ (xs : List ℕ). left_at v n (xs ++ (125 ∷ []))) (sym (nil_from_length rest none)) ∙ at
+
+pub digit_ascii : (c : ℕ) → digit_value c < 16 → is_ascii c ≡ true
+digit_ascii c l = grind (arith, common_steps, nat_tests)
+
+pub all_more : (c : ℕ) (s rest : List ℕ) → rest ≡ c ∷ s → is_ascii c ≡ true → list_all is_ascii s ≡ true → list_all is_ascii rest ≡ true
+all_more c s rest e a all = ap (list_all is_ascii) e ∙ (ap (λ (b : Bool). b && list_all is_ascii s) a ∙ all)
+
+pub all_none : (rest : List ℕ) → length rest ≡ 0 → list_all is_ascii rest ≡ true
+all_none rest none = ap (list_all is_ascii) (nil_from_length rest none)
+
+pub more_fits : (v n d : ℕ) → v < 16 ^ min n 6 → n < 6 → d < 16 → v * 16 + d < 16 ^ min (n + 1) 6
+more_fits v n d fits few digit =
+    let here : min n 6 ≡ n = omega arith in
+    let next : min (n + 1) 6 ≡ n + 1 = omega arith in
+    let power : 16 ^ (n + 1) ≡ 16 ^ n * 16 = pow-add 16 n 1 in
+    let fits : v < 16 ^ n = subst (λ (k : ℕ). v < 16 ^ k) here fits in
+    subst (λ (k : ℕ). v * 16 + d < 16 ^ k) (sym next) (omega (arith, power, fits))
+
+-- a text of four bytes and more: its first three, those between, and its last
+last_byte : (s : List ℕ) (n : ℕ) → length s ≡ n + 1 → s ≡ take n s ++ (slice_index s n ∷ [])
+last_byte s n e = sym (take-append-drop n s) ∙ ap (λ (xs : List ℕ). take n s ++ xs) (drop-cons s n 0 (omega arith) ∙ ap (λ (xs : List ℕ). slice_index s n ∷ xs) (drop_of_length-le s {i = suc n} (omega arith)))
+
+four_bytes : (bs : List ℕ) (n : ℕ) → length bs ≡ n + 4 → bs ≡ slice_index bs 0 ∷ slice_index bs 1 ∷ slice_index bs 2 ∷ take n (drop 3 bs) ++ (slice_index (drop 3 bs) n ∷ [])
+four_bytes [] n e = absurd (omega arith)
+four_bytes (b ∷ []) n e = absurd (omega arith)
+four_bytes (b ∷ c ∷ []) n e = absurd (omega arith)
+four_bytes (b ∷ c ∷ d ∷ s) n e = ap (λ (xs : List ℕ). b ∷ c ∷ d ∷ xs) (last_byte s n (omega (arith, e)))
+
+-- a number between braces, which is the whole text
+abbrev in_braces : List ℕ → Element → Type 0
+in_braces digits e = (list_all is_ascii digits ≡ true) × ((e, []) ≡ braced (digits ++ (125 ∷ [])))
+
+braces_whole : (bs digits : List ℕ) (e : Element) → bs ≡ 117 ∷ 123 ∷ digits ++ (125 ∷ []) → in_braces digits e → (e, []) ≡ escape (chars bs)
+braces_whole bs digits e is h =
+    let ascii : list_all is_ascii (digits ++ (125 ∷ [])) ≡ true = list_all-append is_ascii digits (125 ∷ []) ∙ ap (λ (b : Bool). b && true) h.0 in
+    let at : chars bs ≡ 117 ∷ 123 ∷ digits ++ (125 ∷ []) = chars_are bs _ is ascii in
+    h.1 ∙ ap escape (sym at)
+
+braces_is : (bs : List ℕ) (n : ℕ) → length bs ≡ n + 4 → slice_index bs 0 ≡ 117 → slice_index bs 1 ≡ 123 → slice_index bs (length bs - 1) ≡ 125 → bs ≡ 117 ∷ 123 ∷ (slice_index bs 2 ∷ take n (drop 3 bs)) ++ (125 ∷ [])
+braces_is bs n e u brace close =
+    let end : slice_index (drop 3 bs) n ≡ 125 = get_or-drop 3 bs n 0 ∙ (ap (slice_index bs) (omega (arith, e)) ∙ close) in
+    four_bytes bs n e ∙ (ap (λ (x : ℕ). x ∷ slice_index bs 1 ∷ slice_index bs 2 ∷ take n (drop 3 bs) ++ (slice_index (drop 3 bs) n ∷ [])) u
+    ∙ (ap (λ (x : ℕ). 117 ∷ x ∷ slice_index bs 2 ∷ take n (drop 3 bs) ++ (slice_index (drop 3 bs) n ∷ [])) brace
+    ∙ ap (λ (x : ℕ). 117 ∷ 123 ∷ slice_index bs 2 ∷ take n (drop 3 bs) ++ (x ∷ [])) end))
+
+pub number_escape : (bs : List ℕ) (r : Option Element) → 4 ≤ length bs → slice_index bs 0 ≡ 117 → slice_index bs 1 ≡ 123 → slice_index bs (length bs - 1) ≡ 125
+    → IfSome r (λ e. (list_all is_ascii (slice_index bs 2 ∷ take (length bs - 1 - 3) (drop 3 bs)) ≡ true) × ((e, []) ≡ braced (slice_index bs 2 ∷ take (length bs - 1 - 3) (drop 3 bs) ++ (125 ∷ []))))
+    → IfSome r (λ e. (e, []) ≡ escape (chars bs))
+number_escape bs None l u brace close h = tt
+number_escape bs (Some e) l u brace close h = braces_whole bs (slice_index bs 2 ∷ take (length bs - 1 - 3) (drop 3 bs)) e (braces_is bs (length bs - 1 - 3) (omega arith) u brace close) h
+
+-- what a simple character of a raw string is
+pub raw_plain : (c : ℕ) → is_simple true c ≡ true → Plain c ≡ raw_element c
+raw_plain c e = grind (arith, common_steps, simple-parts, not-true, nat_tests)
+
+-- a raw string of simple characters
+pub raw_double : (mode : Mode) → true ≡ is_raw mode → false ≡ is_single mode
+raw_double Char raw = absurd (true≢false raw)
+raw_double Byte raw = absurd (true≢false raw)
+raw_double mode raw = refl
+
+pub raw_simple : (mode : Mode) (src left : List ℕ) → true ≡ is_raw mode → Passes (is_simple true) (chars src) (chars left) → length left ≡ 0 → errors_of mode src ≡ []
+raw_simple mode src left raw passes none =
+    let empty : chars left ≡ [] = ap chars (nil_from_length left none) ∙ chars-nil in
+    sym (errors_of-strings mode src (items_of true src) (raw_double mode raw) (ap (λ (r : Bool). items_of r src) raw))
+    ∙ (sym (errors-skip mode true (is_simple true) (simple-fine mode true) (length src) None (chars src) (chars left) passes)
+    ∙ (ap (λ (xs : List ℕ). errors_in mode (items_from (front_by true) (length src) xs)) empty ∙ ap (errors_in mode) (nothing (front_by true) (length src))))
