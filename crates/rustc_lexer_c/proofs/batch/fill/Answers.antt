@@ -27,5 +27,9 @@ overflow_sub-place c =
     let text : List ℕ = c.args.text.now in
     let is : IsText text = record { utf8 = c.utf8.text; fits = c.requires.fits } in
     let from : c.tokenize-tokens.result ≡ state_at text c.args.place.now = begun _ _ _ _ c.tokenize-tokens.result c.tokenize-tokens.ensures.state c.range_from.ensures.value c.allowed_of-allowed.ensures in
-    omega (arith, ap (λ (xs : List ℕ). length xs) c.as_str.ensures.rest, left_within text is c.args.place.now c.requires.boundary c.tokenize-tokens.result c.fill-count.new.self c.args.buffer.now c.fill-count.new.buffer c.fill-count.result from
-    (record { as_many = c.fill-count.ensures.count; tokens = c.fill-count.ensures.tokens }) c.fill-count.ensures.state)
+    omega (
+      arith,
+      ap (λ (xs : List ℕ). length xs) c.as_str.ensures.rest,
+      left_within text is c.args.place.now c.requires.boundary c.tokenize-tokens.result c.fill-count.new.self c.args.buffer.now c.fill-count.new.buffer c.fill-count.result from
+          (record { as_many = c.fill-count.ensures.count; tokens = c.fill-count.ensures.tokens }) c.fill-count.ensures.state,
+    )
