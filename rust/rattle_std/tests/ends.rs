@@ -34,7 +34,7 @@ impl Slow {
         self.calls += 1;
         if self.calls == self.fails {
             Err(Error::from(ErrorKind::BrokenPipe))
-        } else if self.calls % 3 != 0 {
+        } else if matches!(self.calls % 3, 1 | 2) {
             Err(Error::from(ErrorKind::Interrupted))
         } else {
             Ok(())

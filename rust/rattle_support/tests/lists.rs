@@ -227,4 +227,10 @@ fn room() {
     assert_eq!(requests(|| items.shrink_to_fit()), 0, "they fit");
     assert_eq!(given(0, || held.push_str("1")), Err(AllocError));
     assert_eq!(given(0, || items.push(3)), Err(AllocError));
+    held.truncate(0);
+    items.truncate(0);
+    held.shrink_to_fit();
+    items.shrink_to_fit();
+    assert_eq!(given(0, || held.push_str("1")), Err(AllocError));
+    assert_eq!(given(0, || items.push(3)), Err(AllocError));
 }

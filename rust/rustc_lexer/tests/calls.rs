@@ -236,6 +236,22 @@ fn what_costs_what_it_reads() {
     );
 }
 
+/// What is left of a text is a part of it, and outlives what reads it.
+#[test]
+fn what_is_left_is_of_the_text() {
+    fn by_tokens(text: &str) -> &str {
+        let mut tokens = tokenize(text, FrontmatterAllowed::No);
+        tokens.next();
+        tokens.as_str()
+    }
+    fn by_cursor(text: &str) -> &str {
+        let mut cursor = Cursor::new(text, FrontmatterAllowed::No);
+        cursor.advance_token();
+        cursor.as_str()
+    }
+    assert_eq!((by_tokens("a b"), by_cursor("a b")), (" b", " b"));
+}
+
 #[test]
 fn first_and_third() {
     let mut cursor = Cursor::new("é-", FrontmatterAllowed::No);
