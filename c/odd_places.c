@@ -256,6 +256,27 @@ static void check_marks(const uint8_t *text, size_t len, enum placement placemen
     release(count);
 }
 
+/* A text of 2 to the power of 32 bytes and one more, which the system gives without a look at them: it is too long, and no
+ * part of it is taken for it. */
+static void check_too_long(void) {
+#if SIZE_MAX > UINT32_MAX
+    size_t len = (size_t)UINT32_MAX + 2;
+    uint8_t *text = mmap(NULL, len, PROT_READ | PROT_WRITE, MAP_PRIVATE | MAP_ANONYMOUS | MAP_NORESERVE, -1, 0);
+    struct rustc_lexer_token first, none = {0};
+    struct rustc_lexer_place place = {0, 0};
+    size_t count = 99;
+    CHECK(text != MAP_FAILED);
+    text[0] = 'a';
+    CHECK(rustc_lexer_check(text, len) == RUSTC_LEXER_TOO_LONG);
+    CHECK(rustc_lexer_tokens(text, len, &place, &first, 1, &count) == RUSTC_LEXER_TOO_LONG && count == 0);
+    CHECK(rustc_lexer_tokens_unchecked(text, len, &place, &first, 1, &count) == RUSTC_LEXER_TOO_LONG && count == 0);
+    first = rustc_lexer_first_token_unchecked(text, len, 0);
+    CHECK(memcmp(&first, &none, sizeof none) == 0);
+    CHECK(!rustc_lexer_is_ident_unchecked(text, len) && !rustc_lexer_starts_raw_unchecked(text, len, 1));
+    CHECK(munmap(text, len) == 0);
+#endif
+}
+
 /* All calls on a text. */
 static void check_text(const uint8_t *bytes, size_t len) {
     static const size_t buffers[] = {1, 2, 3, 5, 8, 31, MOST};
@@ -327,6 +348,7 @@ int main(int count, char **words) {
         }
     }
     check_text(file, 0);
+    check_too_long();
     CHECK(edits > 0);
     printf("odd_places: all calls answer as they should, %lu edits among them\n", edits);
     return 0;

@@ -128,4 +128,23 @@ mod tests {
         assert_eq!(*writer.into_inner(), *wanted.as_bytes());
         Ok(())
     }
+
+    /// Each control character by the escape that RFC 8259 has for it.
+    #[test]
+    fn control_characters() -> Result<(), AllocError> {
+        for n in 0..32u8 {
+            let mut writer: Writer<Global> = Writer::new(Vec::new(Global));
+            writer.string(core::str::from_utf8(&[n]).unwrap())?;
+            let wanted = match n {
+                8 => r#""\b""#.to_string(),
+                9 => r#""\t""#.to_string(),
+                10 => r#""\n""#.to_string(),
+                12 => r#""\f""#.to_string(),
+                13 => r#""\r""#.to_string(),
+                _ => format!("\"\\u{n:04x}\""),
+            };
+            assert_eq!(*writer.into_inner(), *wanted.as_bytes());
+        }
+        Ok(())
+    }
 }

@@ -9,7 +9,7 @@ use rattle_std::prelude::String;
 use rattle_std::rt;
 use refusing::given;
 
-/// An end that moves so many bytes in each call, and is interrupted before every second one.
+/// An end that moves so many bytes in each call, and is interrupted twice before each that moves some.
 struct Slow {
     bytes: std::vec::Vec<u8>,
     moved: usize,
@@ -34,7 +34,7 @@ impl Slow {
         self.calls += 1;
         if self.calls == self.fails {
             Err(Error::from(ErrorKind::BrokenPipe))
-        } else if self.calls % 2 == 1 {
+        } else if matches!(self.calls % 3, 1 | 2) {
             Err(Error::from(ErrorKind::Interrupted))
         } else {
             Ok(())
@@ -106,6 +106,43 @@ fn texts_in_new_memory() {
         rattle_std::format!(in rt.alloc(); "").ok(),
         Some(String::new(rt.alloc()))
     );
+}
+
+/// Streams that do not wait: what a call can take at once is taken, and what has nothing yet is at no end. This test runs
+/// itself as a process with such streams.
+#[cfg(unix)]
+#[test]
+fn streams_that_do_not_wait() {
+    use std::io::Write as _;
+    use std::os::fd::OwnedFd;
+    use std::os::unix::net::UnixStream;
+    use std::process::Command;
+    const NAME: &str = "RATTLE_STD_DOES_NOT_WAIT";
+    if std::env::var_os(NAME).is_none() {
+        let (mut input, stdin) = UnixStream::pair().unwrap();
+        let (_output, stderr) = UnixStream::pair().unwrap();
+        stdin.set_nonblocking(true).unwrap();
+        stderr.set_nonblocking(true).unwrap();
+        input.write_all(b"ab").unwrap();
+        let ended = Command::new(std::env::current_exe().unwrap())
+            .args(["--exact", "streams_that_do_not_wait"])
+            .env(NAME, "")
+            .stdin(OwnedFd::from(stdin))
+            .stderr(OwnedFd::from(stderr))
+            .output();
+        return assert!(ended.unwrap().status.success());
+    }
+    let rt = rt::start();
+    let mut room = [0; 9];
+    assert_eq!(rt.stdin().read(&mut room).unwrap(), 2);
+    let error = rt.stdin().read(&mut room).unwrap_err();
+    assert_eq!(error.kind(), ErrorKind::WouldBlock);
+    let many = bytes(1 << 24);
+    assert!((1..many.len()).contains(&rt.stderr().write(&many).unwrap()));
+    let error = rt.stderr().write(&many).unwrap_err();
+    assert_eq!(error.kind(), ErrorKind::WouldBlock);
+    // A variable that is empty is set.
+    assert_eq!(rattle_std::env::var(&rt, NAME).ok().as_deref(), Some(""));
 }
 
 /// What this process is, by Rust's own calls.

@@ -78,6 +78,15 @@ fn names_of_a_folder() {
         entries(&rt, &folder.at("")[..folder.at("").len() - 1]),
         wanted
     );
+    // A separator at the end of the folder's path is the one before a name.
+    let path = folder.at("");
+    for entry in fs::read_dir(&rt, path.as_str()).unwrap() {
+        let entry = entry.unwrap();
+        assert_eq!(
+            entry.path().path_text(),
+            [&path, entry.file_name()].concat()
+        );
+    }
     assert!(
         fs::metadata(&rt, folder.at("link").as_str())
             .unwrap()
@@ -141,6 +150,9 @@ fn files() {
     }
     assert_eq!(read, b"text");
     assert_eq!(fs::metadata(&rt, first.as_str()).unwrap().len(), 4);
+    // A program that runs may be read, and Linux lets nobody write to it.
+    let this = std::env::current_exe().unwrap();
+    assert!(File::open(&rt, this.to_str().unwrap()).is_ok());
     for missing in [
         File::open(&rt, second.as_str()).err(),
         fs::metadata(&rt, second.as_str()).err(),

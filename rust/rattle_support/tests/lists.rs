@@ -159,6 +159,12 @@ fn sorted_texts() {
     texts.sort().unwrap();
     let names: std::vec::Vec<&str> = texts.iter().map(|text| text.as_str()).collect();
     assert_eq!(names, ["", "A.RS", "B", "Z", "a", "a.rs", "a/b", "b", "é"]);
+    // Many take no memory either.
+    for number in 0..1000 {
+        texts.push(text(&(number % 7).to_string())).unwrap();
+    }
+    assert_eq!(given(0, || texts.sort()), Ok(()));
+    assert!(texts.is_sorted());
 }
 
 #[test]
@@ -177,6 +183,25 @@ fn room_that_was_made() {
     held.reserve(60).unwrap();
     let more = "b".repeat(60);
     assert_eq!(given(0, || held.push_str(&more)), Ok(()));
+}
+
+/// Room grows by more than what is asked for, so a thousand calls that append ask for memory some ten times.
+#[test]
+fn room_that_grows() {
+    type Call = fn(&mut String, &mut Vec<u8>) -> Result<(), AllocError>;
+    let calls: [Call; 6] = [
+        |text, _| text.push('a'),
+        |text, _| text.push_str("a"),
+        |text, _| text.replace_range(0..0, "a"),
+        |_, list| list.push(1),
+        |_, list| list.extend_from_slice(&[1]),
+        |_, list| list.resize(list.len() + 1, 1),
+    ];
+    for (number, call) in calls.into_iter().enumerate() {
+        let (mut text, mut list) = (String::new(Global), Vec::new(Global));
+        let asked = requests(|| (0..1000).all(|_| call(&mut text, &mut list).is_ok()));
+        assert!(asked < 20, "call {number}: {asked} requests");
+    }
 }
 
 /// Room for more is given back, and where the smaller room is refused the larger one stays.
@@ -200,6 +225,12 @@ fn room() {
     assert_eq!(items.as_slice(), [1, 2, 2, 3]);
     assert_eq!(requests(|| held.shrink_to_fit()), 0, "it fits");
     assert_eq!(requests(|| items.shrink_to_fit()), 0, "they fit");
+    assert_eq!(given(0, || held.push_str("1")), Err(AllocError));
+    assert_eq!(given(0, || items.push(3)), Err(AllocError));
+    held.truncate(0);
+    items.truncate(0);
+    held.shrink_to_fit();
+    items.shrink_to_fit();
     assert_eq!(given(0, || held.push_str("1")), Err(AllocError));
     assert_eq!(given(0, || items.push(3)), Err(AllocError));
 }

@@ -159,7 +159,9 @@ const LINE: TokenKind = TokenKind::LineComment {
 #[test]
 fn each_way_to_take_tokens_gives_the_same() {
     let long = format!("{}\n// é\n", "let x = 'a' + \"b\"; ".repeat(100));
-    let texts = SHORT.iter().map(|(text, _)| *text).chain([&long[..]]);
+    let word = ["+", &"a".repeat(100)].concat();
+    let texts = SHORT.iter().map(|(text, _)| *text);
+    let texts = texts.chain([&long[..], &word]);
     for text in texts {
         let mut by_next = Vec::new();
         let mut tokens = tokenize(text, FrontmatterAllowed::No);
@@ -191,7 +193,12 @@ fn each_way_to_take_tokens_gives_the_same() {
             let mut tokens = tokenize(text, FrontmatterAllowed::No);
             assert!(tokens.by_ref().take(taken).eq(all[..taken].iter().copied()));
             #[cfg(feature = "alloc")]
-            assert_eq!(tokens.clone().into_vec(), all[taken..]);
+            {
+                let made = tokens.clone().into_vec();
+                assert_eq!(made, all[taken..]);
+                let most = 2 * made.len() + 32;
+                assert!(made.capacity() <= most, "room for the bytes of {text:?}");
+            }
             assert_eq!(tokens.collect::<Vec<_>>(), all[taken..]);
         }
         assert!(tokenize_in(text, Edition::E2024).eq(all.iter().copied()));
@@ -227,6 +234,22 @@ fn what_costs_what_it_reads() {
         short < whole,
         "{short:?} for 4000 short reads, {whole:?} for all"
     );
+}
+
+/// What is left of a text is a part of it, and outlives what reads it.
+#[test]
+fn what_is_left_is_of_the_text() {
+    fn by_tokens(text: &str) -> &str {
+        let mut tokens = tokenize(text, FrontmatterAllowed::No);
+        tokens.next();
+        tokens.as_str()
+    }
+    fn by_cursor(text: &str) -> &str {
+        let mut cursor = Cursor::new(text, FrontmatterAllowed::No);
+        cursor.advance_token();
+        cursor.as_str()
+    }
+    assert_eq!((by_tokens("a b"), by_cursor("a b")), (" b", " b"));
 }
 
 #[test]
@@ -420,16 +443,23 @@ fn traits_that_are_taken_for_granted() {
     fn stays_at_its_end<T: std::iter::FusedIterator + Clone + std::fmt::Debug>() {}
     fn is_measured<T: rustc_lexer::Measured>() {}
     fn is_there<T>() {}
+    fn steps<T: rustc_lexer::Stepper + Clone + std::fmt::Debug>() {}
     is_error::<rustc_lexer::AllocError>();
     is_error::<rustc_lexer::UnknownEdition>();
     is_error::<RawStrError>();
     stays_at_its_end::<rustc_lexer::EditionTokens<'_>>();
     is_measured::<Token>();
+    steps::<Steps>();
     is_there::<rustc_lexer::BodyChange>();
+    is_there::<(rustc_lexer::Bound, rustc_lexer::Change, rustc_lexer::Head)>();
+    is_there::<(rustc_lexer::Relexed, rustc_lexer::Relexing)>();
     #[cfg(feature = "alloc")]
     {
+        fn is_key<T: Eq + std::hash::Hash>() {}
         is_error::<rustc_lexer::EditError>();
         is_error::<rustc_lexer::EditStop>();
+        is_key::<rustc_lexer::EditError>();
+        is_there::<rustc_lexer::Piece<'_>>();
         stays_at_its_end::<rustc_lexer::Pieces<'_>>();
     }
 }
@@ -497,11 +527,19 @@ fn what_is_written_of_values() {
     tokens.next();
     assert_eq!(format!("{tokens:?}"), r#"Tokens(" b")"#);
     assert_eq!(format!("{:?}", Steps::new()), "Steps { .. }");
+    // What is written over lines is indented, as of each type that derives it.
+    let lines = format!("{cursor:#?} {tokens:#?}");
+    assert_eq!(lines, "Cursor(\n    \"a b\",\n) Tokens(\n    \" b\",\n)");
     assert_eq!(format!("{:>6}", Edition::E2021), "  2021");
     for edition in Edition::ALL {
         let year = edition.to_string();
         assert_eq!(format!("{edition:?}"), format!("E{year}"));
-        assert_eq!(year, edition.year().to_string());
+        let number = edition.year();
+        assert_eq!(year, number.to_string());
+        assert_eq!(
+            format!("{edition:6}{edition:<6}{edition:06}"),
+            format!("{number:6}{number:<6}{number:06}")
+        );
         assert_eq!(year.parse(), Ok(edition));
         assert_eq!(Edition::try_from(edition.year()), Ok(edition));
     }

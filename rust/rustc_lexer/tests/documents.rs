@@ -311,6 +311,33 @@ fn what_is_held() {
     assert_eq!(shown, wanted);
 }
 
+/// Each call on a text whose tokens are by a stepper of the caller.
+#[test]
+fn calls_with_a_stepper() {
+    macro_rules! calls {
+        ($lexed:ident) => {
+            let mut lexed = $lexed::try_with("aé", Characters(0)).unwrap();
+            assert!(lexed.accepts(0..1, "b"));
+            lexed.edit(0..1, "bc");
+            assert!(lexed.try_edit(0..1, "").is_ok());
+            let edit = Edit {
+                start: 0,
+                stop: 1,
+                insert: "bc",
+            };
+            assert_eq!(lexed.edit_all(&[edit]), Ok(()));
+            lexed.shrink_to_fit();
+            assert_eq!((lexed.text(), lexed.tokens().len()), ("bcé", 3));
+            let counts = (lexed.pieces().len(), lexed.pieces_of(1..2).len());
+            assert_eq!(counts, (3, 1));
+            assert!(lexed.stepper().0 >= 5);
+            assert!(format!("{lexed:?}").starts_with(stringify!($lexed)));
+        };
+    }
+    calls!(LexedText);
+    calls!(LexedDocument);
+}
+
 #[test]
 #[should_panic(
     expected = "the edit of 1..2: the range has to be inside the text, between characters"

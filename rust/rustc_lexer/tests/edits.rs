@@ -332,13 +332,45 @@ fn clones_and_defaults() {
     );
 }
 
+/// A text is taken as it is held.
+#[test]
+fn texts_that_are_handed_over() {
+    let text = || String::from("a + b");
+    for lexed in [
+        Ok(LexedText::new(text())),
+        Ok(LexedText::new_in(text(), Edition::E2024)),
+        LexedText::try_new_in(text(), Edition::E2024),
+        LexedText::try_with(text(), Steps::new()),
+    ] {
+        assert_eq!(lexed.unwrap().tokens().len(), 5);
+    }
+    for lexed in [
+        Ok(LexedDocument::new(text())),
+        Ok(LexedDocument::new_in(text(), Edition::E2024)),
+        LexedDocument::try_new_in(text(), Edition::E2024),
+        LexedDocument::try_with(text(), Steps::new()),
+    ] {
+        assert_eq!(lexed.unwrap().tokens().len(), 5);
+    }
+}
+
 #[test]
 fn what_is_written_of_texts() {
     let shown = format!("{:?}", LexedText::new("a"));
     let wanted = r#"LexedText { text: "a", tokens: [Token { kind: Ident, len: 1 }], .. }"#;
     assert_eq!(shown, wanted);
+    for (shown, name) in [
+        (format!("{:#?}", LexedText::new("")), "LexedText"),
+        (format!("{:#?}", LexedDocument::new("")), "LexedDocument"),
+    ] {
+        assert_eq!(
+            shown,
+            [name, " {\n    text: \"\",\n    tokens: [],\n    ..\n}"].concat()
+        );
+    }
     let lexed = LexedText::new("a b");
     let mut pieces = lexed.pieces();
     pieces.next();
     assert_eq!(format!("{pieces:?}"), "Pieces { left: 2, .. }");
+    assert_eq!(format!("{pieces:#?}"), "Pieces {\n    left: 2,\n    ..\n}");
 }

@@ -6,6 +6,7 @@ use rustc_literal_escaper::{
     EscapeError, MixedUnit, Mode, check_for_errors, check_raw_byte_str, check_raw_c_str,
     check_raw_str, unescape_byte, unescape_byte_str, unescape_c_str, unescape_char, unescape_str,
 };
+use std::collections::HashSet;
 use std::ops::Range;
 
 type Units<T> = Vec<(Range<usize>, Result<T, EscapeError>)>;
@@ -301,4 +302,7 @@ fn modes_and_units() {
         MixedUnit::try_from(128u8),
         Ok(MixedUnit::HighByte(NonZero::new(128).unwrap()))
     );
+    let twice = (1..=255u8).chain(1..=255).map(MixedUnit::try_from);
+    let units: HashSet<MixedUnit> = twice.map(Result::unwrap).collect();
+    assert_eq!(units.len(), 255);
 }

@@ -57,6 +57,19 @@ fn where_nothing_is_written() {
     }
 }
 
+/// Room that the caller made is used, and stays.
+#[test]
+fn room_of_the_caller() {
+    let mut out = String::with_capacity(1000);
+    for _ in 0..10 {
+        assert_eq!(given(0, || escape_str("a\n", &mut out)), Ok(()));
+        assert_eq!(given(0, || escape_byte_str(b"\xff", &mut out)), Ok(()));
+        assert_eq!(given(0, || escape_c_str(b"b", &mut out)), Ok(()));
+    }
+    assert_eq!(out, r"a\n\xffb".repeat(10));
+    assert!(out.capacity() >= 1000);
+}
+
 /// A character is one, whatever its bytes, and a byte is a character below 128.
 #[test]
 fn units_of_c_strings() {
