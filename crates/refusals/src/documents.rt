@@ -1,9 +1,8 @@
 //! Documents that are kept with their tokens: what is left of them after memory is refused.
-use crate::{EditRow, are_pieces, edit, relexed};
+use crate::{EditRow, are_pieces, are_tokens, edit, relexed};
 use lex_vectors::steppers::Counting;
 use rustc_lexer::{
-    EditStop, Edition, FrontmatterAllowed, LexedDocument, Relexed, Stepper, fits, strip_shebang,
-    tokenize_as,
+    EditStop, Edition, LexedDocument, Relexed, Stepper, fits, strip_shebang, tokenize_document,
 };
 use std::alloc::{AllocError, Global};
 
@@ -34,10 +33,9 @@ fn is_held<S: Stepper>(held: &LexedDocument<S>, edition: Edition, text: &str) ->
     }
     let start = strip_shebang(text).unwrap_or(0);
     let rest = &text[start..];
-    let tokens = tokenize_as(rest, FrontmatterAllowed::Yes, edition);
     held.shebang_len() == start
-        && are_pieces(held.pieces(), tokens, rest)
-        && held.tokens().len() == held.pieces().count()
+        && are_pieces(held.pieces(), tokenize_document(text, edition), rest)
+        && are_tokens(held.tokens(), tokenize_document(text, edition))
 }
 
 /// Returns whether an edit had these counts and made this text, or was refused memory and left the other text.
