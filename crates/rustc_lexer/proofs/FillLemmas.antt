@@ -1,4 +1,4 @@
--- What the clauses `count` and `state` of `Tokens::fill` tell of the iterator after the call.
+-- What the clauses `count` and `state` of `Tokens::fill`, with those of `as_str` before it, tell of the iterator after it.
 use Rattle.std.proofs.Common.{◌≡◌, ℕ, zero, suc, ◌+◌, ◌<◌, ◌≤◌, ◌==◌, false, [], length, drop, min, refl, sym, ap, subst, ◌∙◌, arith, length-drop}
 use Rattle.std.proofs.lemmas.Bool.{ne_eqb}
 use Rattle.std.proofs.lemmas.List.{nil_from_length}
@@ -43,6 +43,8 @@ is_past s is none (suc count) few =
 
 -- `fill` took `count` tokens, and its buffer has room for so many
 pub record Leaves (s t : State) (room count : ℕ) : Type 0 where
+  pub text : IsText t.rest
+  pub pending : t.pending ≡ 0
   pub tokens : tokens_left t ≡ drop count (tokens_left s)
   pub rest : t.rest ≡ drop (bound (tokens_left s) count) s.rest
   pub edition : mode_edition t.mode ≡ mode_edition s.mode
@@ -55,6 +57,8 @@ past_fill s t room count is none as_many past =
     let all = is_past s is none count few in
     let cut : t.rest ≡ drop (bound (tokens_left s) count) s.rest = ap (λ (x : State). x.rest) past ∙ all.rest in
     record {
+      text = subst (λ (x : State). IsText x.rest) (sym past) all.text;
+      pending = ap (λ (x : State). x.pending) past ∙ all.pending;
       tokens = ap tokens_left past ∙ all.left;
       rest = cut;
       edition = ap (λ (x : State). mode_edition x.mode) past ∙ edition-stays count s;

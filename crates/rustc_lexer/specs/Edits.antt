@@ -33,7 +33,7 @@ ends_from from (t ∷ ts) = (from + t.len) ∷ ends_from (from + t.len) ts
 abbrev pub kept_front : List ℕ → List Token → ℕ → ℕ
 kept_front text tokens to = count_by (λ end. has_two text end to) (ends_from 0 tokens)
 
--- bound `number` of the new tokens is one of the old tokens, moved by the edit, and `back` old tokens follow it: it is as
+-- bound `number` of the new tokens is an old bound, moved by the edit, and `back` old tokens follow it: it is as
 -- far past `new_stop`, the end of what was put in, as the old bound is past `old_stop`, the end of what was taken out
 pub record IsMeeting (old new : List Token) (old_stop new_stop number back : ℕ) : Type 0 where
   pub number_inside : number ≤ length new

@@ -45,8 +45,8 @@ pub data IsCommentRest : Chars → Type 0 where
 
 -- ---- words
 
--- the prefixes that are known, with the mark after them: those that these productions except, which
--- begin literals and raw identifiers; and `k#` where an identifier follows it (not in the Reference)
+-- the known prefixes with the mark after them: those that RESERVED_TOKEN_POUND, _DOUBLE_QUOTE and _SINGLE_QUOTE except,
+-- which begin literals and raw identifiers; and `k#` where an identifier follows it (not in the Reference)
 abbrev pub known_prefixes : List Chars
 known_prefixes =
     codes "r\"" ∷ codes "r#" ∷ codes "b'" ∷ codes "b\"" ∷ codes "br\"" ∷ codes "br#"
