@@ -9,7 +9,7 @@ use Rattle.rustc_lexer.specs.declared.token.LiteralKind.TheVariants.{Int, Float,
 use Rattle.rustc_lexer.specs.declared.token.Token.{Token}
 use Rattle.rustc_lexer.specs.declared.token.TokenKind.{TokenKind}
 use Rattle.rustc_lexer.specs.declared.token.TokenKind.TheVariants.{LineComment, BlockComment, Frontmatter, Literal, Lifetime}
-use Rattle.rustc_lexer.specs.LanguageCalls.{kind_entry}
+use Rattle.rustc_lexer.specs.Kinds.{kind_entry}
 
 abbrev pub bool_text : Bool → List ℕ
 bool_text true = codes "true"

@@ -66,10 +66,6 @@ take-pieces text start (suc k) (t ∷ ts) = ap (λ ps. record { start = start; t
 pub pieces-part : (text : List ℕ) (start place : ℕ) (tokens : List Token) (from n : ℕ) → place ≡ start + bound tokens from → pieces_from text place (take n (drop from tokens)) ≡ take n (drop from (pieces_from text start tokens))
 pieces-part text start place tokens from n at = grind (arith, common_steps, drop-pieces, take-pieces)
 
--- and as many of them as there are tokens
-pub length-part : (text : List ℕ) (start : ℕ) (tokens : List Token) (from to : ℕ) → from ≤ to → to ≤ length tokens → length (take (to - from) (drop from (pieces_from text start tokens))) ≡ to - from
-length-part text start tokens from to le inside = length-take-le (to - from) (drop from (pieces_from text start tokens)) (omega (arith, length-drop from (pieces_from text start tokens), length-pieces text start tokens))
-
 -- ---- where a token begins, from a bound before it on
 
 -- one token more

@@ -72,8 +72,8 @@ is_word_continue c = is_id_continue c || is_emoji c
 abbrev pub is_name_start : ℕ → Bool
 is_name_start c = is_id_start c || is_ascii_digit c || is_emoji c
 
--- a name that no lifetime of Rust has (not in the Reference): a digit or an emoji comes first, or
--- later an emoji that no identifier goes on with: `1`, `😀`, `ℹ`, `a😀`; not `aℹ`
+-- a name that a lifetime has by mistake, for which the Reference has no rule: a digit or an emoji comes
+-- first, or later an emoji that no identifier goes on with: `1`, `😀`, `ℹ`, `a😀`; not `aℹ`
 abbrev pub is_bad_name : Chars → Bool
 is_bad_name [] = false
 is_bad_name (c ∷ w) = is_ascii_digit c || is_emoji c || not (list_all is_id_continue w)

@@ -2,7 +2,7 @@
 -- Language.antt; texts are characters where nothing else is said, and places are in bytes.
 use Rattle.std.specs.Prelude.{◌≡◌, ◌==◌, ◌+◌, ◌-◌, ◌<◌, ◌≤◌, ℕ, suc, Bool, true, false, [], ◌∷◌, ◌++◌, length, drop, codes, Contains, Option, Some, None, Result, Ok, Err, List, decimal, bytes_eq, chars, find, if◌then◌else◌, nat_eq}
 use Rattle.std.specs.Str.{byte}
-use Rattle.rustc_lexer.specs.{Edition, LiteralKind, RawStrError, TokenKind, Int, Float, Char, Byte, Str, ByteStr, CStr, RawStr, RawByteStr, RawCStr, E2015, E2018, E2021, E2024, InvalidStarter, NoTerminator, TooManyDelimiters, LineComment, BlockComment, Whitespace, Frontmatter, Ident, InvalidIdent, RawIdent, ForcedKeywordIdent, UnknownPrefix, UnknownPrefixLifetime, RawLifetime, GuardedStrPrefix, Literal, Lifetime, Semi, Comma, Dot, OpenParen, CloseParen, OpenBrace, CloseBrace, OpenBracket, CloseBracket, At, Pound, Tilde, Question, Colon, Dollar, Eq, Bang, Lt, Gt, Minus, And, Or, Plus, Star, Slash, Caret, Percent, Unknown, Eof}
+use Rattle.rustc_lexer.specs.{Edition, RawStrError, TokenKind, E2015, E2018, E2021, E2024, InvalidStarter, NoTerminator, TooManyDelimiters, LineComment, BlockComment, Whitespace}
 use Rattle.rustc_lexer.specs.Classes.{is_among, Chars, Utf8, begins, next_is, AreAll, NextNotIn, bytes, is_inline}
 use Rattle.rustc_lexer.specs.Language.{IsTokenBefore}
 use Rattle.rustc_lexer.specs.LanguageText.{year}
@@ -89,65 +89,3 @@ edition_of word =
     else (if bytes_eq word (codes "2021") then Some E2021
     else (if bytes_eq word (codes "2024") then Some E2024
     else None)))
-
--- ---- kinds
-
--- the number of a kind, for other languages, and its name, which is that of the variant. The number is fixed: a new
--- kind gets a new one, and none has 0
-unfoldable pub kind_entry : TokenKind → ℕ × List ℕ
-kind_entry (LineComment doc_style) = (1, codes "LineComment")
-kind_entry (BlockComment doc_style terminated) = (2, codes "BlockComment")
-kind_entry Whitespace = (3, codes "Whitespace")
-kind_entry (Frontmatter has_invalid_preceding_whitespace invalid_infostring) = (4, codes "Frontmatter")
-kind_entry Ident = (5, codes "Ident")
-kind_entry InvalidIdent = (6, codes "InvalidIdent")
-kind_entry RawIdent = (7, codes "RawIdent")
-kind_entry ForcedKeywordIdent = (8, codes "ForcedKeywordIdent")
-kind_entry UnknownPrefix = (9, codes "UnknownPrefix")
-kind_entry UnknownPrefixLifetime = (10, codes "UnknownPrefixLifetime")
-kind_entry RawLifetime = (11, codes "RawLifetime")
-kind_entry GuardedStrPrefix = (12, codes "GuardedStrPrefix")
-kind_entry (Literal kind suffix_start) = (13, codes "Literal")
-kind_entry (Lifetime starts_with_number) = (14, codes "Lifetime")
-kind_entry Semi = (15, codes "Semi")
-kind_entry Comma = (16, codes "Comma")
-kind_entry Dot = (17, codes "Dot")
-kind_entry OpenParen = (18, codes "OpenParen")
-kind_entry CloseParen = (19, codes "CloseParen")
-kind_entry OpenBrace = (20, codes "OpenBrace")
-kind_entry CloseBrace = (21, codes "CloseBrace")
-kind_entry OpenBracket = (22, codes "OpenBracket")
-kind_entry CloseBracket = (23, codes "CloseBracket")
-kind_entry At = (24, codes "At")
-kind_entry Pound = (25, codes "Pound")
-kind_entry Tilde = (26, codes "Tilde")
-kind_entry Question = (27, codes "Question")
-kind_entry Colon = (28, codes "Colon")
-kind_entry Dollar = (29, codes "Dollar")
-kind_entry Eq = (30, codes "Eq")
-kind_entry Bang = (31, codes "Bang")
-kind_entry Lt = (32, codes "Lt")
-kind_entry Gt = (33, codes "Gt")
-kind_entry Minus = (34, codes "Minus")
-kind_entry And = (35, codes "And")
-kind_entry Or = (36, codes "Or")
-kind_entry Plus = (37, codes "Plus")
-kind_entry Star = (38, codes "Star")
-kind_entry Slash = (39, codes "Slash")
-kind_entry Caret = (40, codes "Caret")
-kind_entry Percent = (41, codes "Percent")
-kind_entry Unknown = (42, codes "Unknown")
-kind_entry Eof = (43, codes "Eof")
-
--- the same of the kinds of literals
-unfoldable pub literal_entry : LiteralKind → ℕ × List ℕ
-literal_entry (Int base empty_int) = (1, codes "Int")
-literal_entry (Float base empty_exponent) = (2, codes "Float")
-literal_entry (Char terminated) = (3, codes "Char")
-literal_entry (Byte terminated) = (4, codes "Byte")
-literal_entry (Str terminated) = (5, codes "Str")
-literal_entry (ByteStr terminated) = (6, codes "ByteStr")
-literal_entry (CStr terminated) = (7, codes "CStr")
-literal_entry (RawStr n_hashes) = (8, codes "RawStr")
-literal_entry (RawByteStr n_hashes) = (9, codes "RawByteStr")
-literal_entry (RawCStr n_hashes) = (10, codes "RawCStr")

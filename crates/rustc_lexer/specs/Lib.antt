@@ -7,6 +7,7 @@ pub mod Edits
 pub mod FrontmatterGrammar
 pub mod GrammarLaws
 pub mod Head
+pub mod Kinds
 pub mod Language
 pub mod LanguageCalls
 pub mod LanguageText

@@ -1,6 +1,7 @@
 //! Tokens: their kinds and their lengths.
 ghost use Rattle.std.specs.Prelude.{◌≡◌, Some};
-ghost use Rattle.rustc_lexer.specs.LanguageCalls.{raw_str_text, kind_entry, literal_entry};
+ghost use Rattle.rustc_lexer.specs.Kinds.{kind_entry, literal_entry};
+ghost use Rattle.rustc_lexer.specs.LanguageCalls.{raw_str_text};
 
 use std::error::Error;
 use std::fmt;
@@ -176,7 +177,7 @@ pub enum TokenKind {
 
 impl TokenKind {
     /// Returns the name of the kind, which is the name of its variant, like `Ident`.
-    #[tactic(auto, unfolding(crate::specs::LanguageCalls::kind_entry))]
+    #[tactic(auto, unfolding(crate::specs::Kinds::kind_entry))]
     pub fn name(self) -> &'static str
         ensures { result.now ≡ (kind_entry self).1 }
     {
@@ -229,7 +230,7 @@ impl TokenKind {
 
     /// Returns the number of the kind. Numbers begin at 1 and never change: a new kind gets a new number.
     #[inline(always)]
-    #[tactic(auto, unfolding(crate::specs::LanguageCalls::kind_entry))]
+    #[tactic(auto, unfolding(crate::specs::Kinds::kind_entry))]
     pub fn number(self) -> u8
         ensures { result ≡ (kind_entry self).0 }
     {
@@ -360,7 +361,7 @@ pub enum LiteralKind {
 
 impl LiteralKind {
     /// Returns the name of the kind, which is the name of its variant, like `Int`.
-    #[tactic(auto, unfolding(crate::specs::LanguageCalls::literal_entry))]
+    #[tactic(auto, unfolding(crate::specs::Kinds::literal_entry))]
     pub fn name(self) -> &'static str
         ensures { result.now ≡ (literal_entry self).1 }
     {
@@ -380,7 +381,7 @@ impl LiteralKind {
 
     /// Returns the number of the kind. Numbers begin at 1 and never change: a new kind gets a new number.
     #[inline(always)]
-    #[tactic(auto, unfolding(crate::specs::LanguageCalls::literal_entry))]
+    #[tactic(auto, unfolding(crate::specs::Kinds::literal_entry))]
     pub fn number(self) -> u8
         ensures { result ≡ (literal_entry self).0 }
     {

@@ -1,6 +1,6 @@
 //! Tokens as numbers.
 ghost use Rattle.std.specs.Prelude.{◌≡◌};
-ghost use Rattle.rustc_lexer.specs.LanguageCalls.{kind_entry};
+ghost use Rattle.rustc_lexer.specs.Kinds.{kind_entry};
 ghost use Rattle.rustc_lexer_c.specs.Numbers as numbers;
 
 use rustc_lexer::{DocStyle, LiteralKind, Record, Token, TokenKind};

@@ -90,6 +90,7 @@ impl<S: Stepper> LexedText<S> {
     /// Returns an iterator over the pieces of the text, one for each token, in order.
     pub fn pieces(&self) -> Pieces<'_>
         ensures pieces { result ≡ pieces_from self.now.text 0 self.now.tokens }
+        ensures number { length result ≡ length self.now.tokens }
     {
         Pieces {
             text: self.text(),
@@ -105,6 +106,7 @@ impl<S: Stepper> LexedText<S> {
         requires to_inside { to ≤ length self.now.tokens }
         ensures pieces { result
             ≡ take (to - from) (drop from (pieces_from self.now.text 0 self.now.tokens)) }
+        ensures number { length result ≡ to - from }
     {
         Pieces {
             text: self.text(),
@@ -120,6 +122,7 @@ impl<S: Stepper> LexedDocument<S> {
     pub fn pieces(&self) -> Pieces<'_>
         ensures pieces { result
             ≡ pieces_from self.now.text (shebang_len self.now.text) self.now.tokens }
+        ensures number { length result ≡ length self.now.tokens }
     {
         Pieces {
             text: self.text(),
@@ -145,6 +148,7 @@ impl<S: Stepper> LexedDocument<S> {
         ensures pieces { result
             ≡ take (to - from)
             (drop from (pieces_from self.now.text (shebang_len self.now.text) self.now.tokens)) }
+        ensures number { length result ≡ to - from }
     {
         let start = self.place_of(from);
         let tokens = &self.tokens()[from..to];

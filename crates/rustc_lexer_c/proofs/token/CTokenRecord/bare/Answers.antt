@@ -1,7 +1,7 @@
 use Rattle.std.proofs.Common.{◌≡◌, ◌∙◌, ℕ, false}
 use Rattle.rustc_lexer.specs.declared.token.TokenKind.{TokenKind}
 use Rattle.rustc_lexer.specs.declared.token.TokenKind.TheVariants.{LineComment}
-use Rattle.rustc_lexer.specs.LanguageCalls.{kind_entry}
+use Rattle.rustc_lexer.specs.Kinds.{kind_entry}
 use Rattle.rustc_lexer.specs.Tokens.{has_fields}
 use Rattle.rustc_lexer_c.specs.declared.token.CToken.{CToken}
 use Rattle.rustc_lexer_c.specs.Numbers.{first_of, second_of, third_of, token_numbers}

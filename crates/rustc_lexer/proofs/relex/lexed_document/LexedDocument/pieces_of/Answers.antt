@@ -1,11 +1,11 @@
-use Rattle.std.proofs.Common.{◌≡◌, ◌+◌, ◌-◌, ◌≤◌, List, ℕ, length, sym, ap, ◌∙◌, arith}
+use Rattle.std.proofs.Common.{◌≡◌, ◌+◌, ◌-◌, ◌≤◌, List, ℕ, drop, length, slice_range, sym, ap, ◌∙◌, arith, length-drop, length-take-le}
 use Rattle.rustc_lexer.specs.{Token}
 use Rattle.rustc_lexer.specs.Classes.{IsText}
 use Rattle.rustc_lexer.specs.Document.{document_tokens_by, shebang_len}
 use Rattle.rustc_lexer.specs.Tokens.{bound}
 use Rattle.rustc_lexer.proofs.DocumentPage.{past_law}
 use Rattle.rustc_lexer.proofs.DocumentPieces.{document_cuts}
-use Rattle.rustc_lexer.proofs.PieceLemmas.{cuts_part, pieces-part}
+use Rattle.rustc_lexer.proofs.PieceLemmas.{cuts_part, length-pieces, pieces-part}
 use Rattle.rustc_lexer.proofs.relex.lexed_document.LexedDocument.pieces_of.Goals as goal
 
 pub invariant_of-result : goal.invariant_of-result
@@ -20,4 +20,10 @@ invariant_of-result g c =
     (c.text.ensures.fits, cuts_part text (shebang_len text) c.place_of-start.result tokens c.args.from (c.args.to - c.args.from) few start whole)
 
 pub returns : goal.returns
-returns g c = record { pieces = rw (c.text.ensures.text, c.tokens.ensures.tokens) (pieces-part c.args.self.now.text (shebang_len c.args.self.now.text) c.place_of-start.result c.args.self.now.tokens c.args.from (c.args.to - c.args.from) c.place_of-start.ensures) }
+returns g c = record {
+  pieces = rw (c.text.ensures.text, c.tokens.ensures.tokens) (pieces-part c.args.self.now.text (shebang_len c.args.self.now.text) c.place_of-start.result c.args.self.now.tokens c.args.from (c.args.to - c.args.from) c.place_of-start.ensures);
+  number =
+      let tokens : List Token = c.tokens.result.now in
+      let enough : c.args.to - c.args.from ≤ length (drop c.args.from tokens) = omega (arith, length-drop c.args.from tokens, c.requires.to_inside, ap length c.tokens.ensures.tokens) in
+      length-pieces c.text.result.now c.place_of-start.result (slice_range tokens c.args.from c.args.to) ∙ length-take-le (c.args.to - c.args.from) (drop c.args.from tokens) enough;
+}
