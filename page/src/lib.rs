@@ -8,6 +8,8 @@ mod json;
 mod listing;
 mod seen;
 mod source;
+#[cfg(test)]
+mod tests;
 mod value;
 mod window;
 

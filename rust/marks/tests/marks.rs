@@ -147,4 +147,6 @@ fn a_text_that_is_too_long() {
         let wanted = "the text has more than u32::MAX bytes";
         assert_eq!(said.downcast_ref::<&str>(), Some(&wanted));
     }
+    // One byte fewer fits. This call reads only the front of it.
+    assert!(write_first_tokens(Style::Html, Edition::E2024, 0, &text[1..], &mut Few(0)).is_ok());
 }

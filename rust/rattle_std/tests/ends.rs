@@ -95,6 +95,36 @@ fn all_bytes_are_written() {
     );
 }
 
+/// An end whose first call fails in this way.
+struct Once(Option<ErrorKind>);
+
+impl Write for Once {
+    fn write(&mut self, buf: &[u8]) -> Result<usize> {
+        match self.0.take() {
+            Some(kind) => Err(Error::from(kind)),
+            None => Ok(buf.len()),
+        }
+    }
+
+    fn flush(&mut self) -> Result<()> {
+        Ok(())
+    }
+}
+
+/// What is interrupted is tried again, and nothing else, as by the call of Rust's own `Write`.
+#[test]
+fn errors_that_end_a_write() {
+    for (kind, wanted) in [
+        (ErrorKind::Interrupted, None),
+        (ErrorKind::WouldBlock, Some(ErrorKind::WouldBlock)),
+        (ErrorKind::TimedOut, Some(ErrorKind::TimedOut)),
+        (ErrorKind::StorageFull, Some(ErrorKind::StorageFull)),
+    ] {
+        let answer = Once(Some(kind)).write_all(b"a");
+        assert_eq!(answer.err().map(|error| error.kind()), wanted);
+    }
+}
+
 #[test]
 fn texts_in_new_memory() {
     let rt = rt::start();
@@ -138,9 +168,11 @@ fn streams_that_do_not_wait() {
     let error = rt.stdin().read(&mut room).unwrap_err();
     assert_eq!(error.kind(), ErrorKind::WouldBlock);
     let many = bytes(1 << 24);
-    assert!((1..many.len()).contains(&rt.stderr().write(&many).unwrap()));
-    let error = rt.stderr().write(&many).unwrap_err();
+    assert!((1..many.len()).contains(&rt.stdin().write(&many).unwrap()));
+    let error = rt.stdin().write(&many).unwrap_err();
     assert_eq!(error.kind(), ErrorKind::WouldBlock);
+    // A line of which a part is taken is not written.
+    assert!(rattle_std::eprintln!(rt; "{}", "a".repeat(1 << 24)).is_err());
     // A variable that is empty is set.
     assert_eq!(rattle_std::env::var(&rt, NAME).ok().as_deref(), Some(""));
 }

@@ -444,6 +444,7 @@ fn traits_that_are_taken_for_granted() {
     fn is_measured<T: rustc_lexer::Measured>() {}
     fn is_there<T>() {}
     fn steps<T: rustc_lexer::Stepper + Clone + std::fmt::Debug>() {}
+    fn is_key<T: Copy + Eq + std::hash::Hash>() {}
     is_error::<rustc_lexer::AllocError>();
     is_error::<rustc_lexer::UnknownEdition>();
     is_error::<RawStrError>();
@@ -453,9 +454,10 @@ fn traits_that_are_taken_for_granted() {
     is_there::<rustc_lexer::BodyChange>();
     is_there::<(rustc_lexer::Bound, rustc_lexer::Change, rustc_lexer::Head)>();
     is_there::<(rustc_lexer::Relexed, rustc_lexer::Relexing)>();
+    is_key::<(Token, TokenKind, LiteralKind, Base, DocStyle)>();
+    is_key::<(GuardedStr, RawStrError, FrontmatterAllowed, Edition)>();
     #[cfg(feature = "alloc")]
     {
-        fn is_key<T: Eq + std::hash::Hash>() {}
         is_error::<rustc_lexer::EditError>();
         is_error::<rustc_lexer::EditStop>();
         is_key::<rustc_lexer::EditError>();
@@ -521,6 +523,8 @@ fn a_long_document_is_filled_as_it_is_stepped() {
 fn what_is_written_of_values() {
     assert_eq!(format!("{:?}", FrontmatterAllowed::Yes), "Yes");
     assert_eq!(format!("{:?}", FrontmatterAllowed::No), "No");
+    // A width changes nothing, as of each enum that derives it.
+    assert_eq!(format!("{:>9?}", FrontmatterAllowed::No), "No");
     let cursor = Cursor::new("a b", FrontmatterAllowed::No);
     assert_eq!(format!("{cursor:?}"), r#"Cursor("a b")"#);
     let mut tokens = tokenize("a b", FrontmatterAllowed::No);

@@ -260,15 +260,23 @@ fn ranges_that_are_refused() {
         assert_eq!((text.text(), text.tokens().len()), ("aé", 1));
         assert_eq!((document.text(), document.tokens().len()), ("aé", 1));
     }
-    for (error, said) in [
+    for (error, name, said) in [
         (
             EditError::Range,
+            "Range",
             "the range has to be inside the text, between characters",
         ),
-        (EditError::TooLong, "the text has more than u32::MAX bytes"),
-        (EditError::Memory, "memory was refused"),
+        (
+            EditError::TooLong,
+            "TooLong",
+            "the text has more than u32::MAX bytes",
+        ),
+        (EditError::Memory, "Memory", "memory was refused"),
     ] {
-        assert_eq!(error.to_string(), said);
+        assert_eq!(
+            (error.to_string(), format!("{error:?}")),
+            (said.into(), name.into())
+        );
     }
     assert_eq!(EditError::from(rustc_lexer::AllocError), EditError::Memory);
 }

@@ -108,6 +108,30 @@ fn texts_and_another_edition() {
     assert_eq!(lexed.tokens().len(), 3);
 }
 
+/// A text of `u32::MAX` bytes is not too long: what it lacks is memory.
+#[cfg(target_pointer_width = "64")]
+#[test]
+fn the_longest_text() {
+    use std::alloc::{GlobalAlloc, Layout, System};
+    let len = u32::MAX as usize;
+    // SAFETY: U+0000 is one byte that is 0. The system gives so many, without a look at them.
+    let text = unsafe {
+        let zeros = System.alloc_zeroed(Layout::array::<u8>(len).unwrap());
+        assert!(!zeros.is_null());
+        std::str::from_utf8_unchecked(std::slice::from_raw_parts(zeros, len))
+    };
+    let edition = Edition::E2024;
+    let errors = given(0, || {
+        [
+            LexedText::try_new_in(text, edition).err(),
+            LexedText::try_with(text, Steps::new()).err(),
+            LexedDocument::try_new_in(text, edition).err(),
+            LexedDocument::try_with(text, Steps::new()).err(),
+        ]
+    });
+    assert_eq!(errors, [Some(EditError::Memory); 4]);
+}
+
 /// The calls that answer no error say by a panic that memory was refused. Nothing changes then.
 #[test]
 fn calls_that_panic() {

@@ -66,6 +66,16 @@ fn calls_that_take_a_text() {
     ]);
 }
 
+/// One byte fewer fits. These calls read only the front of it.
+#[test]
+fn calls_that_take_the_longest_text() {
+    let longest = &too_long()[1..];
+    let first = tokenize(longest, FrontmatterAllowed::No).next();
+    let token = Cursor::new(longest, FrontmatterAllowed::No).advance_token();
+    assert_eq!((first, token.len), (Some(token), 1));
+    assert_eq!(strip_shebang(longest), None);
+}
+
 #[cfg(feature = "alloc")]
 #[test]
 fn texts_with_their_tokens() {

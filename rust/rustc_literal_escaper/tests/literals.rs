@@ -305,4 +305,6 @@ fn modes_and_units() {
     let twice = (1..=255u8).chain(1..=255).map(MixedUnit::try_from);
     let units: HashSet<MixedUnit> = twice.map(Result::unwrap).collect();
     assert_eq!(units.len(), 255);
+    fn is_key<T: Copy + Eq + std::hash::Hash + std::fmt::Debug>() {}
+    is_key::<MixedUnit>();
 }

@@ -54,6 +54,7 @@ fn where_nothing_is_written() {
     ] {
         let error: Box<dyn std::error::Error + Send + Sync> = error.into();
         assert_eq!(error.to_string(), said);
+        assert!(error.source().is_none());
     }
 }
 

@@ -1,0 +1,277 @@
+//! What the page calls, without a browser: `tests/page` has the page itself.
+
+use crate::editions;
+use crate::json::push_text;
+use crate::listing;
+use crate::seen::{self, piece};
+use crate::source::{EDITIONS, Source};
+use crate::value::value;
+use crate::window::{Line, lines_of};
+use rustc_lexer::{FrontmatterAllowed, tokenize};
+
+/// The number of the newest edition.
+const NEWEST: usize = EDITIONS - 1;
+
+fn source(text: &str, document: bool) -> Source {
+    let mut source = Source::new();
+    source.change(text, document);
+    source
+}
+
+/// All lines of a text, in the newest edition.
+fn lines(source: &Source) -> Vec<Line> {
+    lines_of(source, 0..source.text().len(), 0..0, NEWEST)
+}
+
+/// The classes and the texts of a line.
+fn runs(line: &Line) -> Vec<(&str, &str)> {
+    let runs = line.runs.iter();
+    runs.map(|run| (&*run.class, &*run.text)).collect()
+}
+
+#[test]
+fn what_literals_stand_for() {
+    let wrong = Some("nothing: it is wrong");
+    for (literal, wanted) in [
+        ("'é'x", Some(r#"1 character: "\u{e9}""#)),
+        ("'ab'", wrong),
+        (r"b'\xff'", Some(r#"1 byte: "\xff""#)),
+        (r#""aé\n""#, Some(r#"3 characters: "a\u{e9}\n""#)),
+        ("\"a\\\n\n  b\"", Some(r#"2 characters: "ab""#)),
+        (r#""\q""#, wrong),
+        (r#"r"\n""#, Some(r#"2 characters: "\\n""#)),
+        (r#"b"a\xff""#, Some(r#"2 bytes: "a\xff""#)),
+        (r##"br#"\"#"##, Some(r#"1 byte: "\\""#)),
+        (r#"br"é""#, wrong),
+        (r#"c"é\xff""#, Some(r#"4 bytes: "\xc3\xa9\xff\x00""#)),
+        (r#"cr"\""#, Some(r#"2 bytes: "\\\x00""#)),
+        ("cr\"\0\"", wrong),
+        (r#""""#, Some(r#"0 characters: """#)),
+        (r#""a"#, None),
+        ("1u8", None),
+    ] {
+        let token = tokenize(literal, FrontmatterAllowed::No).next().unwrap();
+        assert_eq!(value(token.kind, literal).as_deref(), wanted, "{literal}");
+    }
+}
+
+/// A line ends at its line feed alone.
+#[test]
+fn line_ends() {
+    let source = source("a\r\nb\rc", false);
+    assert_eq!((source.line_count(), source.line_start(1)), (2, 3));
+    assert_eq!(lines(&source).len(), 2);
+}
+
+/// What JSON writes in its own way, by RFC 8259; two ends of lines of JavaScript are escaped as well.
+#[test]
+fn texts_in_json() {
+    let mut out = String::new();
+    push_text(&mut out, "\"\\/\n\u{1f}\u{7f}é\u{2028}\u{2029}");
+    assert_eq!(out, "\"\\\"\\\\/\\u000a\\u001f\u{7f}é\\u2028\\u2029\"");
+}
+
+#[test]
+fn places() {
+    let source = source("aé\n\n😀b", false);
+    assert_eq!((source.line_count(), source.line_start(2)), (3, 5));
+    assert_eq!(source.line_start(3), source.text().len());
+    // A byte is of the token that ends past it.
+    assert_eq!(source.token_at(NEWEST, 3), (1, 3));
+    assert_eq!(source.token_at(NEWEST, 10), (3, 10));
+    for (at, place) in [
+        (0, (1, 1)),
+        (3, (1, 3)),
+        (4, (2, 1)),
+        (5, (3, 1)),
+        (9, (3, 2)),
+        (10, (3, 3)),
+    ] {
+        assert_eq!(source.place(at), place, "byte {at}");
+    }
+    // The caret counts units of UTF-16. Between the two of a character it stands before that.
+    for (units, byte) in [
+        (0, 0),
+        (1, 1),
+        (2, 3),
+        (4, 5),
+        (5, 5),
+        (6, 9),
+        (7, 10),
+        (99, 10),
+    ] {
+        assert_eq!(source.byte_of(units), byte, "unit {units}");
+    }
+}
+
+/// Each text in the place of the one before: the tokens are those of lexing it anew, and few are lexed.
+#[test]
+fn changes() {
+    let mut source = source("#!/a\nlet x = 'b';", true);
+    assert_eq!((source.begin(), source.is_document()), (4, true));
+    assert!(source.last(NEWEST).is_none());
+    for text in [
+        "#!/a\nlet xé = 'b';",
+        "#!/a\nlet x© = 'b';",
+        "#!/a\nlet x© = 'b'; 'b';",
+        "",
+        "---\n---\n'r#a",
+        "ê",
+    ] {
+        source.change(text, true);
+        assert_eq!(
+            (source.text(), source.as_lexed_anew()),
+            (text, "yes".to_string())
+        );
+        assert_eq!(source.line_count(), text.split('\n').count());
+    }
+    source.change("ab cd ef gh", false);
+    assert!(source.last(NEWEST).is_none());
+    let all = r#"{ "bytes":11,"lines":1,"kept":null}"#;
+    assert_eq!(seen::kept(&source, NEWEST), all);
+    source.change("ab cd xef gh", false);
+    // What an edit keeps, by docs/RELEXING.md.
+    let kept = r#"{ "bytes":12,"lines":1,"kept":[2,3,2]}"#;
+    assert_eq!(seen::kept(&source, NEWEST), kept);
+    assert_eq!(source.as_lexed_anew(), "yes");
+}
+
+#[test]
+fn marks_of_lines() {
+    let source = source("fn f() {\n  \"<&é>\" // x\n}\n", false);
+    let lines = lines(&source);
+    assert_eq!(lines.len(), 4);
+    assert_eq!(runs(&lines[0]), [("keyword", "fn"), ("", " f() {")]);
+    let second = [
+        ("", "  "),
+        ("text", "\"<&é>\""),
+        ("", " "),
+        ("comment", "// x"),
+    ];
+    assert_eq!(runs(&lines[1]), second);
+    assert_eq!(
+        (runs(&lines[2]), runs(&lines[3])),
+        (vec![("", "}")], vec![])
+    );
+    assert_eq!(seen::parts_alike(&source, NEWEST), "");
+}
+
+/// The classes are those of docs/HIGHLIGHT.md: in front of a document stand a shebang line and a frontmatter.
+#[test]
+fn marks_of_a_document() {
+    let text = "#!/a\n---\nb\n---\nfn\n---";
+    let (whole, part) = (source(text, true), source(text, false));
+    let classes = |source| {
+        lines(source)
+            .iter()
+            .map(|line| line.runs[0].class.clone())
+            .collect::<Vec<_>>()
+    };
+    assert_eq!(
+        classes(&whole),
+        ["comment", "doc", "doc", "doc", "keyword", ""]
+    );
+    assert_eq!(classes(&part), ["", "", "", "", "keyword", ""]);
+    assert_eq!(seen::parts_alike(&whole, NEWEST), "");
+}
+
+/// How much is in colours, and said of one line: as docs/PLAYGROUND.md has it.
+#[test]
+fn limits() {
+    let long = source(&format!("//{}", "a".repeat(4100)), false);
+    let lens: Vec<_> = lines(&long)[0]
+        .runs
+        .iter()
+        .map(|run| run.text.len())
+        .collect();
+    assert_eq!(lens, [4000, 102]);
+    let twice = format!("//{0}\n//{0}", "a".repeat(3000));
+    assert!(
+        lines(&source(&twice, false))
+            .iter()
+            .all(|line| line.runs.len() == 1)
+    );
+    let wrong = source(&"0x ".repeat(11), false);
+    assert_eq!(lines(&wrong)[0].said.len(), 10);
+    assert!(lines(&wrong)[0].runs[0].wrong);
+    let (forty, more) = ("b".repeat(40), "b".repeat(41));
+    assert_eq!(piece(&source(&forty, false), 0..40), forty);
+    let wide = "é".repeat(40);
+    assert_eq!(piece(&source(&wide, false), 0..80), wide);
+    assert_eq!(
+        piece(&source(&more, false), 0..41),
+        forty.clone() + "\u{2026}"
+    );
+    assert_eq!(piece(&source("\t\u{7f}é", false), 0..4), "\\t\\u{7f}é");
+    let many = seen::show(&source(&";".repeat(301), false), 0, 1, 0, NEWEST);
+    assert_eq!(many.matches("\"number\":").count(), 300);
+    let differ = editions::write(&source(&"q#a ".repeat(60), false));
+    assert!(differ.contains("\"differ\":60,") && differ.matches("\"place\":").count() == 50);
+}
+
+#[test]
+fn where_editions_differ() {
+    assert_eq!(editions::years(), "[2015,2018,2021,2024]");
+    let wanted = format!(
+        r#"{{ "counts":[4,4,4,4],"differ":1,"places":[{{ "place":"2:1","text":"q","editions":[[{}],[{}],[{}],[{}]]}}]}}"#,
+        r#"["Ident","q"]"#,
+        r#"["Ident","q"]"#,
+        r#"["UnknownPrefix","q"]"#,
+        r#"["UnknownPrefix","q"]"#
+    );
+    assert_eq!(editions::write(&source("\nq#a", false)), wanted);
+}
+
+/// The listing is that of `lexdump`, whose places begin past a shebang line.
+#[test]
+fn listings() {
+    let source = source("#!/a\nb+", true);
+    let listed = listing::write(&source, 0..3, NEWEST);
+    assert_eq!(listed, "0 1 Whitespace\n1 1 Ident\n2 1 Plus\n");
+}
+
+/// A text that is put into the room, which may be larger, and what is answered of it.
+#[test]
+fn calls_of_the_page() {
+    let answered = |len| {
+        // SAFETY: so many bytes lie there, and no other call is made meanwhile.
+        unsafe {
+            String::from_utf8_lossy(std::slice::from_raw_parts(crate::answer(), len)).into_owned()
+        }
+    };
+    // SAFETY: the room has nine bytes.
+    unsafe { crate::room(9).copy_from(b"a\xff+cdefgh".as_ptr(), 9) };
+    let kept = r#"{ "bytes":5,"lines":1,"kept":[0,3,0]}"#;
+    assert_eq!(answered(crate::change(3, false, NEWEST)), kept);
+    assert_eq!(
+        answered(crate::listing(NEWEST)),
+        "0 1 Ident\n1 3 Unknown\n4 1 Plus\n"
+    );
+    assert_eq!(answered(crate::as_lexed_anew()), "yes");
+    assert_eq!(answered(crate::parts_alike(NEWEST)), "");
+    assert_eq!(answered(crate::years()), "[2015,2018,2021,2024]");
+    let shown = answered(crate::show(0, 1, 2, NEWEST));
+    assert!(shown.ends_with(r#""place":"1:3"}"#), "{shown}");
+    // Nothing was kept, so nothing stands out as lexed.
+    assert!(
+        !shown.contains(r#""fresh":true"#) && !shown.contains(" fresh"),
+        "{shown}"
+    );
+    assert!(answered(crate::editions()).starts_with(r#"{ "counts":[3,3,3,3],"differ":0,"#));
+}
+
+/// The line that is seen, its token at the caret, and one that is elsewhere.
+#[test]
+fn what_is_seen() {
+    let mut source = source("a\nb\nc", false);
+    source.change("a\nbd\nc", false);
+    let seen = seen::show(&source, 1, 1, 0, NEWEST);
+    assert!(
+        seen.contains(r#""lines":[{ "runs":[[" fresh","bd"]],"said":[]}]"#),
+        "{seen}"
+    );
+    assert!(seen.contains(r#""count":5,"begin":0,"#), "{seen}");
+    assert!(seen.contains(r#""at":0,"elsewhere":[{ "number":0,"start":0,"bytes":1,"place":"1:1","text":"a","kind":"Ident""#), "{seen}");
+    assert!(seen.contains(r#"{ "number":2,"start":2,"bytes":2,"place":"2:1","text":"bd","kind":"Ident","fields":"","value":"","fresh":true}"#), "{seen}");
+    assert!(seen.ends_with(r#""place":"1:1"}"#), "{seen}");
+}
