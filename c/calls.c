@@ -207,10 +207,6 @@ static int check_places(batch_call *tokens) {
     }
     struct rustc_lexer_place last = {UINT32_MAX, 0};
     CHECK(call(tokens, text, 3, &last, BUFFER_LEN, &count) == RUSTC_LEXER_BAD_PLACE);
-    /* no object is so long: the length is cut */
-    struct rustc_lexer_place first = {0, 0};
-    CHECK(tokens((const uint8_t *)text, 3, &first, buffer, SIZE_MAX, &count) == RUSTC_LEXER_OK);
-    CHECK(count == 1 && first.at == 3);
     return 0;
 }
 
