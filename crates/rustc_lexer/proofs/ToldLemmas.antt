@@ -26,61 +26,54 @@ none_tell text from j after set = absurd (true≢false (sym set ∙ bit-zero j))
 pub all_tell : (text : List ℕ) (from m : ℕ) → AreEndsPast text from m → TellEndsPast text from m
 all_tell text from m are j after set = let r = are j set in (r.1, r.2)
 
-pub tell_later : (text : List ℕ) (from n m : ℕ) → from ≤ n → TellEndsPast text from m → TellEndsPast text n m
-tell_later text from n m le tell j after set = let r = tell j (omega arith) set in (r.0, λ k more less. r.1 k (omega arith) less)
+-- the first byte that is left and the lowest end past it tell a token of the kind
+pub record TellsNext (text : List ℕ) (at block ends low : ℕ) (kind : TokenKind) : Type 0 where
+  pub utf8 : IsUtf8 text
+  pub bound : IsCharBoundary text at
+  pub behind : block ≤ at
+  pub small : ends < 2 ^ 64
+  pub tells : classified (get_or text at 0) ≡ Some kind
+  pub known : AreEndsPast (drop block text) (at - block) ends
+  pub lowest : IsLowest ends low
+  pub stays : StaysWithin kind (get_or text (block + low) 0)
 
--- without the bits up to the place
-pub only_past : (text : List ℕ) (place m less : ℕ) → TellEndsPast text place m → ((k : ℕ) → k ≤ place → bit less k ≡ false) → ((k : ℕ) → place < k → bit less k ≡ bit m k) → AreEndsPast text place less
-only_past text place m less tell gone others j set = elim (cases_lt place j) [
-  | inl later ↦
-      let r = tell j later (sym (others j later) ∙ set) in
-      (later, r.0, λ k more le. others k more ∙ r.1 k more le)
-  | inr sooner ↦ absurd (true≢false (sym set ∙ gone j (omega arith)))
-]
-
--- found anew at a place
-pub found_at : (text : List ℕ) (at m : ℕ) → IsEnds (drop at text) m → AreEndsPast (drop at text) (at - at) m
-found_at text at m are = let none : 0 ≡ at - at = omega arith in subst (λ n. AreEndsPast (drop at text) n m) none (all_past (drop at text) m are)
-
--- a token that the first byte and the lowest end tell
-module _ (text : List ℕ) (is : IsUtf8 text) (at block ends low next : ℕ) (kind : TokenKind) (bound : IsCharBoundary text at) (behind : block ≤ at) (small : ends < 2 ^ 64)
-    (tells : classified (get_or text at 0) ≡ Some kind) (known : AreEndsPast (drop block text) (at - block) ends) (lowest : IsLowest ends low) (last : next ≡ get_or text (block + low) 0) (stays : StaysWithin kind next) where
+module _ (text : List ℕ) (at block ends low : ℕ) (kind : TokenKind) (next : TellsNext text at block ends low kind) where
   there : block + (at - block) ≡ at
-  there = omega arith
+  there = let behind = next.behind in omega arith
 
-  pub after : at < block + low
-  after = let r = (known low lowest.set).0 in omega arith
+  pub told_after : at < block + low
+  told_after = let after = (next.known low next.lowest.set).0 in omega (arith, after, next.behind)
 
-  pub inside : block + low < length text
-  inside = let r = (known low lowest.set).1 in omega (arith, r, length-drop block text)
+  pub told_inside : block + low < length text
+  told_inside = let inside = (next.known low next.lowest.set).1 in omega (arith, inside, length-drop block text)
 
   joined : drop (at - block) (drop block text) ≡ drop at text
   joined = drop-drop (at - block) block text ∙ ap (λ n. drop n text) there
 
-  behind_is : IsFirstToken (drop (at - block) (drop block text)) record { kind = kind; len = low - (at - block) }
-  behind_is = classified_behind (drop block text) (at - block) ends low kind record {
-    utf8 = subst IsUtf8 (sym joined) (IsUtf8-drop text at is bound);
-    tells = ap classified (get_or-drop block text (at - block) 0 ∙ ap (λ i. get_or text i 0) there) ∙ tells;
-    known = known;
-    small = small;
-    lowest = lowest;
-    stays = subst (StaysWithin kind) (last ∙ sym (get_or-drop block text low 0)) stays;
+  behind_block : IsFirstToken (drop (at - block) (drop block text)) record { kind = kind; len = low - (at - block) }
+  behind_block = classified_behind (drop block text) (at - block) ends low kind record {
+    utf8 = subst IsUtf8 (sym joined) (IsUtf8-drop text at next.utf8 next.bound);
+    tells = ap classified (get_or-drop block text (at - block) 0 ∙ ap (λ i. get_or text i 0) there) ∙ next.tells;
+    known = next.known;
+    small = next.small;
+    lowest = next.lowest;
+    stays = subst (StaysWithin kind) (sym (get_or-drop block text low 0)) next.stays;
   }
 
   pub told_token : IsFirstToken (drop at text) record { kind = kind; len = block + low - at }
   told_token =
-      let long : low - (at - block) ≡ block + low - at = omega (arith, after) in
-      subst (λ xs. IsFirstToken xs record { kind = kind; len = block + low - at }) joined (subst (λ n. IsFirstToken (drop (at - block) (drop block text)) record { kind = kind; len = n }) long behind_is)
+      let long : low - (at - block) ≡ block + low - at = omega (arith, next.behind, told_after) in
+      subst (λ xs. IsFirstToken xs record { kind = kind; len = block + low - at }) joined (subst (λ n. IsFirstToken (drop (at - block) (drop block text)) record { kind = kind; len = n }) long behind_block)
 
   pub told_bound : IsCharBoundary text (block + low)
   told_bound =
-      let end : at + (block + low - at) ≡ block + low = omega (arith, after) in
-      subst (IsCharBoundary text) end (IsCharBoundary-from_rest text at (block + low - at) (omega (arith, after, inside)) told_token.boundary)
+      let end : at + (block + low - at) ≡ block + low = omega (arith, told_after) in
+      subst (IsCharBoundary text) end (IsCharBoundary-from_rest text at (block + low - at) (omega (arith, told_after, told_inside)) told_token.boundary)
 
   pub told_ahead : (less : ℕ) → ((k : ℕ) → k ≤ low → bit less k ≡ false) → ((k : ℕ) → low < k → bit less k ≡ bit ends k) → AreEndsPast (drop block text) (block + low - block) less
   told_ahead less gone others =
       let e : low ≡ block + low - block = omega arith in
-      subst (λ n. AreEndsPast (drop block text) n less) e (past_end (drop block text) ends (at - block) low less known lowest gone others)
+      subst (λ n. AreEndsPast (drop block text) n less) e (past_end (drop block text) ends (at - block) low less next.known next.lowest gone others)
 
 -- taking such a token: past it the text at its end is left
 pub takes_told : (allowed : FrontmatterAllowed) (edition : Edition) (text : List ℕ) (at end : ℕ) (s : State) → allowed ≡ No → edition ≡ E2024 → state 0 (drop at text) (mode_in allowed edition) ≡ s → IsUtf8 text → IsCharBoundary text at → Fits text

@@ -158,11 +158,7 @@ pub(crate) fn ends_after(ends: u64, place: usize) -> u64
     ensures gone { (k : ℕ) → k ≤ place → bit result k ≡ false }
     ensures others { (k : ℕ) → place < k → bit result k ≡ bit ends k }
 {
-    if place < 64 {
-        ends & (!1 << place)
-    } else {
-        0
-    }
+    if place < 64 { ends & (!1 << place) } else { 0 }
 }
 
 /// Returns the ends of runs without the lowest one.
