@@ -1,9 +1,7 @@
 -- What an iterator knows of the ends of runs past its place, and the tokens that it takes by them.
-use Rattle.std.proofs.Common.{◌≡◌, ℕ, ◌+◌, ◌-◌, ◌^◌, ◌<◌, ◌≤◌, ◌==◌, true, false, true≢false, List, length, length-drop, drop, take, get_or, refl, sym, ap, ap₂, subst, ◌∙◌, arith, drop-drop, inl, inr, Option, Some, rules}
-use Rattle.std.specs.Prelude.{⊤}
-use Rattle.std.specs.Iterator.{at_most, MakesProgress}
+use Rattle.std.proofs.Common.{◌≡◌, ℕ, ◌+◌, ◌-◌, ◌^◌, ◌<◌, ◌≤◌, ◌==◌, false, true≢false, List, length, length-drop, drop, take, get_or, sym, ap, subst, ◌∙◌, arith, drop-drop, Some}
 use Rattle.std.specs.Str.{IsCharBoundary, IsUtf8}
-use Rattle.std.proofs.lemmas.Bool.{cases_lt, ne_eqb}
+use Rattle.std.proofs.lemmas.Bool.{ne_eqb}
 use Rattle.std.proofs.lemmas.List.{get_or-drop, take_rest}
 use Rattle.std.proofs.lemmas.Str.{IsCharBoundary-from_rest, IsUtf8-drop}
 use Rattle.rustc_lexer.specs.{Edition, FrontmatterAllowed, Token, TokenKind, E2024, No}
@@ -13,7 +11,7 @@ use Rattle.rustc_lexer.specs.State.{State}
 use Rattle.rustc_lexer.specs.Tokens.{TakesToken}
 use Rattle.rustc_lexer.specs.laws.State.{state}
 use Rattle.rustc_lexer.specs.means.Lexeme.{first_token}
-use Rattle.rustc_lexer.specs.means.Ends.{bit, is_end, classified, AreEndsPast, IsEnds, IsLowest, StaysWithin, TellEndsPast}
+use Rattle.rustc_lexer.specs.means.Ends.{bit, classified, AreEndsPast, IsEnds, IsLowest, StaysWithin, TellEndsPast}
 use Rattle.rustc_lexer.specs.means.Quick.{IsFirstToken}
 use Rattle.rustc_lexer.proofs.BitLemmas.{bit-zero}
 use Rattle.rustc_lexer.proofs.EndsLemmas.{all_past, classified_behind, past_end}
@@ -25,6 +23,10 @@ none_tell text from j after set = absurd (true≢false (sym set ∙ bit-zero j))
 
 pub all_tell : (text : List ℕ) (from m : ℕ) → AreEndsPast text from m → TellEndsPast text from m
 all_tell text from m are j after set = let r = are j set in (r.1, r.2)
+
+-- found anew at a place
+pub found_at : (text : List ℕ) (at m : ℕ) → IsEnds (drop at text) m → AreEndsPast (drop at text) (at - at) m
+found_at text at m are = let none : 0 ≡ at - at = omega arith in subst (λ n. AreEndsPast (drop at text) n m) none (all_past (drop at text) m are)
 
 -- the first byte that is left and the lowest end past it tell a token of the kind
 pub record TellsNext (text : List ℕ) (at block ends low : ℕ) (kind : TokenKind) : Type 0 where
@@ -98,9 +100,3 @@ pub takes_at : (allowed : FrontmatterAllowed) (edition : Edition) (text left : L
 takes_at allowed edition text left at s never newest view is e bound fits some token first =
     (takes_newest allowed edition (drop at text) left s never newest view (e ∙ ap (λ (x : State). x.rest) view) (drop (at + token.len) text) token (left_utf8 text left at is bound e) (omega (arith, length-drop at text, ap length e)) some first
     (sym (drop-drop token.len at text) ∙ ap (drop token.len) (sym e))).takes
-
--- an iterator that took a token is nearer its end
-pub goes_on_by : (s t : State) (token : Token) → TakesToken s token t → MakesProgress (λ (x : State). ⊤) (λ s. at_most (length s.rest)) s (Some token) t
-goes_on_by s t token takes =
-    let less : length t.rest < length s.rest = omega (arith, ap length takes.rest, length-drop token.len s.rest, takes.boundary.0, takes.not_empty) in
-    search rules

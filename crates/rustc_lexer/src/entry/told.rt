@@ -1,5 +1,5 @@
 //! The tokens of the iterator that the ends of runs tell, 64 bytes at a time.
-ghost use Rattle.std.specs.Prelude.{◌≡◌, ◌<◌, ◌≤◌, ◌-◌, ◌^◌, drop, length, MatchOption, IsCharBoundary};
+ghost use Rattle.std.specs.Prelude.{◌≡◌, ◌≤◌, ◌-◌, drop, length, MatchOption};
 ghost use Rattle.rustc_lexer.specs.{E2024};
 ghost use Rattle.rustc_lexer.specs.LanguageText.{part};
 ghost use Rattle.rustc_lexer.specs.Tokens.{TakesToken};
@@ -20,9 +20,7 @@ impl<'a> Tokens<'a> {
         ensures { MatchOption result (self.new ≡ self.old)
             (λ token. TakesToken self.old token self.new) }
     {
-        let Some(kind) = self.told else {
-            return None;
-        };
+        let kind = self.told?;
         let (block, ends) = ends_ahead(self.text, self.at, self.block, self.ends);
         self.block = block;
         self.ends = ends;
@@ -65,7 +63,7 @@ impl<'a> Tokens<'a> {
 /// those of the next 64 bytes.
 #[inline(always)]
 fn ends_ahead(text: &str, at: usize, block: usize, ends: u64) -> (usize, u64)
-    requires bound { IsCharBoundary text.now at }
+    requires inside { at ≤ length text.now }
     requires behind { block ≤ at }
     requires known { AreEndsPast (drop block text.now) (at - block) ends }
     ensures behind { result.0 ≤ at }
@@ -74,6 +72,6 @@ fn ends_ahead(text: &str, at: usize, block: usize, ends: u64) -> (usize, u64)
     if ends != 0 {
         (block, ends)
     } else {
-        (at, ends_of_runs(text[at..].as_bytes()))
+        (at, ends_of_runs(&text.as_bytes()[at..]))
     }
 }

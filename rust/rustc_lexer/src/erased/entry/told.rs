@@ -12,9 +12,7 @@ impl<'a> Tokens<'a> {
     /// Takes the next token if its first byte and the ends of runs tell it, or else changes nothing that callers see.
     #[inline(always)]
     pub(crate) fn take_told(&mut self) -> Option<Token> {
-        let Some(kind) = self.told else {
-            return None;
-        };
+        let kind = self.told?;
         let (block, ends) = ends_ahead(self.text, self.at, self.block, self.ends);
         self.block = block;
         self.ends = ends;
@@ -57,6 +55,6 @@ fn ends_ahead(text: &str, at: usize, block: usize, ends: u64) -> (usize, u64) {
     if ends != 0 {
         (block, ends)
     } else {
-        (at, ends_of_runs(text[at..].as_bytes()))
+        (at, ends_of_runs(&text.as_bytes()[at..]))
     }
 }

@@ -1,12 +1,10 @@
-use Rattle.std.proofs.Common.{◌≡◌, ◌+◌, length, drop, drop-drop, refl, sym, ap, subst, ◌∙◌}
-use Rattle.rustc_lexer.specs.LanguageText.{Mode, mode_edition, mode_in}
+use Rattle.std.proofs.Common.{◌≡◌, ◌+◌, drop, drop-drop, refl, sym, ap, ◌∙◌}
+use Rattle.rustc_lexer.specs.LanguageText.{Mode, mode_in}
 use Rattle.rustc_lexer.specs.State.{State}
 use Rattle.rustc_lexer.specs.Classes.{IsText}
-use Rattle.rustc_lexer.specs.Tokens.{tokens_left}
 use Rattle.rustc_lexer.specs.laws.Edition.{edition_grammar}
-use Rattle.rustc_lexer.proofs.BulkLemmas.{edition-held, edition-stays, part-left, filled_all, fills, shorter_left}
+use Rattle.rustc_lexer.proofs.BulkLemmas.{edition-held, filled_all, fills}
 use Rattle.rustc_lexer.specs.laws.State.{state}
-use Rattle.rustc_lexer.specs.laws.Tokens.{partitions}
 use Rattle.rustc_lexer.proofs.entry.Tokens.fill.Goals as goal
 
 pub returns-then-rest-ge-BLOCK : goal.returns-then-rest-ge-BLOCK

@@ -1,4 +1,5 @@
 use Rattle.std.proofs.Common.{◌≡◌, ◌+◌, ◌-◌, ◌^◌, ◌<◌, ℕ, List, length-drop, drop, get_or, refl, sym, ap, subst, ◌∙◌, arith, is_some}
+use Rattle.std.specs.ControlFlow.{continue_value}
 use lib.Count.{count_trailing_zeros}
 use Rattle.std.specs.Str.{IsUtf8}
 use Rattle.rustc_lexer.specs.means.Ends.{IsLowest, StaysWithin, classified}
@@ -32,13 +33,13 @@ invariant_of-self c =
     let ends : ℕ = c.ends_ahead-block.result.1 in
     let low : ℕ = count_trailing_zeros 64 ends in
     let lowest : IsLowest ends low = least ends (omega (arith, c.if-ends-ne0.true)) (omega arith) in
-    let told = inv.next c.in-Some.kind c.in-Some.is in
+    let told = inv.next c.in_ok-kind.kind (c.branch-kind.ensures ∙ ap continue_value c.in_ok-kind.is) in
     let byte : get_or c.as_bytes.result.now (block + low) 0 ≡ get_or text (block + low) 0 = ap (λ (xs : List ℕ). get_or xs (block + low) 0) c.as_bytes.ensures.value in
-    let stays : StaysWithin c.in-Some.kind (get_or c.as_bytes.result.now (block + low) 0) = elim c.then-is_some.branch [
-      | then-is_some-via-then-is_some w ↦ classified_stays c.in-Some.kind _ (ap is_some (sym c.classified_by-told.ensures) ∙ sym w.if-is_some.ensures)
+    let stays : StaysWithin c.in_ok-kind.kind (get_or c.as_bytes.result.now (block + low) 0) = elim c.then-is_some.branch [
+      | then-is_some-via-then-is_some w ↦ classified_stays c.in_ok-kind.kind _ (ap is_some (sym c.classified_by-told.ensures) ∙ sym w.if-is_some.ensures)
       | then-is_some-via-else-is_some+then-not-turns w ↦ w.turns.ensures w.if-not-turns.true
     ] in
-    let next : TellsNext text c.self.inside.at block ends low c.in-Some.kind = record {
+    let next : TellsNext text c.self.inside.at block ends low c.in_ok-kind.kind = record {
       utf8 = subst IsUtf8 c.as_bytes.ensures.value c.as_bytes.ensures.utf8;
       bound = inv.bound;
       behind = c.ends_ahead-block.ensures.behind;
@@ -46,12 +47,12 @@ invariant_of-self c =
       tells = told.tells;
       known = c.ends_ahead-block.ensures.known;
       lowest = lowest;
-      stays = subst (StaysWithin c.in-Some.kind) byte stays;
+      stays = subst (StaysWithin c.in_ok-kind.kind) byte stays;
     } in
-    let ahead = told_ahead text c.self.inside.at block ends low c.in-Some.kind next c.past_lowest-self-inside.result (λ k le. c.past_lowest-self-inside.ensures.gone low k lowest le) (λ k l. c.past_lowest-self-inside.ensures.others low k lowest l) in
+    let ahead = told_ahead text c.self.inside.at block ends low c.in_ok-kind.kind next c.past_lowest-self-inside.result (λ k le. c.past_lowest-self-inside.ensures.gone low k lowest le) (λ k l. c.past_lowest-self-inside.ensures.others low k lowest l) in
     record {
       fits = inv.fits;
-      bound = told_bound text c.self.inside.at block ends low c.in-Some.kind next;
+      bound = told_bound text c.self.inside.at block ends low c.in_ok-kind.kind next;
       behind = omega arith;
       small = omega arith;
       past = all_tell (drop block text) (block + low - block) c.past_lowest-self-inside.result ahead;
@@ -70,13 +71,13 @@ returns-then-is_some c =
     let block : ℕ = c.ends_ahead-block.result.0 in
     let ends : ℕ = c.ends_ahead-block.result.1 in
     let low : ℕ = count_trailing_zeros 64 ends in
-    let told = inv.next c.in-Some.kind c.in-Some.is in
+    let told = inv.next c.in_ok-kind.kind (c.branch-kind.ensures ∙ ap continue_value c.in_ok-kind.is) in
     let byte : get_or c.as_bytes.result.now (block + low) 0 ≡ get_or text (block + low) 0 = ap (λ (xs : List ℕ). get_or xs (block + low) 0) c.as_bytes.ensures.value in
-    let stays : StaysWithin c.in-Some.kind (get_or c.as_bytes.result.now (block + low) 0) = elim c.then-is_some.branch [
-      | then-is_some-via-then-is_some w ↦ classified_stays c.in-Some.kind _ (ap is_some (sym c.classified_by-told.ensures) ∙ sym w.if-is_some.ensures)
+    let stays : StaysWithin c.in_ok-kind.kind (get_or c.as_bytes.result.now (block + low) 0) = elim c.then-is_some.branch [
+      | then-is_some-via-then-is_some w ↦ classified_stays c.in_ok-kind.kind _ (ap is_some (sym c.classified_by-told.ensures) ∙ sym w.if-is_some.ensures)
       | then-is_some-via-else-is_some+then-not-turns w ↦ w.turns.ensures w.if-not-turns.true
     ] in
-    let next : TellsNext text c.self.inside.at block ends low c.in-Some.kind = record {
+    let next : TellsNext text c.self.inside.at block ends low c.in_ok-kind.kind = record {
       utf8 = subst IsUtf8 c.as_bytes.ensures.value c.as_bytes.ensures.utf8;
       bound = inv.bound;
       behind = c.ends_ahead-block.ensures.behind;
@@ -84,8 +85,8 @@ returns-then-is_some c =
       tells = told.tells;
       known = c.ends_ahead-block.ensures.known;
       lowest = least ends (omega (arith, c.if-ends-ne0.true)) (omega arith);
-      stays = subst (StaysWithin c.in-Some.kind) byte stays;
+      stays = subst (StaysWithin c.in_ok-kind.kind) byte stays;
     } in
-    let inside = told_inside text c.self.inside.at block ends low c.in-Some.kind next in
+    let inside = told_inside text c.self.inside.at block ends low c.in_ok-kind.kind next in
     takes_told c.self.inside.frontmatter_allowed c.self.inside.edition text c.self.inside.at (block + low) c.args.self.now told.never told.newest c.self.view_is next.utf8 inv.bound inv.fits
-    (told_after text c.self.inside.at block ends low c.in-Some.kind next) (omega (arith, inside)) _ (told_token text c.self.inside.at block ends low c.in-Some.kind next).token refl
+    (told_after text c.self.inside.at block ends low c.in_ok-kind.kind next) (omega (arith, inside)) _ (told_token text c.self.inside.at block ends low c.in_ok-kind.kind next).token refl

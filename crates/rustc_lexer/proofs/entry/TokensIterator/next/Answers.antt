@@ -1,4 +1,4 @@
-use Rattle.std.proofs.Common.{◌≡◌, List, ℕ, drop, drop-drop, sym, ap, subst, ◌∙◌}
+use Rattle.std.proofs.Common.{List, ℕ, drop, drop-drop, sym, ap, subst, ◌∙◌}
 use Rattle.std.specs.Str.{IsUtf8}
 use Rattle.rustc_lexer.specs.{Token}
 use Rattle.rustc_lexer.specs.Classes.{Fits}
@@ -8,12 +8,12 @@ use Rattle.rustc_lexer.specs.State.{State}
 use Rattle.rustc_lexer.specs.means.Lexeme.{first_token}
 use Rattle.rustc_lexer.specs.means.Taking.{token_at}
 use Rattle.rustc_lexer.specs.means.Quick.{BeginsWithNoHash}
-use Rattle.rustc_lexer.proofs.TokensLemmas.{takes_own, none_left}
-use Rattle.rustc_lexer.proofs.ToldLemmas.{goes_on_by, left_is, left_utf8, takes_at}
+use Rattle.rustc_lexer.proofs.TokensLemmas.{goes, none_left, takes_own}
+use Rattle.rustc_lexer.proofs.ToldLemmas.{left_is, left_utf8, takes_at}
 use Rattle.rustc_lexer.proofs.entry.TokensIterator.next.Goals as goal
 
 pub returns-in-Some : goal.returns-in-Some
-returns-in-Some c = record { steps = c.in-Some.ensures; goes = goes_on_by _ _ _ c.in-Some.ensures }
+returns-in-Some c = record { steps = c.in-Some.ensures; goes = goes _ _ _ c.in-Some.ensures }
 
 pub returns-then-is_empty-clause-steps : goal.returns-then-is_empty-clause-steps
 returns-then-is_empty-clause-steps c =
@@ -37,7 +37,7 @@ returns-then-not-matches c =
     let takes = takes_at _ _ text _ c.self.inside.at c.args.self.now c.in-No-E2024.is-0 c.in-No-E2024.is-1 (c.self.view_is ∙ c.in_default.ensures) (subst IsUtf8 c.as_bytes.ensures.value c.as_bytes.ensures.utf8)
     (left_is text c.as_bytes.result.now c.self.inside.at c.as_bytes.ensures.value) inv.bound inv.fits (sym c.if-is_empty.ensures) _ c.in-Some-quick_token.ensures.token in
     let taken : TakesToken c.args.self.now c.in-Some-quick_token.quick c.begin_told.new.self = subst (TakesToken c.args.self.now c.in-Some-quick_token.quick) (sym c.begin_told.ensures) takes in
-    record { steps = taken; goes = goes_on_by _ _ _ taken }
+    record { steps = taken; goes = goes _ _ _ taken }
 
 pub returns-else-not-matches : goal.returns-else-not-matches
 returns-else-not-matches c =
@@ -45,7 +45,7 @@ returns-else-not-matches c =
     let text : List ℕ = c.self.inside.text.now in
     let taken = takes_at _ _ text _ c.self.inside.at c.args.self.now c.in-No-E2024.is-0 c.in-No-E2024.is-1 (c.self.view_is ∙ c.in_default.ensures) (subst IsUtf8 c.as_bytes.ensures.value c.as_bytes.ensures.utf8)
     (left_is text c.as_bytes.result.now c.self.inside.at c.as_bytes.ensures.value) inv.bound inv.fits (sym c.if-is_empty.ensures) _ c.in-Some-quick_token.ensures.token in
-    record { steps = taken; goes = goes_on_by _ _ _ taken }
+    record { steps = taken; goes = goes _ _ _ taken }
 
 pub returns-in-No-E2024 : goal.returns-in-No-E2024
 returns-in-No-E2024 c =
@@ -55,7 +55,7 @@ returns-in-No-E2024 c =
     let rest = c.as_str.ensures.rest ∙ (sym (ap (λ (x : State). x.rest) c.self.view_is) ∙ sym left) in
     let taken = takes_at _ _ text _ c.self.inside.at c.args.self.now c.in-No-E2024.is-0 c.in-No-E2024.is-1 (c.self.view_is ∙ c.in_default.ensures) (subst IsUtf8 c.as_bytes.ensures.value c.as_bytes.ensures.utf8)
     left inv.bound inv.fits (sym c.if-is_empty.ensures) _ (c.choose_token-chosen.ensures.token ∙ ap first_token rest) in
-    record { steps = taken; goes = goes_on_by _ _ _ taken }
+    record { steps = taken; goes = goes _ _ _ taken }
 
 pub returns : goal.returns
 returns c =
@@ -68,4 +68,4 @@ returns c =
     let token : Token = c.token_as-token.result in
     let taken = takes_own _ _ (drop at text) _ c.args.self.now view (left ∙ ap (λ (x : State). x.rest) view) _ token (left_utf8 text _ at (subst IsUtf8 c.as_bytes.ensures.value c.as_bytes.ensures.utf8) inv.bound left) (subst Fits rest c.as_str-2.ensures.fits) (sym c.if-is_empty.ensures)
     (c.token_as-token.ensures.token ∙ ap (token_at (mode_in c.self.inside.frontmatter_allowed c.self.inside.edition)) rest) (sym (drop-drop token.len at text) ∙ ap (drop token.len) (sym left)) (c.next_allowed-self-inside.ensures c.self.inside.edition) in
-    record { steps = taken.takes; goes = goes_on_by _ _ _ taken.takes }
+    record { steps = taken.takes; goes = goes _ _ _ taken.takes }
