@@ -4,7 +4,7 @@ use Rattle.std.specs.Int.{bit_at}
 use Rattle.std.specs.Int.Bits.{mask_lt}
 use Rattle.std.proofs.lemmas.Bool.{agree_below_at, and_left, and_right, cases_lt, eqb-true}
 use Rattle.std.proofs.lemmas.Nat.{and_le_l, and_le_r, and_mask, or_lt, shl-shr, shr-shr, shr_le}
-use Rattle.std.proofs.lemmas.Nat.Bits.{bit_at_and, bit_at_or, bit_at_not, bit_at_lowest, bit_at-lt, bit_at-suc, bit_at-zero, bit_at_above, bit_at-trailing_zeros}
+use Rattle.std.proofs.lemmas.Nat.Bits.{bit_at_and, bit_at_or, bit_at_not, bit_at_lowest, bit_at-lt, bit_at-suc, bit_at-zero, bit_at_above, bit_at_mask_below, bit_at_mask_inside, bit_at-trailing_zeros, ones_shl}
 use Rattle.std.proofs.lemmas.List.{get_or-map}
 use Rattle.std.proofs.lemmas.Simd.{bit_mask_l, length-chunk, get_or-chunk}
 use Rattle.std.proofs.Math.Bool.{and-true, and_self}
@@ -144,6 +144,31 @@ module _ (x n : ℕ) where
 
   pub past-later : x < 2 ^ 64 → (k : ℕ) → bit (bit_and (x / 2 ^ n) high) (suc k) ≡ bit x (n + suc k)
   past-later small k = grind (arith, common_steps, cases_lt, high-stays, bit-shr, bit-above, and_le_l, shr_le)
+
+-- ---- the same where the bits stay at their places
+
+past_mask : (n : ℕ) → n < 64 → high * 2 ^ n % 2 ^ 64 ≡ 2 ^ 64 - 2 ^ suc n
+past_mask n l =
+    let e : high * 2 ^ n % 2 ^ 64 ≡ (2 ^ 64 - 1) * 2 ^ suc n % 2 ^ 64 = omega arith in
+    e ∙ ones_shl 64 (suc n) (omega arith)
+
+module _ (x n : ℕ) (near : n < 64) where
+  pub after-gone : (k : ℕ) → k ≤ n → bit (bit_and x (high * 2 ^ n % 2 ^ 64)) k ≡ false
+  unfolding bit
+  after-gone k le = ap (λ m. bit (bit_and x m) k) (past_mask n near) ∙ (bit-and x (2 ^ 64 - 2 ^ suc n) k ∙ and_right _ _ off)
+    where
+      off : bit (2 ^ 64 - 2 ^ suc n) k ≡ false
+      off = ap (λ y. y == 1) (bit_at_mask_below (suc n) 64 k (omega arith))
+
+  pub after-others : x < 2 ^ 64 → (k : ℕ) → n < k → bit (bit_and x (high * 2 ^ n % 2 ^ 64)) k ≡ bit x k
+  unfolding bit
+  after-others small k more = elim (cases_lt k 64) [
+    | inl inside ↦ ap (λ m. bit (bit_and x m) k) (past_mask n near) ∙ (bit-and x (2 ^ 64 - 2 ^ suc n) k ∙ (ap (λ t. bit x k && t) (on inside) ∙ and-true (bit x k)))
+    | inr far ↦ bit-above (bit_and x (high * 2 ^ n % 2 ^ 64)) k (omega (arith, and_le_l x (high * 2 ^ n % 2 ^ 64))) far ∙ sym (bit-above x k small far)
+  ]
+    where
+      on : k < 64 → bit (2 ^ 64 - 2 ^ suc n) k ≡ true
+      on inside = ap (λ y. y == 1) (bit_at_mask_inside (suc n) 64 k (omega arith) inside)
 
 -- ---- the lowest bit
 

@@ -66,4 +66,5 @@ pub mod SpaceLemmas
 pub mod TallyWalk
 pub mod TextLemmas
 pub mod TokensLemmas
+pub mod ToldLemmas
 pub mod WideLemmas

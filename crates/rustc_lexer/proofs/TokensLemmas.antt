@@ -1,5 +1,5 @@
 -- Taking the tokens of a whole text, one by one.
-use Rattle.std.proofs.Common.{◌≡◌, ℕ, ◌<◌, ◌==◌, true, false, subst, List, [], length, drop, refl, sym, ap, ap₂, ◌∙◌, ◌^◌, Some, rules, pos_of_ne-zero}
+use Rattle.std.proofs.Common.{◌≡◌, ℕ, ◌<◌, ◌==◌, true, false, subst, List, [], length, length-drop, drop, arith, refl, sym, ap, ap₂, ◌∙◌, ◌^◌, Some, rules, pos_of_ne-zero}
 use Rattle.std.specs.Prelude.{⊤}
 use Rattle.std.specs.Iterator.{at_most, MakesProgress}
 use Rattle.std.specs.Str.{IsUtf8}
@@ -8,7 +8,7 @@ use Rattle.std.proofs.lemmas.Str.{IsCharBoundary-from_take}
 use Rattle.std.proofs.lemmas.List.{nil_from_length}
 use Rattle.rustc_lexer.specs.{Edition, FrontmatterAllowed, Token, E2024, No}
 use Rattle.rustc_lexer.specs.Tokens.{tokens_of, tokens_left, RestartsAtBounds, TakesToken}
-use Rattle.rustc_lexer.specs.laws.Tokens.{CutsOff, token_at-cuts, tokens-cons, tokens-nil, shorter}
+use Rattle.rustc_lexer.specs.laws.Tokens.{CutsOff, token_at-cuts, tokens-cons, tokens-nil}
 use Rattle.rustc_lexer.specs.LanguageText.{Mode, part, mode_after, mode_in}
 use Rattle.rustc_lexer.specs.laws.Edition.{edition_grammar}
 use Rattle.rustc_lexer.specs.means.Lexeme.{first_token}
@@ -25,7 +25,6 @@ restarts edition text is k few = sym (at_bound (edition_grammar edition) k text 
 pub record TakesFirst (s t : State) (token : Token) : Type 0 where
   pub takes : TakesToken s token t
   pub pending : t.pending ≡ 0
-  pub shorter : length t.rest < length s.rest
 
 pub takes_first : (s t : State) (token : Token) → s.pending ≡ 0 → IsText s.rest → (length s.rest == 0) ≡ false → token ≡ token_at s.mode s.rest → t ≡ past_token s.rest s.mode token → TakesFirst s t token
 takes_first s t token none is some e f =
@@ -46,7 +45,6 @@ takes_first s t token none is some e f =
         edition = edition-after s.mode first.kind;
       };
       pending = refl;
-      shorter = shorter s.rest first cuts;
     }
 
 -- where the text that is left is empty no token is
@@ -69,5 +67,7 @@ takes_newest allowed edition inside text s never newest view rest left token is 
     (subst (λ (m : Mode). m ≡ mode_after m token.kind) (sym part_of) refl)
 
 -- an iterator that took a token is nearer its end
-pub goes : (s t : State) (token : Token) → TakesFirst s t token → MakesProgress (λ (x : State). ⊤) (λ s. at_most (length s.rest)) s (Some token) t
-goes s t token takes = let less = takes.shorter in search rules
+pub goes : (s t : State) (token : Token) → TakesToken s token t → MakesProgress (λ (x : State). ⊤) (λ s. at_most (length s.rest)) s (Some token) t
+goes s t token takes =
+    let less : length t.rest < length s.rest = omega (arith, ap length takes.rest, length-drop token.len s.rest, takes.boundary.0, takes.not_empty) in
+    search rules

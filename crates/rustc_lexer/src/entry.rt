@@ -11,7 +11,7 @@ use crate::cursor::next_allowed;
 use crate::edition::{Edition, token_as};
 use crate::lexemes::choose_token;
 use crate::lexemes::quick::quick_token;
-use crate::token::{FrontmatterAllowed, Token};
+use crate::token::{FrontmatterAllowed, Token, TokenKind};
 use std::iter::Iterator;
 use std::marker::Model;
 
@@ -19,6 +19,7 @@ mod document;
 mod fill;
 pub(crate) mod stepper;
 mod tally;
+mod told;
 
 pub use document::tokenize_document;
 pub use stepper::{Stepper, Steps};
@@ -81,7 +82,11 @@ pub fn tokenize_as<'a>(
     ensures { ReadsAs frontmatter_allowed edition text.now result }
 {
     Tokens {
-        rest: text,
+        text,
+        at: 0,
+        block: 0,
+        ends: 0,
+        told: None,
         frontmatter_allowed,
         edition,
     }
@@ -92,7 +97,15 @@ pub fn tokenize_as<'a>(
 /// [`tokenize`], [`tokenize_in`], [`tokenize_as`] and [`tokenize_document`] return it.
 #[derive(Drop)]
 pub struct Tokens<'a> {
-    rest: &'a str,
+    text: &'a str,
+    /// The place where the text that is left begins.
+    at: usize,
+    /// The place where the bytes begin whose ends of runs are known.
+    block: usize,
+    /// The ends of runs from `block` on, as bits, or 0. Those up to `at` mean nothing.
+    ends: u64,
+    /// The kind of the next token, if its first byte and `ends` may determine all of it. Then no bit up to `at` is set.
+    told: Option<TokenKind>,
     frontmatter_allowed: FrontmatterAllowed,
     edition: Edition,
 }
@@ -101,19 +114,21 @@ pub struct Tokens<'a> {
 pub type EditionTokens<'a> = Tokens<'a>;
 
 impl<'a> Model for Tokens<'a> {
-    ghost use Rattle.rustc_lexer.specs.Classes.{Fits};
+    ghost use Rattle.std.specs.Prelude.{drop};
     ghost use Rattle.rustc_lexer.specs.LanguageText.{mode_in};
     ghost use Rattle.rustc_lexer.specs.State.{State};
+    ghost use Rattle.rustc_lexer.specs.means.Ends.{KnowsAhead};
 
     ghost Value = { State };
 
     ghost view = { λ t. record {
       pending = 0;
-      rest = t.rest.now;
+      rest = drop t.at t.text.now;
       mode = mode_in t.frontmatter_allowed t.edition;
     } };
 
-    ghost invariant = { λ t. Fits t.rest.now };
+    ghost invariant = { λ t. KnowsAhead
+        t.frontmatter_allowed t.edition t.text.now t.at t.block t.ends t.told };
 }
 
 impl<'a> Tokens<'a> {
@@ -124,7 +139,7 @@ impl<'a> Tokens<'a> {
         ensures pending { self.now.pending ≡ 0 }
         ensures fits { Fits result.now }
     {
-        self.rest
+        &self.text[self.at..]
     }
 
     /// Returns whether a frontmatter may stand in front of the text that is left.
@@ -147,25 +162,34 @@ impl<'a> Iterator for Tokens<'a> {
 
     /// Returns the next token. Past the last one it returns `None`, and does so from then on.
     ///
-    /// Each branch returns its token by itself, so a token that `quick_token` finds is never written to memory and
-    /// read again.
+    /// Most tokens are told by the ends of runs, which are begun past a word or a symbol. Each branch returns its token
+    /// by itself, so a token that `quick_token` finds is never written to memory and read again.
     #[inline(always)]
     fn next(&mut self) -> Option<Token> {
-        let rest = self.as_str();
-        if rest.is_empty() {
+        if let Some(token) = self.take_told() {
+            return Some(token);
+        }
+        let bytes = &self.text.as_bytes()[self.at..];
+        if bytes.is_empty() {
             return None;
         }
         if let (FrontmatterAllowed::No, Edition::E2024) = (self.frontmatter_allowed, self.edition) {
-            if let Some(quick) = quick_token(rest) {
-                self.rest = &rest[quick.len as usize..];
+            if let Some(quick) = quick_token(bytes) {
+                self.told = None;
+                self.at += quick.len as usize;
+                if !matches!(quick.kind, TokenKind::Whitespace) {
+                    self.begin_told();
+                }
                 return Some(quick);
             }
-            let chosen = choose_token(rest);
-            self.rest = &rest[chosen.len as usize..];
+            let chosen = choose_token(self.as_str());
+            self.told = None;
+            self.at += chosen.len as usize;
             return Some(chosen);
         }
-        let token = token_as(rest, self.frontmatter_allowed, self.edition);
-        self.rest = &rest[token.len as usize..];
+        let token = token_as(self.as_str(), self.frontmatter_allowed, self.edition);
+        self.told = None;
+        self.at += token.len as usize;
         self.frontmatter_allowed = next_allowed(self.frontmatter_allowed, token.kind);
         Some(token)
     }

@@ -1,9 +1,11 @@
 -- Means, by how it is read: where runs of bytes end, as the bits of a number, and the tokens that these tell.
-use Rattle.std.specs.Prelude.{ℕ, zero, suc, Bool, true, false, not, ◌&&◌, ◌||◌, ◌==◌, ◌≡◌, ◌<◌, ◌≤◌, nat_lt, List, length, slice_index, if◌then◌else◌, Option, Some, None}
+use Rattle.std.specs.Prelude.{◌-◌, ◌^◌, drop, ℕ, zero, suc, Bool, true, false, not, ◌&&◌, ◌||◌, ◌==◌, ◌≡◌, ◌<◌, ◌≤◌, nat_lt, List, length, slice_index, if◌then◌else◌, Option, Some, None}
 use Rattle.std.specs.Int.{bit_at}
 use Rattle.rustc_lexer.specs.declared.lexemes.family.Family.{Family}
 use Rattle.rustc_lexer.specs.declared.lexemes.family.Family.TheVariants.{Space, Symbol, Word}
-use Rattle.rustc_lexer.specs.{TokenKind, Ident, Whitespace}
+use Rattle.std.specs.Str.{IsCharBoundary}
+use Rattle.rustc_lexer.specs.{Edition, FrontmatterAllowed, TokenKind, E2024, Ident, No, Whitespace}
+use Rattle.rustc_lexer.specs.Classes.{Fits}
 use Rattle.rustc_lexer.specs.means.ByteRuns.{is_continue_byte, is_space_byte}
 use Rattle.rustc_lexer.specs.means.Lexeme.{family_of, symbol_kind}
 use Rattle.rustc_lexer.specs.means.Quick.{is_space_lead, turns_word}
@@ -28,6 +30,10 @@ IsEnds text m = (j : ℕ) → bit m j ≡ true → (j < length text) × ((k : �
 abbrev pub AreEndsPast : List ℕ → ℕ → ℕ → Type 0
 AreEndsPast text from m = (j : ℕ) → bit m j ≡ true → (from < j) × (j < length text) × ((k : ℕ) → from < k → k ≤ j → bit m k ≡ is_end text k)
 
+-- the same of the bits past the place, where those before may be of tokens that are taken
+abbrev pub TellEndsPast : List ℕ → ℕ → ℕ → Type 0
+TellEndsPast text from m = (j : ℕ) → from < j → bit m j ≡ true → (j < length text) × ((k : ℕ) → from < k → k ≤ j → bit m k ≡ is_end text k)
+
 pub record IsLowest (m low : ℕ) : Type 0 where
   pub set : bit m low ≡ true
   pub least : (k : ℕ) → k < low → bit m k ≡ false
@@ -46,3 +52,19 @@ classified b = if nat_lt b 128 then classified_in (family_of b) b else None
 pub record StaysWithin (kind : TokenKind) (next : ℕ) : Type 0 where
   pub word : kind ≡ Ident → turns_word next ≡ false
   pub space : kind ≡ Whitespace → is_space_lead next ≡ false
+
+-- an iterator of a part, of the newest edition, whose next token is one of the kind if the lowest of the bits tells it
+pub record IsTold (allowed : FrontmatterAllowed) (edition : Edition) (text : List ℕ) (at block ends : ℕ) (kind : TokenKind) : Type 0 where
+  pub never : allowed ≡ No
+  pub newest : edition ≡ E2024
+  pub tells : classified (slice_index text at) ≡ Some kind
+  pub ahead : AreEndsPast (drop block text) (at - block) ends
+
+-- what an iterator knows of the text at its place and past it. The bits are those of the bytes from `block` on
+pub record KnowsAhead (allowed : FrontmatterAllowed) (edition : Edition) (text : List ℕ) (at block ends : ℕ) (told : Option TokenKind) : Type 0 where
+  pub fits : Fits text
+  pub bound : IsCharBoundary text at
+  pub behind : block ≤ at
+  pub small : ends < 2 ^ 64
+  pub past : TellEndsPast (drop block text) (at - block) ends
+  pub next : (kind : TokenKind) → told ≡ Some kind → IsTold allowed edition text at block ends kind

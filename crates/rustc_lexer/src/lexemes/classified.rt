@@ -152,6 +152,15 @@ pub(crate) fn ends_before(ends: u64, place: usize) -> u64
     }
 }
 
+/// Returns the known ends of runs past a place.
+#[inline(always)]
+pub(crate) fn ends_after(ends: u64, place: usize) -> u64
+    ensures gone { (k : ℕ) → k ≤ place → bit result k ≡ false }
+    ensures others { (k : ℕ) → place < k → bit result k ≡ bit ends k }
+{
+    if place < 64 { ends & (!1 << place) } else { 0 }
+}
+
 /// Returns the ends of runs without the lowest one.
 #[inline(always)]
 pub(crate) fn past_lowest(ends: u64) -> u64

@@ -1,5 +1,5 @@
 //! The most common tokens, found by their bytes alone: identifiers, white space, hashes and symbols.
-ghost use Rattle.std.specs.Prelude.{◌≡◌, MatchOption};
+ghost use Rattle.std.specs.Prelude.{◌≡◌, IsUtf8, MatchOption};
 ghost use Rattle.rustc_lexer.specs.Classes.{Fits};
 ghost use Rattle.rustc_lexer.specs.means.Hash.{is_guarded_mark};
 ghost use Rattle.rustc_lexer.specs.means.Quick.{BeginsWithNoHash, IsFirstToken};
@@ -11,14 +11,15 @@ use crate::lexemes::family::{Family, family_of_byte};
 use crate::token::{Token, TokenKind};
 
 /// Returns the first token of the text if the bytes of one run and the byte after it determine its kind. For a hash
-/// they always do.
+/// they always do. The text is given as its bytes, so a slice of it takes no test for a bound of a character.
 #[inline(always)]
-pub(crate) fn quick_token(text: &str) -> Option<Token>
+pub(crate) fn quick_token(text: &[u8]) -> Option<Token>
+    requires utf8 { IsUtf8 text.now }
     requires fits { Fits text.now }
     ensures { MatchOption result (BeginsWithNoHash text.now)
         (λ token. IsFirstToken text.now token) }
 {
-    let (first, rest) = text.as_bytes().split_first()?;
+    let (first, rest) = text.split_first()?;
     match family_of_byte(*first)? {
         Family::Word => {
             let end = run_end::<Continue>(rest);

@@ -87,7 +87,7 @@ impl<'a> Cursor<'a> {
             };
         }
         if self.is_plain() {
-            if let Some(quick) = quick_token(rest) {
+            if let Some(quick) = quick_token(rest.as_bytes()) {
                 self.pass(quick.len);
                 return quick;
             }

@@ -4,13 +4,14 @@ use crate::erased::cursor::next_allowed;
 use crate::erased::edition::{Edition, token_as};
 use crate::erased::lexemes::choose_token;
 use crate::erased::lexemes::quick::quick_token;
-use crate::erased::token::{FrontmatterAllowed, Token};
+use crate::erased::token::{FrontmatterAllowed, Token, TokenKind};
 use core::iter::Iterator;
 
 mod document;
 mod fill;
 pub(crate) mod stepper;
 mod tally;
+mod told;
 
 pub use document::tokenize_document;
 pub use stepper::{Stepper, Steps};
@@ -62,7 +63,11 @@ pub fn tokenize_as<'a>(
     edition: Edition,
 ) -> Tokens<'a> {
     Tokens {
-        rest: text,
+        text,
+        at: 0,
+        block: 0,
+        ends: 0,
+        told: None,
         frontmatter_allowed,
         edition,
     }
@@ -73,7 +78,15 @@ pub fn tokenize_as<'a>(
 /// [`tokenize`], [`tokenize_in`], [`tokenize_as`] and [`tokenize_document`] return it.
 #[derive(Clone)]
 pub struct Tokens<'a> {
-    rest: &'a str,
+    text: &'a str,
+    /// The place where the text that is left begins.
+    at: usize,
+    /// The place where the bytes begin whose ends of runs are known.
+    block: usize,
+    /// The ends of runs from `block` on, as bits, or 0. Those up to `at` mean nothing.
+    ends: u64,
+    /// The kind of the next token, if its first byte and `ends` may determine all of it. Then no bit up to `at` is set.
+    told: Option<TokenKind>,
     frontmatter_allowed: FrontmatterAllowed,
     edition: Edition,
 }
@@ -85,7 +98,7 @@ impl<'a> Tokens<'a> {
     /// Returns the text that is left: the part whose tokens the iterator has not returned yet.
     #[inline(always)]
     pub fn as_str(&self) -> &'a str {
-        self.rest
+        &self.text[self.at..]
     }
 
     /// Returns whether a frontmatter may stand in front of the text that is left.
@@ -102,25 +115,34 @@ impl<'a> Iterator for Tokens<'a> {
 
     /// Returns the next token. Past the last one it returns `None`, and does so from then on.
     ///
-    /// Each branch returns its token by itself, so a token that `quick_token` finds is never written to memory and
-    /// read again.
+    /// Most tokens are told by the ends of runs, which are begun past a word or a symbol. Each branch returns its token
+    /// by itself, so a token that `quick_token` finds is never written to memory and read again.
     #[inline(always)]
     fn next(&mut self) -> Option<Token> {
-        let rest = self.as_str();
-        if rest.is_empty() {
+        if let Some(token) = self.take_told() {
+            return Some(token);
+        }
+        let bytes = &self.text.as_bytes()[self.at..];
+        if bytes.is_empty() {
             return None;
         }
         if let (FrontmatterAllowed::No, Edition::E2024) = (self.frontmatter_allowed, self.edition) {
-            if let Some(quick) = quick_token(rest) {
-                self.rest = &rest[quick.len as usize..];
+            if let Some(quick) = quick_token(bytes) {
+                self.told = None;
+                self.at += quick.len as usize;
+                if !matches!(quick.kind, TokenKind::Whitespace) {
+                    self.begin_told();
+                }
                 return Some(quick);
             }
-            let chosen = choose_token(rest);
-            self.rest = &rest[chosen.len as usize..];
+            let chosen = choose_token(self.as_str());
+            self.told = None;
+            self.at += chosen.len as usize;
             return Some(chosen);
         }
-        let token = token_as(rest, self.frontmatter_allowed, self.edition);
-        self.rest = &rest[token.len as usize..];
+        let token = token_as(self.as_str(), self.frontmatter_allowed, self.edition);
+        self.told = None;
+        self.at += token.len as usize;
         self.frontmatter_allowed = next_allowed(self.frontmatter_allowed, token.kind);
         Some(token)
     }

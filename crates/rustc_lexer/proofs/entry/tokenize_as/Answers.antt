@@ -1,9 +1,12 @@
-use Rattle.std.proofs.Common.{refl}
+use Rattle.std.proofs.Common.{refl, arith}
+use Rattle.std.proofs.lemmas.Option.{none-some}
+use Rattle.std.proofs.lemmas.Str.{IsCharBoundary-start}
 use Rattle.rustc_lexer.specs.Classes.{IsText}
 use Rattle.rustc_lexer.specs.LanguageText.{Mode, mode_in}
 use Rattle.rustc_lexer.proofs.TextLemmas.{suffixes, texts}
 use Rattle.rustc_lexer.specs.laws.Tokens.{partitions}
 use Rattle.rustc_lexer.proofs.TokensLemmas.{restarts}
+use Rattle.rustc_lexer.proofs.ToldLemmas.{none_tell}
 use Rattle.rustc_lexer.proofs.entry.tokenize_as.Goals as goal
 
 pub returns : goal.returns
@@ -18,3 +21,13 @@ returns c =
       suffixes = suffixes _ mode is;
       texts = texts _ mode is;
     }
+
+pub invariant_of-result : goal.invariant_of-result
+invariant_of-result c = record {
+  fits = c.requires.fits;
+  bound = IsCharBoundary-start c.args.text.now c.utf8.text;
+  behind = omega arith;
+  small = omega arith;
+  past = none_tell c.args.text.now 0;
+  next = λ kind e. absurd (none-some kind e);
+}

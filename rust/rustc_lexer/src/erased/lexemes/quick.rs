@@ -6,10 +6,10 @@ use crate::erased::lexemes::family::{Family, family_of_byte};
 use crate::erased::token::{Token, TokenKind};
 
 /// Returns the first token of the text if the bytes of one run and the byte after it determine its kind. For a hash
-/// they always do.
+/// they always do. The text is given as its bytes, so a slice of it takes no test for a bound of a character.
 #[inline(always)]
-pub(crate) fn quick_token(text: &str) -> Option<Token> {
-    let (first, rest) = text.as_bytes().split_first()?;
+pub(crate) fn quick_token(text: &[u8]) -> Option<Token> {
+    let (first, rest) = text.split_first()?;
     match family_of_byte(*first)? {
         Family::Word => {
             let end = run_end::<Continue>(rest);

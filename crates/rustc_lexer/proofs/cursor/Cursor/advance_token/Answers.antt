@@ -2,6 +2,8 @@ use Rattle.std.proofs.Common.{◌≡◌, ◌+◌, ◌-◌, ◌==◌, List, ℕ, 
 use Rattle.rustc_lexer.specs.{Token, E2024}
 use Rattle.rustc_lexer.specs.LanguageText.{mode_in}
 use Rattle.rustc_lexer.specs.State.{State, token_past}
+use Rattle.rustc_lexer.specs.means.Lexeme.{first_token}
+use Rattle.rustc_lexer.specs.means.Quick.{BeginsWithNoHash}
 use Rattle.rustc_lexer.specs.means.Taking.{token_at}
 use Rattle.rustc_lexer.specs.Classes.{IsText}
 use Rattle.rustc_lexer.proofs.AdvanceLemmas.{not_end, takes_first, takes_plain, stays_at_end, something}
@@ -22,7 +24,7 @@ returns-then-is_empty c =
 pub returns-in-Some : goal.returns-in-Some
 returns-in-Some c =
     let plain = c.is_plain.ensures c.if-is_plain.true in
-    let taken = takes_plain _ _ _ _ plain.0 plain.1 c.as_str-rest.ensures.rest c.as_str-rest.utf8 c.as_str-rest.ensures.fits (sym c.if-is_empty.ensures) c.in-Some.ensures.token c.pass.ensures in
+    let taken = takes_plain _ _ _ _ plain.0 plain.1 c.as_str-rest.ensures.rest c.as_str-rest.utf8 c.as_str-rest.ensures.fits (sym c.if-is_empty.ensures) (c.in-Some.ensures.token ∙ ap first_token c.as_bytes.ensures.value) c.pass.ensures in
     record { token = taken.token_is; state = taken.state_is; end = λ e. absurd (taken.no_end e); past = λ other. taken.first }
 
 pub returns-then-is_plain : goal.returns-then-is_plain
@@ -53,3 +55,6 @@ returns c =
       end = λ e. absurd (not_end c.args.self.now _ _ text left token state e);
       past = λ other. takes_first c.args.self.now _ _ text left token state;
     }
+
+pub choose_token-chosen-requires-clause-no_hash : goal.choose_token-chosen-requires-clause-no_hash
+choose_token-chosen-requires-clause-no_hash c = subst BeginsWithNoHash c.as_bytes.ensures.value c.in_default.ensures

@@ -1,0 +1,102 @@
+-- What an iterator knows of the ends of runs past its place, and the tokens that it takes by them.
+use Rattle.std.proofs.Common.{◌≡◌, ℕ, ◌+◌, ◌-◌, ◌^◌, ◌<◌, ◌≤◌, ◌==◌, false, true≢false, List, length, length-drop, drop, take, get_or, sym, ap, subst, ◌∙◌, arith, drop-drop, Some}
+use Rattle.std.specs.Str.{IsCharBoundary, IsUtf8}
+use Rattle.std.proofs.lemmas.Bool.{ne_eqb}
+use Rattle.std.proofs.lemmas.List.{get_or-drop, take_rest}
+use Rattle.std.proofs.lemmas.Str.{IsCharBoundary-from_rest, IsUtf8-drop}
+use Rattle.rustc_lexer.specs.{Edition, FrontmatterAllowed, Token, TokenKind, E2024, No}
+use Rattle.rustc_lexer.specs.Classes.{Fits}
+use Rattle.rustc_lexer.specs.LanguageText.{mode_in}
+use Rattle.rustc_lexer.specs.State.{State}
+use Rattle.rustc_lexer.specs.Tokens.{TakesToken}
+use Rattle.rustc_lexer.specs.laws.State.{state}
+use Rattle.rustc_lexer.specs.means.Lexeme.{first_token}
+use Rattle.rustc_lexer.specs.means.Ends.{bit, classified, AreEndsPast, IsEnds, IsLowest, StaysWithin, TellEndsPast}
+use Rattle.rustc_lexer.specs.means.Quick.{IsFirstToken}
+use Rattle.rustc_lexer.proofs.BitLemmas.{bit-zero}
+use Rattle.rustc_lexer.proofs.EndsLemmas.{all_past, classified_behind, past_end}
+use Rattle.rustc_lexer.proofs.TokensLemmas.{takes_newest}
+
+-- no bits tell of every end
+pub none_tell : (text : List ℕ) (from : ℕ) → TellEndsPast text from 0
+none_tell text from j after set = absurd (true≢false (sym set ∙ bit-zero j))
+
+pub all_tell : (text : List ℕ) (from m : ℕ) → AreEndsPast text from m → TellEndsPast text from m
+all_tell text from m are j after set = let r = are j set in (r.1, r.2)
+
+-- found anew at a place
+pub found_at : (text : List ℕ) (at m : ℕ) → IsEnds (drop at text) m → AreEndsPast (drop at text) (at - at) m
+found_at text at m are = let none : 0 ≡ at - at = omega arith in subst (λ n. AreEndsPast (drop at text) n m) none (all_past (drop at text) m are)
+
+-- the first byte that is left and the lowest end past it tell a token of the kind
+pub record TellsNext (text : List ℕ) (at block ends low : ℕ) (kind : TokenKind) : Type 0 where
+  pub utf8 : IsUtf8 text
+  pub bound : IsCharBoundary text at
+  pub behind : block ≤ at
+  pub small : ends < 2 ^ 64
+  pub tells : classified (get_or text at 0) ≡ Some kind
+  pub known : AreEndsPast (drop block text) (at - block) ends
+  pub lowest : IsLowest ends low
+  pub stays : StaysWithin kind (get_or text (block + low) 0)
+
+module _ (text : List ℕ) (at block ends low : ℕ) (kind : TokenKind) (next : TellsNext text at block ends low kind) where
+  there : block + (at - block) ≡ at
+  there = let behind = next.behind in omega arith
+
+  pub told_after : at < block + low
+  told_after = let after = (next.known low next.lowest.set).0 in omega (arith, after, next.behind)
+
+  pub told_inside : block + low < length text
+  told_inside = let inside = (next.known low next.lowest.set).1 in omega (arith, inside, length-drop block text)
+
+  joined : drop (at - block) (drop block text) ≡ drop at text
+  joined = drop-drop (at - block) block text ∙ ap (λ n. drop n text) there
+
+  behind_block : IsFirstToken (drop (at - block) (drop block text)) record { kind = kind; len = low - (at - block) }
+  behind_block = classified_behind (drop block text) (at - block) ends low kind record {
+    utf8 = subst IsUtf8 (sym joined) (IsUtf8-drop text at next.utf8 next.bound);
+    tells = ap classified (get_or-drop block text (at - block) 0 ∙ ap (λ i. get_or text i 0) there) ∙ next.tells;
+    known = next.known;
+    small = next.small;
+    lowest = next.lowest;
+    stays = subst (StaysWithin kind) (sym (get_or-drop block text low 0)) next.stays;
+  }
+
+  pub told_token : IsFirstToken (drop at text) record { kind = kind; len = block + low - at }
+  told_token =
+      let long : low - (at - block) ≡ block + low - at = omega (arith, next.behind, told_after) in
+      subst (λ xs. IsFirstToken xs record { kind = kind; len = block + low - at }) joined (subst (λ n. IsFirstToken (drop (at - block) (drop block text)) record { kind = kind; len = n }) long behind_block)
+
+  pub told_bound : IsCharBoundary text (block + low)
+  told_bound =
+      let end : at + (block + low - at) ≡ block + low = omega (arith, told_after) in
+      subst (IsCharBoundary text) end (IsCharBoundary-from_rest text at (block + low - at) (omega (arith, told_after, told_inside)) told_token.boundary)
+
+  pub told_ahead : (less : ℕ) → ((k : ℕ) → k ≤ low → bit less k ≡ false) → ((k : ℕ) → low < k → bit less k ≡ bit ends k) → AreEndsPast (drop block text) (block + low - block) less
+  told_ahead less gone others =
+      let e : low ≡ block + low - block = omega arith in
+      subst (λ n. AreEndsPast (drop block text) n less) e (past_end (drop block text) ends (at - block) low less next.known next.lowest gone others)
+
+-- taking such a token: past it the text at its end is left
+pub takes_told : (allowed : FrontmatterAllowed) (edition : Edition) (text : List ℕ) (at end : ℕ) (s : State) → allowed ≡ No → edition ≡ E2024 → state 0 (drop at text) (mode_in allowed edition) ≡ s → IsUtf8 text → IsCharBoundary text at → Fits text
+    → at < end → end ≤ length text → (token : Token) → token ≡ first_token (drop at text) → token.len ≡ end - at → TakesToken s token (state 0 (drop end text) (mode_in allowed edition))
+takes_told allowed edition text at end s never newest view is bound fits more inside token e len =
+    let left : length (drop at text) ≡ length text - at = length-drop at text in
+    let some : (length (drop at text) == 0) ≡ false = ne_eqb (length (drop at text)) 0 (λ none. omega (arith, left, none)) in
+    let past : at + token.len ≡ end = omega (arith, len) in
+    let cut : drop end text ≡ drop token.len (drop at text) = sym (drop-drop token.len at text ∙ ap (λ n. drop n text) past) in
+    (takes_newest allowed edition (drop at text) (drop at text) s never newest view (ap (λ (x : State). x.rest) view) (drop end text) token (IsUtf8-drop text at is bound) (omega (arith, left)) some e cut).takes
+
+-- the text that is left, as a slice of the bytes
+pub left_is : (text bytes : List ℕ) (at : ℕ) → bytes ≡ text → take (length bytes - at) (drop at bytes) ≡ drop at text
+left_is text bytes at e = take_rest bytes at ∙ ap (drop at) e
+
+pub left_utf8 : (text left : List ℕ) (at : ℕ) → IsUtf8 text → IsCharBoundary text at → left ≡ drop at text → IsUtf8 left
+left_utf8 text left at is bound e = subst IsUtf8 (sym e) (IsUtf8-drop text at is bound)
+
+-- taking the first token of the text that is left, of a part in the newest edition
+pub takes_at : (allowed : FrontmatterAllowed) (edition : Edition) (text left : List ℕ) (at : ℕ) (s : State) → allowed ≡ No → edition ≡ E2024 → state 0 (drop at text) (mode_in allowed edition) ≡ s → IsUtf8 text → left ≡ drop at text → IsCharBoundary text at → Fits text
+    → (length left == 0) ≡ false → (token : Token) → token ≡ first_token left → TakesToken s token (state 0 (drop (at + token.len) text) (mode_in allowed edition))
+takes_at allowed edition text left at s never newest view is e bound fits some token first =
+    (takes_newest allowed edition (drop at text) left s never newest view (e ∙ ap (λ (x : State). x.rest) view) (drop (at + token.len) text) token (left_utf8 text left at is bound e) (omega (arith, length-drop at text, ap length e)) some first
+    (sym (drop-drop token.len at text) ∙ ap (drop token.len) (sym e))).takes
