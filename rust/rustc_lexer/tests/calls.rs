@@ -519,6 +519,32 @@ fn a_long_document_is_filled_as_it_is_stepped() {
     }
 }
 
+/// Each token of a long text is the first one of the text that is left, which a cursor reads by itself: whatever the
+/// iterator remembers, and if some are written to a buffer in between.
+#[test]
+fn what_an_iterator_remembers_changes_no_token() {
+    let line = "let x = 'r#a + b\"c\"; /* d */ fn éa(g: &'h str) { } 0x1f.i()  \u{2028}j // k\n";
+    let text = line.repeat(40);
+    for room in 0..5 {
+        let mut tokens = tokenize(&text, FrontmatterAllowed::No);
+        let mut buffer = vec![tokens.clone().next().unwrap(); room];
+        loop {
+            let rest = tokens.as_str();
+            let mut kept = tokens.clone();
+            let Some(token) = tokens.next() else {
+                break;
+            };
+            let alone = Cursor::new(rest, FrontmatterAllowed::No).advance_token();
+            assert_eq!((token, kept.next()), (alone, Some(alone)), "in {rest:?}");
+            assert_eq!(tokens.as_str(), &rest[token.len as usize..]);
+            if rest.len() % 5 < room {
+                tokens.fill(&mut buffer);
+            }
+        }
+        assert_eq!(tokens.as_str(), "");
+    }
+}
+
 #[test]
 fn what_is_written_of_values() {
     assert_eq!(format!("{:?}", FrontmatterAllowed::Yes), "Yes");
