@@ -220,6 +220,13 @@ fn where_editions_differ() {
         r#"["UnknownPrefix","q"]"#
     );
     assert_eq!(editions::write(&source("\nq#a", false)), wanted);
+    // Three tokens of one edition are one of another: the place ends where a token ends in all.
+    let older = r##"[["Lifetime","'r"],["Pound","#"],["Ident","foo"]]"##;
+    let newer = r##"[["RawLifetime","'r#foo"]]"##;
+    let wanted = format!(
+        r##"{{ "counts":[5,5,3,3],"differ":1,"places":[{{ "place":"1:1","text":"'r#foo","editions":[{older},{older},{newer},{newer}]}}]}}"##
+    );
+    assert_eq!(editions::write(&source("'r#foo a", false)), wanted);
 }
 
 /// The listing is that of `lexdump`, whose places begin past a shebang line.
@@ -257,7 +264,21 @@ fn calls_of_the_page() {
         !shown.contains(r#""fresh":true"#) && !shown.contains(" fresh"),
         "{shown}"
     );
+    let first = r#"{ "number":0,"start":0,"bytes":1,"place":"1:1","text":"a","#;
+    assert!(shown.contains(first), "the first line has it: {shown}");
     assert!(answered(crate::editions()).starts_with(r#"{ "counts":[3,3,3,3],"differ":0,"#));
+    // Each call that takes an edition answers of that.
+    for (edition, count) in [3, 3, 1, 1].into_iter().enumerate() {
+        // SAFETY: the room has four bytes.
+        unsafe { crate::room(4).copy_from(b"'r#a".as_ptr(), 4) };
+        let kept = format!(r#"{{ "bytes":4,"lines":1,"kept":[0,{count},0]}}"#);
+        assert_eq!(answered(crate::change(4, false, edition)), kept);
+        let listed = answered(crate::listing(edition));
+        assert_eq!(listed.lines().count(), count);
+        let shown = answered(crate::show(0, 1, 0, edition));
+        assert!(shown.contains(&format!(r#""count":{count},"#)), "{shown}");
+        assert_eq!(answered(crate::parts_alike(edition)), "");
+    }
 }
 
 /// The line that is seen, its token at the caret, and one that is elsewhere.
@@ -274,4 +295,24 @@ fn what_is_seen() {
     assert!(seen.contains(r#""at":0,"elsewhere":[{ "number":0,"start":0,"bytes":1,"place":"1:1","text":"a","kind":"Ident""#), "{seen}");
     assert!(seen.contains(r#"{ "number":2,"start":2,"bytes":2,"place":"2:1","text":"bd","kind":"Ident","fields":"","value":"","fresh":true}"#), "{seen}");
     assert!(seen.ends_with(r#""place":"1:1"}"#), "{seen}");
+}
+
+/// A caret behind all tokens is at the last of them, and at none where there is none.
+#[test]
+fn a_caret_at_the_end() {
+    let seen = seen::show(&source("a+", false), 0, 1, 2, NEWEST);
+    let wanted = r#""at":1,"elsewhere":[],"place":"1:3"}"#;
+    assert!(seen.ends_with(wanted), "{seen}");
+    let empty = r#"{ "lines":[{ "runs":[],"said":[]}],"count":0,"begin":0,"tokens":[],"at":0,"elsewhere":[],"place":"1:1"}"#;
+    assert_eq!(seen::show(&source("", false), 0, 1, 0, NEWEST), empty);
+}
+
+/// What is wrong with a token of many lines is said beside that where it begins, also where another is seen alone.
+#[test]
+fn faults_over_lines() {
+    let source = source("\"a\nb", false);
+    let said: Vec<_> = lines(&source).iter().map(|line| line.said.len()).collect();
+    assert_eq!(said, [1, 0]);
+    assert_eq!(lines_of(&source, 3..4, 0..0, NEWEST)[0].said.len(), 0);
+    assert_eq!(seen::parts_alike(&source, NEWEST), "");
 }

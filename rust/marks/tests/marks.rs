@@ -81,6 +81,11 @@ fn so_many_tokens_are_written() {
         first(Style::NoColours, Edition::E2024, usize::MAX, "a+1"),
         "a+1"
     );
+    #[cfg(target_pointer_width = "64")]
+    assert_eq!(
+        first(Style::NoColours, Edition::E2024, 1 << 32, "a+1"),
+        "a+1"
+    );
 }
 
 #[test]

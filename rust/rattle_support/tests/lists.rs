@@ -63,7 +63,11 @@ fn texts() {
     // A width counts characters, as of each text in Rust.
     assert_eq!(std::format!("{held:>4}|{held:-<3}"), "  aé|aé-");
     assert_eq!(std::string::String::from(held), "aé");
-    assert_eq!(&*text("aé").into_bytes(), "aé".as_bytes());
+    let held = text("aé");
+    let held = given(0, || held.into_bytes());
+    assert_eq!(&*held, "aé".as_bytes());
+    let held = given(0, || String::from_utf8(held));
+    assert_eq!(held.unwrap().as_str(), "aé");
     let mut bytes = Vec::new(Global);
     bytes.extend_from_slice(b"a\xff").unwrap();
     assert_eq!(
@@ -115,8 +119,10 @@ fn lists() {
     held.as_mut_slice()[0] = 7;
     assert_eq!((held.pop(), held.as_slice()), (Some(2), &[7, 2][..]));
     held.push(2).unwrap();
+    held.push(7).unwrap();
     held.dedup();
-    assert_eq!(held.as_slice(), [7, 2]);
+    assert_eq!(held.as_slice(), [7, 2, 7], "in a row");
+    held.truncate(2);
     assert!((&held).into_iter().copied().eq([7, 2]) && held.clone().into_iter().eq([7, 2]));
     held.truncate(0);
     assert_eq!((held.pop(), held.len()), (None, 0));
@@ -189,8 +195,9 @@ fn room_that_was_made() {
 #[test]
 fn room_that_grows() {
     type Call = fn(&mut String, &mut Vec<u8>) -> Result<(), AllocError>;
-    let calls: [Call; 6] = [
+    let calls: [Call; 7] = [
         |text, _| text.push('a'),
+        |text, _| text.reserve(1).and_then(|()| text.push('a')),
         |text, _| text.push_str("a"),
         |text, _| text.replace_range(0..0, "a"),
         |_, list| list.push(1),

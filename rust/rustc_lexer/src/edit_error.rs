@@ -61,3 +61,17 @@ pub(crate) fn accepted(accepts: impl Fn(&str) -> bool, insert: &str) -> Result<(
         Err(EditError::Range)
     }
 }
+
+#[cfg(test)]
+mod tests {
+    use super::*;
+
+    /// A text that is full takes no text but the empty one, and its ranges are good all the same.
+    #[test]
+    fn a_text_that_is_full() {
+        let takes_nothing = |insert: &str| insert.is_empty();
+        assert_eq!(accepted(takes_nothing, ""), Ok(()));
+        assert_eq!(accepted(takes_nothing, "a"), Err(EditError::TooLong));
+        assert_eq!(accepted(|_| false, "a"), Err(EditError::Range));
+    }
+}

@@ -286,6 +286,8 @@ fn classes() {
         ("fn", true),
         ("", false),
         ("1a", false),
+        ("\u{b7}a", false),
+        ("a\u{b7}", true),
         ("a😀", false),
         ("a b", false),
     ] {

@@ -238,6 +238,7 @@ fn what_is_not_accepted() {
 }
 
 /// A grammar whose tokens are single characters, and its steps.
+#[derive(Clone)]
 struct Characters(usize);
 
 impl Stepper for Characters {
@@ -332,6 +333,9 @@ fn calls_with_a_stepper() {
             assert_eq!(counts, (3, 1));
             assert!(lexed.stepper().0 >= 5);
             assert!(format!("{lexed:?}").starts_with(stringify!($lexed)));
+            let second = lexed.clone();
+            lexed.edit(0..1, "");
+            assert_eq!((second.text(), second.tokens().len()), ("bcé", 3));
         };
     }
     calls!(LexedText);
