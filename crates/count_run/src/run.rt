@@ -137,10 +137,14 @@ impl Outcome {
             ≡ self.old.report.files.items ++ spec.counted (source path counted)) }
         ensures faults { OnOk result
             (self.new.faults.items ≡ self.old.faults.items ++ passed_over (source path counted)) }
+
+        // The total grows by the numbers of a source that was counted.
         ensures total { OnOk result
             (IfOk counted (λ counts. self.new.report.total ≡ sums self.old.report.total counts)) }
         ensures kept { OnOk result
             (IfErr counted (λ _. self.new.report.total ≡ self.old.report.total)) }
+
+        // Where memory is refused, nothing changed.
         ensures same_files { OnErr result
             (self.new.report.files.items ≡ self.old.report.files.items) }
         ensures same_total { OnErr result (self.new.report.total ≡ self.old.report.total) }
@@ -166,10 +170,14 @@ pub fn put_report<W: Write>(
 ) -> Result<(), Stop>
     requires writes { output.old.faulty ≡ false }
     requires open { output.old.closed ≡ false }
+
+    // What it returns, and why.
     ensures write { IsErrOf result Stop.Write ↔ IsTrue output.new.faulty }
     ensures closed { IsErrOf result Stop.ClosedPipe ↔ IsTrue output.new.closed }
     ensures all { OnOk result (outcome.now.faults.items ≡ []) }
     ensures skipped { IsErrOf result Stop.Skipped → outcome.now.faults.items ≢ [] }
+
+    // What was written.
     ensures flushed { IsDone result → output.new.flushed ≡ true }
     ensures prints { Prints (printed layout outcome.now.report) (W.contents output.old.inner)
         (W.contents output.new.inner) result }

@@ -16,7 +16,7 @@ use Rattle.erase_run.specs.declared.stand.Stand.{Stand}
 use Rattle.erase_run.specs.declared.stand.Touch.{Touch}
 use Rattle.erase_run.specs.Blanks.{is_blank, is_space}
 use Rattle.erase_run.specs.Gone.{delete}
-use Rattle.erase_run.specs.Kept.{keep, replace, replaced_text, suits}
+use Rattle.erase_run.specs.Kept.{keep, replace, replaced_text, suits, then_behind}
 use Rattle.erase_run.specs.Labels.{may_have}
 pub use Rattle.erase_run.specs.Kept.{is_free}
 
@@ -103,6 +103,13 @@ is_within Behind.Alloc = true
 is_within Behind.Simd = true
 is_within behind = false
 
+-- what is behind a comment that is deleted: between two clauses it goes with them, so another clause comes; none where
+-- it may not be deleted
+abbrev pub delete_comment : Behind → Option Behind
+delete_comment Behind.Clause = Some Behind.Comment
+delete_comment Behind.Comment = Some Behind.Comment
+delete_comment behind = then_behind (is_within behind) behind
+
 abbrev pub lead_in : Inside → Target → Stand → TokenKind → List ℕ → Option Behind
 lead_in Inside.Front target stand kind text = if is_blank kind then Some stand.behind else keep target stand kind text
 lead_in inside target stand kind text = None
@@ -117,8 +124,7 @@ next_behind target stand Keep kind text = if is_blank kind then Some stand.behin
 next_behind target stand Lead kind text = lead target stand kind text
 next_behind target stand (Replace word) kind text = if bytes_eq text (replaced_text word) && suits target word then replace stand word else None
 next_behind target stand (Delete rule) kind text =
-    if is_space kind || (is_blank kind && is_within stand.behind) then Some stand.behind
-    else (if is_blank kind then None else delete rule stand kind text)
+    if is_space kind then Some stand.behind else (if is_blank kind then delete_comment stand.behind else delete rule stand kind text)
 
 abbrev pub stand_of : Option Touch → Option Behind → Inside → Option Stand
 stand_of (Some touch) (Some behind) inside = Some (record { inside = inside; behind = behind; touch = touch })
@@ -148,8 +154,8 @@ misfit_in source target place stand text (token ∷ tokens) (fate ∷ fates) =
     (λ (next : Stand). misfit_in source target (place + token.len) next (drop token.len text) tokens fates)
 misfit_in source target place stand text tokens fates = Some place
 
--- where the first token of a source begins that may not have its fate, or its end, where fates are left over or what was
--- begun has not ended
+-- where the first token of a source begins that has no fate, or may not have its fate; or its end, where fates are left
+-- over or what was begun has not ended
 abbrev pub misfit : List ℕ → Target → List Fate → Option ℕ
 misfit source target fates = misfit_in source target 0 start source (tokens_of (as_part E2024) source) fates
 

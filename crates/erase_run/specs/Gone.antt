@@ -114,9 +114,15 @@ abbrev pub lead_on : Rule → Part → Option Next → Option Behind
 lead_on rule part (Some next) = Some (lead_to rule part next)
 lead_on rule part None = None
 
+-- rules that delete a clause
+abbrev pub is_clause : Rule → Bool
+is_clause Rule.Requires = true
+is_clause Rule.Ensures = true
+is_clause rule = false
+
 -- what stands behind the brackets of a stretch
 abbrev pub past_group : Rule → Part → Behind
-past_group rule Part.End = Behind.Any
+past_group rule Part.End = if is_clause rule then Behind.Clause else Behind.Any
 past_group rule part = Behind.Open rule part
 
 -- what a bracket that closes leads to
@@ -136,6 +142,7 @@ delete_behind (Behind.Group of part brackets) rule stand kind text = within of p
 delete_behind Behind.Alloc rule stand kind text = lead_on Rule.Path Part.Alloc (go Rule.Path Part.Alloc kind text)
 delete_behind Behind.Simd rule stand kind text = lead_on Rule.Path Part.Simd (go Rule.Path Part.Simd kind text)
 delete_behind Behind.Item rule stand kind text = if has_front rule then begin rule stand kind text else None
+delete_behind Behind.Comment rule stand kind text = if is_clause rule then begin rule stand kind text else None
 delete_behind behind rule stand kind text = if is_free behind then begin rule stand kind text else None
 
 abbrev pub delete : Rule → Stand → TokenKind → List ℕ → Option Behind

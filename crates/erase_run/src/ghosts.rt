@@ -46,7 +46,8 @@ fn past_part(alloc: Global, source: &Source<'_>, n: usize) -> Result<usize, Stop
     }
 }
 
-/// `requires name {..}` or `ensures name {..}`, with a star or without, with a name or without.
+/// `requires name {..}` or `ensures name {..}`, with a star or without, with a name or without. What stands between it
+/// and another one goes too.
 pub fn clause(alloc: Global, source: &mut Source<'_>, n: usize) -> Result<usize, Stop> {
     let mut open = past(n, 1);
     if source.word(open) == "*" {
@@ -64,6 +65,9 @@ pub fn clause(alloc: Global, source: &mut Source<'_>, n: usize) -> Result<usize,
     } else {
         Rule::Ensures
     };
+    if source.word(end) == "requires" || source.word(end) == "ensures" {
+        source.delete_before(rule, end);
+    }
     cut(source, rule, n, end)
 }
 

@@ -32,6 +32,13 @@ pub fn delete(rule: Rule, stand: Stand, piece: Piece<'_>) -> Option<Behind>
                 None
             }
         }
+        Behind::Comment => {
+            if is_clause(rule) {
+                begin(rule, stand, piece)
+            } else {
+                None
+            }
+        }
         _ => {
             if is_free(stand.behind) {
                 begin(rule, stand, piece)
@@ -49,6 +56,16 @@ fn has_front(rule: Rule) -> bool
     match rule {
         Rule::Doc | Rule::Attribute | Rule::Field | Rule::Member | Rule::Tests | Rule::ModelImpl =>
             true,
+        _ => false,
+    }
+}
+
+/// Whether the rule deletes a clause.
+fn is_clause(rule: Rule) -> bool
+    ensures { result ≡ spec.is_clause rule }
+{
+    match rule {
+        Rule::Requires | Rule::Ensures => true,
         _ => false,
     }
 }
@@ -121,7 +138,13 @@ fn past_group(rule: Rule, part: Part) -> Behind
     ensures { result ≡ spec.past_group rule part }
 {
     match part {
-        Part::End => Behind::Any,
+        Part::End => {
+            if is_clause(rule) {
+                Behind::Clause
+            } else {
+                Behind::Any
+            }
+        }
         _ => Behind::Open { rule, part },
     }
 }

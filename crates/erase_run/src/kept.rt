@@ -42,7 +42,7 @@ fn keep_behind(target: Target, behind: Behind, text: &str) -> Option<Behind>
         Behind::NameColon(word) => then(text == ":", path_of(word)),
         Behind::Core => then(is_core(text), Behind::Any),
         Behind::RootColon => then(text != ":", after(target, Behind::Any, text)),
-        Behind::Alloc | Behind::Simd | Behind::Item => None,
+        Behind::Alloc | Behind::Simd | Behind::Item | Behind::Comment => None,
         Behind::Open { .. } | Behind::Group { .. } => None,
         Behind::Colon
         | Behind::Path
@@ -55,7 +55,8 @@ fn keep_behind(target: Target, behind: Behind, text: &str) -> Option<Behind>
         | Behind::Bracket
         | Behind::Derive
         | Behind::Any
-        | Behind::Root => Some(after(target, behind, text)),
+        | Behind::Root
+        | Behind::Clause => Some(after(target, behind, text)),
     }
 }
 
@@ -158,6 +159,7 @@ pub fn is_free(behind: Behind) -> bool
         | Behind::Alloc
         | Behind::Simd
         | Behind::Item
+        | Behind::Comment
         | Behind::Open { .. }
         | Behind::Group { .. } => false,
         _ => true,

@@ -11,8 +11,8 @@ use std::fmt;
 pub enum Misfit {
     /// A request for memory was refused.
     Memory,
-    /// The token that begins on this line may not have its fate, and all tokens before it may. At the end of the text
-    /// fates are left over, or what was begun has not ended. Lines are counted from 1.
+    /// The token that begins on this line has no fate, or may not have its fate, and all tokens before it may. At the end
+    /// of the text fates are left over, or what was begun has not ended. Lines are counted from 1.
     Fate { line: usize },
     /// A line is one of another target.
     Lines,

@@ -210,6 +210,14 @@ impl<'a> Source<'a> {
         );
     }
 
+    /// Deletes what stands between word `n` and the one before it.
+    pub fn delete_before(&mut self, rule: Rule, n: usize) {
+        if let Some(last) = n.checked_sub(1) {
+            let from = past(self.place(last), 1);
+            self.set_all(from, self.place(n), Fate::Delete(rule));
+        }
+    }
+
     /// Deletes each of the words from `from` up to `to`, and keeps what stands between them.
     pub fn delete_each(&mut self, rule: Rule, from: usize, to: usize) -> Result<(), AllocError> {
         self.used.push(rule)?;

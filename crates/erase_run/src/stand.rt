@@ -52,6 +52,9 @@ pub enum Behind {
     Simd,
     /// A document or an attribute that is deleted, which takes an item that is.
     Item,
+    /// A clause that is deleted, and the same with a comment that is, which takes another clause.
+    Clause,
+    Comment,
     /// Words that are deleted.
     Open {
         rule: Rule,

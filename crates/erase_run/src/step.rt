@@ -5,7 +5,7 @@ ghost use Rattle.erase_run.specs.Fates as spec;
 
 use crate::fate::Fate;
 use crate::gone::delete;
-use crate::kept::{keep, replace, replaced_text, suits};
+use crate::kept::{keep, replace, replaced_text, suits, then};
 use crate::labels::may_have;
 use crate::source::{Piece, Target, is_blank};
 use crate::stand::{Behind, Inside, Stand, Touch};
@@ -62,14 +62,24 @@ fn next_behind(target: Target, stand: Stand, fate: Fate, piece: Piece<'_>) -> Op
             None
         }
         Fate::Delete(rule) => {
-            if piece.is_space() || is_blank(piece.kind) && is_within(stand.behind) {
+            if piece.is_space() {
                 return Some(stand.behind);
             }
             if is_blank(piece.kind) {
-                return None;
+                return delete_comment(stand.behind);
             }
             delete(rule, stand, piece)
         }
+    }
+}
+
+/// What is behind a comment that is deleted: between two clauses it goes with them, so another clause comes.
+fn delete_comment(behind: Behind) -> Option<Behind>
+    ensures { result ≡ spec.delete_comment behind }
+{
+    match behind {
+        Behind::Clause | Behind::Comment => Some(Behind::Comment),
+        _ => then(is_within(behind), behind),
     }
 }
 

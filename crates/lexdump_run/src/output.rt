@@ -137,10 +137,14 @@ impl Block {
         ensures failed { output.new.failed ≡ is_err result }
         ensures flushed { IfOk result (λ _. output.new.flushed ≡ true) }
         ensures only { IfErr result (λ fault. fault ≡ Fault.Write) }
+
+        // What was written: all of the block, or where it fails a beginning of it.
         ensures ok { OnOk result
             (Appends (W.contents output.old.inner) (W.contents output.new.inner) self.old) }
         ensures err { OnErr result
             (AppendsFront (W.contents output.old.inner) (W.contents output.new.inner) self.old) }
+
+        // The block is empty afterwards, or where it fails as it was.
         ensures empty { OnOk result (self.new ≡ []) }
         ensures kept { OnErr result (self.new ≡ self.old) }
     {

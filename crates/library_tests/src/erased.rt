@@ -41,8 +41,11 @@ static MADE: &[(&str, &str)] = rows! {
         "fn f(place: &mut usize) {\n    place += bytes;\n    place = place + bytes;\n}\n";
     "fn f<T: A + B, U: C + Drop + D>(a: T) where U: Drop {}" => "fn f<T: A + B, U: C   + D>(a: T) where U  {}";
     "fn f() {\n    // a\n    b(); // c\n    d();\n}\n" => "fn f() {\n    // a\n    b(); // c\n    d();\n}\n";
-    "fn f() // a\n    requires { b } // c\n    // d\n    ensures { e }\n{\n    g();\n}\n" =>
-        "fn f() // a\n     // c\n    // d\n{\n    g();\n}\n";
+    "fn f() // a\n    requires { b } // c\n    // d\n    ensures { e }\n{\n    g();\n}\n" => "fn f() // a\n{\n    g();\n}\n";
+    "fn f()\n    // a\n    requires { b }\n\n    // c\n    /* d */\n    ensures { e }\n    // g\n{\n    // h\n}\n" =>
+        "fn f()\n    // a\n    // g\n{\n    // h\n}\n";
+    "trait T {\n    fn f()\n        ensures { a }\n        // b\n        ensures { c };\n    // d\n    fn g();\n}\n" =>
+        "trait T {\n    fn f()\n        ;\n    // d\n    fn g();\n}\n";
     "impl T {\n    // a\n    ghost m = { 1 };\n    // b\n    fn f() {}\n}\n" => "impl T {\n    // a\n    // b\n    fn f() {}\n}\n";
     "// a\nghost use B.{c};\n// d\nuse crate::e;\n// f\nghost use G.{h};\nmod i;\n" =>
         "// a\n// d\nuse crate::erased::e;\n// f\nmod i;\n";
@@ -129,6 +132,8 @@ static USED: &[(&str, (Rule, usize))] = rows! {
 static MISFITS: &[(&str, (usize, Fate, Misfit))] = rows! {
     "fn f() {}\nfn g() {}\n" => (9, Fate::Delete(Rule::Use), Misfit::Fate { line: 2 });
     "fn f()\n    ensures { a }\n" => (6, Fate::Keep, Misfit::Fate { line: 2 });
+    "fn f()\n    // a\n    ensures { b }\n{}\n" => (6, Fate::Delete(Rule::Ensures), Misfit::Fate { line: 2 });
+    "fn f()\n    ensures { a }\n    // b\n{}\n" => (14, Fate::Delete(Rule::Ensures), Misfit::Fate { line: 4 });
     "fn f() { ( }" => (0, Fate::Keep, Misfit::Brackets);
     "// a\nfn f() {}" => (1, Fate::Delete(Rule::Blank), Misfit::Words);
 };

@@ -64,8 +64,12 @@ impl Found {
         ensures folders { OnOk result (TakesFolder told path.now folders.old.items folders.new.items) }
         ensures faults { OnOk result
             (TakesRefusal told path.now self.old.faults.items self.new.faults.items) }
+
+        // A lack of memory is an error, and what adds nothing never fails.
         ensures memory { OnOk result (IsNoLackOfMemory told) }
         ensures asks { OnErr result (told ≢ Ok Choice.Neither) }
+
+        // Where memory is refused, nothing changed.
         ensures same_files { OnErr result (self.new.files.items ≡ self.old.files.items) }
         ensures same_folders { OnErr result (folders.new.items ≡ folders.old.items) }
         ensures same_faults { OnErr result (self.new.faults.items ≡ self.old.faults.items) }

@@ -32,6 +32,8 @@ impl Head {
         requires new_stop { edit.new_stop < 2 ^ 32 }
         requires from { self.end < 2 ^ 32 }
         requires to { now.end < 2 ^ 32 }
+
+        // Whether the head stays, and what then changes in the body.
         ensures keeps { IsTrue result.keeps_head ↔ (self ≡ now) × (self.end ≤ edit.start) }
         ensures change { result.change ≡ spec.body_change result.keeps_head self.end now.end edit }
         ensures body { (first : List ℕ → Token) (before insert text : List ℕ)

@@ -73,8 +73,12 @@ pub(crate) fn relex<S: Stepper>(
 ) -> Result<(Vec<Token>, Relexing), AllocError>
     requires fits { Fits text.now }
     requires change { IsChange text.now change }
+
+    // The stepper keeps its grammar.
     ensures grammar { S.grammar stepper.new ≡ S.grammar stepper.old }
     ensures number { S.number stepper.new ≡ S.number stepper.old }
+
+    // Which tokens come in between, and where they meet the old ones.
     ensures lexed { IfOk result
         (λ r. (before insert : List ℕ)
         → IsMadeOf (S.grammar stepper.old) before (map (λ (t : Token). t.len) old.now)
@@ -82,6 +86,8 @@ pub(crate) fn relex<S: Stepper>(
         → IsBound (tokens_by (S.grammar stepper.old) before) near
         → IsLexed (S.grammar stepper.old) before change text.now r.0.items r.1) }
     ensures may_go_on { IfOk result (λ r. MayGoOn text.now (length old.now) r.1) }
+
+    // How many steps were taken, also where it fails.
     ensures count { IfOk result
         (λ r. S.count stepper.new ≡ S.count stepper.old + length r.0.items) }
     ensures rose { S.count stepper.old ≤ S.count stepper.new }
@@ -121,15 +127,23 @@ fn relex_far<S: Stepper>(
     requires fits { Fits text.now }
     requires change { IsChange text.now change }
     requires may_go_on { MayGoOn text.now (length old.now) at.old }
+
+    // The stepper keeps its grammar.
     ensures grammar { S.grammar stepper.new ≡ S.grammar stepper.old }
     ensures number { S.number stepper.new ≡ S.number stepper.old }
+
+    // How far it came.
     ensures may_go_on { MayGoOn text.now (length old.now) at.new }
     ensures ahead { at.old.at ≤ at.new.at }
     ensures front { at.new.front ≡ at.old.front }
+
+    // How many tokens were lexed, and how many were added.
     ensures count { S.count stepper.new + at.old.lexed ≡ S.count stepper.old + at.new.lexed }
     ensures rose { S.count stepper.old ≤ S.count stepper.new }
     ensures lexed { OnOk result
         (length tokens.new.items + at.old.lexed ≡ length tokens.old.items + at.new.lexed) }
+
+    // If the old tokens are those of an old text, the added ones are the next tokens of the present one.
     ensures stands { (before insert : List ℕ)
         → IsMadeOf (S.grammar stepper.old) before (map (λ (t : Token). t.len) old.now)
         change insert text.now

@@ -44,11 +44,15 @@ impl<S: Stepper> LexedText<S> {
         ensures text { OnOk result (self.new.text ≡ apply_list self.old.text edits.now) }
         ensures from_scratch { self.new.tokens
             ≡ tokens_by (S.grammar self.old.stepper) self.new.text }
+
+        // The stepper keeps its grammar, and counts the steps of all edits.
         ensures grammar { S.grammar self.new.stepper ≡ S.grammar self.old.stepper }
         ensures number { S.number self.new.stepper ≡ S.number self.old.stepper }
         ensures count { OnOk result
             (AreStepped (IsStepped (S.grammar self.old.stepper)) self.old.text edits.now
             (S.count self.old.stepper) (S.count self.new.stepper)) }
+
+        // Where an edit is refused, the edits before it were made.
         ensures stop { IfErr result (λ e. IsStop e self.new.text edits.now) }
         ensures stop_accepted { IfErr result
             (λ e. AreEdits self.old.text (take (stop_at e) edits.now)) }

@@ -46,12 +46,16 @@ impl<S: Stepper> Kept<S> {
         stepper: S,
     ) -> Result<Kept<S>, AllocError>
         requires fits { Fits text.now }
+
+        // The head, and all tokens of the text.
         ensures head { IfOk result (λ k. k.head ≡ means.head_by whole text.now) }
         ensures head_boundary { IfOk result (λ k. IsCharBoundary text.now k.head.end) }
         ensures from_scratch { IfOk result
             (λ k. k.tokens.items ≡ means.document_by (means.head_by whole) (S.grammar k.stepper) text.now) }
         ensures checkpoints { IfOk result
             (λ k. AreBounds (drop (length (means.tokens_of_head k.head)) k.tokens.items) k.checkpoints) }
+
+        // The stepper lexed each token but those of the head, and keeps its grammar.
         ensures count { IfOk result
             (λ k. S.count k.stepper + length (means.tokens_of_head k.head)
             ≡ S.count stepper + length k.tokens.items) }
@@ -86,11 +90,15 @@ impl<S: Stepper> Kept<S> {
         requires fits { Fits body.now }
         requires change { IsChange body.now change }
         requires count { old_count ≤ length self.old.tokens.items }
+
+        // What stays as it was; where it fails, the tokens too.
         ensures grammar { S.grammar self.new.stepper ≡ S.grammar self.old.stepper }
         ensures number { S.number self.new.stepper ≡ S.number self.old.stepper }
         ensures head { self.new.head ≡ self.old.head }
         ensures checkpoints { self.new.checkpoints ≡ self.old.checkpoints }
         ensures same { OnErr result (self.new.tokens.items ≡ self.old.tokens.items) }
+
+        // What the tokens are afterwards, and where lexing met the old ones.
         ensures renewed { IfOk result
             (λ at. (before insert : List ℕ)
             → IsMadeOf (S.grammar self.old.stepper) before
@@ -101,6 +109,8 @@ impl<S: Stepper> Kept<S> {
             × (S.count self.new.stepper ≡ S.count self.old.stepper + at.lexed)) }
         ensures may_go_on { IfOk result
             (λ at. MayGoOn body.now (length (drop old_count self.old.tokens.items)) at) }
+
+        // How many steps were taken where it fails.
         ensures rose { S.count self.old.stepper ≤ S.count self.new.stepper }
         ensures few { IfErr result
             (λ _. (before insert : List ℕ)
@@ -129,8 +139,12 @@ impl<S: Stepper> Kept<S> {
             self.old.tokens.items self.old.head self.old.checkpoints }
         requires insert { IsUtf8 edit.insert.now }
         requires edit { IsEdit (string_bytes text.old) edit.start edit.stop edit.insert.now }
+
+        // The stepper keeps its grammar.
         ensures grammar { S.grammar self.new.stepper ≡ S.grammar self.old.stepper }
         ensures number { S.number self.new.stepper ≡ S.number self.old.stepper }
+
+        // What the text is afterwards, and what is kept of it. Where it fails, text and tokens are as before.
         ensures text { OnOk result
             (string_bytes text.new
             ≡ apply (string_bytes text.old) edit.entry.start edit.entry.stop edit.entry.insert.now) }
@@ -138,6 +152,8 @@ impl<S: Stepper> Kept<S> {
         ensures kept { means.AreKeptOf whole (S.grammar self.new.stepper) (string_bytes text.new)
             self.new.tokens.items self.new.head self.new.checkpoints }
         ensures same_tokens { OnErr result (self.new.tokens.items ≡ self.old.tokens.items) }
+
+        // Which tokens stay, and how many were lexed.
         ensures relexed { IfOk result
             (means.IsRelexedByHead (means.head_by whole) (S.grammar self.old.stepper) (string_bytes text.old)
             edit.entry.start edit.entry.stop edit.entry.insert.now) }
@@ -148,6 +164,8 @@ impl<S: Stepper> Kept<S> {
         ensures back { IfOk result
             (λ r. drop (r.kept_front + r.lexed) self.new.tokens.items
             ≡ drop (length self.old.tokens.items - r.kept_back) self.old.tokens.items) }
+
+        // How many steps were taken, also where it fails.
         ensures count { IfOk result
             (λ r. means.IsCountedByHead (means.head_by whole) (string_bytes text.old)
             edit.entry.start edit.entry.stop edit.entry.insert.now

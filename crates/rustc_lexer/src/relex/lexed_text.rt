@@ -115,9 +115,13 @@ impl<S: Stepper> LexedText<S> {
     /// means that memory was refused, and then text and tokens are as before.
     pub fn edit(&mut self, start: usize, stop: usize, insert: &str) -> Result<Relexed, AllocError>
         requires accepted { IsEdit self.old.text start stop insert.now }
+
+        // What text and tokens are afterwards.
         ensures text { OnOk result (self.new.text ≡ apply self.old.text start stop insert.now) }
         ensures from_scratch { self.new.tokens
             ≡ tokens_by (S.grammar self.old.stepper) self.new.text }
+
+        // Which tokens stay, and how many were lexed.
         ensures relexed { IfOk result
             (IsRelexed (S.grammar self.old.stepper) self.old.text start stop insert.now) }
         ensures all { IfOk result
@@ -127,11 +131,15 @@ impl<S: Stepper> LexedText<S> {
         ensures back { IfOk result
             (λ r. drop (r.kept_front + r.lexed) self.new.tokens
             ≡ drop (length self.old.tokens - r.kept_back) self.old.tokens) }
+
+        // How many steps the stepper took. It keeps its grammar.
         ensures count { IfOk result
             (λ r. S.count self.new.stepper ≡ S.count self.old.stepper + r.lexed) }
         ensures grammar { S.grammar self.new.stepper ≡ S.grammar self.old.stepper }
         ensures number { S.number self.new.stepper ≡ S.number self.old.stepper }
         ensures rose { S.count self.old.stepper ≤ S.count self.new.stepper }
+
+        // Where it fails, nothing changed, and few steps were taken.
         ensures same_text { OnErr result (self.new.text ≡ self.old.text) }
         ensures same_tokens { OnErr result (self.new.tokens ≡ self.old.tokens) }
         ensures few { OnErr result

@@ -151,9 +151,13 @@ impl Relexing {
         requires fits { Fits text.now }
         requires change { IsChange text.now change }
         requires may_go_on { MayGoOn text.now (length old.now) self.old }
+
+        // It may go on, by the same grammar.
         ensures may_go_on { MayGoOn text.now (length old.now) self.new }
         ensures grammar { S.grammar stepper.new ≡ S.grammar stepper.old }
         ensures number { S.number stepper.new ≡ S.number stepper.old }
+
+        // Which token was lexed; none only if lexing is over.
         ensures step { MatchOption result
             ((self.new ≡ self.old) × (S.count stepper.new ≡ S.count stepper.old)
             × (is_over text.now self.old ≡ true))
@@ -161,6 +165,8 @@ impl Relexing {
             × TakesSteps (S.grammar stepper.old) text.now change.new_stop self.old 1 self.new
             × (S.count stepper.new ≡ S.count stepper.old + 1)
             × (is_over text.now self.old ≡ false)) }
+
+        // If the old tokens are those of an old text, it is the next token of the present one.
         ensures stands { (before insert : List ℕ)
             → IsMadeOf (S.grammar stepper.old) before (map T.bytes old.now) change insert text.now
             → IsUnderWay (S.grammar stepper.old) before change text.now self.old
@@ -201,9 +207,13 @@ impl Relexing {
         requires fits { Fits text.now }
         requires change { IsChange text.now change }
         requires may_go_on { MayGoOn text.now (length old.now) self.old }
+
+        // It may go on, by the same grammar.
         ensures may_go_on { MayGoOn text.now (length old.now) self.new }
         ensures grammar { S.grammar stepper.new ≡ S.grammar stepper.old }
         ensures number { S.number stepper.new ≡ S.number stepper.old }
+
+        // How many tokens were lexed, and which ones the buffer has.
         ensures count { S.count stepper.new ≡ S.count stepper.old + result }
         ensures steps { TakesSteps (S.grammar stepper.old) text.now change.new_stop
             self.old result self.new }
@@ -211,8 +221,12 @@ impl Relexing {
             ≡ map R.written (take result (tokens_by (S.grammar stepper.old) (drop self.old.at text.now)))
             ++ drop result buffer.old }
         ensures buffer { result ≤ length buffer.old }
+
+        // It stops before the buffer is full only if lexing is over.
         ensures begins { 0 < result → is_over text.now self.old ≡ false }
         ensures over { result < length buffer.old → is_over text.now self.new ≡ true }
+
+        // If the old tokens are those of an old text, these are the next tokens of the present one.
         ensures stands { GoesOn (S.grammar stepper.old) (map T.bytes old.now) text.now change
             self.old self.new }
     {
@@ -265,12 +279,18 @@ impl Relexing {
         requires fits { Fits text.now }
         requires change { IsChange text.now change }
         requires may_go_on { MayGoOn text.now (length old.now) self.old }
+
+        // There is something to lex, and room for it.
         requires far { IsApart text.now change self.old far }
         requires some { 0 < far }
         requires places { 0 < length buffer.old }
+
+        // It may go on, by the same grammar.
         ensures may_go_on { MayGoOn text.now (length old.now) self.new }
         ensures grammar { S.grammar stepper.new ≡ S.grammar stepper.old }
         ensures number { S.number stepper.new ≡ S.number stepper.old }
+
+        // How many tokens were lexed, and which ones the buffer has.
         ensures count { S.count stepper.new ≡ S.count stepper.old + result }
         ensures progress { self.old.at < self.new.at }
         ensures buffer { (result ≤ length buffer.old) × (length buffer.new ≡ length buffer.old) }
@@ -279,6 +299,8 @@ impl Relexing {
         ensures tokens { buffer.new
             ≡ map R.written (take result (tokens_by (S.grammar stepper.old) (drop self.old.at text.now)))
             ++ drop result buffer.old }
+
+        // If the old tokens are those of an old text, these are the next tokens of the present one.
         ensures stands { GoesOn (S.grammar stepper.old) (map T.bytes old.now) text.now change
             self.old self.new }
     {
