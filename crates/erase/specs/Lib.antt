@@ -1,3 +1,4 @@
 pub mod Fault
 pub mod Job
 pub mod Outcome
+pub mod Told

@@ -2,9 +2,11 @@
 #![tactic(auto)]
 
 mod job;
+mod proposer;
 mod run;
 
 use job::read_job;
+use proposer::Rules;
 use run::{Fault, run};
 use std::env;
 use std::process::ExitCode;
@@ -31,5 +33,5 @@ fn start(rt: &HostRuntime) -> Result<(), Fault> {
     };
     let mut input = ends::Watched::new(rt.stdin());
     let mut output = ends::Watched::new(rt.stdout());
-    run(rt.alloc(), job, &mut input, &mut output)
+    run::<Rules, _, _>(rt.alloc(), job, &mut input, &mut output)
 }

@@ -1,15 +1,17 @@
 //! A whole run: from the bytes of a reader to those of a writer.
-ghost use Rattle.std.specs.Prelude.{◌≡◌, ◌≢◌, ◌↔◌, false, true, IfErr, IfOk, IfSome, IsErrOf, IsTrue, OnErr, OnOk, string_bytes};
+ghost use Rattle.std.specs.Prelude.{◌≡◌, ◌≢◌, ◌↔◌, ◌++◌, false, true, IfErr, IfOk, IfSome, IsErrOf, IsTrue, OnErr, OnOk, string_bytes};
 ghost use Rattle.std.specs.Io.KnownBytes.{Appends, Keeps};
 ghost use Rattle.rustc_lexer.specs.Classes.{Fits};
 ghost use Rattle.ends.specs.Known.{AppendsFront};
 ghost use Rattle.erase.specs.Fault.{fault_text, misfit_fault, read_fault, status_of, stop_fault};
-ghost use Rattle.erase.specs.Outcome.{Ends, IsPrinted, IsRefusal};
+ghost use Rattle.erase.specs.Outcome.{Ends, IsPrinted, IsPrintedBy, IsRefusal, IsUnfitFault};
+ghost use Rattle.erase.specs.Told.{counted, rule_line, rule_lines, uses};
 ghost use Rattle.erase.specs.declared.run.Fault.TheVariants.{Memory};
 
 use crate::job::Job;
+use crate::proposer::Proposer;
 use ends::{ReadStop, Watched, read_all, write_all};
-use erase_run::{Misfit, Reason, Rule, Stop, erase, propose};
+use erase_run::{Misfit, Proposal, Reason, Rule, Stop, erase};
 use std::alloc::{AllocError, Global};
 use std::fmt;
 use std::io::{Read, Write};
@@ -117,7 +119,7 @@ impl From<ReadStop> for Fault {
 ///
 /// Nothing is written before all of it is made: unless the output failed it is as it was.
 /// At `Ok` the last thing asked of the output was a flush, and it was not refused.
-pub fn run<R: Read, W: Write>(
+pub fn run<P: Proposer, R: Read, W: Write>(
     alloc: Global,
     job: Job,
     input: &mut Watched<R>,
@@ -132,25 +134,35 @@ pub fn run<R: Read, W: Write>(
         (λ fault. fault ≢ Fault.Write
         → Keeps (W.contents output.old.inner) (W.contents output.new.inner)) }
     ensures ends { IfSome (R.remaining input.old.inner) (λ bytes.
-        Ends job bytes (W.contents output.old.inner) (W.contents output.new.inner) result) }
+        Ends P.makes job bytes (W.contents output.old.inner) (W.contents output.new.inner) result) }
 {
     let bytes = read_all(alloc, input)?;
     let text = match std::str::from_utf8(bytes.as_slice()) {
         Ok(text) => text,
         Err(_) => return Err(Fault::NotUtf8),
     };
-    let made = print(alloc, job, text)?;
+    let made = print::<P>(alloc, job, text)?;
     put(output, made.as_str().as_bytes())
 }
 
 /// What is printed of a source.
-fn print(alloc: Global, job: Job, text: &str) -> Result<String, Fault>
+fn print<P: Proposer>(alloc: Global, job: Job, text: &str) -> Result<String, Fault>
     requires fits { Fits text.now }
-    ensures printed { IfOk result (λ made. IsPrinted job.tells_rules job.target text.now (string_bytes made)) }
-    ensures refused { IfErr result (IsRefusal job.target text.now) }
+    ensures printed { IfOk result (λ made. IsPrinted P.makes job text.now (string_bytes made)) }
+    ensures refused { IfErr result (IsRefusal P.makes job.target text.now) }
 {
-    let proposal = propose(alloc, text, job.target)?;
-    let made = erase(alloc, text, job.target, &proposal)?;
+    let proposal = P::propose(alloc, text, job.target)?;
+    print_by(alloc, job, text, &proposal)
+}
+
+/// What is printed of a source by a proposal.
+fn print_by(alloc: Global, job: Job, text: &str, proposal: &Proposal) -> Result<String, Fault>
+    requires fits { Fits text.now }
+    ensures printed { IfOk result
+        (λ made. IsPrintedBy job.tells_rules job.target text.now proposal.now (string_bytes made)) }
+    ensures unfit { IfErr result (IsUnfitFault job.target text.now proposal.now) }
+{
+    let made = erase(alloc, text, job.target, proposal)?;
     if job.tells_rules {
         return Ok(tell_rules(alloc, proposal.used.as_slice())?);
     }
@@ -158,15 +170,46 @@ fn print(alloc: Global, job: Job, text: &str) -> Result<String, Fault>
 }
 
 /// How often each rule was used, a rule a line.
-fn tell_rules(alloc: Global, used: &[Rule]) -> Result<String, AllocError> {
+fn tell_rules(alloc: Global, used: &[Rule]) -> Result<String, AllocError>
+    ensures { IfOk result (λ told. string_bytes told ≡ rule_lines used.now counted) }
+{
     let mut told = String::new(alloc);
-    for rule in &Rule::COUNTED {
-        let count = used.iter().filter(|used| **used == *rule).count();
-        let name = rule.text();
-        let line = format!(in alloc; "{count:>6}  {name}\n")?;
-        told.push_str(line.as_str())?;
-    }
+    push_lines(alloc, &Rule::COUNTED, used, &mut told)?;
     Ok(told)
+}
+
+/// Appends how often each of these rules was used.
+fn push_lines(
+    alloc: Global,
+    rules: &[Rule],
+    used: &[Rule],
+    told: &mut String,
+) -> Result<(), AllocError>
+    ensures { OnOk result
+        (string_bytes told.new ≡ string_bytes told.old ++ rule_lines used.now rules.now) }
+{
+    for rule in rules {
+        push_line(alloc, *rule, used, told)?;
+    }
+    Ok(())
+}
+
+/// Appends how often a rule was used.
+fn push_line(alloc: Global, rule: Rule, used: &[Rule], told: &mut String) -> Result<(), AllocError>
+    ensures { OnOk result
+        (string_bytes told.new ≡ string_bytes told.old ++ rule_line used.now rule) }
+{
+    let name = rule.text();
+    let count = uses(used, name);
+    let line = format!(in alloc; "{count:>6}  {name}\n")?;
+    told.push_str(line.as_str())
+}
+
+/// How often a rule of this name is among those that were used.
+fn uses(used: &[Rule], name: &str) -> usize
+    ensures { result ≡ uses used.now name.now }
+{
+    used.iter().filter(|rule| rule.text() == name).count()
 }
 
 /// Writes all of the text, and flushes.
