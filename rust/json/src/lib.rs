@@ -129,10 +129,10 @@ mod tests {
         Ok(())
     }
 
-    /// Each control character by the escape that RFC 8259 has for it.
+    /// Each control character by the escape that RFC 8259 has for it, and all others of ASCII but two as they are.
     #[test]
     fn control_characters() -> Result<(), AllocError> {
-        for n in 0..32u8 {
+        for n in 0..128u8 {
             let mut writer: Writer<Global> = Writer::new(Vec::new(Global));
             writer.string(core::str::from_utf8(&[n]).unwrap())?;
             let wanted = match n {
@@ -141,6 +141,8 @@ mod tests {
                 10 => r#""\n""#.to_string(),
                 12 => r#""\f""#.to_string(),
                 13 => r#""\r""#.to_string(),
+                b'"' | b'\\' => format!("\"\\{}\"", n as char),
+                32.. => format!("\"{}\"", n as char),
                 _ => format!("\"\\u{n:04x}\""),
             };
             assert_eq!(*writer.into_inner(), *wanted.as_bytes());
