@@ -49,32 +49,34 @@ pub stopped-end : (line left : List ℕ) → Passing line left → front_run is_
 unfolding newline_ahead
 stopped-end line left at none = grind (arith, common_steps, no-line, past_run-none)
 
--- the first byte tells whether such white space stands next
+-- the first byte tells whether the first character passes a test that only ASCII passes
 
-passed-small : (c : ℕ) → is_passed_over c ≡ true → c < 128
-passed-small c e = grind (arith, nat_tests)
-
-first-tells : (bs s : List ℕ) (b c : ℕ) → IsUtf8 bs → Some b ≡ slice_get bs 0 → chars bs ≡ c ∷ s → is_passed_over c ≡ is_passed_over b
-first-tells [] s b c is e at = absurd (let f : Some b ≡ None = e in cc)
-first-tells (x ∷ xs) s b c is e at = grind (
+pub first-tells : (p : ℕ → Bool) → ((c : ℕ) → p c ≡ true → c < 128) → (bs s : List ℕ) (b c : ℕ) → IsUtf8 bs → Some b ≡ slice_get bs 0 → chars bs ≡ c ∷ s → p c ≡ p b
+first-tells p small [] s b c is e at = absurd (let f : Some b ≡ None = e in cc)
+first-tells p small (x ∷ xs) s b c is e at = grind (
   arith,
   common_steps,
   encodes-chars (x ∷ xs) is,
   byte_from_char (x ∷ xs) (encode_utf8_all s) c,
-  passed-small c,
+  small c,
   char_from_byte (x ∷ xs) (encode_utf8_all s) c,
-  passed-small b,
+  small b,
 )
+
+-- so it tells whether white space that is passed over stands next
+
+passed-small : (c : ℕ) → is_passed_over c ≡ true → c < 128
+passed-small c e = grind (arith, nat_tests)
 
 pub byte-not : (bs : List ℕ) (b : ℕ) → IsUtf8 bs → Some b ≡ slice_get bs 0 → is_passed_over b ≡ false → front_run is_passed_over (chars bs) ≡ []
 byte-not bs b is e off = by_front (chars bs) refl
   where
     by_front : (s : List ℕ) → chars bs ≡ s → front_run is_passed_over s ≡ []
     by_front [] at = refl
-    by_front (c ∷ s) at = cond-false (is_passed_over c) _ _ (first-tells bs s b c is e at ∙ off)
+    by_front (c ∷ s) at = cond-false (is_passed_over c) _ _ (first-tells is_passed_over passed-small bs s b c is e at ∙ off)
 
 pub byte-yes : (bs s : List ℕ) (b c : ℕ) → IsUtf8 bs → Some b ≡ slice_get bs 0 → is_passed_over b ≡ true → chars bs ≡ c ∷ s → is_passed_over c ≡ true
-byte-yes bs s b c is e on at = first-tells bs s b c is e at ∙ on
+byte-yes bs s b c is e on at = first-tells is_passed_over passed-small bs s b c is e at ∙ on
 
 pub no-byte : (bs : List ℕ) → None ≡ slice_get bs 0 → front_run is_passed_over (chars bs) ≡ []
 no-byte [] e = ap (front_run is_passed_over) chars-nil

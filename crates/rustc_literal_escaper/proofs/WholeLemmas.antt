@@ -25,7 +25,7 @@ use Rattle.rustc_literal_escaper.specs.Single.{alone, literal, single, StartsWit
 use Rattle.rustc_literal_escaper.proofs.DigitLemmas.{with_digit, left_at, left_at-brace, left_at-digit, left_at-start, hex-yes}
 use Rattle.rustc_literal_escaper.proofs.ErrorLemmas.{errors_of-strings}
 use Rattle.rustc_literal_escaper.proofs.ItemLemmas.{nothing}
-use Rattle.rustc_literal_escaper.proofs.SimpleLemmas.{simple-fine, simple-parts}
+use Rattle.rustc_literal_escaper.proofs.SimpleLemmas.{simple-fine}
 use Rattle.rustc_literal_escaper.proofs.SkipLemmas.{errors-skip}
 use Rattle.rustc_literal_escaper.proofs.SingleLemmas.{literal-starts}
 use Rattle.rustc_literal_escaper.proofs.WrittenLemmas.{is-ascii}
@@ -149,9 +149,9 @@ pub number_escape : (bs : List ℕ) (r : Option Element) → 4 ≤ length bs →
 number_escape bs None l u brace close h = tt
 number_escape bs (Some e) l u brace close h = braces_whole bs (slice_index bs 2 ∷ take (length bs - 1 - 3) (drop 3 bs)) e (braces_is bs (length bs - 1 - 3) (omega arith) u brace close) h
 
--- what a simple character of a raw string is
-pub raw_plain : (c : ℕ) → is_simple true c ≡ true → Plain c ≡ raw_element c
-raw_plain c e = grind (arith, common_steps, simple-parts, not-true, nat_tests)
+-- what a character of a raw string outside ASCII is
+pub raw_wide : (c : ℕ) → is_ascii c ≡ false → Plain c ≡ raw_element c
+raw_wide c e = grind (arith, common_steps, not-true, nat_tests)
 
 -- a raw string of simple characters
 pub raw_double : (mode : Mode) → true ≡ is_raw mode → false ≡ is_single mode

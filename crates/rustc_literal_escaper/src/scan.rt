@@ -1,5 +1,6 @@
 //! Reads the characters at the front of a text.
-ghost use Rattle.std.specs.Prelude.{◌≡◌, ◌<◌, ◌≤◌, true, false, ◌∷◌, [], length, IfSome, MatchOption};
+ghost use Rattle.std.specs.Prelude.{◌≡◌, ◌<◌, ◌≤◌, ℕ, List, true, false, ◌∷◌, [], length, IfSome, MatchOption};
+ghost use Rattle.std.specs.Char.{is_ascii};
 ghost use Rattle.std.specs.Str.{chars, IsUtf8};
 ghost use Rattle.rustc_literal_escaper.specs.Plain.{is_plain, Passes};
 
@@ -30,6 +31,17 @@ pub(crate) fn split_ascii(rest: &str) -> Option<(char, &str)>
         return None;
     }
     split_first(rest)
+}
+
+/// Returns whether the first character is in ASCII. The first byte determines that.
+#[inline(always)]
+pub(crate) fn begins_in_ascii(rest: &str) -> bool
+    ensures { (c : ℕ) (s : List ℕ) → chars rest.now ≡ c ∷ s → result ≡ is_ascii c }
+{
+    match rest.as_bytes().first() {
+        Some(byte) => byte.is_ascii(),
+        None => false,
+    }
 }
 
 /// Returns the text after the plain characters at the front.

@@ -151,7 +151,7 @@ fn last_simple_end(bytes: &[u8], raw: bool) -> usize
 
 /// Returns whether a byte is a simple character.
 #[inline(always)]
-pub(crate) fn is_simple(byte: u8, raw: bool) -> bool
+fn is_simple(byte: u8, raw: bool) -> bool
     ensures { result ≡ spec.is_simple raw byte }
 {
     if byte >= 128 || byte == 0 {

@@ -9,8 +9,8 @@ ghost use Rattle.rustc_literal_escaper.specs.Plain.{is_fine, plain_items};
 
 use crate::element::Element;
 use crate::error::EscapeError;
-use crate::scan::split_first;
-use crate::simple::{is_simple, run_behind, split_alone, split_simple};
+use crate::scan::{begins_in_ascii, split_first};
+use crate::simple::{run_behind, split_alone, split_simple};
 use crate::steps::{byte_at, is_plain, line_at, lone_element, more_lines, more_space, pass_over};
 use crate::unit::{MixedUnit, NonZeroChar};
 use std::ops::Range;
@@ -115,7 +115,8 @@ pub fn check_raw_c_str<F: FnMut(Range<usize>, Result<NonZeroChar, EscapeError>)>
 
 /// The meaning of elements in one kind of string.
 pub(crate) trait Meaning {
-    ghost use Rattle.std.specs.Prelude.{◌≡◌, true, Result};
+    ghost use Rattle.std.specs.Prelude.{◌≡◌, true, false, Result};
+    ghost use Rattle.std.specs.Char.{is_ascii};
     ghost use Rattle.rustc_literal_escaper.specs.declared.element.Element.{Element};
     ghost use Rattle.rustc_literal_escaper.specs.declared.element.Element.TheVariants.{Plain};
     ghost use Rattle.rustc_literal_escaper.specs.declared.error.EscapeError.{EscapeError};
@@ -137,6 +138,15 @@ pub(crate) trait Meaning {
         ensures { result ≡ meaning (Plain byte) }
     {
         Self::of(Element::Plain(byte as char))
+    }
+
+    /// Returns what a character outside ASCII stands for when it is not escaped.
+    #[inline(always)]
+    fn of_wide(c: char) -> Result<Self::Meant, EscapeError>
+        requires wide { is_ascii c ≡ false }
+        ensures { result ≡ meaning (Plain c) }
+    {
+        Self::of(Element::Plain(c))
     }
 
     /// Returns what a character of a raw string stands for.
@@ -187,6 +197,11 @@ impl Meaning for AsByte {
     }
 
     #[inline(always)]
+    fn of_wide(_: char) -> Result<u8, EscapeError> {
+        Err(EscapeError::NonAsciiCharInByte)
+    }
+
+    #[inline(always)]
     fn of_fine(byte: u8) -> Result<u8, EscapeError> {
         Ok(byte)
     }
@@ -234,6 +249,11 @@ impl Meaning for AsRawUnit {
             return Err(EscapeError::BareCarriageReturnInRawString);
         }
         NonZeroChar::new(c).ok_or(EscapeError::NulInCStr)
+    }
+
+    #[inline(always)]
+    fn of_wide(c: char) -> Result<NonZeroChar, EscapeError> {
+        Ok(NonZeroChar::of_nonzero(c))
     }
 
     #[inline(always)]
@@ -379,6 +399,8 @@ fn each_raw_unit_in<M: Meaning, F: FnMut(Range<usize>, Result<M::Meant, EscapeEr
 
 /// Calls `callback` with what each character in a part of a raw string stands for, and its place. The last one ends
 /// at `end`.
+///
+/// The first byte says whether a character is in ASCII, so nothing looks at the characters past that.
 #[inline(always)]
 fn each_raw_char<M: Meaning, F: FnMut(Range<usize>, Result<M::Meant, EscapeError>)>(
     part: &str,
@@ -393,14 +415,18 @@ fn each_raw_char<M: Meaning, F: FnMut(Range<usize>, Result<M::Meant, EscapeError
 {
     let mut chars = part.chars();
     let mut start = end - part.len();
-    'chars: while let Some(c) = chars.next() {
-        if c.is_ascii() && is_simple(c as u8, true) {
-            callback(start..start + 1, M::of_fine(c as u8));
+    'chars: loop {
+        let in_ascii = begins_in_ascii(chars.as_str());
+        let Some(c) = chars.next() else {
+            return;
+        };
+        if in_ascii {
+            callback(start..start + 1, M::of_raw(c));
             start += 1;
             continue;
         }
         let past = end - chars.as_str().len();
-        callback(start..past, M::of_raw(c));
+        callback(start..past, M::of_wide(c));
         start = past;
     }
 }

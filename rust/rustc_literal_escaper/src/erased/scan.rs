@@ -22,6 +22,15 @@ pub(crate) fn split_ascii(rest: &str) -> Option<(char, &str)> {
     split_first(rest)
 }
 
+/// Returns whether the first character is in ASCII. The first byte determines that.
+#[inline(always)]
+pub(crate) fn begins_in_ascii(rest: &str) -> bool {
+    match rest.as_bytes().first() {
+        Some(byte) => byte.is_ascii(),
+        None => false,
+    }
+}
+
 /// Returns the text after the plain characters at the front.
 pub(crate) fn past_plain(rest: &str, raw: bool) -> &str {
     if raw {

@@ -2,8 +2,8 @@
 
 use crate::erased::element::Element;
 use crate::erased::error::EscapeError;
-use crate::erased::scan::split_first;
-use crate::erased::simple::{is_simple, run_behind, split_alone, split_simple};
+use crate::erased::scan::{begins_in_ascii, split_first};
+use crate::erased::simple::{run_behind, split_alone, split_simple};
 use crate::erased::steps::{
     byte_at, is_plain, line_at, lone_element, more_lines, more_space, pass_over,
 };
@@ -100,6 +100,12 @@ pub(crate) trait Meaning {
         Self::of(Element::Plain(byte as char))
     }
 
+    /// Returns what a character outside ASCII stands for when it is not escaped.
+    #[inline(always)]
+    fn of_wide(c: char) -> Result<Self::Meant, EscapeError> {
+        Self::of(Element::Plain(c))
+    }
+
     /// Returns what a character of a raw string stands for.
     ///
     /// Each implementation knows what kind of element it has, so the compiler neither makes an element nor looks at
@@ -135,6 +141,11 @@ impl Meaning for AsByte {
     #[inline(always)]
     fn of(element: Element) -> Result<u8, EscapeError> {
         element.to_byte()
+    }
+
+    #[inline(always)]
+    fn of_wide(_: char) -> Result<u8, EscapeError> {
+        Err(EscapeError::NonAsciiCharInByte)
     }
 
     #[inline(always)]
@@ -177,6 +188,11 @@ impl Meaning for AsRawUnit {
             return Err(EscapeError::BareCarriageReturnInRawString);
         }
         NonZeroChar::new(c).ok_or(EscapeError::NulInCStr)
+    }
+
+    #[inline(always)]
+    fn of_wide(c: char) -> Result<NonZeroChar, EscapeError> {
+        Ok(NonZeroChar::of_nonzero(c))
     }
 
     #[inline(always)]
@@ -295,6 +311,8 @@ fn each_raw_unit_in<M: Meaning, F: FnMut(Range<usize>, Result<M::Meant, EscapeEr
 
 /// Calls `callback` with what each character in a part of a raw string stands for, and its place. The last one ends
 /// at `end`.
+///
+/// The first byte says whether a character is in ASCII, so nothing looks at the characters past that.
 #[inline(always)]
 fn each_raw_char<M: Meaning, F: FnMut(Range<usize>, Result<M::Meant, EscapeError>)>(
     part: &str,
@@ -303,14 +321,18 @@ fn each_raw_char<M: Meaning, F: FnMut(Range<usize>, Result<M::Meant, EscapeError
 ) {
     let mut chars = part.chars();
     let mut start = end - part.len();
-    while let Some(c) = chars.next() {
-        if c.is_ascii() && is_simple(c as u8, true) {
-            callback(start..start + 1, M::of_fine(c as u8));
+    loop {
+        let in_ascii = begins_in_ascii(chars.as_str());
+        let Some(c) = chars.next() else {
+            return;
+        };
+        if in_ascii {
+            callback(start..start + 1, M::of_raw(c));
             start += 1;
             continue;
         }
         let past = end - chars.as_str().len();
-        callback(start..past, M::of_raw(c));
+        callback(start..past, M::of_wide(c));
         start = past;
     }
 }
