@@ -65,7 +65,9 @@ fn a_part_has_no_shebang_line() {
         whole(Style::Html, Edition::E2024, text),
         "<span class=\"comment\">#!/a</span>\nb"
     );
-    assert_eq!(first(Style::Html, Edition::E2024, 9, text), text);
+    for count in [9, usize::MAX] {
+        assert_eq!(first(Style::Html, Edition::E2024, count, text), text);
+    }
 }
 
 #[test]
@@ -143,9 +145,10 @@ fn a_text_that_is_too_long() {
     let zeros = vec![0; 1 << 32];
     // SAFETY: U+0000 is one byte that is 0.
     let text = unsafe { std::str::from_utf8_unchecked(&zeros) };
-    let calls: [&dyn Fn() -> fmt::Result; 2] = [
+    let calls: [&dyn Fn() -> fmt::Result; 3] = [
         &|| write_marked(Style::Html, Edition::E2024, text, &mut Few(0)),
         &|| write_first_tokens(Style::Html, Edition::E2024, 1, text, &mut Few(0)),
+        &|| write_first_tokens(Style::Html, Edition::E2024, 0, text, &mut Few(0)),
     ];
     for call in calls {
         let said = std::panic::catch_unwind(std::panic::AssertUnwindSafe(call)).unwrap_err();

@@ -177,6 +177,31 @@ fn streams_that_do_not_wait() {
     assert_eq!(rattle_std::env::var(&rt, NAME).ok().as_deref(), Some(""));
 }
 
+/// One stream is a terminal, and the others are none. This test runs itself as a process with such streams.
+#[cfg(target_os = "linux")]
+#[test]
+fn a_stream_that_is_a_terminal() {
+    use std::process::Command;
+    const NAME: &str = "RATTLE_STD_TERMINAL";
+    if std::env::var_os(NAME).is_none() {
+        let terminal = std::fs::File::options()
+            .read(true)
+            .write(true)
+            .open("/dev/ptmx");
+        // Some systems make no terminals.
+        let Ok(terminal) = terminal else { return };
+        let ended = Command::new(std::env::current_exe().unwrap())
+            .args(["--exact", "a_stream_that_is_a_terminal"])
+            .env(NAME, "")
+            .stdin(terminal)
+            .output();
+        return assert!(ended.unwrap().status.success());
+    }
+    let rt = rt::start();
+    let terminals = [rt.stdin(), rt.stdout(), rt.stderr()].map(|stream| stream.is_terminal());
+    assert_eq!(terminals, [true, false, false]);
+}
+
 /// What this process is, by Rust's own calls.
 #[test]
 fn the_process() {

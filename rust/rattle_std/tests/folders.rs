@@ -149,6 +149,10 @@ fn files() {
         }
     }
     assert_eq!(read, b"text");
+    // A folder opens, and has no bytes to read: that is an error, and no end.
+    let mut opened = File::open(&rt, folder.at("").as_str()).unwrap();
+    let error = opened.read(&mut room).unwrap_err();
+    assert_eq!(error.kind(), ErrorKind::IsADirectory);
     assert_eq!(fs::metadata(&rt, first.as_str()).unwrap().len(), 4);
     // A program that runs may be read, and Linux lets nobody write to it.
     let this = std::env::current_exe().unwrap();

@@ -195,11 +195,13 @@ fn room_that_was_made() {
 #[test]
 fn room_that_grows() {
     type Call = fn(&mut String, &mut Vec<u8>) -> Result<(), AllocError>;
-    let calls: [Call; 7] = [
+    let calls: [Call; 9] = [
         |text, _| text.push('a'),
         |text, _| text.reserve(1).and_then(|()| text.push('a')),
         |text, _| text.push_str("a"),
         |text, _| text.replace_range(0..0, "a"),
+        |text, _| Write::write_str(text, "a").map_err(|_| AllocError),
+        |text, _| text.write_fmt(format_args!("{}", 1)),
         |_, list| list.push(1),
         |_, list| list.extend_from_slice(&[1]),
         |_, list| list.resize(list.len() + 1, 1),
@@ -240,4 +242,16 @@ fn room() {
     items.shrink_to_fit();
     assert_eq!(given(0, || held.push_str("1")), Err(AllocError));
     assert_eq!(given(0, || items.push(3)), Err(AllocError));
+    // Room for one more is given back as well.
+    for len in [20, 1000] {
+        let mut held = text(&"a".repeat(len));
+        let mut items = list();
+        items.resize(len, 4).unwrap();
+        held.truncate(len - 1);
+        items.truncate(len - 1);
+        held.shrink_to_fit();
+        items.shrink_to_fit();
+        assert_eq!(given(0, || held.push_str("1")), Err(AllocError));
+        assert_eq!(given(0, || items.push(3)), Err(AllocError));
+    }
 }

@@ -228,11 +228,12 @@ fn what_costs_what_it_reads() {
         assert_eq!(validate_raw_str(&raw, 1), Ok(()));
         assert_eq!(strip_shebang(&script), Some(3));
         assert!(tokenize(&rest, FrontmatterAllowed::No).next().is_some());
+        assert_eq!(tokenize(&rest, FrontmatterAllowed::No).size_hint().0, 1);
     }
     let short = start.elapsed();
     assert!(
         short < whole,
-        "{short:?} for 4000 short reads, {whole:?} for all"
+        "{short:?} for 5000 short reads, {whole:?} for all"
     );
 }
 
@@ -447,6 +448,7 @@ fn traits_that_are_taken_for_granted() {
     fn is_there<T>() {}
     fn steps<T: rustc_lexer::Stepper + Clone + std::fmt::Debug>() {}
     fn is_key<T: Copy + Eq + std::hash::Hash>() {}
+    fn crosses_threads<T: Send + Sync + std::panic::UnwindSafe + std::panic::RefUnwindSafe>() {}
     is_error::<rustc_lexer::AllocError>();
     is_error::<rustc_lexer::UnknownEdition>();
     is_error::<RawStrError>();
@@ -458,6 +460,7 @@ fn traits_that_are_taken_for_granted() {
     is_there::<(rustc_lexer::Relexed, rustc_lexer::Relexing)>();
     is_key::<(Token, TokenKind, LiteralKind, Base, DocStyle)>();
     is_key::<(GuardedStr, RawStrError, FrontmatterAllowed, Edition)>();
+    crosses_threads::<(rustc_lexer::Tokens<'_>, Cursor<'_>, Steps)>();
     #[cfg(feature = "alloc")]
     {
         is_error::<rustc_lexer::EditError>();
@@ -465,6 +468,8 @@ fn traits_that_are_taken_for_granted() {
         is_key::<rustc_lexer::EditError>();
         is_there::<rustc_lexer::Piece<'_>>();
         stays_at_its_end::<rustc_lexer::Pieces<'_>>();
+        crosses_threads::<(rustc_lexer::LexedText, rustc_lexer::LexedDocument)>();
+        crosses_threads::<rustc_lexer::Pieces<'_>>();
     }
 }
 
@@ -513,6 +518,8 @@ fn a_long_document_is_filled_as_it_is_stepped() {
             while !tokens.as_str().is_empty() {
                 let count = tokens.fill(&mut buffer);
                 filled.extend_from_slice(&buffer[..count]);
+                let is_over = tokens.as_str().is_empty();
+                assert!(count == room || is_over, "{count} where {room} fit");
             }
             assert_eq!(filled, stepped);
         }

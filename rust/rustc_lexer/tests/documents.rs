@@ -356,6 +356,14 @@ fn pieces_past_the_last() {
     let _ = LexedDocument::new("#!a\nb").pieces_of(1..3);
 }
 
+#[test]
+#[should_panic(expected = "the tokens 2..1 are not there")]
+fn pieces_of_no_range() {
+    #[allow(clippy::reversed_empty_ranges)]
+    let reversed = 2..1;
+    let _ = LexedDocument::new("#!a\nb c").pieces_of(reversed);
+}
+
 /// The tokens of a head.
 fn tokens_of(head: Head) -> Vec<Token> {
     let kind = TokenKind::Whitespace;

@@ -277,6 +277,8 @@ fn ranges_that_are_refused() {
             (error.to_string(), format!("{error:?}")),
             (said.into(), name.into())
         );
+        // Who prints an error with its sources prints no words twice.
+        assert!(std::error::Error::source(&error).is_none(), "{name}");
     }
     assert_eq!(EditError::from(rustc_lexer::AllocError), EditError::Memory);
 }

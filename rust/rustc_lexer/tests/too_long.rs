@@ -2,8 +2,8 @@
 #![cfg(target_pointer_width = "64")]
 
 use rustc_lexer::{
-    Cursor, Edition, FrontmatterAllowed, fits, settled, strip_shebang, tokenize, tokenize_as,
-    tokenize_document, tokenize_in, validate_raw_str,
+    Cursor, Edition, FrontmatterAllowed, fits, is_ident, settled, starts_raw, strip_shebang,
+    tokenize, tokenize_as, tokenize_document, tokenize_in, validate_raw_str,
 };
 #[cfg(feature = "alloc")]
 use rustc_lexer::{Edit, EditError, EditStop, LexedDocument, LexedText, Steps};
@@ -66,6 +66,12 @@ fn calls_that_take_a_text() {
     ]);
 }
 
+/// What may be asked of each text is answered of such a one, too.
+#[test]
+fn calls_that_take_any_text() {
+    assert!(!is_ident(too_long()) && !starts_raw(too_long(), 1));
+}
+
 /// One byte fewer fits. These calls read only the front of it.
 #[test]
 fn calls_that_take_the_longest_text() {
@@ -113,6 +119,18 @@ fn edits_that_make_one() {
     assert!(text.accepts(0..1, insert) && document.accepts(0..1, insert));
     assert_eq!(text.try_edit(0..0, insert), Err(EditError::TooLong));
     assert_eq!(document.try_edit(0..0, insert), Err(EditError::TooLong));
+    let calls: [Call; 2] = [
+        |insert| {
+            let _ = LexedText::new("a").edit(0..0, insert);
+        },
+        |insert| {
+            let _ = LexedDocument::new("a").edit(0..0, insert);
+        },
+    ];
+    for call in calls {
+        let wanted = Some("the edit of 0..0: the text has more than u32::MAX bytes");
+        assert_eq!(said(call, too_long()).as_deref(), wanted);
+    }
     assert_eq!(text.try_edit(2..2, insert), Err(EditError::Range));
     assert_eq!(document.try_edit(2..2, insert), Err(EditError::Range));
     let edits = [

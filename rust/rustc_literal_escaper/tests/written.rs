@@ -69,6 +69,14 @@ fn room_of_the_caller() {
     }
     assert_eq!(out, r"a\n\xffb".repeat(10));
     assert!(out.capacity() >= 1000);
+    // What needs no escape needs no more room than it has bytes.
+    let text = "a".repeat(100);
+    let mut full = String::with_capacity(300);
+    assert_eq!(given(0, || escape_str(&text, &mut full)), Ok(()));
+    let bytes = text.as_bytes();
+    assert_eq!(given(0, || escape_byte_str(bytes, &mut full)), Ok(()));
+    assert_eq!(given(0, || escape_c_str(bytes, &mut full)), Ok(()));
+    assert_eq!(full, text.repeat(3));
 }
 
 /// A character is one, whatever its bytes, and a byte is a character below 128.
@@ -85,4 +93,11 @@ fn units_of_c_strings() {
         assert_eq!(MixedUnit::from(NonZero::new(n).unwrap()), wanted);
         assert_eq!(MixedUnit::try_from(n), Ok(wanted));
     }
+    assert_ne!(char('\u{e9}'), byte(0xe9), "two bytes, and one");
+    let bytes = |unit| match unit {
+        MixedUnit::Char(c) => c.get().to_string().into_bytes(),
+        MixedUnit::HighByte(byte) => vec![byte.get()],
+    };
+    assert_eq!(bytes(char('\u{e9}')), "\u{e9}".as_bytes());
+    assert_eq!(bytes(byte(0xe9)), [0xe9]);
 }
