@@ -14,7 +14,9 @@ fn each_request_is_refused() {
         (list.extend_from_slice(&[]), list.resize(0, 1)),
         (Ok(()), Ok(()))
     );
+    // As in Rust, to keep more than there is has no effect.
     list.truncate(0);
+    list.truncate(1);
     assert!(list.as_slice().is_empty() && list.as_mut_slice().is_empty() && list.is_empty());
     let mut text = String::new(Global);
     assert_eq!(String::from_str(Global, "a"), Err(AllocError));
@@ -30,5 +32,6 @@ fn each_request_is_refused() {
     );
     assert!(text.write_str("a").is_err() && text.write_str("").is_ok());
     text.truncate(0);
+    text.truncate(1);
     assert_eq!((text.as_str(), &*text), ("", ""));
 }
