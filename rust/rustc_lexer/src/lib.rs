@@ -15,7 +15,7 @@
 //! | the tokens of a text | [`tokenize`] |
 //! | those of a whole file, after its shebang line, in an edition | [`tokenize_document`] |
 //! | those of a part of a file, in an older edition | [`tokenize_in`], [`tokenize_as`] |
-//! | many tokens at once, which is faster | [`Tokens::fill`], `Tokens::into_vec` |
+//! | many tokens at once | [`Tokens::fill`], `Tokens::into_vec` |
 //! | to take tokens one by one, and look ahead | [`Cursor`] |
 //! | the tokens of a file while it is edited | [`LexedDocument`], or [`LexedText`] for a part of a file |
 //! | the same on lists of your own | [`Relexing`], with [`Head`] for a whole file |

@@ -78,7 +78,7 @@ impl<'a> Tokens<'a> {
     /// Writes the next tokens into the buffer, as many as are left or as fit. Returns their number, which is less than
     /// the length of the buffer only if no token is left.
     ///
-    /// They are the tokens that as many calls of `next` return, in less time.
+    /// They are the tokens that as many calls of `next` return.
     ///
     /// ```
     /// use rustc_lexer::{tokenize, FrontmatterAllowed, Token, TokenKind};

@@ -13,9 +13,8 @@ impl<'a> Tokens<'a> {
     /// Writes the next tokens into the buffer, as many as are left or as there is room for, and returns how many.
     /// The number is less than the length of the buffer only if no token is left.
     ///
-    /// They are the tokens that as many calls of `next` return, but they take less time: most of them are found 64
-    /// bytes at a time. The tokens are found one by one if a frontmatter may still come, or if fewer than 64 bytes
-    /// are left.
+    /// They are the tokens that as many calls of `next` return. Most of them are found 64 bytes at a time. They are
+    /// found one by one if a frontmatter may still come, or if fewer than 64 bytes are left.
     ///
     /// ```ignore
     /// let mut buffer = [Token { kind: TokenKind::Eof, len: 0 }; 256];
