@@ -1,17 +1,18 @@
 -- What an iterator knows of the ends of runs past its place, and the tokens that it takes by them.
-use Rattle.std.proofs.Common.{◌≡◌, ℕ, ◌+◌, ◌-◌, ◌^◌, ◌<◌, ◌≤◌, ◌==◌, false, true≢false, List, length, length-drop, drop, take, get_or, sym, ap, subst, ◌∙◌, arith, drop-drop, Some}
+use Rattle.std.proofs.Common.{◌≡◌, ℕ, ◌+◌, ◌-◌, ◌^◌, ◌<◌, ◌≤◌, ◌==◌, false, true, true≢false, List, length, length-drop, drop, take, get_or, sym, ap, subst, ◌∙◌, arith, drop-drop, Some}
 use Rattle.std.specs.Str.{IsCharBoundary, IsUtf8}
 use Rattle.std.proofs.lemmas.Bool.{ne_eqb}
 use Rattle.std.proofs.lemmas.List.{get_or-drop, take_rest}
 use Rattle.std.proofs.lemmas.Str.{IsCharBoundary-from_rest, IsUtf8-drop}
 use Rattle.rustc_lexer.specs.{Edition, FrontmatterAllowed, Token, TokenKind, E2024, No}
 use Rattle.rustc_lexer.specs.Classes.{Fits}
-use Rattle.rustc_lexer.specs.LanguageText.{mode_in}
+use Rattle.rustc_lexer.specs.LanguageText.{Mode, mode_in}
+use Rattle.rustc_lexer.specs.declared.entry.ahead.Ahead.{Ahead}
 use Rattle.rustc_lexer.specs.State.{State}
 use Rattle.rustc_lexer.specs.Tokens.{TakesToken}
 use Rattle.rustc_lexer.specs.laws.State.{state}
 use Rattle.rustc_lexer.specs.means.Lexeme.{first_token}
-use Rattle.rustc_lexer.specs.means.Ends.{bit, classified, AreEndsPast, IsEnds, IsLowest, StaysWithin, TellEndsPast}
+use Rattle.rustc_lexer.specs.means.Ends.{bit, classified, AreEndsPast, IsEnds, IsLowest, IsUntold, StaysWithin, TellEndsPast}
 use Rattle.rustc_lexer.specs.means.Quick.{IsFirstToken}
 use Rattle.rustc_lexer.proofs.BitLemmas.{bit-zero}
 use Rattle.rustc_lexer.proofs.EndsLemmas.{all_past, classified_behind, past_end}
@@ -77,19 +78,19 @@ module _ (text : List ℕ) (at block ends low : ℕ) (kind : TokenKind) (next : 
       let e : low ≡ block + low - block = omega arith in
       subst (λ n. AreEndsPast (drop block text) n less) e (past_end (drop block text) ends (at - block) low less next.known next.lowest gone others)
 
--- taking such a token: past it the text at its end is left
-pub takes_told : (allowed : FrontmatterAllowed) (edition : Edition) (text : List ℕ) (at end : ℕ) (s : State) → allowed ≡ No → edition ≡ E2024 → state 0 (drop at text) (mode_in allowed edition) ≡ s → IsUtf8 text → IsCharBoundary text at → Fits text
-    → at < end → end ≤ length text → (token : Token) → token ≡ first_token (drop at text) → token.len ≡ end - at → TakesToken s token (state 0 (drop end text) (mode_in allowed edition))
-takes_told allowed edition text at end s never newest view is bound fits more inside token e len =
-    let left : length (drop at text) ≡ length text - at = length-drop at text in
-    let some : (length (drop at text) == 0) ≡ false = ne_eqb (length (drop at text)) 0 (λ none. omega (arith, left, none)) in
-    let past : at + token.len ≡ end = omega (arith, len) in
-    let cut : drop end text ≡ drop token.len (drop at text) = sym (drop-drop token.len at text ∙ ap (λ n. drop n text) past) in
-    (takes_newest allowed edition (drop at text) (drop at text) s never newest view (ap (λ (x : State). x.rest) view) (drop end text) token (IsUtf8-drop text at is bound) (omega (arith, left)) some e cut).takes
-
 -- the text that is left, as a slice of the bytes
 pub left_is : (text bytes : List ℕ) (at : ℕ) → bytes ≡ text → take (length bytes - at) (drop at bytes) ≡ drop at text
 left_is text bytes at e = take_rest bytes at ∙ ap (drop at) e
+
+pub left_some : (text left : List ℕ) (at : ℕ) → left ≡ drop at text → at < length text → (length left == 0) ≡ false
+left_some text left at e some = ne_eqb (length left) 0 (λ none. omega (arith, some, none, ap length e, length-drop at text))
+
+pub left_none : (text : List ℕ) (at : ℕ) → length text ≤ at → (length (drop at text) == 0) ≡ true
+left_none text at none = let zero : length (drop at text) ≡ 0 = omega (arith, none, length-drop at text) in ap (λ n. n == 0) zero
+
+-- where no token is told, the same text is left
+pub still : (text : List ℕ) (mode : Mode) (s : State) (old new : Ahead) → IsUntold text old new → state 0 (drop old.at text) mode ≡ s → state 0 (drop new.at text) mode ≡ s
+still text mode s old new untold view = subst (λ p. state 0 (drop p text) mode ≡ s) (sym untold.at) view
 
 pub left_utf8 : (text left : List ℕ) (at : ℕ) → IsUtf8 text → IsCharBoundary text at → left ≡ drop at text → IsUtf8 left
 left_utf8 text left at is bound e = subst IsUtf8 (sym e) (IsUtf8-drop text at is bound)

@@ -9,17 +9,18 @@ ghost use Rattle.rustc_lexer.specs.Tokens.{ReadsAs, tokens_of, YieldsToken};
 
 use crate::cursor::next_allowed;
 use crate::edition::{Edition, token_as};
+use crate::entry::ahead::Ahead;
 use crate::lexemes::choose_token;
 use crate::lexemes::quick::quick_token;
 use crate::token::{FrontmatterAllowed, Token, TokenKind};
 use std::iter::Iterator;
 use std::marker::Model;
 
+mod ahead;
 mod document;
 mod fill;
 pub(crate) mod stepper;
 mod tally;
-mod told;
 
 pub use document::tokenize_document;
 pub use stepper::{Stepper, Steps};
@@ -83,10 +84,12 @@ pub fn tokenize_as<'a>(
 {
     Tokens {
         text,
-        at: 0,
-        block: 0,
-        ends: 0,
-        told: None,
+        ahead: Ahead {
+            at: 0,
+            block: 0,
+            ends: 0,
+            told: None,
+        },
         frontmatter_allowed,
         edition,
     }
@@ -98,14 +101,7 @@ pub fn tokenize_as<'a>(
 #[derive(Drop)]
 pub struct Tokens<'a> {
     text: &'a str,
-    /// The place where the text that is left begins.
-    at: usize,
-    /// The place where the bytes begin whose ends of runs are known.
-    block: usize,
-    /// The ends of runs from `block` on, as bits, or 0. Those up to `at` mean nothing.
-    ends: u64,
-    /// The kind of the next token, if its first byte and `ends` may determine all of it. Then no bit up to `at` is set.
-    told: Option<TokenKind>,
+    ahead: Ahead,
     frontmatter_allowed: FrontmatterAllowed,
     edition: Edition,
 }
@@ -123,12 +119,12 @@ impl<'a> Model for Tokens<'a> {
 
     ghost view = { λ t. record {
       pending = 0;
-      rest = drop t.at t.text.now;
+      rest = drop t.ahead.at t.text.now;
       mode = mode_in t.frontmatter_allowed t.edition;
     } };
 
     ghost invariant = { λ t. KnowsAhead
-        t.frontmatter_allowed t.edition t.text.now t.at t.block t.ends t.told };
+        t.frontmatter_allowed t.edition t.text.now t.ahead };
 }
 
 impl<'a> Tokens<'a> {
@@ -139,7 +135,7 @@ impl<'a> Tokens<'a> {
         ensures pending { self.now.pending ≡ 0 }
         ensures fits { Fits result.now }
     {
-        &self.text[self.at..]
+        &self.text[self.ahead.at..]
     }
 
     /// Returns whether a frontmatter may stand in front of the text that is left.
@@ -166,30 +162,27 @@ impl<'a> Iterator for Tokens<'a> {
     /// by itself, so a token that `quick_token` finds is never written to memory and read again.
     #[inline(always)]
     fn next(&mut self) -> Option<Token> {
-        if let Some(token) = self.take_told() {
+        if let Some(token) = self.ahead.take(self.text) {
             return Some(token);
         }
-        let bytes = &self.text.as_bytes()[self.at..];
-        if bytes.is_empty() {
+        if self.ahead.at >= self.text.len() {
             return None;
         }
+        let bytes = &self.text.as_bytes()[self.ahead.at..];
         if let (FrontmatterAllowed::No, Edition::E2024) = (self.frontmatter_allowed, self.edition) {
             if let Some(quick) = quick_token(bytes) {
-                self.told = None;
-                self.at += quick.len as usize;
+                self.ahead.at += quick.len as usize;
                 if !matches!(quick.kind, TokenKind::Whitespace) {
-                    self.begin_told();
+                    self.ahead.begin(self.text);
                 }
                 return Some(quick);
             }
             let chosen = choose_token(self.as_str());
-            self.told = None;
-            self.at += chosen.len as usize;
+            self.ahead.at += chosen.len as usize;
             return Some(chosen);
         }
         let token = token_as(self.as_str(), self.frontmatter_allowed, self.edition);
-        self.told = None;
-        self.at += token.len as usize;
+        self.ahead.at += token.len as usize;
         self.frontmatter_allowed = next_allowed(self.frontmatter_allowed, token.kind);
         Some(token)
     }

@@ -1,13 +1,14 @@
 -- Means, by how it is read: where runs of bytes end, as the bits of a number, and the tokens that these tell.
-use Rattle.std.specs.Prelude.{◌-◌, ◌^◌, drop, ℕ, zero, suc, Bool, true, false, not, ◌&&◌, ◌||◌, ◌==◌, ◌≡◌, ◌<◌, ◌≤◌, nat_lt, List, length, slice_index, if◌then◌else◌, Option, Some, None}
+use Rattle.std.specs.Prelude.{◌+◌, ◌-◌, ◌^◌, drop, ℕ, zero, suc, Bool, true, false, not, ◌&&◌, ◌||◌, ◌==◌, ◌≡◌, ◌<◌, ◌≤◌, nat_lt, List, length, slice_index, if◌then◌else◌, Option, Some, None}
 use Rattle.std.specs.Int.{bit_at}
+use Rattle.rustc_lexer.specs.declared.entry.ahead.Ahead.{Ahead}
 use Rattle.rustc_lexer.specs.declared.lexemes.family.Family.{Family}
 use Rattle.rustc_lexer.specs.declared.lexemes.family.Family.TheVariants.{Space, Symbol, Word}
-use Rattle.std.specs.Str.{IsCharBoundary}
-use Rattle.rustc_lexer.specs.{Edition, FrontmatterAllowed, TokenKind, E2024, Ident, No, Whitespace}
+use Rattle.std.specs.Str.{IsCharBoundary, IsUtf8}
+use Rattle.rustc_lexer.specs.{Edition, FrontmatterAllowed, Token, TokenKind, E2024, Ident, No, Whitespace}
 use Rattle.rustc_lexer.specs.Classes.{Fits}
 use Rattle.rustc_lexer.specs.means.ByteRuns.{is_continue_byte, is_space_byte}
-use Rattle.rustc_lexer.specs.means.Lexeme.{family_of, symbol_kind}
+use Rattle.rustc_lexer.specs.means.Lexeme.{family_of, first_token, symbol_kind}
 use Rattle.rustc_lexer.specs.means.Quick.{is_space_lead, turns_word}
 
 unfoldable pub bit : ℕ → ℕ → Bool
@@ -53,18 +54,36 @@ pub record StaysWithin (kind : TokenKind) (next : ℕ) : Type 0 where
   pub word : kind ≡ Ident → turns_word next ≡ false
   pub space : kind ≡ Whitespace → is_space_lead next ≡ false
 
--- an iterator of a part, of the newest edition, whose next token is one of the kind if the lowest of the bits tells it
-pub record IsTold (allowed : FrontmatterAllowed) (edition : Edition) (text : List ℕ) (at block ends : ℕ) (kind : TokenKind) : Type 0 where
-  pub never : allowed ≡ No
-  pub newest : edition ≡ E2024
+-- the next token is one of the kind if the lowest of the bits tells it
+pub record IsTold (text : List ℕ) (at block ends : ℕ) (kind : TokenKind) : Type 0 where
   pub tells : classified (slice_index text at) ≡ Some kind
   pub ahead : AreEndsPast (drop block text) (at - block) ends
 
--- what an iterator knows of the text at its place and past it. The bits are those of the bytes from `block` on
-pub record KnowsAhead (allowed : FrontmatterAllowed) (edition : Edition) (text : List ℕ) (at block ends : ℕ) (told : Option TokenKind) : Type 0 where
+-- what is known of the text at a place and past it. The bits are those of the bytes from `block` on
+pub record TellsAhead (text : List ℕ) (ahead : Ahead) : Type 0 where
   pub fits : Fits text
-  pub bound : IsCharBoundary text at
-  pub behind : block ≤ at
-  pub small : ends < 2 ^ 64
-  pub past : TellEndsPast (drop block text) (at - block) ends
-  pub next : (kind : TokenKind) → told ≡ Some kind → IsTold allowed edition text at block ends kind
+  pub bound : IsCharBoundary text ahead.at
+  pub behind : ahead.block ≤ ahead.at
+  pub small : ahead.ends < 2 ^ 64
+  pub past : TellEndsPast (drop ahead.block text) (ahead.at - ahead.block) ahead.ends
+  pub next : (kind : TokenKind) → ahead.told ≡ Some kind → IsTold text ahead.at ahead.block ahead.ends kind
+
+-- no token is told at the place
+pub record IsUntold (text : List ℕ) (old new : Ahead) : Type 0 where
+  pub at : new.at ≡ old.at
+  pub told : new.told ≡ None
+  pub tells : TellsAhead text new
+
+-- the token that is told at the place is the first of the text that is left, and the place is past it
+pub record TakesTold (text : List ℕ) (old new : Ahead) (token : Token) : Type 0 where
+  pub utf8 : IsUtf8 text
+  pub told : old.told ≡ Some token.kind
+  pub some : old.at < length text
+  pub first : token ≡ first_token (drop old.at text)
+  pub place : new.at ≡ old.at + token.len
+  pub tells : TellsAhead text new
+
+-- an iterator is told tokens only of a part, and in the newest edition
+pub record KnowsAhead (allowed : FrontmatterAllowed) (edition : Edition) (text : List ℕ) (ahead : Ahead) : Type 0 where
+  pub tells : TellsAhead text ahead
+  pub newest : (kind : TokenKind) → ahead.told ≡ Some kind → (allowed ≡ No) × (edition ≡ E2024)

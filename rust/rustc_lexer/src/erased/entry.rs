@@ -2,16 +2,17 @@
 
 use crate::erased::cursor::next_allowed;
 use crate::erased::edition::{Edition, token_as};
+use crate::erased::entry::ahead::Ahead;
 use crate::erased::lexemes::choose_token;
 use crate::erased::lexemes::quick::quick_token;
 use crate::erased::token::{FrontmatterAllowed, Token, TokenKind};
 use core::iter::Iterator;
 
+mod ahead;
 mod document;
 mod fill;
 pub(crate) mod stepper;
 mod tally;
-mod told;
 
 pub use document::tokenize_document;
 pub use stepper::{Stepper, Steps};
@@ -64,10 +65,12 @@ pub fn tokenize_as<'a>(
 ) -> Tokens<'a> {
     Tokens {
         text,
-        at: 0,
-        block: 0,
-        ends: 0,
-        told: None,
+        ahead: Ahead {
+            at: 0,
+            block: 0,
+            ends: 0,
+            told: None,
+        },
         frontmatter_allowed,
         edition,
     }
@@ -79,14 +82,7 @@ pub fn tokenize_as<'a>(
 #[derive(Clone)]
 pub struct Tokens<'a> {
     text: &'a str,
-    /// The place where the text that is left begins.
-    at: usize,
-    /// The place where the bytes begin whose ends of runs are known.
-    block: usize,
-    /// The ends of runs from `block` on, as bits, or 0. Those up to `at` mean nothing.
-    ends: u64,
-    /// The kind of the next token, if its first byte and `ends` may determine all of it. Then no bit up to `at` is set.
-    told: Option<TokenKind>,
+    ahead: Ahead,
     frontmatter_allowed: FrontmatterAllowed,
     edition: Edition,
 }
@@ -98,7 +94,7 @@ impl<'a> Tokens<'a> {
     /// Returns the text that is left: the part whose tokens the iterator has not returned yet.
     #[inline(always)]
     pub fn as_str(&self) -> &'a str {
-        &self.text[self.at..]
+        &self.text[self.ahead.at..]
     }
 
     /// Returns whether a frontmatter may stand in front of the text that is left.
@@ -119,30 +115,27 @@ impl<'a> Iterator for Tokens<'a> {
     /// by itself, so a token that `quick_token` finds is never written to memory and read again.
     #[inline(always)]
     fn next(&mut self) -> Option<Token> {
-        if let Some(token) = self.take_told() {
+        if let Some(token) = self.ahead.take(self.text) {
             return Some(token);
         }
-        let bytes = &self.text.as_bytes()[self.at..];
-        if bytes.is_empty() {
+        if self.ahead.at >= self.text.len() {
             return None;
         }
+        let bytes = &self.text.as_bytes()[self.ahead.at..];
         if let (FrontmatterAllowed::No, Edition::E2024) = (self.frontmatter_allowed, self.edition) {
             if let Some(quick) = quick_token(bytes) {
-                self.told = None;
-                self.at += quick.len as usize;
+                self.ahead.at += quick.len as usize;
                 if !matches!(quick.kind, TokenKind::Whitespace) {
-                    self.begin_told();
+                    self.ahead.begin(self.text);
                 }
                 return Some(quick);
             }
             let chosen = choose_token(self.as_str());
-            self.told = None;
-            self.at += chosen.len as usize;
+            self.ahead.at += chosen.len as usize;
             return Some(chosen);
         }
         let token = token_as(self.as_str(), self.frontmatter_allowed, self.edition);
-        self.told = None;
-        self.at += token.len as usize;
+        self.ahead.at += token.len as usize;
         self.frontmatter_allowed = next_allowed(self.frontmatter_allowed, token.kind);
         Some(token)
     }

@@ -29,10 +29,14 @@ fn frontmatter_or_lexeme(text: &str) -> Token {
     }
 }
 
-/// Returns the frontmatter at the front of the text, or `None` if none opens there.
+/// Returns the frontmatter at the front of the text, or `None` if none opens there. Most texts begin with neither white
+/// space nor a dash, so it looks at one character first.
 ///
 /// White space before its dashes is part of it, unless the last character of that white space is a newline.
 pub(crate) fn frontmatter(text: &str) -> Option<Token> {
+    if !next_is(text, |c| c == '-' || is_whitespace(c)) {
+        return None;
+    }
     let fence = eat_whitespace(text);
     let label = eat_while(fence, |c| c == '-');
     let n_dashes = fence.len() - label.len();

@@ -24,10 +24,13 @@ returns c =
 
 pub invariant_of-result : goal.invariant_of-result
 invariant_of-result c = record {
-  fits = c.requires.fits;
-  bound = IsCharBoundary-start c.args.text.now c.utf8.text;
-  behind = omega arith;
-  small = omega arith;
-  past = none_tell c.args.text.now 0;
-  next = λ kind e. absurd (none-some kind e);
+  tells = record {
+    fits = c.requires.fits;
+    bound = IsCharBoundary-start c.args.text.now c.utf8.text;
+    behind = omega arith;
+    small = omega arith;
+    past = none_tell c.args.text.now 0;
+    next = λ kind e. absurd (none-some kind e);
+  };
+  newest = λ kind e. absurd (none-some kind e);
 }

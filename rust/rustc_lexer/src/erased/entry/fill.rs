@@ -30,8 +30,8 @@ impl<'a> Tokens<'a> {
         let rest = self.as_str();
         if self.is_part() && rest.len() >= BLOCK {
             let (count, bytes) = fill_part(rest, self.edition, buffer);
-            self.told = None;
-            self.at += bytes;
+            self.ahead.told = None;
+            self.ahead.at += bytes;
             return count;
         }
         self.fill_singly(buffer)

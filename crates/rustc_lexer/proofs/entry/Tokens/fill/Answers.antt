@@ -14,7 +14,7 @@ returns-then-rest-ge-BLOCK g c =
     let mode : Mode = mode_in c.self.inside.frontmatter_allowed edition in
     let text = c.as_str-rest.result.now in
     let whole = c.self.inside.text.now in
-    let at = c.self.inside.at in
+    let at = c.self.inside.ahead.at in
     let bytes = c.fill_part-count.result.1 in
     let is : IsText text = record { utf8 = c.as_str-rest.utf8; fits = c.as_str-rest.ensures.fits } in
     let same : mode ≡ s.mode = ap (λ (x : State). x.mode) c.self.view_is in

@@ -1,71 +1,88 @@
-use Rattle.std.proofs.Common.{List, ℕ, drop, drop-drop, sym, ap, subst, ◌∙◌}
+use Rattle.std.proofs.Common.{◌≡◌, ◌+◌, ◌<◌, ℕ, List, length, drop, drop-drop, refl, sym, ap, subst, ◌∙◌, arith}
 use Rattle.std.specs.Str.{IsUtf8}
 use Rattle.rustc_lexer.specs.{Token}
 use Rattle.rustc_lexer.specs.Classes.{Fits}
-use Rattle.rustc_lexer.specs.LanguageText.{mode_in}
+use Rattle.rustc_lexer.specs.LanguageText.{Mode, mode_in}
 use Rattle.rustc_lexer.specs.Tokens.{TakesToken}
 use Rattle.rustc_lexer.specs.State.{State}
+use Rattle.rustc_lexer.specs.laws.State.{state}
 use Rattle.rustc_lexer.specs.means.Lexeme.{first_token}
 use Rattle.rustc_lexer.specs.means.Taking.{token_at}
 use Rattle.rustc_lexer.specs.means.Quick.{BeginsWithNoHash}
 use Rattle.rustc_lexer.proofs.TokensLemmas.{goes, none_left, takes_own}
-use Rattle.rustc_lexer.proofs.ToldLemmas.{left_is, left_utf8, takes_at}
+use Rattle.rustc_lexer.proofs.ToldLemmas.{left_is, left_none, left_some, left_utf8, still, takes_at}
 use Rattle.rustc_lexer.proofs.entry.TokensIterator.next.Goals as goal
 
 pub returns-in-Some : goal.returns-in-Some
-returns-in-Some c = record { steps = c.in-Some.ensures; goes = goes _ _ _ c.in-Some.ensures }
+returns-in-Some c =
+    let inv = c.self.invariant in
+    let told = c.in-Some.ensures in
+    let text : List ℕ = c.self.inside.text.now in
+    let at : ℕ = c.self.inside.ahead.at in
+    let mode : Mode = mode_in c.self.inside.frontmatter_allowed c.self.inside.edition in
+    let newest = inv.newest c.in-Some.token.kind told.told in
+    let takes = takes_at _ _ text (drop at text) at c.args.self.now newest.0 newest.1 c.self.view_is told.utf8 refl inv.tells.bound inv.tells.fits (left_some text _ at refl told.some) c.in-Some.token told.first in
+    let taken : TakesToken c.args.self.now c.in-Some.token (state 0 (drop c.take.new.self.at text) mode) = subst (λ p. TakesToken c.args.self.now c.in-Some.token (state 0 (drop p text) mode)) (sym told.place) takes in
+    record { steps = taken; goes = goes _ _ _ taken }
 
-pub returns-then-is_empty-clause-steps : goal.returns-then-is_empty-clause-steps
-returns-then-is_empty-clause-steps c =
-    let rest = left_is c.self.inside.text.now c.as_bytes.result.now c.self.inside.at c.as_bytes.ensures.value ∙ ap (λ (x : State). x.rest) (c.self.view_is ∙ c.in_default.ensures) in
-    (none_left c.args.self.now _ rest (sym c.if-is_empty.ensures), c.in_default.ensures)
+pub returns-then-self-clause-steps : goal.returns-then-self-clause-steps
+returns-then-self-clause-steps c =
+    let text : List ℕ = c.self.inside.text.now in
+    let view = still text _ c.args.self.now _ _ c.in_default.ensures c.self.view_is in
+    (none_left c.args.self.now _ (ap (λ (x : State). x.rest) view) (left_none text _ c.if-self.true), view)
 
 pub quick_token-requires-clause-utf8 : goal.quick_token-requires-clause-utf8
 quick_token-requires-clause-utf8 c =
     let text : List ℕ = c.self.inside.text.now in
-    left_utf8 text _ c.self.inside.at (subst IsUtf8 c.as_bytes.ensures.value c.as_bytes.ensures.utf8) c.self.invariant.bound (left_is text c.as_bytes.result.now c.self.inside.at c.as_bytes.ensures.value)
+    left_utf8 text _ c.take.new.self.at (subst IsUtf8 c.as_bytes.ensures.value c.as_bytes.ensures.utf8) c.in_default.ensures.tells.bound (left_is text c.as_bytes.result.now c.take.new.self.at c.as_bytes.ensures.value)
 
 pub choose_token-chosen-requires-clause-no_hash : goal.choose_token-chosen-requires-clause-no_hash
 choose_token-chosen-requires-clause-no_hash c =
-    let rest = left_is c.self.inside.text.now c.as_bytes.result.now c.self.inside.at c.as_bytes.ensures.value ∙ (ap (λ (x : State). x.rest) c.self.view_is ∙ sym c.as_str.ensures.rest) in
+    let rest = left_is c.self.inside.text.now c.as_bytes.result.now c.take.new.self.at c.as_bytes.ensures.value ∙ sym c.as_str.ensures.rest in
     subst BeginsWithNoHash rest c.in_default-quick_token.ensures
 
 pub returns-then-not-matches : goal.returns-then-not-matches
 returns-then-not-matches c =
-    let inv = c.self.invariant in
     let text : List ℕ = c.self.inside.text.now in
-    let takes = takes_at _ _ text _ c.self.inside.at c.args.self.now c.in-No-E2024.is-0 c.in-No-E2024.is-1 (c.self.view_is ∙ c.in_default.ensures) (subst IsUtf8 c.as_bytes.ensures.value c.as_bytes.ensures.utf8)
-    (left_is text c.as_bytes.result.now c.self.inside.at c.as_bytes.ensures.value) inv.bound inv.fits (sym c.if-is_empty.ensures) _ c.in-Some-quick_token.ensures.token in
-    let taken : TakesToken c.args.self.now c.in-Some-quick_token.quick c.begin_told.new.self = subst (TakesToken c.args.self.now c.in-Some-quick_token.quick) (sym c.begin_told.ensures) takes in
+    let at : ℕ = c.take.new.self.at in
+    let known = c.in_default.ensures.tells in
+    let mode : Mode = mode_in c.self.inside.frontmatter_allowed c.self.inside.edition in
+    let left = left_is text c.as_bytes.result.now at c.as_bytes.ensures.value in
+    let takes = takes_at _ _ text _ at c.args.self.now c.in-No-E2024.is-0 c.in-No-E2024.is-1 (still text _ c.args.self.now _ _ c.in_default.ensures c.self.view_is) (subst IsUtf8 c.as_bytes.ensures.value c.as_bytes.ensures.utf8)
+    left known.bound known.fits (left_some text _ at left c.if-self.false) _ c.in-Some-quick_token.ensures.token in
+    let taken : TakesToken c.args.self.now c.in-Some-quick_token.quick (state 0 (drop c.begin.new.self.at text) mode) = subst (λ p. TakesToken c.args.self.now c.in-Some-quick_token.quick (state 0 (drop p text) mode)) (sym c.begin.ensures.at) takes in
     record { steps = taken; goes = goes _ _ _ taken }
 
 pub returns-else-not-matches : goal.returns-else-not-matches
 returns-else-not-matches c =
-    let inv = c.self.invariant in
     let text : List ℕ = c.self.inside.text.now in
-    let taken = takes_at _ _ text _ c.self.inside.at c.args.self.now c.in-No-E2024.is-0 c.in-No-E2024.is-1 (c.self.view_is ∙ c.in_default.ensures) (subst IsUtf8 c.as_bytes.ensures.value c.as_bytes.ensures.utf8)
-    (left_is text c.as_bytes.result.now c.self.inside.at c.as_bytes.ensures.value) inv.bound inv.fits (sym c.if-is_empty.ensures) _ c.in-Some-quick_token.ensures.token in
+    let at : ℕ = c.take.new.self.at in
+    let known = c.in_default.ensures.tells in
+    let left = left_is text c.as_bytes.result.now at c.as_bytes.ensures.value in
+    let taken = takes_at _ _ text _ at c.args.self.now c.in-No-E2024.is-0 c.in-No-E2024.is-1 (still text _ c.args.self.now _ _ c.in_default.ensures c.self.view_is) (subst IsUtf8 c.as_bytes.ensures.value c.as_bytes.ensures.utf8)
+    left known.bound known.fits (left_some text _ at left c.if-self.false) _ c.in-Some-quick_token.ensures.token in
     record { steps = taken; goes = goes _ _ _ taken }
 
 pub returns-in-No-E2024 : goal.returns-in-No-E2024
 returns-in-No-E2024 c =
-    let inv = c.self.invariant in
     let text : List ℕ = c.self.inside.text.now in
-    let left = left_is text c.as_bytes.result.now c.self.inside.at c.as_bytes.ensures.value in
-    let rest = c.as_str.ensures.rest ∙ (sym (ap (λ (x : State). x.rest) c.self.view_is) ∙ sym left) in
-    let taken = takes_at _ _ text _ c.self.inside.at c.args.self.now c.in-No-E2024.is-0 c.in-No-E2024.is-1 (c.self.view_is ∙ c.in_default.ensures) (subst IsUtf8 c.as_bytes.ensures.value c.as_bytes.ensures.utf8)
-    left inv.bound inv.fits (sym c.if-is_empty.ensures) _ (c.choose_token-chosen.ensures.token ∙ ap first_token rest) in
+    let at : ℕ = c.take.new.self.at in
+    let known = c.in_default.ensures.tells in
+    let left = left_is text c.as_bytes.result.now at c.as_bytes.ensures.value in
+    let rest = c.as_str.ensures.rest ∙ sym left in
+    let taken = takes_at _ _ text _ at c.args.self.now c.in-No-E2024.is-0 c.in-No-E2024.is-1 (still text _ c.args.self.now _ _ c.in_default.ensures c.self.view_is) (subst IsUtf8 c.as_bytes.ensures.value c.as_bytes.ensures.utf8)
+    left known.bound known.fits (left_some text _ at left c.if-self.false) _ (c.choose_token-chosen.ensures.token ∙ ap first_token rest) in
     record { steps = taken; goes = goes _ _ _ taken }
 
 pub returns : goal.returns
 returns c =
-    let inv = c.self.invariant in
-    let at : ℕ = c.self.inside.at in
     let text : List ℕ = c.self.inside.text.now in
-    let view = c.self.view_is ∙ c.in_default.ensures in
+    let at : ℕ = c.take.new.self.at in
+    let known = c.in_default.ensures.tells in
+    let view = still text _ c.args.self.now _ _ c.in_default.ensures c.self.view_is in
     let left = left_is text c.as_bytes.result.now at c.as_bytes.ensures.value in
-    let rest = c.as_str-2.ensures.rest ∙ (sym (ap (λ (x : State). x.rest) c.self.view_is) ∙ sym left) in
+    let rest = c.as_str-2.ensures.rest ∙ sym left in
     let token : Token = c.token_as-token.result in
-    let taken = takes_own _ _ (drop at text) _ c.args.self.now view (left ∙ ap (λ (x : State). x.rest) view) _ token (left_utf8 text _ at (subst IsUtf8 c.as_bytes.ensures.value c.as_bytes.ensures.utf8) inv.bound left) (subst Fits rest c.as_str-2.ensures.fits) (sym c.if-is_empty.ensures)
+    let taken = takes_own _ _ (drop at text) _ c.args.self.now view (left ∙ ap (λ (x : State). x.rest) view) _ token (left_utf8 text _ at (subst IsUtf8 c.as_bytes.ensures.value c.as_bytes.ensures.utf8) known.bound left) (subst Fits rest c.as_str-2.ensures.fits) (left_some text _ at left c.if-self.false)
     (c.token_as-token.ensures.token ∙ ap (token_at (mode_in c.self.inside.frontmatter_allowed c.self.inside.edition)) rest) (sym (drop-drop token.len at text) ∙ ap (drop token.len) (sym left)) (c.next_allowed-self-inside.ensures c.self.inside.edition) in
     record { steps = taken.takes; goes = goes _ _ _ taken.takes }

@@ -1,32 +1,42 @@
-//! The tokens of the iterator that the ends of runs tell, 64 bytes at a time.
-ghost use Rattle.std.specs.Prelude.{◌≡◌, ◌≤◌, ◌-◌, drop, length, MatchOption};
-ghost use Rattle.rustc_lexer.specs.{E2024};
-ghost use Rattle.rustc_lexer.specs.LanguageText.{part};
-ghost use Rattle.rustc_lexer.specs.Tokens.{TakesToken};
-ghost use Rattle.rustc_lexer.specs.means.Ends.{AreEndsPast};
+//! The place of the iterator in its text, and the tokens past it that the ends of runs tell, 64 bytes at a time.
+ghost use Rattle.std.specs.Prelude.{◌≡◌, ◌+◌, ◌≤◌, ◌-◌, drop, length, MatchOption};
+ghost use Rattle.rustc_lexer.specs.means.Ends.{AreEndsPast, IsUntold, TakesTold, TellsAhead};
 
-use crate::entry::Tokens;
 use crate::kernels::ends_of_runs;
 use crate::lexemes::classified::{classified_by, ends_after, past_lowest, turns};
-use crate::token::Token;
+use crate::token::{Token, TokenKind};
 
 /// How many bytes are searched at once for the ends of runs.
 const BLOCK: usize = 64;
 
-impl<'a> Tokens<'a> {
-    /// Takes the next token if its first byte and the ends of runs tell it, or else changes nothing that callers see.
+/// A place in a text, and what is known of the bytes past it.
+#[derive(Clone, Copy)]
+pub(crate) struct Ahead {
+    /// The place where the text that is left begins.
+    pub(crate) at: usize,
+    /// The place where the bytes begin whose ends of runs are known.
+    pub(crate) block: usize,
+    /// The ends of runs from `block` on, as bits, or 0. Those up to `at` mean nothing.
+    pub(crate) ends: u64,
+    /// The kind of the next token, if its first byte and `ends` may determine all of it. Then no bit up to `at` is set.
+    pub(crate) told: Option<TokenKind>,
+}
+
+impl Ahead {
+    /// Takes the next token of the text if its first byte and the ends of runs tell it.
     #[inline(always)]
-    pub(crate) fn take_told(&mut self) -> Option<Token>
-        ensures { MatchOption result (self.new ≡ self.old)
-            (λ token. TakesToken self.old token self.new) }
+    pub(crate) fn take(&mut self, text: &str) -> Option<Token>
+        requires { TellsAhead text.now self.old }
+        ensures { MatchOption result (IsUntold text.now self.old self.new)
+            (TakesTold text.now self.old self.new) }
     {
         let kind = self.told?;
-        let (block, ends) = ends_ahead(self.text, self.at, self.block, self.ends);
+        let (block, ends) = ends_ahead(text, self.at, self.block, self.ends);
         self.block = block;
         self.ends = ends;
         if ends != 0 {
             let end = block + ends.trailing_zeros() as usize;
-            let next = self.text.as_bytes()[end];
+            let next = text.as_bytes()[end];
             // A byte that determines its own token never changes the token before it.
             let told = classified_by(next);
             if told.is_some() || !turns(kind, next) {
@@ -44,14 +54,15 @@ impl<'a> Tokens<'a> {
     /// Begins to take tokens by the ends of runs if the first byte that is left allows it and many bytes are left. The
     /// ends that are known already are kept.
     #[inline(always)]
-    pub(crate) fn begin_told(&mut self)
-        requires { self.old.mode ≡ part E2024 }
-        ensures { self.new ≡ self.old }
+    pub(crate) fn begin(&mut self, text: &str)
+        requires { TellsAhead text.now self.old }
+        ensures at { self.new.at ≡ self.old.at }
+        ensures tells { TellsAhead text.now self.new }
     {
-        if self.text.len() - self.at < BLOCK {
+        if text.len() - self.at < BLOCK {
             return;
         }
-        let told = classified_by(self.text.as_bytes()[self.at]);
+        let told = classified_by(text.as_bytes()[self.at]);
         if told.is_some() {
             self.ends = ends_after(self.ends, self.at - self.block);
             self.told = told;

@@ -1,0 +1,72 @@
+use Rattle.std.proofs.Common.{◌≡◌, ◌+◌, ◌-◌, ◌^◌, ◌<◌, ℕ, List, length-drop, drop, get_or, refl, sym, ap, subst, ◌∙◌, arith, is_some}
+use Rattle.std.specs.ControlFlow.{continue_value}
+use lib.Count.{count_trailing_zeros}
+use Rattle.std.specs.Str.{IsUtf8}
+use Rattle.rustc_lexer.specs.means.Ends.{IsLowest, StaysWithin, classified}
+use Rattle.rustc_lexer.proofs.BitLemmas.{lowest, below-lowest}
+use Rattle.rustc_lexer.proofs.EndsLemmas.{classified_stays}
+use Rattle.rustc_lexer.proofs.ToldLemmas.{TellsNext, all_tell, told_after, told_ahead, told_bound, told_inside, told_token}
+use Rattle.rustc_lexer.proofs.entry.ahead.Ahead.take.Goals as goal
+use Rattle.rustc_lexer.proofs.entry.ahead.Ahead.take.Goals.{then-is_some-via-then-is_some, then-is_some-via-else-is_some+then-not-turns}
+
+least : (ends : ℕ) → 0 < ends → ends < 2 ^ 64 → IsLowest ends (count_trailing_zeros 64 ends)
+least ends some small = record { set = lowest ends some small; least = below-lowest ends some small }
+
+pub bounds-as_bytes-end : goal.bounds-as_bytes-end
+bounds-as_bytes-end c =
+    let low = least c.ends_ahead-block.result.1 (omega (arith, c.if-ends-ne0.true)) (omega arith) in
+    let inside = (c.ends_ahead-block.ensures.known _ low.set).1 in
+    let left = length-drop c.ends_ahead-block.result.0 c.args.text.now in
+    omega (arith, inside, left, c.as_bytes.ensures.len)
+
+pub overflow_sub-len : goal.overflow_sub-len
+overflow_sub-len c =
+    let low = least c.ends_ahead-block.result.1 (omega (arith, c.if-ends-ne0.true)) (omega arith) in
+    let after = (c.ends_ahead-block.ensures.known _ low.set).0 in
+    omega (arith, after, c.ends_ahead-block.ensures.behind)
+
+pub returns-then-is_some : goal.returns-then-is_some
+returns-then-is_some c =
+    let known = c.requires in
+    let text : List ℕ = c.args.text.now in
+    let at : ℕ = c.args.self.now.at in
+    let block : ℕ = c.ends_ahead-block.result.0 in
+    let ends : ℕ = c.ends_ahead-block.result.1 in
+    let low : ℕ = count_trailing_zeros 64 ends in
+    let lowest : IsLowest ends low = least ends (omega (arith, c.if-ends-ne0.true)) (omega arith) in
+    let is = c.branch-kind.ensures ∙ ap continue_value c.in_ok-kind.is in
+    let byte : get_or c.as_bytes.result.now (block + low) 0 ≡ get_or text (block + low) 0 = ap (λ (xs : List ℕ). get_or xs (block + low) 0) c.as_bytes.ensures.value in
+    let stays : StaysWithin c.in_ok-kind.kind (get_or c.as_bytes.result.now (block + low) 0) = elim c.then-is_some.branch [
+      | then-is_some-via-then-is_some w ↦ classified_stays c.in_ok-kind.kind _ (ap is_some (sym c.classified_by-told.ensures) ∙ sym w.if-is_some.ensures)
+      | then-is_some-via-else-is_some+then-not-turns w ↦ w.turns.ensures w.if-not-turns.true
+    ] in
+    let next : TellsNext text at block ends low c.in_ok-kind.kind = record {
+      utf8 = c.utf8.text;
+      bound = known.bound;
+      behind = c.ends_ahead-block.ensures.behind;
+      small = omega arith;
+      tells = (known.next c.in_ok-kind.kind is).tells;
+      known = c.ends_ahead-block.ensures.known;
+      lowest = lowest;
+      stays = subst (StaysWithin c.in_ok-kind.kind) byte stays;
+    } in
+    let ahead = told_ahead text at block ends low c.in_ok-kind.kind next c.past_lowest-self.result (λ k le. c.past_lowest-self.ensures.gone low k lowest le) (λ k l. c.past_lowest-self.ensures.others low k lowest l) in
+    let after = told_after text at block ends low c.in_ok-kind.kind next in
+    record {
+      utf8 = c.utf8.text;
+      told = is;
+      some = let inside = told_inside text at block ends low c.in_ok-kind.kind next in omega (arith, after, inside);
+      first = (told_token text at block ends low c.in_ok-kind.kind next).token;
+      place = omega (arith, after);
+      tells = record {
+        fits = known.fits;
+        bound = told_bound text at block ends low c.in_ok-kind.kind next;
+        behind = omega arith;
+        small = omega arith;
+        past = all_tell (drop block text) (block + low - block) c.past_lowest-self.result ahead;
+        next = λ kind e. record {
+          tells = ap classified (sym byte) ∙ (sym c.classified_by-told.ensures ∙ e);
+          ahead = ahead;
+        };
+      };
+    }
