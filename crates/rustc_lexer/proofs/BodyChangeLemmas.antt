@@ -4,7 +4,7 @@ use Rattle.rustc_lexer.specs.{Token}
 use Rattle.rustc_lexer.specs.declared.relex.head.Head.{Head}
 use Rattle.rustc_lexer.specs.declared.relex.relexing.{Change.Change, Relexed.Relexed}
 use Rattle.rustc_lexer.specs.Classes.{IsText}
-use Rattle.rustc_lexer.specs.Document.{body_start, head_tokens, IsRelexedDocument, KeepsHead}
+use Rattle.rustc_lexer.specs.Document.{body_start, head_tokens, IsRelexedDocument}
 use Rattle.rustc_lexer.specs.Edits.{apply, IsEdit, IsRelexed}
 use Rattle.rustc_lexer.specs.Head.{body_change, counted, IsBodyChange, IsHeadOf}
 use Rattle.rustc_lexer.specs.Locality.{IsGrammar}

@@ -19,8 +19,6 @@ use Rattle.rustc_lexer.specs.laws.Edition.{edition_grammar}
 use Rattle.rustc_lexer.specs.laws.Cuts.{IsCutAt, at_bound, tokens-cons, tokens-nil}
 use Rattle.rustc_lexer.proofs.ProgressLemmas.{IsPlace, next-from_drop}
 use Rattle.rustc_lexer.specs.laws.State.{state, past_token, edition-after, advance-some}
-use Rattle.rustc_lexer.specs.laws.Tokens.{partitions}
-use Rattle.rustc_lexer.proofs.TokensLemmas.{restarts}
 
 -- the first `count` tokens are written, and the rest of the buffer is as it was
 pub record IsWritten {X : Type 0} (written : Token → X) (tokens : List Token) (buffer filled : List X) (count : ℕ) : Type 0 where

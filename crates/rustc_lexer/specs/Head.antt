@@ -1,5 +1,5 @@
 -- The head of a document as a value, and what an edit of the document is to its body: for callers who keep lists of their own.
-use Rattle.std.specs.Prelude.{ℕ, zero, suc, ◌+◌, ◌-◌, ◌≡◌, ◌↔◌, IsTrue, List, [], ◌∷◌, length, map, take, drop, max, Option, Some, None, Bool, true, false}
+use Rattle.std.specs.Prelude.{ℕ, zero, suc, ◌+◌, ◌-◌, ◌≡◌, ◌↔◌, IsTrue, List, [], ◌∷◌, length, map, drop, max, Option, Some, None, Bool, true, false}
 use Rattle.rustc_lexer.specs.declared.relex.{head.Head.Head, relexing.Change.Change, relexing.Relexed.Relexed}
 use Rattle.rustc_lexer.specs.{Token, Whitespace}
 use Rattle.rustc_lexer.specs.Document.{body_start, head_tokens, shebang_len, IsRelexedDocument, KeepsHead}

@@ -2,7 +2,7 @@
 -- have a suffix. `w`, `next` and names in capitals are as in Language.antt; all texts here are
 -- characters. The field of RawStr, RawByteStr and RawCStr is n_hashes, that of the other quoted kinds
 -- is terminated. What is unclosed or refused is not in the Reference.
-use Rattle.std.specs.Prelude.{◌≡◌, ◌<◌, ◌≤◌, ℕ, zero, suc, ◌==◌, Bool, true, false, [], ◌∷◌, ◌++◌, length, codes, is_some, Option, Some, None}
+use Rattle.std.specs.Prelude.{◌≡◌, ◌<◌, ◌≤◌, ℕ, zero, suc, ◌==◌, Bool, true, false, [], ◌∷◌, ◌++◌, codes, is_some, Option, Some, None}
 use Rattle.std.specs.Str.{byte}
 use Rattle.rustc_lexer.specs.{LiteralKind, Char, Byte, Str, ByteStr, CStr, RawStr, RawByteStr, RawCStr}
 use Rattle.rustc_lexer.specs.Classes.{is_among, is_id_start, is_id_continue, is_ident, Chars, begins, AreAll, NextIsNot, BeginsNot, NextIn, is_word_continue, is_name_start, begins_ident_after}

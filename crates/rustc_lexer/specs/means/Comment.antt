@@ -1,5 +1,5 @@
 -- Means, by how it is read: comments.
-use Rattle.std.specs.Prelude.{ℕ, ◌&&◌, not, Bool, if◌then◌else◌, List, codes, Option, Some, None}
+use Rattle.std.specs.Prelude.{ℕ, ◌&&◌, not, if◌then◌else◌, List, codes, Option, Some, None}
 use Rattle.rustc_lexer.specs.{DocStyle, TokenKind, Outer, Inner, LineComment, Slash}
 use Rattle.rustc_lexer.specs.Classes.{is_inline}
 use Rattle.rustc_lexer.specs.means.BlockComment.{block_comment}

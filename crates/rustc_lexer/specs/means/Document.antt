@@ -1,9 +1,9 @@
 -- Means, by how it is read: the head of a document, and what an edit keeps of the document by it.
-use Rattle.std.specs.Prelude.{ℕ, zero, suc, ◌+◌, ◌-◌, ◌≤◌, ◌≡◌, if◌then◌else◌, List, [], ◌∷◌, ◌++◌, length, take, drop, chars, max, Option, Some, None, Bool, true, false, IsCharBoundary}
+use Rattle.std.specs.Prelude.{ℕ, ◌+◌, ◌-◌, ◌≤◌, ◌≡◌, if◌then◌else◌, List, ◌++◌, length, take, drop, chars, Option, Some, None, Bool, true, false, IsCharBoundary}
 use Rattle.rustc_lexer.specs.declared.relex.checkpoints.Checkpoints.{Checkpoints}
 use Rattle.rustc_lexer.specs.declared.relex.head.Head.{Head}
 use Rattle.rustc_lexer.specs.declared.relex.relexing.{Change.Change, Relexed.Relexed, Relexing.Relexing}
-use Rattle.rustc_lexer.specs.{Token, Whitespace}
+use Rattle.rustc_lexer.specs.{Token}
 use Rattle.rustc_lexer.specs.Classes.{IsText}
 use Rattle.rustc_lexer.specs.Document.{shebang_len}
 pub use Rattle.rustc_lexer.specs.Head.{body_change, counted, front_tokens, tokens_of_head}

@@ -1,7 +1,6 @@
-use Rattle.std.proofs.Common.{◌≡◌, ◌+◌, ◌-◌, ◌^◌, ◌<◌, ℕ, List, length-drop, drop, get_or, refl, sym, ap, subst, ◌∙◌, arith, is_some}
+use Rattle.std.proofs.Common.{◌≡◌, ◌+◌, ◌-◌, ◌^◌, ◌<◌, ℕ, List, length-drop, drop, get_or, sym, ap, subst, ◌∙◌, arith, is_some}
 use Rattle.std.specs.ControlFlow.{continue_value}
 use lib.Count.{count_trailing_zeros}
-use Rattle.std.specs.Str.{IsUtf8}
 use Rattle.rustc_lexer.specs.means.Ends.{IsLowest, StaysWithin, classified}
 use Rattle.rustc_lexer.proofs.BitLemmas.{lowest, below-lowest}
 use Rattle.rustc_lexer.proofs.EndsLemmas.{classified_stays}
