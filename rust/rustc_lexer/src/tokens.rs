@@ -1,7 +1,5 @@
 //! The tokens of a text, as an iterator.
 
-#[cfg(feature = "alloc")]
-use crate::TokenKind;
 use crate::{Edition, FrontmatterAllowed, Record, Token, erased, fitting};
 #[cfg(feature = "alloc")]
 use alloc::vec::Vec;
@@ -99,7 +97,7 @@ impl<'a> Tokens<'a> {
         self.0.fill(buffer)
     }
 
-    /// Returns the tokens that are left, and finds many at a time. `collect` takes them one by one.
+    /// Returns the tokens that are left, as `collect` does.
     ///
     /// ```
     /// use rustc_lexer::{tokenize, FrontmatterAllowed};
@@ -108,19 +106,8 @@ impl<'a> Tokens<'a> {
     /// ```
     #[cfg(feature = "alloc")]
     #[must_use]
-    pub fn into_vec(mut self) -> Vec<Token> {
-        let mut tokens = Vec::new();
-        let mut buffer = [Token {
-            kind: TokenKind::Eof,
-            len: 0,
-        }; 32];
-        loop {
-            let count = self.fill(&mut buffer);
-            tokens.extend_from_slice(&buffer[..count]);
-            if count < buffer.len() {
-                return tokens;
-            }
-        }
+    pub fn into_vec(self) -> Vec<Token> {
+        self.collect()
     }
 }
 

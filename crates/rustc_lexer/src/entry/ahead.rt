@@ -6,8 +6,8 @@ use crate::kernels::ends_of_runs;
 use crate::lexemes::classified::{classified_by, ends_after, past_lowest, turns};
 use crate::token::{Token, TokenKind};
 
-/// How many bytes are searched at once for the ends of runs.
-const BLOCK: usize = 64;
+/// How many bytes are searched at once for the ends of runs. For fewer bytes the search costs more than it saves.
+pub(crate) const BLOCK: usize = 64;
 
 /// A place in a text, and what is known of the bytes past it.
 #[derive(Clone, Copy)]

@@ -8,11 +8,9 @@ ghost use Rattle.rustc_lexer.specs.means.Tokens.{IsFilled};
 use crate::bulk::{self, Record};
 use crate::edition::Edition;
 use crate::entry::Tokens;
+use crate::entry::ahead::BLOCK;
 use crate::token::FrontmatterAllowed;
 use std::iter::Iterator;
-
-/// How many bytes are searched at once for the ends of runs. For fewer bytes the search costs more than it saves.
-const BLOCK: usize = 64;
 
 impl<'a> Tokens<'a> {
     /// Writes the next tokens into the buffer, as many as are left or as there is room for, and returns how many.

@@ -4,8 +4,8 @@ use crate::erased::kernels::ends_of_runs;
 use crate::erased::lexemes::classified::{classified_by, ends_after, past_lowest, turns};
 use crate::erased::token::{Token, TokenKind};
 
-/// How many bytes are searched at once for the ends of runs.
-const BLOCK: usize = 64;
+/// How many bytes are searched at once for the ends of runs. For fewer bytes the search costs more than it saves.
+pub(crate) const BLOCK: usize = 64;
 
 /// A place in a text, and what is known of the bytes past it.
 #[derive(Clone, Copy)]

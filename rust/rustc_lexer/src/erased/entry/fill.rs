@@ -3,11 +3,9 @@
 use crate::erased::bulk::{self, Record};
 use crate::erased::edition::Edition;
 use crate::erased::entry::Tokens;
+use crate::erased::entry::ahead::BLOCK;
 use crate::erased::token::FrontmatterAllowed;
 use core::iter::Iterator;
-
-/// How many bytes are searched at once for the ends of runs. For fewer bytes the search costs more than it saves.
-const BLOCK: usize = 64;
 
 impl<'a> Tokens<'a> {
     /// Writes the next tokens into the buffer, as many as are left or as there is room for, and returns how many.
