@@ -1,29 +1,22 @@
 -- The known bytes of readers and writers, over loops.
-use Rattle.std.proofs.Common.{◌≡◌, ℕ, ◌+◌, ◌-◌, List, [], ◌++◌, length, take, drop, refl, sym, ap, ◌∙◌, arith, append_assoc, append-nil, length-append, take-append-drop, take_at, length-drop, take_all, subst, Option, Some, None}
+use Rattle.std.proofs.Common.{◌≡◌, ℕ, ◌+◌, ◌-◌, List, [], ◌++◌, length, take, drop, refl, sym, ap, ◌∙◌, arith, append_assoc, append-nil, length-append, take-append-drop, take_at, length-drop, take_all, subst, Option}
+use Rattle.std.proofs.lemmas.Grind.{common_steps}
 use Rattle.std.specs.Io.KnownBytes.{Appends, Keeps}
 use Rattle.std.proofs.Math.Seq.{take-append-add}
 use Rattle.std.proofs.lemmas.List.{take-append-le}
 use Rattle.ends.specs.Known.{AppendsFront, Went}
 
 pub keeps_same : (old : Option (List ℕ)) → Keeps old old
-keeps_same None = tt
-keeps_same (Some xs) = refl
+keeps_same old = grind (arith, common_steps)
 
 pub appends-none : (old : Option (List ℕ)) → Appends old old []
-appends-none None = tt
-appends-none (Some xs) = sym (append-nil xs)
+appends-none old = grind (arith, common_steps, append-nil)
 
 pub appends-more : (old mid new : Option (List ℕ)) (xs ys : List ℕ) → Appends old mid xs → Appends mid new ys → Appends old new (xs ++ ys)
-appends-more None mid new xs ys a b = tt
-appends-more (Some o) None new xs ys a b = absurd a
-appends-more (Some o) (Some m) None xs ys a b = absurd b
-appends-more (Some o) (Some m) (Some n) xs ys a b = b ∙ (ap (λ zs. zs ++ ys) a ∙ append_assoc o xs ys)
+appends-more old mid new xs ys a b = grind (arith, common_steps, append_assoc)
 
 pub appends-kept : (old mid new : Option (List ℕ)) (xs : List ℕ) → Appends old mid xs → Keeps mid new → Appends old new xs
-appends-kept None mid new xs a b = tt
-appends-kept (Some o) None new xs a b = absurd a
-appends-kept (Some o) (Some m) None xs a b = absurd b
-appends-kept (Some o) (Some m) (Some n) xs a b = b ∙ a
+appends-kept old mid new xs a b = grind (arith, common_steps)
 
 pub went_more : (old mid new : Option (List ℕ)) (text rest cut : List ℕ) (n : ℕ) → Went old mid text rest → Appends mid new (take n rest) → cut ≡ drop n rest → Went old new text cut
 went_more old mid new text rest cut n w a e = record {
@@ -47,8 +40,7 @@ cut_past n rest = take_all (length rest - n) (drop n rest) (omega (arith, length
 
 -- a beginning of a text is one of each text that goes on from it
 pub front_first : (old new : Option (List ℕ)) (xs ys text : List ℕ) → xs ++ ys ≡ text → AppendsFront old new xs → AppendsFront old new text
-front_first old new xs ys text e f =
-    (f.0, omega (arith, f.1, length-append xs ys, ap length e), subst (λ (zs : List ℕ). Appends old new zs) (sym (ap (take f.0) (sym e) ∙ take-append-le f.0 xs ys f.1)) f.2)
+front_first old new xs ys text e f = grind (arith, common_steps, length-append, take-append-le)
 
 -- a text and then a beginning of another
 pub front_more : (old mid new : Option (List ℕ)) (xs ys text : List ℕ) → xs ++ ys ≡ text → Appends old mid xs → AppendsFront mid new ys → AppendsFront old new text

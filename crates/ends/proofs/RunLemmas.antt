@@ -1,5 +1,5 @@
 -- What a run comes to, by what was read and what was written.
-use Rattle.std.proofs.Common.{◌≡◌, ℕ, ◌^◌, ◌<◌, List, length, Option, Some, None, Result, Ok, Err, Vec, Global, arith}
+use Rattle.std.proofs.Common.{◌≡◌, ℕ, ◌^◌, ◌<◌, List, length, Option, Result, Ok, Err, Vec, Global, arith}
 use Rattle.std.proofs.lemmas.Grind.{common_steps}
 use Rattle.std.specs.Prelude.{IfSome}
 use Rattle.std.specs.Str.{IsUtf8}
@@ -11,15 +11,13 @@ use Rattle.ends.specs.declared.stop.Stop.{Stop}
 use Rattle.ends.specs.declared.stop.Stop.TheVariants.{NotUtf8}
 
 pub read_known : (known : Option (List ℕ)) (read : Vec ℕ Global) → EndsReading known (Ok read) → IfSome known (λ bytes. read.items ≡ bytes)
-read_known None read ends = tt
-read_known (Some bytes) read ends = ends
+read_known known read ends = grind (arith, common_steps)
 
 pub unread : (known : Option (List ℕ)) (stop : ReadStop) → EndsReading known (Err stop) → IsInputStop known (read_stop stop)
 unread known stop ends = grind (arith, common_steps)
 
 pub no_text : (known : Option (List ℕ)) (read : Vec ℕ Global) → EndsReading known (Ok read) → length read.items < 2 ^ 32 → ¬ (IsUtf8 read.items) → IsInputStop known NotUtf8
-no_text None read ends fits other = tt
-no_text (Some bytes) read ends fits other = rw (← ends) (fits, other)
+no_text known read ends fits other = grind (arith, common_steps)
 
 -- no text was read
 pub makes_unread : (made : List ℕ → List ℕ) (known old new : Option (List ℕ)) (stop : Stop) → IsInputStop known stop → Makes made known old new (Err stop)

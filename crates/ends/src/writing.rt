@@ -18,6 +18,7 @@ pub enum WriteStop {
 }
 
 /// Writes all of the bytes, and flushes.
+#[tactic(auto, using(crate::proofs::FlagLemmas::fault_unless))]
 pub fn write_all<W: Write>(output: &mut Watched<W>, bytes: &[u8]) -> Result<(), WriteStop>
     ensures failed { output.new.failed ≡ (output.old.failed || is_err result) }
     ensures faulty { output.new.faulty ≡ (output.old.faulty || is_fault result) }
@@ -36,6 +37,7 @@ pub fn write_all<W: Write>(output: &mut Watched<W>, bytes: &[u8]) -> Result<(), 
 }
 
 /// Writes all of the bytes.
+#[tactic(auto, using(crate::proofs::KnownLemmas::went_more, crate::proofs::KnownLemmas::cut_past))]
 pub fn write_bytes<W: Write>(output: &mut Watched<W>, bytes: &[u8]) -> Result<(), WriteStop>
     ensures failed { output.new.failed ≡ (output.old.failed || is_err result) }
     ensures faulty { output.new.faulty ≡ (output.old.faulty || is_fault result) }

@@ -1,8 +1,8 @@
 -- One token more that is written by its fate.
-use Rattle.std.proofs.Common.{◌≡◌, ℕ, List, ◌∷◌, ◌++◌, [], ◌+◌, ◌<◌, length, get_or, take, drop, Option, Some, None, sym, ap, subst, ◌∙◌, append_assoc, map, ◌≢◌, ◌-◌, arith, Bool, true, false, MatchBool}
+use Rattle.std.proofs.Common.{◌≡◌, ℕ, List, ◌∷◌, ◌++◌, ◌+◌, ◌<◌, length, get_or, take, Option, Some, None, sym, ap, subst, ◌∙◌, append_assoc, map, ◌≢◌, ◌-◌, arith, Bool, true, false, MatchBool}
+use Rattle.std.proofs.lemmas.Grind.{common_steps}
 use Rattle.std.proofs.lemmas.Bool.{true≢false}
 use Rattle.std.proofs.lemmas.List.{get_or-map, length-map, map_more}
-use Rattle.std.specs.Option.{option_map}
 use Rattle.rustc_lexer.specs.declared.token.Token.{Token}
 use Rattle.rustc_lexer.specs.declared.token.TokenKind.{TokenKind}
 use Rattle.rustc_lexer.specs.State.{State}
@@ -14,7 +14,7 @@ use Rattle.erase_run.specs.declared.stand.Stand.{Stand}
 use Rattle.erase_run.specs.declared.source.Piece.{Piece}
 use Rattle.erase_run.specs.declared.source.Target.{Target}
 use Rattle.erase_run.specs.Erased.{piece, written, meant, words_meant, word, words_in, lexeme}
-use Rattle.erase_run.specs.Fates.{step_in, misfit, misfit_behind, misfit_in}
+use Rattle.erase_run.specs.Fates.{step_in, misfit, misfit_in}
 use Rattle.erase_run.specs.Lines.{line_behind}
 use Rattle.erase_run.specs.Misfits.{IsFateMisfit}
 
@@ -22,83 +22,47 @@ pub written-step : (lines : List Line) (s t : State) (token : Token) (fates late
     → TakesToken s token t → part ≡ take token.len s.rest → fates ≡ fate ∷ later
     → now ≡ before ++ piece lines fate part → before ++ written lines s.rest (tokens_left s) fates ≡ whole
     → now ++ written lines t.rest (tokens_left t) later ≡ whole
-written-step lines s t token fates later fate before now part whole step is split made more =
-    ap (λ (xs : List ℕ). xs ++ written lines t.rest (tokens_left t) later) appended
-    ∙ (append_assoc before (piece lines fate (take token.len s.rest)) (written lines t.rest (tokens_left t) later)
-    ∙ (ap (λ (xs : List ℕ). before ++ (piece lines fate (take token.len s.rest) ++ written lines xs (tokens_left t) later)) step.rest
-    ∙ (ap (λ (fs : List Fate). before ++ written lines s.rest (token ∷ tokens_left t) fs) (sym split)
-    ∙ (ap (λ (ts : List Token). before ++ written lines s.rest ts fates) (sym step.first) ∙ more))))
-  where
-    appended : now ≡ before ++ piece lines fate (take token.len s.rest)
-    appended = made ∙ ap (λ (xs : List ℕ). before ++ piece lines fate xs) is
+written-step lines s t token fates later fate before now part whole step is split made more = grind (arith, common_steps, append_assoc)
 
 pub misfit-step : (source : List ℕ) (target : Target) (place : ℕ) (s t : State) (token : Token) (fates later : List Fate) (fate : Fate) (stand next : Stand) (part : List ℕ) (whole : Option ℕ)
     → TakesToken s token t → part ≡ take token.len s.rest → fates ≡ fate ∷ later → Some next ≡ step_in source target stand fate token.kind part
     → misfit_in source target place stand s.rest (tokens_left s) fates ≡ whole
     → misfit_in source target (place + token.len) next t.rest (tokens_left t) later ≡ whole
-misfit-step source target place s t token fates later fate stand next part whole taken is split goes more =
-    ap (λ (xs : List ℕ). misfit_in source target (place + token.len) next xs (tokens_left t) later) taken.rest
-    ∙ (ap (λ (o : Option Stand). misfit_behind place o (λ (n : Stand). misfit_in source target (place + token.len) n (drop token.len s.rest) (tokens_left t) later)) (goes ∙ ap (λ (xs : List ℕ). step_in source target stand fate token.kind xs) is)
-    ∙ (ap (λ (fs : List Fate). misfit_in source target place stand s.rest (token ∷ tokens_left t) fs) (sym split)
-    ∙ (ap (λ (ts : List Token). misfit_in source target place stand s.rest ts fates) (sym taken.first) ∙ more)))
+misfit-step source target place s t token fates later fate stand next part whole taken is split goes more = grind (arith, common_steps)
 
 -- a token that may not have its fate
 pub misfit-here : (source : List ℕ) (target : Target) (place : ℕ) (s t : State) (token : Token) (fates later : List Fate) (fate : Fate) (stand : Stand) (part : List ℕ) (whole : Option ℕ)
     → TakesToken s token t → part ≡ take token.len s.rest → fates ≡ fate ∷ later → None ≡ step_in source target stand fate token.kind part
     → misfit_in source target place stand s.rest (tokens_left s) fates ≡ whole
     → whole ≡ Some place
-misfit-here source target place s t token fates later fate stand part whole taken is split goes more =
-    sym (ap (λ (o : Option Stand). misfit_behind place o (λ (n : Stand). misfit_in source target (place + token.len) n (drop token.len s.rest) (tokens_left t) later)) (goes ∙ ap (λ (xs : List ℕ). step_in source target stand fate token.kind xs) is)
-    ∙ (ap (λ (fs : List Fate). misfit_in source target place stand s.rest (token ∷ tokens_left t) fs) (sym split)
-    ∙ (ap (λ (ts : List Token). misfit_in source target place stand s.rest ts fates) (sym taken.first) ∙ more)))
+misfit-here source target place s t token fates later fate stand part whole taken is split goes more = grind (arith, common_steps)
 
 pub words-step : (lines : List Line) (s t : State) (token : Token) (fates later : List Fate) (fate : Fate) (before now : List (TokenKind × List ℕ)) (part : List ℕ) (whole : List (TokenKind × List ℕ))
     → TakesToken s token t → part ≡ take token.len s.rest → fates ≡ fate ∷ later
     → now ≡ before ++ meant lines fate token.kind part → before ++ words_meant lines s.rest (tokens_left s) fates ≡ whole
     → now ++ words_meant lines t.rest (tokens_left t) later ≡ whole
-words-step lines s t token fates later fate before now part whole step is split made more =
-    ap (λ (xs : List (TokenKind × List ℕ)). xs ++ words_meant lines t.rest (tokens_left t) later) appended
-    ∙ (append_assoc before (meant lines fate token.kind (take token.len s.rest)) (words_meant lines t.rest (tokens_left t) later)
-    ∙ (ap (λ (xs : List ℕ). before ++ (meant lines fate token.kind (take token.len s.rest) ++ words_meant lines xs (tokens_left t) later)) step.rest
-    ∙ (ap (λ (fs : List Fate). before ++ words_meant lines s.rest (token ∷ tokens_left t) fs) (sym split)
-    ∙ (ap (λ (ts : List Token). before ++ words_meant lines s.rest ts fates) (sym step.first) ∙ more))))
-  where
-    appended : now ≡ before ++ meant lines fate token.kind (take token.len s.rest)
-    appended = made ∙ ap (λ (xs : List ℕ). before ++ meant lines fate token.kind xs) is
+words-step lines s t token fates later fate before now part whole step is split made more = grind (arith, common_steps, append_assoc)
 
 -- one token more whose word is appended
 pub word-step : (s t : State) (token : Token) (before now : List (TokenKind × List ℕ)) (part : List ℕ) (whole : List (TokenKind × List ℕ))
     → TakesToken s token t → part ≡ take token.len s.rest
     → now ≡ before ++ word token.kind part → before ++ words_in s.rest (tokens_left s) ≡ whole
     → now ++ words_in t.rest (tokens_left t) ≡ whole
-word-step s t token before now part whole step is made more =
-    ap (λ (xs : List (TokenKind × List ℕ)). xs ++ words_in t.rest (tokens_left t)) appended
-    ∙ (append_assoc before (word token.kind (take token.len s.rest)) (words_in t.rest (tokens_left t))
-    ∙ (ap (λ (xs : List ℕ). before ++ (word token.kind (take token.len s.rest) ++ words_in xs (tokens_left t))) step.rest
-    ∙ (ap (λ (ts : List Token). before ++ words_in s.rest ts) (sym step.first) ∙ more)))
-  where
-    appended : now ≡ before ++ word token.kind (take token.len s.rest)
-    appended = made ∙ ap (λ (xs : List ℕ). before ++ word token.kind xs) is
+word-step s t token before now part whole step is made more = grind (arith, common_steps, append_assoc)
 
 -- what a test tells where it holds, and where it does not
 told_yes : (Yes No : Type 0) (told : Bool) → MatchBool told Yes No → told ≡ true → Yes
-told_yes Yes No true is e = is
-told_yes Yes No false is e = absurd (true≢false (sym e))
+told_yes Yes No told is holds = grind (arith, common_steps, true≢false)
 
 told_no : (Yes No : Type 0) (told : Bool) → MatchBool told Yes No → told ≡ false → No
-told_no Yes No true is e = absurd (true≢false e)
-told_no Yes No false is e = is
+told_no Yes No told is fails = grind (arith, common_steps, true≢false)
 
 -- one piece more of two lists that have the same words up to it
 pub more-same : (xs ys : List Piece) (i : ℕ) (d e : Piece) (same : Bool) → i < length xs → length xs ≡ length ys
     → map lexeme (take i xs) ≡ map lexeme (take i ys)
     → MatchBool same (lexeme (get_or xs i d) ≡ lexeme (get_or ys i e)) (lexeme (get_or xs i d) ≢ lexeme (get_or ys i e)) → same ≡ true
     → map lexeme (take (i + 1) xs) ≡ map lexeme (take (i + 1) ys)
-more-same xs ys i d e same below long before told holds =
-    map_more lexeme xs i d below
-    ∙ (ap (λ (ws : List (TokenKind × List ℕ)). ws ++ lexeme (get_or xs i d) ∷ []) before
-    ∙ (ap (λ (w : TokenKind × List ℕ). map lexeme (take i ys) ++ w ∷ []) (told_yes (lexeme (get_or xs i d) ≡ lexeme (get_or ys i e)) (lexeme (get_or xs i d) ≢ lexeme (get_or ys i e)) same told holds)
-    ∙ sym (map_more lexeme ys i e (subst (λ (n : ℕ). i < n) long below))))
+more-same xs ys i d e same below long before told holds = grind (arith, common_steps, map_more, get_or, told_yes)
 
 -- two lists that differ at a place, or in length, have other words
 pub other_at : (xs ys : List Piece) (i : ℕ) (d e : Piece) (same : Bool) → i < length xs → length xs ≡ length ys
@@ -115,6 +79,6 @@ other_length xs ys differ = λ same. differ (sym (length-map xs lexeme) ∙ (ap 
 
 -- what the line is of a place that does not fit
 pub misfit-line : (source before : List ℕ) (target : Target) (fates : List Fate) (place : ℕ) → before ≡ take (place - 0) source → misfit source target fates ≡ Some place → IsFateMisfit source target fates (Misfit.Fate (line_behind before))
-misfit-line source before target fates place is at =
-    let all : place - 0 ≡ place = omega arith in
-    ap (option_map (λ (place : ℕ). line_behind (take place source))) at ∙ ap (λ (xs : List ℕ). Some (line_behind xs)) (sym (is ∙ ap (λ (n : ℕ). take n source) all))
+misfit-line source before target fates place is at = grind (arith, common_steps)
+
+pub ruleset write_lemmas = (more-same)

@@ -86,7 +86,7 @@ pub fn has_words(alloc: Global, text: &str, words: &[Piece<'_>]) -> Result<bool,
 }
 
 /// Whether two lists have the same words.
-#[tactic(auto, using(crate::proofs::WriteLemmas::other_length))]
+#[tactic(auto, using(crate::proofs::WriteLemmas::other_length, crate::proofs::WriteLemmas::other_at, crate::proofs::WriteLemmas::write_lemmas, std::proofs::lemmas::Grind::common_steps))]
 fn are_same(words: &[Piece<'_>], others: &[Piece<'_>]) -> bool
     ensures { MatchBool result
         (map spec.lexeme words.now ≡ map spec.lexeme others.now) (map spec.lexeme words.now ≢ map spec.lexeme others.now) }

@@ -219,3 +219,5 @@ module _ (x low : ℕ) (some : 0 < x) (lowest : IsLowest x low) where
   pub past_lowest-others : (k : ℕ) → low < k → bit (bit_and x (x - 1)) k ≡ bit x k
   unfolding bit
   past_lowest-others k l = bit-and x (x - 1) k ∙ (ap (λ b. bit x k && b) (ap (λ n. n == 1) (above_pred low k x some set_at least_at l)) ∙ and_self (bit x k))
+
+pub ruleset bit_lemmas = (apart-first, apart-later, followed-at, past-first, past-later, past_lowest-gone, past_lowest-others)

@@ -217,3 +217,5 @@ module _ (s at past : State) (count : ℕ) (token : Token) (there : at ≡ state
 
   pub rest_more : past.rest ≡ drop (bound (tokens_left s) (count + 1)) s.rest
   rest_more = grind (arith, common_steps, next-from_drop, drop-drop, more_is)
+
+pub ruleset bulk_lemmas = (mode-held)

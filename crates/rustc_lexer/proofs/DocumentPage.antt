@@ -24,10 +24,6 @@ pub record IsAhead (text : List ℕ) (head : Head) : Type 0 where
   pub boundary : IsCharBoundary text head.end
   pub bare : head.front ≡ None → head.space ≡ 0
 
-some_front : Option Token → Bool
-some_front None = false
-some_front (Some t) = true
-
 module _ (text : List ℕ) (is : IsText text) where
   abbrev rest : List ℕ
   rest = drop (shebang_len text) text

@@ -229,3 +229,5 @@ put_back text start stop insert is its edit = grind (arith, common_steps, edited
 pub IfOk-two : {X Y : Type 0} (r : Result X Y) (P Q R : X → Type 0) → ((x : X) → P x → Q x → R x) → IfOk r P → IfOk r Q → IfOk r R
 IfOk-two (Ok x) P Q R f p q = f x p q
 IfOk-two (Err e) P Q R f p q = p
+
+pub ruleset edit_lemmas = (has_two-late, has_two-long)

@@ -73,3 +73,5 @@ pound_first text b rest is e small family none = first text b rest Pound 0 is e 
   where
     told : IsUtf8 rest → (Pound, rest) ≡ scanned (past_first b) rest
     told inner = by_family Hash b rest _ (pound_read rest inner (mark-byte rest inner ∙ none)) family
+
+pub ruleset hash_lemmas = (hash-small)

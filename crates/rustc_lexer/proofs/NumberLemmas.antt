@@ -145,3 +145,5 @@ module _ (is_digit : ℕ → Bool) (none : is_digit 95 ≡ false) where
       → (some, rest) ≡ scanned (digits is_digit) text
   digits-is text middle rest some w4 is e f g =
       grind (arith, common_steps, chars-past, next_is-first, list_any-past, run_len-past, past-past)
+
+pub ruleset number_lemmas = (pick-tail)

@@ -59,6 +59,7 @@ pub fn tokenize<'a>(input: &'a str, frontmatter_allowed: FrontmatterAllowed) -> 
 ///
 /// `docs/EDITIONS.md` has a table of the tokens that differ in other editions. A loop uses the iterator like that
 /// of [`tokenize`].
+#[tactic(auto, using(crate::specs::laws::Edition::edition_grammar, crate::proofs::SettledLemmas::local, std::proofs::lemmas::Grind::common_steps))]
 pub fn tokenize_in<'a>(text: &'a str, edition: Edition) -> EditionTokens<'a>
     requires fits { Fits text.now }
     ensures reads { ReadsAs No edition text.now result }
@@ -142,6 +143,7 @@ impl<'a> Tokens<'a> {
     ///
     /// A caller that stops can go on later with this answer and [`as_str`](Tokens::as_str).
     #[inline(always)]
+    #[tactic(auto, using(crate::proofs::BulkLemmas::bulk_lemmas, std::proofs::lemmas::Grind::common_steps))]
     pub fn frontmatter_allowed(&self) -> FrontmatterAllowed
         ensures { self.now.mode ≡ mode_in result (mode_edition self.now.mode) }
     {

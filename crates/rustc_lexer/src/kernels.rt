@@ -130,6 +130,7 @@ fn spaces(v: u8x64) -> u64
 
 /// Returns a mask. Bit k is set unless bytes k - 1 and k both belong to a word or are both white space.
 #[inline(always)]
+#[tactic(auto, using(crate::proofs::BitLemmas::bit_lemmas, std::proofs::lemmas::Grind::common_steps))]
 fn apart(words: u64, spaces: u64) -> u64
     ensures first { bit result 0 ≡ false }
     ensures later { (k : ℕ) → suc k < 64 → bit result (suc k)
@@ -141,6 +142,7 @@ fn apart(words: u64, spaces: u64) -> u64
 /// Returns where the runs of words and of white space end in the next 64 bytes. Returns no ends if fewer bytes are
 /// left.
 #[inline(never)]
+#[tactic(auto, using(crate::proofs::EndsLemmas::no_ends, crate::proofs::EndsLemmas::are_ends, std::proofs::lemmas::Grind::common_steps))]
 pub(crate) fn ends_of_runs(bytes: &[u8]) -> u64
     ensures { IsEnds bytes.now result }
 {
@@ -253,6 +255,7 @@ pub(crate) fn find_close(n_hashes: u32, bytes: &[u8]) -> Option<usize>
 
 /// Returns a mask. Bit k is set if a quote is at k and `n_hashes` hashes follow it, none or one.
 #[inline(always)]
+#[tactic(auto, using(crate::proofs::BitLemmas::bit_lemmas, std::proofs::lemmas::Grind::common_steps))]
 fn followed(quotes: u64, hashes: u64, n_hashes: u32) -> u64
     requires few { n_hashes ≤ 1 }
     ensures { (k : ℕ) → k < 64

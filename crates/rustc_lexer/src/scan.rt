@@ -119,6 +119,7 @@ fn hash_end(bytes: &[u8]) -> usize
 
 /// Returns the text after the hashes at the front.
 #[inline(always)]
+#[tactic(auto, using(crate::proofs::BridgeLemmas::may_cut_small, crate::proofs::BridgeLemmas::past_small, crate::proofs::HashLemmas::hash_lemmas, std::proofs::lemmas::Grind::common_steps))]
 pub(crate) fn eat_hashes(rest: &str) -> &str
     ensures shorter { length result.now ≤ length rest.now }
     ensures past { result.now ≡ past (hash_run (chars rest.now)) rest.now }
@@ -199,6 +200,7 @@ fn eat_continue_wide(rest: &str) -> &str
 ///
 /// If the range determines how many bytes a character has, reading it takes no branch.
 #[inline(always)]
+#[tactic(auto, using(crate::proofs::WideLemmas::within_run, std::proofs::lemmas::Grind::common_steps))]
 fn eat_continue_in(rest: &str, low: u8, high: u8) -> &str
     ensures shorter { length result.now ≤ length rest.now }
     ensures same { length result.now ≡ length rest.now → result.now ≡ rest.now }

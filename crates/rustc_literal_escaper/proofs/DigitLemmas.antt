@@ -74,3 +74,5 @@ hex-yes c l = grind (arith, nat_tests)
 
 pub hex-no : (c : ℕ) → (digit_value c < 16 → ⊥) → is_hex c ≡ false
 hex-no c l = grind (arith, nat_tests)
+
+pub ruleset digit_lemmas = (left_at-start, left_at-end, left_at-underscore, left_at-brace, left_at-digit, left_at-other, hex-yes, hex-no)

@@ -16,8 +16,7 @@ use Rattle.rustc_literal_escaper.proofs.ItemLemmas.{front_by-ends}
 few_in : (raw : Bool) (n total : ℕ) (s : List ℕ) → length (items_in (front_by raw) n total s) ≤ length s
 few_in raw zero total s = omega arith
 few_in raw (suc n) total [] = omega arith
-few_in raw (suc n) total (c ∷ s) =
-    grind (arith, common_steps, length-append, length-map, front_by-ends, few_in raw n total)
+few_in raw (suc n) total (c ∷ s) = grind (arith, common_steps, length-append, length-map, front_by-ends, few_in raw n total)
 
 pub items-few : (raw : Bool) (text : List ℕ) → IsUtf8 text → length (items_of raw text) ≤ length text
 unfolding items_from

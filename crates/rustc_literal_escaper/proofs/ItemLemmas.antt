@@ -199,3 +199,5 @@ pub takes_first : (at : ℕ → List ℕ → Front) (total : ℕ) (waiting first
     → items_from at total rest ≡ (option_to_list first ++ option_to_list second) ++ items_from at total left → (first ≡ None → (second ≡ None) × (left ≡ []))
     → TakesFirst (option_to_list waiting ++ items_from at total rest) first (option_to_list second ++ items_from at total left)
 takes_first at total waiting first second rest left none told all = grind (arith, common_steps, all, nothing)
+
+pub ruleset item_lemmas = (items-step, first-item)

@@ -102,3 +102,5 @@ pub line_end-told : (total start : ℕ) (line left : List ℕ) (newline : Bool) 
     → space ≡ map (item_at total start) (more_space left)
     → lines ++ space ≡ map (item_at total start) (line_end line).told
 line_end-told total start line left newline lines space n l a b = grind (arith, common_steps, map-append)
+
+pub ruleset place_lemmas = (more_lines-yes, more_space-yes, passing-blank, stopped-end, past_run-none)

@@ -29,3 +29,5 @@ stands_for_itself raw text e = plain-items (chars text) e
     plain-items (c ∷ s) e =
         let p = and_parts (is_plain raw c) (list_all (is_plain raw) s) e in
         ap elements_in (items-plain raw (length text) c s p.0) ∙ ap (λ es. Plain c ∷ es) (plain-items s p.1)
+
+pub ruleset plain_lemmas = (first-plain)

@@ -45,12 +45,7 @@ value_past v qs = fold (λ value q. value * 16 + q % 16) v qs
 
 word-left : (v n : ℕ) (qs s : List ℕ) → n + length qs ≤ 6 → left_at v n (word qs ++ 125 ∷ s) ≡ (Unicode (value_past v qs), s)
 word-left v n [] s few = left_at-brace v n 125 s refl ∙ rw (le-leb n 6 (omega arith)) refl
-word-left v n (q ∷ qs) s few =
-    left_at-digit v n (digit_char (q % 16)) (word qs ++ 125 ∷ s) (digit-hex q)
-    ∙ (ap (λ (k : ℕ). left_at k (n + 1) (word qs ++ 125 ∷ s)) value ∙ word-left (v * 16 + q % 16) (n + 1) qs s (omega arith))
-  where
-    value : with_digit v n (digit_value (digit_char (q % 16))) ≡ v * 16 + q % 16
-    value = rw (lt-ltb n 6 (omega arith)) (ap (λ (d : ℕ). v * 16 + d) (digit-value q))
+word-left v n (q ∷ qs) s few = grind (arith, common_steps, left_at-brace, le-leb, left_at-digit, digit-hex, left_at, with_digit, lt-ltb, digit-value, word-left (v * 16 + q % 16) (n + 1) qs s (omega arith))
 
 -- between braces they are one number
 word-read : (q : ℕ) (qs s : List ℕ) → length qs ≤ 5 → braced (word (q ∷ qs) ++ 125 ∷ s) ≡ (Unicode (value_past 0 (q ∷ qs)), s)

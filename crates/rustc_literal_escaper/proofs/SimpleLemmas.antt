@@ -41,3 +41,5 @@ passes-simple raw bs n run =
 -- so a text may be cut there
 pub cut-simple : (raw : Bool) (bs : List ℕ) (n : ℕ) → IsUtf8 bs → n ≤ length bs → n ≤ prefix_len (is_simple raw) bs → IsCharBoundary bs n
 cut-simple raw bs n is within run = IsCharBoundary-from_take bs n is within (IsUtf8-from_ascii (take n bs) (simple-ascii raw (take n bs) (run_front (is_simple raw) bs n run)))
+
+pub ruleset simple_lemmas = (passes-simple, simple-all-fine)

@@ -25,3 +25,5 @@ alone-more meant left u m some = grind (arith, common_steps)
 
 pub chars-some : (bs : List ℕ) → IsUtf8 bs → (length bs ≡ 0 → ⊥) → chars bs ≡ [] → ⊥
 chars-some bs is some e = some (ap length (sym (encodes-chars bs is) ∙ ap encode_utf8_all e))
+
+pub ruleset single_lemmas = (alone-one, alone-more, chars-some)

@@ -1,5 +1,5 @@
 -- An element that is the whole text between single quotes.
-use Rattle.std.proofs.Common.{◌≡◌, ◌≤◌, ◌<◌, ◌+◌, ◌*◌, ◌^◌, ◌&&◌, ◌++◌, ◌-◌, suc, min, take, drop, drop-cons, zero-add, ℕ, Bool, true, false, List, [], ◌∷◌, length, Result, Ok, Err, Option, Some, None, refl, sym, ap, subst, ◌∙◌, arith, true≢false}
+use Rattle.std.proofs.Common.{◌≡◌, ◌≤◌, ◌<◌, ◌+◌, ◌*◌, ◌^◌, ◌&&◌, ◌++◌, ◌-◌, suc, min, take, drop, drop-cons, zero-add, ℕ, Bool, true, false, List, [], ◌∷◌, length, Result, Option, Some, None, sym, ap, subst, ◌∙◌, arith}
 use Rattle.std.specs.Char.{digit_value, is_ascii}
 use Rattle.std.specs.List.{list_all, slice_index}
 use Rattle.std.specs.Str.{chars}
@@ -16,7 +16,7 @@ use Rattle.rustc_literal_escaper.specs.declared.element.Element.{Element}
 use Rattle.rustc_literal_escaper.specs.declared.error.EscapeError.{EscapeError}
 use Rattle.rustc_literal_escaper.specs.declared.element.Element.TheVariants.{Plain, Unicode}
 use Rattle.rustc_literal_escaper.specs.declared.mode.Mode.{Mode}
-use Rattle.rustc_literal_escaper.specs.declared.mode.Mode.TheVariants.{Char, Byte}
+use Rattle.rustc_literal_escaper.specs.declared.mode.Mode.TheVariants.{Byte}
 use Rattle.rustc_literal_escaper.specs.Elements.{front_by, items_from, items_of, raw_element}
 use Rattle.rustc_literal_escaper.specs.Errors.{errors_in, errors_of, is_raw, is_single}
 use Rattle.rustc_literal_escaper.specs.Plain.{is_simple, Passes}
@@ -31,8 +31,7 @@ use Rattle.rustc_literal_escaper.proofs.SingleLemmas.{literal-starts}
 use Rattle.rustc_literal_escaper.proofs.WrittenLemmas.{is-ascii}
 
 pub alone_whole : {U : Type 0} (meant : Result U EscapeError) → alone meant [] ≡ meant
-alone_whole (Ok u) = refl
-alone_whole (Err e) = refl
+alone_whole meant = grind (arith, common_steps)
 
 pub alone_at : {U : Type 0} (meaning : Element → Result U EscapeError) (c : ℕ) (s : List ℕ) (e : Element) → (e, []) ≡ single c s → meaning e ≡ alone (meaning (single c s).0) (single c s).1
 alone_at meaning c s e at = subst (λ (p : Element × List ℕ). meaning e ≡ alone (meaning p.0) p.1) at (sym (alone_whole (meaning e)))
@@ -42,22 +41,13 @@ literal_is meaning s e h = sym (literal-starts meaning s [] e h ∙ alone_whole 
 
 -- texts of one, two and three bytes of ASCII
 one_byte : (bs : List ℕ) → 1 ≤ length bs → length bs < 2 → bs ≡ slice_index bs 0 ∷ []
-one_byte [] l m = absurd (omega arith)
-one_byte (b ∷ []) l m = refl
-one_byte (b ∷ c ∷ s) l m = absurd (omega arith)
+one_byte bs e f = grind (arith, common_steps)
 
 two_bytes : (bs : List ℕ) → 2 ≤ length bs → length bs < 3 → bs ≡ slice_index bs 0 ∷ slice_index bs 1 ∷ []
-two_bytes [] l m = absurd (omega arith)
-two_bytes (b ∷ []) l m = absurd (omega arith)
-two_bytes (b ∷ c ∷ []) l m = refl
-two_bytes (b ∷ c ∷ d ∷ s) l m = absurd (omega arith)
+two_bytes bs e f = grind (arith, common_steps)
 
 three_bytes : (bs : List ℕ) → 3 ≤ length bs → length bs < 4 → bs ≡ slice_index bs 0 ∷ slice_index bs 1 ∷ slice_index bs 2 ∷ []
-three_bytes [] l m = absurd (omega arith)
-three_bytes (b ∷ []) l m = absurd (omega arith)
-three_bytes (b ∷ c ∷ []) l m = absurd (omega arith)
-three_bytes (b ∷ c ∷ d ∷ []) l m = refl
-three_bytes (b ∷ c ∷ d ∷ f ∷ s) l m = absurd (omega arith)
+three_bytes bs e f = grind (arith, common_steps)
 
 chars_are : (bs xs : List ℕ) → bs ≡ xs → list_all is_ascii xs ≡ true → chars bs ≡ xs
 chars_are bs xs e a = ap chars e ∙ chars-IsAscii xs (is-ascii xs a)
@@ -83,15 +73,11 @@ braced_digit : (c : ℕ) (s : List ℕ) → digit_value c < 16 → braced (c ∷
 braced_digit c s l = grind (arith, common_steps, nat_tests)
 
 pub number_ends : (v n c : ℕ) (s : List ℕ) → n ≤ 6 → digit_value c < 16 → left_at v n (125 ∷ []) ≡ left_at 0 0 (c ∷ s) → (Unicode v, []) ≡ braced (c ∷ s)
-number_ends v n c s few digit at =
-    let fits : left_at v n (125 ∷ []) ≡ (Unicode v, []) = left_at-brace v n 125 [] refl ∙ grind (arith, common_steps, nat_tests) in
-    sym fits ∙ (at ∙ (left_at-start (c ∷ s) ∙ sym (braced_digit c s digit)))
+number_ends v n c s few digit at = grind (arith, common_steps, left_at, left_at-brace, nat_tests, left_at-start, braced_digit)
 
 -- digits after others
 pub read_digit : (v n c d : ℕ) (s : List ℕ) → digit_value c < 16 → d ≡ digit_value c → n < 6 → left_at (v * 16 + d) (n + 1) s ≡ left_at v n (c ∷ s)
-read_digit v n c d s l is few =
-    let value : v * 16 + d ≡ with_digit v n (digit_value c) = grind (arith, common_steps, nat_tests) in
-    ap (λ (x : ℕ). left_at x (n + 1) s) value ∙ sym (left_at-digit v n c s (hex-yes c l))
+read_digit v n c d s l is few = grind (arith, common_steps, with_digit, nat_tests, left_at, left_at-digit, hex-yes)
 
 pub first_digit : (c d : ℕ) (s : List ℕ) → digit_value c < 16 → d ≡ digit_value c → left_at d 1 s ≡ left_at 0 0 (c ∷ s)
 first_digit c d s l is = ap (λ (x : ℕ). left_at x 1 s) (sym (zero-add d)) ∙ read_digit 0 0 c d s l is (omega arith)
@@ -109,39 +95,24 @@ pub all_none : (rest : List ℕ) → length rest ≡ 0 → list_all is_ascii res
 all_none rest none = ap (list_all is_ascii) (nil_from_length rest none)
 
 pub more_fits : (v n d : ℕ) → v < 16 ^ min n 6 → n < 6 → d < 16 → v * 16 + d < 16 ^ min (n + 1) 6
-more_fits v n d fits few digit =
-    let here : min n 6 ≡ n = omega arith in
-    let next : min (n + 1) 6 ≡ n + 1 = omega arith in
-    let power : 16 ^ (n + 1) ≡ 16 ^ n * 16 = pow-add 16 n 1 in
-    let fits : v < 16 ^ n = subst (λ (k : ℕ). v < 16 ^ k) here fits in
-    subst (λ (k : ℕ). v * 16 + d < 16 ^ k) (sym next) (omega (arith, power, fits))
+more_fits v n d fits few digit = grind (arith, common_steps, pow-add)
 
 -- a text of four bytes and more: its first three, those between, and its last
 last_byte : (s : List ℕ) (n : ℕ) → length s ≡ n + 1 → s ≡ take n s ++ (slice_index s n ∷ [])
 last_byte s n e = sym (take-append-drop n s) ∙ ap (λ (xs : List ℕ). take n s ++ xs) (drop-cons s n 0 (omega arith) ∙ ap (λ (xs : List ℕ). slice_index s n ∷ xs) (drop_of_length-le s {i = suc n} (omega arith)))
 
 four_bytes : (bs : List ℕ) (n : ℕ) → length bs ≡ n + 4 → bs ≡ slice_index bs 0 ∷ slice_index bs 1 ∷ slice_index bs 2 ∷ take n (drop 3 bs) ++ (slice_index (drop 3 bs) n ∷ [])
-four_bytes [] n e = absurd (omega arith)
-four_bytes (b ∷ []) n e = absurd (omega arith)
-four_bytes (b ∷ c ∷ []) n e = absurd (omega arith)
-four_bytes (b ∷ c ∷ d ∷ s) n e = ap (λ (xs : List ℕ). b ∷ c ∷ d ∷ xs) (last_byte s n (omega (arith, e)))
+four_bytes bs n e = grind (arith, common_steps, last_byte)
 
 -- a number between braces, which is the whole text
 abbrev in_braces : List ℕ → Element → Type 0
 in_braces digits e = (list_all is_ascii digits ≡ true) × ((e, []) ≡ braced (digits ++ (125 ∷ [])))
 
 braces_whole : (bs digits : List ℕ) (e : Element) → bs ≡ 117 ∷ 123 ∷ digits ++ (125 ∷ []) → in_braces digits e → (e, []) ≡ escape (chars bs)
-braces_whole bs digits e is h =
-    let ascii : list_all is_ascii (digits ++ (125 ∷ [])) ≡ true = list_all-append is_ascii digits (125 ∷ []) ∙ ap (λ (b : Bool). b && true) h.0 in
-    let at : chars bs ≡ 117 ∷ 123 ∷ digits ++ (125 ∷ []) = chars_are bs _ is ascii in
-    h.1 ∙ ap escape (sym at)
+braces_whole bs digits e is h = grind (arith, common_steps, list_all-append, chars_are)
 
 braces_is : (bs : List ℕ) (n : ℕ) → length bs ≡ n + 4 → slice_index bs 0 ≡ 117 → slice_index bs 1 ≡ 123 → slice_index bs (length bs - 1) ≡ 125 → bs ≡ 117 ∷ 123 ∷ (slice_index bs 2 ∷ take n (drop 3 bs)) ++ (125 ∷ [])
-braces_is bs n e u brace close =
-    let end : slice_index (drop 3 bs) n ≡ 125 = get_or-drop 3 bs n 0 ∙ (ap (slice_index bs) (omega (arith, e)) ∙ close) in
-    four_bytes bs n e ∙ (ap (λ (x : ℕ). x ∷ slice_index bs 1 ∷ slice_index bs 2 ∷ take n (drop 3 bs) ++ (slice_index (drop 3 bs) n ∷ [])) u
-    ∙ (ap (λ (x : ℕ). 117 ∷ x ∷ slice_index bs 2 ∷ take n (drop 3 bs) ++ (slice_index (drop 3 bs) n ∷ [])) brace
-    ∙ ap (λ (x : ℕ). 117 ∷ 123 ∷ slice_index bs 2 ∷ take n (drop 3 bs) ++ (x ∷ [])) end))
+braces_is bs n e u brace close = grind (arith, common_steps, get_or-drop, four_bytes)
 
 pub number_escape : (bs : List ℕ) (r : Option Element) → 4 ≤ length bs → slice_index bs 0 ≡ 117 → slice_index bs 1 ≡ 123 → slice_index bs (length bs - 1) ≡ 125
     → IfSome r (λ e. (list_all is_ascii (slice_index bs 2 ∷ take (length bs - 1 - 3) (drop 3 bs)) ≡ true) × ((e, []) ≡ braced (slice_index bs 2 ∷ take (length bs - 1 - 3) (drop 3 bs) ++ (125 ∷ []))))
@@ -155,9 +126,7 @@ raw_wide c e = grind (arith, common_steps, not-true, nat_tests)
 
 -- a raw string of simple characters
 pub raw_double : (mode : Mode) → true ≡ is_raw mode → false ≡ is_single mode
-raw_double Char raw = absurd (true≢false raw)
-raw_double Byte raw = absurd (true≢false raw)
-raw_double mode raw = refl
+raw_double mode e = grind (arith, common_steps)
 
 pub raw_simple : (mode : Mode) (src left : List ℕ) → true ≡ is_raw mode → Passes (is_simple true) (chars src) (chars left) → length left ≡ 0 → errors_of mode src ≡ []
 raw_simple mode src left raw passes none =

@@ -106,3 +106,5 @@ boundary old new g =
     let l : length (string_bytes new) ≡ length (string_bytes old) + length g.0 = ap length g.1 ∙ length-append (string_bytes old) g.0 in
     IsCharBoundary-from_take (string_bytes new) (length (string_bytes old)) (IsUtf8-string_bytes new) (omega arith)
     (subst IsUtf8 (sym (ap (take (length (string_bytes old))) g.1 ∙ take-append_seam (string_bytes old) g.0)) (IsUtf8-string_bytes old))
+
+pub ruleset written_lemmas = (bytes-come_back, units-come_back, text-comes_back, char-encodes, writing-start)

@@ -150,6 +150,7 @@ fn other_error(src: &str, mode: Mode) -> Option<(Range<usize>, EscapeError)>
 /// Returns the error of an element between single quotes, or else the error that text is left after it. `total` is
 /// the length of the text between the quotes.
 #[inline(always)]
+#[tactic(auto, using(crate::proofs::ErrorLemmas::error_lemmas))]
 fn alone_error(
     error: Option<EscapeError>,
     left: &str,
@@ -186,6 +187,7 @@ fn check_string<F: FnMut(Range<usize>, EscapeError)>(src: &str, mode: Mode, call
 ///
 /// It does what [`Elements::next_fault`] does, but keeps no warning for later, and the compiler makes it shorter.
 #[inline(always)]
+#[tactic(auto, using(crate::proofs::ItemLemmas::nothing))]
 fn check_escaped<F: FnMut(Range<usize>, EscapeError)>(
     rest: &str,
     total: usize,

@@ -47,6 +47,7 @@ impl<'a> Model for Elements<'a> {
 
 /// Returns an iterator over the elements of a raw string, or of a string that may have escapes.
 #[inline(always)]
+#[tactic(auto, using(crate::proofs::PlacedLemmas::are_placed, crate::proofs::PlainLemmas::stands_for_itself, crate::proofs::RebuiltLemmas::is_rebuilt))]
 pub(crate) fn elements_of(src: &str, raw: bool) -> Elements<'_>
     ensures items { result ≡ items_of raw src.now }
     ensures plain { StandsForItself raw src.now }
@@ -182,6 +183,7 @@ impl<'a> Elements<'a> {
     /// It has the large local variables that [`Elements::next_alone`] and [`Elements::next_byte`] do without. So it
     /// is called only when one of these returns `None`.
     #[inline(always)]
+    #[tactic(auto, using(crate::proofs::ItemLemmas::takes_first))]
     pub(crate) fn next_by_steps(&mut self) -> Option<(Range<usize>, Element)>
         ensures { TakesFirst self.old result self.new }
     {

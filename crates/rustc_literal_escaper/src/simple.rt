@@ -9,6 +9,7 @@ use std::simd::prelude::*;
 
 /// Returns the text after simple characters at the front.
 #[inline(always)]
+#[tactic(auto, using(crate::proofs::SimpleLemmas::simple_lemmas))]
 pub(crate) fn past_simple(rest: &str, raw: bool) -> &str
     ensures passes { spec.Passes (spec.is_simple raw) (chars rest.now) (chars result.now) }
     ensures text { IsUtf8 result.now }
@@ -21,6 +22,7 @@ pub(crate) fn past_simple(rest: &str, raw: bool) -> &str
 /// Returns the text after simple characters at the front, if fewer than 32 bytes are left, for which [`past_simple`]
 /// does not look. Of a longer text it skips none.
 #[inline(always)]
+#[tactic(auto, using(crate::proofs::SimpleLemmas::simple_lemmas))]
 pub(crate) fn past_last_simple(rest: &str, raw: bool) -> &str
     ensures passes { spec.Passes (spec.is_simple raw) (chars rest.now) (chars result.now) }
     ensures text { IsUtf8 result.now }
@@ -32,6 +34,7 @@ pub(crate) fn past_last_simple(rest: &str, raw: bool) -> &str
 
 /// Splits the text into simple bytes at the front, and the text after them.
 #[inline(always)]
+#[tactic(auto, using(crate::proofs::LaneLemmas::run_front))]
 pub(crate) fn split_simple(rest: &str, raw: bool) -> (&[u8], &str)
     ensures simple { list_all (spec.is_simple raw) result.0.now ≡ true }
     ensures whole { rest.now ≡ result.0.now ++ result.1.now }
@@ -166,6 +169,7 @@ fn is_simple(byte: u8, raw: bool) -> bool
 
 /// Returns a number of simple bytes at the front. Looks at 32 bytes at a time.
 #[inline(never)]
+#[tactic(auto, using(crate::proofs::LaneLemmas::run_through))]
 fn simple_end_by_lanes(bytes: &[u8], raw: bool) -> usize
     ensures simple { result ≤ prefix_len (spec.is_simple raw) bytes.now }
     ensures bound { result ≤ length bytes.now }

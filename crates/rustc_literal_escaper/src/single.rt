@@ -22,6 +22,7 @@ use crate::strings::{AsByte, AsChar, Meaning};
 /// unescape_char("ab") // Err(EscapeError::MoreThanOneChar)
 /// ```
 #[inline]
+#[tactic(auto, using(crate::proofs::RoundTripLemmas::char_comes_back))]
 pub fn unescape_char(src: &str) -> Result<char, EscapeError>
     ensures literal { result ≡ char_literal (chars src.now) }
     ensures escapes { CharComesBack }
@@ -57,7 +58,7 @@ fn read<M: Meaning>(src: &str) -> Result<M::Meant, EscapeError>
 
 /// Returns the element that is the whole text, if it is a plain character of ASCII or a short escape.
 #[inline(always)]
-#[tactic(auto, using(crate::proofs::WholeLemmas::chars_one, crate::proofs::WholeLemmas::chars_two, crate::proofs::WholeLemmas::short_whole))]
+#[tactic(auto, using(crate::proofs::WholeLemmas::chars_one, crate::proofs::WholeLemmas::chars_two, crate::proofs::WholeLemmas::short_whole, std::proofs::lemmas::Grind::common_steps))]
 pub(crate) fn whole(src: &str) -> Option<Element>
     ensures { IfSome result (λ e. spec.StartsWithSingle (chars src.now) e []) }
 {
@@ -108,6 +109,7 @@ fn read_rest<M: Meaning>(c: char, tail: &str) -> Result<M::Meant, EscapeError>
 
 /// Returns what an element stands for, if no text is left after it.
 #[inline(always)]
+#[tactic(auto, using(std::proofs::StrCases::chars_of_empty, crate::proofs::SingleLemmas::single_lemmas, std::proofs::lemmas::Grind::common_steps))]
 fn alone<U: Copy>(meant: Result<U, EscapeError>, left: &str) -> Result<U, EscapeError>
     ensures { result ≡ spec.alone meant (chars left.now) }
 {

@@ -24,6 +24,7 @@ pub(crate) struct Told<'a> {
 
 /// Returns the first items in the rest of a text of `total` bytes. Returns no items if none are left.
 #[inline(always)]
+#[tactic(auto, using(crate::proofs::ItemLemmas::item_lemmas))]
 pub(crate) fn advance(rest: &str, total: usize, raw: bool) -> Told<'_>
     requires fits { length rest.now ≤ total }
     ensures told { spec.items_from (spec.front_by raw) total (chars rest.now)
@@ -77,6 +78,7 @@ fn step_by(raw: bool, c: char, tail: &str, start: usize, total: usize) -> Told<'
 ///
 /// Returns `None` at the end of the text, and at a line end that is skipped, where there may be no item or several.
 #[inline(always)]
+#[tactic(auto, using(crate::proofs::ItemLemmas::item_lemmas))]
 pub(crate) fn first_item(
     rest: &str,
     total: usize,
@@ -95,6 +97,7 @@ pub(crate) fn first_item(
 
 /// Returns the item at the front if it is a plain character, and the text after it, like [`first_item`].
 #[inline(always)]
+#[tactic(auto, using(crate::proofs::PlainLemmas::plain_lemmas))]
 pub(crate) fn first_plain(
     rest: &str,
     total: usize,
@@ -317,6 +320,7 @@ pub(crate) fn pass_over(line: &str) -> (bool, &str)
 
 /// Returns the text after the white space that is skipped, up to a newline.
 #[inline(always)]
+#[tactic(auto, using(crate::proofs::PlaceLemmas::place_lemmas))]
 fn past_blanks(line: &str) -> &str
     ensures newline { spec.begins_line (chars result.now)
         ≡ list_any spec.is_newline (front_run spec.is_passed_over (chars line.now)) }
@@ -339,6 +343,7 @@ fn past_blanks(line: &str) -> &str
 
 /// Returns the text after the white space that is skipped, newlines too.
 #[inline(always)]
+#[tactic(auto, using(crate::proofs::PlaceLemmas::place_lemmas))]
 fn past_space(rest: &str) -> &str
     ensures left { chars result.now ≡ past_run spec.is_passed_over (chars rest.now) }
     ensures shorter { length result.now ≤ length rest.now }
@@ -379,6 +384,7 @@ fn is_passed_over(c: char) -> bool
 
 /// Returns the warning that a newline was in the white space that was skipped, if one was.
 #[inline(always)]
+#[tactic(auto, using(crate::proofs::PlaceLemmas::place_lemmas))]
 pub(crate) fn more_lines(
     newline: bool,
     left: &str,
@@ -398,6 +404,7 @@ pub(crate) fn more_lines(
 
 /// Returns the warning that white space comes next, if it does.
 #[inline(always)]
+#[tactic(auto, using(crate::proofs::PlaceLemmas::place_lemmas))]
 pub(crate) fn more_space(left: &str, start: usize, total: usize) -> Option<(Range<usize>, Element)>
     requires fits { length left.now ≤ total }
     ensures { option_to_list result

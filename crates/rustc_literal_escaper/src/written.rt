@@ -39,6 +39,7 @@ impl From<AllocError> for EscapeCStrError {
 /// ```
 ///
 /// [`unescape_str`]: crate::unescape_str
+#[tactic(auto, using(crate::proofs::WrittenLemmas::boundary, crate::proofs::WrittenLemmas::written_lemmas))]
 pub fn escape_str(text: &str, out: &mut String) -> Result<(), AllocError>
     ensures written { OnOk result
         (string_bytes out.new ≡ string_bytes out.old ++ written_text text.now) }
@@ -59,6 +60,7 @@ pub fn escape_str(text: &str, out: &mut String) -> Result<(), AllocError>
 /// `Err` means that memory was refused, and then `out` is as it was.
 ///
 /// [`unescape_byte_str`]: crate::unescape_byte_str
+#[tactic(auto, using(crate::proofs::WrittenLemmas::boundary, crate::proofs::WrittenLemmas::written_lemmas))]
 pub fn escape_byte_str(bytes: &[u8], out: &mut String) -> Result<(), AllocError>
     ensures written { OnOk result
         (string_bytes out.new ≡ string_bytes out.old ++ written_bytes bytes.now) }
@@ -80,6 +82,7 @@ pub fn escape_byte_str(bytes: &[u8], out: &mut String) -> Result<(), AllocError>
 /// After any `Err`, `out` is as it was.
 ///
 /// [`unescape_c_str`]: crate::unescape_c_str
+#[tactic(auto, using(crate::proofs::WrittenLemmas::written_lemmas))]
 pub fn escape_c_str(bytes: &[u8], out: &mut String) -> Result<(), EscapeCStrError>
     ensures written { OnOk result
         (string_bytes out.new ≡ string_bytes out.old ++ written_bytes bytes.now) }
@@ -110,6 +113,7 @@ fn push_text(text: &str, out: &mut String) -> Result<(), AllocError>
 }
 
 /// Appends one character of a text.
+#[tactic(auto, using(crate::proofs::WrittenLemmas::written_lemmas, std::proofs::lemmas::Grind::common_steps))]
 fn push_char(c: char, out: &mut String) -> Result<(), AllocError>
     ensures written { OnOk result
         (string_bytes out.new ≡ string_bytes out.old ++ escape_default c) }

@@ -60,5 +60,6 @@ module _ (text : List ℕ) (front : Token) (first : First text front) (at : is_f
 -- with white space first, or none
 pub space-first : (text : List ℕ) (token : Token) (before mid own rest : List ℕ) → First text token → is_space token.kind ≡ true → own ≡ take (token.len - 0) text → rest ≡ drop token.len text
     → mid ≡ before ++ part_in_order token.kind own (token.len == length text) → mid ++ front_in_order rest (tokens_of (document E2024) rest) ≡ before ++ source_tidied text
-space-first text token before mid own rest first at is cut made =
-    grind (arith, common_steps, append_assoc, space-yes, whole-take, end-is)
+space-first text token before mid own rest first at is cut made = grind (arith, common_steps, append_assoc, space-yes, whole-take, end-is)
+
+pub ruleset first_lemmas = (first-is, space-first)

@@ -176,3 +176,5 @@ newline-written s now before k lt e = grind (arith, common_steps, newline-byte, 
 
 pub newline-dropped : (s before : List ℕ) (k : ℕ) → k ≤ 2 → 2 ≤ k → before ++ tail k s ≡ before ++ tail k (10 ∷ s)
 newline-dropped s before k le ge = grind (arith, common_steps, third-drops)
+
+pub ruleset line_lemmas = (line-written, line-blank, newline-written, newline-dropped, rest-plain)

@@ -25,5 +25,4 @@ end-is mode text (c ∷ rest) place inside e =
 pub code-step : (text : List ℕ) (place : ℕ) (s t : State) (token : Token) (before now part whole : List ℕ) → StandsAt text place s → TakesToken s token t → part ≡ take token.len s.rest
     → now ≡ before ++ part_in_order token.kind part (place + token.len == length text) → before ++ code_in_order s.rest (tokens_left s) ≡ whole
     → now ++ code_in_order t.rest (tokens_left t) ≡ whole
-code-step text place s t token before now part whole at step is made more =
-    grind (arith, common_steps, append_assoc, stands_past, end-is)
+code-step text place s t token before now part whole at step is made more = grind (arith, common_steps, append_assoc, stands_past, end-is)

@@ -38,10 +38,7 @@ near-append [] near = near
 near-append (c ∷ w) near = same (near-append w near)
 
 pub near-none : {s t : List ℕ} → Near s t → length t ≡ 0 → s ≡ []
-near-none ends e = refl
-near-none closes e = refl
-near-none (space {s} {t} a b k) e = absurd (omega (arith, e))
-near-none (same {s} {t} near) e = absurd (omega (arith, e))
+near-none e f = grind (arith, common_steps)
 
 -- the other text ends where the one does
 abbrev pub EndsToo : List ℕ → List ℕ → Type 0
@@ -105,8 +102,7 @@ near-then p solid [] all near = near-next p solid near
 near-then p solid (f ∷ front) all ends = refl
 near-then p solid (f ∷ front) all closes = rw (plain-other f 10 (and_parts (is_plain f) _ all).0 refl) refl
 near-then p solid (f ∷ front) all (space {c} {d} a b k) = grind (arith, common_steps, and_parts, plain-other)
-near-then p solid (f ∷ front) all (same {c} near) =
-    grind (arith, common_steps, cases_Bool, and_parts, near-then p solid front)
+near-then p solid (f ∷ front) all (same {c} near) = grind (arith, common_steps, near-next, plain-other, and_parts, cases_Bool, near-then p solid front)
 
 pub near-begins : (front : List ℕ) → AreAll is_plain front → {s t : List ℕ} → Near s t → begins front s ≡ begins front t
 near-begins [] all near = refl
@@ -124,22 +120,13 @@ near-opening {s} {t} near =
     ap (λ (b : Bool). b || begins_ident_after (codes "k#") s) (near-any known_prefixes refl near) ∙ ap (λ (b : Bool). list_any (λ front. begins front t) known_prefixes || b) (near-then is_id_start start-solid (codes "k#") refl near)
 
 near-inline : {s t : List ℕ} → Near s t → NextIsNot is_inline s → NextIsNot is_inline t
-near-inline ends stop = refl
-near-inline closes stop = refl
-near-inline (space {c} {d} a b k) stop = grind (arith, common_steps, cases_Bool)
-near-inline (same near) stop = stop
+near-inline e f = grind (arith, common_steps, cases_Bool)
 
 near-newline : {s t : List ℕ} → Near s t → begins (codes "\n") s ≡ true → begins (codes "\n") t ≡ true
-near-newline ends e = e
-near-newline closes e = refl
-near-newline (space {c} {d} a b k) e = rw (k (and_parts (c == 10) true e).0).0 refl
-near-newline (same near) e = e
+near-newline e f = grind (arith, common_steps, and_parts)
 
 near-lone : {s t : List ℕ} → Near s t → begins (codes "\n") s ≡ true → begins (codes "\n'") s ≡ false → begins (codes "\n'") t ≡ false
-near-lone ends e f = f
-near-lone closes e f = refl
-near-lone (space {c} {d} {s} {t} a b k) e f = grind (arith, common_steps, and_parts)
-near-lone (same {c} {s} {t} near) e f = ap (λ (b : Bool). c == 10 && b) (sym (near-begins (codes "'") refl near)) ∙ f
+near-lone e f g = grind (arith, common_steps, and_parts, near-begins)
 
 -- ---- numbers
 

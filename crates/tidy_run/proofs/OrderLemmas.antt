@@ -82,8 +82,7 @@ after-drop : (c : ℕ) (x r t : List ℕ) → is_whitespace c ≡ true → begin
 after-drop c x r t blank e two = grind (arith, common_steps, and_parts, space, eqb-true, plain-other)
 
 pub order-near : (c : ℕ) (cs : List ℕ) → AreAll is_whitespace (c ∷ cs) → {s t : List ℕ} → Near s t → Near (c ∷ cs ++ s) (in_order (c ∷ cs) ++ t)
-order-near c cs all {s} {t} near =
-    grind (arith, common_steps, and_parts, judge, after-drop, dropped-newline, dropped-two, space, quote-after)
+order-near c cs all {s} {t} near = grind (arith, common_steps, and_parts, after-drop, dropped-newline, dropped-two, space, quote-after)
 
 -- ---- the end of the line
 

@@ -105,3 +105,5 @@ no-line (c ∷ s) none =
 
 pub open-unix : (s : List ℕ) → HasNoNewline s → unix_lines false s ≡ s
 open-unix s none = (no-line s none).lines
+
+pub ruleset return_lemmas = (last-unix, open-unix)

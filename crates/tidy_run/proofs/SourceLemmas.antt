@@ -193,8 +193,7 @@ solid-front kind c w next tokens solid p free rest = by_token (code-tidies (past
 front-tidies : {mode : Mode} {cs : List ℕ} {tokens : List Token} → mode ≡ document E2024 → scalars cs ≡ true → bytes cs + 1 < 2 ^ 32 → NextIsNot is_whitespace cs → AreTokens mode cs tokens → Tidies front_in_order (document E2024) cs tokens
 front-tidies yes_is good fits stop (nothing) = record { out = []; outs = []; are = nothing; near = ends; is = refl; too = λ e. refl; same = refl; again = refl; last = refl; size = omega arith; good = λ e. e }
 front-tidies yes_is good fits stop (frontmatter_first {edition} body is_opening is_end rest) = opened-tidies body good fits is_opening is_end (in-newest {edition = edition} yes_is rest)
-front-tidies yes_is good fits stop (something {mode} {kind} {c} {w} {next} {tokens} is free rest) =
-    grind (arith, common_steps, in_grammar, solid-front, kind-solid, document-is)
+front-tidies yes_is good fits stop (something {mode} {kind} {c} {w} {next} {tokens} is free rest) = grind (arith, common_steps, ends, is_end, opened-tidies, in-newest, in_grammar, solid-front, kind-solid, document-is)
 
 -- ---- with white space first, or none
 

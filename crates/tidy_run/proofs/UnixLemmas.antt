@@ -49,11 +49,8 @@ rest-ends (the.other {c} {w = v} e f is) w = ap (λ (b : Bool). c == 10 || c == 
 
 rest-append : {v : List ℕ} → IsCommentRest v → (w : List ℕ) → unix_lines false (v ++ w) ≡ unix_lines false v ++ unix_lines false w
 rest-append (the.closing) w = refl
-rest-append (the.nested {v} {w = u} a b) w =
-    ap (λ (xs : List ℕ). 47 ∷ 42 ∷ xs) (ap (unix_lines false) (append_assoc v u w) ∙ (rest-append a (u ++ w) ∙ (ap (λ (xs : List ℕ). unix_lines false v ++ xs) (rest-append b w)
-    ∙ (sym (append_assoc (unix_lines false v) (unix_lines false u) (unix_lines false w)) ∙ ap (λ (xs : List ℕ). xs ++ unix_lines false w) (sym (rest-append a u))))))
-rest-append (the.other {c} {w = v} e f is) w =
-    grind (arith, common_steps, unix-ends, rest-ends, cases_Bool, rest-append is w)
+rest-append (the.nested {v} {w = u} a b) w = grind (arith, common_steps, append_assoc, unix-ends, rest-ends, cases_Bool, rest-append a (u ++ w), rest-append b w, rest-append a u)
+rest-append (the.other {c} {w = v} e f is) w = grind (arith, common_steps, append_assoc, unix-ends, rest-ends, cases_Bool, rest-append is w)
 
 -- a mark of two characters begins where it began
 unix-mark : (d f : ℕ) (c : ℕ) (w : List ℕ) → (f == 13) ≡ false → (f == 10) ≡ false → begins (d ∷ f ∷ []) (c ∷ w) ≡ false → begins (d ∷ f ∷ []) (c ∷ unix_lines false w) ≡ false
@@ -82,11 +79,7 @@ near-newline-first c s r e f = grind (arith, common_steps, eqb-true, space, and_
 
 pub unix-near : (last : Bool) (w : List ℕ) {s t : List ℕ} → Near s t → (last ≡ true → begins (codes "\n") t ≡ true) → Near (w ++ s) (unix_lines last w ++ t)
 unix-near last [] near end = near
-unix-near last (c ∷ w) {s} {t} near end = elim (judge (is_return_before last) c w) [
-  | inl d ↦ (let both = and_parts (c == 13) (is_line_end last (unix_lines last w)) d.0 in
-      subst (λ (xs : List ℕ). Near (c ∷ w ++ s) (xs ++ t)) (sym d.1) (near-newline-first c (w ++ s) (unix_lines last w ++ t) both.0 (newline-here last (unix_lines last w) t (without-again (is_return_before last) w) both.1 end)))
-  | inr k ↦ subst (λ (xs : List ℕ). Near (c ∷ w ++ s) (xs ++ t)) (sym k.1) (same (unix-near last w near end))
-]
+unix-near last (c ∷ w) {s} {t} near end = grind (arith, common_steps, judge, and_parts, near-newline-first, newline-here, without-again, same, unix-near last w near end)
 
 -- ---- bytes
 

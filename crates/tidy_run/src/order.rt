@@ -68,7 +68,7 @@ fn push_text(kind: TokenKind, text: &str, output: &mut String) -> Result<(), All
 }
 
 /// Appends a text without the carriage returns at the ends of its lines. `is_line` says whether the text ends a line.
-#[tactic(auto, using(crate::proofs::UnixLemmas::unix_lines_are))]
+#[tactic(auto, using(crate::proofs::UnixLemmas::unix_lines_are, crate::proofs::LineLemmas::on_ok_is, crate::proofs::ReturnLemmas::return_lemmas, std::proofs::lemmas::Grind::common_steps))]
 fn push_unix(text: &str, is_line: bool, output: &mut String) -> Result<(), AllocError>
     ensures unix { spec.IsUnix is_line (spec.unix_lines is_line text.now) }
     ensures written { OnOk result (string_bytes output.new
@@ -138,7 +138,7 @@ pub fn is_space(kind: TokenKind) -> bool
 }
 
 /// Appends white space in order: with no blank before a newline, and at most two newlines in a row.
-#[tactic(auto, using(crate::proofs::OrderLemmas::in_order_is))]
+#[tactic(auto, using(crate::proofs::OrderLemmas::in_order_is, crate::proofs::LineLemmas::on_ok_is, crate::proofs::LineLemmas::line_lemmas, std::proofs::lemmas::Grind::common_steps))]
 fn push_in_order(space: &str, output: &mut String) -> Result<(), AllocError>
     ensures ordered { spec.IsInOrder (spec.in_order space.now) }
     ensures written { OnOk result (string_bytes output.new
@@ -175,6 +175,7 @@ fn solid_end(text: &str, place: usize) -> usize
 }
 
 /// Returns where the first newline of a text is.
+#[tactic(auto, using(crate::proofs::LineLemmas::newline_is, std::proofs::lemmas::Grind::common_steps))]
 fn newline(text: &str) -> Option<usize>
     ensures found { MatchOption result (spec.HasNoNewline text.now) (spec.IsNewline text.now) }
     ensures few { IfSome result (λ at. at + 1 < 2 ^ 64) }

@@ -11,6 +11,7 @@ use rustc_lexer::{FrontmatterAllowed, Token, TokenKind, tokenize};
 use std::alloc::{AllocError, Global};
 
 /// Appends a source in order.
+#[tactic(auto, using(std::proofs::lemmas::Result::on_ok_weaker, crate::proofs::FirstLemmas::first_lemmas, std::proofs::lemmas::Grind::common_steps))]
 pub fn push_source(alloc: Global, text: &str, output: &mut String) -> Result<(), AllocError>
     requires room { length text.now + 1 < 2 ^ 32 }
     ensures { OnOk result (string_bytes output.new

@@ -51,6 +51,7 @@ impl<'a> Cursor<'a> {
 
 /// Returns how many hashes are at the front of the text.
 #[inline]
+#[tactic(auto, using(crate::proofs::GuardedLemmas::hash_boundary, crate::proofs::RawLemmas::hash_len, std::proofs::lemmas::Grind::common_steps))]
 fn count_hashes(rest: &str) -> usize
     ensures count { result ≡ hash_run (chars rest.now) }
     ensures boundary { IsCharBoundary rest.now result }
@@ -86,6 +87,7 @@ fn guarded_body(body: &str, n_hashes: usize) -> (bool, &str)
 }
 
 /// Returns the text after the hashes at its front, of which it skips `most` at most.
+#[tactic(auto, using(crate::proofs::GuardedLemmas::hash_boundary, crate::proofs::GuardedLemmas::hash_cut, std::proofs::lemmas::Grind::common_steps))]
 fn eat_hashes(rest: &str, most: usize) -> &str
     ensures shorter { length result.now ≤ length rest.now }
     ensures past { result.now ≡ past (min most (hash_run (chars rest.now))) rest.now }

@@ -73,6 +73,7 @@ impl Ahead {
 /// Returns the ends of runs past a place, and where the bytes begin that they are of: those that are known, or else
 /// those of the next 64 bytes.
 #[inline(always)]
+#[tactic(auto, using(crate::proofs::ToldLemmas::found_at, crate::proofs::ToldLemmas::left_is, std::proofs::lemmas::Grind::common_steps))]
 fn ends_ahead(text: &str, at: usize, block: usize, ends: u64) -> (usize, u64)
     requires inside { at ≤ length text.now }
     requires behind { block ≤ at }

@@ -163,6 +163,7 @@ pub(crate) fn ends_after(ends: u64, place: usize) -> u64
 
 /// Returns the ends of runs without the lowest one.
 #[inline(always)]
+#[tactic(auto, using(crate::proofs::BitLemmas::bit_lemmas, std::proofs::lemmas::Grind::common_steps))]
 pub(crate) fn past_lowest(ends: u64) -> u64
     requires { ends ≢ 0 }
     ensures gone { (low k : ℕ) → IsLowest ends low → k ≤ low → bit result k ≡ false }
@@ -182,6 +183,7 @@ pub(crate) fn ends_left(ends: u64, len: u32) -> u64
 
 /// Returns the ends of runs past the next `len` bytes.
 #[inline(always)]
+#[tactic(auto, using(crate::proofs::BitLemmas::bit_lemmas, std::proofs::lemmas::Grind::common_steps))]
 fn ends_past(ends: u64, len: u32) -> u64
     requires { len < 64 }
     ensures first { bit result 0 ≡ false }

@@ -45,6 +45,7 @@ static FAMILIES: [Family; 128] = [
 
 /// Returns the family that the character chooses.
 #[inline(always)]
+#[tactic(auto, using(crate::proofs::FamilyLemmas::table, std::proofs::lemmas::Grind::common_steps))]
 pub(crate) fn family_of(first: char) -> Family
     ensures { result ≡ spec.family_of first }
 {
@@ -58,6 +59,7 @@ pub(crate) fn family_of(first: char) -> Family
 
 /// Returns the family that a byte of ASCII chooses, or `None` for a byte from 128 up.
 #[inline(always)]
+#[tactic(auto, using(crate::proofs::FamilyLemmas::table, std::proofs::lemmas::Grind::common_steps))]
 pub(crate) fn family_of_byte(first: u8) -> Option<Family>
     ensures { MatchOption result (128 ≤ first)
         (λ family. (first < 128) × (family ≡ spec.family_of first)) }
@@ -70,6 +72,7 @@ pub(crate) fn family_of_byte(first: u8) -> Option<Family>
 }
 
 /// Returns the family that a character outside ASCII chooses.
+#[tactic(auto, using(crate::proofs::FamilyLemmas::wide_word, std::proofs::lemmas::Grind::common_steps))]
 fn family_past_ascii(first: char) -> Family
     requires { 128 ≤ first }
     ensures { result ≡ spec.family_of first }

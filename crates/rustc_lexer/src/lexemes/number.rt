@@ -28,6 +28,7 @@ pub(crate) fn number(first_digit: char, tail: &str) -> (TokenKind, &str)
 
 /// Returns the kind of the number, and the text from its suffix on.
 #[inline(always)]
+#[tactic(auto, using(crate::proofs::NumberLemmas::number_lemmas, std::proofs::lemmas::Grind::common_steps))]
 fn number_kind(first_digit: char, tail: &str) -> (LiteralKind, &str)
     ensures { (result.0, result.1.now) ≡ scanned (spec.number_kind first_digit) tail.now }
 {

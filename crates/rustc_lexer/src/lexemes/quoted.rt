@@ -125,6 +125,7 @@ fn quoted_string(prefix: QuotedPrefix, tail: &str) -> (bool, &str)
 
 /// Returns the text after its first character, if there is one.
 #[inline(always)]
+#[tactic(auto, using(crate::specs::laws::Past::past_end, std::proofs::lemmas::Grind::common_steps))]
 fn past_first(text: &str) -> &str
     ensures shorter { length result.now ≤ length text.now }
     ensures past { result.now ≡ past 1 text.now }

@@ -24,6 +24,7 @@ pub(crate) enum RawPrefix {
 /// Lexes a raw string. Returns its kind, and the text after it. `rest` is the text after its prefix, and `opening`
 /// is the [`short_opening`] of `rest`.
 #[inline(always)]
+#[tactic(auto, using(crate::proofs::RawReadLemmas::accepted_literal, std::proofs::lemmas::Grind::common_steps))]
 pub(crate) fn raw_literal<'a>(
     prefix: RawPrefix,
     rest: &'a str,

@@ -82,6 +82,7 @@ impl Checkpoints {
 
 /// Returns the bound after an edit. The edit keeps the tokens up to `kept`, and those from `met` on, which is then
 /// `now`.
+#[tactic(auto, using(crate::proofs::CheckpointLemmas::front_stays, crate::proofs::CheckpointLemmas::kept_stays, std::proofs::lemmas::Grind::common_steps))]
 fn move_bound(bound: Bound, kept: Bound, met: Bound, now: Bound) -> Bound
     requires { IsMovable met now bound }
     ensures { (old new : List Token) → IsReplaced old new kept met now → IsBound old bound

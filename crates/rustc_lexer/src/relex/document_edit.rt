@@ -36,6 +36,7 @@ pub(crate) fn body_change(kept: bool, from: usize, to: usize, edit: Change) -> C
 }
 
 /// Returns whether the head stays: whether the edit, which begins at `start`, is behind it and leaves it the same.
+#[tactic(auto, using(crate::specs::laws::Same::told_head, std::proofs::lemmas::Grind::common_steps))]
 pub(crate) fn keeps_head(old: Head, now: Head, start: usize) -> bool
     ensures { IsTrue result ↔ (old ≡ now) × (old.end ≤ start) }
 {
@@ -75,6 +76,7 @@ pub(crate) fn counted(kept: bool, old_count: usize, new_count: usize, body: Rele
 /// Replaces the old tokens of the body with the lexed ones. Those up to `at.front` and those from `at.back` on
 /// stay. Also replaces the tokens of the head with the new ones, unless they stay. If memory is refused nothing
 /// changes.
+#[tactic(auto, using(crate::proofs::DocumentLemmas::put_behind, std::proofs::lemmas::Grind::common_steps))]
 pub(crate) fn put_tokens(
     alloc: Global,
     tokens: &mut Vec<Token>,

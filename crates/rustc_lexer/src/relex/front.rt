@@ -49,6 +49,7 @@ const FAR: usize = 256;
 
 /// Returns whether there are at least two characters between the places.
 #[inline(always)]
+#[tactic(auto, using(crate::proofs::EditLemmas::edit_lemmas, std::proofs::lemmas::Grind::common_steps))]
 pub(crate) fn two_stand(text: &str, from: usize, to: usize) -> bool
     requires from_boundary { IsCharBoundary text.now from }
     requires to_boundary { IsCharBoundary text.now to }
@@ -69,6 +70,7 @@ pub(crate) fn two_stand(text: &str, from: usize, to: usize) -> bool
 
 /// Returns whether `from` is between characters, and at least two characters come from there up to `to`.
 #[inline(always)]
+#[tactic(auto, using(crate::proofs::EditLemmas::edit_lemmas, std::proofs::lemmas::Grind::common_steps))]
 fn stand_before(text: &str, from: usize, to: usize) -> bool
     requires to_boundary { IsCharBoundary text.now to }
     ensures late { to ≤ from → result ≡ false }

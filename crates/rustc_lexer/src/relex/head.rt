@@ -46,6 +46,7 @@ pub(crate) fn find_head(whole: bool, text: &str) -> Head
 
 impl Head {
     /// Returns the head of a document.
+    #[tactic(auto, using(crate::proofs::BodyChangeLemmas::is_head, std::proofs::lemmas::Grind::common_steps))]
     pub fn find(text: &str) -> Head
         requires fits { Fits text.now }
         ensures head { spec.IsHeadOf text.now result }

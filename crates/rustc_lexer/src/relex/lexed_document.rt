@@ -93,6 +93,7 @@ impl<S: Stepper> LexedDocument<S> {
     }
 
     /// Returns the tokens of the document, in order. The shebang line has none.
+    #[tactic(auto, using(crate::proofs::DocumentPage::past_law, std::proofs::lemmas::Grind::common_steps))]
     pub fn tokens(&self) -> &[Token]
         ensures tokens { result.now ≡ self.now.tokens }
         ensures from_scratch { result.now

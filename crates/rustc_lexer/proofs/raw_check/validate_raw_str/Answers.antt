@@ -1,10 +1,7 @@
-use Rattle.std.proofs.Common.{sym, ap, ◌∙◌, arith}
+use Rattle.std.proofs.Common.{sym, ap, ◌∙◌}
 use Rattle.rustc_lexer.specs.means.Raw.{checked}
-use Rattle.rustc_lexer.proofs.RawReadLemmas.{check_is, prefix_fits}
+use Rattle.rustc_lexer.proofs.RawReadLemmas.{check_is}
 use Rattle.rustc_lexer.proofs.raw_check.validate_raw_str.Goals as goal
-
-pub any_raw_string-read-requires : goal.any_raw_string-read-requires
-any_raw_string-read-requires c = record { fits = let fits = prefix_fits _ _ _ c.utf8.input c.past_chars-rest.ensures c.requires.raw in omega arith }
 
 pub returns-in-Ok : goal.returns-in-Ok
 returns-in-Ok c = record { check = ap checked (sym c.in-Ok.is) ∙ check_is _ _ _ c.utf8.input c.past_chars-rest.ensures _ _ c.any_raw_string-read.ensures }

@@ -1,13 +1,12 @@
-use Rattle.std.proofs.Common.{◌-◌, ◌∷◌, List, [], false, length, map, sym, subst, ap, ◌∙◌, arith, rules, ◌≡◌, refl}
+use Rattle.std.proofs.Common.{◌-◌, ◌∷◌, List, [], false, length, map, sym, subst, ap, ◌∙◌, arith, rules}
 use Rattle.std.specs.List.{FoldsTo}
 use Rattle.rustc_literal_escaper.specs.declared.element.Element.TheVariants.{Byte}
-use Rattle.rustc_literal_escaper.specs.Elements.{Front, item_at, Item, front_by, items_from}
-use Rattle.rustc_literal_escaper.specs.Errors.{Error, errors_in}
+use Rattle.rustc_literal_escaper.specs.Elements.{Front, item_at}
+use Rattle.rustc_literal_escaper.specs.Errors.{Error}
 use Rattle.rustc_literal_escaper.proofs.ErrorLemmas.{folds-errors}
-use Rattle.rustc_literal_escaper.proofs.ItemLemmas.{first-one, items-step, nothing}
+use Rattle.rustc_literal_escaper.proofs.ItemLemmas.{first-one, items-step}
 use Rattle.rustc_literal_escaper.proofs.PlainLemmas.{first-plain}
 use Rattle.rustc_literal_escaper.proofs.check.check_escaped.Goals as goal
-use Rattle.std.specs.Str.{chars}
 
 pub items-preserved-then-is_plain : goal.items-preserved-then-is_plain
 items-preserved-then-is_plain g c = (
@@ -55,12 +54,3 @@ items-preserved g c = (
       (first-one false c.args.total c.past_simple_front-front.result.now c.lone_element-element.result.1.now _ _ c.lone_element-element.result.0 c.past_simple_front-front.ensures.text c.lone_element-element.ensures.text c.in-Some.ensures.0 c.lone_element-element.ensures.read)
       c.check_element-in-items.ensures.calls calls)),
 )
-
-pub returns-in_default : goal.returns-in_default
-returns-in_default g c =
-    let none : items_from (front_by false) c.args.total (chars c.past_simple_front-front.result.now) ≡ [] = ap (items_from (front_by false) c.args.total) c.in_default.ensures ∙ nothing (front_by false) c.args.total in
-    record {
-      calls = c.items.invariant.3 c.items.callback
-          (subst (λ (es : List Error). FoldsTo (λ f error h. goal.F-step g f error.0 error.1 tt h) c.items.callback es c.items.callback) (c.past_simple_front-front.ensures.same c.args.mode c.args.total)
-          (subst (λ (is : List Item). FoldsTo (λ f error h. goal.F-step g f error.0 error.1 tt h) c.items.callback (errors_in c.args.mode is) c.items.callback) (sym none) refl));
-    }

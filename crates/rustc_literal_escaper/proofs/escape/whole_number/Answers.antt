@@ -1,20 +1,12 @@
-use Rattle.std.proofs.Common.{◌≡◌, ◌<◌, ◌^◌, ◌∷◌, [], ◌++◌, List, ℕ, sym, ap, ◌∙◌, refl, arith}
+use Rattle.std.proofs.Common.{◌≡◌, ◌<◌, ◌^◌, ◌∷◌, [], ◌++◌, List, ℕ, sym, ap, ◌∙◌, arith}
 use Rattle.rustc_literal_escaper.specs.declared.element.Element.{Element}
-use Rattle.rustc_literal_escaper.proofs.DigitLemmas.{with_room, left_at, left_at-underscore}
-use Rattle.rustc_literal_escaper.proofs.WholeLemmas.{all_more, all_none, digit_ascii, first_digit, more_fits, no_digits, number_ends, read_digit}
+use Rattle.rustc_literal_escaper.proofs.DigitLemmas.{with_room, left_at}
+use Rattle.rustc_literal_escaper.proofs.WholeLemmas.{all_more, digit_ascii, more_fits, read_digit}
 use Rattle.rustc_literal_escaper.proofs.escape.whole_number.Goals as goal
 
 -- one step, where the front of what was left is read
 step : (v n w m c : ℕ) (rest tail : List ℕ) (read : Element × List ℕ) → rest ≡ c ∷ tail → left_at v n (rest ++ (125 ∷ [])) ≡ read → left_at w m (tail ++ (125 ∷ [])) ≡ left_at v n (c ∷ tail ++ (125 ∷ [])) → left_at w m (tail ++ (125 ∷ [])) ≡ read
 step v n w m c rest tail read front at next = next ∙ (ap (λ (xs : List ℕ). left_at v n (xs ++ (125 ∷ []))) (sym front) ∙ at)
-
-pub digits-init : goal.digits-init
-digits-init c = (
-  first_digit _ _ _ c.in_ok-value.ensures.0 c.in_ok-value.ensures.1,
-  λ all. all_more c.args.first c.args.digits.now (c.args.first ∷ c.args.digits.now) refl (digit_ascii _ c.in_ok-value.ensures.0) all,
-  omega arith,
-  omega (arith, c.in_ok-value.ensures.0, c.in_ok-value.ensures.1),
-)
 
 pub overflow_mul-value : goal.overflow_mul-value
 overflow_mul-value c = let room : c.digits.value < 16 ^ 5 = with_room _ _ c.digits.invariant.3 (omega (arith, c.digits.invariant.2, c.if-count-eq-MOST_DIGITS.false)) in omega arith
@@ -31,17 +23,3 @@ digits-preserved-in-Some-hex_digit c =
       omega arith,
       more_fits _ _ _ c.digits.invariant.3 few digit,
     )
-
-pub digits-preserved : goal.digits-preserved
-digits-preserved c = (
-  step c.digits.value c.digits.count _ _ c.in-Some.byte.now _ _ _ c.in-Some.ensures.cases.0 c.digits.invariant.0 (sym (left_at-underscore _ _ _ _ c.if-byte-ne95.false)),
-  λ all. c.digits.invariant.1 (all_more c.in-Some.byte.now _ _ c.in-Some.ensures.cases.0 (grind (arith, c.if-byte-ne95.false)) all),
-  c.digits.invariant.2,
-  c.digits.invariant.3,
-)
-
-pub returns : goal.returns
-returns c = (
-  c.digits.invariant.1 (all_none _ c.in_default.ensures.cases),
-  number_ends c.digits.value c.digits.count c.args.first (c.args.digits.now ++ (125 ∷ [])) c.digits.invariant.2 c.in_ok-value.ensures.0 (no_digits _ _ _ _ c.in_default.ensures.cases c.digits.invariant.0),
-)

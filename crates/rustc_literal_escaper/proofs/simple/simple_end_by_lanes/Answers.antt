@@ -1,8 +1,7 @@
 use Rattle.std.proofs.Common.{sym, ap, ◌∙◌, arith}
-use Rattle.std.proofs.lemmas.Grind.{common_steps}
 use lib.Count.{count_trailing_zeros}
 use Rattle.rustc_literal_escaper.specs.Plain.{is_simple}
-use Rattle.rustc_literal_escaper.proofs.LaneLemmas.{run_bound, run_through, run_stops}
+use Rattle.rustc_literal_escaper.proofs.LaneLemmas.{run_bound, run_stops}
 use Rattle.rustc_literal_escaper.proofs.simple.simple_end_by_lanes.Goals as goal
 
 pub returns-then-found-ne0-clause-simple : goal.returns-then-found-ne0-clause-simple
@@ -14,6 +13,3 @@ pub returns-then-found-ne0-clause-bound : goal.returns-then-found-ne0-clause-bou
 returns-then-found-ne0-clause-bound c =
     let run = run_stops (is_simple c.args.raw) c.args.bytes.now c.lanes.end 32 (omega arith) (omega arith) (omega (arith, c.marks-found.ensures)) ∙ ap (count_trailing_zeros 64) (sym c.marks-found.ensures) in
     omega (arith, run, run_bound (is_simple c.args.raw) c.args.bytes.now c.lanes.end c.lanes.invariant.inside)
-
-pub lanes-preserved : goal.lanes-preserved
-lanes-preserved c = grind (arith, common_steps, run_through, c.marks-found.ensures, c.lanes.invariant.run)

@@ -1,7 +1,6 @@
-use Rattle.std.proofs.Common.{◌≤◌, ℕ, List, length, subst, sym, ◌∙◌}
+use Rattle.std.proofs.Common.{◌≤◌, ℕ, List, length, subst}
 use Rattle.std.specs.List.{prefix_len}
 use Rattle.rustc_literal_escaper.specs.Plain.{is_simple}
-use Rattle.rustc_literal_escaper.proofs.LaneLemmas.{run_front}
 use Rattle.rustc_literal_escaper.proofs.SimpleLemmas.{cut-simple}
 use Rattle.rustc_literal_escaper.proofs.simple.split_simple.Goals as goal
 
@@ -9,7 +8,3 @@ pub range_from-requires : goal.range_from-requires
 range_from-requires c = λ some. cut-simple c.args.raw c.args.rest.now c.simple_end-end.result c.utf8.rest
     (subst (λ (xs : List ℕ). c.simple_end-end.result ≤ length xs) c.as_bytes.ensures.value c.simple_end-end.ensures.bound)
     (subst (λ (xs : List ℕ). c.simple_end-end.result ≤ prefix_len (is_simple c.args.raw) xs) c.as_bytes.ensures.value c.simple_end-end.ensures.simple)
-
-pub returns-clause-simple : goal.returns-clause-simple
-returns-clause-simple c = run_front (is_simple c.args.raw) c.as_bytes-2.result.now c.simple_end-end.result
-    (subst (λ (xs : List ℕ). c.simple_end-end.result ≤ prefix_len (is_simple c.args.raw) xs) (c.as_bytes.ensures.value ∙ sym c.as_bytes-2.ensures.value) c.simple_end-end.ensures.simple)

@@ -4,9 +4,6 @@ use Rattle.rustc_literal_escaper.specs.Elements.{Item, front_by, items_from}
 use Rattle.rustc_literal_escaper.proofs.ItemLemmas.{items-step, told-none}
 use Rattle.rustc_literal_escaper.proofs.steps.advance.Goals as goal
 
-pub returns-then-is_some-clause-told : goal.returns-then-is_some-clause-told
-returns-then-is_some-clause-told c = c.steps.invariant.1 ∙ items-step c.args.raw _ _ _ _ _ _ c.steps.invariant.0 c.in-Some.ensures.0 c.step_by-told.ensures.told c.step_by-told.ensures.left
-
 pub steps-preserved : goal.steps-preserved
 steps-preserved c = (
   c.step_by-told.ensures.text,

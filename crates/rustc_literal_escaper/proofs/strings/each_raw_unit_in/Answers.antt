@@ -5,11 +5,7 @@ use Rattle.rustc_literal_escaper.specs.Elements.{Item, front_by, items_from}
 use Rattle.rustc_literal_escaper.proofs.ItemLemmas.{nothing}
 use Rattle.rustc_literal_escaper.proofs.PartLemmas.{first-raw, part-items}
 use Rattle.rustc_literal_escaper.proofs.RunLemmas.{folds-append, run-items}
-use Rattle.rustc_literal_escaper.proofs.SimpleLemmas.{simple-all-fine}
 use Rattle.rustc_literal_escaper.proofs.strings.each_raw_unit_in.Goals as goal
-
-pub each_simple-requires-clause-fine : goal.each_simple-requires-clause-fine
-each_simple-requires-clause-fine g c = simple-all-fine true c.split_simple.result.0.now c.split_simple.ensures.simple
 
 pub items-preserved : goal.items-preserved
 items-preserved g c = (

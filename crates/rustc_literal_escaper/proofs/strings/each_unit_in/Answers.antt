@@ -4,11 +4,7 @@ use Rattle.rustc_literal_escaper.specs.Elements.{Front, front_by, item_at, items
 use Rattle.rustc_literal_escaper.proofs.ItemLemmas.{first-one, items-step, nothing}
 use Rattle.rustc_literal_escaper.proofs.PlainLemmas.{first-plain}
 use Rattle.rustc_literal_escaper.proofs.RunLemmas.{folds-on, run-items}
-use Rattle.rustc_literal_escaper.proofs.SimpleLemmas.{simple-all-fine}
 use Rattle.rustc_literal_escaper.proofs.strings.each_unit_in.Goals as goal
-
-pub each_simple-requires-clause-fine : goal.each_simple-requires-clause-fine
-each_simple-requires-clause-fine g c = simple-all-fine false c.run_behind.result.0.now c.run_behind.ensures.simple
 
 pub items-preserved-then-is_plain : goal.items-preserved-then-is_plain
 items-preserved-then-is_plain g c = (

@@ -1,5 +1,5 @@
-use Rattle.std.proofs.Common.{◌≡◌, ◌≤◌, ◌+◌, ◌++◌, List, ◌∷◌, ℕ, arith, drop, string_bytes, ap, ◌∙◌, sym}
-use Rattle.tidy_run.proofs.LineLemmas.{on_ok_is, tail, line-written, line-blank, newline-written, newline-dropped, rest-plain}
+use Rattle.std.proofs.Common.{◌≡◌, ◌≤◌, ◌+◌, ◌++◌, List, ◌∷◌, ℕ, arith, drop, string_bytes, ap, ◌∙◌}
+use Rattle.tidy_run.proofs.LineLemmas.{tail, line-written, line-blank, newline-written, newline-dropped}
 use Rattle.tidy_run.proofs.order.push_in_order.Goals as goal
 use Rattle.tidy_run.proofs.order.push_in_order.Goals.{then-end-gt0+in_ok-push_str, else-end-gt0, then-newlines-lt2+in_ok-push, else-newlines-lt2}
 
@@ -32,8 +32,3 @@ loop-at-preserved c = record {
       | else-newlines-lt2 w ↦ ap (λ (k : ℕ). string_bytes c.if-newlines-lt2.output ++ tail k (drop (c.in-Some.at + 1) rest)) w.newlines-is
           ∙ (ap (λ o. string_bytes o ++ tail c.if-end-gt0.newlines (drop (c.in-Some.at + 1) rest)) w.output-is ∙ newline-dropped (drop (c.in-Some.at + 1) rest) (string_bytes c.if-end-gt0.output) c.if-end-gt0.newlines few_first w.if-newlines-lt2.false)
     ]
-
-pub returns-clause-written : goal.returns-clause-written
-returns-clause-written c = on_ok_is c.push_str-2.result _ c.push_str-2.ensures.bytes
-    (ap (λ (xs : List ℕ). string_bytes c.loop-at.output ++ xs) (sym (rest-plain c.loop-at.newlines c.loop-at.rest.now c.loop-at.invariant.few
-    c.in_default.ensures.found)) ∙ c.loop-at.invariant.left)

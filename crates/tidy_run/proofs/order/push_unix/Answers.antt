@@ -1,6 +1,6 @@
 use Rattle.std.proofs.Common.{◌-◌, string_bytes, arith, ◌≡◌, ◌++◌, Bool, List, ℕ, take, ap, sym, ◌∙◌}
 use Rattle.tidy_run.proofs.LineLemmas.{on_ok_is}
-use Rattle.tidy_run.proofs.ReturnLemmas.{line-unix, last-unix, open-unix}
+use Rattle.tidy_run.proofs.ReturnLemmas.{line-unix, last-unix}
 use Rattle.tidy_run.proofs.order.push_unix.Goals as goal
 use Rattle.tidy_run.specs.Order.{unix_lines}
 
@@ -9,13 +9,6 @@ loop-at-preserved c = record {
   utf8 = c.range_from-rest.utf8;
   left = line-unix c.args.is_line c.loop-at.rest.now _ _ _ _ _ _ c.in-Some.at c.line_end-end.result c.in-Some.ensures.found c.line_end-end.ensures c.range.ensures.value c.in_ok-push_str.ensures.bytes c.in_ok-push.ensures.bytes c.range_from-rest.ensures.value c.loop-at.invariant.left;
 }
-
-pub returns-then-not-is_line-clause-written : goal.returns-then-not-is_line-clause-written
-returns-then-not-is_line-clause-written c = on_ok_is c.push_str-then-not-is_line.result _ c.push_str-then-not-is_line.ensures.bytes
-    (ap (λ (xs : List ℕ). string_bytes c.loop-at.output ++ xs) (sym stays) ∙ c.loop-at.invariant.left)
-  where
-    stays : unix_lines c.args.is_line c.loop-at.rest.now ≡ c.loop-at.rest.now
-    stays = ap (λ (b : Bool). unix_lines b c.loop-at.rest.now) c.if-not-is_line.true ∙ open-unix c.loop-at.rest.now c.in_default.ensures.found
 
 pub returns-clause-written : goal.returns-clause-written
 returns-clause-written c = on_ok_is c.push_str-2.result _ c.push_str-2.ensures.bytes

@@ -1,9 +1,6 @@
-use Rattle.std.proofs.Common.{◌+◌, ◌==◌, slice_index, length, ap, arith, length-drop}
-use Rattle.rustc_lexer.proofs.ShortCharLemmas.{short_char, short_cut, byte_le}
+use Rattle.std.proofs.Common.{◌+◌, ap, arith, length-drop}
+use Rattle.rustc_lexer.proofs.ShortCharLemmas.{short_char}
 use Rattle.rustc_lexer.proofs.lexemes.lifetime.past_short_char.Goals as goal
-
-pub range_from-requires : goal.range_from-requires
-range_from-requires c = λ some. short_cut c.args.tail.now _ (1 + c.from-place.result) c.utf8.tail c.as_bytes-bytes.ensures.value c.if-bytes-lt3.false (ap (λ n. 1 + n) c.from-place.ensures) c.if-bytes-place-lt128.true c.if-bytes-place-eq39.true (omega (arith, c.if-bytes-lt3.false, ap length c.as_bytes-bytes.ensures.value, ap (λ n. 1 + n) c.from-place.ensures, byte_le (slice_index c.as_bytes-bytes.result.now 0 == 92)))
 
 pub returns-then-bytes-place-eq39 : goal.returns-then-bytes-place-eq39
 returns-then-bytes-place-eq39 c =

@@ -1,11 +1,8 @@
-use Rattle.rustc_lexer.proofs.RawReadLemmas.{left_le, accepted_literal, refused_literal}
+use Rattle.rustc_lexer.proofs.RawReadLemmas.{left_le, refused_literal}
 use Rattle.rustc_lexer.proofs.lexemes.raw.raw_literal.Goals as goal
 
 pub overflow_sub-suffix_start : goal.overflow_sub-suffix_start
 overflow_sub-suffix_start c = left_le c.args.prefix _ _ c.utf8.rest _ c.raw_double_quoted_string-read.ensures
-
-pub returns-in-Ok : goal.returns-in-Ok
-returns-in-Ok c = accepted_literal c.args.prefix _ _ c.utf8.rest _ c.raw_double_quoted_string-read.ensures _ _ c.prefix_len.ensures _ _ c.in-Ok.is c.literal_kind-kind.ensures c.eat_literal_suffix.ensures.past
 
 pub returns-in-Err : goal.returns-in-Err
 returns-in-Err c = refused_literal c.args.prefix _ _ c.utf8.rest _ c.raw_double_quoted_string-read.ensures _ _ c.prefix_len.ensures _ c.in-Err.is c.literal_kind-kind-in-Err.ensures
