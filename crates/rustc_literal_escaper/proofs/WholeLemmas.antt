@@ -134,3 +134,5 @@ raw_simple mode src left raw passes none =
     sym (errors_of-strings mode src (items_of true src) (raw_double mode raw) (ap (λ (r : Bool). items_of r src) raw))
     ∙ (sym (errors-skip mode true (is_simple true) (simple-fine mode true) (length src) None (chars src) (chars left) passes)
     ∙ (ap (λ (xs : List ℕ). errors_in mode (items_from (front_by true) (length src) xs)) empty ∙ ap (errors_in mode) (nothing (front_by true) (length src))))
+
+pub ruleset whole_lemmas = (all_more, all_none, digit_ascii, first_digit, no_digits, number_ends)

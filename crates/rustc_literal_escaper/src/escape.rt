@@ -90,7 +90,7 @@ fn whole_byte(high: u8, low: u8) -> Option<Element>
 
 /// Returns the number of a digit and of those after it, among which underscores may be, if there are not too many.
 #[inline(always)]
-#[tactic(auto, using(crate::proofs::DigitLemmas::digit_lemmas, crate::proofs::WholeLemmas::all_more, crate::proofs::WholeLemmas::all_none, crate::proofs::WholeLemmas::digit_ascii, crate::proofs::WholeLemmas::first_digit, crate::proofs::WholeLemmas::no_digits, crate::proofs::WholeLemmas::number_ends, std::proofs::lemmas::Grind::common_steps))]
+#[tactic(auto, using(crate::proofs::DigitLemmas::digit_lemmas, crate::proofs::WholeLemmas::whole_lemmas, std::proofs::lemmas::Grind::common_steps))]
 fn whole_number(first: u8, digits: &[u8]) -> Option<Element>
     ensures { IfSome result (λ e. (list_all is_ascii (first ∷ digits.now) ≡ true)
         × ((e, []) ≡ spec.braced (first ∷ digits.now ++ (125 ∷ [])))) }
