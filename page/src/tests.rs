@@ -39,6 +39,10 @@ fn what_literals_stand_for() {
         (r#""aé\n""#, Some(r#"3 characters: "a\u{e9}\n""#)),
         ("\"a\\\n\n  b\"", Some(r#"2 characters: "ab""#)),
         (r#""\q""#, wrong),
+        // wrong stays wrong, though a warning follows: a line end that is skipped, and then an empty line
+        ("\"\\q\\\n\n\"", wrong),
+        ("b\"\\q\\\n\n\"", wrong),
+        ("c\"\\q\\\n\n\"", wrong),
         (r#"r"\n""#, Some(r#"2 characters: "\\n""#)),
         (r#"b"a\xff""#, Some(r#"2 bytes: "a\xff""#)),
         (r##"br#"\"#"##, Some(r#"1 byte: "\\""#)),
