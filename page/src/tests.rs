@@ -239,6 +239,11 @@ fn listings() {
     let source = source("#!/a\nb+", true);
     let listed = listing::write(&source, 0..3, NEWEST);
     assert_eq!(listed, "0 1 Whitespace\n1 1 Ident\n2 1 Plus\n");
+    // A long listing comes in blocks of 65536 bytes.
+    let count = 10_000;
+    let source = self::source(&";".repeat(count), false);
+    let wanted: String = (0..count).map(|at| format!("{at} 1 Semi\n")).collect();
+    assert!(listing::write(&source, 0..count, NEWEST) == wanted);
 }
 
 /// A text that is put into the room, which may be larger, and what is answered of it.
