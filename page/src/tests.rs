@@ -182,13 +182,15 @@ fn marks_of_a_document() {
 /// How much is in colours, and said of one line: as docs/PLAYGROUND.md has it.
 #[test]
 fn limits() {
-    let long = source(&format!("//{}", "a".repeat(4100)), false);
-    let lens: Vec<_> = lines(&long)[0]
-        .runs
-        .iter()
-        .map(|run| run.text.len())
-        .collect();
-    assert_eq!(lens, [4000, 102]);
+    for rest in ["a".repeat(4100), "é".repeat(2050)] {
+        let long = source(&format!("//{rest}"), false);
+        let lens: Vec<_> = lines(&long)[0]
+            .runs
+            .iter()
+            .map(|run| run.text.len())
+            .collect();
+        assert_eq!(lens, [4000, 102]);
+    }
     let twice = format!("//{0}\n//{0}", "a".repeat(3000));
     assert!(
         lines(&source(&twice, false))
