@@ -236,6 +236,10 @@ function known() {
   typeAll(`//${'a'.repeat(4100)}`);
   const runs = [...at('lines').querySelectorAll('.code span')].map((run) => [run.className.split(' ')[0], run.textContent.length]);
   expect(JSON.stringify(runs) === '[["comment",4000],["",102]]', `a long line is drawn as ${JSON.stringify(runs)}`);
+  // a line has what is said of it beside it, if that is one sentence alone too
+  typeAll('a\n0x');
+  const beside = [...at('lines').children].map((line) => [...line.querySelectorAll('.said')].map((part) => `line 2: ${part.dataset.said}`).join());
+  expect(beside[0] === '' && beside[1] === at('wrong').textContent && beside[1] !== '', `beside the lines stands ${JSON.stringify(beside)}`);
   typeAll('0x '.repeat(11));
   expect(at('wrong').children.length === 10, `${at('wrong').children.length} faults are said of 11`);
   typeAll('q#b '.repeat(60));

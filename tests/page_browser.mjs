@@ -223,8 +223,9 @@ async function help() {
   await value('at("keys").close()');
 }
 
-// The text is made wider by a drag, and narrower by a key.
+// The text is made wider by a drag, and narrower by a key. It begins far from the edge of the window.
 async function widths() {
+  await value('at("split").parentElement.style.marginLeft = "200px"');
   const width = () => value('at("text").clientWidth');
   const [old, { x, y }] = [await width(), await value('(({ x, y, width }) => ({ x: x + width / 2, y: y + 50 }))(at("split").getBoundingClientRect())')];
   for (const [type, to, buttons] of [['mousePressed', x, 1], ['mouseMoved', x + 100, 1], ['mouseReleased', x + 100, 0]]) {
@@ -242,6 +243,7 @@ async function widths() {
       100 * at('typing').clientWidth / (at('typing').clientWidth + at('listed').clientWidth)]`);
     expect(said === share && Math.abs(part - share) < 1, `${name}: the text has ${part} of the width, and said is ${said}`);
   }
+  await value('at("split").parentElement.style.marginLeft = ""');
 }
 
 // Wide enough for the text beside its tokens.

@@ -39,6 +39,10 @@ fn what_literals_stand_for() {
         (r#""aé\n""#, Some(r#"3 characters: "a\u{e9}\n""#)),
         ("\"a\\\n\n  b\"", Some(r#"2 characters: "ab""#)),
         (r#""\q""#, wrong),
+        // wrong stays wrong, though a warning follows: a line end that is skipped, and then an empty line
+        ("\"\\q\\\n\n\"", wrong),
+        ("b\"\\q\\\n\n\"", wrong),
+        ("c\"\\q\\\n\n\"", wrong),
         (r#"r"\n""#, Some(r#"2 characters: "\\n""#)),
         (r#"b"a\xff""#, Some(r#"2 bytes: "a\xff""#)),
         (r##"br#"\"#"##, Some(r#"1 byte: "\\""#)),
@@ -178,13 +182,15 @@ fn marks_of_a_document() {
 /// How much is in colours, and said of one line: as docs/PLAYGROUND.md has it.
 #[test]
 fn limits() {
-    let long = source(&format!("//{}", "a".repeat(4100)), false);
-    let lens: Vec<_> = lines(&long)[0]
-        .runs
-        .iter()
-        .map(|run| run.text.len())
-        .collect();
-    assert_eq!(lens, [4000, 102]);
+    for rest in ["a".repeat(4100), "é".repeat(2050)] {
+        let long = source(&format!("//{rest}"), false);
+        let lens: Vec<_> = lines(&long)[0]
+            .runs
+            .iter()
+            .map(|run| run.text.len())
+            .collect();
+        assert_eq!(lens, [4000, 102]);
+    }
     let twice = format!("//{0}\n//{0}", "a".repeat(3000));
     assert!(
         lines(&source(&twice, false))
@@ -235,6 +241,11 @@ fn listings() {
     let source = source("#!/a\nb+", true);
     let listed = listing::write(&source, 0..3, NEWEST);
     assert_eq!(listed, "0 1 Whitespace\n1 1 Ident\n2 1 Plus\n");
+    // A long listing comes in blocks of 65536 bytes.
+    let count = 10_000;
+    let source = self::source(&";".repeat(count), false);
+    let wanted: String = (0..count).map(|at| format!("{at} 1 Semi\n")).collect();
+    assert!(listing::write(&source, 0..count, NEWEST) == wanted);
 }
 
 /// A text that is put into the room, which may be larger, and what is answered of it.

@@ -17,7 +17,9 @@ fn each_request_is_refused() {
     // As in Rust, to keep more than there is has no effect.
     list.truncate(0);
     list.truncate(1);
+    list.shrink_to_fit();
     assert!(list.as_slice().is_empty() && list.as_mut_slice().is_empty() && list.is_empty());
+    assert!(list.iter_mut().next().is_none());
     let mut text = String::new(Global);
     assert_eq!(String::from_str(Global, "a"), Err(AllocError));
     assert_eq!(String::from_str(Global, ""), Ok(String::new(Global)));
@@ -33,5 +35,6 @@ fn each_request_is_refused() {
     assert!(text.write_str("a").is_err() && text.write_str("").is_ok());
     text.truncate(0);
     text.truncate(1);
+    text.shrink_to_fit();
     assert_eq!((text.as_str(), &*text), ("", ""));
 }

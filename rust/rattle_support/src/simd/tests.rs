@@ -21,6 +21,8 @@ fn all_pairs<const N: usize>() {
             assert_eq!(x.simd_ne(y).to_bitmask(), bits(&a, &b, |a, b| a != b));
             assert_eq!(x.simd_ge(y).to_bitmask(), bits(&a, &b, |a, b| a >= b));
             assert_eq!(x.simd_lt(y).to_bitmask(), bits(&a, &b, |a, b| a < b));
+            let same = x.simd_eq(Bytes::splat(apart));
+            assert_eq!(same.to_bitmask(), bits(&a, &b, |a, _| a == apart));
             let seven = Bytes::splat(7);
             let (less, joined) = ((x - y).simd_ge(seven), (x | y).simd_eq(seven));
             assert_eq!(
@@ -67,6 +69,10 @@ macro_rules! all_pairs_of {
                 let seven = $lanes::splat(7);
                 assert_eq!(each(&$lanes::eq), bits(&a, &b, |a, b| a == b));
                 assert_eq!(each(&$lanes::ge), bits(&a, &b, |a, b| a >= b));
+                assert_eq!(
+                    each(&|a, _| $lanes::eq(a, $lanes::splat(apart))),
+                    bits(&a, &b, |a, _| a == apart)
+                );
                 assert_eq!(
                     each(&|a, b| $lanes::not($lanes::ge(a, b))),
                     bits(&a, &b, |a, b| a < b)
