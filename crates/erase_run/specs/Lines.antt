@@ -1,5 +1,5 @@
 -- Lines of a text.
-use Rattle.std.specs.Prelude.{ℕ, ◌+◌, nat_eq, Bool, List, length, take}
+use Rattle.std.specs.Prelude.{ℕ, ◌+◌, nat_eq, Bool, List, length}
 use Rattle.std.specs.List.{filter}
 
 abbrev pub is_newline : ℕ → Bool

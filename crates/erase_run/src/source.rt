@@ -90,7 +90,8 @@ pub struct Source<'a> {
     pub pieces: Vec<Piece<'a>>,
     /// The places in `pieces` of the words.
     words: Vec<usize>,
-    pub fates: Vec<Fate>,
+    /// What becomes of each token.
+    pub fates: &'a mut [Fate],
     /// The rule of each deletion and of each replacement, as often as it was used.
     pub used: Vec<Rule>,
 }
@@ -101,15 +102,20 @@ pub fn past(n: usize, count: usize) -> usize {
 }
 
 impl<'a> Source<'a> {
-    /// The tokens of a text, all of them kept.
-    pub fn new(alloc: Global, text: &'a str, target: Target) -> Result<Source<'a>, AllocError>
+    /// The tokens of a text, with their fates.
+    pub fn new(
+        alloc: Global,
+        text: &'a str,
+        target: Target,
+        fates: &'a mut [Fate],
+    ) -> Result<Source<'a>, AllocError>
         requires fits { Fits text.now }
     {
         let mut source = Source {
             target,
             pieces: Vec::new(alloc),
             words: Vec::new(alloc),
-            fates: Vec::new(alloc),
+            fates,
             used: Vec::new(alloc),
         };
         let mut start = 0;
@@ -128,8 +134,12 @@ impl<'a> Source<'a> {
             self.words.push(self.pieces.len())?;
         }
         self.pieces.push(piece)?;
-        self.fates.push(Fate::Keep)?;
         Ok(())
+    }
+
+    /// The rules that were used, each as often as it was.
+    pub fn into_used(self) -> Vec<Rule> {
+        self.used
     }
 
     /// How many words there are.
