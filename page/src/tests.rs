@@ -115,8 +115,10 @@ fn changes() {
     assert_eq!((source.begin(), source.is_document()), (4, true));
     assert!(source.last(NEWEST).is_none());
     for text in [
+        // characters that share their last byte, and then their first
         "#!/a\nlet xé = 'b';",
         "#!/a\nlet x© = 'b';",
+        "#!/a\nlet xª = 'b';",
         "#!/a\nlet x© = 'b'; 'b';",
         "",
         "---\n---\n'r#a",
