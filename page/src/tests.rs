@@ -291,6 +291,7 @@ fn calls_of_the_page() {
         let shown = answered(crate::show(0, 1, 0, edition));
         assert!(shown.contains(&format!(r#""count":{count},"#)), "{shown}");
         assert_eq!(answered(crate::parts_alike(edition)), "");
+        assert_eq!(answered(crate::as_lexed_anew()), "yes");
     }
 }
 
