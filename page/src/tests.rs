@@ -115,8 +115,10 @@ fn changes() {
     assert_eq!((source.begin(), source.is_document()), (4, true));
     assert!(source.last(NEWEST).is_none());
     for text in [
+        // characters that share their last byte, and then their first
         "#!/a\nlet xé = 'b';",
         "#!/a\nlet x© = 'b';",
+        "#!/a\nlet xª = 'b';",
         "#!/a\nlet x© = 'b'; 'b';",
         "",
         "---\n---\n'r#a",
@@ -289,6 +291,7 @@ fn calls_of_the_page() {
         let shown = answered(crate::show(0, 1, 0, edition));
         assert!(shown.contains(&format!(r#""count":{count},"#)), "{shown}");
         assert_eq!(answered(crate::parts_alike(edition)), "");
+        assert_eq!(answered(crate::as_lexed_anew()), "yes");
     }
 }
 
