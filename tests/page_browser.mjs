@@ -121,6 +121,17 @@ async function links() {
   }
   await open('#edition=1999&text=a');
   expect(await value(`${labelOf(YEARS.at(-1))}.firstChild.checked && text.value`) === 'a', 'a link of no edition');
+  // a text that the browser has put into the field before the page is ready stays there
+  const { identifier } = await tell('Page.addScriptToEvaluateOnNewDocument', { source: `new MutationObserver((_, watcher) => {
+      const field = document.getElementById('text');
+      if (!field) return;
+      field.value = 'kept';
+      watcher.disconnect();
+    }).observe(document, { childList: true, subtree: true })` });
+  await open();
+  expect(await value('`${text.value} ${at("lines").textContent}`') === 'kept kept', 'the text that the field has already is kept');
+  await tell('Page.removeScriptToEvaluateOnNewDocument', { identifier });
+  await open('#edition=1999&text=a');
   // a link that is copied is the whole one, and one that is followed in an open page takes the place of what was there
   const copied = await value(`Object.defineProperty(navigator, 'clipboard', { value: { writeText: async (words) => { copied = words; } } });
     var copied; at('document').click(); at('link').click(); copied`);

@@ -171,8 +171,10 @@ fn streams_that_do_not_wait() {
     assert!((1..many.len()).contains(&rt.stdin().write(&many).unwrap()));
     let error = rt.stdin().write(&many).unwrap_err();
     assert_eq!(error.kind(), ErrorKind::WouldBlock);
-    // A line of which a part is taken is not written.
-    assert!(rattle_std::eprintln!(rt; "{}", "a".repeat(1 << 24)).is_err());
+    // A text of which a part is taken is not written, though no more comes; nor is a line then.
+    let long = "a".repeat(1 << 24);
+    assert!(rt::say(&mut rt.stderr(), format_args!("{long}")).is_err());
+    assert!(rattle_std::eprintln!(rt; "{}", long).is_err());
     // A variable that is empty is set.
     assert_eq!(rattle_std::env::var(&rt, NAME).ok().as_deref(), Some(""));
 }

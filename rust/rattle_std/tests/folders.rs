@@ -55,21 +55,21 @@ fn entries(
     found
 }
 
-/// A name keeps its capitals, and a link is none of what it leads to.
+/// A name keeps its capitals and its blanks, and a link is none of what it leads to.
 #[test]
 fn names_of_a_folder() {
     let rt = rt::start();
     let folder = Folder::new("names");
-    for name in ["A.RS", "a b.rs", ".hidden.rs", "é.rs"] {
+    for name in ["A.RS", " a b.rs ", ".hidden.rs", "é.rs"] {
         std::fs::write(folder.at(name), "").unwrap();
     }
     std::fs::create_dir(folder.at("TARGET")).unwrap();
     std::os::unix::fs::symlink("TARGET", folder.at("link")).unwrap();
     let wanted = [
+        (" a b.rs ", "file"),
         (".hidden.rs", "file"),
         ("A.RS", "file"),
         ("TARGET", "folder"),
-        ("a b.rs", "file"),
         ("link", "link"),
         ("é.rs", "file"),
     ];
@@ -91,6 +91,11 @@ fn names_of_a_folder() {
         fs::metadata(&rt, folder.at("link").as_str())
             .unwrap()
             .is_dir()
+    );
+    assert!(
+        fs::metadata(&rt, folder.at(" a b.rs ").as_str())
+            .unwrap()
+            .is_file()
     );
 }
 
