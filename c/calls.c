@@ -68,7 +68,7 @@ static int check_bad_texts(void) {
         struct rustc_lexer_relexing relexing = {0};
         CHECK(rustc_lexer_relex(text, len, buffer, 0, &edit, 2024, &relexing, buffer + 1, BUFFER_LEN - 1, &count) ==
                   RUSTC_LEXER_NOT_UTF8 &&
-              count == 0 && relexing.stage == 0 && is_marked(0));
+              count == 0 && relexing.stage == RUSTC_LEXER_STAGE_BEGIN && is_marked(0));
         struct rustc_lexer_head head = {.body = 8};
         CHECK(rustc_lexer_body_edit(text, len, &edit, &head, &edit, &is) == RUSTC_LEXER_NOT_UTF8);
         CHECK(head.body == 8 && edit.new_stop == len && is == 0);
@@ -105,7 +105,8 @@ static int check_null(void) {
     CHECK(rustc_lexer_tokens((const uint8_t *)"a", 1, &place, NULL, 0, &count) == RUSTC_LEXER_OK && place.at == 0);
     CHECK(rustc_lexer_first_token_unchecked(NULL, 0, 0).kind == 0);
     CHECK(rustc_lexer_relex(NULL, 0, NULL, 0, &edit, 2024, &relexing, NULL, 0, &count) == RUSTC_LEXER_OK);
-    CHECK(count == 0 && relexing.stage == 2 && relexing.kept_front == 0 && relexing.kept_back == 0);
+    CHECK(count == 0 && relexing.stage == RUSTC_LEXER_STAGE_DONE);
+    CHECK(relexing.kept_front == 0 && relexing.kept_back == 0);
     CHECK(rustc_lexer_relex_unchecked(NULL, 0, NULL, 0, &edit, 2015, &(struct rustc_lexer_relexing){0}, buffer,
                                       BUFFER_LEN, &count) == RUSTC_LEXER_OK && count == 0);
     struct rustc_lexer_head head = {0};
@@ -216,11 +217,13 @@ static int check_others(void) {
     size_t end;
     uint32_t is;
     const uint8_t *raw = (const uint8_t *)"r##\"abc\"#";
-    CHECK(rustc_lexer_validate_raw_str(raw, 9, 1, &error) == RUSTC_LEXER_OK && error.error == 2);
+    CHECK(rustc_lexer_validate_raw_str(raw, 9, 1, &error) == RUSTC_LEXER_OK);
+    CHECK(error.error == RUSTC_LEXER_NO_TERMINATOR);
     CHECK(error.expected == 2 && error.found == 1 && error.has_offset == 1 && error.possible_terminator_offset == 8);
     CHECK(rustc_lexer_validate_raw_str(raw, 9, 0, &error) == RUSTC_LEXER_NOT_RAW && error.error == 0);
     CHECK(rustc_lexer_validate_raw_str(raw, 9, 2, &error) == RUSTC_LEXER_NOT_RAW);
-    CHECK(rustc_lexer_validate_raw_str_unchecked(raw, 9, 1, &error) == RUSTC_LEXER_OK && error.error == 2);
+    CHECK(rustc_lexer_validate_raw_str_unchecked(raw, 9, 1, &error) == RUSTC_LEXER_OK);
+    CHECK(error.error == RUSTC_LEXER_NO_TERMINATOR);
     CHECK(rustc_lexer_starts_raw_unchecked(raw, 9, 1) && !rustc_lexer_starts_raw_unchecked(raw, 9, 0));
     CHECK(!rustc_lexer_starts_raw_unchecked(raw, 9, 2));
     CHECK(rustc_lexer_guarded_str((const uint8_t *)"##\"a\"###x", 9, &string) == RUSTC_LEXER_OK);
@@ -316,7 +319,7 @@ static uint32_t edit_held(relex_call *relex, struct held *held, size_t start, si
     memmove(held->text + edit.new_stop, held->text + stop, held->len - stop);
     memcpy(held->text + start, insert, strlen(insert));
     held->len += edit.new_stop - stop;
-    held->relexing.stage = 0;
+    held->relexing.stage = RUSTC_LEXER_STAGE_BEGIN;
     do {
         uint32_t status = relex((const uint8_t *)held->text, held->len, held->tokens, held->count, &edit, edition,
                                 &held->relexing, buffer, buffer_len, &count);
@@ -324,7 +327,7 @@ static uint32_t edit_held(relex_call *relex, struct held *held, size_t start, si
             return status;
         memcpy(lexed + written, buffer, count * sizeof buffer[0]);
         written += count;
-    } while (held->relexing.stage == 1);
+    } while (held->relexing.stage == RUSTC_LEXER_STAGE_MORE);
     size_t front = held->relexing.kept_front, back = held->relexing.kept_back;
     memmove(held->tokens + front + written, held->tokens + held->count - back, back * sizeof buffer[0]);
     memcpy(held->tokens + front, lexed, written * sizeof buffer[0]);
@@ -363,7 +366,7 @@ static int check_edits(relex_call *relex) {
         CHECK(is_from_scratch(&held) && held.count == 16);
         CHECK(held.relexing.kept_front == 6 && held.relexing.lexed == 7 && held.relexing.kept_back == 3);
         CHECK(held.relexing.front_place == 9 && held.relexing.back_place == 13 && held.relexing.at == 17);
-        CHECK(held.relexing.stage == 2);
+        CHECK(held.relexing.stage == RUSTC_LEXER_STAGE_DONE);
         CHECK(edit_held(relex, &held, 0, 0, "/*", 2024, buffer_len) == RUSTC_LEXER_OK);
         CHECK(is_from_scratch(&held) && held.count == 1 && held.relexing.kept_back == 0);
         CHECK(edit_held(relex, &held, 1, 2, "", 2024, buffer_len) == RUSTC_LEXER_OK);
@@ -398,7 +401,8 @@ static int check_long_edit(relex_call *relex) {
         CHECK(written == 301 && memcmp(lexed, whole, written * sizeof whole[0]) == 0);
         CHECK(memcmp(&old[1], &whole[301], sizeof old[1]) == 0);
         CHECK(relexing.kept_front == 0 && relexing.lexed == 301 && relexing.kept_back == 1);
-        CHECK(relexing.front_place == 0 && relexing.back_place == 1 && relexing.at == 301 && relexing.stage == 2);
+        CHECK(relexing.front_place == 0 && relexing.back_place == 1 && relexing.at == 301);
+        CHECK(relexing.stage == RUSTC_LEXER_STAGE_DONE);
     }
     return 0;
 }
@@ -411,7 +415,7 @@ static int check_editions(relex_call *relex) {
         if (year > 2024 && status == RUSTC_LEXER_BAD_EDITION)
             continue;
         if (year != 2015 && year != 2018 && year != 2021 && year < 2024) {
-            CHECK(status == RUSTC_LEXER_BAD_EDITION && held.relexing.stage == 0);
+            CHECK(status == RUSTC_LEXER_BAD_EDITION && held.relexing.stage == RUSTC_LEXER_STAGE_BEGIN);
             continue;
         }
         CHECK(status == RUSTC_LEXER_OK);
@@ -419,7 +423,7 @@ static int check_editions(relex_call *relex) {
     }
     memset(&held, 0, sizeof held);
     CHECK(edit_held(relex, &held, 0, 0, "a", 2022, BUFFER_LEN) == RUSTC_LEXER_BAD_EDITION);
-    CHECK(held.relexing.stage == 0 && held.relexing.at == 0);
+    CHECK(held.relexing.stage == RUSTC_LEXER_STAGE_BEGIN && held.relexing.at == 0);
     return 0;
 }
 
@@ -435,7 +439,7 @@ static int check_bad_edits(relex_call *relex) {
         struct rustc_lexer_relexing relexing = {0};
         memset(buffer, 0xAA, sizeof buffer);
         CHECK(relex(text, 5, old, 5, &bad[i], 2024, &relexing, buffer, BUFFER_LEN, &count) == RUSTC_LEXER_BAD_EDIT);
-        CHECK(count == 0 && relexing.stage == 0 && is_marked(0));
+        CHECK(count == 0 && relexing.stage == RUSTC_LEXER_STAGE_BEGIN && is_marked(0));
     }
     struct rustc_lexer_edit good = {3, 3, 4};
     struct rustc_lexer_relexing none[] = {{0, 0, 0, 6, 0, 0, 1}, {0, 0, 0, 0, 0, 2, 1}, {0, 0, 0, 0, 0, 6, 1},
@@ -443,12 +447,12 @@ static int check_bad_edits(relex_call *relex) {
     for (size_t i = 0; i < sizeof none / sizeof none[0]; i++)
         CHECK(relex(text, 5, old, 5, &good, 2024, &none[i], buffer, BUFFER_LEN, &count) == RUSTC_LEXER_BAD_EDIT &&
               count == 0);
-    /* a stage past 2 counts as 1 */
+    /* a stage past the last counts as the one before */
     static const size_t stages[] = {1, 3, 4, SIZE_MAX};
     for (size_t i = 0; i < sizeof stages / sizeof stages[0]; i++) {
         struct rustc_lexer_relexing begun = {0, 0, 0, 0, 0, 0, stages[i]};
         CHECK(relex(text, 5, NULL, 0, &good, 2024, &begun, buffer, BUFFER_LEN, &count) == RUSTC_LEXER_OK);
-        CHECK(count == 3 && begun.lexed == 3 && begun.at == 5 && begun.stage == 2);
+        CHECK(count == 3 && begun.lexed == 3 && begun.at == 5 && begun.stage == RUSTC_LEXER_STAGE_DONE);
     }
     for (size_t i = 0; i < 7 * 7 * 7 * 7; i++) {
         size_t number = i;
@@ -460,8 +464,8 @@ static int check_bad_edits(relex_call *relex) {
             do {
                 CHECK(relex(text, 5, old, 5, &good, 2024, &relexing, buffer, 1, &count) == RUSTC_LEXER_OK);
                 CHECK(relexing.kept_front + relexing.kept_back <= 5 && count <= 1 && ++calls <= 5);
-            } while (relexing.stage == 1);
-            CHECK(relexing.stage == 2);
+            } while (relexing.stage == RUSTC_LEXER_STAGE_MORE);
+            CHECK(relexing.stage == RUSTC_LEXER_STAGE_DONE);
         }
     }
     return 0;

@@ -32,7 +32,8 @@
 extern "C" {
 #endif
 
-/* Statuses. They are tested in the order 2, 1, and then 3 or 4 or 7, or 5 and 6, or 5, 8 and 9. */
+/* Statuses. If several apply, a call returns the first of these: TOO_LONG, NOT_UTF8, BAD_PLACE, NOT_RAW, BAD_MODE,
+ * BAD_EDITION, BAD_EDIT, BAD_STYLE, SMALL_BUFFER. */
 enum {
     RUSTC_LEXER_OK = 0,
     RUSTC_LEXER_NOT_UTF8 = 1,  /* the text is not UTF-8 */
@@ -46,7 +47,7 @@ enum {
     RUSTC_LEXER_SMALL_BUFFER = 9 /* the buffer is too small for the output */
 };
 
-/* Kinds of tokens. No call writes a token of the kind 0 or 43. */
+/* Kinds of tokens. The kind 0 marks an entry that holds no token. No call writes 43. */
 enum {
     RUSTC_LEXER_LINE_COMMENT = 1,
     RUSTC_LEXER_BLOCK_COMMENT = 2,
@@ -230,27 +231,42 @@ struct rustc_lexer_head {
     struct rustc_lexer_token tokens[2]; /* these, then zeros */
 };
 
+/* Stages of lexing an edited text again. */
+enum {
+    RUSTC_LEXER_STAGE_BEGIN = 0, /* nothing was written yet */
+    RUSTC_LEXER_STAGE_MORE = 1,  /* there are more tokens to write */
+    RUSTC_LEXER_STAGE_DONE = 2   /* all are written */
+};
+
 /* How far an edited text is lexed again. Begin with all zeros. */
 struct rustc_lexer_relexing {
-    size_t kept_front;  /* how many old tokens stay at the front; at stage 0, see rustc_lexer_relex */
+    size_t kept_front;  /* how many old tokens stay at the front; at STAGE_BEGIN, see rustc_lexer_relex */
     size_t front_place; /* where they end, in bytes from the start of the text */
     size_t lexed;       /* how many tokens all calls together have written */
-    size_t kept_back;   /* at stage 2: how many old tokens stay at the back */
-    size_t back_place;  /* at stage 2: where those begin, in bytes from the start of the old text */
-    size_t at;          /* where what was written ends, in bytes from the start of the present text; at stage 2 the
-                           tokens at the back begin there */
-    size_t stage;       /* 0: to begin; 1: there are more tokens to write; 2: there are none */
+    size_t kept_back;   /* at STAGE_DONE: how many old tokens stay at the back */
+    size_t back_place;  /* at STAGE_DONE: where those begin, in bytes from the start of the old text */
+    size_t at;          /* where what was written ends, in bytes from the start of the present text; at STAGE_DONE
+                           the tokens at the back begin there */
+    size_t stage;       /* RUSTC_LEXER_STAGE_.. */
+};
+
+/* Errors of raw strings. */
+enum {
+    RUSTC_LEXER_INVALID_STARTER = 1,
+    RUSTC_LEXER_NO_TERMINATOR = 2,
+    RUSTC_LEXER_TOO_MANY_DELIMITERS = 3
 };
 
 /* Why a raw string is malformed. A field that the error does not have is 0. */
 struct rustc_lexer_raw_str_error {
-    uint32_t error;      /* 0: none; 1: invalid starter; 2: no terminator; 3: too many delimiters */
-    uint32_t bad_char;   /* of 1: the character, or 0 at the end of the text */
-    uint32_t expected;   /* of 2: how many hashes would close the string */
-    uint32_t found;      /* of 2: the most hashes after a quote in it; of 3: how many there are */
-    uint32_t has_offset; /* of 2: whether there is an offset, 0 or 1 */
-    uint32_t possible_terminator_offset; /* of 2: where the first quote with so many hashes ends: prefix_len plus
-                                            the bytes after the prefix */
+    uint32_t error;      /* one of these, or 0 if there is none */
+    uint32_t bad_char;   /* of INVALID_STARTER: the character, or 0 at the end of the text */
+    uint32_t expected;   /* of NO_TERMINATOR: how many hashes would close the string */
+    uint32_t found;      /* of NO_TERMINATOR: the most hashes after a quote in it; of TOO_MANY_DELIMITERS: how many
+                            there are */
+    uint32_t has_offset; /* of NO_TERMINATOR: whether there is an offset, 0 or 1 */
+    uint32_t possible_terminator_offset; /* of NO_TERMINATOR: where the first quote with so many hashes ends:
+                                            prefix_len plus the bytes after the prefix */
 };
 
 /* A guarded string. All fields are 0 if there is none. */
@@ -327,8 +343,9 @@ uint32_t rustc_lexer_tokens(const uint8_t *text, size_t len, struct rustc_lexer_
 /* Does what rustc_lexer_tokens does. The caller promises that the text is UTF-8, which is not tested: on another text
  * the call may do anything. rustc_lexer_check tests it. The length and the place are tested here too.
  *
- * Every call with `_unchecked` does what the call without it does, and relies on the same promise. Its time depends on
- * what it reads, not on the length of the text. */
+ * Each call with `_unchecked` relies on the same promise. If there is a call without that word, both return the same,
+ * but rustc_lexer_is_ident_unchecked returns the answer itself. The time of each depends on what it reads, not on the
+ * length of the text. */
 uint32_t rustc_lexer_tokens_unchecked(const uint8_t *text, size_t len, struct rustc_lexer_place *place,
                                       struct rustc_lexer_token *buffer, size_t buffer_len, size_t *count);
 
@@ -342,16 +359,16 @@ struct rustc_lexer_token rustc_lexer_first_token_unchecked(const uint8_t *text, 
  *
  *     the first `kept_front` of `old`, the `lexed` tokens that are written, the last `kept_back` of `old`.
  *
- * Set `stage` to 0 before the first call for an edit. If it is 1 after a call, the buffer was too small: take the
- * tokens from it and call again, with nothing else changed, until it is 2. `count` is how many tokens this call wrote;
- * at stage 1 it is `buffer_len`. With `buffer_len` 0 a call writes no token, so such calls alone may never reach stage
- * 2.
+ * Set `stage` to RUSTC_LEXER_STAGE_BEGIN before the first call for an edit. If it is _MORE after a call, the buffer was
+ * too small: take the tokens from it and call again, with nothing else changed, until it is _DONE. `count` is how many
+ * tokens this call wrote; at _MORE it is `buffer_len`. With `buffer_len` 0 a call writes no token, so such calls alone
+ * may never reach _DONE.
  *
- * At stage 0 the search for the kept front begins at token `kept_front` of `old`, which begins at `front_place`. Pass 0
+ * At _BEGIN the search for the kept front begins at token `kept_front` of `old`, which begins at `front_place`. Pass 0
  * and 0, or what the call for the edit before left there: the nearer to the edit, the faster.
  *
  * Of `old` only the lengths are read. If they are not those of the tokens of the text before the edit, in the edition,
- * or if at stage 0 the two numbers are not a boundary of its tokens, the result means nothing. Even so the call is
+ * or if at _BEGIN the two numbers are not a boundary of its tokens, the result means nothing. Even so the call is
  * safe: it reads and writes only what it may, it ends, and `kept_front` and `kept_back` together are at most `old_len`.
  *
  * The edition is a year: 2015, 2018, 2021 or 2024. No frontmatter is allowed, so the tokens of 2024 are those of
@@ -363,7 +380,7 @@ struct rustc_lexer_token rustc_lexer_first_token_unchecked(const uint8_t *text, 
  * character, or that at a later stage relexing cannot continue from the numbers: `at` is past the end of the text or
  * inside a character, `lexed` is more than `at`, `kept_front` and `kept_back` together are more than `old_len`, or
  * `back_place` is 2 to the power of 63 or more. Numbers that a call left for this text are never refused. A stage
- * greater than 2 counts as 1.
+ * greater than _DONE counts as _MORE.
  *
  * Each call tests the whole text. */
 uint32_t rustc_lexer_relex(const uint8_t *text, size_t len, const struct rustc_lexer_token *old, size_t old_len,

@@ -18,23 +18,23 @@ struct held {
 
 /* Replaces the bytes from `start` up to `stop` by `insert`, in the text and then in the tokens. */
 static uint32_t edit_held(struct held *held, uint32_t start, uint32_t stop, const char *insert) {
-    struct rustc_lexer_edit edit = {start, stop, start + (uint32_t)strlen(insert)};
+    struct rustc_lexer_edit edit = {start, stop, start + (uint32_t)strlen(insert)}, body_edit;
+    if (held->len - stop + edit.new_stop > MOST)
+        return RUSTC_LEXER_TOO_LONG;
     memmove(held->text + edit.new_stop, held->text + stop, held->len - stop);
     memcpy(held->text + start, insert, strlen(insert));
     held->len = held->len - stop + edit.new_stop;
 
     /* what changes in the body, which is all behind a shebang line and a frontmatter */
-    struct rustc_lexer_edit body_edit;
     size_t old_head = held->head.count, body_count = held->count - old_head, count;
-    uint32_t head_kept;
-    uint32_t status =
-        rustc_lexer_body_edit(held->text, held->len, &edit, &held->head, &body_edit, &head_kept);
+    uint32_t head_kept, status;
+    status = rustc_lexer_body_edit(held->text, held->len, &edit, &held->head, &body_edit, &head_kept);
     if (status != RUSTC_LEXER_OK)
         return status;
 
     /* there is room for one token more than a text can have, so one call writes them all */
     struct rustc_lexer_token lexed[MOST + 1], *old = held->tokens + old_head;
-    held->relexing.stage = 0;
+    held->relexing.stage = RUSTC_LEXER_STAGE_BEGIN;
     status = rustc_lexer_relex(held->text + held->head.body, held->len - held->head.body, old, body_count, &body_edit,
                                2024, &held->relexing, lexed, MOST + 1, &count);
     if (status != RUSTC_LEXER_OK)

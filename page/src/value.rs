@@ -95,7 +95,7 @@ impl Read {
             ),
             _ => (self.bytes.len(), escape_byte_str(&self.bytes, &mut shown)),
         };
-        done.expect("memory was refused");
+        done.expect("memory allocation failed");
         let end = if count == 1 { "" } else { "s" };
         format!("{count} {unit}{end}: \"{shown}\"")
     }

@@ -29,7 +29,7 @@ abbrev pub command_of : Job → Command
 command_of (Count layout paths) = count layout (map (λ path. path.now) paths.items)
 command_of Help = help
 
--- why no job is made of words: they ask for none, or memory was refused
+-- why no job is made of words: they ask for none, or an allocation failed
 abbrev pub IsJobStop : Stop → Option Command → Type 0
 IsJobStop Arguments command = command ≡ None
 IsJobStop Memory command = Unit {0}

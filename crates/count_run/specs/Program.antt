@@ -13,7 +13,7 @@ IsStopOf command Write = Unit {0}
 IsStopOf command ClosedPipe = Unit {0}
 IsStopOf command stop = ⊥
 
--- a run by words, or by none where they could not be had: unless memory was refused, it is that of the command which they
--- ask for; without words it is as if memory was refused
+-- a run by words, or by none where they could not be had: unless an allocation failed, it is that of the command which they
+-- ask for; without words it is as if an allocation failed
 abbrev pub Ran : Option (List (List ℕ)) → Result (Unit {0}) Stop → Type 0
 Ran words result = RanBy Arguments Memory job_of (λ command outcome. IfErr outcome (IsStopOf command)) words result

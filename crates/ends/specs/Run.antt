@@ -51,7 +51,7 @@ abbrev pub DoesJob : {J S : Type 0} → S → (J → Result (Unit {0}) S → Typ
 DoesJob arguments Does None outcome = outcome ≡ Err arguments
 DoesJob arguments Does (Some job) outcome = Does job outcome
 
--- a run by what a process is started with, or by none of it where it could not be had: unless memory was refused, it was,
+-- a run by what a process is started with, or by none of it where it could not be had: unless an allocation failed, it was,
 -- and the run is that of the job which it asks for
 abbrev pub RanBy : {A J S : Type 0} → S → S → (A → Option J) → (J → Result (Unit {0}) S → Type 0) → Option A → Result (Unit {0}) S → Type 0
 RanBy arguments memory job_of Does None outcome = outcome ≡ Err memory

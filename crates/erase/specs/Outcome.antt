@@ -42,7 +42,7 @@ abbrev pub IsUnfit : Target → List ℕ → Proposal → TheMisfit → Type 0
 IsUnfit target source proposal TheMisfit.Memory = ⊥
 IsUnfit target source proposal misfit = IsMisfit source target proposal.lines.items proposal.fates.items misfit
 
--- the same as a fault; or memory was refused
+-- the same as a fault; or an allocation failed
 abbrev pub IsUnfitFault : Target → List ℕ → Proposal → Fault → Type 0
 IsUnfitFault target source proposal (Misfit misfit) = IsUnfit target source proposal misfit
 IsUnfitFault target source proposal Memory = Unit {0}

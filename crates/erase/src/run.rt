@@ -29,7 +29,7 @@ pub enum Fault {
     NotUtf8,
     /// The input has more than `u32::MAX` bytes.
     TooLong,
-    /// A request for memory was refused.
+    /// An allocation failed.
     Memory,
     /// The reader failed.
     Read,

@@ -9,7 +9,7 @@ use std::fmt;
 /// Why a proposal is not written.
 #[derive(Clone, Copy, Debug, PartialEq, Eq)]
 pub enum Misfit {
-    /// A request for memory was refused.
+    /// An allocation failed.
     Memory,
     /// The token that begins on this line has no fate, or may not have its fate, and all tokens before it may. At the end
     /// of the text fates are left over, or what was begun has not ended. Lines are counted from 1.

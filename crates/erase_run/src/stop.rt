@@ -8,7 +8,7 @@ use std::alloc::AllocError;
 /// Why nothing is proposed for a source.
 #[derive(Clone, Copy, Debug, PartialEq, Eq)]
 pub enum Stop {
-    /// A request for memory was refused.
+    /// An allocation failed.
     Memory,
     /// The source has on this line what no rule knows. Lines are counted from 1.
     Refused { line: usize, reason: Reason },

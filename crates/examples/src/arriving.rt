@@ -47,7 +47,7 @@ impl Arriving {
     }
 
     /// Takes the next piece, and returns all tokens that can no longer change, since two characters follow them.
-    /// They are the next tokens of the whole text, whatever comes next. `Err` means that memory was refused, and
+    /// They are the next tokens of the whole text, whatever comes next. `Err` means that an allocation failed, and
     /// then the piece was not taken.
     pub fn take(&mut self, piece: &str) -> Result<Vec<Token>, AllocError>
         requires fits { length self.old + length piece.now < 2 ^ 32 }
@@ -67,7 +67,7 @@ impl Arriving {
 }
 
 /// Returns the tokens of a text that is given in pieces, cut anywhere between two characters. `Err` means that
-/// memory was refused.
+/// an allocation failed.
 pub fn lex_pieces(alloc: Global, pieces: &[&str]) -> Result<Vec<Token>, AllocError>
     requires fits { length (joined pieces.now) < 2 ^ 32 }
     ensures { IfOk result

@@ -10,7 +10,7 @@ use std::fmt;
 
 /// Makes an edit, which has to be accepted. Then only the tokens that [`repaint`] paints have to be painted
 /// again: those before them stay, and those after them move by as many bytes as the text grew or shrank. `Err`
-/// means that memory was refused, and then nothing has changed.
+/// means that an allocation failed, and then nothing has changed.
 pub fn edit_shown<S: Stepper>(
     lexed: &mut LexedText<S>,
     start: usize,

@@ -32,7 +32,7 @@ Does known old new Help result = Writes HELP.now old new result
 Does known old new (Show style edition) result = Makes (printed style edition) known old new result
 
 -- a run by words, or by none where they could not be had: it is that of the job which the words ask for, unless
--- memory was refused; without words, or where it is not known whether colours are written, memory was refused
+-- an allocation failed; without words, or where it is not known whether colours are written, an allocation failed
 abbrev pub Ran : Option (List (List ℕ)) → Option Bool → Option (List ℕ) → Option (List ℕ) → Option (List ℕ) → Result (Unit {0}) Stop → Type 0
 Ran words None known old new result = result ≡ Err Memory
 Ran words (Some colours) known old new result = RanBy Arguments Memory (λ (words : List (List ℕ)). job_of words colours) (Does known old new) words result

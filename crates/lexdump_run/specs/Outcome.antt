@@ -48,7 +48,7 @@ Prints job text old new (Ok done) = (made : List ℕ) × IsPrinted job text made
 Prints job text old new (Err Write) = (made : List ℕ) × IsPrinted job text made × AppendsFront old new made
 Prints job text old new (Err fault) = IsRefused text (edits_of job) fault × Keeps old new
 
--- how a run over bytes ends: after a failed read, and where memory was refused, nothing goes out, and nothing where the
+-- how a run over bytes ends: after a failed read, and where an allocation failed, nothing goes out, and nothing where the
 -- bytes are too many or no text; else it is a run over a text
 abbrev pub Ends : Job → List ℕ → Option (List ℕ) → Option (List ℕ) → Result (Unit {0}) Fault → Type 0
 Ends job bytes old new (Err Read) = Keeps old new

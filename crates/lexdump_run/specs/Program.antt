@@ -24,7 +24,7 @@ abbrev pub Does : Option (List ℕ) → Option (List ℕ) → Option (List ℕ) 
 Does known old new command result =
     (job : Job) × (command_of job ≡ command) × IfSome known (λ bytes. Ends job bytes old new result)
 
--- a run by words, or by none where they could not be had: unless memory was refused, there are words, and it is that of
+-- a run by words, or by none where they could not be had: unless an allocation failed, there are words, and it is that of
 -- the job which they ask for
 abbrev pub Ran : Option (List (List ℕ)) → Option (List ℕ) → Option (List ℕ) → Option (List ℕ) → Result (Unit {0}) Fault → Type 0
 Ran words known old new result = RanBy Arguments Memory job_of (Does known old new) words result

@@ -22,7 +22,7 @@ pub enum Fault {
     EditRange { at: usize },
     /// Edit number `at`, from 0, would make a text of more than `u32::MAX` bytes.
     EditTooLong { at: usize },
-    /// Memory was refused.
+    /// An allocation failed.
     Memory,
     /// The reader failed.
     Read,

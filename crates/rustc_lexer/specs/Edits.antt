@@ -97,7 +97,7 @@ IsRefusedOn (Memory at) text e = IsEdit text e.start e.stop e.insert.now
 abbrev pub IsStop : EditStop → List ℕ → List Edit → Type 0
 IsStop s text edits = (stop_at s < length edits) × IfSome (slice_get edits (stop_at s)) (IsRefusedOn s text)
 
--- the count of steps rose by what the edits before the refused one lex. Where memory was refused it rose by at most what
+-- the count of steps rose by what the edits before the refused one lex. Where an allocation failed it rose by at most what
 -- that edit lexes more
 abbrev pub IsStopStepped : EditStop → (List ℕ → ℕ → ℕ → List ℕ → ℕ → ℕ → Type 0) → List ℕ → List Edit → ℕ → ℕ → Type 0
 IsStopStepped (Memory at) Steps text edits before after =

@@ -49,7 +49,7 @@ pub record TheLaws : Type 0 where
       → tokens_by (λ rest. (first edition rest).answer) text ≡ (tokens (part edition) text).answer
   -- all characters begin with one token of the grammar, and with no other; none of them with `Eof`
   pub one_token : (s : Chars) → TheOnly (Unit {0}) (BeginsWith s)
-  -- the newest edition, of which documents are, has the tokens of Language.antt
+  -- in the newest edition the tokens are those of Language.antt
   pub newest : (next w : Chars) (kind : TokenKind) → IsTokenIn E2024 next kind w ↔ IsTokenBefore next kind w
   -- a token stands before each text that begins with so many of the characters that follow it
   pub looks_no_further : (next other w : Chars) (kind : TokenKind) → IsTokenBefore next kind w

@@ -45,13 +45,14 @@ pub data IsCommentRest : Chars → Type 0 where
 
 -- ---- words
 
--- the known prefixes with the mark after them: those that RESERVED_TOKEN_POUND, _DOUBLE_QUOTE and _SINGLE_QUOTE except,
--- which begin literals and raw identifiers; and `k#` where an identifier follows it (not in the Reference)
+-- a known prefix with the mark after it. It begins a literal or a raw identifier, so the productions RESERVED_TOKEN_POUND,
+-- _DOUBLE_QUOTE and _SINGLE_QUOTE leave it out
 abbrev pub known_prefixes : List Chars
 known_prefixes =
     codes "r\"" ∷ codes "r#" ∷ codes "b'" ∷ codes "b\"" ∷ codes "br\"" ∷ codes "br#"
     ∷ codes "c\"" ∷ codes "cr\"" ∷ codes "cr#" ∷ []
 
+-- a text that begins with one of them, or with `k#` before an identifier, which is not in the Reference
 abbrev pub begins_prefixed : Chars → Bool
 begins_prefixed s =
     list_any (λ prefix. begins prefix s) known_prefixes || begins_ident_after (codes "k#") s

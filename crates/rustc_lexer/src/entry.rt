@@ -141,7 +141,8 @@ impl<'a> Tokens<'a> {
 
     /// Returns whether a frontmatter may stand in front of the text that is left.
     ///
-    /// A caller that stops can go on later with this answer and [`as_str`](Tokens::as_str).
+    /// A caller that stops can go on later by [`tokenize_as`], with this answer, [`as_str`](Tokens::as_str) and the
+    /// edition.
     #[inline(always)]
     #[tactic(auto, using(crate::proofs::BulkLemmas::bulk_lemmas, std::proofs::lemmas::Grind::common_steps))]
     pub fn frontmatter_allowed(&self) -> FrontmatterAllowed
@@ -160,8 +161,8 @@ impl<'a> Iterator for Tokens<'a> {
 
     /// Returns the next token. Past the last one it returns `None`, and does so from then on.
     ///
-    /// Most tokens are told by the ends of runs, which are begun past a word or a symbol. Each branch returns its token
-    /// by itself, so a token that `quick_token` finds is never written to memory and read again.
+    /// The ends of runs determine most tokens; they are searched for after a word or a symbol. Each branch returns its
+    /// token by itself, so a token that `quick_token` finds is never written to memory and read again.
     #[inline(always)]
     fn next(&mut self) -> Option<Token> {
         if let Some(token) = self.ahead.take(self.text) {

@@ -1,4 +1,4 @@
-//! Searches over bytes that look at 32 bytes at a time: where a run ends, and where a byte is.
+//! Searches over bytes that look at 32 or 64 bytes at a time: where a run ends, and where a byte is.
 ghost use Rattle.memchr.specs.Find.{IsFirstByte, is_byte, is_byte2};
 ghost use Rattle.std.specs.Prelude.{◌≡◌, ◌≤◌, ◌<◌, ◌&&◌, ◌||◌, ◌==◌, ℕ, suc, Bool, IfSome, true, false, drop, length, map, not};
 ghost use Rattle.std.specs.List.{prefix_len};

@@ -18,7 +18,7 @@ passed_over [] = []
 passed_over ((path, Ok made) ∷ sources) = passed_over sources
 passed_over ((path, Err reason) ∷ sources) = record { path = path; reason = reason } ∷ passed_over sources
 
--- what came of one source, which is none where memory was refused
+-- what came of one source, which is none where an allocation failed
 abbrev pub source : {T : Type 0} → String Global → Result T Fault → Sources T
 source path (Ok made) = (path, Ok made) ∷ []
 source path (Err (Source reason)) = (path, Err reason) ∷ []

@@ -26,7 +26,7 @@ Does known old new Write result = Makes tidied known old new result
 Does known old new Check result = Checks known result
 Does known old new Help result = Writes HELP.now old new result
 
--- a run by words, or by none where they could not be had: unless memory was refused, it is that of the job which they ask
--- for; without words it is as if memory was refused
+-- a run by words, or by none where they could not be had: unless an allocation failed, it is that of the job which they ask
+-- for; without words it is as if an allocation failed
 abbrev pub Ran : Option (List (List ℕ)) → Option (List ℕ) → Option (List ℕ) → Option (List ℕ) → Result (Unit {0}) Stop → Type 0
 Ran words known old new result = RanBy Arguments Memory job_of (Does known old new) words result

@@ -30,7 +30,7 @@ pub struct AllocError;
 
 impl core::fmt::Display for AllocError {
     fn fmt(&self, f: &mut core::fmt::Formatter<'_>) -> core::fmt::Result {
-        f.write_str("memory was refused")
+        f.write_str("memory allocation failed")
     }
 }
 

@@ -175,10 +175,10 @@ fn sorted_texts() {
 
 #[test]
 fn an_error_says_so() {
-    assert_eq!(AllocError.to_string(), "memory was refused");
+    assert_eq!(AllocError.to_string(), "memory allocation failed");
     assert_eq!(
         std::boxed::Box::<dyn std::error::Error + Send + Sync>::from(AllocError).to_string(),
-        "memory was refused"
+        "memory allocation failed"
     );
 }
 

@@ -19,9 +19,10 @@ pub fn is_whitespace(c: char) -> bool {
     erased::is_whitespace(c)
 }
 
-/// Returns whether the character is horizontal white space: a tab or a space.
+/// Returns whether the character is horizontal white space: a tab or a space. A frontmatter has only these on the lines
+/// of its fences.
 ///
-/// Rust Reference, [Whitespace](https://doc.rust-lang.org/reference/whitespace.html).
+/// Rust RFC 3503, [Frontmatter](https://rust-lang.github.io/rfcs/3503-frontmatter.html).
 ///
 /// ```
 /// use rustc_lexer::is_horizontal_whitespace;

@@ -3,7 +3,7 @@
 use crate::{FrontmatterAllowed, GuardedStr, Token, erased, fitting};
 use core::fmt;
 
-/// A place in a text, at which the next token begins.
+/// Takes the tokens of a text one by one, as [`Edition::E2024`](crate::Edition::E2024) has them.
 ///
 /// ```
 /// use rustc_lexer::{Cursor, FrontmatterAllowed, TokenKind};
@@ -75,7 +75,7 @@ impl<'a> Cursor<'a> {
     }
 
     /// Takes the next token and returns it. At the end of the text that is `Eof`, of length 0, and nothing changes.
-    /// Pending bytes are part of the token.
+    /// Hashes that `guarded_double_quoted_string` took without finding a string are part of the token.
     ///
     /// ```
     /// use rustc_lexer::{Cursor, FrontmatterAllowed, TokenKind};

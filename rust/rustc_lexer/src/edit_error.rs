@@ -28,7 +28,7 @@ impl fmt::Display for EditError {
         f.write_str(match self {
             EditError::Range => "the range has to be inside the text, between characters",
             EditError::TooLong => "the text has more than u32::MAX bytes",
-            EditError::Memory => "memory was refused",
+            EditError::Memory => "memory allocation failed",
         })
     }
 }
@@ -41,8 +41,8 @@ impl From<AllocError> for EditError {
     }
 }
 
-/// The text, or that it does not fit.
-pub(crate) fn short(text: &str) -> Result<&str, EditError> {
+/// Returns the text, or an error if it is too long.
+pub(crate) fn try_fitting(text: &str) -> Result<&str, EditError> {
     if crate::fits(text) {
         Ok(text)
     } else {
@@ -50,8 +50,11 @@ pub(crate) fn short(text: &str) -> Result<&str, EditError> {
     }
 }
 
-/// Why an edit with this text is not accepted, if it is not.
-pub(crate) fn accepted(accepts: impl Fn(&str) -> bool, insert: &str) -> Result<(), EditError> {
+/// Returns `Ok` if an edit with this text is accepted, and otherwise why it is not.
+pub(crate) fn check_accepted(
+    accepts: impl Fn(&str) -> bool,
+    insert: &str,
+) -> Result<(), EditError> {
     if accepts(insert) {
         Ok(())
     } else if accepts("") {
@@ -70,8 +73,8 @@ mod tests {
     #[test]
     fn a_text_that_is_full() {
         let takes_nothing = |insert: &str| insert.is_empty();
-        assert_eq!(accepted(takes_nothing, ""), Ok(()));
-        assert_eq!(accepted(takes_nothing, "a"), Err(EditError::TooLong));
-        assert_eq!(accepted(|_| false, "a"), Err(EditError::Range));
+        assert_eq!(check_accepted(takes_nothing, ""), Ok(()));
+        assert_eq!(check_accepted(takes_nothing, "a"), Err(EditError::TooLong));
+        assert_eq!(check_accepted(|_| false, "a"), Err(EditError::Range));
     }
 }

@@ -1,8 +1,8 @@
 //! A whole document that is kept with its tokens under edits.
 
-use crate::edit_error::{EditError, accepted, short};
+use crate::edit_error::{EditError, check_accepted, try_fitting};
 use crate::erased::{self, Edit, EditStop};
-use crate::lexed_text::there;
+use crate::lexed_text::checked_range;
 use crate::support::{AllocError, Global};
 use crate::{Bound, Edition, Pieces, Relexed, Stepper, Steps, Token};
 use core::fmt;
@@ -75,7 +75,7 @@ impl LexedDocument {
     /// # Ok::<(), rustc_lexer::EditError>(())
     /// ```
     pub fn try_new_in(text: impl AsRef<str>, edition: Edition) -> Result<LexedDocument, EditError> {
-        let text = short(text.as_ref())?;
+        let text = try_fitting(text.as_ref())?;
         Ok(LexedDocument(erased::LexedDocument::new_in(
             Global, text, edition,
         )?))
@@ -150,7 +150,7 @@ impl<S: Stepper> LexedDocument<S> {
     /// assert_eq!(lexed.tokens().len(), 5);
     /// ```
     pub fn try_with(text: impl AsRef<str>, stepper: S) -> Result<LexedDocument<S>, EditError> {
-        let text = short(text.as_ref())?;
+        let text = try_fitting(text.as_ref())?;
         Ok(LexedDocument(erased::LexedDocument::with(
             Global, text, stepper,
         )?))
@@ -238,7 +238,7 @@ impl<S: Stepper> LexedDocument<S> {
     ///
     /// Panics if there are no such tokens.
     pub fn pieces_of(&self, numbers: Range<usize>) -> Pieces<'_> {
-        let numbers = there(numbers, self.tokens());
+        let numbers = checked_range(numbers, self.tokens());
         self.0.pieces_of(numbers.start, numbers.end)
     }
 
@@ -286,7 +286,7 @@ impl<S: Stepper> LexedDocument<S> {
     /// assert_eq!(lexed.text(), "let e;");
     /// ```
     pub fn try_edit(&mut self, range: Range<usize>, insert: &str) -> Result<Relexed, EditError> {
-        accepted(|insert| self.accepts(range.clone(), insert), insert)?;
+        check_accepted(|insert| self.accepts(range.clone(), insert), insert)?;
         Ok(self.0.edit(range.start, range.end, insert)?)
     }
 

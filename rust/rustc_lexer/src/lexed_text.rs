@@ -1,6 +1,6 @@
 //! A text that is kept with its tokens under edits.
 
-use crate::edit_error::{EditError, accepted, short};
+use crate::edit_error::{EditError, check_accepted, try_fitting};
 use crate::erased::{self, Edit, EditStop};
 use crate::support::{AllocError, Global};
 use crate::{Edition, Pieces, Relexed, Stepper, Steps, Token};
@@ -28,10 +28,11 @@ use core::ops::Range;
 pub struct LexedText<S: Stepper = Steps>(erased::LexedText<S>);
 
 /// Returns the numbers of tokens. Panics if there are no such tokens.
-pub(crate) fn there(numbers: Range<usize>, tokens: &[Token]) -> Range<usize> {
+pub(crate) fn checked_range(numbers: Range<usize>, tokens: &[Token]) -> Range<usize> {
     assert!(
         numbers.start <= numbers.end && numbers.end <= tokens.len(),
-        "the tokens {numbers:?} are not there"
+        "token range {numbers:?} out of range for {} tokens",
+        tokens.len()
     );
     numbers
 }
@@ -79,7 +80,7 @@ impl LexedText {
     /// # Ok::<(), rustc_lexer::EditError>(())
     /// ```
     pub fn try_new_in(text: impl AsRef<str>, edition: Edition) -> Result<LexedText, EditError> {
-        let text = short(text.as_ref())?;
+        let text = try_fitting(text.as_ref())?;
         Ok(LexedText(erased::LexedText::new_in(Global, text, edition)?))
     }
 
@@ -138,7 +139,7 @@ impl<S: Stepper> LexedText<S> {
     /// assert_eq!(lexed.tokens().len(), 4);
     /// ```
     pub fn try_with(text: impl AsRef<str>, stepper: S) -> Result<LexedText<S>, EditError> {
-        let text = short(text.as_ref())?;
+        let text = try_fitting(text.as_ref())?;
         Ok(LexedText(erased::LexedText::with(Global, text, stepper)?))
     }
 
@@ -208,7 +209,7 @@ impl<S: Stepper> LexedText<S> {
     ///
     /// Panics if there are no such tokens.
     pub fn pieces_of(&self, numbers: Range<usize>) -> Pieces<'_> {
-        let numbers = there(numbers, self.tokens());
+        let numbers = checked_range(numbers, self.tokens());
         self.0.pieces_of(numbers.start, numbers.end)
     }
 
@@ -254,7 +255,7 @@ impl<S: Stepper> LexedText<S> {
     /// assert_eq!(lexed.text(), "let e;");
     /// ```
     pub fn try_edit(&mut self, range: Range<usize>, insert: &str) -> Result<Relexed, EditError> {
-        accepted(|insert| self.accepts(range.clone(), insert), insert)?;
+        check_accepted(|insert| self.accepts(range.clone(), insert), insert)?;
         Ok(self.0.edit(range.start, range.end, insert)?)
     }
 

@@ -14,7 +14,7 @@
 //! |---|---|
 //! | the tokens of a text | [`tokenize`] |
 //! | those of a whole file, after its shebang line, in an edition | [`tokenize_document`] |
-//! | those of a part of a file, in an older edition | [`tokenize_in`], [`tokenize_as`] |
+//! | those of a part of a file, in an edition | [`tokenize_in`]; [`tokenize_as`] also allows a frontmatter |
 //! | many tokens at once | [`Tokens::fill`], `Tokens::into_vec` |
 //! | to take tokens one by one, and look ahead | [`Cursor`] |
 //! | the tokens of a file while it is edited | [`LexedDocument`], or [`LexedText`] for a part of a file |
@@ -57,7 +57,7 @@ mod edit_error;
 /// meet the contracts. The calls here do not test them, and may return anything or panic if they are not met. They may
 /// change with the source. All other callers use the calls at the crate's root.
 // Contracts alone use some imports of the source, and Clippy would write some of it otherwise.
-#[allow(missing_docs, unused_imports, dead_code)]
+#[allow(unused_imports, dead_code)]
 #[allow(clippy::collapsible_if)]
 #[allow(clippy::len_without_is_empty, clippy::new_without_default)]
 #[allow(clippy::too_many_arguments)]
@@ -249,7 +249,10 @@ pub fn strip_shebang(input: &str) -> Option<usize> {
 /// Panics if the text has more than `u32::MAX` bytes, or if [`starts_raw`] is false.
 pub fn validate_raw_str(input: &str, prefix_len: u32) -> Result<(), RawStrError> {
     let text = fitting(input);
-    assert!(starts_raw(text, prefix_len), "a raw string begins the text");
+    assert!(
+        starts_raw(text, prefix_len),
+        "character number `prefix_len`, from 1, is not `r`"
+    );
     erased::validate_raw_str(text, prefix_len)
 }
 

@@ -6,7 +6,7 @@ use alloc::vec::Vec;
 use core::fmt;
 use core::iter::FusedIterator;
 
-/// Returns the tokens of a text, in order.
+/// Returns the tokens of a text, in order, as [`Edition::E2024`] has them.
 ///
 /// The lengths of the tokens sum to that of the text, and each token ends between two characters.
 ///
@@ -121,7 +121,7 @@ impl Iterator for Tokens<'_> {
 
     #[inline]
     fn size_hint(&self) -> (usize, Option<usize>) {
-        count_of(self.as_str())
+        token_count_bounds(self.as_str())
     }
 }
 
@@ -212,6 +212,6 @@ pub fn tokenize_document(text: &str, edition: Edition) -> Tokens<'_> {
 }
 
 /// How many tokens a text has, at least and at most: no token is empty.
-fn count_of(text: &str) -> (usize, Option<usize>) {
+fn token_count_bounds(text: &str) -> (usize, Option<usize>) {
     (usize::from(!text.is_empty()), Some(text.len()))
 }

@@ -434,7 +434,7 @@ fn hashes_without_number() {
 }
 
 #[test]
-#[should_panic(expected = "a raw string begins the text")]
+#[should_panic(expected = "character number `prefix_len`, from 1, is not `r`")]
 fn a_check_of_no_raw_string() {
     let _ = validate_raw_str("b\"a\"", 2);
 }

@@ -351,13 +351,13 @@ fn an_edit_inside_a_character() {
 }
 
 #[test]
-#[should_panic(expected = "are not there")]
+#[should_panic(expected = "token range 1..3 out of range for 2 tokens")]
 fn pieces_past_the_last() {
     let _ = LexedDocument::new("#!a\nb").pieces_of(1..3);
 }
 
 #[test]
-#[should_panic(expected = "the tokens 2..1 are not there")]
+#[should_panic(expected = "token range 2..1 out of range for 4 tokens")]
 fn pieces_of_no_range() {
     #[allow(clippy::reversed_empty_ranges)]
     let reversed = 2..1;

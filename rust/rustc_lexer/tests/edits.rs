@@ -222,13 +222,13 @@ fn an_edit_inside_a_character() {
 }
 
 #[test]
-#[should_panic(expected = "the tokens 2..4 are not there")]
+#[should_panic(expected = "token range 2..4 out of range for 3 tokens")]
 fn pieces_past_the_last() {
     let _ = LexedText::new("a b").pieces_of(2..4);
 }
 
 #[test]
-#[should_panic(expected = "the tokens 2..1 are not there")]
+#[should_panic(expected = "token range 2..1 out of range for 3 tokens")]
 fn pieces_of_no_range() {
     #[allow(clippy::reversed_empty_ranges)]
     let reversed = 2..1;
@@ -271,7 +271,7 @@ fn ranges_that_are_refused() {
             "TooLong",
             "the text has more than u32::MAX bytes",
         ),
-        (EditError::Memory, "Memory", "memory was refused"),
+        (EditError::Memory, "Memory", "memory allocation failed"),
     ] {
         assert_eq!(
             (error.to_string(), format!("{error:?}")),

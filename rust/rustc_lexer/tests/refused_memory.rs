@@ -132,7 +132,7 @@ fn the_longest_text() {
     assert_eq!(errors, [Some(EditError::Memory); 4]);
 }
 
-/// The calls that answer no error say by a panic that memory was refused. Nothing changes then.
+/// The calls that answer no error say by a panic that an allocation failed. Nothing changes then.
 #[test]
 fn calls_that_panic() {
     type Call = fn(&mut LexedText, &mut LexedDocument);
@@ -155,7 +155,10 @@ fn calls_that_panic() {
         let call = AssertUnwindSafe(|| call(&mut text, &mut document));
         let said = refused_once(|| catch_unwind(call)).expect_err("it panics");
         let said = said.downcast_ref::<String>().expect("it says why");
-        assert!(said.ends_with("memory was refused"), "{number}: {said}");
+        assert!(
+            said.ends_with("memory allocation failed"),
+            "{number}: {said}"
+        );
         assert_eq!((text.text(), document.text()), ("'r#a", "'r#a"));
         let editions = (text.edition(), document.edition());
         assert_eq!(editions, (Edition::E2024, Edition::E2024));

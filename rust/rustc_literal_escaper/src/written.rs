@@ -14,7 +14,7 @@ impl fmt::Display for EscapeCStrError {
     fn fmt(&self, f: &mut fmt::Formatter<'_>) -> fmt::Result {
         f.write_str(match self {
             EscapeCStrError::Nul => "a C string has no byte that is 0",
-            EscapeCStrError::OutOfMemory => "memory was refused",
+            EscapeCStrError::Memory => "memory allocation failed",
         })
     }
 }

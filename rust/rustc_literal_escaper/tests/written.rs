@@ -45,12 +45,12 @@ fn where_nothing_is_written() {
         given(0, || escape_byte_str(bytes, &mut out)),
         Err(AllocError)
     );
-    let memory = Err(EscapeCStrError::OutOfMemory);
+    let memory = Err(EscapeCStrError::Memory);
     assert_eq!(given(0, || escape_c_str(bytes, &mut out)), memory);
     assert_eq!(out, "front");
     for (error, said) in [
         (EscapeCStrError::Nul, "a C string has no byte that is 0"),
-        (EscapeCStrError::OutOfMemory, "memory was refused"),
+        (EscapeCStrError::Memory, "memory allocation failed"),
     ] {
         let error: Box<dyn std::error::Error + Send + Sync> = error.into();
         assert_eq!(error.to_string(), said);

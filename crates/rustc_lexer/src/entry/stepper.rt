@@ -31,7 +31,7 @@ pub trait Stepper: Drop {
     /// What each grammar obeys.
     ghost law: { (stepper : Self) → IsGrammar (grammar stepper) };
 
-    /// Returns the first token of the text.
+    /// Returns the first token of the text, which is not empty.
     fn step(&mut self, rest: &str) -> Token
         requires not_empty { 0 < length rest.now }
         requires fits { Fits rest.now }
@@ -41,7 +41,8 @@ pub trait Stepper: Drop {
         ensures number { number self.new ≡ number self.old };
 
     /// Writes the first tokens of the text into the buffer: those that begin before `end`, or as many as there is
-    /// room for. Returns how many tokens it wrote, and how many bytes they take. Each token counts as a step.
+    /// room for. Returns how many tokens it wrote, and how many bytes they take. Each token counts as a step. `end` is
+    /// at most the length of the text in bytes; if it is greater, the call may panic.
     ///
     /// This default takes one step after another. A stepper that can find many tokens at once has a body of its
     /// own.

@@ -13,7 +13,7 @@ use crate::relex::relexing::Change;
 /// What an edit of a document changes in its body.
 #[derive(Clone, Copy, Debug, PartialEq, Eq)]
 pub struct BodyChange {
-    /// Whether the edit keeps the head: whether it is behind the head, and the head is the same after it.
+    /// Whether the edit keeps the head: whether it comes after the head, and the head stays the same.
     pub keeps_head: bool,
     /// What it changes in the body, by places from where the body begins.
     pub change: Change,

@@ -21,9 +21,9 @@ use std::alloc::{AllocError, Global};
 /// One edit, which borrows its insertion.
 #[derive(Clone, Copy, Debug, PartialEq, Eq)]
 pub struct Edit<'a> {
-    /// Where the bytes that are taken out begin.
+    /// Where the bytes that are taken out begin, in bytes from the start of the text.
     pub start: usize,
-    /// Where they end.
+    /// Where they end, in bytes from the start of the text.
     pub stop: usize,
     /// The text that replaces them.
     pub insert: &'a str,

@@ -84,9 +84,9 @@ pub struct Relexing {
     pub front: Bound,
     /// How many tokens were lexed.
     pub lexed: usize,
-    /// A bound of the old tokens. Once lexing meets it, the tokens behind it stay.
+    /// A bound of the old tokens. Once lexing meets it, the tokens after it stay.
     pub back: Bound,
-    /// Where the last token that was lexed ends, in the present text.
+    /// Where the last token that was lexed ends, in bytes from the start of the present text.
     pub at: usize,
     /// Whether `at` is that bound of the old tokens.
     pub met: bool,
@@ -95,6 +95,9 @@ pub struct Relexing {
 impl Relexing {
     /// Finds the kept front, and returns a start from which nothing has been lexed yet. The search for the front
     /// begins at `near`, which may be any bound of the old tokens.
+    ///
+    /// The text has at most `u32::MAX` bytes, and [`change.may_make(text)`](Change::may_make) is true. This is not
+    /// tested: otherwise the result means nothing, or the call panics.
     pub fn begin<T: Measured>(text: &str, old: &[T], change: Change, near: Bound) -> Relexing
         requires fits { Fits text.now }
         requires change { IsChange text.now change }
@@ -140,7 +143,8 @@ impl Relexing {
         self.met || self.at == text.len()
     }
 
-    /// Lexes the next token and returns it, or `None` if the old tokens are met.
+    /// Lexes the next token and returns it, or `None` if the old tokens are met. `text`, `old` and `change` are those
+    /// that were passed to `begin`.
     pub fn next<S: Stepper, T: Measured>(
         &mut self,
         stepper: &mut S,
@@ -192,7 +196,8 @@ impl Relexing {
     }
 
     /// Writes the next tokens into the buffer: as many as there is room for, or up to where the old tokens are met.
-    /// Returns how many. The number is less than the length of the buffer only if `is_over` is true.
+    /// Returns how many. The number is less than the length of the buffer only if `is_over` is true. `text`, `old` and
+    /// `change` are those that were passed to `begin`.
     ///
     /// They are the tokens that as many calls of `next` return. Where the old tokens are far, as in a long insertion or
     /// where a long token was, many tokens are lexed at once.
@@ -317,7 +322,7 @@ impl Relexing {
         count
     }
 
-    /// Returns the counts of the edit, once the old tokens are met. There are `old_count` of these.
+    /// Returns the counts of the edit, once the old tokens are met. `old_count` is how many tokens `begin` was passed.
     pub fn counts(&self, old_count: usize) -> Relexed
         requires number { self.now.back.number ≤ old_count }
         ensures counts { result

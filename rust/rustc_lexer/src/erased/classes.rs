@@ -28,9 +28,10 @@ pub fn is_whitespace(c: char) -> bool {
     )
 }
 
-/// Returns whether the character is white space that does not end a line: a tab or a space.
+/// Returns whether the character is white space that does not end a line: a tab or a space. A frontmatter has only
+/// these on the lines of its fences.
 ///
-/// Rust Reference, [Whitespace](https://doc.rust-lang.org/reference/whitespace.html).
+/// Rust RFC 3503, [Frontmatter](https://rust-lang.github.io/rfcs/3503-frontmatter.html).
 #[inline]
 pub fn is_horizontal_whitespace(c: char) -> bool {
     matches!(c, '\t' | ' ')

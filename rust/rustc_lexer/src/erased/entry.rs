@@ -99,7 +99,8 @@ impl<'a> Tokens<'a> {
 
     /// Returns whether a frontmatter may stand in front of the text that is left.
     ///
-    /// A caller that stops can go on later with this answer and [`as_str`](Tokens::as_str).
+    /// A caller that stops can go on later by [`tokenize_as`], with this answer, [`as_str`](Tokens::as_str) and the
+    /// edition.
     #[inline(always)]
     pub fn frontmatter_allowed(&self) -> FrontmatterAllowed {
         self.frontmatter_allowed
@@ -111,8 +112,8 @@ impl<'a> Iterator for Tokens<'a> {
 
     /// Returns the next token. Past the last one it returns `None`, and does so from then on.
     ///
-    /// Most tokens are told by the ends of runs, which are begun past a word or a symbol. Each branch returns its token
-    /// by itself, so a token that `quick_token` finds is never written to memory and read again.
+    /// The ends of runs determine most tokens; they are searched for after a word or a symbol. Each branch returns its
+    /// token by itself, so a token that `quick_token` finds is never written to memory and read again.
     #[inline(always)]
     fn next(&mut self) -> Option<Token> {
         if let Some(token) = self.ahead.take(self.text) {

@@ -1,4 +1,4 @@
-//! Searches over bytes that look at 32 bytes at a time: where a run ends, and where a byte is.
+//! Searches over bytes that look at 32 or 64 bytes at a time: where a run ends, and where a byte is.
 
 use crate::support::simd::*;
 use memchr::{memchr, memchr2};

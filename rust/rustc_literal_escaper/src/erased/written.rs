@@ -9,20 +9,20 @@ use crate::support::AllocError;
 pub enum EscapeCStrError {
     /// A byte is 0. No C string has such a byte, and no escape writes it.
     Nul,
-    /// Memory was refused.
-    OutOfMemory,
+    /// An allocation failed.
+    Memory,
 }
 
 impl From<AllocError> for EscapeCStrError {
     fn from(_error: AllocError) -> EscapeCStrError {
-        EscapeCStrError::OutOfMemory
+        EscapeCStrError::Memory
     }
 }
 
 /// Appends `text` to `out`, in the form that it has between the double quotes of a string.
 ///
 /// It writes each character like `char::escape_default`, so only ASCII. [`unescape_str`] reads the characters of
-/// `text` back from it. `Err` means that memory was refused, and then `out` is as it was.
+/// `text` back from it. `Err` means that an allocation failed, and then `out` is as it was.
 ///
 /// ```ignore
 /// escape_str("a\"é\n", &mut out)? // appends a\"\u{e9}\n, of eleven bytes
@@ -41,7 +41,7 @@ pub fn escape_str(text: &str, out: &mut String) -> Result<(), AllocError> {
 /// Appends `bytes` to `out`, in the form that they have between the double quotes of a byte string.
 ///
 /// It writes each byte like `u8::escape_ascii`, so only ASCII. [`unescape_byte_str`] reads the bytes back from it.
-/// `Err` means that memory was refused, and then `out` is as it was.
+/// `Err` means that an allocation failed, and then `out` is as it was.
 ///
 /// [`unescape_byte_str`]: crate::unescape_byte_str
 pub fn escape_byte_str(bytes: &[u8], out: &mut String) -> Result<(), AllocError> {

@@ -16,7 +16,7 @@ use std::alloc::{AllocError, Global};
 
 impl LexedDocument<Steps> {
     /// Copies the text and lexes it in the newest edition. The text may have at most `u32::MAX` bytes. `Err` means
-    /// that memory was refused.
+    /// that an allocation failed.
     pub fn new(alloc: Global, text: &str) -> Result<LexedDocument<Steps>, AllocError>
         requires fits { Fits text.now }
         ensures text { IfOk result (λ l. l.text ≡ text.now) }
@@ -31,7 +31,7 @@ impl LexedDocument<Steps> {
     }
 
     /// Copies the text and lexes it in the edition. The text may have at most `u32::MAX` bytes. `Err` means that
-    /// memory was refused.
+    /// an allocation failed.
     pub fn new_in(
         alloc: Global,
         text: &str,
@@ -76,7 +76,7 @@ impl LexedDocument<Steps> {
     }
 
     /// Lexes the text again, in another edition. The head stays, as it is the same in each edition. `Err` means
-    /// that memory was refused, and then nothing has changed.
+    /// that an allocation failed, and then nothing has changed.
     pub fn set_edition(&mut self, edition: Edition) -> Result<(), AllocError>
         ensures text { self.new.text ≡ self.old.text }
         ensures from_scratch { OnOk result (self.new.tokens ≡ spec.document_tokens edition self.new.text) }

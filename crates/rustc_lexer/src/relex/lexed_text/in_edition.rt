@@ -13,7 +13,7 @@ use std::alloc::{AllocError, Global};
 
 impl LexedText<Steps> {
     /// Copies the text and lexes it in the edition. The text may have at most `u32::MAX` bytes. `Err` means that
-    /// memory was refused.
+    /// an allocation failed.
     pub fn new_in(
         alloc: Global,
         text: &str,
@@ -39,7 +39,7 @@ impl LexedText<Steps> {
         self.kept.stepper.edition()
     }
 
-    /// Lexes the text again, in another edition. `Err` means that memory was refused, and then nothing has changed.
+    /// Lexes the text again, in another edition. `Err` means that an allocation failed, and then nothing has changed.
     pub fn set_edition(&mut self, edition: Edition) -> Result<(), AllocError>
         ensures text { self.new.text ≡ self.old.text }
         ensures from_scratch { OnOk result (self.new.tokens ≡ tokens_of (part edition) self.new.text) }

@@ -12,11 +12,12 @@ use crate::erased::token::Token;
 /// Rattle each implementation proves this. In plain Rust an implementation has to obey it, or the tokens of an
 /// edited text are wrong.
 pub trait Stepper {
-    /// Returns the first token of the text.
+    /// Returns the first token of the text, which is not empty.
     fn step(&mut self, rest: &str) -> Token;
 
     /// Writes the first tokens of the text into the buffer: those that begin before `end`, or as many as there is
-    /// room for. Returns how many tokens it wrote, and how many bytes they take. Each token counts as a step.
+    /// room for. Returns how many tokens it wrote, and how many bytes they take. Each token counts as a step. `end` is
+    /// at most the length of the text in bytes; if it is greater, the call may panic.
     ///
     /// This default takes one step after another. A stepper that can find many tokens at once has a body of its
     /// own.

@@ -10,13 +10,22 @@ use core::fmt;
 #[derive(Clone, Copy, Debug, PartialEq, Eq)]
 pub enum EditStop {
     /// The range is not inside the text as it was then, or cuts a character.
-    Range { at: usize },
+    Range {
+        /// The index of that edit in the list, from 0.
+        at: usize,
+    },
 
     /// The text would have had more than `u32::MAX` bytes.
-    TooLong { at: usize },
+    TooLong {
+        /// The index of that edit in the list, from 0.
+        at: usize,
+    },
 
-    /// Memory was refused.
-    Memory { at: usize },
+    /// An allocation failed.
+    Memory {
+        /// The index of that edit in the list, from 0.
+        at: usize,
+    },
 }
 
 impl fmt::Display for EditStop {

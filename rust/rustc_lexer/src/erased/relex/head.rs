@@ -17,9 +17,9 @@ pub struct Head {
     pub shebang: usize,
     /// The length in bytes of the white space before the frontmatter if that is a token of its own, or 0.
     pub space: u32,
-    /// The frontmatter.
+    /// The frontmatter, or `None` if there is none.
     pub front: Option<Token>,
-    /// Where the body begins.
+    /// Where the body begins, in bytes from the start of the text.
     pub end: usize,
 }
 
@@ -37,7 +37,7 @@ pub(crate) fn find_head(whole: bool, text: &str) -> Head {
 }
 
 impl Head {
-    /// Returns the head of a document.
+    /// Returns the head of a document. The text may have at most `u32::MAX` bytes, which is not tested.
     pub fn find(text: &str) -> Head {
         Head::of(text)
     }

@@ -35,7 +35,7 @@ pub struct LexedDocument<S: Stepper> {
 
 impl<S: Stepper> LexedDocument<S> {
     /// Copies the text and lexes it: the head by itself, and the body with the stepper, one step for each token.
-    /// The text may have at most `u32::MAX` bytes. `Err` means that memory was refused.
+    /// The text may have at most `u32::MAX` bytes. `Err` means that an allocation failed.
     pub fn with(alloc: Global, text: &str, stepper: S) -> Result<LexedDocument<S>, AllocError> {
         let held = String::from_str(alloc, text)?;
         let kept = Kept::with(alloc, text, true, stepper)?;
@@ -85,7 +85,7 @@ impl<S: Stepper> LexedDocument<S> {
     ///
     /// Returns how many tokens it kept at the front, how many it lexed, and how many it kept at the back. The
     /// tokens of a frontmatter count too: an edit behind an unchanged frontmatter keeps them, and a frontmatter
-    /// that the edit changes counts as lexed. `Err` means that memory was refused, and then text and tokens are as
+    /// that the edit changes counts as lexed. `Err` means that an allocation failed, and then text and tokens are as
     /// before.
     pub fn edit(&mut self, start: usize, stop: usize, insert: &str) -> Result<Relexed, AllocError> {
         let edit = Edit {

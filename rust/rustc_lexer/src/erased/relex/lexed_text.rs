@@ -20,7 +20,7 @@ pub struct LexedText<S: Stepper> {
 
 impl<S: Stepper> LexedText<S> {
     /// Copies the text and lexes it with the stepper. The text may have at most `u32::MAX` bytes. Keeps the
-    /// stepper. `Err` means that memory was refused.
+    /// stepper. `Err` means that an allocation failed.
     pub fn with(alloc: Global, text: &str, stepper: S) -> Result<LexedText<S>, AllocError> {
         let held = String::from_str(alloc, text)?;
         let kept = Kept::with(alloc, text, false, stepper)?;
@@ -64,7 +64,7 @@ impl<S: Stepper> LexedText<S> {
     /// [accepted](LexedText::accepts).
     ///
     /// Returns how many tokens it kept at the front, how many it lexed, and how many it kept at the back. `Err`
-    /// means that memory was refused, and then text and tokens are as before.
+    /// means that an allocation failed, and then text and tokens are as before.
     pub fn edit(&mut self, start: usize, stop: usize, insert: &str) -> Result<Relexed, AllocError> {
         let edit = Edit {
             start,

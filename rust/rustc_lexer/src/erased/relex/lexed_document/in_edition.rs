@@ -9,13 +9,13 @@ use crate::support::{AllocError, Global};
 
 impl LexedDocument<Steps> {
     /// Copies the text and lexes it in the newest edition. The text may have at most `u32::MAX` bytes. `Err` means
-    /// that memory was refused.
+    /// that an allocation failed.
     pub fn new(alloc: Global, text: &str) -> Result<LexedDocument<Steps>, AllocError> {
         LexedDocument::new_in(alloc, text, Edition::E2024)
     }
 
     /// Copies the text and lexes it in the edition. The text may have at most `u32::MAX` bytes. `Err` means that
-    /// memory was refused.
+    /// an allocation failed.
     pub fn new_in(
         alloc: Global,
         text: &str,
@@ -39,7 +39,7 @@ impl LexedDocument<Steps> {
     }
 
     /// Lexes the text again, in another edition. The head stays, as it is the same in each edition. `Err` means
-    /// that memory was refused, and then nothing has changed.
+    /// that an allocation failed, and then nothing has changed.
     pub fn set_edition(&mut self, edition: Edition) -> Result<(), AllocError> {
         let stepper = Steps::new_in(edition);
         let kept = Kept::with(self.kept.alloc, self.text.as_str(), true, stepper)?;

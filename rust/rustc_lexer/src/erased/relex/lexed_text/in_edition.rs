@@ -8,7 +8,7 @@ use crate::support::{AllocError, Global};
 
 impl LexedText<Steps> {
     /// Copies the text and lexes it in the edition. The text may have at most `u32::MAX` bytes. `Err` means that
-    /// memory was refused.
+    /// an allocation failed.
     pub fn new_in(
         alloc: Global,
         text: &str,
@@ -22,7 +22,7 @@ impl LexedText<Steps> {
         self.kept.stepper.edition()
     }
 
-    /// Lexes the text again, in another edition. `Err` means that memory was refused, and then nothing has changed.
+    /// Lexes the text again, in another edition. `Err` means that an allocation failed, and then nothing has changed.
     pub fn set_edition(&mut self, edition: Edition) -> Result<(), AllocError> {
         let stepper = Steps::new_in(edition);
         let kept = Kept::with(self.kept.alloc, self.text.as_str(), false, stepper)?;
