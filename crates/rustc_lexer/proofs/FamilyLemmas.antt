@@ -51,13 +51,3 @@ module _ (c : ℕ) (wide : 128 ≤ c) where
 
   pub wide_word : is_xid_start c ≡ true → Word ≡ family_of c
   wide_word e = rw (other 47 (omega arith), no_space c e, begins ∙ e) refl
-
-  module _ (starts : is_xid_start c ≡ false) (space : is_whitespace c ≡ false) where
-    no_digit : is_ascii_digit c ≡ false
-    no_digit = rw (lt-leb c 57 (omega arith)) (and-false (nat_le 48 c))
-
-    pub wide_emoji : is_emoji c ≡ true → Emoji ≡ family_of c
-    wide_emoji e = rw (other 47 (omega arith), space, begins ∙ starts, no_digit, other 39 (omega arith), other 34 (omega arith), e) refl
-
-    pub wide_symbol : is_emoji c ≡ false → Symbol ≡ family_of c
-    wide_symbol e = rw (other 47 (omega arith), space, begins ∙ starts, no_digit, other 39 (omega arith), other 34 (omega arith), e, other 35 (omega arith)) refl

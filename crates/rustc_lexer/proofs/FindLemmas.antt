@@ -78,9 +78,6 @@ module _ (stops : ℕ → Bool) (small : (b : ℕ) → stops b ≡ true → b < 
     unfolding past
     up_to = by_chars (chars text) text n (sym (encodes-chars text is)) at
 
-    pub may_cut_there : IsCharBoundary text n
-    may_cut_there = IsCharBoundary-from_drop text n at.inside (subst (λ xs. IsUtf8 xs) up_to (IsUtf8-past (run_len others (chars text)) text is))
-
 pub byte_small : (stop b : ℕ) → stop < 128 → is_byte stop b ≡ true → b < 128
 byte_small stop b l e = omega (arith, eqb-true b stop e)
 

@@ -87,9 +87,6 @@ raw_read_within prefix s = (raw_read_ended prefix s).within
 abbrev seen : ℕ → Read → Option ℕ × ℕ
 seen n r = (accepted r.0, n + r.1)
 
-abbrev starter_by : (prefix n c : ℕ) → List ℕ → Bool → Option ℕ → Read
-starter_by prefix n c v b o = let r : Read = if b then raw_closed n (prefix + suc n) v o else gives (Err (InvalidStarter c)) v in (r.0, suc r.1)
-
 starter-prefix : (p q n : ℕ) (v : List ℕ) → seen n (raw_starter p n v) ≡ seen n (raw_starter q n v)
 starter-prefix p q n w3 = grind (arith, common_steps)
 
