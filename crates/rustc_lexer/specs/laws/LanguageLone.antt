@@ -51,7 +51,7 @@ front-three (a ∷ []) at = absurd (let e = at.two in omega arith)
 front-three (a ∷ b ∷ []) at = absurd (let e = at.three in omega arith)
 front-three (a ∷ b ∷ c ∷ s) at = rw (eq-eqb a 45 at.one, eq-eqb b 45 at.two, eq-eqb c 45 at.three) refl
 
-dropped : (s : List ℕ) (i k m : ℕ) → i + k ≡ m → get_or (drop i s) k 0 ≡ get_or s m 0
+pub dropped : (s : List ℕ) (i k m : ℕ) → i + k ≡ m → get_or (drop i s) k 0 ≡ get_or s m 0
 dropped s i k m e = get_or-drop i s k 0 ∙ ap (λ n. get_or s n 0) e
 
 pub at-three : (s : List ℕ) (i : ℕ) → begins (dashes 3) (drop i s) ≡ true → ThreeAt s i
