@@ -52,9 +52,6 @@ module _ {first : List ℕ → Token} (law : IsGrammar first) (text insert : Lis
     stayed : HeadStays head_of text edit.start edit.old_stop insert → kept ≡ true
     stayed k = told.1 (head_is text is old old_head ∙ (k.0 ∙ sym (head_is made now_is now now_head)), (let p = k.1 in omega (arith, p, ap (λ (h : Head). h.end) (head_is text is old old_head))))
 
-    not_stayed : (HeadStays head_of text edit.start edit.old_stop insert → ⊥) → kept ≡ false
-    not_stayed none = false_from_ne_true kept (λ e. none (stays e))
-
     abbrev body : List ℕ
     body = drop (body_start text) text
 
@@ -79,7 +76,7 @@ module _ {first : List ℕ → Token} (law : IsGrammar first) (text insert : Lis
         let with : IsRelexedWith head_of kept first text edit.start edit.old_stop insert all = by_head first text insert edit.start edit.old_stop is now_is kept all (r, there, refl) in
         relexed_page first text insert edit.start edit.old_stop is now_is record {
           kept = λ k. subst (λ (t : Bool). IsRelexedWith head_of t first text edit.start edit.old_stop insert all) (stayed k) with;
-          changed = λ none. subst (λ (t : Bool). IsRelexedWith head_of t first text edit.start edit.old_stop insert all) (not_stayed none) with;
+          changed = λ none. subst (λ (t : Bool). IsRelexedWith head_of t first text edit.start edit.old_stop insert all) (false_from_ne_true kept (λ e. none (stays e))) with;
         }
 
     body_here : IsBodyChange first text edit insert made kept change

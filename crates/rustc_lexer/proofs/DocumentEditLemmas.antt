@@ -134,9 +134,6 @@ module _ {heads : List ℕ → Head} {first : List ℕ → Token} (law : IsGramm
   whole_renewed : IsRenewed first (drop old.end text) whole body (drop n tokens) r.behind at
   whole_renewed = subst (λ (ch : Change). IsRenewed first (drop old.end text) ch body (drop n tokens) r.behind at) whole_is r.renewed
 
-  behind_are : r.behind ≡ tokens_by first body
-  behind_are = renewed_are law b.old_body whole_made whole_renewed
-
   head_are : head_put (take n tokens) head ≡ tokens_of_head now
   head_are = ap (head_put (take n tokens)) head_is ∙ by_kept kept refl
     where
@@ -149,7 +146,7 @@ module _ {heads : List ℕ → Head} {first : List ℕ → Token} (law : IsGramm
 
   -- they are the tokens of the changed document
   pub new_are : new ≡ document_by heads first made
-  new_are = new_is ∙ (ap (λ ts. tokens_of_head now ++ ts) (behind_are ∙ ap (tokens_by first) b.body_is) ∙ ap (λ (h : Head). tokens_of_head h ++ tokens_by first (drop h.end made)) b.now_is)
+  new_are = new_is ∙ (ap (λ ts. tokens_of_head now ++ ts) (renewed_are law b.old_body whole_made whole_renewed ∙ ap (tokens_by first) b.body_is) ∙ ap (λ (h : Head). tokens_of_head h ++ tokens_by first (drop h.end made)) b.now_is)
 
   pub new_behind : drop (length (tokens_of_head now)) new ≡ r.behind
   new_behind = ap (drop (length (tokens_of_head now))) new_is ∙ drop-append_seam (tokens_of_head now) r.behind
@@ -182,28 +179,19 @@ module _ {heads : List ℕ → Head} {first : List ℕ → Token} (law : IsGramm
         by_kept true e = omega (arith, sizes.0, sizes.1, same_count e)
         by_kept false e = omega (arith, sizes.0, sizes.1)
 
-    back_few : at.back.number ≤ length (drop n tokens)
-    back_few = omega (arith, r.renewed.lexed_is.stands.back_bound.0, ap length b.old_body)
-
-    behind_front : take at.front.number r.behind ≡ take at.front.number (drop n tokens)
-    behind_front = renewed_front law b.old_body whole_made whole_renewed
-
-    behind_back : drop (at.front.number + at.lexed) r.behind ≡ drop at.back.number (drop n tokens)
-    behind_back = renewed_back law b.old_body whole_made whole_renewed
-
     pub counted_front : take (counted kept n m counts).kept_front new ≡ take (counted kept n m counts).kept_front tokens
     counted_front = rw counts_are (by_kept kept refl)
       where
         by_kept : (k : Bool) → kept ≡ k → take (counted k n m (record { kept_front = at.front.number; lexed = at.lexed; kept_back = c - at.back.number })).kept_front new ≡ take (counted k n m (record { kept_front = at.front.number; lexed = at.lexed; kept_back = c - at.back.number })).kept_front tokens
         by_kept true e =
             let number : n + at.front.number ≡ length (tokens_of_head now) + at.front.number = omega (arith, same_count e, m_is) in
-            ap₂ take number new_is ∙ (take-append-add (tokens_of_head now) r.behind at.front.number ∙ (ap₂ (λ xs ys. xs ++ ys) (sym (b.old_front ∙ ap tokens_of_head (b.told.0 e).0)) behind_front ∙ sym (take-add n at.front.number tokens)))
+            ap₂ take number new_is ∙ (take-append-add (tokens_of_head now) r.behind at.front.number ∙ (ap₂ (λ xs ys. xs ++ ys) (sym (b.old_front ∙ ap tokens_of_head (b.told.0 e).0)) (renewed_front law b.old_body whole_made whole_renewed) ∙ sym (take-add n at.front.number tokens)))
         by_kept false e = rw (front_none e) refl
 
     back_with : (k : ℕ) → k ≡ length (tokens_of_head now) + (at.front.number + at.lexed) → drop k new ≡ drop (length tokens - (c - at.back.number)) tokens
     back_with k e =
-        let place : n + at.back.number ≡ length tokens - (c - at.back.number) = omega (arith, c_is, back_few, sizes.2, b.inside) in
-        ap₂ drop e new_is ∙ (drop-append-add (tokens_of_head now) r.behind (at.front.number + at.lexed) ∙ (behind_back ∙ (drop-drop at.back.number n tokens ∙ ap (λ i. drop i tokens) place)))
+        let place : n + at.back.number ≡ length tokens - (c - at.back.number) = omega (arith, c_is, r.renewed.lexed_is.stands.back_bound.0, ap length b.old_body, sizes.2, b.inside) in
+        ap₂ drop e new_is ∙ (drop-append-add (tokens_of_head now) r.behind (at.front.number + at.lexed) ∙ (renewed_back law b.old_body whole_made whole_renewed ∙ (drop-drop at.back.number n tokens ∙ ap (λ i. drop i tokens) place)))
 
     pub counted_back : drop ((counted kept n m counts).kept_front + (counted kept n m counts).lexed) new ≡ drop (length tokens - (counted kept n m counts).kept_back) tokens
     counted_back = rw counts_are (by_kept kept refl)
