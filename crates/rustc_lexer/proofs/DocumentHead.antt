@@ -1,6 +1,5 @@
 -- The head of a document by its tokens: those up to the frontmatter.
 use Rattle.std.proofs.Common.{◌≡◌, ℕ, zero, suc, ◌+◌, ◌-◌, Bool, not, true, false, true≢false, List, [], ◌∷◌, ◌++◌, length, length-drop, drop, refl, sym, ap, ap₂, ◌∙◌, arith, chars, Option, None, Some, IsCharBoundary}
-use Rattle.std.proofs.Math.Seq.{drop-append_seam}
 use Rattle.std.proofs.lemmas.Bool.{not-true}
 use Rattle.rustc_lexer.specs.{Edition, Token, TokenKind}
 use Rattle.rustc_lexer.specs.declared.relex.head.Head.{Head}

@@ -21,7 +21,7 @@ use Rattle.rustc_lexer.specs.means.Quoted.{quoted_body, double_quoted_string, by
 use Rattle.rustc_lexer.specs.laws.Quoted.{str_local, str_body_local, char_body_local}
 use Rattle.rustc_lexer.specs.means.Raw.{raw_literal}
 use Rattle.rustc_lexer.specs.laws.Raw.{raw_literal_local}
-use Rattle.rustc_lexer.specs.laws.Reach.{IsToldBy, next_is-told, wider, same_at, after_at, either_at, begins_local, first_local, gives_local, run_as_local, run_local}
+use Rattle.rustc_lexer.specs.laws.Reach.{next_is-told, wider, same_at, after_at, either_at, begins_local, first_local, gives_local, run_as_local, run_local}
 use Rattle.rustc_lexer.specs.means.Scan.{IsLocal, after, begins, gives, next_is, run_as, run_len}
 use Rattle.rustc_lexer.specs.Locality.{IsGrammar}
 use Rattle.rustc_lexer.specs.laws.TokenBy.{token_by_local}

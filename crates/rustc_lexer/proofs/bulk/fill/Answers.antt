@@ -1,4 +1,4 @@
-use Rattle.std.proofs.Common.{◌≡◌, ◌+◌, ◌-◌, ◌^◌, ◌<◌, ◌≤◌, ℕ, List, length, drop, get_or, slice_set, refl, sym, ap, subst, ◌∙◌, arith, drop-drop, true≢false, inl, inr, Some, is_some}
+use Rattle.std.proofs.Common.{◌≡◌, ◌+◌, ◌-◌, ◌<◌, ◌≤◌, ℕ, List, length, drop, get_or, slice_set, refl, sym, ap, subst, ◌∙◌, arith, drop-drop, true≢false, inl, inr, Some, is_some}
 use Rattle.std.specs.Str.{chars, IsUtf8}
 use Rattle.std.proofs.lemmas.Bool.{cases_lt}
 use lib.Count.{count_trailing_zeros}
@@ -6,7 +6,7 @@ use Rattle.rustc_lexer.specs.{Token, TokenKind}
 use Rattle.rustc_lexer.specs.means.Edition.{changed, first_token_in}
 use Rattle.rustc_lexer.specs.Tokens.{bound, tokens_of}
 use Rattle.rustc_lexer.specs.LanguageText.{part}
-use Rattle.rustc_lexer.specs.means.Ends.{classified, AreEndsPast, IsEnds, IsLowest, StaysWithin}
+use Rattle.rustc_lexer.specs.means.Ends.{classified, AreEndsPast, IsEnds, StaysWithin}
 use Rattle.rustc_lexer.specs.Classes.{IsText}
 use Rattle.rustc_lexer.specs.laws.Edition.{edition_grammar}
 use Rattle.rustc_lexer.proofs.BitLemmas.{lowest_is}
