@@ -172,14 +172,9 @@ module _ (x n : ℕ) (near : n < 64) where
 
 -- ---- the lowest bit
 
-module _ (x : ℕ) (some : 0 < x) (small : x < 2 ^ 64) where
-  pub lowest : bit x (count_trailing_zeros 64 x) ≡ true
-  unfolding bit
-  lowest = ap (λ n. n == 1) (bit_at-trailing_zeros w64 x some small).1
-
-  pub below-lowest : (k : ℕ) → k < count_trailing_zeros 64 x → bit x k ≡ false
-  unfolding bit
-  below-lowest k l = ap (λ n. n == 1) ((bit_at-trailing_zeros w64 x some small).2 k l)
+pub lowest_is : (x : ℕ) → 0 < x → x < 2 ^ 64 → IsLowest x (count_trailing_zeros 64 x)
+unfolding bit
+lowest_is x some small = let low = bit_at-trailing_zeros w64 x some small in record { set = ap (λ n. n == 1) low.1; least = λ k l. ap (λ n. n == 1) (low.2 k l) }
 
 -- ---- all bits that are set but the lowest
 

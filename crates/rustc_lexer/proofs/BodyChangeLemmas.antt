@@ -1,5 +1,6 @@
 -- What an edit of a document is to its body, by the tokens of the grammar.
-use Rattle.std.proofs.Common.{◌≡◌, ℕ, ◌+◌, ◌≤◌, Bool, true, false, List, length, map, drop, refl, sym, ap, ap₂, ◌∙◌, subst, arith, IsCharBoundary, IsUtf8, IsTrue, ◌↔◌}
+use Rattle.std.proofs.Common.{◌≡◌, ℕ, ◌+◌, ◌≤◌, Bool, true, List, length, map, drop, refl, sym, ap, ap₂, ◌∙◌, subst, arith, IsCharBoundary, IsUtf8, IsTrue, ◌↔◌}
+use Rattle.std.proofs.lemmas.Bool.{false_from_ne_true}
 use Rattle.rustc_lexer.specs.{Token}
 use Rattle.rustc_lexer.specs.declared.relex.head.Head.{Head}
 use Rattle.rustc_lexer.specs.declared.relex.relexing.{Change.Change, Relexed.Relexed}
@@ -51,13 +52,6 @@ module _ {first : List ℕ → Token} (law : IsGrammar first) (text insert : Lis
     stayed : HeadStays head_of text edit.start edit.old_stop insert → kept ≡ true
     stayed k = told.1 (head_is text is old old_head ∙ (k.0 ∙ sym (head_is made now_is now now_head)), (let p = k.1 in omega (arith, p, ap (λ (h : Head). h.end) (head_is text is old old_head))))
 
-    not_stayed : (HeadStays head_of text edit.start edit.old_stop insert → ⊥) → kept ≡ false
-    not_stayed none = by_kept kept refl
-      where
-        by_kept : (k : Bool) → kept ≡ k → kept ≡ false
-        by_kept true e = absurd (none (stays e))
-        by_kept false e = e
-
     abbrev body : List ℕ
     body = drop (body_start text) text
 
@@ -82,7 +76,7 @@ module _ {first : List ℕ → Token} (law : IsGrammar first) (text insert : Lis
         let with : IsRelexedWith head_of kept first text edit.start edit.old_stop insert all = by_head first text insert edit.start edit.old_stop is now_is kept all (r, there, refl) in
         relexed_page first text insert edit.start edit.old_stop is now_is record {
           kept = λ k. subst (λ (t : Bool). IsRelexedWith head_of t first text edit.start edit.old_stop insert all) (stayed k) with;
-          changed = λ none. subst (λ (t : Bool). IsRelexedWith head_of t first text edit.start edit.old_stop insert all) (not_stayed none) with;
+          changed = λ none. subst (λ (t : Bool). IsRelexedWith head_of t first text edit.start edit.old_stop insert all) (false_from_ne_true kept (λ e. none (stays e))) with;
         }
 
     body_here : IsBodyChange first text edit insert made kept change

@@ -17,7 +17,7 @@ use Rattle.rustc_lexer.specs.means.Least.{one_more}
 use Rattle.rustc_lexer.specs.means.Raw.{is_hash, is_quote, hash_run, closes, close, raw_text}
 use Rattle.rustc_lexer.specs.means.Scan.{bytes_of, past, scanned}
 use Rattle.rustc_lexer.specs.laws.Choice.{by_either}
-use Rattle.rustc_lexer.proofs.BitLemmas.{bit-at_byte, bit-above, lowest, below-lowest, within}
+use Rattle.rustc_lexer.proofs.BitLemmas.{bit-at_byte, bit-above, lowest_is, within}
 use Rattle.rustc_lexer.specs.laws.CharSteps.{bytes_of-suc}
 use Rattle.rustc_lexer.specs.laws.Past.{past-past, past-drop, length-past, chars-past, IsUtf8-past}
 use Rattle.rustc_lexer.specs.laws.Least.{place-here, place-on}
@@ -37,7 +37,7 @@ closes_hashed text k l = grind (arith, common_steps, drop-cons, one_hash)
 
 -- the lowest bit that is set is one of 64
 pub near : (found : ℕ) → 0 < found → found < 2 ^ 64 → count_trailing_zeros 64 found < 64
-near found some small = within found _ small (lowest found some small)
+near found some small = within found _ small (lowest_is found some small).set
 
 module _ (text : List ℕ) (n quotes hashes found : ℕ) (few : n ≤ 1) (long : 64 ≤ length text) (small : found < 2 ^ 64)
     (of_quotes : quotes ≡ mask_l (map (is_byte 34) (chunk 0 64 text))) (of_hashes : hashes ≡ mask_l (map (is_byte 35) (chunk 0 64 text)))
@@ -78,10 +78,10 @@ module _ (text : List ℕ) (n quotes hashes found : ℕ) (few : n ≤ 1) (long :
   clear_opens k l clear = grind (arith, common_steps, bare_at, hashed_at)
 
   pub closes_there : 0 < found → closes n (drop (count_trailing_zeros 64 found) text) ≡ true
-  closes_there some = set_closes (count_trailing_zeros 64 found) (near found some small) (lowest found some small)
+  closes_there some = set_closes (count_trailing_zeros 64 found) (near found some small) (lowest_is found some small).set
 
   pub none_before : 0 < found → (k : ℕ) → k < count_trailing_zeros 64 found → closes n (drop k text) ≡ false
-  none_before some k less = clear_opens k (let l = near found some small in omega arith) (below-lowest found some small k less)
+  none_before some k less = clear_opens k (let l = near found some small in omega arith) ((lowest_is found some small).least k less)
 
 -- ---- where a quote closes by bytes, it closes by characters
 

@@ -1,7 +1,7 @@
 -- An edit of a document: what is put in place of its old tokens.
 use Rattle.std.proofs.Common.{◌≡◌, ℕ, ◌+◌, ◌-◌, ◌<◌, ◌≤◌, ◌^◌, Bool, true, false, true≢false, List, [], ◌∷◌, ◌++◌, length, map, take, drop, refl, sym, ap, ap₂, ◌∙◌, subst, arith, length-drop, length-append, drop-drop, take-add, IsUtf8, IsCharBoundary, IsTrue, ◌↔◌, Option, Result, Ok, Err, OnErr, inl, inr}
 use Rattle.std.specs.List.{All, Contains}
-use Rattle.std.proofs.lemmas.Bool.{cases_lt}
+use Rattle.std.proofs.lemmas.Bool.{cases_lt, false_from_ne_true}
 use Rattle.std.proofs.lemmas.List.Elements.{All-contains}
 use Rattle.std.proofs.Math.Seq.{drop-append_seam, drop-append-add, take-append_seam, take-append-add}
 use Rattle.rustc_lexer.specs.declared.relex.checkpoints.Checkpoints.{Checkpoints}
@@ -75,8 +75,18 @@ kept_none text ts = kept_front_by text 0 0 ts ∙ none_from text 0 ts
 pub relexed-front : {first : List ℕ → Token} {text : List ℕ} {stop : ℕ} {insert : List ℕ} {r : Relexed} → IsRelexed first text 0 stop insert r → r.kept_front ≡ 0
 relexed-front {first} {text} is = is.front ∙ kept_none text (tokens_by first text)
 
--- the counts of the body's edit, which is known by equations, and those of the texts alone
+-- whether the head stays
 module _ {heads : List ℕ → Head} {first : List ℕ → Token} {text made insert : List ℕ} {start stop : ℕ} {old now : Head} {kept : Bool} {n : ℕ} {tokens : List Token} {body : List ℕ} {change : Change} (b : IsBodyEdit heads first text made insert start stop old now kept n tokens body change) where
+  stays : kept ≡ true → HeadStays heads text start stop insert
+  stays e = (sym b.old_is ∙ ((b.told.0 e).0 ∙ (b.now_is ∙ ap heads b.made_is)), (let p = (b.told.0 e).1 in omega (arith, p, ap (λ (h : Head). h.end) b.old_is)))
+
+  keeps : HeadStays heads text start stop insert → kept ≡ true
+  keeps k = b.told.1 (b.old_is ∙ (k.0 ∙ (ap heads (sym b.made_is) ∙ sym b.now_is)), (let e = k.1 in omega (arith, e, ap (λ (h : Head). h.end) b.old_is)))
+
+  changes : (HeadStays heads text start stop insert → ⊥) → kept ≡ false
+  changes none = false_from_ne_true kept (λ e. none (stays e))
+
+  -- the counts of the body's edit, which is known by equations, and those of the texts alone
   abbrev pub IsRelexedAt : Change → List ℕ → Relexed → Type 0
   IsRelexedAt ch bytes r = (x : Relexed) × IsRelexed first (drop old.end text) ch.start ch.old_stop (body_insert kept ch insert bytes) x
       × (r ≡ counted kept (length (tokens_of_head old)) (length (tokens_of_head now)) x)
@@ -124,9 +134,6 @@ module _ {heads : List ℕ → Head} {first : List ℕ → Token} (law : IsGramm
   whole_renewed : IsRenewed first (drop old.end text) whole body (drop n tokens) r.behind at
   whole_renewed = subst (λ (ch : Change). IsRenewed first (drop old.end text) ch body (drop n tokens) r.behind at) whole_is r.renewed
 
-  behind_are : r.behind ≡ tokens_by first body
-  behind_are = renewed_are law b.old_body whole_made whole_renewed
-
   head_are : head_put (take n tokens) head ≡ tokens_of_head now
   head_are = ap (head_put (take n tokens)) head_is ∙ by_kept kept refl
     where
@@ -139,7 +146,7 @@ module _ {heads : List ℕ → Head} {first : List ℕ → Token} (law : IsGramm
 
   -- they are the tokens of the changed document
   pub new_are : new ≡ document_by heads first made
-  new_are = new_is ∙ (ap (λ ts. tokens_of_head now ++ ts) (behind_are ∙ ap (tokens_by first) b.body_is) ∙ ap (λ (h : Head). tokens_of_head h ++ tokens_by first (drop h.end made)) b.now_is)
+  new_are = new_is ∙ (ap (λ ts. tokens_of_head now ++ ts) (renewed_are law b.old_body whole_made whole_renewed ∙ ap (tokens_by first) b.body_is) ∙ ap (λ (h : Head). tokens_of_head h ++ tokens_by first (drop h.end made)) b.now_is)
 
   pub new_behind : drop (length (tokens_of_head now)) new ≡ r.behind
   new_behind = ap (drop (length (tokens_of_head now))) new_is ∙ drop-append_seam (tokens_of_head now) r.behind
@@ -172,28 +179,19 @@ module _ {heads : List ℕ → Head} {first : List ℕ → Token} (law : IsGramm
         by_kept true e = omega (arith, sizes.0, sizes.1, same_count e)
         by_kept false e = omega (arith, sizes.0, sizes.1)
 
-    back_few : at.back.number ≤ length (drop n tokens)
-    back_few = omega (arith, r.renewed.lexed_is.stands.back_bound.0, ap length b.old_body)
-
-    behind_front : take at.front.number r.behind ≡ take at.front.number (drop n tokens)
-    behind_front = renewed_front law b.old_body whole_made whole_renewed
-
-    behind_back : drop (at.front.number + at.lexed) r.behind ≡ drop at.back.number (drop n tokens)
-    behind_back = renewed_back law b.old_body whole_made whole_renewed
-
     pub counted_front : take (counted kept n m counts).kept_front new ≡ take (counted kept n m counts).kept_front tokens
     counted_front = rw counts_are (by_kept kept refl)
       where
         by_kept : (k : Bool) → kept ≡ k → take (counted k n m (record { kept_front = at.front.number; lexed = at.lexed; kept_back = c - at.back.number })).kept_front new ≡ take (counted k n m (record { kept_front = at.front.number; lexed = at.lexed; kept_back = c - at.back.number })).kept_front tokens
         by_kept true e =
             let number : n + at.front.number ≡ length (tokens_of_head now) + at.front.number = omega (arith, same_count e, m_is) in
-            ap₂ take number new_is ∙ (take-append-add (tokens_of_head now) r.behind at.front.number ∙ (ap₂ (λ xs ys. xs ++ ys) (sym (b.old_front ∙ ap tokens_of_head (b.told.0 e).0)) behind_front ∙ sym (take-add n at.front.number tokens)))
+            ap₂ take number new_is ∙ (take-append-add (tokens_of_head now) r.behind at.front.number ∙ (ap₂ (λ xs ys. xs ++ ys) (sym (b.old_front ∙ ap tokens_of_head (b.told.0 e).0)) (renewed_front law b.old_body whole_made whole_renewed) ∙ sym (take-add n at.front.number tokens)))
         by_kept false e = rw (front_none e) refl
 
     back_with : (k : ℕ) → k ≡ length (tokens_of_head now) + (at.front.number + at.lexed) → drop k new ≡ drop (length tokens - (c - at.back.number)) tokens
     back_with k e =
-        let place : n + at.back.number ≡ length tokens - (c - at.back.number) = omega (arith, c_is, back_few, sizes.2, b.inside) in
-        ap₂ drop e new_is ∙ (drop-append-add (tokens_of_head now) r.behind (at.front.number + at.lexed) ∙ (behind_back ∙ (drop-drop at.back.number n tokens ∙ ap (λ i. drop i tokens) place)))
+        let place : n + at.back.number ≡ length tokens - (c - at.back.number) = omega (arith, c_is, r.renewed.lexed_is.stands.back_bound.0, ap length b.old_body, sizes.2, b.inside) in
+        ap₂ drop e new_is ∙ (drop-append-add (tokens_of_head now) r.behind (at.front.number + at.lexed) ∙ (renewed_back law b.old_body whole_made whole_renewed ∙ (drop-drop at.back.number n tokens ∙ ap (λ i. drop i tokens) place)))
 
     pub counted_back : drop ((counted kept n m counts).kept_front + (counted kept n m counts).lexed) new ≡ drop (length tokens - (counted kept n m counts).kept_back) tokens
     counted_back = rw counts_are (by_kept kept refl)
@@ -202,31 +200,21 @@ module _ {heads : List ℕ → Head} {first : List ℕ → Token} (law : IsGramm
         by_kept true e = back_with _ (omega (arith, same_count e, m_is))
         by_kept false e = back_with _ (omega (arith, m_is))
 
-    keeps : HeadStays heads text start stop insert → kept ≡ true
-    keeps k = b.told.1 (b.old_is ∙ (k.0 ∙ (ap heads (sym b.made_is) ∙ sym b.now_is)), (let e = k.1 in omega (arith, e, ap (λ (h : Head). h.end) b.old_is)))
-
-    changes : (HeadStays heads text start stop insert → ⊥) → kept ≡ false
-    changes none = by_none kept refl
-      where
-        by_none : (k : Bool) → kept ≡ k → kept ≡ false
-        by_none true e = absurd (none (sym b.old_is ∙ ((b.told.0 e).0 ∙ (b.now_is ∙ ap heads b.made_is)), (let p = (b.told.0 e).1 in omega (arith, p, ap (λ (h : Head). h.end) b.old_is))))
-        by_none false e = e
-
     module _ (exact : IsRelexed first (drop old.end text) change.start change.old_stop put counts) where
       by_texts : IsRelexedWith heads kept first text start stop insert (counted kept n m counts)
       by_texts = to_texts b (counted kept n m counts) (counts, exact, ap₂ (λ i j. counted kept i j counts) b.n_is m_is)
 
       pub counted_relexed : IsRelexedByHead heads first text start stop insert (counted kept n m counts)
       counted_relexed = record {
-        kept = λ k. subst (λ (t : Bool). IsRelexedWith heads t first text start stop insert (counted kept n m counts)) (keeps k) by_texts;
-        changed = λ none. subst (λ (t : Bool). IsRelexedWith heads t first text start stop insert (counted kept n m counts)) (changes none) by_texts;
+        kept = λ k. subst (λ (t : Bool). IsRelexedWith heads t first text start stop insert (counted kept n m counts)) (keeps b k) by_texts;
+        changed = λ none. subst (λ (t : Bool). IsRelexedWith heads t first text start stop insert (counted kept n m counts)) (changes b none) by_texts;
       }
 
     pub counted_steps : (before after : ℕ) → after ≡ before + at.lexed → IsCountedByHead heads text start stop insert before after (counted kept n m counts).lexed
     counted_steps before after e = record {
-      kept = λ k. e ∙ ap (λ (l : ℕ). before + l) (sym (ap (λ (r : Relexed). r.lexed) (ap₂ (λ (t : Bool) (x : Relexed). counted t n m x) (keeps k) counts_are)));
+      kept = λ k. e ∙ ap (λ (l : ℕ). before + l) (sym (ap (λ (r : Relexed). r.lexed) (ap₂ (λ (t : Bool) (x : Relexed). counted t n m x) (keeps b k) counts_are)));
       changed = λ none.
-          let lexed = ap (λ (r : Relexed). r.lexed) (ap₂ (λ (t : Bool) (x : Relexed). counted t n m x) (changes none) counts_are) in
+          let lexed = ap (λ (r : Relexed). r.lexed) (ap₂ (λ (t : Bool) (x : Relexed). counted t n m x) (changes b none) counts_are) in
           let fronts = ap (λ (h : Head). length (tokens_of_head h)) (b.now_is ∙ ap heads b.made_is) in
           omega (arith, e, lexed, fronts, m_is);
     }
@@ -257,11 +245,10 @@ module _ {heads : List ℕ → Head} {first : List ℕ → Token} (law : IsGramm
     where
       by_kept : (k : Bool) → kept ≡ k → before + of_body.lexed ≤ most
       by_kept true e =
-          let stays : HeadStays heads text start stop insert = (sym b.old_is ∙ ((b.told.0 e).0 ∙ (b.now_is ∙ ap heads b.made_is)), (let p = (b.told.0 e).1 in omega (arith, p, ap (λ (h : Head). h.end) b.old_is))) in
-          let same = same_counts r (subst (λ (t : Bool). IsRelexedWith heads t first text start stop insert r) (sym e) (is.kept stays)) in
-          omega (arith, steps.kept stays, ap (λ (x : Relexed). x.lexed) (same ∙ ap (λ (t : Bool). counted t (length (tokens_of_head old)) (length (tokens_of_head now)) of_body) e))
+          let same = same_counts r (subst (λ (t : Bool). IsRelexedWith heads t first text start stop insert r) (sym e) (is.kept (stays b e))) in
+          omega (arith, steps.kept (stays b e), ap (λ (x : Relexed). x.lexed) (same ∙ ap (λ (t : Bool). counted t (length (tokens_of_head old)) (length (tokens_of_head now)) of_body) e))
       by_kept false e =
-          let none : HeadStays heads text start stop insert → ⊥ = λ k. true≢false (sym (b.told.1 (b.old_is ∙ (k.0 ∙ (ap heads (sym b.made_is) ∙ sym b.now_is)), (let p = k.1 in omega (arith, p, ap (λ (h : Head). h.end) b.old_is)))) ∙ e) in
+          let none : HeadStays heads text start stop insert → ⊥ = λ k. true≢false (sym (keeps b k) ∙ e) in
           let same = same_counts r (subst (λ (t : Bool). IsRelexedWith heads t first text start stop insert r) (sym e) (is.changed none)) in
           let fronts = ap (λ (h : Head). length (tokens_of_head h)) (b.now_is ∙ ap heads b.made_is) in
           omega (arith, steps.changed none, fronts, ap (λ (x : Relexed). x.lexed) (same ∙ ap (λ (t : Bool). counted t (length (tokens_of_head old)) (length (tokens_of_head now)) of_body) e))

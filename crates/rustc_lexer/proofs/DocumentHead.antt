@@ -1,6 +1,5 @@
 -- The head of a document by its tokens: those up to the frontmatter.
 use Rattle.std.proofs.Common.{◌≡◌, ℕ, zero, suc, ◌+◌, ◌-◌, Bool, not, true, false, true≢false, List, [], ◌∷◌, ◌++◌, length, length-drop, drop, refl, sym, ap, ap₂, ◌∙◌, arith, chars, Option, None, Some, IsCharBoundary}
-use Rattle.std.proofs.Math.Seq.{drop-append_seam}
 use Rattle.std.proofs.lemmas.Bool.{not-true}
 use Rattle.rustc_lexer.specs.{Edition, Token, TokenKind}
 use Rattle.rustc_lexer.specs.declared.relex.head.Head.{Head}
@@ -104,7 +103,3 @@ module _ (edition : Edition) (text : List ℕ) (is : IsText text) (at : IsCharBo
   head_end =
       let front = front_of text in
       front.ends ∙ ap (λ n. shebang_len text + n) (sym (ap₂ bound head_whole head_count-tokens ∙ bound-append (tokens_of_head (head_of text)) _))
-
-  -- and the other tokens are its own
-  pub body_tokens : drop (head_count (document_tokens edition text)) (document_tokens edition text) ≡ read_tokens (part edition) (drop (shebang_len text + bound (document_tokens edition text) (head_count (document_tokens edition text))) text)
-  body_tokens = ap₂ drop head_count-tokens head_whole ∙ (drop-append_seam (tokens_of_head (head_of text)) _ ∙ ap (λ n. read_tokens (part edition) (drop n text)) head_end)

@@ -50,10 +50,6 @@ module _ {first : List ℕ → Token} (law : IsGrammar first) (text insert made 
   ed : IsEdited text start stop insert made
   ed = rw e (edited text start stop insert is its edit)
 
-  pub made-text : IsText made
-  unfolding ed
-  made-text = ed.text_is
-
   abbrev as_change : Change
   as_change = record { start = start; old_stop = stop; new_stop = start + length insert }
 

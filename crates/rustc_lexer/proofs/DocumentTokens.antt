@@ -50,9 +50,6 @@ solid (the.whitespace {c} {w} all stop) out some = absurd (true≢false (sym (an
 solid (the.symbol {c} is) out some = not-true (stays (symbol_kind c)) (by_symbol (λ (kind : TokenKind). not (stays kind)) symbols c refl refl)
 solid p out some = refl
 
-solid-lexeme : (c : ℕ) (s : List ℕ) → is_whitespace c ≡ false → stays (lexeme (c ∷ s)).0 ≡ false
-solid-lexeme c s out = solid (lexeme-sound (c ∷ s)) out (omega arith)
-
 kept-2024 : (kind : TokenKind) (len : ℕ) → stays kind ≡ false → stays (before_2024 kind len).kind ≡ false
 kept-2024 GuardedStrPrefix len e = refl
 kept-2024 kind len e = e
@@ -80,7 +77,7 @@ first-solid edition text some out = solid-in (nat_le 2024 (year edition)) (nat_l
   where
     by_chars : (cs : List ℕ) → 0 < length cs → next_is is_whitespace cs ≡ false → stays (lexeme cs).0 ≡ false
     by_chars [] some out = absurd (omega arith)
-    by_chars (c ∷ s) some out = solid-lexeme c s out
+    by_chars (c ∷ s) some out = solid (lexeme-sound (c ∷ s)) out (omega arith)
 
 -- white space at the front
 first-space : (edition : Edition) (text : List ℕ) → next_is is_whitespace (chars text) ≡ true → first_token_in edition text ≡ record { kind = Whitespace; len = bytes_of (spaces_len (chars text)) (chars text) }

@@ -191,18 +191,14 @@ length-encodes : (cs : List ℕ) → length (encodes cs) ≤ 4 * length cs
 length-encodes [] = omega arith
 length-encodes (c ∷ cs) = omega (arith, length-append (encode_utf8 c) (encodes cs), length-encode c, (len_utf8_bounds c).1, length-encodes cs)
 
--- a character has four bytes at most
-pub length-chars : (bs : List ℕ) → IsUtf8 bs → length bs ≤ 4 * length (chars bs)
-length-chars bs is = let same = ap length (encodes-chars bs is) in omega (arith, same, length-encodes (chars bs))
-
--- eight bytes hold two characters
+-- a character has four bytes at most, so eight bytes hold two characters
 pub has_two-long : (text : List ℕ) (place to : ℕ) → IsUtf8 text → IsCharBoundary text place → IsCharBoundary text to → 8 ≤ to - place → has_two text place to ≡ true
 has_two-long text place to is from until long =
     let xs : List ℕ = take (to - place) (drop place text) in
     let inside : to ≤ length text = until.0 in
     let its : IsUtf8 xs = IsUtf8-between text place to is (omega arith) from until in
     let bytes : length xs ≡ to - place = length-take-le (to - place) (drop place text) (omega (arith, length-drop place text)) in
-    let enough : 2 ≤ length (chars xs) = omega (arith, bytes, length-chars xs its) in
+    let enough : 2 ≤ length (chars xs) = omega (arith, bytes, ap length (encodes-chars xs its), length-encodes (chars xs)) in
     has_two-intro text place to enough
 
 -- what is put in place, where there is room for it

@@ -224,12 +224,9 @@ module _ (text : List ℕ) (is : IsUtf8 text) (b : ℕ) (rest : List ℕ) (e : t
 -- the token that the first byte and the lowest end tell
 module _ (text : List ℕ) (is : IsUtf8 text) (b : ℕ) (rest : List ℕ) (e : text ≡ b ∷ rest) (kind : TokenKind) (some : classified b ≡ Some kind) (ends end next : ℕ) (are : IsEnds text ends) (set : bit ends end ≡ true)
     (least : (k : ℕ) → k < end → bit ends k ≡ false) (last : next ≡ get_or text end 0) (stays : StaysWithin kind next) where
-  at_end : (n : ℕ) → end ≡ n → IsFirstToken text record { kind = kind; len = n }
-  at_end zero f = absurd (true≢false (sym set ∙ (ap (bit ends) f ∙ (are end set).1 0 (omega arith))))
-  at_end (suc n) f = as_classified text is b rest e n next (runs_to text ends n are (ap (bit ends) (sym f) ∙ set) (λ k l. least k (omega arith))) (last ∙ ap (λ i. get_or text i 0) f) kind (tells b kind some) stays
-
-  pub token_classified : IsFirstToken text record { kind = kind; len = end }
-  token_classified = at_end end refl
+  token_classified : (n : ℕ) → end ≡ n → IsFirstToken text record { kind = kind; len = n }
+  token_classified zero f = absurd (true≢false (sym set ∙ (ap (bit ends) f ∙ (are end set).1 0 (omega arith))))
+  token_classified (suc n) f = as_classified text is b rest e n next (runs_to text ends n are (ap (bit ends) (sym f) ∙ set) (λ k l. least k (omega arith))) (last ∙ ap (λ i. get_or text i 0) f) kind (tells b kind some) stays
 
 -- ---- a byte that tells a token turns none before it
 
@@ -273,7 +270,7 @@ module _ (text : List ℕ) (from ends end : ℕ) (kind : TokenKind) (at : TellsA
   by_len n e =
       let later = past-later ends from at.small in
       token_classified (drop from text) at.utf8 (get_or text from 0) (drop 1 (drop from text)) begins kind at.tells late (suc n) (get_or text end 0) (ends_past text ends from from late (omega arith) at.known (past-first ends from) later)
-      (later n ∙ (ap (bit ends) e ∙ at.lowest.set)) least (ap (λ i. get_or text i 0) (sym e) ∙ sym (get_or-drop from text (suc n) 0)) at.stays
+      (later n ∙ (ap (bit ends) e ∙ at.lowest.set)) least (ap (λ i. get_or text i 0) (sym e) ∙ sym (get_or-drop from text (suc n) 0)) at.stays (suc n) refl
     where
       least : (k : ℕ) → k < suc n → bit late k ≡ false
       least zero l = past-first ends from

@@ -1,15 +1,13 @@
 -- The families that characters choose: by the table in ASCII, and by the classes past it.
-use Rattle.std.proofs.Common.{◌≡◌, ℕ, ◌<◌, ◌≤◌, ◌==◌, nat_le, not, true, false, true≢false, List, [], ◌∷◌, get_or, refl, sym, ap, ◌∙◌, arith}
-use Rattle.std.specs.Char.{is_ascii_digit}
+use Rattle.std.proofs.Common.{◌≡◌, ℕ, ◌<◌, ◌≤◌, ◌==◌, not, true, false, true≢false, List, [], ◌∷◌, get_or, refl, sym, ap, ◌∙◌, arith}
 use Rattle.std.specs.Str.{chars}
-use Rattle.std.proofs.lemmas.Bool.{lt-leb, ne_eqb}
+use Rattle.std.proofs.lemmas.Bool.{ne_eqb}
 use Rattle.std.proofs.lemmas.List.FromFn.{get_or-map-range_with_len}
-use Rattle.std.proofs.Math.Bool.{and-false}
 use Rattle.unicode_ident.specs.Ident.{is_xid_start}
 use Rattle.unicode_ident.proofs.Computing.{unicode_ident}
 use Rattle.rustc_lexer.specs.declared.lexemes.family.TheConstants.{FAMILIES}
 use Rattle.rustc_lexer.specs.declared.lexemes.family.Family.{Family}
-use Rattle.rustc_lexer.specs.declared.lexemes.family.Family.TheVariants.{Slash, Word, Emoji, Symbol}
+use Rattle.rustc_lexer.specs.declared.lexemes.family.Family.TheVariants.{Slash, Word}
 use Rattle.rustc_lexer.specs.{TokenKind}
 use Rattle.rustc_lexer.specs.Classes.{is_id_start, is_whitespace}
 use Rattle.rustc_lexer.specs.Tables.{is_emoji}
@@ -51,13 +49,3 @@ module _ (c : ℕ) (wide : 128 ≤ c) where
 
   pub wide_word : is_xid_start c ≡ true → Word ≡ family_of c
   wide_word e = rw (other 47 (omega arith), no_space c e, begins ∙ e) refl
-
-  module _ (starts : is_xid_start c ≡ false) (space : is_whitespace c ≡ false) where
-    no_digit : is_ascii_digit c ≡ false
-    no_digit = rw (lt-leb c 57 (omega arith)) (and-false (nat_le 48 c))
-
-    pub wide_emoji : is_emoji c ≡ true → Emoji ≡ family_of c
-    wide_emoji e = rw (other 47 (omega arith), space, begins ∙ starts, no_digit, other 39 (omega arith), other 34 (omega arith), e) refl
-
-    pub wide_symbol : is_emoji c ≡ false → Symbol ≡ family_of c
-    wide_symbol e = rw (other 47 (omega arith), space, begins ∙ starts, no_digit, other 39 (omega arith), other 34 (omega arith), e, other 35 (omega arith)) refl

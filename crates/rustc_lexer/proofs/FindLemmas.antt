@@ -1,14 +1,14 @@
 -- The run of a class that stops only at bytes of ASCII, by a search of the bytes.
 use Rattle.std.proofs.Common.{◌≡◌, ℕ, ◌+◌, ◌-◌, ◌<◌, ◌≤◌, ◌==◌, ◌||◌, not, cond, Bool, true, false, true≢false, List, [], ◌∷◌, ◌++◌, length, drop, get_or, refl, sym, ap, ◌∙◌, arith, subst, inl, inr, length-append, drop-drop, map, ap₂, bit_or, Some, None}
 use Rattle.std.specs.Char.{encode_utf8}
-use Rattle.std.specs.Str.{chars, encode_utf8_all, IsUtf8, IsCharBoundary}
+use Rattle.std.specs.Str.{chars, encode_utf8_all, IsUtf8}
 use Rattle.std.proofs.Math.ListN.{drop_of_length-le}
 use Rattle.std.proofs.Math.Seq.{drop-append_seam}
 use Rattle.std.proofs.lemmas.Bool.{cases_lt, eqb-true, or_cases, not-true, not-false, not_from_true, not_from_false}
 use Rattle.std.proofs.lemmas.List.Sums.{prefix_len_passes, prefix_len_stops}
 use Rattle.std.specs.List.{prefix_len}
 use Rattle.std.proofs.lemmas.List.{get_or-drop}
-use Rattle.std.proofs.lemmas.Str.{byte_from_char, inside_one, encodes-chars, IsCharBoundary-from_drop}
+use Rattle.std.proofs.lemmas.Str.{byte_from_char, inside_one, encodes-chars}
 use Rattle.std.proofs.Math.Bool.{not-not}
 use Rattle.std.proofs.lemmas.Grind.{common_steps}
 use Rattle.memchr.specs.Find.{IsFirstByte, is_byte, is_byte2}
@@ -17,7 +17,6 @@ use Rattle.rustc_lexer.specs.means.Scan.{past, run_len}
 use Rattle.rustc_lexer.specs.laws.Choice.{by_either}
 use Rattle.rustc_lexer.proofs.BridgeLemmas.{past_run, past_run-in, past_run-out}
 use Rattle.rustc_lexer.proofs.KernelLemmas.{run_stops, run_short}
-use Rattle.rustc_lexer.specs.laws.Past.{IsUtf8-past}
 use lib.Lanes.{chunk, mask_l, top}
 use lib.Count.{count_trailing_zeros}
 
@@ -77,9 +76,6 @@ module _ (stops : ℕ → Bool) (small : (b : ℕ) → stops b ≡ true → b < 
     pub up_to : past (run_len others (chars text)) text ≡ drop n text
     unfolding past
     up_to = by_chars (chars text) text n (sym (encodes-chars text is)) at
-
-    pub may_cut_there : IsCharBoundary text n
-    may_cut_there = IsCharBoundary-from_drop text n at.inside (subst (λ xs. IsUtf8 xs) up_to (IsUtf8-past (run_len others (chars text)) text is))
 
 pub byte_small : (stop b : ℕ) → stop < 128 → is_byte stop b ≡ true → b < 128
 byte_small stop b l e = omega (arith, eqb-true b stop e)

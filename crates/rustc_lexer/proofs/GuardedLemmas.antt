@@ -98,12 +98,9 @@ module _ (rest front : List ℕ) (n : ℕ) (is : IsUtf8 rest) (count : n ≡ has
     taken_is : bytes_of ((n + 1) + body_read.1) (chars rest) ≡ length rest - length left
     taken_is = let l = length-past ((n + 1) + body_read.1) rest is in let m = ap length left_at in omega arith
 
-    taken_inside : length rest - length left ≤ length rest
-    taken_inside = omega arith
-
     pub string_boundary : IsCharBoundary rest (length rest - length left)
     string_boundary =
-        IsCharBoundary-from_drop rest (length rest - length left) taken_inside (subst IsUtf8 (past-drop ((n + 1) + body_read.1) rest is ∙ ap (λ (k : ℕ). drop k rest) taken_is) (IsUtf8-past ((n + 1) + body_read.1) rest is))
+        IsCharBoundary-from_drop rest (length rest - length left) (omega arith) (subst IsUtf8 (past-drop ((n + 1) + body_read.1) rest is ∙ ap (λ (k : ℕ). drop k rest) taken_is) (IsUtf8-past ((n + 1) + body_read.1) rest is))
 
     pub string_here : begins (34 ∷ []) (chars front) ≡ true → Some (closed, length rest - length left) ≡ string_past n (chars rest)
     string_here e = grind (arith, common_steps, read_is, taken_is, quote_next)

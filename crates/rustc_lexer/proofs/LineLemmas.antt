@@ -2,7 +2,6 @@
 use Rattle.std.proofs.Common.{◌≡◌, ℕ, zero, suc, ◌+◌, ◌-◌, ◌<◌, ◌≤◌, ◌==◌, Bool, true, false, true≢false, inl, inr, if◌then◌else◌, List, [], ◌∷◌, length, drop, get_or, codes, refl, sym, ap, ◌∙◌, subst, arith, Option, Some, None, length-drop, drop-drop}
 use Rattle.std.proofs.lemmas.Bool.{and_parts, cases_lt, eqb-true, eq-eqb, false_from_ne_true}
 use Rattle.std.proofs.lemmas.Bool.Decides.{Decides-eqb}
-use Rattle.std.proofs.lemmas.List.{get_or-drop}
 use Rattle.std.proofs.lemmas.Slice.Eq.{starts_is}
 use Rattle.std.specs.List.{starts_with}
 use Rattle.memchr.specs.Find.{IsFirstByte, is_byte}
@@ -12,6 +11,7 @@ use Rattle.rustc_lexer.specs.means.Scan.{begins, next_is, run_len}
 use Rattle.rustc_lexer.specs.laws.Choice.{by_either}
 use Rattle.rustc_lexer.specs.laws.Fences.{begins-enough, begins-few, begins-whole}
 use Rattle.rustc_lexer.specs.laws.Frontmatter.{closing_end-full}
+use Rattle.rustc_lexer.specs.laws.LanguageLone.{dropped}
 use Rattle.rustc_lexer.specs.laws.LanguageRuns.{either-way}
 use Rattle.rustc_lexer.specs.laws.Reach.{least-is, least-none, least-some}
 use Rattle.rustc_lexer.proofs.SearchLemmas.{begins-front}
@@ -45,9 +45,6 @@ pub record IsSeen (pattern rest : List ℕ) (from : ℕ) (found : Option ℕ) : 
 pub seen_nothing : (pattern rest : List ℕ) → IsSeen pattern rest 0 None
 seen_nothing pattern rest = record { here = λ k e. absurd (let no : None ≡ Some k = e in cc); none = λ e j lt. absurd (omega arith) }
 
-at_place : (s : List ℕ) (j k m : ℕ) → j + k ≡ m → get_or (drop j s) k 0 ≡ get_or s m 0
-at_place s j k m e = get_or-drop j s k 0 ∙ ap (λ n. get_or s n 0) e
-
 module _ {pattern : List ℕ} (rest : List ℕ) (is : IsLinePattern pattern) where
   stands_inside : (j : ℕ) → begins pattern (drop j rest) ≡ true → j < length rest
   stands_inside j e = elim (cases_lt j (length rest)) [
@@ -60,10 +57,10 @@ module _ {pattern : List ℕ} (rest : List ℕ) (is : IsLinePattern pattern) whe
       by_tail (c ∷ s) none e = omega arith
 
   at_newline : (j : ℕ) → begins pattern (drop j rest) ≡ true → get_or rest j 0 ≡ 10
-  at_newline j e = sym (at_place rest j 0 j (omega arith)) ∙ is.head (drop j rest) e
+  at_newline j e = sym (dropped rest j 0 j (omega arith)) ∙ is.head (drop j rest) e
 
   no_newline_next : (j : ℕ) → begins pattern (drop j rest) ≡ true → get_or rest (suc j) 0 ≡ 10 → ⊥
-  no_newline_next j e f = is.next (drop j rest) e (at_place rest j 1 (suc j) (omega arith) ∙ f)
+  no_newline_next j e f = is.next (drop j rest) e (dropped rest j 1 (suc j) (omega arith) ∙ f)
 
   pub first_seen : {from : ℕ} {found : Option ℕ} → IsSeen pattern rest from found → ((j : ℕ) → from ≤ j → begins pattern (drop j rest) ≡ true → ⊥) → found ≡ first pattern rest
   first_seen {from} {found} seen rest_none = by_found found refl
@@ -78,7 +75,7 @@ module _ {pattern : List ℕ} (rest : List ℕ) (is : IsLinePattern pattern) whe
   pub seen_all : {from : ℕ} {found : Option ℕ} (cut : List ℕ) → IsSeen pattern rest from found → cut ≡ drop from rest → IsFirstByte (is_byte 10) cut None → found ≡ first pattern rest
   seen_all {from} {found} cut seen e lost = first_seen seen (λ j le t.
       let inside = stands_inside j t in
-      let there : get_or cut (j - from) 0 ≡ 10 = ap (λ (xs : List ℕ). get_or xs (j - from) 0) e ∙ (at_place rest from (j - from) j (omega arith) ∙ at_newline j t) in
+      let there : get_or cut (j - from) 0 ≡ 10 = ap (λ (xs : List ℕ). get_or xs (j - from) 0) e ∙ (dropped rest from (j - from) j (omega arith) ∙ at_newline j t) in
       lost (j - from) (omega arith) (omega (arith, ap length e, length-drop from rest)) (eq-eqb _ _ there))
 
 -- a place that is found is inside
@@ -99,7 +96,7 @@ abbrev run_from : ℕ → ℕ → List ℕ → ℕ
 run_from byte from rest = run_len (λ b. b == byte) (drop from rest)
 
 run-byte : (byte : ℕ) (rest : List ℕ) (from end : ℕ) → end ≡ from + run_from byte from rest → (j : ℕ) → from ≤ j → j < end → get_or rest j 0 ≡ byte
-run-byte byte rest from end e j le lt = sym (at_place rest from (j - from) j (omega arith)) ∙ eqb-true _ byte (run-passes (λ b. b == byte) (drop from rest) (j - from) (omega arith))
+run-byte byte rest from end e j le lt = sym (dropped rest from (j - from) j (omega arith)) ∙ eqb-true _ byte (run-passes (λ b. b == byte) (drop from rest) (j - from) (omega arith))
 
 -- what the loop has seen of each of them
 pub record AreSeen (n : ℕ) (rest : List ℕ) (from : ℕ) (fence item doc attribute : Option ℕ) : Type 0 where
@@ -141,7 +138,7 @@ all_seen n rest cut from fence item doc attribute some at e lost = record {
 module _ (rest cut : List ℕ) (from step line end : ℕ) (e : cut ≡ drop from rest) (here : IsFirstByte (is_byte 10) cut (Some step))
     (lines : line ≡ from + step + 1 + run_from 10 (from + step + 1) rest) (ends : end ≡ line + run_from 45 line rest) where
   newline_here : get_or rest (from + step) 0 ≡ 10
-  newline_here = sym (at_place rest from step (from + step) refl) ∙ (ap (λ (xs : List ℕ). get_or xs step 0) (sym e) ∙ eqb-true _ 10 here.1)
+  newline_here = sym (dropped rest from step (from + step) refl) ∙ (ap (λ (xs : List ℕ). get_or xs step 0) (sym e) ∙ eqb-true _ 10 here.1)
 
   newlines : (j : ℕ) → from + step ≤ j → j < line → get_or rest j 0 ≡ 10
   newlines j le lt = elim (cases_lt (from + step) j) [
@@ -153,7 +150,7 @@ module _ (rest cut : List ℕ) (from step line end : ℕ) (e : cut ≡ drop from
     -- of these bytes the pattern stands at the last newline alone
     passed : (j : ℕ) → from ≤ j → j < end → (suc j ≡ line → ⊥) → begins pattern (drop j rest) ≡ true → ⊥
     passed j le lt other t = elim (cases_lt j (from + step)) [
-      | inl before ↦ here.0.before (j - from) (omega arith) (omega arith) (eq-eqb _ _ (ap (λ (xs : List ℕ). get_or xs (j - from) 0) e ∙ (at_place rest from (j - from) j (omega arith) ∙ at_newline rest is j t)))
+      | inl before ↦ here.0.before (j - from) (omega arith) (omega arith) (eq-eqb _ _ (ap (λ (xs : List ℕ). get_or xs (j - from) 0) e ∙ (dropped rest from (j - from) j (omega arith) ∙ at_newline rest is j t)))
       | inr past ↦ elim (cases_lt j line) [
         | inl within ↦ no_newline_next rest is j t (newlines (suc j) (omega arith) (elim (cases_lt (suc j) line) [ inl less ↦ less | inr ge ↦ absurd (other (omega arith)) ]))
         | inr behind ↦ (let clash = sym (run-byte 45 rest line end ends j (omega arith) lt) ∙ at_newline rest is j t in omega arith)
@@ -210,9 +207,9 @@ module _ (rest cut : List ℕ) (from step line end : ℕ) (e : cut ≡ drop from
       there = newlines (line - 1) (omega arith) (omega arith)
 
       by_front : (s : List ℕ) → drop (line - 1) rest ≡ s → begins (newline ∷ dashes n) (drop (line - 1) rest) ≡ begins (dashes n) (drop line rest)
-      by_front [] f = absurd (let clash = sym there ∙ (sym (at_place rest (line - 1) 0 (line - 1) (omega arith)) ∙ ap (λ (xs : List ℕ). get_or xs 0 0) f) in omega arith)
+      by_front [] f = absurd (let clash = sym there ∙ (sym (dropped rest (line - 1) 0 (line - 1) (omega arith)) ∙ ap (λ (xs : List ℕ). get_or xs 0 0) f) in omega arith)
       by_front (c ∷ s) f =
-          let is : c ≡ 10 = sym (ap (λ (xs : List ℕ). get_or xs 0 0) f) ∙ (at_place rest (line - 1) 0 (line - 1) (omega arith) ∙ there) in
+          let is : c ≡ 10 = sym (ap (λ (xs : List ℕ). get_or xs 0 0) f) ∙ (dropped rest (line - 1) 0 (line - 1) (omega arith) ∙ there) in
           let left : s ≡ drop line rest = ap (drop 1) (sym f) ∙ (drop-drop 1 (line - 1) rest ∙ ap (λ k. drop k rest) (let same : line - 1 + 1 ≡ line = omega arith in same)) in
           ap (begins (newline ∷ dashes n)) f ∙ (rw (eq-eqb c 10 is) refl ∙ ap (begins (dashes n)) left)
 

@@ -53,9 +53,6 @@ module _ (first : List ℕ → Token) (old : List Token) (text : List ℕ) (old_
       let here : test (length items) ≡ false = ap (λ p. meets_at old old_stop new_stop p) (sym at.place_is) ∙ (sym met_is ∙ out) in
       least_from-more test (n - length items) (n - length more) (length items) (omega arith) here ∙ ap (least_from test (n - length more)) (sym long)
 
-  pub meet_more : (more : List Token) (items : List Token) → length more ≡ suc (length items) → least_from test (length (tokens_by first text) - length more) (length more) ≡ meet old (tokens_by first text) old_stop new_stop kept → suc (length items) ≤ meet old (tokens_by first text) old_stop new_stop kept
-  meet_more more items long e = omega (arith, e, least_from_ge test (length (tokens_by first text) - length more) (length more))
-
   pub going_met : (items : List Token) (place number at_place : ℕ) (met : Bool) → IsGoing items place number at_place met → met ≡ true → IsMet first old text old_stop new_stop kept items number
   going_met items place number at_place met at hit =
       let same = at.to.place_is in
@@ -80,4 +77,5 @@ module _ (first : List ℕ → Token) (old : List Token) (text : List ℕ) (old_
       let more : List Token = items ++ first (drop place text) ∷ [] in
       let to = lexed_more law text items place is at.to inside in
       let long : length more ≡ suc (length items) = omega (arith, length-append items (first (drop place text) ∷ [])) in
-      meet_more more items long (sym (search_more items more place _ met at.to to long at.met_is out) ∙ at.search)
+      let search = sym (search_more items more place _ met at.to to long at.met_is out) ∙ at.search in
+      omega (arith, search, long, least_from_ge test (length (tokens_by first text) - length more) (length more))

@@ -32,14 +32,8 @@ emoji-ascii b l = rw (lt-leb 128 b l) refl
 
 -- ---- a word is an identifier where no mark follows it
 
-mark-continues : (c : ℕ) → ends_prefix c ≡ true → is_id_continue c ≡ false
-mark-continues c e = grind (arith, common_steps, or_cases, eqb-true, is_xid_continue-ascii)
-
 no_mark : (s : List ℕ) → next_is ends_prefix (drop (run_len is_id_continue s) s) ≡ false → next_is ends_prefix s ≡ false
-no_mark w0 h = grind (arith, common_steps, mark-continues)
-
-r-continues : is_id_continue 114 ≡ true
-r-continues = is_xid_continue-ascii 114 (omega arith)
+no_mark w0 h = grind (arith, common_steps, or_cases, eqb-true, is_xid_continue-ascii)
 
 -- the marks one by one
 record Unmarked (c : ℕ) : Type 0 where
@@ -71,7 +65,7 @@ is_plain (c ∷ cs) h =
     by_r : (t : Bool) → (c == 114) ≡ t → begins_raw (c ∷ cs) ≡ false
     by_r false e = rw e refl
     by_r true e =
-        let more : run_len is_id_continue (c ∷ cs) ≡ suc (run_len is_id_continue cs) = rw (ap is_id_continue (eqb-true c 114 e) ∙ r-continues) refl in
+        let more : run_len is_id_continue (c ∷ cs) ≡ suc (run_len is_id_continue cs) = rw (ap is_id_continue (eqb-true c 114 e) ∙ is_xid_continue-ascii 114 (omega arith)) refl in
         rw e (no_raw cs (no_mark cs (subst (λ n. next_is ends_prefix (drop n (c ∷ cs)) ≡ false) more h)))
 
 word-plain : (b : ℕ) (s : List ℕ) → next_is ends_prefix (drop (run_len is_id_continue s) s) ≡ false → word b s ≡ ident_or_unknown_prefix s

@@ -253,16 +253,13 @@ first_token-text text is = by_chars (chars text) refl
 abbrev HasOwnText : List ℕ → Token → Type 0
 HasOwnText text t = IsCheckedAs t.kind (take t.len text)
 
-silent-text : (text : List ℕ) (kind : TokenKind) (len : ℕ) → is_silent kind ≡ true → HasOwnText text (record { kind = kind; len = len })
-silent-text text kind len e = grind (arith, common_steps)
-
 silent-suffix : (kind : TokenKind) (len : ℕ) → is_silent kind ≡ true → HasSuffixWithin (record { kind = kind; len = len })
 silent-suffix (Literal kind suffix_start) len e = absurd (true≢false (sym e))
 silent-suffix kind len e = omega arith
 
 pub token_at-text : (mode : Mode) (text : List ℕ) → IsText text → IsCheckedAs (token_at mode text).kind (take (token_at mode text).len text)
 token_at-text mode text is = token_at-either (HasOwnText text) mode text
-    (λ edition. changed-either (HasOwnText text) (silent-text text) edition (chars text) (first_token text) (first_token-text text is))
+    (λ edition. changed-either (HasOwnText text) (λ kind len e. grind (arith, common_steps)) edition (chars text) (first_token text) (first_token-text text is))
     (λ opened. frontmatter-text text)
 
 token_at-suffix : (mode : Mode) (text : List ℕ) → HasSuffixWithin (token_at mode text)

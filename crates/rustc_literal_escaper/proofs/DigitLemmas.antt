@@ -51,11 +51,8 @@ pub left_at-brace : (v n c : ℕ) (s : List ℕ) → c ≡ 125 → left_at v n (
 unfolding left_at
 left_at-brace v n c s e = subst (λ (d : ℕ). left_at v n (d ∷ s) ≡ ((if nat_le n 6 then Unicode v else Fault OverlongUnicodeEscape), s)) (sym e) (rw (add-zero n) refl)
 
-number_digit : (v n c : ℕ) (ds : List ℕ) → number_past v n (c ∷ ds) ≡ number_past (with_digit v n (digit_value c)) (n + 1) ds
-number_digit v n c ds = grind (arith, common_steps, nat_tests)
-
 by_digit : (p h : ℕ → Bool) (v n c : ℕ) (s : List ℕ) → p c ≡ true → h c ≡ true → left_by p h v n (c ∷ s) ≡ left_by p h (with_digit v n (digit_value c)) (n + 1) s
-by_digit p h v n c s a b = grind (arith, common_steps, number_digit)
+by_digit p h v n c s a b = grind (arith, common_steps, nat_tests)
 
 pub left_at-digit : (v n c : ℕ) (s : List ℕ) → is_hex c ≡ true → left_at v n (c ∷ s) ≡ left_at (with_digit v n (digit_value c)) (n + 1) s
 unfolding left_at

@@ -2,14 +2,13 @@
 use Rattle.std.proofs.Common.{◌≡◌, false, ℕ, ◌-◌, length, List, [], ◌∷◌, ◌++◌, Option, Some, None, refl, sym, ap, ◌∙◌, arith}
 use Rattle.std.specs.List.{FoldsTo}
 use Rattle.std.specs.Str.{chars, IsUtf8}
-use Rattle.std.specs.declared.ops.Range.{Range}
 use Rattle.std.proofs.lemmas.Str.{encodes-chars}
 use Rattle.std.proofs.lemmas.Grind.{common_steps}
 use Rattle.rustc_literal_escaper.specs.declared.error.EscapeError.TheVariants.{MoreThanOneChar}
 use Rattle.rustc_literal_escaper.specs.declared.error.EscapeError.{EscapeError}
 use Rattle.rustc_literal_escaper.specs.declared.mode.Mode.{Mode}
 use Rattle.rustc_literal_escaper.specs.Elements.{Item, items_of}
-use Rattle.rustc_literal_escaper.specs.Errors.{Error, alone_error, error_of, errors_in, errors_of, is_raw, is_single, put}
+use Rattle.rustc_literal_escaper.specs.Errors.{Error, alone_error, errors_in, errors_of, is_raw, is_single}
 use Rattle.rustc_literal_escaper.proofs.RunLemmas.{folds-on}
 
 error_to-is : (total : ℕ) (error : EscapeError) (left : List ℕ) → IsUtf8 left → Some (record { start = 0; end = total - length left }, error) ≡ alone_error total (Some error) (chars left)
@@ -31,12 +30,9 @@ pub errors_of-strings : (mode : Mode) (text : List ℕ) (items : List Item) → 
 errors_of-strings mode text items double are = grind (arith, common_steps)
 
 -- the errors of some items and then others
-put-append : (range : Range ℕ) (error : Option EscapeError) (xs ys : List Error) → put range error (xs ++ ys) ≡ put range error xs ++ ys
-put-append range error xs ys = grind (arith, common_steps)
-
 errors-append : (mode : Mode) (xs ys : List Item) → errors_in mode (xs ++ ys) ≡ errors_in mode xs ++ errors_in mode ys
 errors-append mode [] ys = refl
-errors-append mode (x ∷ xs) ys = ap (put x.0 (error_of mode x.1)) (errors-append mode xs ys) ∙ put-append x.0 (error_of mode x.1) (errors_in mode xs) (errors_in mode ys)
+errors-append mode (x ∷ xs) ys = grind (arith, common_steps, errors-append mode xs ys)
 
 pub folds-errors : {P : Type 0} (R : P → Error → P → Type 0) (mode : Mode) (p q r : P) (all told rest : List Item) → all ≡ told ++ rest → FoldsTo R p (errors_in mode told) q → FoldsTo R q (errors_in mode rest) r → FoldsTo R p (errors_in mode all) r
 folds-errors R mode p q r all told rest e f g = folds-on R p q r (errors_in mode all) (errors_in mode told) (errors_in mode rest) (ap (errors_in mode) e ∙ errors-append mode told rest) f g

@@ -2,14 +2,12 @@
 use Rattle.std.proofs.Common.{ℕ, zero, suc, ◌≤◌, Bool, List, [], ◌∷◌, length, Option, ap, arith, length-append}
 use Rattle.std.specs.Option.{option_to_list}
 use Rattle.std.specs.Str.{chars, IsUtf8}
-use Rattle.std.specs.declared.ops.Range.{Range}
 use Rattle.std.proofs.lemmas.List.{length-map}
 use Rattle.std.proofs.lemmas.Str.{encodes-chars, length-le-encodes}
 use Rattle.std.proofs.lemmas.Grind.{common_steps}
-use Rattle.rustc_literal_escaper.specs.declared.error.EscapeError.{EscapeError}
 use Rattle.rustc_literal_escaper.specs.declared.mode.Mode.{Mode}
 use Rattle.rustc_literal_escaper.specs.Elements.{Item, front_by, items_from, items_in, items_of}
-use Rattle.rustc_literal_escaper.specs.Errors.{Error, error_of, errors_in, put}
+use Rattle.rustc_literal_escaper.specs.Errors.{Error, errors_in}
 use Rattle.rustc_literal_escaper.proofs.ItemLemmas.{front_by-ends}
 
 -- each step takes as many characters as it tells elements, at least
@@ -22,12 +20,9 @@ pub items-few : (raw : Bool) (text : List ℕ) → IsUtf8 text → length (items
 unfolding items_from
 items-few raw text is = omega (arith, few_in raw (length (chars text)) (length text) (chars text), length-le-encodes (chars text), ap length (encodes-chars text is))
 
-put-few : (range : Range ℕ) (error : Option EscapeError) (errors : List Error) → length (put range error errors) ≤ suc (length errors)
-put-few range error errors = grind (arith, common_steps)
-
 pub errors-few : (mode : Mode) (items : List Item) → length (errors_in mode items) ≤ length items
 errors-few mode [] = omega arith
-errors-few mode (item ∷ items) = omega (arith, put-few item.0 (error_of mode item.1) (errors_in mode items), errors-few mode items)
+errors-few mode (item ∷ items) = grind (arith, common_steps, errors-few mode items)
 
 pub alone-few : (error : Option Error) → length (option_to_list error) ≤ 1
 alone-few error = grind (arith, common_steps)

@@ -14,7 +14,7 @@ use Rattle.rustc_literal_escaper.specs.declared.element.Element.TheVariants.{Byt
 use Rattle.rustc_literal_escaper.specs.declared.error.EscapeError.{EscapeError}
 use Rattle.rustc_literal_escaper.specs.Elements.{front, StartsWithOne}
 use Rattle.rustc_literal_escaper.specs.Escape.{braced, escape, hex, is_hex}
-use Rattle.rustc_literal_escaper.specs.Meaning.{char_of, scalar_of}
+use Rattle.rustc_literal_escaper.specs.Meaning.{char_of}
 use Rattle.rustc_literal_escaper.specs.RoundTrip.{CharComesBack}
 use Rattle.rustc_literal_escaper.specs.Single.{StartsWithSingle}
 use Rattle.rustc_literal_escaper.proofs.DigitLemmas.{left_at, left_at-brace, left_at-digit, left_at-start, with_digit}
@@ -109,12 +109,6 @@ module _ {U : Type 0} (meaning : Element → Result U EscapeError) where
       read : (s : List ℕ) → hex (hex_digit_at 0x10 b ∷ hex_digit_at 1 b ∷ s) ≡ (Byte b, s)
       read s = rw (digit-hex (b / 0x10), digit-hex (b / 1), digit-value (b / 0x10), digit-value (b / 1), value) refl
 
-scalar-small : (c : ℕ) → IsScalar c → c < 0x100_0000
-scalar-small c is = grind (arith, nat_tests)
-
-scalar-is : (c : ℕ) → IsScalar c → scalar_of c ≡ Ok c
-scalar-is c is = grind (arith, nat_tests)
-
 unicode-spelled : (c : ℕ) → IsScalar c → IsSpelled char_of c (escape_unicode c)
 unicode-spelled c is =
     let q1 : List ℕ = c / 1 ∷ [] in
@@ -128,13 +122,13 @@ unicode-spelled c is =
     below 0x1000 (λ l. made (c / 0x100) q2 (omega arith) (rw one (omega arith))) (λ _.
     below 0x1_0000 (λ l. made (c / 0x1000) q3 (omega arith) (rw one (omega arith))) (λ _.
     below 0x10_0000 (λ l. made (c / 0x1_0000) q4 (omega arith) (rw one (omega arith))) (λ _.
-    let l = scalar-small c is in made (c / 0x10_0000) q5 (omega arith) (rw one (omega arith)))))))
+    let l : c < 0x100_0000 = grind (arith, nat_tests) in made (c / 0x10_0000) q5 (omega arith) (rw one (omega arith)))))))
   where
     below : (k : ℕ) {x y : List ℕ} → (c < k → IsSpelled char_of c x) → (k ≤ c → IsSpelled char_of c y) → IsSpelled char_of c (cond (nat_lt c k) x y)
     below k {x} {y} p q = cond_both (nat_lt c k) x y (IsSpelled char_of c) (λ e. p (ltb-true c k e)) (λ e. q (ltb-false c k e))
 
     made : (q : ℕ) (qs : List ℕ) → length qs ≤ 5 → value_past 0 (q ∷ qs) ≡ c → IsSpelled char_of c (92 ∷ 117 ∷ 123 ∷ (word (q ∷ qs) ++ 125 ∷ []))
-    made q qs few value = escaped char_of (Unicode c) c 117 (123 ∷ (word (q ∷ qs) ++ 125 ∷ [])) (scalar-is c is) (word-ascii (q ∷ qs)) refl
+    made q qs few value = escaped char_of (Unicode c) c 117 (123 ∷ (word (q ∷ qs) ++ 125 ∷ [])) (grind (arith, nat_tests)) (word-ascii (q ∷ qs)) refl
         (λ s. ap braced (append_assoc (word (q ∷ qs)) (125 ∷ []) s) ∙ (word-read q qs s few ∙ ap (λ (n : ℕ). (Unicode n, s)) value))
 
 pub char-spelled : (c : ℕ) → IsScalar c → IsSpelled char_of c (escape_default c)

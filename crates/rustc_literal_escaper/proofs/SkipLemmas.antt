@@ -28,17 +28,11 @@ module _ (mode : Mode) (raw : Bool) (class : ℕ → Bool) (fine : (c : ℕ) →
   fewer-past (c ∷ cs) left e = grind (arith, common_steps, and_parts, items-plain, fewer-past cs left)
 
   -- behind what waits
-  errors-behind : (waiting : Option Item) (xs ys : List Item) → errors_in mode xs ≡ errors_in mode ys → errors_in mode (option_to_list waiting ++ xs) ≡ errors_in mode (option_to_list waiting ++ ys)
-  errors-behind waiting xs ys e = grind (arith, common_steps)
-
-  fewer-behind : (waiting : Option Item) (xs ys : List Item) → length xs ≤ length ys → length (option_to_list waiting ++ xs) ≤ length (option_to_list waiting ++ ys)
-  fewer-behind waiting xs ys l = grind (arith, common_steps)
-
   pub errors-skip : (waiting : Option Item) (s left : List ℕ) → Passes class s left → errors_in mode (option_to_list waiting ++ items_from (front_by raw) total left) ≡ errors_in mode (option_to_list waiting ++ items_from (front_by raw) total s)
-  errors-skip waiting s left p = errors-behind waiting (items_from (front_by raw) total left) (items_from (front_by raw) total s) (errors-past p.passed left p.all ∙ ap (λ (xs : List ℕ). errors_in mode (items_from (front_by raw) total xs)) (sym p.whole))
+  errors-skip waiting s left p = grind (arith, common_steps, errors-past p.passed left p.all, p.whole)
 
   pub fewer-skip : (waiting : Option Item) (s left : List ℕ) → Passes class s left → length (option_to_list waiting ++ items_from (front_by raw) total left) ≤ length (option_to_list waiting ++ items_from (front_by raw) total s)
-  fewer-skip waiting s left p = fewer-behind waiting (items_from (front_by raw) total left) (items_from (front_by raw) total s) (subst (λ (xs : List ℕ). length (items_from (front_by raw) total left) ≤ length (items_from (front_by raw) total xs)) (sym p.whole) (fewer-past p.passed left p.all))
+  fewer-skip waiting s left p = grind (arith, common_steps, fewer-past p.passed left p.all, p.whole)
 
 -- nothing is wrong with a plain character, where no plain one is wrong
 pub plain-fine : (mode : Mode) (raw : Bool) → ((c : ℕ) → error_of mode (Plain c) ≡ None) → (c : ℕ) → is_plain raw c ≡ true → (is_plain raw c ≡ true) × (error_of mode (Plain c) ≡ None)

@@ -16,11 +16,10 @@ use Rattle.rustc_literal_escaper.specs.declared.element.Element.{Element}
 use Rattle.rustc_literal_escaper.specs.declared.error.EscapeError.{EscapeError}
 use Rattle.rustc_literal_escaper.specs.declared.element.Element.TheVariants.{Plain, Unicode}
 use Rattle.rustc_literal_escaper.specs.declared.mode.Mode.{Mode}
-use Rattle.rustc_literal_escaper.specs.declared.mode.Mode.TheVariants.{Byte}
 use Rattle.rustc_literal_escaper.specs.Elements.{front_by, items_from, items_of, raw_element}
 use Rattle.rustc_literal_escaper.specs.Errors.{errors_in, errors_of, is_raw, is_single}
 use Rattle.rustc_literal_escaper.specs.Plain.{is_simple, Passes}
-use Rattle.rustc_literal_escaper.specs.Escape.{braced, closed_at_run, escape, short}
+use Rattle.rustc_literal_escaper.specs.Escape.{braced, escape, short}
 use Rattle.rustc_literal_escaper.specs.Single.{alone, literal, single, StartsWithSingle}
 use Rattle.rustc_literal_escaper.proofs.DigitLemmas.{with_digit, left_at, left_at-brace, left_at-digit, left_at-start, hex-yes}
 use Rattle.rustc_literal_escaper.proofs.ErrorLemmas.{errors_of-strings}
@@ -40,26 +39,17 @@ pub literal_is : {U : Type 0} (meaning : Element → Result U EscapeError) (s : 
 literal_is meaning s e h = sym (literal-starts meaning s [] e h ∙ alone_whole (meaning e))
 
 -- texts of one, two and three bytes of ASCII
-one_byte : (bs : List ℕ) → 1 ≤ length bs → length bs < 2 → bs ≡ slice_index bs 0 ∷ []
-one_byte bs e f = grind (arith, common_steps)
-
-two_bytes : (bs : List ℕ) → 2 ≤ length bs → length bs < 3 → bs ≡ slice_index bs 0 ∷ slice_index bs 1 ∷ []
-two_bytes bs e f = grind (arith, common_steps)
-
-three_bytes : (bs : List ℕ) → 3 ≤ length bs → length bs < 4 → bs ≡ slice_index bs 0 ∷ slice_index bs 1 ∷ slice_index bs 2 ∷ []
-three_bytes bs e f = grind (arith, common_steps)
-
 chars_are : (bs xs : List ℕ) → bs ≡ xs → list_all is_ascii xs ≡ true → chars bs ≡ xs
 chars_are bs xs e a = ap chars e ∙ chars-IsAscii xs (is-ascii xs a)
 
 pub chars_one : (bs : List ℕ) → 1 ≤ length bs → length bs < 2 → slice_index bs 0 < 128 → chars bs ≡ slice_index bs 0 ∷ []
-chars_one bs l m a = chars_are bs _ (one_byte bs l m) (grind (arith, common_steps, nat_tests))
+chars_one bs l m a = chars_are bs _ (grind (arith, common_steps)) (grind (arith, common_steps, nat_tests))
 
 pub chars_two : (bs : List ℕ) → 2 ≤ length bs → length bs < 3 → slice_index bs 0 < 128 → slice_index bs 1 < 128 → chars bs ≡ slice_index bs 0 ∷ slice_index bs 1 ∷ []
-chars_two bs l m a b = chars_are bs _ (two_bytes bs l m) (grind (arith, common_steps, nat_tests))
+chars_two bs l m a b = chars_are bs _ (grind (arith, common_steps)) (grind (arith, common_steps, nat_tests))
 
 pub chars_three : (bs : List ℕ) → 3 ≤ length bs → length bs < 4 → slice_index bs 0 < 128 → slice_index bs 1 < 128 → slice_index bs 2 < 128 → chars bs ≡ slice_index bs 0 ∷ slice_index bs 1 ∷ slice_index bs 2 ∷ []
-chars_three bs l m a b d = chars_are bs _ (three_bytes bs l m) (grind (arith, common_steps, nat_tests))
+chars_three bs l m a b d = chars_are bs _ (grind (arith, common_steps)) (grind (arith, common_steps, nat_tests))
 
 -- a backslash and a character that makes a byte with it
 pub short_alone : (b c : ℕ) → Element.Byte b ≡ short c → (Element.Byte b, []) ≡ escape (c ∷ [])
@@ -69,11 +59,8 @@ pub short_whole : (bs : List ℕ) (b : ℕ) → chars bs ≡ 92 ∷ slice_index 
 short_whole bs b at e = subst (λ (xs : List ℕ). StartsWithSingle xs (Element.Byte b) []) (sym at) (short_alone b (slice_index bs 1) e)
 
 -- a number between braces that is the whole text
-braced_digit : (c : ℕ) (s : List ℕ) → digit_value c < 16 → braced (c ∷ s) ≡ closed_at_run (c ∷ s)
-braced_digit c s l = grind (arith, common_steps, nat_tests)
-
 pub number_ends : (v n c : ℕ) (s : List ℕ) → n ≤ 6 → digit_value c < 16 → left_at v n (125 ∷ []) ≡ left_at 0 0 (c ∷ s) → (Unicode v, []) ≡ braced (c ∷ s)
-number_ends v n c s few digit at = grind (arith, common_steps, left_at, left_at-brace, nat_tests, left_at-start, braced_digit)
+number_ends v n c s few digit at = grind (arith, common_steps, left_at, left_at-brace, nat_tests, left_at-start)
 
 -- digits after others
 pub read_digit : (v n c d : ℕ) (s : List ℕ) → digit_value c < 16 → d ≡ digit_value c → n < 6 → left_at (v * 16 + d) (n + 1) s ≡ left_at v n (c ∷ s)

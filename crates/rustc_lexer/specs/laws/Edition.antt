@@ -57,9 +57,6 @@ ident-plain s = grind (arith, common_steps)
 either-plain : (test : List ℕ → Bool) (scan other : List ℕ → TokenKind × ℕ) → ArePlain scan → ArePlain other → ArePlain (λ s. if test s then scan s else other s)
 either-plain test scan other p q s = by_test (λ r. is_plain r.0 ≡ true) (test s) (scan s) (other s) (λ e. p s) (λ e. q s)
 
-raw_or_ident-plain : ArePlain raw_or_ident
-raw_or_ident-plain = either-plain (next_is is_raw_mark) _ ident_or_unknown_prefix (λ s. refl) ident-plain
-
 raw_past-plain : (prefix : RawPrefix) → ArePlain (raw_past_or_ident prefix)
 raw_past-plain prefix = either-plain begins_raw _ ident_or_unknown_prefix (λ s. refl) ident-plain
 
@@ -71,7 +68,7 @@ letter_b-plain = either-plain (begins (codes "'")) _ past_quote (λ s. refl) (ei
 
 word-plain : (c : ℕ) → ArePlain (word c)
 word-plain c = by_letter (λ c scan. ArePlain scan) c
-    (either-plain marks_ident _ raw_or_ident (λ s. refl) raw_or_ident-plain)
+    (either-plain marks_ident _ raw_or_ident (λ s. refl) (either-plain (next_is is_raw_mark) _ ident_or_unknown_prefix (λ s. refl) ident-plain))
     (either-plain marks_ident _ ident_or_unknown_prefix (λ s. refl) ident-plain)
     letter_b-plain
     (either-plain (begins (codes "\"")) _ (raw_past_or_ident Cr) (λ s. refl) (raw_past-plain Cr))
@@ -197,9 +194,6 @@ abbrev plain_kind : TokenKind → TokenKind
 plain_kind UnknownPrefix = Ident
 plain_kind kind = kind
 
-keeps_2018 : (cs : List ℕ) (kind : TokenKind) (len : ℕ) → is_plain kind ≡ true → before_2021 cs kind len ≡ token (plain_kind kind) len
-keeps_2018 cs kind len e = grind (arith, common_steps)
-
 -- what follows a name, where no hash makes a prefix of it
 abbrev past_any_name : ℕ → List ℕ → List ℕ → TokenKind × ℕ
 past_any_name c name s = if begins (codes "'") s then quoted_name c name s else gives (Lifetime (is_bad_name (c ∷ name))) s
@@ -255,7 +249,7 @@ hash_2018 = record {
 }
 
 grammar_2018 : IsGrammar (first_token_in E2018)
-grammar_2018 = changed_grammar before_2021 (changed_first before_2021 plain_kind keeps_2018 quote_2018 hash_2018) refl
+grammar_2018 = changed_grammar before_2021 (changed_first before_2021 plain_kind (λ cs kind len e. grind (arith, common_steps)) quote_2018 hash_2018) refl
 
 -- ---- the law of one token, in each edition: two characters past its end are enough, also where it is cut
 

@@ -99,11 +99,8 @@ last_byte (c ∷ d ∷ s) text rest e =
 
 -- a text, past the white space in front, and past the dashes after that
 module _ (text fence label : List ℕ) (is : IsUtf8 text) (fence_is : fence ≡ past (spaces_len (chars text)) text) (label_is : label ≡ past (run_len is_dash (chars fence)) fence) where
-  fence_reads : chars fence ≡ drop (spaces_len (chars text)) (chars text)
-  fence_reads = ap chars fence_is ∙ chars-past (spaces_len (chars text)) text is
-
   count : run_len is_dash (chars fence) ≡ fence_len (chars text)
-  count = ap (run_len is_dash) fence_reads
+  count = ap (run_len is_dash) (ap chars fence_is ∙ chars-past (spaces_len (chars text)) text is)
 
   fence_utf8 : IsUtf8 fence
   fence_utf8 = subst IsUtf8 (sym fence_is) (IsUtf8-past (spaces_len (chars text)) text is)
@@ -247,9 +244,6 @@ alone-ends rest k e = by_place (first_alone 0 (places (dashes 3) rest) rest) ref
         let same : line_end place rest ≡ k = cc in
         subst (IsLineEnd rest) same (line_end-ends place rest (let at = alone-inside (length rest) 0 (places (dashes 3) rest) rest (places-inside (dashes 3) 0 0 (length rest) rest (omega arith)) place f in omega arith))
 
-whole-ends : (rest : List ℕ) → IsLineEnd rest (length rest)
-whole-ends rest = record { inside = omega arith; here = λ l. absurd (omega arith) }
-
 closing_end-ends : (n : ℕ) (rest : List ℕ) → IsLineEnd rest (closing_end n rest)
 unfolding closing_end
 closing_end-ends n rest =
@@ -258,7 +252,7 @@ closing_end-ends n rest =
     (first_some-ends rest (use_item rest) _ (before-ends (codes "use ") rest)
     (first_some-ends rest (inner_doc rest) _ (before-ends (codes "//!") rest)
     (first_some-ends rest (inner_attribute rest) _ (before-ends (codes "#![") rest)
-    (first_some-ends rest (lone_dashes rest) [] (alone-ends rest) (whole-ends rest))))))
+    (first_some-ends rest (lone_dashes rest) [] (alone-ends rest) record { inside = omega arith; here = λ l. absurd (omega arith) })))))
 
 -- the closing ends between characters
 closing-boundary : (rest : List ℕ) (place : ℕ) → IsLineEnd rest place → IsCharBoundary rest place

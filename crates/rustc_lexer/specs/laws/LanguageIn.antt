@@ -189,11 +189,8 @@ first-front edition text (c ∷ s) is some e =
 pub in_grammar : {edition : Edition} {next : List ℕ} {kind : TokenKind} {w : List ℕ} → edition ≡ E2024 → IsTokenIn edition next kind w → IsTokenBefore next kind w
 in_grammar newest w1 = grind (arith, common_steps)
 
-kept_now : (kind : TokenKind) → kept_since kind ≤ 2024
-kept_now kind = grind (arith, common_steps)
-
 pub of_grammar : {edition : Edition} {next : List ℕ} {kind : TokenKind} {w : List ℕ} → edition ≡ E2024 → IsTokenBefore next kind w → IsTokenIn edition next kind w
-of_grammar {edition} {next} {kind} newest p = kept (subst (λ (x : Edition). kept_since kind ≤ year x) (sym newest) (kept_now kind)) p
+of_grammar {edition} {next} {kind} newest p = kept (subst (λ (x : Edition). kept_since kind ≤ year x) (sym newest) (grind (arith, common_steps))) p
 
 pub newest_has : (next w : List ℕ) (kind : TokenKind) → IsTokenIn E2024 next kind w ↔ IsTokenBefore next kind w
 newest_has next w kind = (in_grammar refl, of_grammar refl)

@@ -69,12 +69,9 @@ lifetime-read c w next start all stop quote hash =
     (λ e. rw e refl)))
     ∙ pair _ _ _ _ refl (omega arith)
 
-hash-mark : (c : ℕ) → is_among (codes "#") c ≡ true → ends_prefix c ≡ true
-hash-mark c e = grind (arith, common_steps, or_left)
-
 pub hash-stops : (next : List ℕ) → NextIs (is_among (codes "#")) next → NextIsNot is_word_continue next
 hash-stops [] e = refl
-hash-stops (c ∷ s) e = mark-stops (c ∷ s) (hash-mark c e)
+hash-stops (c ∷ s) e = mark-stops (c ∷ s) (grind (arith, common_steps, or_left))
 
 hash-no_quote : (next : List ℕ) → begins (codes "#") next ≡ true → begins (codes "'") next ≡ false
 hash-no_quote [] e = refl
@@ -84,14 +81,11 @@ hash-no_quote (c ∷ s) e = rw (eqb-true c 35 (and_parts (c == 35) true e).0) re
 raw-same : (c : ℕ) (s : List ℕ) → begins_ident_after (codes "r#") (c ∷ s) ≡ is_raw c s
 raw-same c s = grind (arith, common_steps)
 
-word_start-name : (c : ℕ) → is_word_start c ≡ true → is_name_start c ≡ true
-word_start-name c e = grind (arith, common_steps)
-
 pub prefix-read : (c : ℕ) (w next : List ℕ) → is_word_start c ≡ true → AreAll is_word_continue w → NextIs (is_among (codes "#")) next → begins_ident_after (codes "r#") (c ∷ w ++ next) ≡ false → Read UnknownPrefixLifetime (suc (suc (length w))) (39 ∷ c ∷ w ++ next)
 prefix-read c w next start all hash free =
     let at_hash : begins (codes "#") next ≡ true = begins-next 35 next ∙ hash in
     let quote : begins (codes "'") next ≡ false = hash-no_quote next at_hash in
-    plain-read c w next UnknownPrefixLifetime 0 (word_start-name c start) (word-begins 39 w next refl all quote) (sym (raw-same c (w ++ next)) ∙ free) all (hash-stops next hash) (rw (quote, at_hash, word_start-no_digit c start) refl)
+    plain-read c w next UnknownPrefixLifetime 0 (grind (arith, common_steps)) (word-begins 39 w next refl all quote) (sym (raw-same c (w ++ next)) ∙ free) all (hash-stops next hash) (rw (quote, at_hash, word_start-no_digit c start) refl)
     ∙ pair _ _ _ _ refl (omega arith)
 
 r-name : is_name_start 114 ≡ true
@@ -106,9 +100,6 @@ raw_lifetime-read w0 next is stop =
 
 abbrev IsLifetime : ℕ → List ℕ → TokenKind × ℕ → Type 0
 IsLifetime c s r = IsTokenBefore (drop r.1 s) r.0 (39 ∷ c ∷ take r.1 s)
-
-no_digit-start : (c : ℕ) → is_name_start c ≡ true → is_ascii_digit c ≡ false → is_word_start c ≡ true
-no_digit-start c e f = grind (arith, common_steps)
 
 name-sound : (c : ℕ) (s : List ℕ) → is_name_start c ≡ true → begins (codes "'") s ≡ false → is_raw c s ≡ false → IsLifetime c s (plain_lifetime c s)
 name-sound c s start none no_raw = by_test (λ r. IsLifetime c s (r.0, n + r.1)) (begins (codes "'") left) (quoted_name c name left) (unquoted_name c name left) (λ e. quoted name left refl refl e)
@@ -142,7 +133,7 @@ name-sound c s start none no_raw = by_test (λ r. IsLifetime c s (r.0, n + r.1))
     stops = run-stops is_word_continue s
 
     unquoted : begins (codes "'") left ≡ false → (hash digit : Bool) → begins (codes "#") left ≡ hash → is_ascii_digit c ≡ digit → IsTokenBefore left (if hash && not digit then UnknownPrefixLifetime else Lifetime (is_bad_name (c ∷ name))) (39 ∷ c ∷ name)
-    unquoted e true false f g = the.unknown_prefix_lifetime (no_digit-start c start g) (run_all is_word_continue s) (sym (begins-next 35 left) ∙ f) (raw-same c (name ++ left) ∙ (ap (is_raw c) (take-append-drop n s) ∙ no_raw))
+    unquoted e true false f g = the.unknown_prefix_lifetime (grind (arith, common_steps)) (run_all is_word_continue s) (sym (begins-next 35 left) ∙ f) (raw-same c (name ++ left) ∙ (ap (is_raw c) (take-append-drop n s) ∙ no_raw))
     unquoted e true true f g = the.lifetime start (run_all is_word_continue s) stops (sym (begins-next 39 left) ∙ e) (λ h. g)
     unquoted e false digit f g = the.lifetime start (run_all is_word_continue s) stops (sym (begins-next 39 left) ∙ e) (λ h. absurd (either-way (begins (codes "#") left) (begins-next 35 left ∙ h) f))
 

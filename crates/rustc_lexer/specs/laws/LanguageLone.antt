@@ -51,7 +51,7 @@ front-three (a ∷ []) at = absurd (let e = at.two in omega arith)
 front-three (a ∷ b ∷ []) at = absurd (let e = at.three in omega arith)
 front-three (a ∷ b ∷ c ∷ s) at = rw (eq-eqb a 45 at.one, eq-eqb b 45 at.two, eq-eqb c 45 at.three) refl
 
-dropped : (s : List ℕ) (i k m : ℕ) → i + k ≡ m → get_or (drop i s) k 0 ≡ get_or s m 0
+pub dropped : (s : List ℕ) (i k m : ℕ) → i + k ≡ m → get_or (drop i s) k 0 ≡ get_or s m 0
 dropped s i k m e = get_or-drop i s k 0 ∙ ap (λ n. get_or s n 0) e
 
 pub at-three : (s : List ℕ) (i : ℕ) → begins (dashes 3) (drop i s) ≡ true → ThreeAt s i
@@ -150,9 +150,6 @@ has-line (suc i) s lt = by_test (is_newline (get_or s i 0)) refl (has-line i s)
 
 -- ---- the search
 
-dash-no_blank : (c : ℕ) → c ≡ 45 → is_horizontal_whitespace c ≡ true → ⊥
-dash-no_blank c e t = true≢false (sym t ∙ ap is_horizontal_whitespace e)
-
 -- the search stands at `start`: nothing before that is lone, and blanks from there on count
 record IsSearching (s : List ℕ) (start : ℕ) : Type 0 where
   edge : (start ≡ 0) ⊎ IsRunAt s start
@@ -214,9 +211,6 @@ module _ (s : List ℕ) (start d : ℕ) (at : IsSearching s start) (here : begin
           between p (omega arith) (omega arith) (three-at s p dash (ap (λ n. get_or s n 0) next ∙ three.one) (ap (λ n. get_or s n 0) after ∙ three.two))
     ]
 
-    run_here : IsRunAt s (start + d + 3)
-    run_here = record { place = start + d; end = refl; here = three_here; fresh = no_dash }
-
     -- an edge that is past `start`
     edge_past : (k : ℕ) → start < k → k ≤ start + d → ((j : ℕ) → k ≤ j → j < start + d → is_horizontal_whitespace (get_or s j 0) ≡ true) → IsEdgeAt s k → ⊥
     edge_past k past le each (front e) = omega arith
@@ -259,7 +253,7 @@ module _ (s : List ℕ) (start d : ℕ) (at : IsSearching s start) (here : begin
 
         whole : is.edge ≡ j
         whole = elim (cases_lt is.edge j) [
-          | inl less ↦ absurd (dash-no_blank (get_or s (j - 1) 0) (dash (j - 1) (omega arith)) (is.blanks (j - 1) (omega arith) (omega arith)))
+          | inl less ↦ absurd (true≢false (sym (is.blanks (j - 1) (omega arith) (omega arith)) ∙ ap is_horizontal_whitespace (dash (j - 1) (omega arith))))
           | inr ge ↦ (let le = is.before in omega arith)
         ]
 
@@ -276,7 +270,7 @@ module _ (s : List ℕ) (start d : ℕ) (at : IsSearching s start) (here : begin
 
     goes_on : IsSearching s (start + d + 3)
     goes_on = record {
-      edge = inr run_here;
+      edge = inr record { place = start + d; end = refl; here = three_here; fresh = no_dash };
       none = λ j lt is. elim (cases_lt j (start + d)) [
         | inl less ↦ none_before j less is
         | inr ge ↦ elim (cases_lt (start + d) j) [

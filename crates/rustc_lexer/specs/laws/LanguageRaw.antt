@@ -1,5 +1,5 @@
 -- Raw strings are in their language, and what is there is read so.
-use Rattle.std.proofs.Common.{◌≡◌, ℕ, zero, suc, ◌+◌, ◌≤◌, ◌<◌, ◌==◌, nat_le, Bool, true, false, true≢false, if◌then◌else◌, List, [], ◌∷◌, ◌++◌, length, get_or, take, drop, codes, refl, sym, ap, ◌∙◌, subst, arith, append_assoc, length-append, Option, Some, None}
+use Rattle.std.proofs.Common.{◌≡◌, ℕ, zero, suc, ◌+◌, ◌≤◌, ◌<◌, ◌==◌, nat_le, Bool, true, false, true≢false, if◌then◌else◌, List, [], ◌∷◌, ◌++◌, length, take, drop, codes, refl, sym, ap, ◌∙◌, subst, arith, append_assoc, length-append, Option, Some, None}
 use Rattle.std.proofs.Math.Seq.{drop-append_seam}
 use Rattle.std.proofs.lemmas.Bool.{and_parts, eqb-true, or_parts, or_from, leb-true, leb-false, le-leb, lt-leb, false_from_ne_true}
 use Rattle.std.proofs.lemmas.List.{append-nil}
@@ -14,9 +14,6 @@ use Rattle.rustc_lexer.specs.means.Lexeme.{is_raw_mark}
 use Rattle.rustc_lexer.specs.means.Raw.{is_hash, is_quote, hash_run, closes, close, hash_count, raw_closed, raw_text, raw_starter, raw_read, accepted}
 
 -- ---- hashes
-
-head-same : (c d : ℕ) (s u : List ℕ) → c ∷ s ≡ d ∷ u → c ≡ d
-head-same c d s u e = ap (λ xs. get_or xs 0 0) e
 
 tail-same : (c d : ℕ) (s u : List ℕ) → c ∷ s ≡ d ∷ u → s ≡ u
 tail-same c d s u e = ap (drop 1) e
@@ -101,7 +98,7 @@ nothing-lacks n u v e = absurd (let no : 0 ≡ length (u ++ (34 ∷ hashes n ++ 
 -- a character more in front, where no quote with its hashes stands
 lacks-more : (n c : ℕ) (w u rest : List ℕ) → w ++ rest ≡ u → closes n (c ∷ u) ≡ false → NoQuoteWith n w → NoQuoteWith n (c ∷ w)
 lacks-more n c w u rest whole open_here lacks [] v e =
-    let quote : c ≡ 34 = head-same c 34 w (hashes n ++ v) e in
+    let quote : c ≡ 34 = cc in
     let text : hashes n ++ (v ++ rest) ≡ u = sym (append_assoc (hashes n) v rest) ∙ (ap (λ (xs : List ℕ). xs ++ rest) (sym (tail-same c 34 w (hashes n ++ v) e)) ∙ whole) in
     either-way (closes n (c ∷ u)) (ap (λ (x : ℕ). closes n (x ∷ u)) quote ∙ (ap (λ (xs : List ℕ). closes n (34 ∷ xs)) (sym text) ∙ closes-here n (v ++ rest))) open_here
 lacks-more n c w u rest whole open_here lacks (x ∷ a) v e = lacks a v (tail-same c x w (a ++ (34 ∷ hashes n ++ v)) e)

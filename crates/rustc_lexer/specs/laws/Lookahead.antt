@@ -21,7 +21,7 @@ use Rattle.rustc_lexer.specs.means.Quoted.{quoted_body, double_quoted_string, by
 use Rattle.rustc_lexer.specs.laws.Quoted.{str_local, str_body_local, char_body_local}
 use Rattle.rustc_lexer.specs.means.Raw.{raw_literal}
 use Rattle.rustc_lexer.specs.laws.Raw.{raw_literal_local}
-use Rattle.rustc_lexer.specs.laws.Reach.{IsToldBy, next_is-told, wider, same_at, after_at, either_at, begins_local, first_local, gives_local, run_as_local, run_local}
+use Rattle.rustc_lexer.specs.laws.Reach.{next_is-told, wider, same_at, after_at, either_at, begins_local, first_local, gives_local, run_as_local, run_local}
 use Rattle.rustc_lexer.specs.means.Scan.{IsLocal, after, begins, gives, next_is, run_as, run_len}
 use Rattle.rustc_lexer.specs.Locality.{IsGrammar}
 use Rattle.rustc_lexer.specs.laws.TokenBy.{token_by_local}
@@ -47,15 +47,12 @@ plain s = wider 1 2 (omega arith) (ident_or_unknown_prefix_local s)
 raw : IsLocal TokenKind 2 raw_or_ident
 raw s = either_at 1 2 (next_is is_raw_mark) (raw_literal R) ident_or_unknown_prefix (next_is-told is_raw_mark) s (omega arith) (λ t. wider 1 2 (omega arith) (raw_literal_local R s)) (λ t. plain s)
 
-begins_raw-told : IsToldBy 2 begins_raw
-begins_raw-told w0 = grind (arith, common_steps)
-
 begins_raw-length : (s : List ℕ) → begins_raw s ≡ true → 1 ≤ length s
 begins_raw-length [] e = absurd (true≢false (sym e))
 begins_raw-length (c ∷ s) e = omega arith
 
 raw_past : (prefix : RawPrefix) → IsLocal TokenKind 2 (raw_past_or_ident prefix)
-raw_past prefix s = either_at 2 2 begins_raw (after 1 (raw_literal prefix)) ident_or_unknown_prefix begins_raw-told s (omega arith)
+raw_past prefix s = either_at 2 2 begins_raw (after 1 (raw_literal prefix)) ident_or_unknown_prefix (λ s. grind (arith, common_steps)) s (omega arith)
     (λ t. after_at 2 1 (raw_literal prefix) s (begins_raw-length s t) (wider 1 2 (omega arith) (raw_literal_local prefix (drop 1 s)))) (λ t. plain s)
 
 string : (kind : Bool → LiteralKind) (prefix : RawPrefix) → IsLocal TokenKind 2 (λ s. if begins (codes "\"") s then literal (after 1 (quoted_body kind double_quoted_string)) s else raw_past_or_ident prefix s)
@@ -83,11 +80,8 @@ families_local = record {
   of_symbol = λ c. gives_local 2 (symbol_kind c);
 }
 
-past_first_local : (c : ℕ) → IsLocal TokenKind 2 (past_first c)
-past_first_local c = each_family LooksAtTwo families_local c
-
 pub lexeme_local : IsLocal TokenKind 2 lexeme
-lexeme_local = first_local 2 Eof past_first lexeme (omega arith) refl (λ c s. refl) past_first_local
+lexeme_local = first_local 2 Eof past_first lexeme (omega arith) refl (λ c s. refl) (each_family LooksAtTwo families_local)
 
 pub first_token_grammar : IsGrammar first_token
 unfolding first_token

@@ -55,12 +55,6 @@ pub double_quoted_string_local : IsLocal Bool 1 double_quoted_string
 double_quoted_string_local = quoted_local 1 (omega arith) at_double_quote (begins-told (codes "\"")) (byte "\"")
 
 -- single quotes
-single_told : IsToldBy 2 at_single_stop
-single_told w0 = grind (arith, common_steps)
-
-lone_told : IsToldBy 2 is_lone
-lone_told w0 = grind (arith, common_steps)
-
 abbrev past_single : List ℕ → Bool × ℕ
 past_single s = quoted (byte "'") at_single_stop s
 
@@ -69,7 +63,7 @@ lone_at w0 t = grind (arith, common_steps, and-false)
 
 pub single_quoted_string_local : IsLocal Bool 2 single_quoted_string
 single_quoted_string_local s =
-    either_at 2 2 is_lone (λ s. (true, 2)) past_single lone_told s (omega arith) (λ t. wider 0 2 (omega arith) (lone_at s t)) (λ t. quoted_local 2 (omega arith) at_single_stop single_told (byte "'") s)
+    either_at 2 2 is_lone (λ s. (true, 2)) past_single (λ s. grind (arith, common_steps)) s (omega arith) (λ t. wider 0 2 (omega arith) (lone_at s t)) (λ t. quoted_local 2 (omega arith) at_single_stop (λ s. grind (arith, common_steps)) (byte "'") s)
 
 -- literals, of which the closed ones take a suffix
 quoted_body_at : (k : ℕ) (kind : Bool → LiteralKind) (scan : List ℕ → Bool × ℕ) (s : List ℕ) → IsLocalAt Bool k scan s → IsLocalAt Body k (quoted_body kind scan) s

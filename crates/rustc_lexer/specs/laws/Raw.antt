@@ -4,12 +4,12 @@ use Rattle.std.proofs.lemmas.Bool.{leb-true, leb-false, le-leb, lt-leb, and_part
 use Rattle.std.specs.Str.{chars}
 use Rattle.std.proofs.lemmas.Grind.{common_steps}
 use Rattle.rustc_lexer.specs.declared.lexemes.raw.RawPrefix.{RawPrefix}
-use Rattle.rustc_lexer.specs.{LiteralKind, RawStrError, TokenKind, InvalidStarter}
+use Rattle.rustc_lexer.specs.{LiteralKind, RawStrError, TokenKind}
 use Rattle.rustc_lexer.specs.means.Literal.{Body}
 use Rattle.rustc_lexer.specs.laws.Literal.{literal_at}
-use Rattle.rustc_lexer.specs.means.Raw.{is_hash, is_quote, hash_run, closes, close, raw_closed, raw_text, past_starter, raw_starter, raw_read, accepted, is_accepted, raw_body, prefix_kind, prefix_len, raw_literal, checked, check_raw, HasEnd, EndsItself}
+use Rattle.rustc_lexer.specs.means.Raw.{is_hash, is_quote, hash_run, closes, close, raw_text, past_starter, raw_starter, raw_read, accepted, is_accepted, raw_body, prefix_kind, prefix_len, raw_literal, checked, check_raw, HasEnd, EndsItself}
 use Rattle.rustc_lexer.specs.laws.Reach.{IsToldBy, cut_past, told_same, wider, all_at, read_as_at, and_then_at, first_at, gives_local, run_len_le, run_len_same, found-same, least-some, least_found}
-use Rattle.rustc_lexer.specs.means.Scan.{IsLocalAt, IsLocal, IsFound, gives, run_len}
+use Rattle.rustc_lexer.specs.means.Scan.{IsLocalAt, IsLocal, IsFound, run_len}
 
 run_len-take : (p : ℕ → Bool) (k : ℕ) (s : List ℕ) → run_len p (take k s) ≡ min k (run_len p s)
 run_len-take p zero s = omega arith
@@ -45,9 +45,6 @@ record IsEnded (v : List ℕ) (scan : List ℕ → Read) (s : List ℕ) : Type 0
   within : HasEnd v (scan s).0 → IsLocalAt (Result ℕ RawStrError) 0 scan s
   ends : HasEnd v (scan s).0 ⊎ ((scan s).1 ≡ length s)
 
-ended_local : (v : List ℕ) (scan : List ℕ → Read) (s : List ℕ) → IsEnded v scan s → IsLocalAt (Result ℕ RawStrError) 1 scan s
-ended_local v scan s is = elim (is.ends) [ inl end ↦ wider 0 1 (omega arith) (is.within end) | inr all ↦ all_at 1 scan s (omega arith) all ]
-
 text_ended : (n before : ℕ) (v s : List ℕ) → IsEnded v (raw_text n before) s
 text_ended n before v s = grind (arith, common_steps, close-inside, found-same, close_found)
 
@@ -78,7 +75,7 @@ raw_read_ended prefix s =
     }
 
 pub raw_read_local : (prefix : ℕ) → IsLocal (Result ℕ RawStrError) 1 (raw_read prefix)
-raw_read_local prefix s = ended_local (drop (hash_run s) s) (raw_read prefix) s (raw_read_ended prefix s)
+raw_read_local prefix s = let is = raw_read_ended prefix s in elim (is.ends) [ inl end ↦ wider 0 1 (omega arith) (is.within end) | inr all ↦ all_at 1 (raw_read prefix) s (omega arith) all ]
 
 pub raw_read_within : (prefix : ℕ) → EndsItself prefix
 raw_read_within prefix s = (raw_read_ended prefix s).within
@@ -86,9 +83,6 @@ raw_read_within prefix s = (raw_read_ended prefix s).within
 -- the prefix counts in an offset alone
 abbrev seen : ℕ → Read → Option ℕ × ℕ
 seen n r = (accepted r.0, n + r.1)
-
-abbrev starter_by : (prefix n c : ℕ) → List ℕ → Bool → Option ℕ → Read
-starter_by prefix n c v b o = let r : Read = if b then raw_closed n (prefix + suc n) v o else gives (Err (InvalidStarter c)) v in (r.0, suc r.1)
 
 starter-prefix : (p q n : ℕ) (v : List ℕ) → seen n (raw_starter p n v) ≡ seen n (raw_starter q n v)
 starter-prefix p q n w3 = grind (arith, common_steps)
@@ -111,10 +105,6 @@ raw_body_local kind s = body_at 1 kind s (raw_read_local 0 s)
 pub raw_literal_local : (prefix : RawPrefix) → IsLocal TokenKind 1 (raw_literal prefix)
 raw_literal_local prefix s = literal_at (prefix_len prefix) 1 (raw_body (prefix_kind prefix)) s (λ e. omega arith) (raw_body_local (prefix_kind prefix) s)
 
--- alone, the text of a token is read as the token was, with its suffix or without
-pub raw_literal_own : (prefix : RawPrefix) (p : ℕ) (s : List ℕ) → accepted (raw_read p (take (raw_literal prefix s).1 s)).0 ≡ accepted (raw_read 0 s).0
-raw_literal_own prefix p s = raw_read_own p s (raw_literal prefix s).1 (omega arith)
-
 checked-ok : (r : Result ℕ RawStrError) → (checked r ≡ Ok tt) ↔ IsSome (accepted r)
 checked-ok (Ok n) = (λ e. refl, λ some. refl)
 checked-ok (Err e) = (λ f. absurd (cc), λ some. absurd (true≢false (sym some)))
@@ -125,5 +115,5 @@ raw_check_own prefix text front s e =
     let own : List ℕ = take (raw_literal prefix s).1 s in
     let p : ℕ = length front in
     let past_front : drop p (chars text) ≡ own = ap (drop p) e ∙ drop_at front own p refl in
-    let same : accepted (raw_read p (drop p (chars text))).0 ≡ accepted (raw_read 0 s).0 = ap (λ (xs : List ℕ). accepted (raw_read p xs).0) past_front ∙ raw_literal_own prefix p s in
+    let same : accepted (raw_read p (drop p (chars text))).0 ≡ accepted (raw_read 0 s).0 = ap (λ (xs : List ℕ). accepted (raw_read p xs).0) past_front ∙ raw_read_own p s (raw_literal prefix s).1 (omega arith) in
     subst (λ (o : Option ℕ). (check_raw text p ≡ Ok tt) ↔ IsSome o) same (checked-ok (raw_read p (drop p (chars text))).0)

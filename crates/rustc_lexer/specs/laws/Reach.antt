@@ -198,9 +198,6 @@ run_local a p = run_as_local (λ front rest. a) p (λ front s. refl)
 -- ---- ends
 
 module _ (end : List ℕ → Option ℕ) where
-  abbrev up_to_at : Option ℕ → List ℕ → Option ℕ × ℕ
-  up_to_at o u = (o, (or_all_at o u).1)
-
   pub found_at : (k : ℕ) (s : List ℕ) (n : ℕ) → end s ≡ Some n → n ≤ length s → ((u : List ℕ) → take (n + k) u ≡ take (n + k) s → end u ≡ Some n) → IsLocalAt (Option ℕ) k (λ u. (end u, (or_all end u).1)) s
   found_at k s n e le same = grind (arith, common_steps)
 

@@ -36,11 +36,8 @@ one t = record { tells = λ x y e i. (t.tells x.0 y.0 e i, tt) }
 two : {J K : Type 0} {D : J → J → Bool} {E : K → K → Bool} → Tells D → Tells E → Tells (λ (x y : J × (K × Unit {0})). D x.0 y.0 && E x.1.0 y.1.0)
 two {J} {K} {D} {E} t u = record { tells = λ x y e. let both = and_parts (D x.0 y.0) (E x.1.0 y.1.0) e in λ i. (t.tells x.0 y.0 both.0 i, (u.tells x.1.0 y.1.0 both.1 i, tt)) }
 
-flag-tells : (x y : Bool) → beq x y ≡ true → x ≡ y
-flag-tells w0 w1 e = grind (arith, common_steps)
-
 flag : Tells beq
-flag = record { tells = flag-tells }
+flag = record { tells = λ x y e. grind (arith, common_steps) }
 
 number : Tells ◌==◌
 number = record { tells = λ x y e. eqb-true x y e }

@@ -35,10 +35,6 @@ abbrev pub head_by : Bool → List ℕ → Head
 head_by true = head_of
 head_by false = λ text. record { shebang = 0; space = 0; front = None; end = 0 }
 
--- what follows the head of a text
-abbrev pub body_of : List ℕ → List ℕ
-body_of text = drop (head_of text).end text
-
 -- the tokens of a text, by what its head is: those of the head, and of what follows it
 abbrev pub document_by : (List ℕ → Head) → (List ℕ → Token) → List ℕ → List Token
 document_by heads first text = tokens_of_head (heads text) ++ tokens_by first (drop (heads text).end text)

@@ -1,4 +1,4 @@
-use Rattle.std.proofs.Common.{◌≡◌, ◌+◌, ◌-◌, ◌^◌, ◌<◌, ◌≤◌, ℕ, List, length, drop, get_or, slice_set, refl, sym, ap, subst, ◌∙◌, arith, drop-drop, true≢false, inl, inr, Some, is_some}
+use Rattle.std.proofs.Common.{◌≡◌, ◌+◌, ◌-◌, ◌<◌, ◌≤◌, ℕ, List, length, drop, get_or, slice_set, refl, sym, ap, subst, ◌∙◌, arith, drop-drop, true≢false, inl, inr, Some, is_some}
 use Rattle.std.specs.Str.{chars, IsUtf8}
 use Rattle.std.proofs.lemmas.Bool.{cases_lt}
 use lib.Count.{count_trailing_zeros}
@@ -6,10 +6,10 @@ use Rattle.rustc_lexer.specs.{Token, TokenKind}
 use Rattle.rustc_lexer.specs.means.Edition.{changed, first_token_in}
 use Rattle.rustc_lexer.specs.Tokens.{bound, tokens_of}
 use Rattle.rustc_lexer.specs.LanguageText.{part}
-use Rattle.rustc_lexer.specs.means.Ends.{classified, AreEndsPast, IsEnds, IsLowest, StaysWithin}
+use Rattle.rustc_lexer.specs.means.Ends.{classified, AreEndsPast, IsEnds, StaysWithin}
 use Rattle.rustc_lexer.specs.Classes.{IsText}
 use Rattle.rustc_lexer.specs.laws.Edition.{edition_grammar}
-use Rattle.rustc_lexer.proofs.BitLemmas.{lowest, below-lowest}
+use Rattle.rustc_lexer.proofs.BitLemmas.{lowest_is}
 use Rattle.rustc_lexer.proofs.BulkLemmas.{IsWritten, begun_more, none_written, one_written, stands, next_token, next_place, next_some}
 use Rattle.rustc_lexer.proofs.EndsLemmas.{all_past, no_ends, past_end, classified_bare, classified_behind, classified_same, classified_stays}
 use Rattle.rustc_lexer.proofs.bulk.fill.Goals as goal
@@ -20,9 +20,6 @@ tokens-init g c = record { written = none_written _ _ _; begun = λ k less. absu
 
 pub range_from-rest-requires : goal.range_from-rest-requires
 range_from-rest-requires g c = λ some. (stands (edition_grammar c.args.edition) c.args.text.now record { utf8 = c.utf8.text; fits = c.requires.fits } c.tokens.count c.tokens.at c.tokens.invariant.place).boundary
-
-least : (ends : ℕ) → 0 < ends → ends < 2 ^ 64 → IsLowest ends (count_trailing_zeros 64 ends)
-least ends some small = record { set = lowest ends some small; least = below-lowest ends some small }
 
 pub classified-init : goal.classified-init
 classified-init g c =
@@ -62,12 +59,12 @@ classified-init g c =
 
 pub bounds-bytes-end : goal.bounds-bytes-end
 bounds-bytes-end g c =
-    let low = least c.classified.ends (omega (arith, c.classified-test.true)) c.classified.invariant.small in
+    let low = lowest_is c.classified.ends (omega (arith, c.classified-test.true)) c.classified.invariant.small in
     subst (λ (xs : List ℕ). count_trailing_zeros 64 c.classified.ends < length xs) (sym (c.as_bytes-bytes.ensures.value ∙ c.range_from-rest.ensures.value)) (c.classified.invariant.ends _ low.set).1
 
 pub overflow_sub-end : goal.overflow_sub-end
 overflow_sub-end g c =
-    let low = least c.classified.ends (omega (arith, c.classified-test.true)) c.classified.invariant.small in
+    let low = lowest_is c.classified.ends (omega (arith, c.classified-test.true)) c.classified.invariant.small in
     let after = (c.classified.invariant.ends _ low.set).0 in
     omega (arith, after)
 
@@ -83,7 +80,7 @@ classified-preserved g c =
     let is : IsText text = record { utf8 = c.utf8.text; fits = c.requires.fits } in
     let law = edition_grammar c.args.edition in
     let inv = c.classified.invariant in
-    let low = least c.classified.ends (omega (arith, c.classified-test.true)) inv.small in
+    let low = lowest_is c.classified.ends (omega (arith, c.classified-test.true)) inv.small in
     let after = (inv.ends end low.set).0 in
     let inside = (inv.ends end low.set).1 in
     let joined : drop from (drop at text) ≡ drop (at + from) text = drop-drop from at text in

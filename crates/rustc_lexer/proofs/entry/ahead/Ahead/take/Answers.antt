@@ -1,26 +1,23 @@
-use Rattle.std.proofs.Common.{◌≡◌, ◌+◌, ◌-◌, ◌^◌, ◌<◌, ℕ, List, length-drop, drop, get_or, sym, ap, subst, ◌∙◌, arith, is_some}
+use Rattle.std.proofs.Common.{◌≡◌, ◌+◌, ◌-◌, ℕ, List, length-drop, drop, get_or, sym, ap, subst, ◌∙◌, arith, is_some}
 use Rattle.std.specs.ControlFlow.{continue_value}
 use lib.Count.{count_trailing_zeros}
 use Rattle.rustc_lexer.specs.means.Ends.{IsLowest, StaysWithin, classified}
-use Rattle.rustc_lexer.proofs.BitLemmas.{lowest, below-lowest}
+use Rattle.rustc_lexer.proofs.BitLemmas.{lowest_is}
 use Rattle.rustc_lexer.proofs.EndsLemmas.{classified_stays}
 use Rattle.rustc_lexer.proofs.ToldLemmas.{TellsNext, all_tell, told_after, told_ahead, told_bound, told_inside, told_token}
 use Rattle.rustc_lexer.proofs.entry.ahead.Ahead.take.Goals as goal
 use Rattle.rustc_lexer.proofs.entry.ahead.Ahead.take.Goals.{then-is_some-via-then-is_some, then-is_some-via-else-is_some+then-not-turns}
 
-least : (ends : ℕ) → 0 < ends → ends < 2 ^ 64 → IsLowest ends (count_trailing_zeros 64 ends)
-least ends some small = record { set = lowest ends some small; least = below-lowest ends some small }
-
 pub bounds-as_bytes-end : goal.bounds-as_bytes-end
 bounds-as_bytes-end c =
-    let low = least c.ends_ahead-block.result.1 (omega (arith, c.if-ends-ne0.true)) (omega arith) in
+    let low = lowest_is c.ends_ahead-block.result.1 (omega (arith, c.if-ends-ne0.true)) (omega arith) in
     let inside = (c.ends_ahead-block.ensures.known _ low.set).1 in
     let left = length-drop c.ends_ahead-block.result.0 c.args.text.now in
     omega (arith, inside, left, c.as_bytes.ensures.len)
 
 pub overflow_sub-len : goal.overflow_sub-len
 overflow_sub-len c =
-    let low = least c.ends_ahead-block.result.1 (omega (arith, c.if-ends-ne0.true)) (omega arith) in
+    let low = lowest_is c.ends_ahead-block.result.1 (omega (arith, c.if-ends-ne0.true)) (omega arith) in
     let after = (c.ends_ahead-block.ensures.known _ low.set).0 in
     omega (arith, after, c.ends_ahead-block.ensures.behind)
 
@@ -32,7 +29,7 @@ returns-then-is_some c =
     let block : ℕ = c.ends_ahead-block.result.0 in
     let ends : ℕ = c.ends_ahead-block.result.1 in
     let low : ℕ = count_trailing_zeros 64 ends in
-    let lowest : IsLowest ends low = least ends (omega (arith, c.if-ends-ne0.true)) (omega arith) in
+    let lowest : IsLowest ends low = lowest_is ends (omega (arith, c.if-ends-ne0.true)) (omega arith) in
     let is = c.branch-kind.ensures ∙ ap continue_value c.in_ok-kind.is in
     let byte : get_or c.as_bytes.result.now (block + low) 0 ≡ get_or text (block + low) 0 = ap (λ (xs : List ℕ). get_or xs (block + low) 0) c.as_bytes.ensures.value in
     let stays : StaysWithin c.in_ok-kind.kind (get_or c.as_bytes.result.now (block + low) 0) = elim c.then-is_some.branch [

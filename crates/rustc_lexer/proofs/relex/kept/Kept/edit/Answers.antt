@@ -1,4 +1,4 @@
-use Rattle.std.proofs.Common.{◌≡◌, ◌+◌, ◌-◌, take, length-drop, List, ℕ, length, map, drop, slice_range, string_bytes, refl, sym, ap, ap₂, ◌∙◌, subst, arith, IsUtf8, IsCharBoundary}
+use Rattle.std.proofs.Common.{◌≡◌, ◌+◌, ◌-◌, take, length-drop, List, ℕ, length, map, drop, slice_range, string_bytes, refl, sym, ap, ap₂, ◌∙◌, subst, arith, rules, IsUtf8, IsCharBoundary}
 use Rattle.std.proofs.lemmas.Grind.{common_steps}
 use Rattle.std.proofs.lemmas.List.{length-map}
 use Rattle.std.specs.List.{All}
@@ -31,17 +31,36 @@ past_edit-self-requires-clause-movable g c =
     let r = c.in-Ok.ensures.renewed _ _ b.made_of (near_behind c.args.self.now.tokens.items c.args.self.now.checkpoints b.n_is b.old_body c.requires.kept.4 c.nearest-near.ensures) in
     subst (λ (x : Checkpoints). All (IsMovable c.in-Ok.at.back (end_of c.in-Ok.at)) x.bounds) (sym c.renew.ensures.checkpoints) (bounds_move (g.S.Stepper.law c.args.self.now.stepper) b c.new_head-new_head.ensures r.0 c.args.self.now.checkpoints b.n_is c.requires.kept.4).0
 
-pub returns-in-Ok-clause-kept : goal.returns-in-Ok-clause-kept
-returns-in-Ok-clause-kept g c =
+pub returns-in-Ok : goal.returns-in-Ok
+returns-in-Ok g c =
     let b = body_edit (head_by c.args.whole) (g.S.Stepper.law c.args.self.now.stepper) c.requires.kept.0 c.requires.insert c.requires.edit c.as_str-made.ensures.value c.put_in_place.ensures.text c.reserve.ensures.bytes c.requires.kept.2 c.requires.kept.3 c.find_head-now.ensures.head c.find_head-now.ensures.boundary c.keeps_head-kept.ensures c.count-old_count.ensures c.requires.kept.1 c.range_from-body.ensures.value c.body_change-change.ensures in
     let r = c.in-Ok.ensures.renewed _ _ b.made_of (near_behind c.args.self.now.tokens.items c.args.self.now.checkpoints b.n_is b.old_body c.requires.kept.4 c.nearest-near.ensures) in
-    let is : IsText c.as_str-made.result.now = subst IsText (sym b.made_is) (edited _ _ _ _ c.requires.kept.0 c.requires.insert c.requires.edit).text_is in (
-      subst IsText c.as_str-made.ensures.value is,
-      new_are (g.S.Stepper.law c.args.self.now.stepper) b c.new_head-new_head.ensures r.0 ∙ ap₂ (document_by (head_by c.args.whole)) (sym c.renew.ensures.grammar) c.as_str-made.ensures.value,
-      c.find_head-now.ensures.head ∙ ap (head_by c.args.whole) c.as_str-made.ensures.value,
-      subst (λ (xs : List ℕ). IsCharBoundary xs c.find_head-now.result.end) c.as_str-made.ensures.value c.find_head-now.ensures.boundary,
-      subst (λ (ts : List Token). AreBounds ts c.past_edit-self.result) (sym (new_behind (g.S.Stepper.law c.args.self.now.stepper) b c.new_head-new_head.ensures r.0)) (c.past_edit-self.ensures _ _ (bounds_move (g.S.Stepper.law c.args.self.now.stepper) b c.new_head-new_head.ensures r.0 c.args.self.now.checkpoints b.n_is c.requires.kept.4).1 (subst (λ (x : Checkpoints). AreBounds (drop c.count-old_count.result c.args.self.now.tokens.items) x) (sym c.renew.ensures.checkpoints) (subst (λ k. AreBounds (drop k c.args.self.now.tokens.items) c.args.self.now.checkpoints) (sym b.n_is) c.requires.kept.4))),
-    )
+    let size : length c.as_slice-count.result.now - c.count-old_count.result ≡ length c.args.self.now.tokens.items - c.count-old_count.result = ap (λ (ts : List Token). length ts - c.count-old_count.result) c.as_slice-count.ensures.value in
+    let is : IsText c.as_str-made.result.now = subst IsText (sym b.made_is) (edited _ _ _ _ c.requires.kept.0 c.requires.insert c.requires.edit).text_is in
+    let l = r.0.renewed.lexed_is in
+    let many : length (map (λ (t : Token). t.len) (drop c.count-old_count.result c.args.self.now.tokens.items)) ≡ length c.as_slice-count.result.now - c.count-old_count.result = omega (arith, length-map (drop c.count-old_count.result c.args.self.now.tokens.items) (λ (t : Token). t.len), length-drop c.count-old_count.result c.args.self.now.tokens.items, size) in
+    let exact = c.counts.ensures.exact _ _ _ _ _ _ (g.S.Stepper.law c.args.self.now.stepper) b.made_of many (record { stands = l.stands }) l.met in
+    record {
+      grammar = search rules;
+      number = search rules;
+      text = search rules;
+      same_text = search rules;
+      kept = (
+        subst IsText c.as_str-made.ensures.value is,
+        new_are (g.S.Stepper.law c.args.self.now.stepper) b c.new_head-new_head.ensures r.0 ∙ ap₂ (document_by (head_by c.args.whole)) (sym c.renew.ensures.grammar) c.as_str-made.ensures.value,
+        c.find_head-now.ensures.head ∙ ap (head_by c.args.whole) c.as_str-made.ensures.value,
+        subst (λ (xs : List ℕ). IsCharBoundary xs c.find_head-now.result.end) c.as_str-made.ensures.value c.find_head-now.ensures.boundary,
+        subst (λ (ts : List Token). AreBounds ts c.past_edit-self.result) (sym (new_behind (g.S.Stepper.law c.args.self.now.stepper) b c.new_head-new_head.ensures r.0)) (c.past_edit-self.ensures _ _ (bounds_move (g.S.Stepper.law c.args.self.now.stepper) b c.new_head-new_head.ensures r.0 c.args.self.now.checkpoints b.n_is c.requires.kept.4).1 (subst (λ (x : Checkpoints). AreBounds (drop c.count-old_count.result c.args.self.now.tokens.items) x) (sym c.renew.ensures.checkpoints) (subst (λ k. AreBounds (drop k c.args.self.now.tokens.items) c.args.self.now.checkpoints) (sym b.n_is) c.requires.kept.4))),
+      );
+      same_tokens = search rules;
+      relexed = subst (λ (x : Relexed). IsRelexedByHead (head_by c.args.whole) (g.S.Stepper.grammar c.args.self.now.stepper) (string_bytes c.args.text.now) c.args.edit.start c.args.edit.stop c.args.edit.insert.now x) (sym c.counted.ensures) (counted_relexed (g.S.Stepper.law c.args.self.now.stepper) b c.new_head-new_head.ensures r.0 _ c.count.ensures size c.counts.ensures.counts exact.0);
+      all = subst (λ (x : Relexed). x.kept_front + x.lexed + x.kept_back ≡ length c.renew.new.self.tokens.items) (sym c.counted.ensures) (counted_all (g.S.Stepper.law c.args.self.now.stepper) b c.new_head-new_head.ensures r.0 _ c.count.ensures size c.counts.ensures.counts);
+      front = subst (λ (x : Relexed). take x.kept_front c.renew.new.self.tokens.items ≡ take x.kept_front c.args.self.now.tokens.items) (sym c.counted.ensures) (counted_front (g.S.Stepper.law c.args.self.now.stepper) b c.new_head-new_head.ensures r.0 _ c.count.ensures size c.counts.ensures.counts);
+      back = subst (λ (x : Relexed). drop (x.kept_front + x.lexed) c.renew.new.self.tokens.items ≡ drop (length c.args.self.now.tokens.items - x.kept_back) c.args.self.now.tokens.items) (sym c.counted.ensures) (counted_back (g.S.Stepper.law c.args.self.now.stepper) b c.new_head-new_head.ensures r.0 _ c.count.ensures size c.counts.ensures.counts);
+      count = subst (λ (x : Relexed). IsCountedByHead (head_by c.args.whole) (string_bytes c.args.text.now) c.args.edit.start c.args.edit.stop c.args.edit.insert.now (g.S.Stepper.count c.args.self.now.stepper) (g.S.Stepper.count c.renew.new.self.stepper) x.lexed) (sym c.counted.ensures) (counted_steps (g.S.Stepper.law c.args.self.now.stepper) b c.new_head-new_head.ensures r.0 _ c.count.ensures size c.counts.ensures.counts _ _ r.1);
+      rose = search rules;
+      few = search rules;
+    }
 
 pub put_in_place-requires-in-Err-clause-inside : goal.put_in_place-requires-in-Err-clause-inside
 put_in_place-requires-in-Err-clause-inside g c =
@@ -65,50 +84,12 @@ returns-clause-kept g c =
       rw (head, c.in-Err.ensures.same, c.renew.ensures.checkpoints) k.4,
     )
 
-pub returns-in-Ok-clause-all : goal.returns-in-Ok-clause-all
-returns-in-Ok-clause-all g c =
-    let b = body_edit (head_by c.args.whole) (g.S.Stepper.law c.args.self.now.stepper) c.requires.kept.0 c.requires.insert c.requires.edit c.as_str-made.ensures.value c.put_in_place.ensures.text c.reserve.ensures.bytes c.requires.kept.2 c.requires.kept.3 c.find_head-now.ensures.head c.find_head-now.ensures.boundary c.keeps_head-kept.ensures c.count-old_count.ensures c.requires.kept.1 c.range_from-body.ensures.value c.body_change-change.ensures in
-    let r = c.in-Ok.ensures.renewed _ _ b.made_of (near_behind c.args.self.now.tokens.items c.args.self.now.checkpoints b.n_is b.old_body c.requires.kept.4 c.nearest-near.ensures) in
-    let size : length c.as_slice-count.result.now - c.count-old_count.result ≡ length c.args.self.now.tokens.items - c.count-old_count.result = ap (λ (ts : List Token). length ts - c.count-old_count.result) c.as_slice-count.ensures.value in
-    subst (λ (x : Relexed). x.kept_front + x.lexed + x.kept_back ≡ length c.renew.new.self.tokens.items) (sym c.counted.ensures) (counted_all (g.S.Stepper.law c.args.self.now.stepper) b c.new_head-new_head.ensures r.0 _ c.count.ensures size c.counts.ensures.counts)
-
-pub returns-in-Ok-clause-front : goal.returns-in-Ok-clause-front
-returns-in-Ok-clause-front g c =
-    let b = body_edit (head_by c.args.whole) (g.S.Stepper.law c.args.self.now.stepper) c.requires.kept.0 c.requires.insert c.requires.edit c.as_str-made.ensures.value c.put_in_place.ensures.text c.reserve.ensures.bytes c.requires.kept.2 c.requires.kept.3 c.find_head-now.ensures.head c.find_head-now.ensures.boundary c.keeps_head-kept.ensures c.count-old_count.ensures c.requires.kept.1 c.range_from-body.ensures.value c.body_change-change.ensures in
-    let r = c.in-Ok.ensures.renewed _ _ b.made_of (near_behind c.args.self.now.tokens.items c.args.self.now.checkpoints b.n_is b.old_body c.requires.kept.4 c.nearest-near.ensures) in
-    let size : length c.as_slice-count.result.now - c.count-old_count.result ≡ length c.args.self.now.tokens.items - c.count-old_count.result = ap (λ (ts : List Token). length ts - c.count-old_count.result) c.as_slice-count.ensures.value in
-    subst (λ (x : Relexed). take x.kept_front c.renew.new.self.tokens.items ≡ take x.kept_front c.args.self.now.tokens.items) (sym c.counted.ensures) (counted_front (g.S.Stepper.law c.args.self.now.stepper) b c.new_head-new_head.ensures r.0 _ c.count.ensures size c.counts.ensures.counts)
-
-pub returns-in-Ok-clause-back : goal.returns-in-Ok-clause-back
-returns-in-Ok-clause-back g c =
-    let b = body_edit (head_by c.args.whole) (g.S.Stepper.law c.args.self.now.stepper) c.requires.kept.0 c.requires.insert c.requires.edit c.as_str-made.ensures.value c.put_in_place.ensures.text c.reserve.ensures.bytes c.requires.kept.2 c.requires.kept.3 c.find_head-now.ensures.head c.find_head-now.ensures.boundary c.keeps_head-kept.ensures c.count-old_count.ensures c.requires.kept.1 c.range_from-body.ensures.value c.body_change-change.ensures in
-    let r = c.in-Ok.ensures.renewed _ _ b.made_of (near_behind c.args.self.now.tokens.items c.args.self.now.checkpoints b.n_is b.old_body c.requires.kept.4 c.nearest-near.ensures) in
-    let size : length c.as_slice-count.result.now - c.count-old_count.result ≡ length c.args.self.now.tokens.items - c.count-old_count.result = ap (λ (ts : List Token). length ts - c.count-old_count.result) c.as_slice-count.ensures.value in
-    subst (λ (x : Relexed). drop (x.kept_front + x.lexed) c.renew.new.self.tokens.items ≡ drop (length c.args.self.now.tokens.items - x.kept_back) c.args.self.now.tokens.items) (sym c.counted.ensures) (counted_back (g.S.Stepper.law c.args.self.now.stepper) b c.new_head-new_head.ensures r.0 _ c.count.ensures size c.counts.ensures.counts)
-
-pub returns-in-Ok-clause-count : goal.returns-in-Ok-clause-count
-returns-in-Ok-clause-count g c =
-    let b = body_edit (head_by c.args.whole) (g.S.Stepper.law c.args.self.now.stepper) c.requires.kept.0 c.requires.insert c.requires.edit c.as_str-made.ensures.value c.put_in_place.ensures.text c.reserve.ensures.bytes c.requires.kept.2 c.requires.kept.3 c.find_head-now.ensures.head c.find_head-now.ensures.boundary c.keeps_head-kept.ensures c.count-old_count.ensures c.requires.kept.1 c.range_from-body.ensures.value c.body_change-change.ensures in
-    let r = c.in-Ok.ensures.renewed _ _ b.made_of (near_behind c.args.self.now.tokens.items c.args.self.now.checkpoints b.n_is b.old_body c.requires.kept.4 c.nearest-near.ensures) in
-    let size : length c.as_slice-count.result.now - c.count-old_count.result ≡ length c.args.self.now.tokens.items - c.count-old_count.result = ap (λ (ts : List Token). length ts - c.count-old_count.result) c.as_slice-count.ensures.value in
-    subst (λ (x : Relexed). IsCountedByHead (head_by c.args.whole) (string_bytes c.args.text.now) c.args.edit.start c.args.edit.stop c.args.edit.insert.now (g.S.Stepper.count c.args.self.now.stepper) (g.S.Stepper.count c.renew.new.self.stepper) x.lexed) (sym c.counted.ensures) (counted_steps (g.S.Stepper.law c.args.self.now.stepper) b c.new_head-new_head.ensures r.0 _ c.count.ensures size c.counts.ensures.counts _ _ r.1)
-
 pub counted-requires-clause-front : goal.counted-requires-clause-front
 counted-requires-clause-front g c =
     let b = body_edit (head_by c.args.whole) (g.S.Stepper.law c.args.self.now.stepper) c.requires.kept.0 c.requires.insert c.requires.edit c.as_str-made.ensures.value c.put_in_place.ensures.text c.reserve.ensures.bytes c.requires.kept.2 c.requires.kept.3 c.find_head-now.ensures.head c.find_head-now.ensures.boundary c.keeps_head-kept.ensures c.count-old_count.ensures c.requires.kept.1 c.range_from-body.ensures.value c.body_change-change.ensures in
     let r = c.in-Ok.ensures.renewed _ _ b.made_of (near_behind c.args.self.now.tokens.items c.args.self.now.checkpoints b.n_is b.old_body c.requires.kept.4 c.nearest-near.ensures) in
     let size : length c.as_slice-count.result.now - c.count-old_count.result ≡ length c.args.self.now.tokens.items - c.count-old_count.result = ap (λ (ts : List Token). length ts - c.count-old_count.result) c.as_slice-count.ensures.value in
     counted_few (g.S.Stepper.law c.args.self.now.stepper) b c.new_head-new_head.ensures r.0 _ c.count.ensures size c.counts.ensures.counts c.requires.kept.0
-
-pub returns-in-Ok-clause-relexed : goal.returns-in-Ok-clause-relexed
-returns-in-Ok-clause-relexed g c =
-    let b = body_edit (head_by c.args.whole) (g.S.Stepper.law c.args.self.now.stepper) c.requires.kept.0 c.requires.insert c.requires.edit c.as_str-made.ensures.value c.put_in_place.ensures.text c.reserve.ensures.bytes c.requires.kept.2 c.requires.kept.3 c.find_head-now.ensures.head c.find_head-now.ensures.boundary c.keeps_head-kept.ensures c.count-old_count.ensures c.requires.kept.1 c.range_from-body.ensures.value c.body_change-change.ensures in
-    let r = c.in-Ok.ensures.renewed _ _ b.made_of (near_behind c.args.self.now.tokens.items c.args.self.now.checkpoints b.n_is b.old_body c.requires.kept.4 c.nearest-near.ensures) in
-    let size : length c.as_slice-count.result.now - c.count-old_count.result ≡ length c.args.self.now.tokens.items - c.count-old_count.result = ap (λ (ts : List Token). length ts - c.count-old_count.result) c.as_slice-count.ensures.value in
-    let l = r.0.renewed.lexed_is in
-    let many : length (map (λ (t : Token). t.len) (drop c.count-old_count.result c.args.self.now.tokens.items)) ≡ length c.as_slice-count.result.now - c.count-old_count.result = omega (arith, length-map (drop c.count-old_count.result c.args.self.now.tokens.items) (λ (t : Token). t.len), length-drop c.count-old_count.result c.args.self.now.tokens.items, size) in
-    let exact = c.counts.ensures.exact _ _ _ _ _ _ (g.S.Stepper.law c.args.self.now.stepper) b.made_of many (record { stands = l.stands }) l.met in
-    subst (λ (x : Relexed). IsRelexedByHead (head_by c.args.whole) (g.S.Stepper.grammar c.args.self.now.stepper) (string_bytes c.args.text.now) c.args.edit.start c.args.edit.stop c.args.edit.insert.now x) (sym c.counted.ensures) (counted_relexed (g.S.Stepper.law c.args.self.now.stepper) b c.new_head-new_head.ensures r.0 _ c.count.ensures size c.counts.ensures.counts exact.0)
 
 pub returns-clause-few : goal.returns-clause-few
 returns-clause-few g c r most is steps =
