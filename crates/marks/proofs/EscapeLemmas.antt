@@ -10,10 +10,6 @@ use Rattle.memchr.specs.Find.{IsFirstByte}
 use Rattle.marks.specs.Escape.{entity, escaped, escaped_byte, is_special, unescaped_past, untagged_from}
 use Rattle.marks.proofs.CallLemmas.{one_call, writes_both}
 
--- a byte as the three tests choose it
-abbrev by_tests : Bool → Bool → Bool → ℕ → List ℕ
-by_tests x y z b = if x || y || z then (if x then codes "&amp;" else (if y then codes "&lt;" else codes "&gt;")) else b ∷ []
-
 unescaped_byte : (b : ℕ) (rest : List ℕ) → unescaped_past 0 (escaped_byte b ++ rest) ≡ b ∷ unescaped_past 0 rest
 unescaped_byte b rest = grind (arith, common_steps, eqb-true)
 
