@@ -52,3 +52,5 @@ report-reads_back by_file report old ts none written back =
     ap (option_and_then (λ p. if_last p.0 p.1))
     (ap (value max_depth) (ap (λ (us : List Token). tokens (print us)) (sym same) ∙ (back ∙ (same ∙ sym (append-nil (json_tokens j)))))
     ∙ value-json_tokens j max_depth [] (report-depth by_file report))
+
+pub ruleset json_lemmas = (token-first, report-tokens, report-reads_back)

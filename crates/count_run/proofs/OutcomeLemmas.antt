@@ -58,3 +58,5 @@ counted-step paths faults path all left old new read came so first other count i
   files = files ∙ (ap (λ xs. xs ++ counted (source path came)) so.files ∙ sym (counted-append so.sources (source path came)));
   total = total-source old new path came is so.total files more same;
 }
+
+pub ruleset outcome_lemmas = (counted-none)

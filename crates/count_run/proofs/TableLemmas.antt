@@ -33,9 +33,6 @@ whole-at_right width n none = ap (λ (m : ℕ). replicate {A = ℕ} m 32 ++ deci
 pub text-at_right : (width n : ℕ) → styled_decimal (format_spec 32 3 0 width (2 ^ 64 - 1)) n ≡ at_right width n
 text-at_right width n = grind (arith, common_steps, bare, whole-at_right, padded-at_right)
 
-pub pushed : {E : Type 0} (r : Result (Unit {0}) E) (new old text other : List ℕ) → new ≡ (if is_ok r then old ++ text else old) → text ≡ other → OnOk r (new ≡ old ++ other)
-pushed r new old text other is same = grind (arith, common_steps)
-
 regroup : (a b c d e : List ℕ) → (((a ++ b) ++ c) ++ d) ++ e ≡ a ++ (b ++ (c ++ (d ++ e)))
 regroup a b c d e = simp append_assoc
 
@@ -44,3 +41,5 @@ pub row-pushed : {E : Type 0} (r : Result (Unit {0}) E) (first second third four
     → last ≡ (if is_ok r then fourth ++ codes "\n" else fourth) → OnOk r (last ≡ first ++ row name counts)
 unfolding row
 row-pushed r first second third fourth last name cols counts is a b c d = grind (arith, common_steps, regroup)
+
+pub ruleset table_lemmas = (text-at_right, row-pushed)

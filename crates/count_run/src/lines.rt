@@ -48,6 +48,7 @@ struct Line {
 ///
 /// A token is on each line that has a byte of it. So a blank line in a string is code, and one in a comment is a comment.
 /// A shebang line and a frontmatter are code. If there is text after the last newline, it is a line too.
+#[tactic(auto, using(crate::proofs::LineLemmas::document_begins, rustc_lexer::proofs::PlaceLemmas::document_place, rustc_lexer::proofs::PlaceLemmas::document_start, std::proofs::lemmas::Grind::common_steps))]
 pub fn count_lines(text: &str) -> LineCounts
     requires fits { Fits text.now }
     ensures counts { result ≡ spec.line_counts text.now }

@@ -102,6 +102,7 @@ fn push_files(alloc: Global, files: &[FileCounts], table: &mut String) -> Result
 }
 
 /// Appends a line of a table.
+#[tactic(auto, using(crate::proofs::TableLemmas::table_lemmas, std::proofs::lemmas::Grind::common_steps))]
 fn push_row(
     alloc: Global,
     name: &str,
@@ -149,6 +150,7 @@ fn push_columns(
 }
 
 /// Appends a number, aligned to the right of a column.
+#[tactic(auto, using(crate::proofs::TableLemmas::table_lemmas, std::proofs::lemmas::Grind::common_steps))]
 fn push_right(
     alloc: Global,
     width: usize,
@@ -163,6 +165,7 @@ fn push_right(
 }
 
 /// Returns the JSON: an object with the sums, and with the files, if `by_file` asks for that.
+#[tactic(auto, using(crate::proofs::JsonLemmas::json_lemmas, std::proofs::lemmas::Grind::common_steps))]
 fn write_json(alloc: Global, by_file: bool, report: &Report) -> Result<Vec<u8>, AllocError>
     ensures text { IfOk result (λ text. text.items
         ≡ print (json_tokens (report_object by_file report.now)) ++ codes "\n") }
@@ -178,6 +181,7 @@ fn write_json(alloc: Global, by_file: bool, report: &Report) -> Result<Vec<u8>, 
 }
 
 /// Writes the object of a report.
+#[tactic(auto, using(crate::proofs::JsonLemmas::json_lemmas, std::proofs::lemmas::Result::on_ok_weaker, std::proofs::lemmas::Grind::common_steps))]
 fn write_object(
     by_file: bool,
     report: &Report,
@@ -226,6 +230,7 @@ fn write_files(files: &[FileCounts], writer: &mut Writer<Global>) -> Result<(), 
 }
 
 /// Writes the object of a file.
+#[tactic(auto, using(crate::proofs::JsonLemmas::json_lemmas, std::proofs::lemmas::Result::on_ok_weaker, std::proofs::lemmas::Grind::common_steps), unfolding(crate::specs::Json::file_object))]
 fn write_file(file: &FileCounts, writer: &mut Writer<Global>) -> Result<(), AllocError>
     ensures before { writer.new.before ≡ writer.old.before }
     ensures tokens { OnOk result

@@ -79,6 +79,7 @@ pub fn count_paths<R: Files + AllocGlobal + Clone + Drop>(
 }
 
 /// Counts the lines of the files that were found, in order. Each is counted or skipped.
+#[tactic(auto, using(crate::proofs::OutcomeLemmas::outcome_lemmas, std::proofs::lemmas::Grind::common_steps))]
 fn count_found<R: Files + AllocGlobal>(rt: &R, found: Found) -> Result<Outcome, AllocError>
     ensures sources { IfOk result (λ outcome. (sources : Sources TheCounts)
         × CameFrom IsCounted found.files.items found.faults.items sources outcome.faults.items

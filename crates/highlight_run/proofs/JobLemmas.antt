@@ -36,3 +36,5 @@ options-first o (word ∷ []) found some is =
 options-first o (word ∷ next ∷ words) found some is =
     by_name _ _ _ _ _ _ _ _ _ (after (page o) (string_bytes next ∷ map string_bytes words)) (after (option_and_then (in_edition o) (edition_of (string_bytes next))) (map string_bytes words))
     (after (option_and_then (with_colours o) (when_of (string_bytes next))) (map string_bytes words)) ∙ ap others (sym is)
+
+pub ruleset job_lemmas = (options-first)

@@ -67,6 +67,7 @@ fn is_help(words: &[String]) -> bool
 
 /// Adds the options of the arguments to `options`, in any order, each at most once. So it calls itself at most
 /// three times.
+#[tactic(auto, using(crate::proofs::JobLemmas::job_lemmas, std::proofs::lemmas::Grind::common_steps))]
 fn read_options(options: Options, words: &[String]) -> Option<Options>
     ensures { result ≡ options_of options (map string_bytes words.now) }
 {

@@ -7,6 +7,7 @@ use Rattle.std.specs.Option.{option_map, option_zip}
 use Rattle.std.specs.Result.{result_ok}
 use Rattle.std.specs.Str.{all_ascii_digits}
 use Rattle.std.specs.Str.Parse.{ParsesUnsigned}
+use Rattle.std.proofs.lemmas.List.{length-map}
 use Rattle.std.proofs.lemmas.Bool.Decides.{nat_tests}
 use Rattle.std.proofs.lemmas.Str.Parse.{IsNumeralModel, numerals_by_fold, tells_all_ascii_digits, parse_plain}
 use Rattle.rustc_lexer.specs.declared.edition.Edition.{Edition}
@@ -71,3 +72,5 @@ asks_edits edition (start ∷ words) n are e is so = by_edits (replacements_of (
     by_edits : (r : Option (List Replacement)) → is_some r ≡ true → AsksEdits (option_map (edit edition) r)
     by_edits None f = absurd (true≢false (sym f))
     by_edits (Some es) f = tt
+
+pub ruleset job_lemmas = (length-after, length-map, place-parse)

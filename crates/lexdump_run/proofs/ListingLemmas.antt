@@ -1,9 +1,8 @@
 -- The loops that list tokens.
-use Rattle.std.proofs.Common.{◌≡◌, ℕ, zero, suc, ◌+◌, ◌-◌, ◌<◌, ◌≤◌, ◌^◌, List, [], ◌∷◌, ◌++◌, length, take, drop, get_or, refl, ap, sym, ◌∙◌, arith, append_assoc, length-drop, length-take-le, subst, Option}
+use Rattle.std.proofs.Common.{◌≡◌, ℕ, zero, suc, ◌+◌, ◌-◌, ◌<◌, ◌≤◌, ◌^◌, List, [], ◌∷◌, ◌++◌, length, take, drop, refl, ap, sym, ◌∙◌, arith, append_assoc, length-drop, length-take-le, subst}
 use Rattle.std.proofs.lemmas.Grind.{common_steps}
 use Rattle.std.proofs.lemmas.List.{nil_from_length}
 use Rattle.std.specs.Str.{IsUtf8}
-use Rattle.ends.specs.Known.{Went}
 use Rattle.rustc_lexer.specs.declared.token.Token.{Token}
 use Rattle.rustc_lexer.specs.Edits.{Placed, pieces_from}
 use Rattle.rustc_lexer.specs.LanguageText.{Mode}
@@ -12,9 +11,7 @@ use Rattle.rustc_lexer.specs.Tokens.{bound, tokens_left, tokens_of}
 use Rattle.rustc_lexer.specs.means.Tokens.{IsFilled}
 use Rattle.rustc_lexer.specs.laws.Tokens.{bounds, tokens-nil}
 use Rattle.rustc_lexer.proofs.BlockLemmas.{filled_front, IsFront}
-use Rattle.rustc_lexer.proofs.BoundLemmas.{bound_mono}
 use Rattle.rustc_lexer.proofs.EditLemmas.{bound-take}
-use Rattle.rustc_lexer.proofs.FrontLemmas.{bound-next}
 use Rattle.lexdump_run.specs.Listing.{line_text, listing_from}
 
 -- the lines of some tokens, and then those of the others
@@ -25,14 +22,6 @@ listing-split start (t ∷ ts) (suc count) =
     let e : start + t.len + bound ts count ≡ start + (t.len + bound ts count) = omega arith in
     ap (λ xs. line_text start t ++ xs) (listing-split (start + t.len) ts count ∙ ap (λ n. listing_from (start + t.len) (take count ts) ++ listing_from n (drop count ts)) e)
     ∙ sym (append_assoc (line_text start t) (listing_from (start + t.len) (take count ts)) (listing_from (start + (t.len + bound ts count)) (drop count ts)))
-
--- the place past token i, where the first of the tokens begins at `start`
-pub line_end : (tokens : List Token) (i start place : ℕ) (d : Token) → i < length tokens → place ≡ start + bound tokens i → place + (get_or tokens i d).len ≡ start + bound tokens (i + 1)
-line_end tokens i start place d few at = omega (arith, at, bound-next tokens i d few)
-
-pub line_fits : (tokens : List Token) (i start place : ℕ) (d : Token) (old new : Option (List ℕ)) (held left : List ℕ) → i < length tokens → place ≡ start + bound tokens i → start + bound tokens (length tokens) < 2 ^ 32
-    → Went old new (held ++ line_text place (get_or tokens i d)) left → place + (get_or tokens i d).len < 2 ^ 32
-line_fits tokens i start place d old new held left few at fits went = omega (arith, line_end tokens i start place d few at, bound_mono tokens (i + 1) (length tokens) (omega arith), fits)
 
 -- a buffer is filled with the first `count` of the tokens of the rest of a text
 module _ (text cut rest : List ℕ) (mode : Mode) (buffer filled : List Token) (count : ℕ) (cut_is : cut ≡ rest) (utf8 : IsUtf8 cut) (within : length rest ≤ length text) (fits : length text < 2 ^ 32) (fills : IsFilled (λ (t : Token). t) (tokens_of mode rest) buffer filled count) where
@@ -71,3 +60,5 @@ lines (p ∷ ps) = line_text p.start p.token ++ lines ps
 pub lines-from : (text : List ℕ) (start : ℕ) (tokens : List Token) → lines (pieces_from text start tokens) ≡ listing_from start tokens
 lines-from text start [] = refl
 lines-from text start (t ∷ ts) = ap (λ xs. line_text start t ++ xs) (lines-from text (start + t.len) ts)
+
+pub ruleset listing_lemmas = (lines-from)

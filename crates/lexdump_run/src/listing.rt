@@ -35,6 +35,7 @@ fn new_buffer() -> [Token; BUFFER_LEN] {
 }
 
 /// Writes the lines of the tokens, the first of which begins at byte `start`, and flushes.
+#[tactic(auto, using(crate::proofs::OutcomeLemmas::front_written, std::proofs::lemmas::Grind::common_steps))]
 pub fn write_listing<W: Write>(
     output: &mut Watched<W>,
     start: u32,
@@ -80,6 +81,7 @@ pub fn list_tokens<W: Write>(
 }
 
 /// Adds the lines of the tokens, the first of which begins at byte `start`.
+#[tactic(auto, using(crate::proofs::PushLemmas::went_none, crate::proofs::PushLemmas::went_all, std::proofs::lemmas::Grind::common_steps))]
 fn push_lines<W: Write>(
     lines: &mut Block,
     output: &mut Watched<W>,
@@ -101,7 +103,7 @@ fn push_lines<W: Write>(
 }
 
 /// Prints the length of the shebang line of a text.
-#[tactic(auto, using(crate::proofs::PushLemmas::pushes_both, crate::proofs::PushLemmas::pushes_first))]
+#[tactic(auto, using(crate::proofs::PushLemmas::pushes_both, crate::proofs::PushLemmas::pushes_first, std::proofs::lemmas::Grind::common_steps))]
 pub fn tell_shebang<W: Write>(
     lines: &mut Block,
     output: &mut Watched<W>,
@@ -140,6 +142,7 @@ pub fn edited(
 }
 
 /// Lists the tokens of a lexed text.
+#[tactic(auto, using(crate::proofs::PushLemmas::went_none, crate::proofs::PushLemmas::went_first, crate::proofs::PushLemmas::went_all, crate::proofs::ListingLemmas::listing_lemmas, std::proofs::lemmas::Grind::common_steps))]
 pub fn list_pieces<W: Write, S: Stepper>(
     lines: &mut Block,
     output: &mut Watched<W>,
@@ -157,6 +160,7 @@ pub fn list_pieces<W: Write, S: Stepper>(
 }
 
 /// Adds the line of a token that begins at byte `start`.
+#[tactic(auto, using(crate::proofs::PushLemmas::pushes_both, crate::proofs::PushLemmas::pushes_first, std::proofs::Common::append_assoc, std::proofs::lemmas::Grind::common_steps), unfolding(crate::specs::Listing::line_text))]
 fn push_line<W: Write>(
     lines: &mut Block,
     output: &mut Watched<W>,
@@ -195,6 +199,7 @@ fn has_fields(kind: TokenKind) -> bool
 const PLACE: usize = 22;
 
 /// Adds the start and the length of a token, each with a space after it.
+#[tactic(auto, using(crate::proofs::PlaceLemmas::short, std::proofs::lemmas::Grind::common_steps))]
 fn push_place<W: Write>(
     lines: &mut Block,
     output: &mut Watched<W>,
@@ -252,7 +257,7 @@ fn push_fields<W: Write>(
 }
 
 /// Adds a field.
-#[tactic(auto, using(crate::proofs::PushLemmas::pushes_both, crate::proofs::PushLemmas::pushes_first))]
+#[tactic(auto, using(crate::proofs::PushLemmas::pushes_both, crate::proofs::PushLemmas::pushes_first, std::proofs::lemmas::Grind::common_steps))]
 fn push_field<W: Write>(
     lines: &mut Block,
     output: &mut Watched<W>,

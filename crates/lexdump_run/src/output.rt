@@ -88,6 +88,7 @@ impl Block {
 
     /// Writes the block, then adds the bytes. If they are more than a block they are written at once.
     #[inline(never)]
+    #[tactic(auto, using(ends::proofs::KnownLemmas::front_first, crate::proofs::PushLemmas::pushes_past, std::proofs::lemmas::Grind::common_steps))]
     fn push_past<W: Write>(&mut self, output: &mut Watched<W>, bytes: &[u8]) -> Result<(), Fault>
         requires writes { output.old.failed ≡ false }
         ensures failed { output.new.failed ≡ is_err result }

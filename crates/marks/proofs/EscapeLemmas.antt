@@ -1,6 +1,5 @@
 -- A text with entities: that they are undone, that it holds no tag, and how it is written.
-use Rattle.std.proofs.Common.{◌≡◌, ℕ, zero, suc, ◌+◌, ◌<◌, ◌≤◌, ◌||◌, if◌then◌else◌, Bool, true, false, List, [], ◌∷◌, ◌++◌, length, take, drop, get_or, refl, sym, ap, subst, ◌∙◌, arith, inl, inr, append_assoc, Some, None}
-use Rattle.std.specs.Prelude.{codes}
+use Rattle.std.proofs.Common.{◌≡◌, ℕ, zero, suc, ◌+◌, ◌<◌, ◌≤◌, true, false, List, [], ◌∷◌, ◌++◌, length, take, drop, get_or, refl, sym, ap, subst, ◌∙◌, arith, inl, inr, append_assoc, Some, None}
 use Rattle.std.specs.Str.{IsUtf8}
 use Rattle.std.proofs.lemmas.Str.{lead_after_ascii}
 use Rattle.std.specs.Fmt.{WritesInCalls}
@@ -9,10 +8,6 @@ use Rattle.std.proofs.lemmas.Grind.{common_steps}
 use Rattle.memchr.specs.Find.{IsFirstByte}
 use Rattle.marks.specs.Escape.{entity, escaped, escaped_byte, is_special, unescaped_past, untagged_from}
 use Rattle.marks.proofs.CallLemmas.{one_call, writes_both}
-
--- a byte as the three tests choose it
-abbrev by_tests : Bool → Bool → Bool → ℕ → List ℕ
-by_tests x y z b = if x || y || z then (if x then codes "&amp;" else (if y then codes "&lt;" else codes "&gt;")) else b ∷ []
 
 unescaped_byte : (b : ℕ) (rest : List ℕ) → unescaped_past 0 (escaped_byte b ++ rest) ≡ b ∷ unescaped_past 0 rest
 unescaped_byte b rest = grind (arith, common_steps, eqb-true)

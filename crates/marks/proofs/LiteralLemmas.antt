@@ -1,7 +1,7 @@
 -- What a literal says between its marks, and the calls that write it.
 use Rattle.std.proofs.Common.{◌≡◌, ℕ, ◌+◌, ◌-◌, ◌<◌, ◌≤◌, if◌then◌else◌, Bool, List, [], ◌∷◌, ◌++◌, take, drop, sym, ap, subst, ◌∙◌, arith, take-append-drop, length-drop, append-nil, IsCharBoundary, Option, Some}
 use Rattle.std.specs.Fmt.{WritesInCalls}
-use Rattle.std.proofs.lemmas.Bool.{cases_lt, lt-ltb, le-ltb}
+use Rattle.std.proofs.lemmas.Bool.{cases_lt, lt-ltb}
 use Rattle.std.proofs.lemmas.List.{drop-drop, get_or-take, length-take-le}
 use Rattle.std.proofs.lemmas.List.Concat.{flat_map-append}
 use Rattle.std.proofs.lemmas.List.Elements.{All-head, All-tail}
@@ -72,11 +72,6 @@ module _ (mode : Mode) (begin at close : ℕ) where
 
   pub told_already : (items rest : List Item) (item : Item) → items ≡ item ∷ rest → begin + item.0.start < at → stretches_from mode begin at close items ≡ stretches_from mode begin at close rest
   told_already items rest item is less = ap (stretches_from mode begin at close) is ∙ ap (first_by item rest) (lt-ltb (begin + item.0.start) at less)
-
-  pub told_now : (items rest : List Item) (item : Item) → items ≡ item ∷ rest → at ≤ begin + item.0.start
-      → stretches_from mode begin at close items
-      ≡ skipped at (begin + item.0.start) ++ (stretch (begin + item.0.start) (begin + item.0.end) (look_of mode item.1) ++ stretches_from mode begin (begin + item.0.end) close rest)
-  told_now items rest item is high = ap (stretches_from mode begin at close) is ∙ ap (first_by item rest) (le-ltb (begin + item.0.start) at high)
 
 -- ---- the calls
 

@@ -3,7 +3,7 @@ use Rattle.std.proofs.Common.{◌≡◌, ℕ, ◌+◌, ◌-◌, ◌<◌, ◌==�
 use Rattle.std.specs.List.{position_or_len}
 use Rattle.std.proofs.lemmas.Bool.{eqb-true, false_from_ne_true, not_from_false, not_from_true}
 use Rattle.std.proofs.lemmas.List.Sums.{position_or_len_is, suffix_len_is}
-use Rattle.std.proofs.lemmas.Str.{IsCharBoundary-after_ascii}
+use Rattle.std.proofs.lemmas.Str.{IsCharBoundary-start, IsCharBoundary-after_ascii}
 use Rattle.std.proofs.lemmas.Grind.{common_steps}
 use Rattle.memchr.specs.Find.{IsFirstByte, IsLastByte, is_byte}
 use Rattle.marks.specs.Literal.{first_place, last_place}
@@ -42,3 +42,5 @@ module _ (b : ℕ) (bytes text : List ℕ) where
   -- the text may be cut past a byte of ASCII
   pub past_first : (n : ℕ) → bytes ≡ text → IsUtf8 text → b < 128 → IsFirstByte (is_byte b) bytes (Some n) → IsCharBoundary text (n + 1)
   past_first n same utf8 ascii found = grind (arith, common_steps, eqb-true, IsCharBoundary-after_ascii)
+
+pub ruleset place_lemmas = (IsCharBoundary-start)

@@ -127,7 +127,7 @@ fn first_place(byte: u8, text: &str) -> usize
 }
 
 /// Returns the place of the last byte of this value, or 0.
-#[tactic(auto, using(crate::proofs::PlaceLemmas::last_found, crate::proofs::PlaceLemmas::last_none))]
+#[tactic(auto, using(crate::proofs::PlaceLemmas::last_found, crate::proofs::PlaceLemmas::last_none, crate::proofs::PlaceLemmas::place_lemmas))]
 fn last_place(byte: u8, text: &str) -> usize
     requires ascii { byte < 128 }
     ensures value { result ≡ spec.last_place byte text.now }
@@ -140,6 +140,7 @@ fn last_place(byte: u8, text: &str) -> usize
 }
 
 /// Writes a literal between single quotes. The text between them goes from the place `begin` to `close`.
+#[tactic(auto, using(crate::proofs::PlaceLemmas::place_lemmas))]
 fn write_single<W: fmt::Write>(
     style: Style,
     mode: Mode,
@@ -248,6 +249,7 @@ fn write_skipped<W: fmt::Write>(
 
 /// Writes a stretch that is not plain, and before it the plain text that is not written yet. Returns the place up
 /// to which all is written.
+#[tactic(auto, using(crate::proofs::LiteralLemmas::writes_stretch, std::proofs::lemmas::Grind::common_steps))]
 fn write_stretch<W: fmt::Write>(
     style: Style,
     look: Option<Look>,

@@ -13,6 +13,7 @@ use std::fmt;
 
 /// Writes a part with a fault: its first line between the marks of the fault, and all of it between those of its
 /// class.
+#[tactic(auto, using(crate::proofs::PartLemmas::writes_fault, std::proofs::lemmas::Result::on_ok_weaker, std::proofs::lemmas::Grind::common_steps))]
 pub fn write_with_fault<W: fmt::Write>(
     style: Style,
     fault: Fault,
@@ -43,6 +44,7 @@ fn first_line(text: &str) -> usize
 }
 
 /// Writes a part of the text between the marks of its class. Writes nothing if the part is empty.
+#[tactic(auto, using(crate::proofs::CallLemmas::on_ok, crate::proofs::PartLemmas::writes_in_class, std::proofs::lemmas::Grind::common_steps))]
 pub fn write_in_class<W: fmt::Write>(
     style: Style,
     class: Class,

@@ -23,21 +23,6 @@ loop-token-preserved c =
           c.loop-token.invariant.left step.first step.rest piece c.class_of.ensures c.take_all-in-loop-token.ensures.bytes;
     }
 
-pub loop-token-init : goal.loop-token-init
-loop-token-init c =
-    let text : List ℕ = c.args.text.now in
-    let tokens = c.tokenize_document-tokens in
-    let state = c.into_iter-token-iterator.ensures.into_iter_gives ∙ tokens.ensures.state in
-    let rest : c.as_str.result.now ≡ c.into_iter-token-iterator.result.rest = c.as_str.ensures.rest ∙ ap (λ (s : State). s.rest) (sym c.into_iter-token-iterator.ensures.into_iter_gives) in
-    let left = ap (λ (s : State). s.rest) state in
-    let begins = document_start text c.as_str.result.now c.into_iter-token-iterator.result tokens.ensures.boundary rest left in
-    let line : c.range.result.now ≡ take (shebang_len text) text = c.range.ensures.value ∙ ap (λ (n : ℕ). take n text) (let e : length text - length c.as_str.result.now - 0 ≡ shebang_len text = omega (arith, begins) in e) in
-    record {
-      place = document_place text c.as_str.result.now c.into_iter-token-iterator.result tokens.ensures.boundary rest left;
-      few = let b = c.take_all.ensures.begun in let l = c.range.ensures.len in let z : begun c.new-counter.result ≡ 0 = ap begun c.new-counter.ensures in omega arith;
-      left = document_begins text c.range.result.now _ _ c.new-counter.result c.take_all.new.self c.new-counter.ensures line (ap (λ (s : State). s.rest) state) (ap tokens_left state) c.take_all.ensures.bytes;
-    }
-
 pub returns-clause-counts : goal.returns-clause-counts
 returns-clause-counts c = document_counts c.args.text.now c.loop-token.counter c.finish.result (grind (arith, common_steps, c.loop-token.invariant.left)) c.finish.ensures
 

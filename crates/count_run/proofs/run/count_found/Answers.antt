@@ -3,11 +3,6 @@ use Rattle.count_run.proofs.OutcomeLemmas.{counted-none, counted-step}
 use Rattle.count_run.proofs.run.count_found.Goals as goal
 use Rattle.std.specs.Vec.Iter.{into_iter_items}
 
-pub loop-path-init : goal.loop-path-init
-loop-path-init g c =
-    let all : into_iter_items c.into_iter-path-iterator.result ≡ c.args.found.files.items = c.into_iter-path-iterator.ensures.into_iter_gives.0 in
-    counted-none _ _ _ _ all c.new.ensures.files c.new.ensures.total refl
-
 pub loop-path-preserved : goal.loop-path-preserved
 loop-path-preserved g c =
     let took = c.in_ok-take.ensures in

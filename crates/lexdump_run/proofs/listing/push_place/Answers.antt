@@ -1,19 +1,8 @@
 use Rattle.std.proofs.Common.{◌≡◌, ◌≤◌, ◌+◌, ℕ, List, length, ◌∙◌, refl, arith, subst}
-use Rattle.std.proofs.lemmas.Grind.{common_steps}
 use Rattle.std.specs.Fmt.{decimal}
 use Rattle.lexdump_run.specs.Pushed.{Pushes}
 use Rattle.lexdump_run.proofs.PlaceLemmas.{short, place-written, same-place}
 use Rattle.lexdump_run.proofs.listing.push_place.Goals as goal
-
-pub write_digits-len_at-requires : goal.write_digits-len_at-requires
-write_digits-len_at-requires g c = let few : length (decimal c.from.result) ≤ 10 = short c.from.result (rw c.from.ensures c.ranges.len.fits) in (omega arith, omega arith)
-
-pub overflow_sub-len_at : goal.overflow_sub-len_at
-overflow_sub-len_at g c = omega (arith, short c.from.result (rw c.from.ensures c.ranges.len.fits), c.write_digits-len_at.ensures.start)
-
-pub write_digits-start_at-requires : goal.write_digits-start_at-requires
-write_digits-start_at-requires g c =
-    grind (arith, common_steps, short, c.from.ensures, c.from-2.ensures, c.write_digits-len_at.ensures.start)
 
 pub returns-clause-pushed : goal.returns-clause-pushed
 returns-clause-pushed g c =

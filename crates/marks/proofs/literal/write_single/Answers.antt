@@ -1,10 +1,6 @@
-use Rattle.std.proofs.lemmas.Str.{IsCharBoundary-start}
 use Rattle.std.proofs.lemmas.Result.{on_ok_weaker}
 use Rattle.marks.proofs.LiteralLemmas.{writes_single}
 use Rattle.marks.proofs.literal.write_single.Goals as goal
-
-pub write_stretch-requires-clause-shown : goal.write_stretch-requires-clause-shown
-write_stretch-requires-clause-shown g c = IsCharBoundary-start c.args.text.now c.utf8.text
 
 pub returns : goal.returns
 returns g c =

@@ -1,4 +1,4 @@
-use Rattle.std.proofs.Common.{◌≡◌, ℕ, ◌-◌, List, [], ◌∷◌, length, take, drop, length-drop, arith, ap, sym, subst, ◌∙◌, IsCharBoundary}
+use Rattle.std.proofs.Common.{◌≡◌, ℕ, ◌-◌, List, [], ◌∷◌, length, take, arith, ap, sym, subst, ◌∙◌}
 use Rattle.std.specs.Fmt.{WritesInCalls}
 use Rattle.rustc_lexer.specs.Document.{shebang_len}
 use Rattle.rustc_lexer.specs.State.{State}
