@@ -33,23 +33,23 @@ pub record IsBodyEdit (heads : List ℕ → Head) (first : List ℕ → Token) (
   pub made_is : made ≡ apply text start stop insert
   pub old_is : old ≡ heads text
   pub now_is : now ≡ heads made
-  pub told : IsTrue kept ↔ ((old ≡ now) × (old.end ≤ start))
+  pub told : IsTrue kept ↔ ((old ≡ now) × (old.body ≤ start))
   pub n_is : n ≡ length (tokens_of_head old)
-  pub body_is : body ≡ drop now.end made
-  pub change_is : change ≡ body_change kept old.end now.end (edit_change start stop insert)
-  pub old_body : drop n tokens ≡ tokens_by first (drop old.end text)
+  pub body_is : body ≡ drop now.body made
+  pub change_is : change ≡ body_change kept old.body now.body (edit_change start stop insert)
+  pub old_body : drop n tokens ≡ tokens_by first (drop old.body text)
   pub old_front : take n tokens ≡ tokens_of_head old
   pub inside : n ≤ length tokens
-  pub made_of : IsMadeOf first (drop old.end text) (map (λ (t : Token). t.len) (drop n tokens)) change (body_insert kept change insert body) body
+  pub made_of : IsMadeOf first (drop old.body text) (map (λ (t : Token). t.len) (drop n tokens)) change (body_insert kept change insert body) body
 
 pub body_edit : (heads : List ℕ → Head) {first : List ℕ → Token} (law : IsGrammar first) {text made insert put reserved : List ℕ} {start stop : ℕ} {old now : Head} {kept : Bool} {n : ℕ} {tokens : List Token} {body : List ℕ} {change : Change}
-    → IsText text → IsUtf8 insert → IsEdit text start stop insert → made ≡ put → put ≡ apply reserved start stop insert → reserved ≡ text → old ≡ heads text → IsCharBoundary text old.end → now ≡ heads made → IsCharBoundary made now.end
-    → IsTrue kept ↔ ((old ≡ now) × (old.end ≤ start)) → n ≡ length (tokens_of_head old) → tokens ≡ document_by heads first text → body ≡ drop now.end made → change ≡ body_change kept old.end now.end (edit_change start stop insert)
+    → IsText text → IsUtf8 insert → IsEdit text start stop insert → made ≡ put → put ≡ apply reserved start stop insert → reserved ≡ text → old ≡ heads text → IsCharBoundary text old.body → now ≡ heads made → IsCharBoundary made now.body
+    → IsTrue kept ↔ ((old ≡ now) × (old.body ≤ start)) → n ≡ length (tokens_of_head old) → tokens ≡ document_by heads first text → body ≡ drop now.body made → change ≡ body_change kept old.body now.body (edit_change start stop insert)
     → IsBodyEdit heads first text made insert start stop old now kept n tokens body change
 body_edit heads {first} law {text} {made} {insert} {put} {reserved} {start} {stop} {old} {now} {kept} {n} {tokens} {body} {change} is its edit as_str put_in reserve old_is old_at now_is now_at told n_is scratch body_is change_is =
     let e : made ≡ apply text start stop insert = as_str ∙ (put_in ∙ ap (λ (bytes : List ℕ). apply bytes start stop insert) reserve) in
-    let all : tokens ≡ tokens_of_head old ++ tokens_by first (drop old.end text) = scratch ∙ ap (λ (h : Head). tokens_of_head h ++ tokens_by first (drop h.end text)) (sym old_is) in
-    let behind : drop n tokens ≡ tokens_by first (drop old.end text) = ap₂ drop n_is all ∙ drop-append_seam (tokens_of_head old) (tokens_by first (drop old.end text)) in
+    let all : tokens ≡ tokens_of_head old ++ tokens_by first (drop old.body text) = scratch ∙ ap (λ (h : Head). tokens_of_head h ++ tokens_by first (drop h.body text)) (sym old_is) in
+    let behind : drop n tokens ≡ tokens_by first (drop old.body text) = ap₂ drop n_is all ∙ drop-append_seam (tokens_of_head old) (tokens_by first (drop old.body text)) in
     record {
       made_is = e;
       old_is = old_is;
@@ -59,9 +59,9 @@ body_edit heads {first} law {text} {made} {insert} {put} {reserved} {start} {sto
       body_is = body_is;
       change_is = change_is;
       old_body = behind;
-      old_front = ap₂ take n_is all ∙ take-append_seam (tokens_of_head old) (tokens_by first (drop old.end text));
-      inside = omega (arith, n_is, ap length all, length-append (tokens_of_head old) (tokens_by first (drop old.end text)));
-      made_of = rw change_is (made_body law text insert made start stop is its edit e old.end now.end old_at now_at (drop n tokens) behind body body_is kept (λ t. (ap (λ (h : Head). h.end) (told.0 t).0, (told.0 t).1)));
+      old_front = ap₂ take n_is all ∙ take-append_seam (tokens_of_head old) (tokens_by first (drop old.body text));
+      inside = omega (arith, n_is, ap length all, length-append (tokens_of_head old) (tokens_by first (drop old.body text)));
+      made_of = rw change_is (made_body law text insert made start stop is its edit e old.body now.body old_at now_at (drop n tokens) behind body body_is kept (λ t. (ap (λ (h : Head). h.body) (told.0 t).0, (told.0 t).1)));
     }
 
 -- nothing is kept before an edit at the front
@@ -78,17 +78,17 @@ relexed-front {first} {text} is = is.front ∙ kept_none text (tokens_by first t
 -- whether the head stays
 module _ {heads : List ℕ → Head} {first : List ℕ → Token} {text made insert : List ℕ} {start stop : ℕ} {old now : Head} {kept : Bool} {n : ℕ} {tokens : List Token} {body : List ℕ} {change : Change} (b : IsBodyEdit heads first text made insert start stop old now kept n tokens body change) where
   stays : kept ≡ true → HeadStays heads text start stop insert
-  stays e = (sym b.old_is ∙ ((b.told.0 e).0 ∙ (b.now_is ∙ ap heads b.made_is)), (let p = (b.told.0 e).1 in omega (arith, p, ap (λ (h : Head). h.end) b.old_is)))
+  stays e = (sym b.old_is ∙ ((b.told.0 e).0 ∙ (b.now_is ∙ ap heads b.made_is)), (let p = (b.told.0 e).1 in omega (arith, p, ap (λ (h : Head). h.body) b.old_is)))
 
   keeps : HeadStays heads text start stop insert → kept ≡ true
-  keeps k = b.told.1 (b.old_is ∙ (k.0 ∙ (ap heads (sym b.made_is) ∙ sym b.now_is)), (let e = k.1 in omega (arith, e, ap (λ (h : Head). h.end) b.old_is)))
+  keeps k = b.told.1 (b.old_is ∙ (k.0 ∙ (ap heads (sym b.made_is) ∙ sym b.now_is)), (let e = k.1 in omega (arith, e, ap (λ (h : Head). h.body) b.old_is)))
 
   changes : (HeadStays heads text start stop insert → ⊥) → kept ≡ false
   changes none = false_from_ne_true kept (λ e. none (stays e))
 
   -- the counts of the body's edit, which is known by equations, and those of the texts alone
   abbrev pub IsRelexedAt : Change → List ℕ → Relexed → Type 0
-  IsRelexedAt ch bytes r = (x : Relexed) × IsRelexed first (drop old.end text) ch.start ch.old_stop (body_insert kept ch insert bytes) x
+  IsRelexedAt ch bytes r = (x : Relexed) × IsRelexed first (drop old.body text) ch.start ch.old_stop (body_insert kept ch insert bytes) x
       × (r ≡ counted kept (length (tokens_of_head old)) (length (tokens_of_head now)) x)
 
   abbrev As : Head → Head → List ℕ → Relexed → Type 0
@@ -97,8 +97,8 @@ module _ {heads : List ℕ → Head} {first : List ℕ → Token} {text made ins
   pub to_texts : (r : Relexed) → IsRelexedAt change body r → IsRelexedWith heads kept first text start stop insert r
   unfolding IsRelexedWith
   to_texts r x =
-      let one : IsRelexedAt change (drop now.end made) r = subst (λ xs. IsRelexedAt change xs r) b.body_is x in
-      let two : As old now made r = subst (λ (ch : Change). IsRelexedAt ch (drop now.end made) r) b.change_is one in
+      let one : IsRelexedAt change (drop now.body made) r = subst (λ xs. IsRelexedAt change xs r) b.body_is x in
+      let two : As old now made r = subst (λ (ch : Change). IsRelexedAt ch (drop now.body made) r) b.change_is one in
       let three : As (heads text) now made r = subst (λ (o : Head). As o now made r) b.old_is two in
       let four : As (heads text) (heads made) made r = subst (λ (w : Head). As (heads text) w made r) b.now_is three in
       subst (λ (mk : List ℕ). As (heads text) (heads mk) mk r) b.made_is four
@@ -109,7 +109,7 @@ module _ {heads : List ℕ → Head} {first : List ℕ → Token} {text made ins
       let four : As (heads text) (heads made) made r = subst (λ (mk : List ℕ). As (heads text) (heads mk) mk r) (sym b.made_is) x in
       let three : As (heads text) now made r = subst (λ (w : Head). As (heads text) w made r) (sym b.now_is) four in
       let two : As old now made r = subst (λ (o : Head). As o now made r) (sym b.old_is) three in
-      let one : IsRelexedAt change (drop now.end made) r = subst (λ (ch : Change). IsRelexedAt ch (drop now.end made) r) (sym b.change_is) two in
+      let one : IsRelexedAt change (drop now.body made) r = subst (λ (ch : Change). IsRelexedAt ch (drop now.body made) r) (sym b.change_is) two in
       subst (λ xs. IsRelexedAt change xs r) (sym b.body_is) one
 
 pub near_behind : (tokens : List Token) {all : List Token} {near : Bound} {n m : ℕ} (checkpoints : Checkpoints) → n ≡ m → drop n tokens ≡ all → AreBounds (drop m tokens) checkpoints → Contains checkpoints.bounds near → IsBound all near
@@ -118,7 +118,7 @@ near_behind tokens {all} {near} {n} {m} checkpoints same e are is =
     rw (sym turned) (All-contains (IsBound (drop m tokens)) checkpoints.bounds near are is)
 
 module _ {heads : List ℕ → Head} {first : List ℕ → Token} (law : IsGrammar first) {text made insert : List ℕ} {start stop : ℕ} {old now : Head} {kept : Bool} {n : ℕ} {tokens : List Token} {body : List ℕ} {change : Change} (b : IsBodyEdit heads first text made insert start stop old now kept n tokens body change)
-    {head : Option Head} {new : List Token} {at : Relexing} (head_is : head ≡ head_unless kept now) (r : IsRenewedBehind first (drop old.end text) change body n tokens head new at) where
+    {head : Option Head} {new : List Token} {at : Relexing} (head_is : head ≡ head_unless kept now) (r : IsRenewedBehind first (drop old.body text) change body n tokens head new at) where
   abbrev put : List ℕ
   put = body_insert kept change insert body
 
@@ -128,11 +128,11 @@ module _ {heads : List ℕ → Head} {first : List ℕ → Token} (law : IsGramm
   whole_is : change ≡ whole
   whole_is = ap (λ (p : ℕ). let ch : Change = record { start = change.start; old_stop = change.old_stop; new_stop = p } in ch) b.made_of.edit_of.new_stop
 
-  whole_made : IsMadeOf first (drop old.end text) (map (λ (t : Token). t.len) (drop n tokens)) whole put body
-  whole_made = subst (λ (ch : Change). IsMadeOf first (drop old.end text) (map (λ (t : Token). t.len) (drop n tokens)) ch put body) whole_is b.made_of
+  whole_made : IsMadeOf first (drop old.body text) (map (λ (t : Token). t.len) (drop n tokens)) whole put body
+  whole_made = subst (λ (ch : Change). IsMadeOf first (drop old.body text) (map (λ (t : Token). t.len) (drop n tokens)) ch put body) whole_is b.made_of
 
-  whole_renewed : IsRenewed first (drop old.end text) whole body (drop n tokens) r.behind at
-  whole_renewed = subst (λ (ch : Change). IsRenewed first (drop old.end text) ch body (drop n tokens) r.behind at) whole_is r.renewed
+  whole_renewed : IsRenewed first (drop old.body text) whole body (drop n tokens) r.behind at
+  whole_renewed = subst (λ (ch : Change). IsRenewed first (drop old.body text) ch body (drop n tokens) r.behind at) whole_is r.renewed
 
   head_are : head_put (take n tokens) head ≡ tokens_of_head now
   head_are = ap (head_put (take n tokens)) head_is ∙ by_kept kept refl
@@ -146,7 +146,7 @@ module _ {heads : List ℕ → Head} {first : List ℕ → Token} (law : IsGramm
 
   -- they are the tokens of the changed document
   pub new_are : new ≡ document_by heads first made
-  new_are = new_is ∙ (ap (λ ts. tokens_of_head now ++ ts) (renewed_are law b.old_body whole_made whole_renewed ∙ ap (tokens_by first) b.body_is) ∙ ap (λ (h : Head). tokens_of_head h ++ tokens_by first (drop h.end made)) b.now_is)
+  new_are = new_is ∙ (ap (λ ts. tokens_of_head now ++ ts) (renewed_are law b.old_body whole_made whole_renewed ∙ ap (tokens_by first) b.body_is) ∙ ap (λ (h : Head). tokens_of_head h ++ tokens_by first (drop h.body made)) b.now_is)
 
   pub new_behind : drop (length (tokens_of_head now)) new ≡ r.behind
   new_behind = ap (drop (length (tokens_of_head now))) new_is ∙ drop-append_seam (tokens_of_head now) r.behind
@@ -158,8 +158,8 @@ module _ {heads : List ℕ → Head} {first : List ℕ → Token} (law : IsGramm
   -- where the head does not stay, nothing is kept before the edit
   front_none : kept ≡ false → at.front.number ≡ 0
   front_none e =
-      let zero_start : change.start ≡ 0 = ap (λ (ch : Change). ch.start) b.change_is ∙ ap (λ (k : Bool). (body_change k old.end now.end (edit_change start stop insert)).start) e in
-      r.renewed.lexed_is.stands.front_number ∙ (ap (kept_front (drop old.end text) (tokens_by first (drop old.end text))) zero_start ∙ kept_none (drop old.end text) (tokens_by first (drop old.end text)))
+      let zero_start : change.start ≡ 0 = ap (λ (ch : Change). ch.start) b.change_is ∙ ap (λ (k : Bool). (body_change k old.body now.body (edit_change start stop insert)).start) e in
+      r.renewed.lexed_is.stands.front_number ∙ (ap (kept_front (drop old.body text) (tokens_by first (drop old.body text))) zero_start ∙ kept_none (drop old.body text) (tokens_by first (drop old.body text)))
 
   module _ (counts : Relexed) {m c : ℕ} (m_is : m ≡ length (tokens_of_head now)) (c_is : c ≡ length tokens - n) (counts_are : counts ≡ record { kept_front = at.front.number; lexed = at.lexed; kept_back = c - at.back.number }) where
     sizes : (at.front.number + at.lexed + (c - at.back.number) ≡ length r.behind) × (length new ≡ m + length r.behind) × (c ≡ length (drop n tokens))
@@ -200,7 +200,7 @@ module _ {heads : List ℕ → Head} {first : List ℕ → Token} (law : IsGramm
         by_kept true e = back_with _ (omega (arith, same_count e, m_is))
         by_kept false e = back_with _ (omega (arith, m_is))
 
-    module _ (exact : IsRelexed first (drop old.end text) change.start change.old_stop put counts) where
+    module _ (exact : IsRelexed first (drop old.body text) change.start change.old_stop put counts) where
       by_texts : IsRelexedWith heads kept first text start stop insert (counted kept n m counts)
       by_texts = to_texts b (counted kept n m counts) (counts, exact, ap₂ (λ i j. counted kept i j counts) b.n_is m_is)
 
@@ -222,7 +222,7 @@ module _ {heads : List ℕ → Head} {first : List ℕ → Token} (law : IsGramm
     pub counted_few : IsText text → counts.kept_front < 2 ^ 33
     counted_few is =
         let front = ap (λ (x : Relexed). x.kept_front) counts_are in
-        let many = tokens_le_bytes law (drop old.end text) b.made_of.edit_of.is_text in
+        let many = tokens_le_bytes law (drop old.body text) b.made_of.edit_of.is_text in
         let short = b.made_of.edit_of.is_text.fits in
         omega (arith, front, many, short, r.renewed.lexed_is.stands.front_bound.0)
 
@@ -230,13 +230,13 @@ module _ {heads : List ℕ → Head} {first : List ℕ → Token} (law : IsGramm
 
 module _ {heads : List ℕ → Head} {first : List ℕ → Token} (law : IsGrammar first) {text made insert : List ℕ} {start stop : ℕ} {old now : Head} {kept : Bool} {n : ℕ} {tokens : List Token} {body : List ℕ} {change : Change} (b : IsBodyEdit heads first text made insert start stop old now kept n tokens body change) where
   abbrev of_body : Relexed
-  of_body = relexed_of first (drop old.end text) change.start change.old_stop (body_insert kept change insert body)
+  of_body = relexed_of first (drop old.body text) change.start change.old_stop (body_insert kept change insert body)
 
   -- there are no other counts
   same_counts : (r : Relexed) → IsRelexedWith heads kept first text start stop insert r → r ≡ counted kept (length (tokens_of_head old)) (length (tokens_of_head now)) of_body
   same_counts r is =
       let x = of_texts b r is in
-      let only : x.0 ≡ of_body = relexed_found law (drop old.end text) b.made_of.edit_of.is_text change.start change.old_stop (body_insert kept change insert body) b.made_of.edit_of.inserted b.made_of.edit_of.is_edit x.0 x.1 in
+      let only : x.0 ≡ of_body = relexed_found law (drop old.body text) b.made_of.edit_of.is_text change.start change.old_stop (body_insert kept change insert body) b.made_of.edit_of.inserted b.made_of.edit_of.is_edit x.0 x.1 in
       x.2 ∙ ap (counted kept (length (tokens_of_head old)) (length (tokens_of_head now))) only
 
   -- it takes no more steps than it would have

@@ -47,8 +47,8 @@ part-none edition text is = no-front ((language text (part edition) is (read_tok
 
 -- what is known of one, and of where it ends
 pub record IsFrontOf (text : List ℕ) (head : Head) : Type 0 where
-  pub is_one : (front : Token) → head.front ≡ Some front → is_frontmatter front.kind ≡ true
-  pub ends : head.end ≡ shebang_len text + bound (tokens_of_head head) (length (tokens_of_head head))
+  pub is_one : (front : Token) → head.frontmatter ≡ Some front → is_frontmatter front.kind ≡ true
+  pub ends : head.body ≡ shebang_len text + bound (tokens_of_head head) (length (tokens_of_head head))
 
 end_at : (n m : ℕ) (front : Token) → n + m + front.len ≡ n + bound (front_tokens m (Some front)) (length (front_tokens m (Some front)))
 end_at n zero front = omega arith
@@ -87,19 +87,19 @@ pub bound-append : (ts us : List Token) → bound (ts ++ us) (length ts) ≡ bou
 bound-append [] us = refl
 bound-append (t ∷ ts) us = ap (λ n. t.len + n) (bound-append ts us)
 
-module _ (edition : Edition) (text : List ℕ) (is : IsText text) (at : IsCharBoundary text (head_of text).end) where
-  pub head_whole : document_tokens edition text ≡ tokens_of_head (head_of text) ++ read_tokens (part edition) (drop (head_of text).end text)
+module _ (edition : Edition) (text : List ℕ) (is : IsText text) (at : IsCharBoundary text (head_of text).body) where
+  pub head_whole : document_tokens edition text ≡ tokens_of_head (head_of text) ++ read_tokens (part edition) (drop (head_of text).body text)
   head_whole = sym (document_law edition text is (shebang-boundary text is))
 
-  body_text : IsText (drop (head_of text).end text)
-  body_text = record { utf8 = IsUtf8-drop text (head_of text).end is.utf8 at; fits = let f = is.fits in omega (arith, length-drop (head_of text).end text) }
+  body_text : IsText (drop (head_of text).body text)
+  body_text = record { utf8 = IsUtf8-drop text (head_of text).body is.utf8 at; fits = let f = is.fits in omega (arith, length-drop (head_of text).body text) }
 
   -- the tokens of the head are those up to the frontmatter
   pub head_count-tokens : head_count (document_tokens edition text) ≡ length (tokens_of_head (head_of text))
-  head_count-tokens = ap head_count head_whole ∙ count-front (head_of text).space (head_of text).front _ (front_of text).is_one (part-none edition (drop (head_of text).end text) body_text)
+  head_count-tokens = ap head_count head_whole ∙ count-front (head_of text).space_len (head_of text).frontmatter _ (front_of text).is_one (part-none edition (drop (head_of text).body text) body_text)
 
   -- where they end the body begins
-  pub head_end : (head_of text).end ≡ shebang_len text + bound (document_tokens edition text) (head_count (document_tokens edition text))
+  pub head_end : (head_of text).body ≡ shebang_len text + bound (document_tokens edition text) (head_count (document_tokens edition text))
   head_end =
       let front = front_of text in
       front.ends ∙ ap (λ n. shebang_len text + n) (sym (ap₂ bound head_whole head_count-tokens ∙ bound-append (tokens_of_head (head_of text)) _))

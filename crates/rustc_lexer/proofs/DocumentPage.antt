@@ -21,8 +21,8 @@ use Rattle.rustc_lexer.proofs.HeadLemmas.{front-boundary, spaced-boundary, head-
 
 -- where the head ends, and that no white space stands where no frontmatter does
 pub record IsAhead (text : List ℕ) (head : Head) : Type 0 where
-  pub boundary : IsCharBoundary text head.end
-  pub bare : head.front ≡ None → head.space ≡ 0
+  pub boundary : IsCharBoundary text head.body
+  pub bare : head.frontmatter ≡ None → head.space_len ≡ 0
 
 module _ (text : List ℕ) (is : IsText text) where
   abbrev rest : List ℕ
@@ -40,7 +40,7 @@ module _ (text : List ℕ) (is : IsText text) where
   pub ahead : IsAhead text (head_of text)
   ahead = by_front (opens (chars rest)) refl (opens (chars past_space)) refl
 
-  pub end_is : (head_of text).end ≡ body_start text
+  pub end_is : (head_of text).body ≡ body_start text
   end_is = head_end E2024 text is ahead.boundary
 
   pub front_is : tokens_of_head (head_of text) ≡ head_tokens text
@@ -81,10 +81,10 @@ module _ (text made : List ℕ) (is : IsText text) (its : IsText made) where
   same_head : shebang_len text ≡ shebang_len made → head_tokens text ≡ head_tokens made → head_of text ≡ head_of made
   same_head line front =
       let tokens : tokens_of_head (head_of text) ≡ tokens_of_head (head_of made) = front_is text is ∙ (front ∙ sym (front_is made its)) in
-      let parts = same-parts (head_of text).space (head_of made).space (head_of text).front (head_of made).front (ahead text is).bare (ahead made its).bare tokens in
-      let start : (head_of text).shebang ≡ (head_of made).shebang = head-shebang text ∙ (line ∙ sym (head-shebang made)) in
-      let end : (head_of text).end ≡ (head_of made).end = end_is text is ∙ (same_end line front ∙ sym (end_is made its)) in
-      λ i. record { shebang = start i; space = parts.0 i; front = parts.1 i; end = end i }
+      let parts = same-parts (head_of text).space_len (head_of made).space_len (head_of text).frontmatter (head_of made).frontmatter (ahead text is).bare (ahead made its).bare tokens in
+      let start : (head_of text).shebang_len ≡ (head_of made).shebang_len = head-shebang text ∙ (line ∙ sym (head-shebang made)) in
+      let end : (head_of text).body ≡ (head_of made).body = end_is text is ∙ (same_end line front ∙ sym (end_is made its)) in
+      λ i. record { shebang_len = start i; space_len = parts.0 i; frontmatter = parts.1 i; body = end i }
     where
       same_end : shebang_len text ≡ shebang_len made → head_tokens text ≡ head_tokens made → body_start text ≡ body_start made
       same_end line front = body_by text ∙ (ap₂ (λ n ts. n + bound ts (length ts)) line front ∙ sym (body_by made))
@@ -95,7 +95,7 @@ module _ (first : List ℕ → Token) (text insert : List ℕ) (start stop : ℕ
 
   pub to_page : HeadStays head_of text start stop insert → KeepsHead text start stop insert
   to_page k = (
-    sym (head-shebang text) ∙ (ap (λ (h : Head). h.shebang) k.0 ∙ head-shebang made),
+    sym (head-shebang text) ∙ (ap (λ (h : Head). h.shebang_len) k.0 ∙ head-shebang made),
     sym (front_is text is) ∙ (ap tokens_of_head k.0 ∙ front_is made its),
     (let e = k.1 in omega (arith, e, end_is text is)),
   )
@@ -113,7 +113,7 @@ module _ (first : List ℕ → Token) (text insert : List ℕ) (start stop : ℕ
   by_page : (kept : Bool) (r : Relexed) → IsRelexedWith head_of kept first text start stop insert r → At kept (body_start text) (body_start made) (head_tokens text) (head_tokens made) r
   unfolding IsRelexedWith
   by_page kept r x =
-      let one : At kept (body_start text) (head_of made).end (tokens_of_head (head_of text)) (tokens_of_head (head_of made)) r = subst (λ from. At kept from (head_of made).end (tokens_of_head (head_of text)) (tokens_of_head (head_of made)) r) (end_is text is) x in
+      let one : At kept (body_start text) (head_of made).body (tokens_of_head (head_of text)) (tokens_of_head (head_of made)) r = subst (λ from. At kept from (head_of made).body (tokens_of_head (head_of text)) (tokens_of_head (head_of made)) r) (end_is text is) x in
       let two : At kept (body_start text) (body_start made) (tokens_of_head (head_of text)) (tokens_of_head (head_of made)) r = subst (λ to. At kept (body_start text) to (tokens_of_head (head_of text)) (tokens_of_head (head_of made)) r) (end_is made its) one in
       let three : At kept (body_start text) (body_start made) (head_tokens text) (tokens_of_head (head_of made)) r = subst (λ ts. At kept (body_start text) (body_start made) ts (tokens_of_head (head_of made)) r) (front_is text is) two in
       subst (λ ts. At kept (body_start text) (body_start made) (head_tokens text) ts r) (front_is made its) three
@@ -123,8 +123,8 @@ module _ (first : List ℕ → Token) (text insert : List ℕ) (start stop : ℕ
   by_head kept r x =
       let three : At kept (body_start text) (body_start made) (head_tokens text) (tokens_of_head (head_of made)) r = subst (λ ts. At kept (body_start text) (body_start made) (head_tokens text) ts r) (sym (front_is made its)) x in
       let two : At kept (body_start text) (body_start made) (tokens_of_head (head_of text)) (tokens_of_head (head_of made)) r = subst (λ ts. At kept (body_start text) (body_start made) ts (tokens_of_head (head_of made)) r) (sym (front_is text is)) three in
-      let one : At kept (body_start text) (head_of made).end (tokens_of_head (head_of text)) (tokens_of_head (head_of made)) r = subst (λ to. At kept (body_start text) to (tokens_of_head (head_of text)) (tokens_of_head (head_of made)) r) (sym (end_is made its)) two in
-      subst (λ from. At kept from (head_of made).end (tokens_of_head (head_of text)) (tokens_of_head (head_of made)) r) (sym (end_is text is)) one
+      let one : At kept (body_start text) (head_of made).body (tokens_of_head (head_of text)) (tokens_of_head (head_of made)) r = subst (λ to. At kept (body_start text) to (tokens_of_head (head_of text)) (tokens_of_head (head_of made)) r) (sym (end_is made its)) two in
+      subst (λ from. At kept from (head_of made).body (tokens_of_head (head_of text)) (tokens_of_head (head_of made)) r) (sym (end_is text is)) one
 
   -- nothing is kept before the edit of a body at its begin
   abbrev anew : ℕ → Relexed → Relexed

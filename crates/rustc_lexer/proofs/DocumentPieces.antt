@@ -27,7 +27,7 @@ module _ {first : List ℕ → Token} (law : IsGrammar first) (text : List ℕ) 
   heads = tokens_of_head (head_of text)
 
   abbrev body : List ℕ
-  body = drop (head_of text).end text
+  body = drop (head_of text).body text
 
   abbrev rest : List ℕ
   rest = drop (shebang_len text) text
@@ -36,7 +36,7 @@ module _ {first : List ℕ → Token} (law : IsGrammar first) (text : List ℕ) 
   rest_text = record { utf8 = IsUtf8-drop text (shebang_len text) is.utf8 (shebang-boundary text is); fits = let f = is.fits in omega (arith, length-drop (shebang_len text) text) }
 
   body_text : IsText body
-  body_text = record { utf8 = IsUtf8-drop text (head_of text).end is.utf8 (ahead text is).boundary; fits = let f = is.fits in omega (arith, length-drop (head_of text).end text) }
+  body_text = record { utf8 = IsUtf8-drop text (head_of text).body is.utf8 (ahead text is).boundary; fits = let f = is.fits in omega (arith, length-drop (head_of text).body text) }
 
   cut_front : (k : ℕ) → k ≤ length heads → IsCharBoundary text (shebang_len text + bound tokens k)
   cut_front k few =
@@ -47,7 +47,7 @@ module _ {first : List ℕ → Token} (law : IsGrammar first) (text : List ℕ) 
       IsCharBoundary-from_rest text (shebang_len text) (bound tokens k) (shebang-boundary text is).0 (subst (IsCharBoundary rest) same there)
 
   -- the bounds of the tokens of the body
-  body_bound : (j : ℕ) → (head_of text).end + bound (drop (length heads) tokens) j ≡ shebang_len text + bound tokens (length heads + j)
+  body_bound : (j : ℕ) → (head_of text).body + bound (drop (length heads) tokens) j ≡ shebang_len text + bound tokens (length heads + j)
   body_bound j =
       let at : bound tokens (length heads) ≡ bound heads (length heads) = ap (λ ts. bound ts (length heads)) e ∙ bound-append heads (tokens_by first body) in
       omega (arith, (head.front_of text).ends, at, bound-shift tokens (length heads) j)
@@ -57,8 +57,8 @@ module _ {first : List ℕ → Token} (law : IsGrammar first) (text : List ℕ) 
       let behind : drop (length heads) tokens ≡ tokens_by first body = ap (drop (length heads)) e ∙ drop-append_seam heads (tokens_by first body) in
       let inside : j ≤ length (tokens_by first body) = omega (arith, ap length e, length-append heads (tokens_by first body)) in
       let there : IsCharBoundary body (bound (tokens_by first body) j) = cuts law body body_text j inside in
-      let place : (head_of text).end + bound (tokens_by first body) j ≡ shebang_len text + bound tokens (length heads + j) = omega (arith, body_bound j, ap (λ ts. bound ts j) behind) in
-      subst (IsCharBoundary text) place (IsCharBoundary-from_rest text (head_of text).end (bound (tokens_by first body) j) (ahead text is).boundary.0 there)
+      let place : (head_of text).body + bound (tokens_by first body) j ≡ shebang_len text + bound tokens (length heads + j) = omega (arith, body_bound j, ap (λ ts. bound ts j) behind) in
+      subst (IsCharBoundary text) place (IsCharBoundary-from_rest text (head_of text).body (bound (tokens_by first body) j) (ahead text is).boundary.0 there)
 
   pub document_cuts : AreBoundariesFrom text (shebang_len text) tokens
   document_cuts k few = elim (cases_lt k (suc (length heads))) [

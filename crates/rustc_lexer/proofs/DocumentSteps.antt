@@ -88,6 +88,6 @@ module _ {first : List ℕ → Token} (law : IsGrammar first) (text insert : Lis
       let told = answer (keeps text start stop insert) in
       let old : Head = head_of text in
       let now : Head = head_of made in
-      let stays : IsTrue told.0 ↔ ((old ≡ now) × (old.end ≤ start)) = (λ e. from_page first text insert start stop is made_is (told.1.0 e), λ k. told.1.1 (to_page first text insert start stop is made_is k)) in
+      let stays : IsTrue told.0 ↔ ((old ≡ now) × (old.body ≤ start)) = (λ e. from_page first text insert start stop is made_is (told.1.0 e), λ k. told.1.1 (to_page first text insert start stop is made_is k)) in
       let edit_of : IsEditOf text whole insert made = record { is_text = is; inserted = its; is_edit = edit; made = refl; new_stop = refl } in
-      of_body told.0 (body_change told.0 old.end now.end whole) (body_is law text insert made whole old now told.0 _ edit_of (is_head text is) (is_head made made_is) stays refl)
+      of_body told.0 (body_change told.0 old.body now.body whole) (body_is law text insert made whole old now told.0 _ edit_of (is_head text is) (is_head made made_is) stays refl)

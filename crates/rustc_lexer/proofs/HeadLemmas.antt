@@ -13,16 +13,16 @@ module _ (text rest : List ℕ) (n : ℕ) (e : n ≡ shebang_len text) (f : rest
   left : drop (shebang_len text) text ≡ rest
   left = ap (λ k. drop k text) (sym e) ∙ sym f
 
-  pub head-front : (front : Token) → opens (chars rest) ≡ true → front ≡ frontmatter rest → (record { shebang = n; space = 0; front = Some front; end = n + front.len }) ≡ head_of text
+  pub head-front : (front : Token) → opens (chars rest) ≡ true → front ≡ frontmatter rest → (record { shebang_len = n; space_len = 0; frontmatter = Some front; body = n + front.len }) ≡ head_of text
   unfolding head_of
   head-front front o is = rw (left, ← e, o, is) refl
 
   module _ (tail : List ℕ) (none : opens (chars rest) ≡ false) (g : tail ≡ past (spaces_len (chars rest)) rest) where
-    pub head-spaced : (front : Token) → opens (chars tail) ≡ true → front ≡ frontmatter tail → (record { shebang = n; space = length rest - length tail; front = Some front; end = n + (length rest - length tail) + front.len }) ≡ head_of text
+    pub head-spaced : (front : Token) → opens (chars tail) ≡ true → front ≡ frontmatter tail → (record { shebang_len = n; space_len = length rest - length tail; frontmatter = Some front; body = n + (length rest - length tail) + front.len }) ≡ head_of text
     unfolding head_of
     head-spaced front o is = rw (left, ← e, none, ← g, o, is) refl
 
-    pub head-none : opens (chars tail) ≡ false → (record { shebang = n; space = 0; front = None; end = n }) ≡ head_of text
+    pub head-none : opens (chars tail) ≡ false → (record { shebang_len = n; space_len = 0; frontmatter = None; body = n }) ≡ head_of text
     unfolding head_of
     head-none o = rw (left, ← e, none, ← g, o) refl
 
@@ -48,11 +48,11 @@ module _ (text rest : List ℕ) (n : ℕ) (is : IsUtf8 text) (at : IsCharBoundar
       let there : IsCharBoundary (drop (n + (length rest - length tail)) text) front.len = rw (is_frontmatter, ← here) cut.boundary in
       IsCharBoundary-from_rest text (n + (length rest - length tail)) front.len (omega (arith, at.0, ap length f, length-drop n text)) there
 
-shebang_by : (text : List ℕ) (a b : Bool) → opens (chars (drop (shebang_len text) text)) ≡ a → opens (chars (past (spaces_len (chars (drop (shebang_len text) text))) (drop (shebang_len text) text))) ≡ b → (head_of text).shebang ≡ shebang_len text
+shebang_by : (text : List ℕ) (a b : Bool) → opens (chars (drop (shebang_len text) text)) ≡ a → opens (chars (past (spaces_len (chars (drop (shebang_len text) text))) (drop (shebang_len text) text))) ≡ b → (head_of text).shebang_len ≡ shebang_len text
 unfolding head_of
 shebang_by text true b e f = rw e refl
 shebang_by text false true e f = rw (e, f) refl
 shebang_by text false false e f = rw (e, f) refl
 
-pub head-shebang : (text : List ℕ) → (head_of text).shebang ≡ shebang_len text
+pub head-shebang : (text : List ℕ) → (head_of text).shebang_len ≡ shebang_len text
 head-shebang text = shebang_by text _ _ refl refl

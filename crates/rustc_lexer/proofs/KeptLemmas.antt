@@ -18,7 +18,7 @@ use Rattle.rustc_lexer.proofs.HeadLemmas.{head-shebang}
 
 -- a head ends where its tokens do
 abbrev Ends : Head → Type 0
-Ends head = head.end ≡ head.shebang + bound (tokens_of_head head) (length (tokens_of_head head))
+Ends head = head.body ≡ head.shebang_len + bound (tokens_of_head head) (length (tokens_of_head head))
 
 head_ends : (whole : Bool) (text : List ℕ) → Ends (head_by whole text)
 head_ends true text = (front_of text).ends ∙ ap (λ n. n + bound (tokens_of_head (head_by true text)) (length (tokens_of_head (head_by true text)))) (sym (head-shebang text))
@@ -29,27 +29,27 @@ module _ {first : List ℕ → Token} (law : IsGrammar first) (whole : Bool) (te
   fronts = tokens_of_head head
 
   abbrev body : List ℕ
-  body = drop head.end text
+  body = drop head.body text
 
   all_are : tokens ≡ fronts ++ tokens_by first body
-  all_are = are.1 ∙ ap (λ (h : Head). tokens_of_head h ++ tokens_by first (drop h.end text)) (sym are.2)
+  all_are = are.1 ∙ ap (λ (h : Head). tokens_of_head h ++ tokens_by first (drop h.body text)) (sym are.2)
 
-  body_at : (k : ℕ) → head.end + bound (drop (length fronts) tokens) k ≡ head.shebang + bound tokens (length fronts + k)
+  body_at : (k : ℕ) → head.body + bound (drop (length fronts) tokens) k ≡ head.shebang_len + bound tokens (length fronts + k)
   body_at k =
       let ends : Ends head = subst Ends (sym are.2) (head_ends whole text) in
       let at : bound tokens (length fronts) ≡ bound fronts (length fronts) = ap (λ ts. bound ts (length fronts)) all_are ∙ bound-append fronts (tokens_by first body) in
       omega (arith, ends, at, bound-shift tokens (length fronts) k)
 
   -- a bound of the body's tokens is one of all
-  pub near_at : (near : Bound) (n : ℕ) → n ≡ length fronts → IsBound (drop (length fronts) tokens) near → head.end + near.place ≡ head.shebang + bound tokens (n + near.number)
+  pub near_at : (near : Bound) (n : ℕ) → n ≡ length fronts → IsBound (drop (length fronts) tokens) near → head.body + near.place ≡ head.shebang_len + bound tokens (n + near.number)
   near_at near n e at = omega (arith, at.1, body_at near.number, ap (λ m. bound tokens (m + near.number)) e)
 
-  pub place_fits : (k : ℕ) → k ≤ length tokens → head.shebang + bound tokens k < 2 ^ 32
+  pub place_fits : (k : ℕ) → k ≤ length tokens → head.shebang_len + bound tokens k < 2 ^ 32
   place_fits k few =
       let n : ℕ = length (tokens_by first body) in
       let fits = are.0.fits in
-      let is : IsText body = record { utf8 = IsUtf8-drop text head.end are.0.utf8 are.3; fits = omega (arith, length-drop head.end text) } in
+      let is : IsText body = record { utf8 = IsUtf8-drop text head.body are.0.utf8 are.3; fits = omega (arith, length-drop head.body text) } in
       let behind : drop (length fronts) tokens ≡ tokens_by first body = ap (drop (length fronts)) all_are ∙ drop-append_seam fronts (tokens_by first body) in
       let last : bound (drop (length fronts) tokens) n ≡ length body = ap (λ ts. bound ts n) behind ∙ bound-last law body is in
       let most : bound tokens k ≤ bound tokens (length fronts + n) = bound_mono tokens k (length fronts + n) (omega (arith, ap length all_are, length-append fronts (tokens_by first body))) in
-      omega (arith, most, body_at n, last, length-drop head.end text, are.3.0)
+      omega (arith, most, body_at n, last, length-drop head.body text, are.3.0)

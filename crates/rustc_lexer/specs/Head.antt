@@ -15,14 +15,14 @@ front_tokens (suc n) (Some front) = record { kind = Whitespace; len = suc n } �
 
 -- the tokens of a head
 abbrev pub tokens_of_head : Head → List Token
-tokens_of_head head = front_tokens head.space head.front
+tokens_of_head head = front_tokens head.space_len head.frontmatter
 
 -- it is the head of the text
 pub record IsHeadOf (text : List ℕ) (head : Head) : Type 0 where
-  pub shebang_is : head.shebang ≡ shebang_len text
+  pub shebang_is : head.shebang_len ≡ shebang_len text
   pub tokens_are : tokens_of_head head ≡ head_tokens text
-  pub bare : head.front ≡ None → head.space ≡ 0
-  pub end_is : head.end ≡ body_start text
+  pub bare : head.frontmatter ≡ None → head.space_len ≡ 0
+  pub end_is : head.body ≡ body_start text
 
 -- what an edit changes of the body, which began at `from` and now begins at `to`, by places of the body: where the head
 -- stays the edit itself, else all up to the first place past it at which both bodies have begun

@@ -34,11 +34,11 @@ kind-back kind len is = absurd (true≢false (sym is))
 
 -- the numbers of a frontmatter tell it, and so those of a head
 back_with : (n end space : ℕ) (front : Option Token) → (front ≡ None → space ≡ 0) → ((t : Token) → front ≡ Some t → is_frontmatter t.kind ≡ true)
-    → head_of (numbers_of_head (record { shebang = n; space = space; front = front; end = end })) ≡ record { shebang = n; space = space; front = front; end = end }
+    → head_of (numbers_of_head (record { shebang_len = n; space_len = space; frontmatter = front; body = end })) ≡ record { shebang_len = n; space_len = space; frontmatter = front; body = end }
 unfolding token_numbers first_of second_of
 back_with n end space None bare is = rw (bare refl) refl
-back_with n end zero (Some t) bare is = ap (λ (f : Token). let h : Head = record { shebang = n; space = 0; front = Some f; end = end } in h) (kind-back t.kind t.len (is t refl))
-back_with n end (suc m) (Some t) bare is = ap (λ (f : Token). let h : Head = record { shebang = n; space = suc m; front = Some f; end = end } in h) (kind-back t.kind t.len (is t refl))
+back_with n end zero (Some t) bare is = ap (λ (f : Token). let h : Head = record { shebang_len = n; space_len = 0; frontmatter = Some f; body = end } in h) (kind-back t.kind t.len (is t refl))
+back_with n end (suc m) (Some t) bare is = ap (λ (f : Token). let h : Head = record { shebang_len = n; space_len = suc m; frontmatter = Some f; body = end } in h) (kind-back t.kind t.len (is t refl))
 
 module _ (text : List ℕ) (is : IsText text) where
   -- a head of the text has the numbers of the text
@@ -91,12 +91,12 @@ module _ (text : List ℕ) (is : IsText text) (edit : CEdit) (c : CHead) (body :
   refused_edit not = refused_with (λ before insert e same. not (made_fine before insert text (change_of edit) e))
 
   module _ (now : Head) (keeps : Bool) (change : Change) (is_now : IsHeadOf text now) (all : Changes c edit now keeps change) where
-    pub refused_body : ¬ (IsChange (drop now.end text) change) → FindsHead text edit c c body body kept kept 6
+    pub refused_body : ¬ (IsChange (drop now.body text) change) → FindsHead text edit c c body body kept kept 6
     refused_body not = refused_with (λ before insert e same.
         let b = all first before insert text (edition_grammar E2024) e (of_old before insert e same) is_now in
         not (subst (λ (n : ℕ). IsChange (drop n text) change) (sym is_now.end_is) (made_change (edition_grammar E2024) _ _ _ _ change b.made_of)))
 
-    pub found : IsChange text (change_of edit) → IsChange (drop now.end text) change → FindsHead text edit c (numbers_of_head now) body (record { start = change.start; old_stop = change.old_stop; new_stop = change.new_stop }) kept (bool_number keeps) 0
+    pub found : IsChange text (change_of edit) → IsChange (drop now.body text) change → FindsHead text edit c (numbers_of_head now) body (record { start = change.start; old_stop = change.old_stop; new_stop = change.new_stop }) kept (bool_number keeps) 0
     found fine may = record {
       status_is = record {
         ok = λ _ _ _ _ _. refl;

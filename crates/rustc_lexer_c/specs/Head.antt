@@ -28,7 +28,7 @@ head_numbers text = record { shebang_len = shebang_len text; body = body_start t
 
 -- a head as numbers
 abbrev pub numbers_of_head : Head → CHead
-numbers_of_head head = record { shebang_len = head.shebang; body = head.end; count = length (tokens_of_head head); tokens = two_of (tokens_of_head head) }
+numbers_of_head head = record { shebang_len = head.shebang_len; body = head.body; count = length (tokens_of_head head); tokens = two_of (tokens_of_head head) }
 
 -- the frontmatter that numbers tell
 abbrev pub frontmatter_of : CToken → Token
@@ -36,9 +36,9 @@ frontmatter_of c = record { kind = Frontmatter (not (nat_eq c.first 0)) (not (na
 
 -- the head that numbers tell
 abbrev pub head_with : ℕ → ℕ → ℕ → CToken → CToken → Head
-head_with shebang end zero a b = record { shebang = shebang; space = 0; front = None; end = end }
-head_with shebang end (suc zero) a b = record { shebang = shebang; space = 0; front = Some (frontmatter_of a); end = end }
-head_with shebang end (suc (suc n)) a b = record { shebang = shebang; space = a.len; front = Some (frontmatter_of b); end = end }
+head_with shebang end zero a b = record { shebang_len = shebang; space_len = 0; frontmatter = None; body = end }
+head_with shebang end (suc zero) a b = record { shebang_len = shebang; space_len = 0; frontmatter = Some (frontmatter_of a); body = end }
+head_with shebang end (suc (suc n)) a b = record { shebang_len = shebang; space_len = a.len; frontmatter = Some (frontmatter_of b); body = end }
 
 abbrev pub head_of : CHead → Head
 head_of c = head_with c.shebang_len c.body c.count (get_or c.tokens 0 no_token) (get_or c.tokens 1 no_token)

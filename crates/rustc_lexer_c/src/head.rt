@@ -96,7 +96,7 @@ fn find_body_edit(
 /// Returns the head that the numbers tell.
 fn head_of(numbers: &CHead) -> Head
     ensures head { result ≡ spec.head_of numbers.now }
-    ensures end { result.end < 2 ^ 32 }
+    ensures end { result.body < 2 ^ 32 }
 {
     let [first, second] = numbers.tokens;
     let (space, front) = match numbers.count {
@@ -105,10 +105,10 @@ fn head_of(numbers: &CHead) -> Head
         _ => (first.len, Some(frontmatter_of(second))),
     };
     Head {
-        shebang: numbers.shebang_len as usize,
-        space,
-        front,
-        end: numbers.body as usize,
+        shebang_len: numbers.shebang_len as usize,
+        space_len: space,
+        frontmatter: front,
+        body: numbers.body as usize,
     }
 }
 
@@ -127,27 +127,27 @@ fn frontmatter_of(numbers: CToken) -> Token
 
 /// Returns a head as numbers.
 fn numbers_of_head(head: Head) -> CHead
-    requires shebang { head.shebang < 2 ^ 32 }
-    requires end { head.end < 2 ^ 32 }
+    requires shebang { head.shebang_len < 2 ^ 32 }
+    requires end { head.body < 2 ^ 32 }
     ensures { result ≡ spec.numbers_of_head head }
 {
-    let (count, tokens) = match head.front {
+    let (count, tokens) = match head.frontmatter {
         None => (0, [no_token(), no_token()]),
         Some(front) => {
-            if head.space == 0 {
+            if head.space_len == 0 {
                 (1, [token_numbers(front), no_token()])
             } else {
                 let space = Token {
                     kind: TokenKind::Whitespace,
-                    len: head.space,
+                    len: head.space_len,
                 };
                 (2, [token_numbers(space), token_numbers(front)])
             }
         }
     };
     CHead {
-        shebang_len: head.shebang as u32,
-        body: head.end as u32,
+        shebang_len: head.shebang_len as u32,
+        body: head.body as u32,
         count,
         tokens,
     }

@@ -369,10 +369,10 @@ fn tokens_of(head: Head) -> Vec<Token> {
     let kind = TokenKind::Whitespace;
     let space = Token {
         kind,
-        len: head.space,
+        len: head.space_len,
     };
-    let space = (head.space > 0).then_some(space);
-    space.into_iter().chain(head.front).collect()
+    let space = (head.space_len > 0).then_some(space);
+    space.into_iter().chain(head.frontmatter).collect()
 }
 
 /// On lists of one's own, an edit of the body gives the tokens and the counts of a `LexedDocument`.
@@ -387,7 +387,7 @@ fn lists_of_the_caller() {
         let counts = held.edit(range.clone(), &insert);
         let (head, now) = (Head::find(&old), Head::find(held.text()));
         assert_eq!(
-            (now.shebang, now.end),
+            (now.shebang_len, now.body),
             (held.shebang_len(), held.body().place)
         );
         let edit = Change {

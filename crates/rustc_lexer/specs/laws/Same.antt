@@ -88,12 +88,12 @@ told_same answer a b told = (λ t. same_token a b (sym told ∙ t), λ e. told �
 
 -- ---- heads
 
-heads_by : (E : Option Token → Option Token → Bool) → ((x y : Option Token) → E x y ≡ true → x ≡ y) → (a b : Head) → (a.shebang == b.shebang && (a.space == b.space && (E a.front b.front && a.end == b.end))) ≡ true → a ≡ b
+heads_by : (E : Option Token → Option Token → Bool) → ((x y : Option Token) → E x y ≡ true → x ≡ y) → (a b : Head) → (a.shebang_len == b.shebang_len && (a.space_len == b.space_len && (E a.frontmatter b.frontmatter && a.body == b.body))) ≡ true → a ≡ b
 heads_by E tells a b e =
-    let p = and_parts (a.shebang == b.shebang) (a.space == b.space && (E a.front b.front && a.end == b.end)) e in
-    let q = and_parts (a.space == b.space) (E a.front b.front && a.end == b.end) p.1 in
-    let r = and_parts (E a.front b.front) (a.end == b.end) q.1 in
-    λ i. record { shebang = eqb-true a.shebang b.shebang p.0 i; space = eqb-true a.space b.space q.0 i; front = tells a.front b.front r.0 i; end = eqb-true a.end b.end r.1 i }
+    let p = and_parts (a.shebang_len == b.shebang_len) (a.space_len == b.space_len && (E a.frontmatter b.frontmatter && a.body == b.body)) e in
+    let q = and_parts (a.space_len == b.space_len) (E a.frontmatter b.frontmatter && a.body == b.body) p.1 in
+    let r = and_parts (E a.frontmatter b.frontmatter) (a.body == b.body) q.1 in
+    λ i. record { shebang_len = eqb-true a.shebang_len b.shebang_len p.0 i; space_len = eqb-true a.space_len b.space_len q.0 i; frontmatter = tells a.frontmatter b.frontmatter r.0 i; body = eqb-true a.body b.body r.1 i }
 
 pub told_head : (answer : Bool) (a b : Head) → answer ≡ head.ghosts.eq a b → IsTrue answer ↔ (a ≡ b)
 told_head answer a b told =

@@ -17,13 +17,13 @@ use Rattle.rustc_lexer.specs.means.Scan.{past}
 -- the head of a text with a shebang line of n bytes, past which `rest` stands, and `past` past the white space there
 abbrev pub head_past : ℕ → List ℕ → List ℕ → Head
 head_past n rest past =
-    if opens (chars past) then record { shebang = n; space = length rest - length past; front = Some (frontmatter past); end = n + (length rest - length past) + (frontmatter past).len }
-    else record { shebang = n; space = 0; front = None; end = n }
+    if opens (chars past) then record { shebang_len = n; space_len = length rest - length past; frontmatter = Some (frontmatter past); body = n + (length rest - length past) + (frontmatter past).len }
+    else record { shebang_len = n; space_len = 0; frontmatter = None; body = n }
 
 -- the same, where the frontmatter may begin with the white space
 abbrev pub head_at : ℕ → List ℕ → Head
 head_at n rest =
-    if opens (chars rest) then record { shebang = n; space = 0; front = Some (frontmatter rest); end = n + (frontmatter rest).len }
+    if opens (chars rest) then record { shebang_len = n; space_len = 0; frontmatter = Some (frontmatter rest); body = n + (frontmatter rest).len }
     else head_past n rest (past (spaces_len (chars rest)) rest)
 
 -- the head of a text
@@ -33,16 +33,16 @@ head_of text = head_at (shebang_len text) (drop (shebang_len text) text)
 -- the same of a whole document, and of a part of one, which has no head
 abbrev pub head_by : Bool → List ℕ → Head
 head_by true = head_of
-head_by false = λ text. record { shebang = 0; space = 0; front = None; end = 0 }
+head_by false = λ text. record { shebang_len = 0; space_len = 0; frontmatter = None; body = 0 }
 
 -- the tokens of a text, by what its head is: those of the head, and of what follows it
 abbrev pub document_by : (List ℕ → Head) → (List ℕ → Token) → List ℕ → List Token
-document_by heads first text = tokens_of_head (heads text) ++ tokens_by first (drop (heads text).end text)
+document_by heads first text = tokens_of_head (heads text) ++ tokens_by first (drop (heads text).body text)
 
 -- what is kept with a text: its tokens, its head, and bounds of the tokens of its body
 abbrev pub AreKeptOf : Bool → (List ℕ → Token) → List ℕ → List Token → Head → Checkpoints → Type 0
 AreKeptOf whole first text tokens head checkpoints =
-    IsText text × (tokens ≡ document_by (head_by whole) first text) × (head ≡ head_by whole text) × IsCharBoundary text head.end
+    IsText text × (tokens ≡ document_by (head_by whole) first text) × (head ≡ head_by whole text) × IsCharBoundary text head.body
     × AreBounds (drop (length (tokens_of_head head)) tokens) checkpoints
 
 -- what an edit puts into the body
@@ -51,14 +51,14 @@ body_insert kept change insert body = if kept then insert else take change.new_s
 
 -- the head is the same after the edit, and ends before it
 abbrev pub HeadStays : (List ℕ → Head) → List ℕ → ℕ → ℕ → List ℕ → Type 0
-HeadStays heads text start stop insert = (heads text ≡ heads (apply text start stop insert)) × ((heads text).end ≤ start)
+HeadStays heads text start stop insert = (heads text ≡ heads (apply text start stop insert)) × ((heads text).body ≤ start)
 
 -- the counts of an edit, where the head stays or does not, by those of the edit of its body
 abbrev pub IsRelexedAs : (List ℕ → Token) → List ℕ → ℕ → ℕ → List ℕ → Bool → Head → Head → List ℕ → Relexed → Type 0
 IsRelexedAs first text start stop insert kept old now made r =
     let edit : Change = record { start = start; old_stop = stop; new_stop = start + length insert } in
-    let change : Change = body_change kept old.end now.end edit in
-    (body : Relexed) × IsRelexed first (drop old.end text) change.start change.old_stop (body_insert kept change insert (drop now.end made)) body
+    let change : Change = body_change kept old.body now.body edit in
+    (body : Relexed) × IsRelexed first (drop old.body text) change.start change.old_stop (body_insert kept change insert (drop now.body made)) body
     × (r ≡ counted kept (length (tokens_of_head old)) (length (tokens_of_head now)) body)
 
 -- the same, by the text alone

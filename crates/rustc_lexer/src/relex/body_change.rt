@@ -30,12 +30,12 @@ impl Head {
         requires new_order { edit.start ≤ edit.new_stop }
         requires old_stop { edit.old_stop < 2 ^ 32 }
         requires new_stop { edit.new_stop < 2 ^ 32 }
-        requires from { self.end < 2 ^ 32 }
-        requires to { now.end < 2 ^ 32 }
+        requires from { self.body < 2 ^ 32 }
+        requires to { now.body < 2 ^ 32 }
 
         // Whether the head stays, and what then changes in the body.
-        ensures keeps { IsTrue result.keeps_head ↔ (self ≡ now) × (self.end ≤ edit.start) }
-        ensures change { result.change ≡ spec.body_change result.keeps_head self.end now.end edit }
+        ensures keeps { IsTrue result.keeps_head ↔ (self ≡ now) × (self.body ≤ edit.start) }
+        ensures change { result.change ≡ spec.body_change result.keeps_head self.body now.body edit }
         ensures body { (first : List ℕ → Token) (before insert text : List ℕ)
             → IsGrammar first → IsEditOf before edit insert text
             → IsHeadOf before self → IsHeadOf text now
@@ -44,7 +44,7 @@ impl Head {
         let keeps_head = keeps_head(self, now, edit.start);
         BodyChange {
             keeps_head,
-            change: body_change(keeps_head, self.end, now.end, edit),
+            change: body_change(keeps_head, self.body, now.body, edit),
         }
     }
 }

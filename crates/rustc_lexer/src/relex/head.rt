@@ -18,28 +18,28 @@ use std::alloc::AllocError;
 #[derive(Clone, Copy, Debug, PartialEq, Eq)]
 pub struct Head {
     /// The length of the shebang line in bytes, or 0.
-    pub shebang: usize,
+    pub shebang_len: usize,
     /// The length in bytes of the white space before the frontmatter if that is a token of its own, or 0.
-    pub space: u32,
+    pub space_len: u32,
     /// The frontmatter, or `None` if there is none.
-    pub front: Option<Token>,
+    pub frontmatter: Option<Token>,
     /// Where the body begins, in bytes from the start of the text.
-    pub end: usize,
+    pub body: usize,
 }
 
 /// The head of a part of a document, which has none.
 pub(crate) const NO_HEAD: Head = Head {
-    shebang: 0,
-    space: 0,
-    front: None,
-    end: 0,
+    shebang_len: 0,
+    space_len: 0,
+    frontmatter: None,
+    body: 0,
 };
 
 /// Finds the head of a whole document, or of a part of one, which has none.
 pub(crate) fn find_head(whole: bool, text: &str) -> Head
     requires fits { Fits text.now }
     ensures head { result ≡ means.head_by whole text.now }
-    ensures boundary { IsCharBoundary text.now result.end }
+    ensures boundary { IsCharBoundary text.now result.body }
 {
     if whole { Head::of(text) } else { NO_HEAD }
 }
@@ -50,7 +50,7 @@ impl Head {
     pub fn find(text: &str) -> Head
         requires fits { Fits text.now }
         ensures head { spec.IsHeadOf text.now result }
-        ensures boundary { IsCharBoundary text.now result.end }
+        ensures boundary { IsCharBoundary text.now result.body }
     {
         Head::of(text)
     }
@@ -59,16 +59,16 @@ impl Head {
     pub(crate) fn of(text: &str) -> Head
         requires fits { Fits text.now }
         ensures head { result ≡ means.head_of text.now }
-        ensures boundary { IsCharBoundary text.now result.end }
+        ensures boundary { IsCharBoundary text.now result.body }
     {
         let shebang = shebang_len(text);
         let rest = &text[shebang..];
         if let Some(front) = frontmatter(rest) {
             return Head {
-                shebang,
-                space: 0,
-                front: Some(front),
-                end: shebang + front.len as usize,
+                shebang_len: shebang,
+                space_len: 0,
+                frontmatter: Some(front),
+                body: shebang + front.len as usize,
             };
         }
         let past = eat_whitespace(rest);
@@ -76,17 +76,17 @@ impl Head {
             Some(front) => {
                 let space = rest.len() - past.len();
                 Head {
-                    shebang,
-                    space: space as u32,
-                    front: Some(front),
-                    end: shebang + space + front.len as usize,
+                    shebang_len: shebang,
+                    space_len: space as u32,
+                    frontmatter: Some(front),
+                    body: shebang + space + front.len as usize,
                 }
             }
             None => Head {
-                shebang,
-                space: 0,
-                front: None,
-                end: shebang,
+                shebang_len: shebang,
+                space_len: 0,
+                frontmatter: None,
+                body: shebang,
             },
         }
     }
@@ -95,9 +95,9 @@ impl Head {
     pub fn count(self) -> usize
         ensures { result ≡ length (spec.tokens_of_head self) }
     {
-        match self.front {
+        match self.frontmatter {
             None => 0,
-            Some(_) => { if self.space == 0 { 1 } else { 2 } }
+            Some(_) => { if self.space_len == 0 { 1 } else { 2 } }
         }
     }
 
@@ -105,11 +105,11 @@ impl Head {
     pub(crate) fn push_to(self, list: &mut Vec<Token>) -> Result<(), AllocError>
         ensures { OnOk result (list.new.items ≡ list.old.items ++ spec.tokens_of_head self) }
     {
-        if let Some(front) = self.front {
-            if self.space > 0 {
+        if let Some(front) = self.frontmatter {
+            if self.space_len > 0 {
                 list.push(Token {
                     kind: TokenKind::Whitespace,
-                    len: self.space,
+                    len: self.space_len,
                 })?;
             }
             list.push(front)?;

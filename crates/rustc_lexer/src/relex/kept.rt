@@ -49,7 +49,7 @@ impl<S: Stepper> Kept<S> {
 
         // The head, and all tokens of the text.
         ensures head { IfOk result (λ k. k.head ≡ means.head_by whole text.now) }
-        ensures head_boundary { IfOk result (λ k. IsCharBoundary text.now k.head.end) }
+        ensures head_boundary { IfOk result (λ k. IsCharBoundary text.now k.head.body) }
         ensures from_scratch { IfOk result
             (λ k. k.tokens.items ≡ means.document_by (means.head_by whole) (S.grammar k.stepper) text.now) }
         ensures checkpoints { IfOk result
@@ -64,7 +64,7 @@ impl<S: Stepper> Kept<S> {
     {
         let mut stepper = stepper;
         let head = find_head(whole, text);
-        let (mut tokens, checkpoints) = lex_all(alloc, &mut stepper, &text[head.end..])?;
+        let (mut tokens, checkpoints) = lex_all(alloc, &mut stepper, &text[head.body..])?;
         let mut front = Vec::new(alloc);
         head.push_to(&mut front)?;
         replace(&mut tokens, 0, 0, front)?;
@@ -194,8 +194,8 @@ impl<S: Stepper> Kept<S> {
         let kept = keeps_head(self.head, now, start);
         let change = body_change(
             kept,
-            self.head.end,
-            now.end,
+            self.head.body,
+            now.body,
             Change {
                 start,
                 old_stop: stop,
@@ -205,7 +205,7 @@ impl<S: Stepper> Kept<S> {
         let count = self.tokens.as_slice().len();
         let old_count = self.head.count();
         let near = self.checkpoints.nearest(change.start);
-        let body = &made[now.end..];
+        let body = &made[now.body..];
         let new_head = new_head(kept, now);
         match self.renew(old_count, new_head, near, body, change) {
             Ok(at) => {
@@ -228,19 +228,19 @@ impl<S: Stepper> Kept<S> {
             self.now.checkpoints }
         requires inside { number ≤ length self.now.tokens.items }
         ensures number { result.number ≤ number }
-        ensures place { result.place ≡ self.now.head.shebang + bound self.now.tokens.items result.number }
+        ensures place { result.place ≡ self.now.head.shebang_len + bound self.now.tokens.items result.number }
     {
         let count = self.head.count();
         if number < count {
             return Bound {
                 number: 0,
-                place: self.head.shebang,
+                place: self.head.shebang_len,
             };
         }
         let near = self.checkpoints.before_number(number - count);
         Bound {
             number: count + near.number,
-            place: self.head.end + near.place,
+            place: self.head.body + near.place,
         }
     }
 
@@ -250,7 +250,7 @@ impl<S: Stepper> Kept<S> {
             × means.AreKeptOf whole (S.grammar self.now.stepper) text self.now.tokens.items self.now.head
             self.now.checkpoints }
         requires inside { number ≤ length self.now.tokens.items }
-        ensures { result ≡ self.now.head.shebang + bound self.now.tokens.items number }
+        ensures { result ≡ self.now.head.shebang_len + bound self.now.tokens.items number }
     {
         let near = self.bound_before(number);
         let start = near.place as u32;

@@ -89,7 +89,7 @@ impl<S: Stepper> LexedDocument<S> {
         ensures shebang { result ≡ spec.shebang_len self.now.text }
         ensures inside { result ≤ length self.now.text }
     {
-        self.kept.head.shebang
+        self.kept.head.shebang_len
     }
 
     /// Returns the tokens of the document, in order. The shebang line has none.

@@ -71,7 +71,7 @@ impl LexedDocument<Steps> {
     {
         Bound {
             number: self.kept.head.count(),
-            place: self.kept.head.end,
+            place: self.kept.head.body,
         }
     }
 

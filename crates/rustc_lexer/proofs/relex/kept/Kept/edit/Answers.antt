@@ -49,7 +49,7 @@ returns-in-Ok g c =
         subst IsText c.as_str-made.ensures.value is,
         new_are (g.S.Stepper.law c.args.self.now.stepper) b c.new_head-new_head.ensures r.0 ∙ ap₂ (document_by (head_by c.args.whole)) (sym c.renew.ensures.grammar) c.as_str-made.ensures.value,
         c.find_head-now.ensures.head ∙ ap (head_by c.args.whole) c.as_str-made.ensures.value,
-        subst (λ (xs : List ℕ). IsCharBoundary xs c.find_head-now.result.end) c.as_str-made.ensures.value c.find_head-now.ensures.boundary,
+        subst (λ (xs : List ℕ). IsCharBoundary xs c.find_head-now.result.body) c.as_str-made.ensures.value c.find_head-now.ensures.boundary,
         subst (λ (ts : List Token). AreBounds ts c.past_edit-self.result) (sym (new_behind (g.S.Stepper.law c.args.self.now.stepper) b c.new_head-new_head.ensures r.0)) (c.past_edit-self.ensures _ _ (bounds_move (g.S.Stepper.law c.args.self.now.stepper) b c.new_head-new_head.ensures r.0 c.args.self.now.checkpoints b.n_is c.requires.kept.4).1 (subst (λ (x : Checkpoints). AreBounds (drop c.count-old_count.result c.args.self.now.tokens.items) x) (sym c.renew.ensures.checkpoints) (subst (λ k. AreBounds (drop k c.args.self.now.tokens.items) c.args.self.now.checkpoints) (sym b.n_is) c.requires.kept.4))),
       );
       same_tokens = search rules;
@@ -80,7 +80,7 @@ returns-clause-kept g c =
       subst IsText (sym same) k.0,
       c.in-Err.ensures.same ∙ (k.1 ∙ ap₂ (document_by (head_by c.args.whole)) (sym c.renew.ensures.grammar) (sym same)),
       head ∙ (k.2 ∙ ap (head_by c.args.whole) (sym same)),
-      subst (λ (h : Head). IsCharBoundary (string_bytes c.put_in_place-in-Err.new.text) h.end) (sym head) (subst (λ (xs : List ℕ). IsCharBoundary xs c.args.self.now.head.end) (sym same) k.3),
+      subst (λ (h : Head). IsCharBoundary (string_bytes c.put_in_place-in-Err.new.text) h.body) (sym head) (subst (λ (xs : List ℕ). IsCharBoundary xs c.args.self.now.head.body) (sym same) k.3),
       rw (head, c.in-Err.ensures.same, c.renew.ensures.checkpoints) k.4,
     )
 

@@ -11,5 +11,5 @@ place_of-requires-clause-inside g c = omega (arith, c.requires.inside, ap (λ h.
 
 pub returns : goal.returns
 returns g c =
-    let start = ap (λ (h : Head). h.shebang) c.self.invariant.2 in
+    let start = ap (λ (h : Head). h.shebang_len) c.self.invariant.2 in
     subst (λ h. c.place_of.result ≡ bound h.tokens c.args.number) c.self.view_is (omega (arith, c.place_of.ensures, start))
