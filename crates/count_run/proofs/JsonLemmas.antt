@@ -31,13 +31,10 @@ report-tokens by_file report a b c d e f g first listed total inner counted last
     grind (arith, common_steps, append_assoc, token-first)
 
 -- it nests four deep at most
-file-depth : (file : FileCounts) → depth (file_object file) ≤ 1
-unfolding file_object numbers
-file-depth file = omega arith
-
 files-depth : (files : List FileCounts) → items_depth (file_objects files) ≤ 1
+unfolding file_object numbers
 files-depth [] = omega arith
-files-depth (file ∷ files) = max-le (file-depth file) (files-depth files)
+files-depth (file ∷ files) = max-le (omega arith) (files-depth files)
 
 report-depth : (by_file : Bool) (report : Report) → depth (report_object by_file report) ≤ max_depth
 unfolding report_object numbers

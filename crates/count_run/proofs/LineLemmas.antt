@@ -63,20 +63,14 @@ tally-counts ls = tally-sums no_counts ls ∙ same_counts {a = sums no_counts ls
 abbrev joined : Line → Line → Line
 joined a b = record { code = a.code || b.code; doc = a.doc || b.doc; comment = a.comment || b.comment }
 
-or-swap : (a b c : Bool) → (a || b) || c ≡ b || (a || c)
-or-swap a b c = grind arith
-
-or-one : (a b : Bool) → a || b ≡ b || (a || false)
-or-one a b = grind arith
-
 same_line : {a b : Line} → a.code ≡ b.code → a.doc ≡ b.doc → a.comment ≡ b.comment → a ≡ b
 same_line p q r = λ i. record { code = p i; doc = q i; comment = r i }
 
 with_class-one : (k : Line) (m : Mark) → with_class k m.class ≡ joined k (line_of (m ∷ []))
-with_class-one k m = grind (arith, common_steps, same_line, or-one)
+with_class-one k m = grind (arith, common_steps, same_line)
 
 with_class-more : (k : Line) (m : Mark) (line : List Mark) → joined (with_class k m.class) (line_of line) ≡ joined k (line_of (m ∷ line))
-with_class-more k m line = grind (arith, common_steps, same_line, or-swap)
+with_class-more k m line = grind (arith, common_steps, same_line)
 
 -- ---- the lines that are left, the first of which goes on
 
@@ -90,7 +84,7 @@ left-fresh parts = grind (arith, common_steps)
 
 -- the line ends
 left-ends : (k : Line) (o : Bool) (m : Mark) (parts : List (List Mark)) → with_class k m.class ∷ left no_line false parts ≡ left k o ((m ∷ []) ∷ parts)
-left-ends k o m parts = ap (λ (l : Line). l ∷ left no_line false parts) (with_class-one k m) ∙ ap (λ ls. joined k (line_of (m ∷ [])) ∷ ls) (left-fresh parts)
+left-ends k o m parts = grind (arith, common_steps, with_class-one, left-fresh)
 
 -- the line goes on
 left-goes : (k : Line) (o : Bool) (m : Mark) (parts : List (List Mark)) → left (with_class k m.class) true parts ≡ left k o (onto_line m parts)
@@ -151,11 +145,8 @@ bytes-mark class (b ∷ bs) = ap (λ xs. b ∷ xs) (bytes-mark class bs)
 bytes-first : (class : Class) (bs : List ℕ) (ms : List Mark) → map byte_of (map (mark class) bs ++ ms) ≡ bs ++ map byte_of ms
 bytes-first class bs ms = map-append byte_of (map (mark class) bs) ms ∙ ap (λ xs. xs ++ map byte_of ms) (bytes-mark class bs)
 
-none_left : (bs : List ℕ) → 0 ≡ length bs → [] ≡ bs
-none_left bs e = grind (arith, common_steps)
-
 pub bytes-token_marks : (tokens : List Token) (text : List ℕ) → bound tokens (length tokens) ≡ length text → map byte_of (token_marks text tokens) ≡ text
-bytes-token_marks [] text whole = none_left text whole
+bytes-token_marks [] text whole = grind (arith, common_steps)
 bytes-token_marks (token ∷ tokens) text whole =
     grind (arith, common_steps, bytes-first, length-drop, take-append-drop, bytes-token_marks tokens)
 

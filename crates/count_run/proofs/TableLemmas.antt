@@ -11,35 +11,22 @@ repeat-one : (n : ℕ) → repeat {A = ℕ} n (32 ∷ []) ≡ replicate {A = ℕ
 repeat-one zero = refl
 repeat-one (suc n) = ap (λ xs. 32 ∷ xs) (repeat-one n)
 
-filled : (p q r : ℕ) (fill digits : List ℕ) → fill ≡ 32 ∷ [] → p ≡ r → q ≡ 0
-    → (((repeat {A = ℕ} p fill ++ []) ++ []) ++ []) ++ (digits ++ repeat {A = ℕ} q fill) ≡ replicate {A = ℕ} r 32 ++ digits
-filled p q r fill digits space before after = grind (arith, common_steps, append-nil, replicate, repeat-one)
-
 padded-at_right : (width n : ℕ) → padded_integral (format_spec 32 3 0 width (2 ^ 64 - 1)) false [] (decimal n) ≡ at_right width n
 unfolding at_right padded_integral char_count encode_utf8
-padded-at_right width n = grind (arith, common_steps, filled)
-
-bare : (b : Bool) (x y z : List ℕ) → (b ≡ true → x ≡ z) → y ≡ z → (if (b && true) && true then x else y) ≡ z
-bare b x y z whole other = grind (arith, common_steps)
-
-none-before : (width n : ℕ) → (width == 0) ≡ true → 0 ≡ width - n
-none-before width n none = let e : width ≡ 0 = eqb-true width 0 none in omega arith
+padded-at_right width n = grind (arith, common_steps, append-nil, replicate, repeat-one)
 
 whole-at_right : (width n : ℕ) → (width == 0) ≡ true → decimal n ≡ at_right width n
 unfolding at_right
-whole-at_right width n none = ap (λ (m : ℕ). replicate {A = ℕ} m 32 ++ decimal n) (none-before width (length (decimal n)) none)
+whole-at_right width n none = grind (arith, common_steps, eqb-true, replicate)
 
 -- what a hole with a width writes of a number
 pub text-at_right : (width n : ℕ) → styled_decimal (format_spec 32 3 0 width (2 ^ 64 - 1)) n ≡ at_right width n
-text-at_right width n = grind (arith, common_steps, bare, whole-at_right, padded-at_right)
-
-regroup : (a b c d e : List ℕ) → (((a ++ b) ++ c) ++ d) ++ e ≡ a ++ (b ++ (c ++ (d ++ e)))
-regroup a b c d e = simp append_assoc
+text-at_right width n = grind (arith, common_steps, whole-at_right, padded-at_right)
 
 pub row-pushed : {E : Type 0} (r : Result (Unit {0}) E) (first second third fourth last name : List ℕ) (cols : List (ℕ × ℕ)) (counts : LineCounts)
     → cols ≡ columns counts → second ≡ first ++ cells cols → third ≡ second ++ codes "  " → fourth ≡ third ++ name
     → last ≡ (if is_ok r then fourth ++ codes "\n" else fourth) → OnOk r (last ≡ first ++ row name counts)
 unfolding row
-row-pushed r first second third fourth last name cols counts is a b c d = grind (arith, common_steps, regroup)
+row-pushed r first second third fourth last name cols counts is a b c d = grind (arith, common_steps, append_assoc)
 
 pub ruleset table_lemmas = (text-at_right, row-pushed)

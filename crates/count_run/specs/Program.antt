@@ -3,7 +3,7 @@ use Rattle.std.specs.Prelude.{ℕ, List, Option, Result, IfErr}
 use Rattle.ends.specs.Run.{RanBy}
 use Rattle.ends.specs.declared.stop.Stop.{Stop}
 use Rattle.ends.specs.declared.stop.Stop.TheVariants.{Arguments, Skipped, Memory, Write, ClosedPipe}
-use Rattle.count_run.specs.Job.{Command, count, help, job_of}
+use Rattle.count_run.specs.Job.{Command, count, job_of}
 
 -- what may stop a command: help reads nothing, so nothing is skipped
 abbrev pub IsStopOf : Command → Stop → Type 0

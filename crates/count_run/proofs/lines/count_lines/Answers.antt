@@ -1,13 +1,10 @@
-use Rattle.std.proofs.Common.{◌≡◌, ℕ, ◌-◌, List, length, take, drop, length-drop, arith, ap, sym, subst, ◌∙◌, IsCharBoundary}
+use Rattle.std.proofs.Common.{arith, ap, ◌∙◌}
 use Rattle.std.proofs.lemmas.Grind.{common_steps}
-use Rattle.rustc_lexer.specs.Document.{shebang_len}
-use Rattle.rustc_lexer.specs.State.{State}
 use Rattle.rustc_lexer.specs.Tokens.{tokens_left}
-use Rattle.rustc_lexer.proofs.PlaceLemmas.{document_place, document_start, piece_is, stands_past}
+use Rattle.rustc_lexer.proofs.PlaceLemmas.{piece_is, stands_past}
 use Rattle.count_run.specs.declared.lines.LineCounts.{LineCounts}
-use Rattle.count_run.specs.Counter.{begun}
 use Rattle.count_run.specs.Lines.{lines_counted}
-use Rattle.count_run.proofs.LineLemmas.{bytes_step, bytes-marks, document_begins, document_counts, lines-counted}
+use Rattle.count_run.proofs.LineLemmas.{bytes_step, bytes-marks, document_counts, lines-counted}
 use Rattle.count_run.proofs.lines.count_lines.Goals as goal
 
 pub loop-token-preserved : goal.loop-token-preserved

@@ -1,7 +1,5 @@
-use Rattle.std.proofs.Common.{◌≡◌, refl}
-use Rattle.count_run.proofs.OutcomeLemmas.{counted-none, counted-step}
+use Rattle.count_run.proofs.OutcomeLemmas.{counted-step}
 use Rattle.count_run.proofs.run.count_found.Goals as goal
-use Rattle.std.specs.Vec.Iter.{into_iter_items}
 
 pub loop-path-preserved : goal.loop-path-preserved
 loop-path-preserved g c =
