@@ -1,5 +1,5 @@
 -- The line of a rule, as it is put together.
-use Rattle.std.proofs.Common.{◌≡◌, ℕ, zero, suc, ◌-◌, ◌^◌, List, [], ◌∷◌, ◌++◌, length, replicate, refl, ap, ◌∙◌, codes, decimal, Result, is_ok, if◌then◌else◌, OnOk, append-nil, arith}
+use Rattle.std.proofs.Common.{◌≡◌, ℕ, zero, suc, ◌-◌, ◌^◌, List, [], ◌∷◌, ◌++◌, replicate, refl, ap, ◌∙◌, codes, append-nil, arith}
 use Rattle.std.proofs.lemmas.Grind.{common_steps}
 use Rattle.std.specs.Fmt.{char_count, format_spec, padded_integral, styled_decimal}
 use Rattle.std.specs.Char.{encode_utf8}
@@ -12,14 +12,10 @@ spaces : (n : ℕ) → repeat {A = ℕ} n (32 ∷ []) ≡ replicate {A = ℕ} n 
 spaces zero = refl
 spaces (suc n) = ap (λ xs. 32 ∷ xs) (spaces n)
 
-filled : (p q r : ℕ) (fill digits : List ℕ) → fill ≡ 32 ∷ [] → p ≡ r → q ≡ 0
-    → (((repeat {A = ℕ} p fill ++ []) ++ []) ++ []) ++ (digits ++ repeat {A = ℕ} q fill) ≡ replicate {A = ℕ} r 32 ++ digits
-filled p q r fill digits space before after = grind (arith, common_steps, append-nil, replicate, spaces)
-
 -- what a hole of six places writes of a number
 text-at_right : (n : ℕ) → styled_decimal (format_spec 32 3 0 6 (2 ^ 64 - 1)) n ≡ at_right n
 unfolding at_right padded_integral char_count encode_utf8
-text-at_right n = grind (arith, common_steps, filled)
+text-at_right n = grind (arith, common_steps, append-nil, replicate, spaces)
 
 -- what is put in is the line of the rule
 pub line-is : (shown : List ℕ) (n : ℕ) (used : List Rule) (rule : Rule) (name : List ℕ) → shown ≡ styled_decimal (format_spec 32 3 0 6 (2 ^ 64 - 1)) n → n ≡ uses used name → name ≡ rule_text rule
@@ -30,5 +26,4 @@ line-is shown n used rule name is counts named =
     ap (λ (xs : List ℕ). xs ++ (codes "  " ++ (name ++ codes "\n"))) (is ∙ (text-at_right n ∙ number))
     ∙ ap (λ (xs : List ℕ). at_right (uses used (rule_text rule)) ++ (codes "  " ++ (xs ++ codes "\n"))) named
 
-pub pushed : {E : Type 0} (r : Result (Unit {0}) E) (new old text other : List ℕ) → new ≡ (if is_ok r then old ++ text else old) → text ≡ other → OnOk r (new ≡ old ++ other)
-pushed r new old text other is same = grind (arith, common_steps)
+pub ruleset told_lemmas = (line-is)

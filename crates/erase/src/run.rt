@@ -195,6 +195,7 @@ fn push_lines(
 }
 
 /// Appends how often a rule was used.
+#[tactic(auto, using(crate::proofs::ToldLemmas::told_lemmas, std::proofs::lemmas::Grind::common_steps))]
 fn push_line(alloc: Global, rule: Rule, used: &[Rule], told: &mut String) -> Result<(), AllocError>
     ensures { OnOk result
         (string_bytes told.new ≡ string_bytes told.old ++ rule_line used.now rule) }

@@ -57,6 +57,7 @@ pub fn write_listing<W: Write>(
 }
 
 /// Lists the tokens of a text in an edition. The text may have at most `u32::MAX` bytes.
+#[tactic(auto, using(crate::proofs::PushLemmas::went_none, crate::proofs::PushLemmas::went_all, crate::proofs::ListingLemmas::none_left, crate::proofs::ListingLemmas::buffer_fits, std::proofs::lemmas::Grind::common_steps))]
 pub fn list_tokens<W: Write>(
     lines: &mut Block,
     output: &mut Watched<W>,

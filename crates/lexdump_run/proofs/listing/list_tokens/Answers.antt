@@ -4,24 +4,10 @@ use Rattle.rustc_lexer.specs.LanguageText.{mode_in}
 use Rattle.rustc_lexer.specs.Tokens.{bound, tokens_left, tokens_of}
 use Rattle.rustc_lexer.proofs.FillLemmas.{past_fill}
 use Rattle.lexdump_run.specs.Listing.{listing}
-use Rattle.lexdump_run.proofs.ListingLemmas.{none_left, buffer_fits, buffer-split}
-use Rattle.lexdump_run.proofs.PushLemmas.{went_none, went_first, went_all, pushes_stopped}
+use Rattle.lexdump_run.proofs.ListingLemmas.{buffer-split}
+use Rattle.lexdump_run.proofs.PushLemmas.{went_first, pushes_stopped}
 use Rattle.lexdump_run.proofs.listing.list_tokens.Goals as goal
 use Rattle.std.proofs.lemmas.Grind.{common_steps}
-
-pub left-init : goal.left-init
-left-init g c = grind (
-  arith,
-  common_steps,
-  went_none,
-  c.tokenize_as-tokens.ensures.state,
-  c.requires.writes,
-  c.tokenize_as-tokens.ensures.tokens,
-)
-
-pub push_lines-requires-clause-fits : goal.push_lines-requires-clause-fits
-push_lines-requires-clause-fits g c =
-    buffer_fits c.args.text.now c.as_str-in-left.result.now c.left.tokens.rest c.left.tokens.mode c.left.buffer c.fill-count.new.buffer c.fill-count.result c.as_str-in-left.ensures.rest c.as_str-in-left.utf8 c.left.invariant.within c.requires.fits (record { as_many = c.fill-count.ensures.count; tokens = c.fill-count.ensures.tokens })
 
 pub left-preserved : goal.left-preserved
 left-preserved g c =
@@ -45,7 +31,3 @@ returns-in_err-push_lines-clause-pushed g c =
     pushes_stopped (g.W.Write.contents c.args.output.now.inner) _ (g.W.Write.contents c.push_lines.new.output.inner) c.args.lines.now c.push_lines.new.lines (listing (tokens_of (mode_in c.args.frontmatter_allowed c.args.edition) c.args.text.now)) _ _ _ _ _ c.from_residual.result c.left.invariant.lines
     (buffer-split c.args.text.now c.as_str-in-left.result.now c.left.tokens.rest c.left.tokens.mode c.left.buffer c.fill-count.new.buffer c.fill-count.result c.as_str-in-left.ensures.rest c.as_str-in-left.utf8 c.left.invariant.within c.requires.fits (record { as_many = c.fill-count.ensures.count; tokens = c.fill-count.ensures.tokens }) _ _ refl refl)
     c.in_err-push_lines.ensures.pushed c.from_residual.ensures.1
-
-pub returns-clause-pushed : goal.returns-clause-pushed
-returns-clause-pushed g c =
-    grind (arith, common_steps, rules, went_all, none_left, c.left.invariant.lines, c.as_str.ensures.rest)
