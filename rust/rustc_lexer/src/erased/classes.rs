@@ -45,17 +45,17 @@ pub fn is_horizontal_whitespace(c: char) -> bool {
 /// Rust Reference, [Identifiers](https://doc.rust-lang.org/reference/identifiers.html).
 #[inline]
 pub fn is_id_start(c: char) -> bool {
-    c == '_' || is_xid_start(c)
-}
-
-/// Returns whether the character is `XID_Start`. For a character in ASCII it does not read the table.
-#[inline]
-fn is_xid_start(c: char) -> bool {
     if c.is_ascii() {
-        c.is_ascii_alphabetic()
+        is_ascii_start(c)
     } else {
         unicode_ident::is_xid_start(c)
     }
+}
+
+/// Returns whether an identifier may begin with the character, which is in ASCII.
+#[inline]
+fn is_ascii_start(c: char) -> bool {
+    c == '_' || c.is_ascii_alphabetic()
 }
 
 /// Returns whether an identifier may continue with the character: with an `XID_Continue` character of

@@ -47,7 +47,7 @@ pub(crate) fn eat_marked(tail: &str) -> Option<&str> {
 #[inline]
 pub fn is_ident(string: &str) -> bool {
     match split_first(string) {
-        Some((first, tail)) => is_id_start(first) && eat_while(tail, is_id_continue).is_empty(),
+        Some((first, tail)) => is_id_start(first) && tail.chars().all(is_id_continue),
         None => false,
     }
 }
