@@ -1,6 +1,5 @@
 //! Classes of characters.
-ghost use Rattle.std.specs.Prelude.{◌≡◌, ◌↔◌, ◌||◌, ◌==◌, IsTrue};
-ghost use Rattle.std.specs.Char.{is_ascii_alphabetic, is_ascii_alphanumeric};
+ghost use Rattle.std.specs.Prelude.{◌≡◌, ◌↔◌, IsTrue};
 ghost use Rattle.rustc_lexer.specs.Classes;
 
 pub(crate) mod emoji;
@@ -54,19 +53,7 @@ pub fn is_horizontal_whitespace(c: char) -> bool
 pub fn is_id_start(c: char) -> bool
     ensures { result ≡ Classes.is_id_start c }
 {
-    if c.is_ascii() {
-        is_ascii_start(c)
-    } else {
-        unicode_ident::is_xid_start(c)
-    }
-}
-
-/// Returns whether an identifier may begin with the character, which is in ASCII.
-#[inline]
-fn is_ascii_start(c: char) -> bool
-    ensures { result ≡ ((c == 95) || is_ascii_alphabetic c) }
-{
-    c == '_' || c.is_ascii_alphabetic()
+    c == '_' || unicode_ident::is_xid_start(c)
 }
 
 /// Returns whether an identifier may continue with the character: with an `XID_Continue` character of
@@ -79,19 +66,7 @@ fn is_ascii_start(c: char) -> bool
 pub fn is_id_continue(c: char) -> bool
     ensures { result ≡ Classes.is_id_continue c }
 {
-    if c.is_ascii() {
-        is_ascii_continue(c)
-    } else {
-        unicode_ident::is_xid_continue(c)
-    }
-}
-
-/// Returns whether an identifier may continue with the character, which is in ASCII.
-#[inline]
-fn is_ascii_continue(c: char) -> bool
-    ensures { result ≡ (is_ascii_alphanumeric c || (c == 95)) }
-{
-    c.is_ascii_alphanumeric() || c == '_'
+    unicode_ident::is_xid_continue(c)
 }
 
 /// Returns whether the text has at most `u32::MAX` bytes, so that every length in it is a `u32`.
