@@ -21,7 +21,7 @@ use std::alloc::{AllocError, Global};
 /// One edit, which borrows its insertion.
 #[derive(Clone, Copy, Debug, PartialEq, Eq)]
 pub struct Edit<'a> {
-    /// Where the bytes that are taken out begin, in bytes from the start of the text.
+    /// Where the replaced bytes begin, in bytes from the start of the text.
     pub start: usize,
     /// Where they end, in bytes from the start of the text.
     pub stop: usize,
@@ -62,8 +62,8 @@ pub(crate) fn put_in_place(text: &mut String, start: usize, stop: usize, insert:
     prove!(put.is_ok());
 }
 
-/// Lexes the new text from the kept front on, until it meets the old tokens. Returns the tokens in between, and the
-/// place where they meet.
+/// Lexes the new text from the end of the kept front until it meets the old tokens. Returns the tokens in between, and
+/// where they meet the old ones.
 pub(crate) fn relex<S: Stepper>(
     alloc: Global,
     stepper: &mut S,
@@ -113,7 +113,7 @@ pub(crate) fn relex<S: Stepper>(
     Ok((tokens, at))
 }
 
-/// Lexes tokens many at once, as long as the old tokens are far.
+/// Lexes many tokens at once, as long as the old tokens are far.
 ///
 /// It is not inlined, so that a short edit needs no room for the buffer.
 #[inline(never)]

@@ -110,7 +110,7 @@ impl<S: Stepper> LexedDocument<S> {
     }
 
     /// Gives back memory that edits have left unused, as `Vec::shrink_to_fit` does. Text, tokens and stepper stay. If
-    /// memory is refused on the way, the unused memory stays too.
+    /// an allocation fails on the way, the unused memory stays too.
     pub fn shrink_to_fit(&mut self)
         ensures { self.new ≡ self.old }
     {
