@@ -87,7 +87,7 @@ ends_prefix c = is_among (codes "#\"'") c
 abbrev pub is_info : ℕ → Bool
 is_info c = is_id_continue c || is_among (codes "-.") c
 
--- ---- what stands in a text, and what follows it
+-- ---- what a text begins with, and what follows it
 
 -- whether the text begins with these characters
 abbrev pub begins : Chars → Chars → Bool
