@@ -58,7 +58,7 @@ pub(crate) fn put_in_place(text: &mut String, start: usize, stop: usize, insert:
     ensures capacity { string_capacity text.old ≤ string_capacity text.new }
 {
     let put = text.replace_range(start..stop, insert);
-    // There is room, so it asks for no memory.
+    // There is room, so it does not allocate.
     prove!(put.is_ok());
 }
 
@@ -88,7 +88,7 @@ pub(crate) fn relex<S: Stepper>(
         → IsLexed (S.grammar stepper.old) before change text.now r.0.items r.1) }
     ensures may_go_on { IfOk result (λ r. MayGoOn text.now (length old.now) r.1) }
 
-    // How many steps were taken, also where it fails.
+    // How many steps were taken, also if it fails.
     ensures count { IfOk result
         (λ r. S.count stepper.new ≡ S.count stepper.old + length r.0.items) }
     ensures rose { S.count stepper.old ≤ S.count stepper.new }

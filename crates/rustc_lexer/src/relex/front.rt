@@ -136,7 +136,7 @@ fn walk_ahead<T: Measured>(text: &str, tokens: &[T], start: usize, from: Bound) 
     ensures boundary { IsCharBoundary text.now result.place }
     ensures before { result.place ≤ start }
 
-    // If these are the tokens of the old text, it is one of their bounds.
+    // If these are the tokens of the old text, it is one of their boundaries.
     ensures bound { (old : List ℕ) (ts : List Token)
         → IsFront old ts (map T.bytes tokens.now) text.now start → IsBound ts from
         → (0 < from.number → has_two old from.place start ≡ true)
@@ -232,16 +232,16 @@ pub(crate) fn follow<T: Measured>(
     requires added_le { damage.added ≤ damage.past }
     requires place_fits { place + damage.removed < 2 ^ 34 }
 
-    // It is at `from` or behind it, among the old tokens.
+    // It is not before `from`, and is among the old tokens.
     ensures number { result.at.number ≤ length tokens.now }
     ensures ahead { from.number ≤ result.at.number }
     ensures small { result.at.place < 2 ^ 63 }
 
-    // Before the end of the edit nothing is met.
+    // Before the end of the edit, no old token is met.
     ensures stays { place < damage.past → result.at ≡ from }
     ensures early { place < damage.past → result.met ≡ false }
 
-    // Past it, how far exactly they are followed, and whether they are met there.
+    // After it, how far exactly they are followed, and whether they are met there.
     ensures followed { (ts : List Token) → HasLengths ts (map T.bytes tokens.now) → IsBound ts from
         → ((k : ℕ) → k < from.number
         → bound ts k + damage.past < max damage.past place + old_stop_of damage)

@@ -91,7 +91,7 @@ impl<S: Stepper> Kept<S> {
         requires change { IsChange body.now change }
         requires count { old_count ≤ length self.old.tokens.items }
 
-        // What stays as it was; where it fails, the tokens too.
+        // What stays as it was; if it fails, the tokens too.
         ensures grammar { S.grammar self.new.stepper ≡ S.grammar self.old.stepper }
         ensures number { S.number self.new.stepper ≡ S.number self.old.stepper }
         ensures head { self.new.head ≡ self.old.head }
@@ -110,7 +110,7 @@ impl<S: Stepper> Kept<S> {
         ensures may_go_on { IfOk result
             (λ at. MayGoOn body.now (length (drop old_count self.old.tokens.items)) at) }
 
-        // How many steps were taken where it fails.
+        // How many steps were taken if it fails.
         ensures rose { S.count self.old.stepper ≤ S.count self.new.stepper }
         ensures few { IfErr result
             (λ _. (before insert : List ℕ)
@@ -144,7 +144,7 @@ impl<S: Stepper> Kept<S> {
         ensures grammar { S.grammar self.new.stepper ≡ S.grammar self.old.stepper }
         ensures number { S.number self.new.stepper ≡ S.number self.old.stepper }
 
-        // What the text is afterwards, and what is kept of it. Where it fails, text and tokens are as before.
+        // What the text is afterwards, and what is kept of it. If it fails, text and tokens are as before.
         ensures text { OnOk result
             (string_bytes text.new
             ≡ apply (string_bytes text.old) edit.entry.start edit.entry.stop edit.entry.insert.now) }
@@ -165,7 +165,7 @@ impl<S: Stepper> Kept<S> {
             (λ r. drop (r.kept_front + r.lexed) self.new.tokens.items
             ≡ drop (length self.old.tokens.items - r.kept_back) self.old.tokens.items) }
 
-        // How many steps were taken, also where it fails.
+        // How many steps were taken, also if it fails.
         ensures count { IfOk result
             (λ r. means.IsCountedByHead (means.head_by whole) (string_bytes text.old)
             edit.entry.start edit.entry.stop edit.entry.insert.now

@@ -168,7 +168,7 @@ impl<S: Stepper> LexedDocument<S> {
         ensures number { S.number self.new.stepper ≡ S.number self.old.stepper }
         ensures rose { S.count self.old.stepper ≤ S.count self.new.stepper }
 
-        // Where it fails, nothing changed, and few steps were taken.
+        // If it fails, nothing has changed, and few steps were taken.
         ensures same_text { OnErr result (self.new.text ≡ self.old.text) }
         ensures same_tokens { OnErr result (self.new.tokens ≡ self.old.tokens) }
         ensures few { OnErr result
