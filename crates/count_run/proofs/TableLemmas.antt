@@ -1,5 +1,5 @@
 -- The text of a row, as it is put together.
-use Rattle.std.proofs.Common.{◌≡◌, ℕ, zero, suc, ◌-◌, ◌^◌, List, [], ◌∷◌, ◌++◌, length, replicate, refl, ap, codes, decimal, Result, is_ok, if◌then◌else◌, Bool, true, false, ◌&&◌, ◌==◌, eqb-true, OnOk, append_assoc, append-nil, arith}
+use Rattle.std.proofs.Common.{◌≡◌, ℕ, zero, suc, ◌-◌, ◌^◌, List, [], ◌∷◌, ◌++◌, replicate, refl, ap, codes, decimal, Result, is_ok, if◌then◌else◌, true, false, ◌==◌, eqb-true, OnOk, append_assoc, append-nil, arith}
 use Rattle.std.proofs.lemmas.Grind.{common_steps}
 use Rattle.std.specs.Fmt.{char_count, format_spec, padded_integral, styled_decimal}
 use Rattle.std.specs.Char.{encode_utf8}

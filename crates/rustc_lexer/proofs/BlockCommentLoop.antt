@@ -1,8 +1,9 @@
 -- The loop over a block comment: from mark to mark.
-use Rattle.std.proofs.Common.{◌≡◌, ◌≢◌, ℕ, zero, suc, ◌+◌, ◌<◌, ◌==◌, ◌&&◌, Bool, true, false, true≢false, List, [], ◌∷◌, drop, refl, sym, ap, ◌∙◌, arith, subst, Option, Some, None, not}
+use Rattle.std.proofs.Common.{◌≡◌, ◌≢◌, ℕ, zero, suc, ◌+◌, ◌<◌, ◌==◌, Bool, true, false, true≢false, List, [], ◌∷◌, drop, refl, sym, ap, ◌∙◌, arith, subst, Option, Some, None, not}
 use Rattle.std.specs.Str.{chars, IsUtf8}
 use Rattle.std.proofs.lemmas.Bool.{and_parts, or_cases, or_parts, eqb-true, eqb-false, ne_eqb, not-true, not-false}
 use Rattle.std.proofs.lemmas.Grind.{common_steps}
+use Rattle.std.proofs.Math.Bool.{and-true}
 use Rattle.rustc_lexer.specs.{DocStyle, TokenKind, BlockComment}
 use Rattle.rustc_lexer.specs.means.Least.{more}
 use Rattle.rustc_lexer.specs.means.BlockComment.{block_doc_style, comment_end, block_comment, block_comment_to}
@@ -65,15 +66,11 @@ no_mark (suc depth) c [] ne nf = refl
 no_mark zero c (d ∷ ds) ne nf = refl
 no_mark (suc depth) c (d ∷ ds) ne nf = rw (ne_eqb c 47 ne, ne_eqb c 42 nf) refl
 
-alone : (b : Bool) → (b && true) ≡ false → b ≡ false
-alone true e = e
-alone false e = refl
-
 no_close : (depth : ℕ) (cs : List ℕ) → begins (47 ∷ []) cs ≡ false → ends depth 42 cs ≡ ends depth 0 cs
-no_close w0 w1 e = grind (arith, common_steps, alone)
+no_close w0 w1 e = grind (arith, common_steps, and-true)
 
 no_open : (depth : ℕ) (cs : List ℕ) → begins (42 ∷ []) cs ≡ false → ends depth 47 cs ≡ ends depth 0 cs
-no_open w0 w1 e = grind (arith, common_steps, alone)
+no_open w0 w1 e = grind (arith, common_steps, and-true)
 
 fresh : (depth c : ℕ) → next_depth (depth, 0) c ≡ (depth, c)
 fresh depth c = refl

@@ -169,12 +169,9 @@ count_bound tokens some zero few = omega arith
 count_bound [] some (suc count) few = absurd (omega arith)
 count_bound (t ∷ ts) some (suc count) few = let ih = count_bound ts (All-tail (λ (t : Token). 0 < t.len) t ts some) count (omega arith) in let one = All-head (λ (t : Token). 0 < t.len) t ts some in omega arith
 
-pub fewer_left : (text left : List ℕ) (tokens : List Token) → Partitions text tokens → (buffer count : ℕ) → count ≡ min buffer (length tokens) → left ≡ drop (bound tokens count) text → length left + count ≤ length text
-fewer_left text left tokens parts buffer count e cut = grind (arith, common_steps, min-le_right, length-drop, count_bound)
-
 pub shorter_left : (text left : List ℕ) (tokens : List Token) → Partitions text tokens → (buffer count : ℕ) → count ≡ min buffer (length tokens) → left ≡ drop (bound tokens count) text → 0 < buffer → 0 < length text → length left < length text
 shorter_left text left tokens parts buffer count e cut some_buffer some_text =
-    grind (arith, common_steps, cases_lt, min-eq_left, min-eq_right, fewer_left)
+    grind (arith, common_steps, cases_lt, min-eq_left, min-eq_right, min-le_right, length-drop, count_bound)
 
 -- ---- what a call of `fill` leaves
 

@@ -32,9 +32,6 @@ one_hash false n = refl
 closes_bare : (text : List ℕ) (k : ℕ) → k < length text → closes 0 (drop k text) ≡ is_quote (get_or text k 0)
 closes_bare text k l = grind (arith, common_steps, drop-cons, le-leb, and-true)
 
-closes_hashed : (text : List ℕ) (k : ℕ) → suc k < length text → closes 1 (drop k text) ≡ (is_quote (get_or text k 0) && is_hash (get_or text (suc k) 0))
-closes_hashed text k l = grind (arith, common_steps, drop-cons, one_hash)
-
 -- the lowest bit that is set is one of 64
 pub near : (found : ℕ) → 0 < found → found < 2 ^ 64 → count_trailing_zeros 64 found < 64
 near found some small = within found _ small (lowest_is found some small).set
@@ -52,7 +49,7 @@ module _ (text : List ℕ) (n quotes hashes found : ℕ) (few : n ≤ 1) (long :
   bare_at e k l = rw e (closes_bare text k (omega arith)) ∙ sym (at k l ∙ (ap₂ (λ a b. a && b) (quote_at k l) (rw e (or-true (bit hashes (suc k)))) ∙ and-true (is_quote (get_or text k 0))))
 
   hashed_at : n ≡ 1 → (k : ℕ) → suc k < 64 → closes n (drop k text) ≡ bit found k
-  hashed_at e k l = grind (arith, common_steps, closes_hashed, quote_at, or-false, hash_at)
+  hashed_at e k l = grind (arith, common_steps, drop-cons, one_hash, quote_at, or-false, hash_at)
 
   hashes_small : hashes < 2 ^ 64
   hashes_small =
@@ -74,14 +71,14 @@ module _ (text : List ℕ) (n quotes hashes found : ℕ) (few : n ≤ 1) (long :
       ]
       by_count (suc (suc m)) e = absurd (omega arith)
 
-  clear_opens : (k : ℕ) → suc k < 64 → bit found k ≡ false → closes n (drop k text) ≡ false
-  clear_opens k l clear = grind (arith, common_steps, bare_at, hashed_at)
-
   pub closes_there : 0 < found → closes n (drop (count_trailing_zeros 64 found) text) ≡ true
   closes_there some = set_closes (count_trailing_zeros 64 found) (near found some small) (lowest_is found some small).set
 
   pub none_before : 0 < found → (k : ℕ) → k < count_trailing_zeros 64 found → closes n (drop k text) ≡ false
-  none_before some k less = clear_opens k (let l = near found some small in omega arith) ((lowest_is found some small).least k less)
+  none_before some k less =
+      let l = near found some small in
+      let clear = (lowest_is found some small).least k less in
+      grind (arith, common_steps, bare_at, hashed_at)
 
 -- ---- where a quote closes by bytes, it closes by characters
 

@@ -1,11 +1,11 @@
 -- What an edition has in place of some tokens.
 use Rattle.std.proofs.Common.{◌≡◌, ◌<◌, ℕ, Bool, true, false, List, length, refl, sym, ap, ◌∙◌, Option, Some, IsCharBoundary, arith}
-use Rattle.rustc_lexer.specs.{Edition, FrontmatterAllowed, Token, TokenKind, E2015, E2018, E2021, E2024, Yes, No, GuardedStrPrefix, Literal, Eof}
+use Rattle.rustc_lexer.specs.{Edition, FrontmatterAllowed, Token, TokenKind, E2015, E2018, E2021, E2024, Yes, No, Literal, Eof}
 use Rattle.rustc_lexer.specs.LanguageCalls.{edition_of_year}
 use Rattle.rustc_lexer.specs.LanguageText.{mode_in, year}
 use Rattle.rustc_lexer.specs.laws.Choice.{by_either}
 use Rattle.rustc_lexer.specs.laws.Edition.{edition_grammar}
-use Rattle.rustc_lexer.specs.means.Edition.{token, before_2024, before_2021, changed, first_token_in}
+use Rattle.rustc_lexer.specs.means.Edition.{token, before_2021, changed, first_token_in}
 use Rattle.rustc_lexer.specs.Classes.{IsText}
 use Rattle.rustc_lexer.specs.means.Frontmatter.{frontmatter, opens}
 use Rattle.rustc_lexer.specs.means.Taking.{token_at}
@@ -21,10 +21,6 @@ is_silent kind = true
 
 -- what holds of a token, and of each whose kind says nothing of its text, holds of what an edition has in its place
 module _ (P : Token → Type 0) (silent : (kind : TokenKind) (len : ℕ) → is_silent kind ≡ true → P (token kind len)) where
-  in_2021 : (kind : TokenKind) (len : ℕ) → P (token kind len) → P (before_2024 kind len)
-  in_2021 GuardedStrPrefix len p = silent _ _ refl
-  in_2021 kind len p = p
-
   in_2018 : (cs : List ℕ) (kind : TokenKind) (len : ℕ) → P (token kind len) → P (before_2021 cs kind len)
   in_2018 cs kind len p = grind (arith, common_steps)
 

@@ -7,7 +7,6 @@ pub mod BodyChangeLemmas
 pub mod BoundLemmas
 pub mod BridgeLemmas
 pub mod BulkLemmas
-pub mod ClassLemmas
 pub mod CloseLemmas
 pub mod DocumentEditLemmas
 pub mod DocumentHead

@@ -2,7 +2,7 @@
 use Rattle.std.proofs.Common.{◌≡◌, ℕ, zero, suc, ◌+◌, ◌-◌, ◌≤◌, ◌&&◌, ◌||◌, not, Bool, true, false, ltb, if◌then◌else◌, List, [], ◌∷◌, length, take, drop, codes, sym, ap, ◌∙◌, arith, length-append, length-take-le, lt-ltb, le-ltb}
 use Rattle.std.specs.Char.{is_ascii_digit, encode_utf8, len_utf8}
 use Rattle.std.specs.List.{list_all}
-use Rattle.std.specs.Str.{chars, encode_utf8_all, IsUtf8}
+use Rattle.std.specs.Str.{chars, IsUtf8}
 use Rattle.std.proofs.lemmas.Str.{length-encode, length-le-encodes}
 use Rattle.std.proofs.Math.Bool.{not-not}
 use Rattle.std.proofs.lemmas.Grind.{common_steps}
@@ -37,9 +37,6 @@ shorter-by (suc n) text rest is le cut =
     lt-ltb (length rest) (length text) (omega (arith, ap length cut, length-past (suc n) text is, length-le-encodes (take (suc n) (chars text)))) ∙ sym (lt-ltb 0 (suc n) (omega arith))
 
 -- what follows a name
-past-quoted : (c : ℕ) (name end left : List ℕ) (n : ℕ) → begins (codes "'") (chars end) ≡ true → left ≡ past 1 end → n ≡ 2 + length (encode_utf8_all (c ∷ name)) → (Literal (Char true) n, left) ≡ scanned (past_name c name) end
-past-quoted c name end left n t cut len = grind (arith, common_steps, scanned-yes)
-
 past-unquoted_name : (c : ℕ) (name end : List ℕ) → IsUtf8 end → begins (codes "'") (chars end) ≡ false → ((unquoted_name c name (chars end)).0, end) ≡ scanned (past_name c name) end
 past-unquoted_name c name end is t =
     ap (λ (xs : List ℕ). ((unquoted_name c name (chars end)).0, xs)) (sym (past-zero end is)) ∙ sym (scanned-no (begins (codes "'")) (quoted_name c name) (unquoted_name c name) end t)
@@ -73,7 +70,7 @@ module _ (c : ℕ) (rest part end : List ℕ) (is : IsUtf8 rest) (first : part �
 
   pub plain_lifetime-quoted : (left : List ℕ) (w : ℕ) → begins (codes "'") (chars end) ≡ true → left ≡ past 1 end → w ≡ len_utf8 c → (Literal (Char true) (2 + (w + (length rest - length end))), left) ≡ scanned (plain_lifetime c) rest
   plain_lifetime-quoted left w t cut is_w =
-      grind (arith, common_steps, end-is, length-past, length-append, length-encode, past-quoted, plain_lifetime-is)
+      grind (arith, common_steps, end-is, length-past, length-append, length-encode, scanned-yes, plain_lifetime-is)
 
   pub plain_lifetime-unquoted_name : (kind : TokenKind) (emoji : Bool) → begins (codes "'") (chars end) ≡ false → emoji ≡ ltb (length end) (length part)
       → kind ≡ (if begins (codes "#") (chars end) && not (is_ascii_digit c) then UnknownPrefixLifetime else Lifetime (is_ascii_digit c || is_emoji c || emoji)) → (kind, end) ≡ scanned (plain_lifetime c) rest

@@ -8,7 +8,7 @@ use Rattle.std.proofs.lemmas.Grind.{common_steps}
 use Rattle.rustc_lexer.specs.declared.lexemes.raw.RawPrefix.{RawPrefix}
 use Rattle.rustc_lexer.specs.{LiteralKind, RawStrError, InvalidStarter, Literal}
 use Rattle.rustc_lexer.specs.means.Literal.{suffix_len}
-use Rattle.rustc_lexer.specs.means.Raw.{is_quote, hash_run, raw_text, past_starter, raw_starter, raw_read, raw_body, accepted, is_accepted, prefix_kind, prefix_len, raw_literal, checked, check_raw, is_r, StartsRaw}
+use Rattle.rustc_lexer.specs.means.Raw.{is_quote, hash_run, raw_text, raw_starter, raw_read, raw_body, accepted, is_accepted, prefix_kind, prefix_len, raw_literal, checked, check_raw, is_r, StartsRaw}
 use Rattle.rustc_lexer.specs.means.Scan.{bytes_of, gives, next_is, past, scanned}
 use Rattle.rustc_lexer.specs.laws.Past.{past-zero, past-past, chars-past, IsUtf8-past, length-past}
 use Rattle.rustc_lexer.proofs.RawLemmas.{hash_len}
@@ -31,16 +31,13 @@ module _ (prefix : ℕ) (text from : List ℕ) (is : IsUtf8 text) (from_is : fro
 
   -- `body` follows the character after the hashes
   module _ (c : ℕ) (body : List ℕ) (reads : chars from ≡ c ∷ chars body) (body_is : body ≡ past 1 from) where
-    to_body : scanned (raw_read prefix) text ≡ scanned (past_starter prefix (hash_run (chars text)) c) body
-    to_body = grind (arith, common_steps, past-past, from_utf8, to_starter)
-
     body_utf8 : IsUtf8 body
     body_utf8 = subst IsUtf8 (sym body_is) (IsUtf8-past 1 from from_utf8)
 
     -- what is read of the body, where it is known whether that character is a quote
     by_quote : (b : Bool) → is_quote c ≡ b
         → scanned (raw_read prefix) text ≡ scanned (λ u. if b then raw_text (hash_run (chars text)) (prefix + suc (hash_run (chars text))) u else gives (Err (InvalidStarter c)) u) body
-    by_quote b e = grind (arith, common_steps, to_body)
+    by_quote b e = grind (arith, common_steps, past-past, from_utf8, to_starter)
 
     pub bad_starter : c ≢ 34 → (Err (InvalidStarter c), body) ≡ scanned (raw_read prefix) text
     bad_starter ne = sym (by_quote false (ne_eqb c 34 ne) ∙ scanned-gives (Err (InvalidStarter c)) body body_utf8)

@@ -1,6 +1,6 @@
 -- Relexing over many tokens at once, each of which begins before lexing can meet the old tokens.
 use Rattle.std.proofs.Common.{◌≡◌, ℕ, zero, suc, ◌+◌, ◌-◌, ◌<◌, ◌≤◌, Bool, true, false, ◌&&◌, leb, eqb, eqb-true, List, ◌∷◌, length, drop, inl, inr, refl, sym, ap, ◌∙◌, subst, arith, drop-drop, length-drop, IsUtf8, IsCharBoundary}
-use Rattle.std.proofs.lemmas.Bool.{cases_lt, leb-true}
+use Rattle.std.proofs.lemmas.Bool.{cases_lt, lt-leb}
 use Rattle.std.proofs.lemmas.Str.{IsCharBoundary-from_drop, IsUtf8-drop}
 use Rattle.rustc_lexer.specs.means.Relexing.{IsApart, IsFollowed, meets_at, Stands}
 use Rattle.std.proofs.lemmas.Grind.{common_steps}
@@ -22,11 +22,7 @@ use Rattle.rustc_lexer.proofs.RelexingLemmas.{below_later, made_text, stands_nex
 
 -- a place before that end meets nothing
 early : (old : List Token) (old_stop new_stop place : ℕ) → place < new_stop → false ≡ meets_at old old_stop new_stop place
-early old old_stop new_stop place less = by_test (leb new_stop place) refl
-  where
-    by_test : (b : Bool) → leb new_stop place ≡ b → false ≡ b && is_bound old (place - new_stop + old_stop)
-    by_test false e = refl
-    by_test true e = absurd (let far = leb-true new_stop place e in omega arith)
+early old old_stop new_stop place less = rw (lt-leb new_stop place less) refl
 
 -- the tokens that are still to come are those of the text that is left
 pub left_at : {first : List ℕ → Token} (law : IsGrammar first) (before lengths insert text : List ℕ) (change : Change) (is : IsMadeOf first before lengths change insert text) (at : Relexing) (stands : Stands first before change text at) → tokens_by first (drop at.at text) ≡ drop (known at) (tokens_by first text)

@@ -1,8 +1,7 @@
 //! Classes of characters.
 ghost use Rattle.std.specs.Prelude.{◌≡◌, ◌↔◌, ◌||◌, ◌==◌, IsTrue};
-ghost use Rattle.std.specs.Char.{is_ascii_alphanumeric};
+ghost use Rattle.std.specs.Char.{is_ascii_alphabetic, is_ascii_alphanumeric};
 ghost use Rattle.rustc_lexer.specs.Classes;
-ghost use Rattle.unicode_ident.specs.Ident.{is_xid_start};
 
 pub(crate) mod emoji;
 
@@ -55,19 +54,19 @@ pub fn is_horizontal_whitespace(c: char) -> bool
 pub fn is_id_start(c: char) -> bool
     ensures { result ≡ Classes.is_id_start c }
 {
-    c == '_' || is_xid_start(c)
-}
-
-/// Returns whether the character is `XID_Start`. For a character in ASCII it does not read the table.
-#[inline]
-fn is_xid_start(c: char) -> bool
-    ensures { result ≡ is_xid_start c }
-{
     if c.is_ascii() {
-        c.is_ascii_alphabetic()
+        is_ascii_start(c)
     } else {
         unicode_ident::is_xid_start(c)
     }
+}
+
+/// Returns whether an identifier may begin with the character, which is in ASCII.
+#[inline]
+fn is_ascii_start(c: char) -> bool
+    ensures { result ≡ ((c == 95) || is_ascii_alphabetic c) }
+{
+    c == '_' || c.is_ascii_alphabetic()
 }
 
 /// Returns whether an identifier may continue with the character: with an `XID_Continue` character of

@@ -176,7 +176,7 @@ fn may_end(rest: &[u8], line: usize) -> bool
 
 /// Returns the place that was found before, or this one if the pattern is here.
 #[inline(always)]
-#[tactic(auto, using(crate::specs::laws::Fences::slice_from, crate::proofs::LineLemmas::starts_none, crate::proofs::LineLemmas::starts_some, std::proofs::lemmas::Grind::common_steps))]
+#[tactic(auto, using(std::proofs::lemmas::List::take_rest, crate::proofs::LineLemmas::starts_none, crate::proofs::LineLemmas::starts_some, std::proofs::lemmas::Grind::common_steps))]
 fn or_here(found: Option<usize>, rest: &[u8], place: usize, pattern: &[u8]) -> Option<usize>
     requires { place ≤ length rest.now }
     ensures { result ≡ spec.or_here found (begins pattern.now (drop place rest.now)) place }
@@ -234,7 +234,7 @@ fn run_end(rest: &[u8], from: usize, byte: u8) -> usize
 }
 
 /// Returns the first place of three dashes with only blanks before them, on their line and past the dashes before.
-#[tactic(auto, using(crate::specs::laws::Fences::slice_from, crate::specs::laws::Fences::walk_end, crate::specs::laws::Fences::walk_found, crate::specs::laws::Fences::walk_on, std::proofs::lemmas::Grind::common_steps))]
+#[tactic(auto, using(std::proofs::lemmas::List::take_rest, crate::specs::laws::Fences::walk_end, crate::specs::laws::Fences::walk_found, crate::specs::laws::Fences::walk_on, std::proofs::lemmas::Grind::common_steps))]
 fn find_lone_dashes(rest: &[u8]) -> Option<usize>
     ensures place { result ≡ spec.first_alone 0 (spec.places (spec.dashes 3) rest.now) rest.now }
     ensures inside { IfSome result (λ place. place < length rest.now) }

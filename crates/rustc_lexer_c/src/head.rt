@@ -84,7 +84,7 @@ fn find_body_edit(
     }
     let now = Head::find(text);
     let body = head_of(head).change_to(now, change);
-    if !body.change.may_make(&text[now.end..]) {
+    if !body.change.may_make(&text[now.body..]) {
         return Refusal::BadEdit.number();
     }
     *head = numbers_of_head(now);

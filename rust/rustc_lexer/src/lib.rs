@@ -96,7 +96,7 @@ pub use erased::Edition;
 /// let (head, now) = (Head::find(old), Head::find(new));
 /// let body = head.change_to(now, change);
 /// assert!(body.keeps_head);
-/// assert_eq!(&new[now.end..], "\nlet ab;");
+/// assert_eq!(&new[now.body..], "\nlet ab;");
 /// assert_eq!(body.change, Change { start: 6, old_stop: 6, new_stop: 7 });
 /// ```
 #[doc(inline)]

@@ -396,7 +396,7 @@ fn lists_of_the_caller() {
             new_stop: range.start + insert.len(),
         };
         let of_body = head.change_to(now, edit);
-        let (body, old_body) = (&held.text()[now.end..], &tokens[head.count()..]);
+        let (body, old_body) = (&held.text()[now.body..], &tokens[head.count()..]);
         let (change, first) = (
             of_body.change,
             Bound {

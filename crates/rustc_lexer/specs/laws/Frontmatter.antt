@@ -254,11 +254,6 @@ closing_end-ends n rest =
     (first_some-ends rest (inner_attribute rest) _ (before-ends (codes "#![") rest)
     (first_some-ends rest (lone_dashes rest) [] (alone-ends rest) record { inside = omega arith; here = λ l. absurd (omega arith) })))))
 
--- the closing ends between characters
-closing-boundary : (rest : List ℕ) (place : ℕ) → IsLineEnd rest place → IsCharBoundary rest place
-closing-boundary rest place ends =
-    grind (arith, common_steps, cases_lt, IsCharBoundary-before_ascii, IsCharBoundary-end)
-
 -- a frontmatter is not empty, and ends between characters
 pub record IsCutOff (text : List ℕ) (token : Token) : Type 0 where
   pub not_empty : 0 < token.len
@@ -280,7 +275,7 @@ frontmatter-cut text is e =
     record {
       not_empty = omega (arith, length-le-encodes (take n s), length-take n s);
       inside = let i = ends.inside in omega arith;
-      boundary = IsCharBoundary-from_rest text b (closing_end (fence_len s) rest) (omega arith) (subst (λ xs. IsCharBoundary xs (closing_end (fence_len s) rest)) (sym left) (closing-boundary rest (closing_end (fence_len s) rest) ends));
+      boundary = IsCharBoundary-from_rest text b (closing_end (fence_len s) rest) (omega arith) (subst (λ xs. IsCharBoundary xs (closing_end (fence_len s) rest)) (sym left) (grind (arith, common_steps, cases_lt, IsCharBoundary-before_ascii, IsCharBoundary-end)));
     }
 
 pub frontmatter-suffix : (text : List ℕ) → HasSuffixWithin (frontmatter text)

@@ -1,5 +1,5 @@
 -- How far identifiers look.
-use Rattle.std.proofs.Common.{◌≡◌, ℕ, ◌≤◌, Bool, true, if◌then◌else◌, List, length, drop, ap, arith}
+use Rattle.std.proofs.Common.{◌≡◌, ℕ, Bool, true, if◌then◌else◌, List, drop, ap, arith}
 use Rattle.std.specs.List.{list_all}
 use Rattle.std.proofs.lemmas.Grind.{common_steps}
 use Rattle.rustc_lexer.specs.{TokenKind, Ident, InvalidIdent, UnknownPrefix}
@@ -19,12 +19,9 @@ invalid_ident_local = run_local InvalidIdent is_word_continue
 pub marks_ident-told : IsToldBy 2 marks_ident
 marks_ident-told w0 = grind (arith, common_steps)
 
-pub marks_ident-length : (s : List ℕ) → marks_ident s ≡ true → 2 ≤ length s
-marks_ident-length w0 e = grind (arith, common_steps)
-
 -- past the mark it looks one character past its end
 pub past_mark_at : (kind : TokenKind) (s : List ℕ) → marks_ident s ≡ true → IsLocalAt TokenKind 1 (after 2 (run kind is_id_continue)) s
-past_mark_at kind s e = after_at 1 2 (run kind is_id_continue) s (marks_ident-length s e) (run_local kind is_id_continue (drop 2 s))
+past_mark_at kind s e = after_at 1 2 (run kind is_id_continue) s (grind (arith, common_steps)) (run_local kind is_id_continue (drop 2 s))
 
 pub marked_local : (kind : TokenKind) (other : List ℕ → TokenKind × ℕ) → IsLocal TokenKind 2 other → IsLocal TokenKind 2 (marked kind other)
 marked_local kind other is s = either_at 2 2 marks_ident (after 2 (run kind is_id_continue)) other marks_ident-told s (omega arith) (λ e. wider 1 2 (omega arith) (past_mark_at kind s e)) (λ e. is s)

@@ -23,8 +23,8 @@ use Rattle.rustc_lexer.specs.Language as the
 use Rattle.rustc_lexer.specs.LiteralGrammar as lit
 use Rattle.rustc_lexer.specs.Language.{IsTokenBefore}
 use Rattle.rustc_lexer.specs.LiteralGrammar.{ends, plain, escape, IsSingleQuoted, IsLiteralBefore}
-use Rattle.rustc_lexer.specs.means.Lifetime.{past_name, plain_lifetime, lifetime, is_character, is_raw, lifetime_or_char}
-use Rattle.rustc_lexer.specs.means.Literal.{Body, literal}
+use Rattle.rustc_lexer.specs.means.Lifetime.{past_name, plain_lifetime, is_character, is_raw, lifetime_or_char}
+use Rattle.rustc_lexer.specs.means.Literal.{literal}
 use Rattle.rustc_lexer.specs.means.Quoted.{single_quoted_string, char_body}
 use Rattle.rustc_lexer.specs.means.Scan.{begins, run_len}
 
@@ -44,14 +44,10 @@ word-begins d (c ∷ w) next mark all none = false_from_ne_true (begins (d ∷ [
 
 -- ---- lifetimes
 
--- what is read of a name
-name-read : (c : ℕ) (w next : List ℕ) → AreAll is_word_continue w → NextIsNot is_word_continue next → plain_lifetime c (w ++ next) ≡ ((past_name c w next).0, length w + (past_name c w next).1)
-name-read c w next all stop = grind (arith, common_steps, run_len-here, take-append_seam, drop-append_seam)
-
 -- a name that is no character and not raw
 plain-read : (c : ℕ) (w next : List ℕ) (kind : TokenKind) (n : ℕ) → is_name_start c ≡ true → begins (codes "'") (w ++ next) ≡ false → is_raw c (w ++ next) ≡ false → AreAll is_word_continue w → NextIsNot is_word_continue next → past_name c w next ≡ (kind, n) → Read kind (suc (suc (length w + n))) (39 ∷ c ∷ w ++ next)
 plain-read c w next kind n start none no_raw all stop e =
-    grind (arith, common_steps, read-first, chooses-quote, name-read)
+    grind (arith, common_steps, read-first, chooses-quote, run_len-here, take-append_seam, drop-append_seam)
 
 begins-none : (d : ℕ) (s : List ℕ) → NextIsNot (is_among (d ∷ [])) s → begins (d ∷ []) s ≡ false
 begins-none d s e = begins-next d s ∙ e
@@ -143,9 +139,6 @@ raw-lifetime c s e =
     let letter : 114 ≡ c = sym (eqb-true c 114 parts.0) in
     subst (λ (x : ℕ). IsLifetime x s (raw s)) letter (marked-sound (λ next w. IsTokenBefore next RawLifetime (39 ∷ 114 ∷ w)) (λ w next is stop. the.raw_lifetime is stop) s parts.1)
 
-pub lifetime-sound : (c : ℕ) (s : List ℕ) → is_character c s ≡ false → Sound 39 (c ∷ s) ((lifetime c s).0, suc (lifetime c s).1)
-lifetime-sound c s e = grind (arith, common_steps, or_parts, raw-lifetime, name-sound, not-false)
-
 -- ---- characters
 
 char-sound : (s : List ℕ) → NextIsNot is_name_start s → Sound 39 s (literal char_body s)
@@ -170,7 +163,7 @@ one-sound c (d ∷ s) start e =
 
 pub quote-sound : (s : List ℕ) → Sound 39 s (lifetime_or_char s)
 quote-sound [] = char-sound [] refl
-quote-sound (c ∷ s) = by_test (Sound 39 (c ∷ s)) (is_character c s) (literal char_body (c ∷ s)) _ (λ e. by_name (is_name_start c) refl e) (lifetime-sound c s)
+quote-sound (c ∷ s) = by_test (Sound 39 (c ∷ s)) (is_character c s) (literal char_body (c ∷ s)) _ (λ e. by_name (is_name_start c) refl e) (grind (arith, common_steps, or_parts, raw-lifetime, name-sound, not-false))
   where
     second : (b d : Bool) → d ≡ true → (b || not d) ≡ true → b ≡ true
     second true d e f = refl
@@ -202,9 +195,6 @@ end-stops d end next (escape q) e = e
 -- nor does what follows it, if it is empty
 next-stops : {next : List ℕ} {t : Bool} {w : List ℕ} → IsSingleQuoted next t w → NextIsNot is_name_start w → NextIsNot is_name_start (w ++ next)
 next-stops {next} w1 e = grind (arith, common_steps, end-stops, empty-or, at-stops, backslash-none)
-
-abbrev char_of : Bool × ℕ → Body × ℕ
-char_of r = (record { kind = Char r.0; takes_suffix = r.0 }, r.1)
 
 pub char-reads : {next : List ℕ} (t : Bool) (w : List ℕ) → IsSingleQuoted next t w → NextIsNot is_name_start w → ReadsLiteral next (Char t) t (39 ∷ w)
 char-reads {next} t w q stop =

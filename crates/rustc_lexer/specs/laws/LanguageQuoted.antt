@@ -1,8 +1,8 @@
 -- Quoted text is in its language, and what is there is read so.
-use Rattle.std.proofs.Common.{◌≡◌, ℕ, zero, suc, ◌+◌, ◌≤◌, ◌==◌, ◌&&◌, ◌||◌, ◌⊎◌, inl, inr, not, Bool, true, false, true≢false, List, [], ◌∷◌, ◌++◌, length, take, drop, codes, refl, sym, ap, ◌∙◌, subst, arith, append_assoc, length-append, None}
-use Rattle.std.proofs.lemmas.Bool.{and_parts, eqb-true, or_parts, or_cases}
+use Rattle.std.proofs.Common.{◌≡◌, ℕ, zero, suc, ◌+◌, ◌≤◌, ◌==◌, ◌||◌, ◌⊎◌, inl, inr, not, Bool, true, false, true≢false, List, [], ◌∷◌, ◌++◌, length, take, drop, codes, refl, sym, ap, ◌∙◌, subst, arith, append_assoc, length-append, None}
+use Rattle.std.proofs.lemmas.Bool.{and_parts, eqb-true, not-true, or_parts, or_cases}
 use Rattle.std.proofs.lemmas.List.{append-nil}
-use Rattle.std.proofs.Math.Bool.{and-false}
+use Rattle.std.proofs.Math.Bool.{and-false, and-true}
 use Rattle.std.proofs.lemmas.Grind.{common_steps}
 use Rattle.rustc_lexer.specs.Classes.{is_among}
 use Rattle.rustc_lexer.specs.laws.Choice.{by_either}
@@ -239,11 +239,7 @@ single-sound s = by_either (is_lone s)
     one_here (c ∷ d ∷ s) e =
         let parts = and_parts (not (begins (92 ∷ []) (c ∷ d ∷ s))) _ e in
         let second : 39 ≡ d = sym (eqb-true d 39 (and_parts (d == 39) true parts.1).0) in
-        subst (λ (x : ℕ). IsSingleQuoted s true (c ∷ x ∷ [])) second (lit.one (first_free (c == 92) refl parts.0))
-      where
-        first_free : (b : Bool) → (c == 92) ≡ b → not ((c == 92) && true) ≡ true → (c == 92) ≡ false
-        first_free false f g = f
-        first_free true f g = absurd (true≢false (sym (sym (rw f refl) ∙ g)))
+        subst (λ (x : ℕ). IsSingleQuoted s true (c ∷ x ∷ [])) second (lit.one (sym (and-true (c == 92)) ∙ not-true _ parts.0))
 
     at_stop : (v : List ℕ) (x : ℕ) (rest : List ℕ) → SingleTo [] v → is_lone (v ++ x ∷ rest) ≡ false → past_quote (v ++ x ∷ rest) ≡ ((past_quote (x ∷ rest)).0, length v + (past_quote (x ∷ rest)).1)
         → (x ≡ 39) ⊎ ((x ≡ 47) ⊎ (x ≡ 10)) → IsSingleQuoted (drop (past_quote (v ++ x ∷ rest)).1 (v ++ x ∷ rest)) (past_quote (v ++ x ∷ rest)).0 (take (past_quote (v ++ x ∷ rest)).1 (v ++ x ∷ rest))

@@ -15,9 +15,6 @@ use Rattle.rustc_lexer.specs.means.Raw.{is_hash, is_quote, hash_run, closes, clo
 
 -- ---- hashes
 
-tail-same : (c d : ℕ) (s u : List ℕ) → c ∷ s ≡ d ∷ u → s ≡ u
-tail-same c d s u e = ap (drop 1) e
-
 pub guard-length : (n : ℕ) → length (hashes n) ≡ n
 guard-length zero = refl
 guard-length (suc n) = ap suc (guard-length n)
@@ -99,9 +96,9 @@ nothing-lacks n u v e = absurd (let no : 0 ≡ length (u ++ (34 ∷ hashes n ++ 
 lacks-more : (n c : ℕ) (w u rest : List ℕ) → w ++ rest ≡ u → closes n (c ∷ u) ≡ false → NoQuoteWith n w → NoQuoteWith n (c ∷ w)
 lacks-more n c w u rest whole open_here lacks [] v e =
     let quote : c ≡ 34 = cc in
-    let text : hashes n ++ (v ++ rest) ≡ u = sym (append_assoc (hashes n) v rest) ∙ (ap (λ (xs : List ℕ). xs ++ rest) (sym (tail-same c 34 w (hashes n ++ v) e)) ∙ whole) in
+    let text : hashes n ++ (v ++ rest) ≡ u = sym (append_assoc (hashes n) v rest) ∙ (ap (λ (xs : List ℕ). drop 1 xs ++ rest) (sym e) ∙ whole) in
     either-way (closes n (c ∷ u)) (ap (λ (x : ℕ). closes n (x ∷ u)) quote ∙ (ap (λ (xs : List ℕ). closes n (34 ∷ xs)) (sym text) ∙ closes-here n (v ++ rest))) open_here
-lacks-more n c w u rest whole open_here lacks (x ∷ a) v e = lacks a v (tail-same c x w (a ++ (34 ∷ hashes n ++ v)) e)
+lacks-more n c w u rest whole open_here lacks (x ∷ a) v e = lacks a v (cc)
 
 pub closing : (n : ℕ) (u : List ℕ) → Closing n u (close n u)
 closing n [] = lost (nothing-lacks n)

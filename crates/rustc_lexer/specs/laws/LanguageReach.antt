@@ -7,9 +7,9 @@ use Rattle.std.proofs.lemmas.List.{append-nil}
 use Rattle.std.specs.Char.{is_ascii_digit}
 use Rattle.std.specs.List.{list_all, list_any}
 use Rattle.std.specs.Option.{is_some}
-use Rattle.std.proofs.Math.Bool.{and-false}
+use Rattle.std.proofs.Math.Bool.{and-false, and-true}
 use Rattle.std.proofs.lemmas.Grind.{common_steps}
-use Rattle.rustc_lexer.specs.Classes.{is_among, Chars, is_id_start, is_ident, AreAll, NextIs, NextIsNot, is_word_continue, is_name_start, begins_ident_after, ends_prefix}
+use Rattle.rustc_lexer.specs.Classes.{is_among, Chars, AreAll, NextIs, NextIsNot, is_word_continue, is_name_start, begins_ident_after, ends_prefix}
 use Rattle.unicode_ident.proofs.Computing.{unicode_ident}
 use Rattle.rustc_lexer.specs.{Base, LiteralKind, TokenKind, Decimal, Int, Float, Char, Byte, Str, ByteStr, CStr, RawStr, RawByteStr, RawCStr, LineComment, BlockComment, Whitespace, Ident, InvalidIdent, RawIdent, ForcedKeywordIdent, RawLifetime, Lifetime, Slash, Pound, Eof, Literal, UnknownPrefix, UnknownPrefixLifetime}
 use Rattle.rustc_lexer.specs.Language as the
@@ -216,18 +216,10 @@ by_reach kind w none float one two = one refl refl
 
 -- in a word of two characters or more, or of another one, no hash stands behind this character
 no-hash : (d c : ℕ) (w s : List ℕ) → AreAll is_word_continue w → bytes_eq (c ∷ w) (d ∷ []) ≡ false → begins_ident_after (d ∷ 35 ∷ []) (c ∷ w ++ s) ≡ false
-no-hash d c [] s all e = by_same (c == d) e
-  where
-    by_same : (b : Bool) → (b && true) ≡ false → ((b && begins (35 ∷ []) s) && next_is is_id_start (drop 2 (c ∷ s))) ≡ false
-    by_same true e = absurd (true≢false e)
-    by_same false e = refl
+no-hash d c [] s all e = rw (sym (and-true (c == d)) ∙ e) refl
 no-hash d c (x ∷ w) s all e =
     let none : (x == 35) ≡ false = (or_parts (x == 35) _ (word-no_mark x (and_parts (is_word_continue x) (list_all is_word_continue w) all).0)).0 in
-    by_first (c == d) none
-  where
-    by_first : (b : Bool) → (x == 35) ≡ false → ((b && ((x == 35) && true)) && next_is is_id_start (w ++ s)) ≡ false
-    by_first true e = rw e refl
-    by_first false e = refl
+    rw (none, and-false (c == d)) refl
 
 -- a known prefix ends with its mark, and is told by that: letters, and then any character of a mark
 mark-told : (letters w : List ℕ) (m c : ℕ) (u v : List ℕ) → list_all is_word_continue letters ≡ true → ends_prefix c ≡ true → begins (letters ++ (m ∷ [])) (w ++ c ∷ v) ≡ begins (letters ++ (m ∷ [])) (w ++ c ∷ u)
@@ -254,10 +246,6 @@ known-told w c u v mark = rw (
   mark-told (codes "cr") w 35 c u v refl mark,
 ) refl
 
-prefixed-alike : (w next other : List ℕ) → is_ident w ≡ true → bytes_eq w (codes "k") ≡ false → NextIs ends_prefix next → take 1 other ≡ take 1 next → begins_prefixed (w ++ next) ≡ false → begins_prefixed (w ++ other) ≡ false
-prefixed-alike w0 next other is only go e free =
-    grind (arith, common_steps, same, known-told, or_parts, continue-word, and_parts, or_from, no-hash)
-
 -- by whether a prefix is the one that looks further
 by_only : {A : Type 0} (b : Bool) (other next : List ℕ) → take (if b then 2 else 1) other ≡ take (if b then 2 else 1) next → (b ≡ true → take 2 other ≡ take 2 next → A) → (b ≡ false → take 1 other ≡ take 1 next → A) → A
 by_only true other next e two one = two refl e
@@ -274,7 +262,7 @@ token-alike {next} (the.open_comment none never is) other e = the.open_comment (
 token-alike {next} (the.ident is stop none) other e = the.ident is (stops _ next other e stop) (stops _ next other e none)
 token-alike {next} (the.unknown_prefix {w} is go free) other e = by_only (bytes_eq w (codes "k")) other next e
     (λ is_k two. by_two next other w UnknownPrefix (the.unknown_prefix is go free) two)
-    (λ no_k one. the.unknown_prefix is (goes _ next other one go) (prefixed-alike w next other is no_k go one free))
+    (λ no_k one. the.unknown_prefix is (goes _ next other one go) (grind (arith, common_steps, same, known-told, or_parts, continue-word, and_parts, or_from, no-hash)))
 token-alike {next} (the.invalid_ident start all wrong stop) other e = the.invalid_ident start all wrong (stops _ next other e stop)
 token-alike {next} (the.raw_ident is stop) other e = the.raw_ident is (stops _ next other e stop)
 token-alike {next} (the.forced_keyword is stop) other e = the.forced_keyword is (stops _ next other e stop)

@@ -87,12 +87,9 @@ past_digits_float base s float = by_either (begins_fraction s)
         (λ t. rw t (omega arith))
         (λ t. absurd (true≢false (sym float ∙ rw (none, t) refl)))
 
-tail_float : (front : Front) (s : List ℕ) → is_float (tail front s).0 ≡ true → IsLocalAt LiteralKind 1 (tail front) s
-tail_float front s = grind (arith, common_steps, past_digits_float)
-
 number_kind_float : (first : ℕ) (s : List ℕ) → is_float (number_kind first s).0 ≡ true → IsLocalAt LiteralKind 1 (number_kind first) s
 unfolding number_kind
-number_kind_float first s float = and_then_at 1 1 (front first) tail s (front_local first s) (tail_float (front first s).0 (drop (front first s).1 s) float) (omega arith)
+number_kind_float first s float = and_then_at 1 1 (front first) tail s (front_local first s) (grind (arith, common_steps, past_digits_float)) (omega arith)
 
 pub number_float : (first : ℕ) (s : List ℕ) → is_float (number_kind first s).0 ≡ true → IsLocalAt TokenKind 1 (number first) s
 number_float first s float = literal_at 1 1 (number_body first) s (λ t. omega arith) (read_as_at 1 with_suffix (number_kind first) s (number_kind_float first s float))

@@ -58,12 +58,9 @@ double_quoted_string_local = quoted_local 1 (omega arith) at_double_quote (begin
 abbrev past_single : List ℕ → Bool × ℕ
 past_single s = quoted (byte "'") at_single_stop s
 
-lone_at : (s : List ℕ) → is_lone s ≡ true → IsLocalAt Bool 0 (λ s. (true, 2)) s
-lone_at w0 t = grind (arith, common_steps, and-false)
-
 pub single_quoted_string_local : IsLocal Bool 2 single_quoted_string
 single_quoted_string_local s =
-    either_at 2 2 is_lone (λ s. (true, 2)) past_single (λ s. grind (arith, common_steps)) s (omega arith) (λ t. wider 0 2 (omega arith) (lone_at s t)) (λ t. quoted_local 2 (omega arith) at_single_stop (λ s. grind (arith, common_steps)) (byte "'") s)
+    either_at 2 2 is_lone (λ s. (true, 2)) past_single (λ s. grind (arith, common_steps)) s (omega arith) (λ t. wider 0 2 (omega arith) (grind (arith, common_steps, and-false))) (λ t. quoted_local 2 (omega arith) at_single_stop (λ s. grind (arith, common_steps)) (byte "'") s)
 
 -- literals, of which the closed ones take a suffix
 quoted_body_at : (k : ℕ) (kind : Bool → LiteralKind) (scan : List ℕ → Bool × ℕ) (s : List ℕ) → IsLocalAt Bool k scan s → IsLocalAt Body k (quoted_body kind scan) s

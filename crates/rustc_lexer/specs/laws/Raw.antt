@@ -1,5 +1,5 @@
 -- How far a raw string looks past its end, and what its own text is read as.
-use Rattle.std.proofs.Common.{◌≡◌, ◌↔◌, ℕ, zero, suc, ◌+◌, ◌≤◌, ◌<◌, ◌&&◌, ◌⊎◌, inl, inr, min, nat_le, Bool, true, false, true≢false, if◌then◌else◌, List, [], ◌∷◌, ◌++◌, length, take, drop, refl, sym, ap, ◌∙◌, subst, arith, length-drop, take-take, take_all, drop_at, IsSome, Option, Some, Result, Ok, Err}
+use Rattle.std.proofs.Common.{◌≡◌, ◌↔◌, ℕ, zero, suc, ◌+◌, ◌≤◌, ◌<◌, ◌&&◌, ◌⊎◌, inl, inr, min, nat_le, Bool, true, false, true≢false, if◌then◌else◌, List, [], ◌∷◌, ◌++◌, length, take, drop, refl, sym, ap, ◌∙◌, subst, arith, length-drop, take-take, take_all, drop_at, IsSome, Option, Result, Ok, Err}
 use Rattle.std.proofs.lemmas.Bool.{leb-true, leb-false, le-leb, lt-leb, and_parts}
 use Rattle.std.specs.Str.{chars}
 use Rattle.std.proofs.lemmas.Grind.{common_steps}
@@ -7,7 +7,7 @@ use Rattle.rustc_lexer.specs.declared.lexemes.raw.RawPrefix.{RawPrefix}
 use Rattle.rustc_lexer.specs.{LiteralKind, RawStrError, TokenKind}
 use Rattle.rustc_lexer.specs.means.Literal.{Body}
 use Rattle.rustc_lexer.specs.laws.Literal.{literal_at}
-use Rattle.rustc_lexer.specs.means.Raw.{is_hash, is_quote, hash_run, closes, close, raw_text, past_starter, raw_starter, raw_read, accepted, is_accepted, raw_body, prefix_kind, prefix_len, raw_literal, checked, check_raw, HasEnd, EndsItself}
+use Rattle.rustc_lexer.specs.means.Raw.{is_hash, is_quote, hash_run, closes, close, raw_text, raw_starter, raw_read, accepted, is_accepted, raw_body, prefix_kind, prefix_len, raw_literal, checked, check_raw, HasEnd, EndsItself}
 use Rattle.rustc_lexer.specs.laws.Reach.{IsToldBy, cut_past, told_same, wider, all_at, read_as_at, and_then_at, first_at, gives_local, run_len_le, run_len_same, found-same, least-some, least_found}
 use Rattle.rustc_lexer.specs.means.Scan.{IsLocalAt, IsLocal, IsFound, run_len}
 
@@ -34,9 +34,6 @@ closes-length n (c ∷ s) e = let le = leb-true n (hash_run s) (and_parts (is_qu
 close_found : (n : ℕ) → IsFound (suc n) (close n)
 close_found n = least_found (suc n) (λ s place. closes n (drop place s)) (omega arith) (λ u s i e. told_same (suc n) (suc n) (closes n) (drop i u) (drop i s) (closes-told n) (omega arith) (cut_past i (suc n) (i + suc n) u s (omega arith) e))
 
-close-inside : (n : ℕ) (s : List ℕ) (i : ℕ) → close n s ≡ Some i → i + suc n ≤ length s
-close-inside n s i e = grind (arith, common_steps, least-some, closes-length, length-drop)
-
 abbrev pub Read : Type 0
 Read = Result ℕ RawStrError × ℕ
 
@@ -46,13 +43,10 @@ record IsEnded (v : List ℕ) (scan : List ℕ → Read) (s : List ℕ) : Type 0
   ends : HasEnd v (scan s).0 ⊎ ((scan s).1 ≡ length s)
 
 text_ended : (n before : ℕ) (v s : List ℕ) → IsEnded v (raw_text n before) s
-text_ended n before v s = grind (arith, common_steps, close-inside, found-same, close_found)
-
-past_starter_ended : (prefix n c : ℕ) (s : List ℕ) → IsEnded (c ∷ s) (past_starter prefix n c) s
-past_starter_ended prefix n c s = grind (arith, common_steps, text_ended, gives_local)
+text_ended n before v s = grind (arith, common_steps, least-some, closes-length, length-drop, found-same, close_found)
 
 raw_starter_ended : (prefix n : ℕ) (s : List ℕ) → IsEnded s (raw_starter prefix n) s
-raw_starter_ended prefix n w2 = grind (arith, common_steps, past_starter_ended, first_at)
+raw_starter_ended prefix n w2 = grind (arith, common_steps, text_ended, gives_local, first_at)
 
 starter-some : (prefix n : ℕ) (s : List ℕ) → HasEnd s (raw_starter prefix n s).0 → 0 < (raw_starter prefix n s).1
 starter-some prefix n [] end = absurd (let no : 0 < 0 = end in omega arith)

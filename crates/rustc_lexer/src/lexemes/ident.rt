@@ -63,7 +63,7 @@ pub fn is_ident(string: &str) -> bool
     ensures { result ≡ Classes.is_ident (chars string.now) }
 {
     match split_first(string) {
-        Some((first, tail)) => is_id_start(first) && eat_while(tail, is_id_continue).is_empty(),
+        Some((first, tail)) => is_id_start(first) && tail.chars().all(is_id_continue),
         None => false,
     }
 }

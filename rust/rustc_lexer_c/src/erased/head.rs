@@ -67,7 +67,7 @@ fn find_body_edit(
     }
     let now = Head::find(text);
     let body = head_of(head).change_to(now, change);
-    if !body.change.may_make(&text[now.end..]) {
+    if !body.change.may_make(&text[now.body..]) {
         return Refusal::BadEdit.number();
     }
     *head = numbers_of_head(now);
@@ -85,10 +85,10 @@ fn head_of(numbers: &CHead) -> Head {
         _ => (first.len, Some(frontmatter_of(second))),
     };
     Head {
-        shebang: numbers.shebang_len as usize,
-        space,
-        front,
-        end: numbers.body as usize,
+        shebang_len: numbers.shebang_len as usize,
+        space_len: space,
+        frontmatter: front,
+        body: numbers.body as usize,
     }
 }
 
@@ -105,23 +105,23 @@ fn frontmatter_of(numbers: CToken) -> Token {
 
 /// Returns a head as numbers.
 fn numbers_of_head(head: Head) -> CHead {
-    let (count, tokens) = match head.front {
+    let (count, tokens) = match head.frontmatter {
         None => (0, [no_token(), no_token()]),
         Some(front) => {
-            if head.space == 0 {
+            if head.space_len == 0 {
                 (1, [token_numbers(front), no_token()])
             } else {
                 let space = Token {
                     kind: TokenKind::Whitespace,
-                    len: head.space,
+                    len: head.space_len,
                 };
                 (2, [token_numbers(space), token_numbers(front)])
             }
         }
     };
     CHead {
-        shebang_len: head.shebang as u32,
-        body: head.end as u32,
+        shebang_len: head.shebang_len as u32,
+        body: head.body as u32,
         count,
         tokens,
     }

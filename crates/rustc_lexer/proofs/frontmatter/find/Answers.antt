@@ -1,5 +1,5 @@
 use Rattle.std.proofs.Common.{◌-◌, ◌+◌}
-use Rattle.rustc_lexer.specs.laws.Fences.{slice_from}
+use Rattle.std.proofs.lemmas.List.{take_rest}
 use Rattle.rustc_lexer.proofs.SearchLemmas.{too_short, past_end, past_found, past_on}
 use Rattle.rustc_lexer.proofs.frontmatter.find.Goals as goal
 
@@ -8,13 +8,13 @@ returns-then-rest-pattern-clause-place c = too_short c.args.pattern.now c.args.r
 
 pub returns-then-starts_with-clause-place : goal.returns-then-starts_with-clause-place
 returns-then-starts_with-clause-place c =
-    past_found c.args.pattern.now c.args.rest.now _ c.args.rare c.places.from c.requires c.places.invariant (slice_from c.places.from c.args.rest.now) c.in-Some.step c.in-Some.ensures
-    _ (slice_from (c.places.from + c.in-Some.step - c.args.rare) c.args.rest.now) c.starts_with.result c.starts_with.ensures.value c.if-starts_with.true
+    past_found c.args.pattern.now c.args.rest.now _ c.args.rare c.places.from c.requires c.places.invariant (take_rest c.args.rest.now c.places.from) c.in-Some.step c.in-Some.ensures
+    _ (take_rest c.args.rest.now (c.places.from + c.in-Some.step - c.args.rare)) c.starts_with.result c.starts_with.ensures.value c.if-starts_with.true
 
 pub places-preserved : goal.places-preserved
 places-preserved c =
-    past_on c.args.pattern.now c.args.rest.now _ c.args.rare c.places.from c.requires c.places.invariant (slice_from c.places.from c.args.rest.now) c.in-Some.step c.in-Some.ensures
-    _ (slice_from (c.places.from + c.in-Some.step - c.args.rare) c.args.rest.now) c.starts_with.result c.starts_with.ensures.value c.if-starts_with.false
+    past_on c.args.pattern.now c.args.rest.now _ c.args.rare c.places.from c.requires c.places.invariant (take_rest c.args.rest.now c.places.from) c.in-Some.step c.in-Some.ensures
+    _ (take_rest c.args.rest.now (c.places.from + c.in-Some.step - c.args.rare)) c.starts_with.result c.starts_with.ensures.value c.if-starts_with.false
 
 pub returns-clause-place : goal.returns-clause-place
-returns-clause-place c = past_end c.args.pattern.now c.args.rest.now _ c.args.rare c.places.from c.requires c.places.invariant (slice_from c.places.from c.args.rest.now) c.in_default.ensures
+returns-clause-place c = past_end c.args.pattern.now c.args.rest.now _ c.args.rare c.places.from c.requires c.places.invariant (take_rest c.args.rest.now c.places.from) c.in_default.ensures

@@ -23,7 +23,7 @@ impl Head {
         let keeps_head = keeps_head(self, now, edit.start);
         BodyChange {
             keeps_head,
-            change: body_change(keeps_head, self.end, now.end, edit),
+            change: body_change(keeps_head, self.body, now.body, edit),
         }
     }
 }

@@ -29,7 +29,7 @@ pub(crate) fn body_change(kept: bool, from: usize, to: usize, edit: Change) -> C
 
 /// Returns whether the head stays: whether the edit, which begins at `start`, is behind it and leaves it the same.
 pub(crate) fn keeps_head(old: Head, now: Head, start: usize) -> bool {
-    old.end <= start && old == now
+    old.body <= start && old == now
 }
 
 /// Returns the head to put in, or `None` if the old one stays.

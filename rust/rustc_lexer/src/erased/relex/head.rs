@@ -14,21 +14,21 @@ use crate::support::AllocError;
 #[derive(Clone, Copy, Debug, PartialEq, Eq)]
 pub struct Head {
     /// The length of the shebang line in bytes, or 0.
-    pub shebang: usize,
+    pub shebang_len: usize,
     /// The length in bytes of the white space before the frontmatter if that is a token of its own, or 0.
-    pub space: u32,
+    pub space_len: u32,
     /// The frontmatter, or `None` if there is none.
-    pub front: Option<Token>,
+    pub frontmatter: Option<Token>,
     /// Where the body begins, in bytes from the start of the text.
-    pub end: usize,
+    pub body: usize,
 }
 
 /// The head of a part of a document, which has none.
 pub(crate) const NO_HEAD: Head = Head {
-    shebang: 0,
-    space: 0,
-    front: None,
-    end: 0,
+    shebang_len: 0,
+    space_len: 0,
+    frontmatter: None,
+    body: 0,
 };
 
 /// Finds the head of a whole document, or of a part of one, which has none.
@@ -48,10 +48,10 @@ impl Head {
         let rest = &text[shebang..];
         if let Some(front) = frontmatter(rest) {
             return Head {
-                shebang,
-                space: 0,
-                front: Some(front),
-                end: shebang + front.len as usize,
+                shebang_len: shebang,
+                space_len: 0,
+                frontmatter: Some(front),
+                body: shebang + front.len as usize,
             };
         }
         let past = eat_whitespace(rest);
@@ -59,27 +59,27 @@ impl Head {
             Some(front) => {
                 let space = rest.len() - past.len();
                 Head {
-                    shebang,
-                    space: space as u32,
-                    front: Some(front),
-                    end: shebang + space + front.len as usize,
+                    shebang_len: shebang,
+                    space_len: space as u32,
+                    frontmatter: Some(front),
+                    body: shebang + space + front.len as usize,
                 }
             }
             None => Head {
-                shebang,
-                space: 0,
-                front: None,
-                end: shebang,
+                shebang_len: shebang,
+                space_len: 0,
+                frontmatter: None,
+                body: shebang,
             },
         }
     }
 
     /// Returns how many tokens the head has.
     pub fn count(self) -> usize {
-        match self.front {
+        match self.frontmatter {
             None => 0,
             Some(_) => {
-                if self.space == 0 {
+                if self.space_len == 0 {
                     1
                 } else {
                     2
@@ -90,11 +90,11 @@ impl Head {
 
     /// Appends the tokens of the head.
     pub(crate) fn push_to(self, list: &mut Vec<Token>) -> Result<(), AllocError> {
-        if let Some(front) = self.front {
-            if self.space > 0 {
+        if let Some(front) = self.frontmatter {
+            if self.space_len > 0 {
                 list.push(Token {
                     kind: TokenKind::Whitespace,
-                    len: self.space,
+                    len: self.space_len,
                 })?;
             }
             list.push(front)?;

@@ -36,7 +36,7 @@ impl<S: Stepper> Kept<S> {
     ) -> Result<Kept<S>, AllocError> {
         let mut stepper = stepper;
         let head = find_head(whole, text);
-        let (mut tokens, checkpoints) = lex_all(alloc, &mut stepper, &text[head.end..])?;
+        let (mut tokens, checkpoints) = lex_all(alloc, &mut stepper, &text[head.body..])?;
         let mut front = Vec::new(alloc);
         head.push_to(&mut front)?;
         replace(&mut tokens, 0, 0, front)?;
@@ -87,8 +87,8 @@ impl<S: Stepper> Kept<S> {
         let kept = keeps_head(self.head, now, start);
         let change = body_change(
             kept,
-            self.head.end,
-            now.end,
+            self.head.body,
+            now.body,
             Change {
                 start,
                 old_stop: stop,
@@ -98,7 +98,7 @@ impl<S: Stepper> Kept<S> {
         let count = self.tokens.as_slice().len();
         let old_count = self.head.count();
         let near = self.checkpoints.nearest(change.start);
-        let body = &made[now.end..];
+        let body = &made[now.body..];
         let new_head = new_head(kept, now);
         match self.renew(old_count, new_head, near, body, change) {
             Ok(at) => {
@@ -125,13 +125,13 @@ impl<S: Stepper> Kept<S> {
         if number < count {
             return Bound {
                 number: 0,
-                place: self.head.shebang,
+                place: self.head.shebang_len,
             };
         }
         let near = self.checkpoints.before_number(number - count);
         Bound {
             number: count + near.number,
-            place: self.head.end + near.place,
+            place: self.head.body + near.place,
         }
     }
 

@@ -49,7 +49,7 @@ impl<S: Stepper> LexedDocument<S> {
 
     /// Returns the length of the shebang line in bytes, or 0. The first token begins there.
     pub fn shebang_len(&self) -> usize {
-        self.kept.head.shebang
+        self.kept.head.shebang_len
     }
 
     /// Returns the tokens of the document, in order. The shebang line has none.

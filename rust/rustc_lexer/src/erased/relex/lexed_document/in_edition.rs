@@ -34,7 +34,7 @@ impl LexedDocument<Steps> {
     pub fn body(&self) -> Bound {
         Bound {
             number: self.kept.head.count(),
-            place: self.kept.head.end,
+            place: self.kept.head.body,
         }
     }
 
