@@ -1,7 +1,7 @@
--- What stands on each line of a text, by its tokens, and how many lines there are of each sort.
+-- Which tokens are on each line of a text, and how many lines there are of each sort.
 --
--- A token stands on each line on which a byte of it lies, and a newline lies on the line that it ends. So a blank line inside of
--- a string is code, and one inside of a comment is a comment.
+-- A token is on each line that has a byte of it, and a newline is on the line that it ends. So a blank line inside a
+-- string is code, and one inside a comment is a comment.
 use Rattle.std.specs.Prelude.{ℕ, ◌+◌, ◌==◌, ◌&&◌, not, Bool, true, false, if◌then◌else◌, List, [], ◌∷◌, ◌++◌, map, take, drop, Some, None}
 use Rattle.std.specs.List.{count_by, list_any}
 use Rattle.rustc_lexer.specs.declared.token.Token.{Token}
@@ -14,9 +14,10 @@ use Rattle.count_run.specs.declared.lines.Class.TheVariants.{Code, Doc, Comment,
 use Rattle.count_run.specs.declared.lines.Line.{Line}
 use Rattle.count_run.specs.declared.lines.LineCounts.{LineCounts}
 
--- ---- each byte of a text, with the class of the token that it is of
+-- ---- each byte of a text, with the class of its token
 
--- a comment is of a class of its own, and so is a doc comment; white space between tokens is of none; all else is code, frontmatter too
+-- comments have a class of their own, and so have doc comments; white space between tokens has none; everything else is
+-- code, also a frontmatter
 abbrev pub class_of : TokenKind → Class
 class_of Whitespace = Space
 class_of (LineComment None) = Comment
@@ -53,7 +54,7 @@ abbrev pub split_lines : List Mark → List (List Mark)
 split_lines [] = []
 split_lines (m ∷ ms) = if m.byte == 10 then (m ∷ []) ∷ split_lines ms else onto_line m (split_lines ms)
 
--- ---- what stands on a line
+-- ---- what is on a line
 
 abbrev pub is_code : Class → Bool
 is_code Code = true
@@ -91,7 +92,7 @@ counts_as_comment line = not line.code && (not line.doc && line.comment)
 abbrev pub counts_as_blank : Line → Bool
 counts_as_blank line = not line.code && (not line.doc && not line.comment)
 
--- beside that, how many lines have two of them
+-- besides, the number of lines that have two of these
 abbrev pub has_code_and_doc : Line → Bool
 has_code_and_doc line = line.code && line.doc
 

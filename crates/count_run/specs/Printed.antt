@@ -15,8 +15,8 @@ use Rattle.count_run.specs.Table.{table}
 unfoldable pub printed : Layout → Report → List ℕ
 printed layout report = if layout.json then print (json_tokens (report_object layout.by_file report)) ++ codes "\n" else table layout.by_file report
 
--- how printing a report ends, and what goes out: all of it, also where something was skipped, or a beginning of it, or
--- nothing where an allocation failed
+-- how printing a report ends, and what is written: all of it, also if something was skipped; or a prefix of it; or
+-- nothing if an allocation failed
 abbrev pub Prints : List ℕ → Option (List ℕ) → Option (List ℕ) → Result (Unit {0}) Stop → Type 0
 Prints text old new (Err Skipped) = Appends old new text
 Prints text old new (Err Memory) = Keeps old new

@@ -1,4 +1,4 @@
--- What the program comes to, by its arguments.
+-- The outcome of the program, by its arguments.
 use Rattle.std.specs.Prelude.{ℕ, List, Option, Result, IfErr}
 use Rattle.ends.specs.Run.{RanBy}
 use Rattle.ends.specs.declared.stop.Stop.{Stop}
@@ -13,7 +13,7 @@ IsStopOf command Write = Unit {0}
 IsStopOf command ClosedPipe = Unit {0}
 IsStopOf command stop = ⊥
 
--- a run by words, or by none where they could not be had: unless an allocation failed, it is that of the command which they
--- ask for; without words it is as if an allocation failed
+-- the outcome of a run by its arguments, or None if they could not be read. Unless an allocation failed, the run does
+-- the command that they ask for; None counts as a failed allocation
 abbrev pub Ran : Option (List (List ℕ)) → Result (Unit {0}) Stop → Type 0
 Ran words result = RanBy Arguments Memory job_of (λ command outcome. IfErr outcome (IsStopOf command)) words result

@@ -7,7 +7,7 @@ use Rattle.count_run.specs.Lines.{lines_counted}
 abbrev pub no_counts : LineCounts
 no_counts = record { code = 0; doc = 0; comment = 0; blank = 0; code_and_doc = 0; code_and_comment = 0; doc_and_comment = 0 }
 
--- a sum, or the greatest number of 64 bits where it is more
+-- a sum, or the greatest number of 64 bits if the sum is greater
 abbrev pub sum_of : ℕ → ℕ → ℕ
 sum_of m n = min (m + n) (2 ^ 64 - 1)
 
@@ -26,6 +26,6 @@ sums a b = record {
 abbrev pub total_of : List FileCounts → LineCounts
 total_of files = fold (λ total file. sums total file.counts) no_counts files
 
--- all lines, or the greatest number of 64 bits where they are more
+-- the number of all lines, or the greatest number of 64 bits if it is greater
 abbrev pub all_lines : LineCounts → ℕ
 all_lines counts = min (lines_counted counts) (2 ^ 64 - 1)

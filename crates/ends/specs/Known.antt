@@ -1,12 +1,12 @@
--- What the known bytes of a writer come to where not all went out.
+-- The known bytes of a writer if not all bytes were written.
 use Rattle.std.specs.Prelude.{ℕ, ◌≡◌, ◌≤◌, List, ◌++◌, length, take, Option}
 use Rattle.std.specs.Io.KnownBytes.{Appends}
 
--- the known bytes grew by a beginning of the text
+-- a prefix of the text was appended to the known bytes
 abbrev pub AppendsFront : Option (List ℕ) → Option (List ℕ) → List ℕ → Type 0
 AppendsFront old new text = (n : ℕ) × (n ≤ length text) × Appends old new (take n text)
 
--- a front of the bytes went out, and the rest is still to come
+-- a prefix of the bytes was written, and `rest` is still to be written
 pub record Went (old new : Option (List ℕ)) (bytes rest : List ℕ) : Type 0 where
   pub front : List ℕ
   pub whole : bytes ≡ front ++ rest

@@ -1,4 +1,4 @@
--- Why a program stops: its status, and what it tells.
+-- Why a program stops: its exit status, and what it prints.
 use Rattle.std.specs.Prelude.{ℕ, ◌≡◌, Bool, true, List, [], ◌∷◌, ◌++◌, codes, Option, Some, None, Result, Ok, Err, OnErr}
 use Rattle.std.specs.Io.KnownBytes.{Appends}
 use Rattle.ends.specs.Known.{AppendsFront}
@@ -20,7 +20,7 @@ status_of Memory = 6
 status_of Read = 7
 status_of Write = 7
 
--- the message of a stop; a closed pipe has none, and skipped paths are named already
+-- the message of a stop. A closed pipe has none, and skipped paths have been reported already
 abbrev pub stop_text : Stop → Option (List ℕ)
 stop_text Arguments = Some (codes "unknown words; --help tells what it takes")
 stop_text Untidy = Some (codes "not in order")
@@ -36,36 +36,36 @@ abbrev pub named_line : List ℕ → Option (List ℕ) → List ℕ
 named_line name None = []
 named_line name (Some text) = name ++ (text ++ 10 ∷ [])
 
--- the line that tells of a stop, behind the program's name and a colon
+-- the line that reports a stop, after the program's name and a colon
 abbrev pub stop_line : List ℕ → Stop → List ℕ
 stop_line name stop = named_line name (stop_text stop)
 
--- why a program stops where reading does
+-- why a program stops if reading does
 abbrev pub read_stop : ReadStop → Stop
 read_stop TooLongRead = TooLong
 read_stop MemoryRead = Memory
 read_stop FailedRead = Read
 
--- why a program stops where writing does
+-- why a program stops if writing does
 abbrev pub write_stop : WriteStop → Stop
 write_stop FailedWrite = Write
 write_stop ClosedPipeWrite = ClosedPipe
 
--- the status with which a program ends, by that of its stops
+-- the exit status of a program, from that of its stops
 abbrev pub exit_status : {S : Type 0} → (S → ℕ) → Result (Unit {0}) S → ℕ
 exit_status status (Ok done) = 0
 exit_status status (Err stop) = status stop
 
--- what is told of an outcome: the line of its stop, if it has one
+-- what is printed about an outcome: the line of its stop, if it has one
 abbrev pub told : {S : Type 0} → (S → List ℕ) → Result (Unit {0}) S → List ℕ
 told line (Ok done) = []
 told line (Err stop) = line stop
 
--- what is told of an outcome, by the statuses and the lines of its stops: on a writer that is `sound`, which has never
--- failed, and whose known bytes grew from `old` to `new`
+-- an outcome was reported, by the statuses and the lines of its stops. If the writer is `sound`, which means that it
+-- has never failed, all of the line was written. The known bytes of the writer grew from `old` to `new`
 pub record Told {S : Type 0} (status_of : S → ℕ) (line_of : S → List ℕ) (outcome : Result (Unit {0}) S) (answer : ℕ) (sound : Type 0) (flushed : Bool) (old new : Option (List ℕ)) : Type 0 where
   pub status : answer ≡ exit_status status_of outcome
   pub line : sound → Appends old new (told line_of outcome)
   pub front : AppendsFront old new (told line_of outcome)
-  -- after a stop the last thing asked of it was a flush that was not refused
+  -- after a stop, the last call of the writer was a flush that succeeded
   pub heard : OnErr outcome (sound → flushed ≡ true)

@@ -9,11 +9,11 @@ pub record Watch (T : Type 0) : Type 0 where
   pub inner : T
   -- a call failed
   pub failed : Bool
-  -- a call failed, and not because nobody reads what is written
+  -- a call failed for another reason than that nobody reads what is written
   pub faulty : Bool
   -- a call found that nobody reads what is written
   pub closed : Bool
-  -- the last call was a flush that was not refused
+  -- the last call was a flush that succeeded
   pub flushed : Bool
 
 abbrev pub is_broken_pipe : ErrorKind → Bool

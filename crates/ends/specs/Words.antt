@@ -1,4 +1,4 @@
--- The words of the command line.
+-- The arguments of the command line.
 use Rattle.std.specs.Prelude.{ℕ, List, Option, drop, map, string_bytes}
 use Rattle.std.specs.Option.{option_map}
 use Rattle.std.specs.Global.{Global}
@@ -6,6 +6,6 @@ use Rattle.std.specs.Vec.Iter.{into_iter_items}
 use Rattle.std.specs.declared.string.String.{String}
 use Rattle.std.specs.declared.vec.IntoIter.{IntoIter}
 
--- the words after the program's name, where the arguments could be had
+-- the arguments after the program's name, or None if they could not be read
 abbrev pub words_of : Option (IntoIter (String Global) Global) → Option (List (List ℕ))
 words_of args = option_map (λ words. map string_bytes (drop 1 (into_iter_items words))) args

@@ -3,7 +3,7 @@ use Rattle.std.specs.Prelude.{Bool, true, false, Result, Err}
 use Rattle.ends.specs.declared.writing.WriteStop.{WriteStop}
 use Rattle.ends.specs.declared.writing.WriteStop.TheVariants.{Failed, ClosedPipe}
 
--- the writer failed otherwise than by a closed pipe
+-- the writer failed for another reason than a closed pipe
 abbrev pub is_fault : Result (Unit {0}) WriteStop → Bool
 is_fault (Err Failed) = true
 is_fault result = false

@@ -17,7 +17,7 @@ status_of Memory = 6
 status_of Read = 7
 status_of Write = 7
 
--- the words of a fault
+-- the message of an error
 unfoldable pub fault_text : Fault → List ℕ
 fault_text Arguments = codes "bad arguments"
 fault_text NotUtf8 = codes "input is not UTF-8"
@@ -32,17 +32,17 @@ abbrev pub number_text : Option ℕ → List ℕ
 number_text None = []
 number_text (Some n) = decimal n
 
--- the line that tells of a fault
+-- the line that reports an error
 abbrev pub fault_line : Fault → List ℕ
 fault_line fault = codes "lexdump: " ++ (fault_text fault ++ 10 ∷ [])
 
--- the fault of a list of edits that stopped
+-- the error of a list of edits that stopped
 abbrev pub stop_fault : EditStop → Fault
 stop_fault (RangeStop at) = EditRange at
 stop_fault (TooLongStop at) = EditTooLong at
 stop_fault (MemoryStop at) = Memory
 
--- the fault of a stop of `ends`
+-- the error for a stop of `ends`
 abbrev pub end_fault : Stop → Fault
 end_fault ArgumentsStop = Arguments
 end_fault NotUtf8Stop = NotUtf8

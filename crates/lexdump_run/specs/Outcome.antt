@@ -1,4 +1,4 @@
--- What a run comes to, by the bytes that it reads.
+-- The outcome of a run, by the bytes that it reads.
 use Rattle.std.specs.Prelude.{ℕ, ◌<◌, ◌≤◌, ◌^◌, ◌≡◌, List, [], length, take, Option, Result, Ok, Err}
 use Rattle.std.specs.Str.{IsUtf8}
 use Rattle.std.specs.Io.KnownBytes.{Keeps, Appends}
@@ -18,19 +18,19 @@ use Rattle.lexdump_run.specs.declared.job.Job.{Job}
 use Rattle.lexdump_run.specs.declared.job.Job.TheVariants.{Plain, Front, Shebang, Edit}
 use Rattle.lexdump_run.specs.Listing.{listing, shebang_line}
 
--- what is printed of a text; where there are edits all are good, each on the text that those before it leave
+-- what is printed for a text. If there are edits, all are valid, each for the text that those before it leave
 abbrev pub IsPrinted : Job → List ℕ → List ℕ → Type 0
 IsPrinted (Plain edition) text made = made ≡ listing (tokens_of (part edition) text)
 IsPrinted Front text made = made ≡ listing (tokens_of (document E2024) text)
 IsPrinted Shebang text made = made ≡ shebang_line (shebang text)
 IsPrinted (Edit edition edits) text made = AreEdits text edits.items × (made ≡ listing (tokens_of (part edition) (apply_list text edits.items)))
 
--- the list of edits stops there: those before it are good, and it is refused on the text that they leave, by the rule of
--- `rustc_lexer`
+-- the list of edits stops at this edit: those before it are valid, and it is refused for the text that they leave, by
+-- the rule of `rustc_lexer`
 abbrev pub StopsAt : EditStop → List ℕ → List TextEdit → Type 0
 StopsAt stop text edits = AreEdits text (take (stop_at stop) edits) × IsStop stop (apply_list text (take (stop_at stop) edits)) edits
 
--- why edits are not made: one is refused, or memory is
+-- why edits are not made: one is refused, or an allocation failed
 abbrev pub IsRefused : List ℕ → List TextEdit → Fault → Type 0
 IsRefused text edits (EditRange at) = StopsAt (RangeStop at) text edits
 IsRefused text edits (EditTooLong at) = StopsAt (TooLongStop at) text edits
@@ -41,15 +41,15 @@ abbrev pub edits_of : Job → List TextEdit
 edits_of (Edit edition edits) = edits.items
 edits_of job = []
 
--- how a run over a text ends, and what goes out: on Ok all that is printed, after a failed write a beginning of it; where
+-- how a run over a text ends, and what is written: on Ok all that is printed; after a failed write a prefix of it; if
 -- the edits are not made, nothing
 abbrev pub Prints : Job → List ℕ → Option (List ℕ) → Option (List ℕ) → Result (Unit {0}) Fault → Type 0
 Prints job text old new (Ok done) = (made : List ℕ) × IsPrinted job text made × Appends old new made
 Prints job text old new (Err Write) = (made : List ℕ) × IsPrinted job text made × AppendsFront old new made
 Prints job text old new (Err fault) = IsRefused text (edits_of job) fault × Keeps old new
 
--- how a run over bytes ends: after a failed read, and where an allocation failed, nothing goes out, and nothing where the
--- bytes are too many or no text; else it is a run over a text
+-- how a run over bytes ends. Nothing is written after a failed read or a failed allocation, or if the bytes are too
+-- many or not UTF-8. Otherwise it is a run over a text
 abbrev pub Ends : Job → List ℕ → Option (List ℕ) → Option (List ℕ) → Result (Unit {0}) Fault → Type 0
 Ends job bytes old new (Err Read) = Keeps old new
 Ends job bytes old new (Err Memory) = Keeps old new

@@ -1,4 +1,4 @@
--- What a token is to a reader, by its kind and its text.
+-- The class of a token, which says what it is for a reader, by its kind and its text.
 use Rattle.std.specs.Prelude.{ℕ, Bool, false, if◌then◌else◌, List, [], ◌∷◌, codes, Some, None}
 use Rattle.std.specs.Char.{is_ascii_uppercase}
 use Rattle.std.specs.List.{list_any}
@@ -10,7 +10,7 @@ use Rattle.rustc_lexer.specs.declared.token.TokenKind.TheVariants.{LineComment, 
 use Rattle.marks.specs.declared.class.Class.{Class}
 use Rattle.marks.specs.declared.class.Class.TheVariants.{Plain, Comment, Doc, Keyword, TypeName, Text, Number, Lifetime}
 
--- words that are keywords wherever they stand; `union` is a name in other places, and so is not among them
+-- the words that are keywords everywhere; `union` is a name in some places, so it is not in the list
 abbrev pub keywords : List (List ℕ)
 keywords =
     codes "as" ∷ codes "async" ∷ codes "await" ∷ codes "break" ∷ codes "const" ∷ codes "continue" ∷ codes "crate" ∷ codes "dyn" ∷ codes "else" ∷ codes "enum"
@@ -18,7 +18,7 @@ keywords =
     ∷ codes "move" ∷ codes "mut" ∷ codes "pub" ∷ codes "ref" ∷ codes "return" ∷ codes "self" ∷ codes "Self" ∷ codes "static" ∷ codes "struct" ∷ codes "super"
     ∷ codes "trait" ∷ codes "true" ∷ codes "type" ∷ codes "unsafe" ∷ codes "use" ∷ codes "where" ∷ codes "while" ∷ []
 
--- a name that begins with a capital letter of ASCII
+-- whether a name begins with an ASCII capital letter
 abbrev pub is_type_name : List ℕ → Bool
 is_type_name [] = false
 is_type_name (b ∷ bs) = is_ascii_uppercase b

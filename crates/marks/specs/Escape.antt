@@ -1,9 +1,9 @@
--- A text as a page shows it, and the text that a page shows.
+-- A text as it is written in an HTML page, and the text that a page shows.
 use Rattle.std.specs.Prelude.{ℕ, zero, suc, ◌==◌, Bool, true, false, ◌||◌, not, if◌then◌else◌, List, [], ◌∷◌, codes, length, take}
 use Rattle.std.specs.List.{flat_map}
 use Rattle.std.specs.Str.{byte, bytes_eq}
 
--- the bytes that a page would read as its own
+-- the bytes that HTML would read as markup
 abbrev pub is_special : ℕ → Bool
 is_special b = b == byte "&" || b == byte "<" || b == byte ">"
 
@@ -21,7 +21,7 @@ escaped text = flat_map escaped_byte text
 abbrev pub begins_with : List ℕ → List ℕ → Bool
 begins_with name bs = bytes_eq (take (length name) bs) name
 
--- the text that is written with entities, past the first bytes, which belong to an entity
+-- the text that these bytes with entities stand for, if the first n of them belong to an entity that was read already
 abbrev pub unescaped_past : ℕ → List ℕ → List ℕ
 unescaped_past n [] = []
 unescaped_past (suc n) (b ∷ bs) = unescaped_past n bs
@@ -32,16 +32,16 @@ unescaped_past zero (b ∷ bs) =
     else (if begins_with (codes "gt;") bs then byte ">" ∷ unescaped_past 3 bs
     else b ∷ unescaped_past 0 bs)))
 
--- what a text with entities says
+-- the text that these bytes with entities stand for
 abbrev pub unescaped : List ℕ → List ℕ
 unescaped bs = unescaped_past 0 bs
 
--- what stands outside of tags, from inside of one or from outside
+-- the bytes outside of tags; the flag says whether the first byte is inside of one
 abbrev pub untagged_from : Bool → List ℕ → List ℕ
 untagged_from inside [] = []
 untagged_from true (b ∷ bs) = untagged_from (not (b == byte ">")) bs
 untagged_from false (b ∷ bs) = if b == byte "<" then untagged_from true bs else b ∷ untagged_from false bs
 
--- a page's text: what stands outside of tags, each of which goes from `<` to `>`
+-- the text of a page: the bytes outside of tags, each of which goes from `<` to `>`
 abbrev pub untagged : List ℕ → List ℕ
 untagged bs = untagged_from false bs

@@ -1,4 +1,4 @@
--- What is wrong with a token, and the sentence that says so.
+-- The error of a token, and the sentence that describes it.
 use Rattle.std.specs.Prelude.{ℕ, ◌-◌, ◌==◌, Bool, true, false, ◌&&◌, nat_lt, if◌then◌else◌, List, ◌++◌, codes, decimal, drop, Option, Some, None, Result, Ok, Err}
 use Rattle.std.specs.Str.{byte, chars}
 use Rattle.rustc_lexer.specs.declared.token.LiteralKind.{LiteralKind}
@@ -14,7 +14,7 @@ use Rattle.marks.specs.declared.fault.Fault.TheVariants.{OpenComment, Frontmatte
 use Rattle.rustc_literal_escaper.specs.declared.error.EscapeError.{EscapeError}
 use Rattle.rustc_literal_escaper.specs.declared.error.EscapeError.TheVariants.{ZeroChars, MoreThanOneChar, LoneSlash, InvalidEscape, BareCarriageReturn, BareCarriageReturnInRawString, EscapeOnlyChar, TooShortHexEscape, InvalidCharInHexEscape, OutOfRangeHexEscape, NoBraceInUnicodeEscape, InvalidCharInUnicodeEscape, EmptyUnicodeEscape, UnclosedUnicodeEscape, LeadingUnderscoreUnicodeEscape, OverlongUnicodeEscape, LoneSurrogateUnicodeEscape, OutOfRangeUnicodeEscape, UnicodeEscapeInByte, NonAsciiCharInByte, NulInCStr, UnskippedWhitespaceWarning, MultipleSkippedLinesWarning}
 
--- what the reason of a raw string's refusal is to a reader
+-- the error for a reader, by the reason why a raw string is refused
 abbrev pub refusal : RawStrError → Fault
 refusal (InvalidStarter bad_char) = RawStarter
 refusal (NoTerminator expected found None) = OpenRawString expected
@@ -28,7 +28,7 @@ refused (Err error) = Some (refusal error)
 abbrev pub is_r : ℕ → Bool
 is_r c = c == byte "r"
 
--- why a raw string is refused, whose prefix has so many characters
+-- why a raw string is refused whose prefix has `prefix_len` characters
 abbrev pub raw_fault : List ℕ → ℕ → Option Fault
 raw_fault text prefix_len = if nat_lt 0 prefix_len && next_is is_r (drop (prefix_len - 1) (chars text)) then refused (raw_check text prefix_len) else None
 
@@ -45,7 +45,7 @@ literal_fault (RawByteStr None) text = raw_fault text 2
 literal_fault (RawCStr None) text = raw_fault text 2
 literal_fault kind text = None
 
--- what is wrong with a token; of two things the first
+-- the error of a token; if it has two, the first
 abbrev pub fault_of : TokenKind → List ℕ → Option Fault
 fault_of (BlockComment doc_style false) text = Some OpenComment
 fault_of (Frontmatter true invalid_infostring) text = Some FrontmatterSpace
@@ -59,7 +59,7 @@ fault_of Unknown text = Some UnknownCharacter
 fault_of (Literal kind suffix_start) text = literal_fault kind text
 fault_of kind text = None
 
--- what is wrong between the quotes of a literal
+-- the sentence for an error between the quotes of a literal
 abbrev pub error_sentence : EscapeError → List ℕ
 error_sentence ZeroChars = codes "nothing stands between these quotes"
 error_sentence MoreThanOneChar = codes "more than one character stands between these quotes"

@@ -1,4 +1,4 @@
--- The stretches of a literal: its escapes, and what is wrong in it. All else in it is plain.
+-- The stretches of a literal: its escapes and its errors. Everything else in it is plain.
 use Rattle.std.specs.Prelude.{ℕ, length, not, ◌+◌, ◌-◌, ◌==◌, nat_eq, nat_lt, codes, true, if◌then◌else◌, List, [], ◌∷◌, ◌++◌, take, drop, Option, Some, None}
 use Rattle.std.specs.Fmt.{WritesInCalls}
 use Rattle.std.specs.List.{position_or_len, starts_with, suffix_len}
@@ -24,7 +24,7 @@ use Rattle.marks.specs.declared.literal.Look.TheVariants.{Escape, Wrong}
 use Rattle.marks.specs.declared.style.Style.{Style}
 use Rattle.marks.specs.Part.{Part, Own, fault_parts, with_marks}
 
--- the mode of a literal that is closed; a number has none
+-- the mode of a literal that is closed. Numbers have none
 abbrev pub literal_mode : LiteralKind → Option Mode
 literal_mode (CharToken true) = Some Char
 literal_mode (ByteToken true) = Some Byte
@@ -45,26 +45,26 @@ mode_of kind = None
 abbrev pub quote_of : Mode → ℕ
 quote_of mode = if is_single mode then byte "'" else byte "\""
 
--- the place of the first byte of this value, or behind all bytes
+-- the offset of the first byte with this value, or the length of the text if there is none
 unfoldable pub first_place : ℕ → List ℕ → ℕ
 first_place b text = position_or_len (λ x. x == b) text
 
--- the place of the last one, or 0
+-- the offset of the last byte with this value, or 0 if there is none
 unfoldable pub last_place : ℕ → List ℕ → ℕ
 last_place b text = length text - suffix_len (λ x. not (x == b)) text - 1
 
--- the text from one place up to another
+-- the text from one offset up to another
 abbrev pub between : ℕ → ℕ → List ℕ → List ℕ
 between start end text = take (end - start) (drop start text)
 
--- where the text between the first quote and the last one begins and ends
+-- where the text between the first quote and the last one begins and ends, by the offsets of the quotes
 abbrev pub between_places : ℕ → ℕ → Option (ℕ × ℕ)
 between_places first last = if nat_lt first last then Some (first + 1, last) else None
 
 abbrev pub between_quotes : Mode → List ℕ → Option (ℕ × ℕ)
 between_quotes mode text = between_places (first_place (quote_of mode) text) (last_place (quote_of mode) text)
 
--- what is between the quotes of a literal that is closed, with its mode
+-- the text between the quotes of a literal that is closed, with its mode
 abbrev pub inside_in : Mode → List ℕ → Option (Mode × List ℕ)
 inside_in mode text = option_map (λ (places : ℕ × ℕ). (mode, between places.0 places.1 text)) (between_quotes mode text)
 
@@ -82,7 +82,7 @@ abbrev pub stretch : ℕ → ℕ → Option Look → List Stretch
 stretch start end None = []
 stretch start end (Some look) = record { start = start; end = end; look = look } ∷ []
 
--- a plain character has no look, unless it is wrong there
+-- a plain character has no look, unless it is an error there
 abbrev pub look_by : Option EscapeError → Element → Option Look
 look_by (Some error) element = Some (Wrong error)
 look_by None (Plain c) = None
@@ -91,23 +91,24 @@ look_by None element = Some Escape
 abbrev pub look_of : Mode → Element → Option Look
 look_of mode element = look_by (error_of mode element) element
 
--- between two elements stands only a backslash at a line's end, and what it passes over
+-- between two elements there is only a backslash at the end of a line and what it skips
 abbrev pub skipped : ℕ → ℕ → List Stretch
 skipped at start = if nat_lt at start then stretch at start (Some Escape) else []
 
--- those of the elements of what begins at the place `begin` of the literal, from the place `at` up to `close`; an element that
--- begins before `at` is told already: of two warnings at one place that is the second
+-- the stretches of the items of a text that begins at the offset `begin` of the literal: those from the offset `at` up
+-- to `close`. An item that begins before `at` was reported already: it is the second of two warnings about the same
+-- position
 abbrev pub stretches_from : Mode → ℕ → ℕ → ℕ → List Item → List Stretch
 stretches_from mode begin at close [] = skipped at close
 stretches_from mode begin at close (item ∷ items) =
     if nat_lt (begin + item.0.start) at then stretches_from mode begin at close items
     else skipped at (begin + item.0.start) ++ (stretch (begin + item.0.start) (begin + item.0.end) (look_of mode item.1) ++ stretches_from mode begin (begin + item.0.end) close items)
 
--- between double quotes
+-- the stretches of a text between double quotes
 abbrev pub string_stretches : Mode → ℕ → ℕ → List ℕ → List Stretch
 string_stretches mode begin close text = stretches_from mode begin begin close (items_of (is_raw mode) (between begin close text))
 
--- between single quotes all is one stretch: what is wrong, or an escape, or plain
+-- between single quotes everything is one stretch: an error, an escape, or plain
 abbrev pub single_error : Mode → List ℕ → Option EscapeError
 single_error Byte inside = result_err (byte_literal (chars inside))
 single_error mode inside = result_err (char_literal (chars inside))
@@ -122,7 +123,7 @@ single_stretches mode begin close text = stretch begin close (single_look (singl
 abbrev pub stretches_in : Mode → ℕ → ℕ → List ℕ → List Stretch
 stretches_in mode begin close text = if is_single mode then single_stretches mode begin close text else string_stretches mode begin close text
 
--- those of a literal: between its first quote and its last
+-- the stretches of a literal, between its first quote and its last one
 abbrev pub stretches_at : Mode → Option (ℕ × ℕ) → List ℕ → List Stretch
 stretches_at mode None text = []
 stretches_at mode (Some places) text = stretches_in mode places.0 places.1 text
@@ -136,19 +137,19 @@ abbrev pub look_parts : Look → List ℕ → List Part
 look_parts Escape text = Own EscapeClass text ∷ []
 look_parts (Wrong error) text = fault_parts (InLiteral error) Text text
 
--- what is left of a literal from the place `at` on: its stretches, and the plain text before, between and behind them
+-- the parts of the rest of a literal from the offset `at` on: its stretches, and the plain text around them
 abbrev pub parts_from : ℕ → List ℕ → List Stretch → List Part
 parts_from at left [] = Own Text left ∷ []
 parts_from at left (s ∷ ss) =
     Own Text (take (s.start - at) left)
     ∷ (look_parts s.look (take (s.end - s.start) (drop (s.start - at) left)) ++ parts_from s.end (drop (s.end - s.start) (drop (s.start - at) left)) ss)
 
--- a literal that is closed
+-- the parts of a literal that is closed
 abbrev pub literal_parts : Mode → List ℕ → List Part
 literal_parts mode text = parts_from 0 text (stretches_of mode text)
 
--- a writer that has taken a literal up to one place takes stretches, and it is then taken up to another place: whatever
--- stretches come behind, writing them too writes all
+-- a writer that has written a literal up to the offset `shown` writes these stretches, and has then written it up to
+-- `to`: whatever stretches follow, writing those too completes the literal
 abbrev pub WritesOn : {W : Type 0} → (W → List ℕ → W → Type 0) → Style → List ℕ → W → ℕ → List Stretch → W → ℕ → Type 0
 WritesOn {W} took style text old shown stretches new to =
     (more : List Stretch) (last : W) → WritesInCalls took new (with_marks style (parts_from to (drop to text) more)) last

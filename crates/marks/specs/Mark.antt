@@ -7,11 +7,11 @@ use Rattle.marks.specs.declared.style.Style.{Style}
 use Rattle.marks.specs.declared.style.Style.TheVariants.{Html, Colours, NoColours}
 use Rattle.marks.specs.Fault.{sentence}
 
--- an escape sequence, by what stands between its bracket and its last letter
+-- an escape sequence, by the characters between its bracket and its last letter
 abbrev pub sgr : List ℕ → List ℕ
 sgr attributes = 27 ∷ codes "[" ++ (attributes ++ codes "m")
 
--- the name of a class in a page; white space, symbols and other names have none
+-- the mark in front of text of a class. White space, symbols and other names have none
 abbrev pub class_open : Style → Class → List ℕ
 class_open style Plain = []
 class_open Html Comment = codes "<span class=\"comment\">"
@@ -38,17 +38,17 @@ class_close Html class = codes "</span>"
 class_close Colours class = sgr (codes "0")
 class_close NoColours class = []
 
--- before the first line of a token with a fault: in a page with the sentence that says what is wrong
+-- the mark before the first line of a token with an error. In a page it holds the sentence about the error
 abbrev pub fault_open : Style → Fault → List ℕ
 fault_open Html fault = codes "<mark title=\"" ++ (sentence fault ++ codes "\">")
 fault_open Colours fault = sgr (codes "4;31")
 fault_open NoColours fault = []
 
--- that sentence between brackets, so that no code runs into it
+-- that sentence in brackets, so that no code runs into it
 abbrev pub bracketed : Fault → List ℕ
 bracketed fault = codes " [<- " ++ (sentence fault ++ codes "]")
 
--- past that line: in a terminal with the sentence
+-- the mark after that line. In a terminal it holds the sentence
 abbrev pub fault_close : Style → Fault → List ℕ
 fault_close Html fault = codes "</mark>"
 fault_close Colours fault = sgr (codes "0;31") ++ (bracketed fault ++ sgr (codes "0"))

@@ -14,7 +14,7 @@ use Rattle.marks.specs.Fault.{fault_of}
 use Rattle.marks.specs.Literal.{literal_parts, mode_of}
 use Rattle.marks.specs.Part.{Part, Own, fault_parts, with_marks}
 
--- a token: with a fault, or a literal that is closed, or all in one class
+-- the parts of a token: of one with an error, of a literal that is closed, or of one that has a single class
 abbrev pub parts_by : Option Fault → Option Mode → Class → List ℕ → List Part
 parts_by (Some fault) mode class text = fault_parts fault class text
 parts_by None (Some mode) class text = literal_parts mode text
@@ -27,14 +27,15 @@ abbrev pub parts : List ℕ → List Token → List Part
 parts text [] = []
 parts text (token ∷ tokens) = token_parts token.kind (take token.len text) ++ parts (drop token.len text) tokens
 
--- a whole text: its shebang line as a comment, and the tokens of what follows, which is a document in an edition
+-- the parts of a whole text: its shebang line as a comment, and the tokens of the text after it, which is a document in
+-- an edition
 abbrev pub text_parts : Edition → List ℕ → List Part
 text_parts edition text = Own Comment (take (shebang_len text) text) ∷ parts (drop (shebang_len text) text) (document_tokens edition text)
 
--- each token of a text between its marks, as it is written
+-- the tokens of a text, each between its marks, as they are written
 abbrev pub marked_tokens : Style → List ℕ → List Token → List ℕ
 marked_tokens style text tokens = with_marks style (parts text tokens)
 
--- the same of a whole text
+-- the same for a whole text
 abbrev pub marked : Style → Edition → List ℕ → List ℕ
 marked style edition text = with_marks style (text_parts edition text)

@@ -1,4 +1,4 @@
--- A part of a text, between the marks of its class and of its fault.
+-- A part of a text, between the marks of its class and of its error.
 use Rattle.std.specs.Prelude.{ℕ, ◌==◌, Bool, ◌||◌, List, [], ◌∷◌, ◌++◌, take, drop}
 use Rattle.std.specs.List.{flat_map, position_or_len}
 use Rattle.std.specs.Str.{byte}
@@ -9,7 +9,7 @@ use Rattle.marks.specs.declared.style.Style.TheVariants.{Html, Colours, NoColour
 use Rattle.marks.specs.Escape.{escaped}
 use Rattle.marks.specs.Mark.{class_open, class_close, fault_open, fault_close}
 
--- a part of a marked text: a part of the text itself, in its class, or a mark of a fault
+-- a part of a marked text: text in its class, or a mark of an error
 pub data Part : Type 0 where
   Own : Class → List ℕ → Part
   Open : Fault → Part
@@ -19,21 +19,21 @@ pub data Part : Type 0 where
 abbrev pub ends_line : ℕ → Bool
 ends_line b = b == byte "\n" || b == byte "\r"
 
--- how many bytes stand before the first that ends a line
+-- how many bytes come before the first that ends a line
 abbrev pub first_line : List ℕ → ℕ
 first_line text = position_or_len ends_line text
 
--- a part with a fault: its first line between the marks of the fault, and what is behind it
+-- the parts of a token with an error: its first line between the marks of the error, and then the rest
 abbrev pub fault_parts : Fault → Class → List ℕ → List Part
 fault_parts fault class text = Open fault ∷ Own class (take (first_line text) text) ∷ Close fault ∷ Own class (drop (first_line text) text) ∷ []
 
--- a part of the text as it is written: in a page with entities, in a terminal as it is
+-- text as it is written: with entities in a page, unchanged in a terminal
 abbrev pub shown : Style → List ℕ → List ℕ
 shown Html text = escaped text
 shown Colours text = text
 shown NoColours text = text
 
--- a part as it is written: the text between the marks of its class, and nothing around no text
+-- a part as it is written: text between the marks of its class; an empty text has no marks
 abbrev pub written : Style → Part → List ℕ
 written style (Own class []) = []
 written style (Own class (b ∷ bs)) = class_open style class ++ (shown style (b ∷ bs) ++ class_close style class)

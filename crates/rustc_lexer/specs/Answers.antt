@@ -1,6 +1,6 @@
--- What the grammar answers, under the names that contracts use. Each answer is taken from a value
--- whose type says that the grammar allows this answer and no other. That type is all that one has to
--- read. How an answer is found, and the proof that it is the only one, are in laws/TheAnswers.antt.
+-- What the grammar answers, under the names that contracts use. Each answer is taken from a value whose type says that
+-- the grammar allows this answer and no other. A reader need only read that type. How an answer is found, and the proof
+-- that it is the only one, are in laws/TheAnswers.antt.
 use Rattle.std.specs.Prelude.{ℕ, ◌<◌, List, length, drop, Option, Result, chars}
 use Rattle.rustc_lexer.specs.{Edition, GuardedStr, RawStrError, Token}
 use Rattle.rustc_lexer.specs.Classes.{IsText, Utf8}
@@ -16,25 +16,25 @@ tokens_of mode text =
     let the : TheOnly (IsText text) (AreTokens mode (chars text)) = the_laws.tokens mode text in
     the.answer
 
--- the first of them, of a part in an edition
+-- the first token of a text, read as a part in an edition
 abbrev pub first_in : Edition → Utf8 → Token
 first_in edition text =
     let the : TheOnly (IsText text × (0 < length text)) (IsFirst edition text) = the_laws.first edition text in
     the.answer
 
--- what a cursor takes, and its state after that
+-- the token that a cursor takes, and its state after that
 abbrev pub advance : State → Token × State
 advance s =
     let the : TheOnly (IsText s.rest) (TakesNext s) = the_next s in
     the.answer
 
--- the guarded string that it takes instead, if one stands there, and its state after that
+-- the guarded string that a cursor takes, if one begins there, and its state after that
 abbrev pub guarded : State → Option GuardedStr × State
 guarded s =
     let the : TheOnly (Unit {0}) (TakesGuarded s) = the_guarded s in
     the.answer
 
--- whether the raw string behind a prefix is a good one, or why not
+-- Ok if the raw string with this prefix is valid, otherwise the reason why not
 abbrev pub raw_check : Utf8 → ℕ → Result Unit RawStrError
 raw_check text prefix =
     let the : TheOnly (Unit {0}) (IsRawAnswer prefix (drop prefix (chars text))) = the_raw text prefix in

@@ -1,4 +1,4 @@
--- What edits make of a text, what they keep of its tokens, and a text that is kept with its tokens.
+-- What edits make of a text, which of its tokens they keep, and a text that is kept with its tokens.
 use Rattle.std.specs.Prelude.{ℕ, ◌+◌, ◌-◌, ◌<◌, ◌≤◌, ◌^◌, List, [], ◌∷◌, ◌++◌, length, take, drop, IsCharBoundary, ◌≡◌, slice_get, IfSome, Option, Some, None, codes, decimal, count_by}
 use Rattle.rustc_lexer.specs.declared.relex.{edit.Edit.Edit, edit_list.EditStop.EditStop, front.Bound.Bound, pieces.Piece.Piece, relexing.Relexed.Relexed, relexing.Relexing.Relexing}
 use Rattle.rustc_lexer.specs.declared.relex.edit_list.EditStop.TheVariants.{Range, TooLong, Memory}
@@ -8,23 +8,23 @@ use Rattle.rustc_lexer.specs.Partition.{bound, tokens_by}
 
 -- ---- one edit
 
--- the text with `insert` for its bytes from `start` up to `stop`
+-- the text after an edit: its bytes from `start` up to `stop` are replaced by `insert`
 unfoldable pub apply : List ℕ → ℕ → ℕ → List ℕ → List ℕ
 apply text start stop insert = take start text ++ (insert ++ drop stop text)
 
--- the range is inside the text, between characters
+-- the range is inside the text, and its ends are between characters
 pub record IsInside (text : List ℕ) (start stop : ℕ) : Type 0 where
   pub start_le_stop : start ≤ stop
   pub stop_inside : stop ≤ length text
   pub start_boundary : IsCharBoundary text start
   pub stop_boundary : IsCharBoundary text stop
 
--- the edit is inside the text, between characters, and what it makes can be held
+-- the edit is valid: its range is inside the text, between characters, and the text that it makes is shorter than 4 GiB
 pub record IsEdit (text : List ℕ) (start stop : ℕ) (insert : List ℕ) : Type 0 where
   pub inside : IsInside text start stop
   pub short : length text + length insert < 2 ^ 32 + (stop - start)
 
--- where the tokens end, the first of which begins at `from`
+-- the offsets at which the tokens end, if the first of them begins at `from`
 abbrev pub ends_from : ℕ → List Token → List ℕ
 ends_from from [] = []
 ends_from from (t ∷ ts) = (from + t.len) ∷ ends_from (from + t.len) ts
@@ -33,8 +33,9 @@ ends_from from (t ∷ ts) = (from + t.len) ∷ ends_from (from + t.len) ts
 abbrev pub kept_front : List ℕ → List Token → ℕ → ℕ
 kept_front text tokens to = count_by (λ end. has_two text end to) (ends_from 0 tokens)
 
--- bound `number` of the new tokens is an old bound, moved by the edit, and `back` old tokens follow it: it is as
--- far past `new_stop`, the end of what was put in, as the old bound is past `old_stop`, the end of what was taken out
+-- token boundary `number` of the new tokens matches an old one, and `back` old tokens follow that. The new boundary is
+-- not before `new_stop`, the end of the inserted text, and is as far past it as the old one is past `old_stop`, the end
+-- of the removed text
 pub record IsMeeting (old new : List Token) (old_stop new_stop number back : ℕ) : Type 0 where
   pub number_inside : number ≤ length new
   pub past_edit : new_stop ≤ bound new number
@@ -42,8 +43,8 @@ pub record IsMeeting (old new : List Token) (old_stop new_stop number back : ℕ
   pub back_is : old_number + back ≡ length old
   pub same_place : bound new number + old_stop ≡ bound old old_number + new_stop
 
--- what an edit keeps of the tokens, and how many it lexes. It keeps those that end at least two characters before it.
--- From there on tokens are lexed, up to the first bound that meets the old tokens, and the old ones from there on are kept
+-- the counts of an edit. It keeps the tokens that end at least two characters before it. From there on, tokens are
+-- lexed up to the first boundary that matches one of the old tokens, and the old tokens after that are kept
 pub record IsRelexed (first : List ℕ → Token) (text : List ℕ) (start stop : ℕ) (insert : List ℕ) (r : Relexed) : Type 0 where
   pub front : r.kept_front ≡ kept_front text (tokens_by first text) start
   pub meeting : IsMeeting (tokens_by first text) (tokens_by first (apply text start stop insert)) stop (start + length insert) (r.kept_front + r.lexed) r.kept_back
@@ -55,40 +56,42 @@ pub record IsRelexed (first : List ℕ → Token) (text : List ℕ) (start stop 
 abbrev pub applied : List ℕ → Edit → List ℕ
 applied text e = apply text e.start e.stop e.insert.now
 
--- the text after the edits, in order
+-- the text after all of the edits, in order
 abbrev pub apply_list : List ℕ → List Edit → List ℕ
 apply_list text [] = text
 apply_list text (e ∷ es) = apply_list (applied text e) es
 
--- each edit is one on the text that the edits before it leave
+-- each edit is valid for the text that the edits before it leave
 abbrev pub AreEdits : List ℕ → List Edit → Type 0
 AreEdits text [] = Unit {0}
 AreEdits text (e ∷ es) = IsEdit text e.start e.stop e.insert.now × AreEdits (applied text e) es
 
--- the count of steps rose by the tokens that an edit lexes
+-- the step count grew by the number of tokens that an edit lexes
 abbrev pub IsStepped : (List ℕ → Token) → List ℕ → ℕ → ℕ → List ℕ → ℕ → ℕ → Type 0
 IsStepped first text start stop insert before after =
     (r : Relexed) × IsRelexed first text start stop insert r × (after ≡ before + r.lexed)
 
--- it rose by what the edits lex, one after another. `Steps` says so of one edit: IsStepped, or IsSteppedDocument
+-- the step count grew by what the edits lex, one after another. `Steps` says this of one edit: IsStepped or
+-- IsSteppedDocument
 abbrev pub AreStepped : (List ℕ → ℕ → ℕ → List ℕ → ℕ → ℕ → Type 0) → List ℕ → List Edit → ℕ → ℕ → Type 0
 AreStepped Steps text [] before after = after ≡ before
 AreStepped Steps text (e ∷ es) before after =
     (between : ℕ) × Steps text e.start e.stop e.insert.now before between × AreStepped Steps (applied text e) es between after
 
--- the number of the edit that was refused
+-- the index of the edit that was refused
 abbrev pub stop_at : EditStop → ℕ
 stop_at (Range at) = at
 stop_at (TooLong at) = at
 stop_at (Memory at) = at
 
--- what is written of it
+-- the text of the error
 abbrev pub stop_text : EditStop → List ℕ
 stop_text (Range at) = codes "edit " ++ (decimal at ++ codes ": bad range")
 stop_text (TooLong at) = codes "edit " ++ (decimal at ++ codes ": text too long")
 stop_text (Memory at) = codes "edit " ++ (decimal at ++ codes ": no memory")
 
--- why an edit is refused on the present text
+-- what each error says of the present text and the refused edit: its range is not valid (IsInside); its range is valid,
+-- but the text would be too long; or the edit is valid, and an allocation failed
 abbrev pub IsRefusedOn : EditStop → List ℕ → Edit → Type 0
 IsRefusedOn (Range at) text e = IsInside text e.start e.stop → ⊥
 IsRefusedOn (TooLong at) text e = IsInside text e.start e.stop × (IsEdit text e.start e.stop e.insert.now → ⊥)
@@ -97,8 +100,8 @@ IsRefusedOn (Memory at) text e = IsEdit text e.start e.stop e.insert.now
 abbrev pub IsStop : EditStop → List ℕ → List Edit → Type 0
 IsStop s text edits = (stop_at s < length edits) × IfSome (slice_get edits (stop_at s)) (IsRefusedOn s text)
 
--- the count of steps rose by what the edits before the refused one lex. Where an allocation failed it rose by at most what
--- that edit lexes more
+-- the step count grew by what the edits before the refused one lex. If an allocation failed, it may have grown by more,
+-- but at most by what the refused edit lexes
 abbrev pub IsStopStepped : EditStop → (List ℕ → ℕ → ℕ → List ℕ → ℕ → ℕ → Type 0) → List ℕ → List Edit → ℕ → ℕ → Type 0
 IsStopStepped (Memory at) Steps text edits before after =
     (least most : ℕ) × AreStepped Steps text (take at edits) before least × AreStepped Steps text (take (at + 1) edits) before most
@@ -107,13 +110,13 @@ IsStopStepped s Steps text edits before after = AreStepped Steps text (take (sto
 
 -- ---- a text that is kept with its tokens, and its pieces
 
--- what a lexed text holds
+-- the contents of a lexed text
 pub record Held (S : Type 0) : Type 0 where
   pub text : List ℕ
   pub tokens : List Token
   pub stepper : S
 
--- where a token stands, the token, and its text
+-- a piece: the offset of a token, the token, and its text
 pub record Placed : Type 0 where
   pub start : ℕ
   pub token : Token
@@ -122,13 +125,13 @@ pub record Placed : Type 0 where
 abbrev pub placed : Piece → Placed
 placed piece = record { start = piece.start; token = piece.token; text = piece.text.now }
 
--- what stands at each of the tokens, the first of which begins at `start`
+-- the pieces of the tokens, if the first of them begins at `start`
 abbrev pub pieces_from : List ℕ → ℕ → List Token → List Placed
 pieces_from text start [] = []
 pieces_from text start (token ∷ tokens) = record { start = start; token = token; text = take token.len (drop start text) } ∷ pieces_from text (start + token.len) tokens
 
--- what `next` does: where no piece is left it gives none and changes nothing; else it takes the first, whose text is as
--- long as its token, and whose end is below 2 ^ 32
+-- what `next` does. If no piece is left, it returns None and changes nothing. Otherwise it takes the first piece, whose
+-- text is as long as its token, and whose end is below 2 ^ 32
 abbrev pub YieldsPiece : List Placed → Option Piece → List Placed → Type 0
 YieldsPiece s None t = (s ≡ []) × (t ≡ s)
 YieldsPiece s (Some piece) t =
@@ -136,10 +139,10 @@ YieldsPiece s (Some piece) t =
 
 -- ---- how far a text is lexed again
 
--- the number and the place are those of a bound of the tokens
+-- `at` is a boundary of the tokens, by its number and its offset
 abbrev pub IsBound : List Token → Bound → Type 0
 IsBound tokens at = (at.number ≤ length tokens) × (at.place ≡ bound tokens at.number)
 
--- how many of the new tokens are known: those of the front, and those that were lexed
+-- how many of the new tokens are known: those that are kept at the front, and those that were lexed
 abbrev pub known : Relexing → ℕ
 known at = at.front.number + at.lexed

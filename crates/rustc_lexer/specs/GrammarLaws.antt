@@ -1,4 +1,4 @@
--- How far a token of each kind looks, and the laws of the grammar.
+-- The lookahead of each kind of token, and the laws of the grammar.
 use Rattle.std.specs.Prelude.{ℕ, ◌≡◌, ◌↔◌, ◌<◌, ◌&&◌, ◌++◌, length, take, drop, codes, true, false, not, if◌then◌else◌, bytes_eq, chars}
 use Rattle.rustc_lexer.specs.{Edition, TokenKind, E2024, Int, Char, Byte, LineComment, BlockComment, Eof, Whitespace, Ident, InvalidIdent, RawIdent, ForcedKeywordIdent, UnknownPrefix, RawLifetime, UnknownPrefixLifetime, Literal, Lifetime, Slash, Pound}
 use Rattle.rustc_lexer.specs.Classes.{is_among, Chars, next_is, is_name_start, IsText, Utf8}
@@ -11,9 +11,11 @@ use Rattle.rustc_lexer.specs.State.{IsFirst}
 abbrev pub BeginsWith : Chars → TokenKind × Chars → Type 0
 BeginsWith s (kind, w) = (next : Chars) × (s ≡ w ++ next) × IsTokenBefore next kind w
 
--- how far a token looks. The prefixes `k` and `'r`: a hash, and what begins no identifier; an integer: a dot, and what
--- is no fraction; `'` and `b'` that no quote closes: a slash or a newline, and what comes next. A long name between
--- quotes, symbols, closed block comments and what a guarded string begins with look at nothing
+-- the lookahead of a token: how many of the characters after it can decide whether it is one. It is 2 for the prefixes
+-- `k` and `'r` (is there a hash, and does an identifier begin after it?), for an integer (is there a dot, and does what
+-- follows it keep it from being a fraction?), and for a `'` or `b'` that no quote closes (is there a slash or a
+-- newline, and what follows it?). It is 0 for a name of two characters or more between quotes, for a closed block
+-- comment, for `#"` and `##`, and for symbols except `/` and `#`. It is 1 for all others
 abbrev pub reach : TokenKind → Chars → ℕ
 reach UnknownPrefix w = if bytes_eq w (codes "k") then 2 else 1
 reach UnknownPrefixLifetime w = if bytes_eq w (codes "'r") then 2 else 1
@@ -37,20 +39,21 @@ reach Slash w = 1
 reach Pound w = 1
 reach kind w = 0
 
--- what is proved of the grammar. Answers.antt takes the tokens of a text, and the first of them, from a value of this
--- type, so a contract that names these rests on all of the laws. That value and the proofs are in laws/TheLaws.antt
+-- what is proved about the grammar. Answers.antt takes the tokens of a text, and the first of them, from a value of
+-- this type, so a contract that names either rests on all of the laws. That value and the proofs are in
+-- laws/TheLaws.antt
 pub record TheLaws : Type 0 where
-  -- a text has one list of tokens, as a document and as a part in each edition, and the grammar allows no other
+  -- a text has exactly one list of tokens, as a document and as a part, in each edition
   pub tokens : (mode : Mode) (text : Utf8) → TheOnly (IsText text) (AreTokens mode (chars text))
-  -- a part that is not empty has one first token
+  -- a part that is not empty has exactly one first token
   pub first : (edition : Edition) (text : Utf8) → TheOnly (IsText text × (0 < length text)) (IsFirst edition text)
-  -- cut by its first tokens, a part has these tokens
+  -- taking the first token off a part, again and again until nothing is left, gives the tokens of the part
   pub cut : (edition : Edition) (text : Utf8)
       → tokens_by (λ rest. (first edition rest).answer) text ≡ (tokens (part edition) text).answer
-  -- all characters begin with one token of the grammar, and with no other; none of them with `Eof`
+  -- each list of characters begins with exactly one token of the grammar, which is not `Eof` unless the list is empty
   pub one_token : (s : Chars) → TheOnly (Unit {0}) (BeginsWith s)
   -- in the newest edition the tokens are those of Language.antt
   pub newest : (next w : Chars) (kind : TokenKind) → IsTokenIn E2024 next kind w ↔ IsTokenBefore next kind w
-  -- a token stands before each text that begins with so many of the characters that follow it
+  -- a token stays a token if the text after it is replaced by one that begins with the same `reach` characters
   pub looks_no_further : (next other w : Chars) (kind : TokenKind) → IsTokenBefore next kind w
       → take (reach kind w) other ≡ take (reach kind w) next → IsTokenBefore other kind w

@@ -2,8 +2,8 @@
 use Rattle.std.specs.Prelude.{ℕ, List, codes}
 use Rattle.rustc_lexer.specs.{LiteralKind, TokenKind, Int, Float, Char, Byte, Str, ByteStr, CStr, RawStr, RawByteStr, RawCStr, LineComment, BlockComment, Whitespace, Frontmatter, Ident, InvalidIdent, RawIdent, ForcedKeywordIdent, UnknownPrefix, UnknownPrefixLifetime, RawLifetime, GuardedStrPrefix, Literal, Lifetime, Semi, Comma, Dot, OpenParen, CloseParen, OpenBrace, CloseBrace, OpenBracket, CloseBracket, At, Pound, Tilde, Question, Colon, Dollar, Eq, Bang, Lt, Gt, Minus, And, Or, Plus, Star, Slash, Caret, Percent, Unknown, Eof}
 
--- the number of a kind, for other languages, and its name, which is that of the variant. The number is fixed: a new
--- kind gets a new one, and none has 0
+-- the number of a kind, for other languages, and the name of its variant. A number never changes: a new kind gets a new
+-- one, and no kind has 0
 unfoldable pub kind_entry : TokenKind → ℕ × List ℕ
 kind_entry (LineComment doc_style) = (1, codes "LineComment")
 kind_entry (BlockComment doc_style terminated) = (2, codes "BlockComment")
@@ -49,7 +49,7 @@ kind_entry Percent = (41, codes "Percent")
 kind_entry Unknown = (42, codes "Unknown")
 kind_entry Eof = (43, codes "Eof")
 
--- the same of the kinds of literals
+-- the same for the kinds of literals
 unfoldable pub literal_entry : LiteralKind → ℕ × List ℕ
 literal_entry (Int base empty_int) = (1, codes "Int")
 literal_entry (Float base empty_exponent) = (2, codes "Float")

@@ -1,5 +1,6 @@
--- What the calls beside the tokens answer, in the words of the language. `w`, `next` and names in capitals are as in
--- Language.antt; texts are characters where nothing else is said, and places are in bytes.
+-- What the calls that return no tokens answer, in terms of the grammar: errors in raw strings, guarded strings, shebang
+-- lines and editions. `w`, `next` and names in capitals are as in Language.antt; texts are lists of characters if
+-- nothing else is said, and offsets are in bytes.
 use Rattle.std.specs.Prelude.{◌≡◌, ◌==◌, ◌+◌, ◌-◌, ◌<◌, ◌≤◌, ℕ, suc, Bool, true, false, [], ◌∷◌, ◌++◌, length, drop, codes, Contains, Option, Some, None, Result, Ok, Err, List, decimal, bytes_eq, chars, find, if◌then◌else◌, nat_eq}
 use Rattle.std.specs.Str.{byte}
 use Rattle.rustc_lexer.specs.{Edition, RawStrError, TokenKind, E2015, E2018, E2021, E2024, InvalidStarter, NoTerminator, TooManyDelimiters, LineComment, BlockComment, Whitespace}
@@ -14,15 +15,16 @@ use Rattle.rustc_lexer.specs.LiteralGrammar.{hashes, NoQuoteWith, IsRaw, IsDoubl
 abbrev pub StartsRaw : Utf8 → ℕ → Type 0
 StartsRaw text p = (0 < p) × (next_is (λ c. c == byte "r") (drop (p - 1) (chars text)) ≡ true)
 
--- where a raw string that is not closed may have been meant to end: `found` is the most hashes that stand behind a
--- quote of w, and the place is where the first quote with so many ends, counted from p bytes and these characters
--- before w. In `abc"#` that is the quote, and `found` is 1
+-- where a raw string that is not closed was probably meant to end. `found` is the largest number of hashes that follow
+-- a quote of w, and `place` is the offset at which the first quote with that many hashes ends. It counts p bytes and
+-- the characters `before` in front of w. In `abc"#`, `found` is 1, and `place` is directly after the quote
 pub data IsLikelyEnd (p : ℕ) (before w : Chars) : (found : ℕ) → (place : Option ℕ) → Type 0 where
   none : NoQuoteWith 1 w → IsLikelyEnd p before w 0 None
   best : {n : ℕ} (u v : Chars) → 0 < n → w ≡ u ++ (byte "\"" ∷ hashes n ++ v) → NoQuoteWith n u → NoQuoteWith (suc n) w
       → IsLikelyEnd p before w n (Some (p + bytes (before ++ (u ++ codes "\""))))
 
--- what stands behind the `r` of a prefix of p characters, and whether it is a good string, or why not
+-- the text after the `r` of a prefix of p characters, and the result of checking it: Ok if it begins with a valid raw
+-- string, otherwise the reason why not
 pub data IsRawAnswer (p : ℕ) : Chars → Result Unit RawStrError → Type 0 where
   -- `##"a"##`, whatever follows
   good : {n : ℕ} {w next : Chars} → IsRaw next (Some n) w → IsRawAnswer p (w ++ next) (Ok tt)
@@ -32,12 +34,12 @@ pub data IsRawAnswer (p : ℕ) : Chars → Result Unit RawStrError → Type 0 wh
   unclosed : (n : ℕ) (w : Chars) {found : ℕ} {place : Option ℕ}
       → NoQuoteWith n w → IsLikelyEnd p (hashes n ++ codes "\"") w found place
       → IsRawAnswer p (hashes n ++ byte "\"" ∷ w) (Err (NoTerminator n found place))
-  -- `#~`; the end of the text counts as U+0000
+  -- `#~`; if the text ends there, the error has U+0000
   no_quote : (n c : ℕ) (next : Chars) → is_among (codes "\"#") c ≡ false
       → IsRawAnswer p (hashes n ++ c ∷ next) (Err (InvalidStarter c))
   no_more : (n : ℕ) → IsRawAnswer p (hashes n) (Err (InvalidStarter 0))
 
--- what is written of it
+-- the text of the error
 abbrev pub raw_str_text : RawStrError → List ℕ
 raw_str_text (InvalidStarter bad_char) = codes "no hash or quote opens the raw string"
 raw_str_text (NoTerminator expected found offset) = codes "no quote with " ++ (decimal expected ++ codes " hashes closes the raw string")
@@ -45,31 +47,31 @@ raw_str_text (TooManyDelimiters found) = codes "the raw string has " ++ (decimal
 
 -- ---- guarded strings and shebang lines
 
--- RESERVED_GUARDED_STRING_LITERAL, and the hashes that close it: n hashes, a double-quoted string, and if it is closed
--- k ≤ n hashes, all that stand there if they are fewer, and a suffix: `##"a"##s`, `##"a"#`
+-- RESERVED_GUARDED_STRING_LITERAL and the hashes that close it: n hashes and a double-quoted string, and if that is
+-- closed, k ≤ n hashes and a suffix: `##"a"##s`, `##"a"#`. If k is less than n, no further hash follows
 pub data IsGuardedBefore (next : Chars) : (n : ℕ) → (terminated : Bool) → Chars → Type 0 where
   closed : (n k : ℕ) {w suffix : Chars} → IsDoubleQuoted (hashes k ++ (suffix ++ next)) true w
       → k ≤ n → (k < n → NextNotIn (codes "#") (suffix ++ next)) → IsSuffixBefore next suffix
       → IsGuardedBefore next n true (hashes n ++ (byte "\"" ∷ w ++ (hashes k ++ suffix)))
   unclosed : (n : ℕ) {w : Chars} → IsDoubleQuoted next false w → IsGuardedBefore next n false (hashes n ++ (byte "\"" ∷ w))
 
--- what makes an attribute of `#!`, and in SHEBANG may not follow it: a bracket, behind WHITESPACE, LINE_COMMENT,
--- BLOCK_COMMENT, or a block comment that nothing closes
+-- the text after `#!` that makes it the begin of an attribute, and that SHEBANG excludes: a bracket, if need be after
+-- WHITESPACE, LINE_COMMENT, BLOCK_COMMENT, or a block comment that nothing closes
 pub data IsAttributeRest : Chars → Type 0 where
   bracket : (next : Chars) → IsAttributeRest (byte "[" ∷ next)
   passed : {kind : TokenKind} {c : ℕ} {w next : Chars}
       → Contains (Whitespace ∷ LineComment None ∷ BlockComment None true ∷ BlockComment None false ∷ []) kind
       → IsTokenBefore next kind (c ∷ w) → IsAttributeRest next → IsAttributeRest (c ∷ w ++ next)
 
--- a line in bytes, before its end: a newline, a carriage return and a newline, or the end of the text
+-- w is a line, in bytes, without its line end: a newline, a carriage return and a newline, or the end of the text
 pub data IsLineBefore (next w : Utf8) : Type 0 where
   to_newline : AreAll is_inline w → begins (codes "\n") next ≡ true → ((u : Utf8) → w ≡ u ++ codes "\r" → ⊥)
       → IsLineBefore next w
   to_return : AreAll is_inline w → begins (codes "\r\n") next ≡ true → IsLineBefore next w
   to_end : AreAll is_inline w → next ≡ [] → IsLineBefore next w
 
--- how long the shebang line is, if one stands at the front of the text: SHEBANG, without its line end. `#!/bin/sh`, not
--- `#![no_std]`
+-- the length of the shebang line at the start of the text, without its line end (SHEBANG), or None if there is none:
+-- `#!/bin/sh` is one, `#![no_std]` is not
 pub data IsShebang (text : Utf8) : Option ℕ → Type 0 where
   shebang : (w next : Utf8) → text ≡ codes "#!" ++ (w ++ next) → (IsAttributeRest (chars (w ++ next)) → ⊥)
       → IsLineBefore next w → IsShebang text (Some (length (codes "#!" ++ w)))
@@ -81,7 +83,7 @@ pub data IsShebang (text : Utf8) : Option ℕ → Type 0 where
 abbrev pub edition_of_year : ℕ → Option Edition
 edition_of_year number = find (λ edition. nat_eq number (year edition)) (E2015 ∷ E2018 ∷ E2021 ∷ E2024 ∷ [])
 
--- the edition that a word names, by its year
+-- the edition whose year is this word
 abbrev pub edition_of : List ℕ → Option Edition
 edition_of word =
     if bytes_eq word (codes "2015") then Some E2015

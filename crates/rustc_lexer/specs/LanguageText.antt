@@ -1,8 +1,8 @@
--- The language of whole texts: which tokens a text has in an edition, read as a document or as a part of one. `w` and
--- `next` are as in Language.antt, which has the tokens of the newest edition. An older one has others in the place of
--- what the compiler's lexer leaves to its caller: guarded strings, raw lifetimes and reserved prefixes (in the Rust
--- Reference, "2021 Edition differences" and "2024 Edition differences" of these). C strings and `k#` are read alike in
--- all editions, though Rust has C strings since 2021 only (docs/EDITIONS.md, "What is left to a compiler").
+-- The grammar of whole texts: which tokens a text has in an edition, read as a document or as a part of one. `w` and
+-- `next` are as in Language.antt, which has the tokens of the newest edition. Older editions have other tokens in place
+-- of guarded strings, raw lifetimes and reserved prefixes, which rustc's lexer leaves to its caller (in the Rust
+-- Reference, see "2021 Edition differences" and "2024 Edition differences" of these). C strings and `k#` are the same
+-- tokens in all editions, although Rust has C strings only since 2021 (docs/EDITIONS.md, "What is left to a compiler").
 use Rattle.std.specs.Prelude.{◌≡◌, ◌<◌, ◌≤◌, ℕ, true, false, List, ◌∷◌, codes, ◌+◌, not, Bool, [], ◌++◌, ◌↔◌}
 use Rattle.std.specs.Str.{byte}
 use Rattle.rustc_lexer.specs.{Edition, FrontmatterAllowed, Token, TokenKind, E2015, E2018, E2021, E2024, Yes, No, Ident, UnknownPrefix, Lifetime, UnknownPrefixLifetime, Pound, RawLifetime, GuardedStrPrefix, Whitespace, Frontmatter, Eof}
@@ -17,8 +17,9 @@ year E2018 = 2018
 year E2021 = 2021
 year E2024 = 2024
 
--- the year of the first edition that has tokens of the kind as Language.antt says. An older one cuts them, or gives
--- them another kind. It is 2015 if no edition changes them here, also if Rust has the kind only since a later one
+-- the year of the first edition that has tokens of this kind as Language.antt defines them. An older edition splits
+-- them, or gives them another kind. The year is 2015 if the lexer treats the kind the same in all editions, even if
+-- Rust has it only since a later one
 abbrev pub kept_since : TokenKind → ℕ
 kept_since GuardedStrPrefix = 2024
 kept_since RawLifetime = 2021
@@ -26,17 +27,17 @@ kept_since UnknownPrefix = 2021
 kept_since UnknownPrefixLifetime = 2021
 kept_since kind = 2015
 
--- w is a token of this kind in the edition where `next` follows it
+-- w is the text of a token of this kind in the edition if `next` is the text after it
 pub data IsTokenIn (edition : Edition) (next : Chars) : TokenKind → Chars → Type 0 where
   kept : {kind : TokenKind} {w : Chars}
       → kept_since kind ≤ year edition
       → IsTokenBefore next kind w
       → IsTokenIn edition next kind w
-  -- a hash, whatever follows it: `#` before `"a"`
+  -- a hash is a token, whatever follows it: `#` before `"a"`
   pound :
       year edition < kept_since GuardedStrPrefix
       → IsTokenIn edition next Pound (codes "#")
-  -- what would be a prefix is an identifier or a lifetime: `z` before `"a"`, `'a` before `#`
+  -- what newer editions read as a prefix is an identifier or a lifetime: `z` before `"a"`, `'a` before `#`
   ident : {w : Chars}
       → year edition < kept_since UnknownPrefix
       → IsTokenBefore next UnknownPrefix w
@@ -45,7 +46,7 @@ pub data IsTokenIn (edition : Edition) (next : Chars) : TokenKind → Chars → 
       → year edition < kept_since UnknownPrefixLifetime
       → IsTokenBefore next UnknownPrefixLifetime (byte "'" ∷ c ∷ w)
       → IsTokenIn edition next (Lifetime (is_bad_name (c ∷ w))) (byte "'" ∷ c ∷ w)
-  -- the first two characters of what would be a raw lifetime: `'r` before `#a`
+  -- the first two characters of what newer editions read as a raw lifetime: `'r` before `#a`
   lifetime_r :
       year edition < kept_since RawLifetime
       → begins_ident_after (codes "#") next ≡ true
@@ -53,17 +54,17 @@ pub data IsTokenIn (edition : Edition) (next : Chars) : TokenKind → Chars → 
 
 -- ---- how a text is read
 
--- in an edition, as a document, where a frontmatter may stand in front; or as a part of one
+-- a text is read in an edition, either as a document, which may begin with a frontmatter, or as a part of one
 pub data Mode : Type 0 where
   document : Edition → Mode
   part : Edition → Mode
 
--- by the flag of a call and an edition, which is the newest one where a call names none
+-- the mode for the flag of a call and its edition. A call that names no edition uses the newest one
 abbrev pub mode_in : FrontmatterAllowed → Edition → Mode
 mode_in Yes edition = document edition
 mode_in No edition = part edition
 
--- the edition whose tokens stand in the text
+-- the edition of a mode
 abbrev pub mode_edition : Mode → Edition
 mode_edition (document edition) = edition
 mode_edition (part edition) = edition
@@ -72,8 +73,8 @@ abbrev pub is_document : Mode → Bool
 is_document (document edition) = true
 is_document (part edition) = false
 
--- how the text after a token is read: what follows white space at the front of a document is still
--- read as a document, and so is its end; what follows any other token is read as a part
+-- the mode of the text after a token of this kind. After white space or `Eof`, a document is still read as a document.
+-- After any other token, the rest of it is read as a part
 abbrev pub mode_after : Mode → TokenKind → Mode
 mode_after (part edition) kind = part edition
 mode_after (document edition) Whitespace = document edition
@@ -82,16 +83,17 @@ mode_after (document edition) kind = part edition
 
 -- ---- its tokens
 
--- a frontmatter of this opening and this body: white space before its dashes is a fault, and so is
--- what is no newline right behind its opening
+-- the token of a frontmatter with this opening and this body. Its two flags are errors: that there is white space
+-- before the dashes, and that no newline comes directly after the opening
 abbrev pub frontmatter_token : Chars → Chars → Chars → Token
 frontmatter_token opening body next =
     let spaced : Bool = next_is is_whitespace opening in
     let bad_label : Bool = not (next_is (is_among (codes "\n")) (body ++ next)) in
     record { kind = Frontmatter spaced bad_label; len = bytes opening + bytes body }
 
--- the tokens of these characters: a token that the edition has, and the tokens of what follows it;
--- or, where a frontmatter opens a document, that and the tokens of what follows it
+-- the tokens of these characters, none if there are no characters. If a document begins with a frontmatter, the first
+-- token is that, and the text after it is read as a part. Otherwise the first is a token of the edition, and the tokens
+-- of the text after it follow
 pub data AreTokens : Mode → Chars → List Token → Type 0 where
   nothing : {mode : Mode} → AreTokens mode [] []
   something : {mode : Mode} {kind : TokenKind} {c : ℕ} {w next : Chars} {tokens : List Token}
@@ -105,7 +107,7 @@ pub data AreTokens : Mode → Chars → List Token → Type 0 where
       → AreTokens (part edition) next tokens
       → AreTokens (document edition) (opening ++ (body ++ next)) (frontmatter_token opening body next ∷ tokens)
 
--- the answer is allowed, and no other is, where the premise holds
+-- if the premise holds, the answer is allowed and no other is
 pub record TheOnly {A : Type 0} (premise : Type 0) (Allows : A → Type 0) : Type 0 where
   pub answer : A
   pub only : premise → (other : A) → Allows other ↔ (other ≡ answer)

@@ -1,15 +1,15 @@
--- The language of literals: quoted text, raw strings, and which of these and of the numbers may
--- have a suffix. `w`, `next` and names in capitals are as in Language.antt; all texts here are
--- characters. The field of RawStr, RawByteStr and RawCStr is n_hashes, that of the other quoted kinds
--- is terminated. What is unclosed or refused is not in the Reference.
+-- The grammar of literals: quoted text, raw strings, and which literals may have a suffix, numbers among them. `w`,
+-- `next` and names in capitals are as in Language.antt; all texts here are lists of characters. RawStr, RawByteStr and
+-- RawCStr have the field n_hashes, and the other quoted kinds have terminated. Literals that are unclosed, and raw
+-- strings that are refused, are not in the Reference.
 use Rattle.std.specs.Prelude.{◌≡◌, ◌<◌, ◌≤◌, ℕ, zero, suc, ◌==◌, Bool, true, false, [], ◌∷◌, ◌++◌, codes, is_some, Option, Some, None}
 use Rattle.std.specs.Str.{byte}
 use Rattle.rustc_lexer.specs.{LiteralKind, Char, Byte, Str, ByteStr, CStr, RawStr, RawByteStr, RawCStr}
 use Rattle.rustc_lexer.specs.Classes.{is_among, is_id_start, is_id_continue, is_ident, Chars, begins, AreAll, NextIsNot, BeginsNot, NextIn, is_word_continue, is_name_start, begins_ident_after}
 use Rattle.rustc_lexer.specs.NumberGrammar.{IsNumberBefore}
 
--- w, of which `close` is the end: before it stand characters outside the class, and escapes, which
--- are a backslash with any character
+-- w is quoted text that ends in `close`. Before that it has characters that are not special, and escapes: a backslash
+-- and any character
 pub data QuotedTo (close : Chars) (special : ℕ → Bool) : Chars → Type 0 where
   ends : QuotedTo close special close
   plain : {c : ℕ} {w : Chars}
@@ -20,8 +20,8 @@ pub data QuotedTo (close : Chars) (special : ℕ → Bool) : Chars → Type 0 wh
       → QuotedTo close special w
       → QuotedTo close special (byte "\\" ∷ c ∷ w)
 
--- STRING_LITERAL, BYTE_STRING_LITERAL, C_STRING_LITERAL, past the quote that opens them, and whether a quote closes
--- them: `a"`, `\""`. If none does, it is all that is left of the text, of which a lone backslash may be the last: `a\`
+-- the rest of STRING_LITERAL, BYTE_STRING_LITERAL or C_STRING_LITERAL after its opening quote, and whether a quote
+-- closes it: `a"`, `\""`. If none does, it is the rest of the text, which may end in a lone backslash: `a\`
 pub data IsDoubleQuoted (next : Chars) : (terminated : Bool) → Chars → Type 0 where
   closed : {w : Chars}
       → QuotedTo (codes "\"") (is_among (codes "\"\\")) w
@@ -35,39 +35,39 @@ pub data IsDoubleQuoted (next : Chars) : (terminated : Bool) → Chars → Type 
       → QuotedTo (codes "\\") (is_among (codes "\"\\")) w
       → IsDoubleQuoted next false w
 
--- with no quote, slash or newline outside its escapes
+-- the same for single quotes: outside its escapes, the text before `close` has no quote, slash or newline
 abbrev pub SingleTo : Chars → Chars → Type 0
 SingleTo close w = QuotedTo close (is_among (codes "'/\n\\")) w
 
--- CHAR_LITERAL, BYTE_LITERAL, past the quote that opens them, and whether a quote closes them. In the
--- Reference they have one character or one escape between the quotes
+-- the rest of CHAR_LITERAL or BYTE_LITERAL after its opening quote, and whether a quote closes it. In the Reference
+-- there is one character or one escape between the quotes
 pub data IsSingleQuoted (next : Chars) : (terminated : Bool) → Chars → Type 0 where
   -- any character but a backslash, and a quote: `a'`, `/'` and `''`
   one : {c : ℕ}
       → (c == byte "\\") ≡ false
       → IsSingleQuoted next true (c ∷ codes "'")
-  -- up to a quote: `ab'`, `\''`; also `'` at once, if no third quote follows
+  -- text up to a quote: `ab'`, `\''`; also the quote alone, unless another one follows it
   closed : {w : Chars}
       → SingleTo (codes "'") w
       → begins (codes "''") (w ++ next) ≡ false
       → IsSingleQuoted next true w
-  -- the quote is right behind a newline: `ab`, the newline and `'`
+  -- the closing quote comes directly after a newline: `ab`, the newline and `'`
   closed_line : {w : Chars}
       → SingleTo (codes "\n'") w
       → IsSingleQuoted next true w
-  -- or it ends before a slash: `ab` before `/c'`; not at once before `/'` (see one)
+  -- no quote closes it, and it ends before a slash: `ab` before `/c'`; but not the empty text before `/'` (see `one`)
   at_slash : {w : Chars}
       → SingleTo [] w
       → NextIn (codes "/") next
       → begins (codes "/'") (w ++ next) ≡ false
       → IsSingleQuoted next false w
-  -- or before a newline: `ab` before a newline and `c'`
+  -- or it ends before a newline that no quote follows: `ab` before a newline and `c'`
   at_newline : {w : Chars}
       → SingleTo [] w
       → NextIn (codes "\n") next
       → begins (codes "\n'") next ≡ false
       → IsSingleQuoted next false w
-  -- or at the end of the text, of which a lone backslash may be the last
+  -- or it is the rest of the text, which may end in a lone backslash
   unclosed : {w : Chars}
       → next ≡ []
       → SingleTo [] w
@@ -84,14 +84,14 @@ abbrev pub hashes : ℕ → Chars
 hashes zero = []
 hashes (suc n) = byte "#" ∷ hashes n
 
--- no quote with n hashes right behind it is in the text
+-- no quote of the text has n hashes directly after it
 abbrev pub NoQuoteWith : ℕ → Chars → Type 0
 NoQuoteWith n w = (u v : Chars) → w ≡ u ++ (byte "\"" ∷ hashes n ++ v) → ⊥
 
--- RAW_STRING_LITERAL, RAW_BYTE_STRING_LITERAL, RAW_C_STRING_LITERAL, past their `r` and up to a suffix: n hashes, a
--- quote, a text that has no quote with n hashes, a quote, n hashes. The number is given if it is 255 or less and the
--- string is closed: `#"a"b"#` has 1, `"a"` has 0. What is not closed takes all that is left of the text: `#"a"`. If no
--- quote follows the hashes, one character more is taken: `#~`
+-- the rest of RAW_STRING_LITERAL, RAW_BYTE_STRING_LITERAL or RAW_C_STRING_LITERAL after its `r`, without a suffix: n
+-- hashes, a quote, text that has no quote with n hashes, a quote, and n hashes. The number of hashes is given if it is
+-- at most 255 and the string is closed: `#"a"b"#` has 1, and `"a"` has 0. A string that is not closed is the rest of
+-- the text: `#"a"`. If no quote follows the hashes, the token has one more character, if there is one: `#~`
 pub data IsRaw (next : Chars) : (n_hashes : Option ℕ) → Chars → Type 0 where
   closed : (n : ℕ) (w : Chars)
       → n ≤ 255
@@ -114,19 +114,19 @@ pub data IsRaw (next : Chars) : (n_hashes : Option ℕ) → Chars → Type 0 whe
 
 -- ---- literals
 
--- a literal up to its suffix, and whether it may have one
+-- w is a literal of this kind, without its suffix, if `next` follows it; `may_suffix` says whether it may have a suffix
 pub data IsLiteralBefore (next : Chars) : LiteralKind → (may_suffix : Bool) → Chars → Type 0 where
-  -- CHAR_LITERAL: `'a'`, though `a` begins a name; `'/'`. Not in the Reference: `'''`
+  -- CHAR_LITERAL: `'/'`, and `'a'`, although `a` may begin the name of a lifetime. Not in the Reference: `'''`
   char_of_one : {c : ℕ}
       → (c == byte "\\") ≡ false
       → IsLiteralBefore next (Char true) true (byte "'" ∷ c ∷ codes "'")
-  -- CHAR_LITERAL: `'\n'`. Not in the Reference: `'+-'`, `'+` at the end. Not `'ab'`, whose `a` begins a name
+  -- CHAR_LITERAL: `'\n'`. Not in the Reference: `'+-'`, `'+` at the end. Not `'ab'`, whose `a` may begin a name
   char : {t : Bool} {w : Chars}
       → IsSingleQuoted next t w
       → BeginsNot is_name_start w
       → IsLiteralBefore next (Char t) t (codes "'" ++ w)
-  -- not in the Reference: a name of two characters or more between quotes, `'ab'`. It has no suffix:
-  -- `'ab'c` is two tokens
+  -- not in the Reference: a name of two characters or more between quotes, `'ab'`. It cannot have a suffix: `'ab'c` is
+  -- two tokens
   char_of_name : {c d : ℕ} (w : Chars)
       → is_name_start c ≡ true
       → AreAll is_word_continue (d ∷ w)
@@ -162,7 +162,8 @@ pub data IsLiteralBefore (next : Chars) : LiteralKind → (may_suffix : Bool) �
       → IsNumberBefore next kind w
       → IsLiteralBefore next kind true w
 
--- SUFFIX, which in the Reference is not `_`; or nothing, if no identifier begins there
+-- the suffix of a literal if `next` follows it: SUFFIX, or nothing if no identifier begins there. `_` is a suffix here,
+-- but not in the Reference
 pub data IsSuffixBefore (next : Chars) : Chars → Type 0 where
   none : NextIsNot is_id_start next → IsSuffixBefore next []
   some : {w : Chars}

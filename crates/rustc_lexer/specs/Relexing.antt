@@ -1,4 +1,4 @@
--- Relexing on lists of a caller's own, of which only the lengths are at hand.
+-- Relexing for a caller who keeps the list of tokens and passes only their lengths.
 use Rattle.std.specs.Prelude.{ℕ, ◌≡◌, ◌+◌, ◌<◌, ◌≤◌, ◌^◌, ◌||◌, Bool, false, nat_eq, List, ◌++◌, length, map, take, drop, IsCharBoundary, IsUtf8}
 use Rattle.rustc_lexer.specs.declared.relex.relexing.{Change.Change, Relexing.Relexing}
 use Rattle.rustc_lexer.specs.{Token}
@@ -7,13 +7,14 @@ use Rattle.rustc_lexer.specs.Edits.{IsEdit, IsInside, apply, known}
 use Rattle.rustc_lexer.specs.Partition.{bound, tokens_by}
 use Rattle.rustc_lexer.specs.means.Relexing.{Stands}
 
--- the change may have made the text: what it put in lies inside it, and its old places are in order and below 2 ^ 32
+-- the change may have made the text: the inserted range is inside the text, between characters, and the old offsets are
+-- in order and below 2 ^ 32
 pub record IsChange (text : List ℕ) (change : Change) : Type 0 where
   pub inserted : IsInside text change.start change.new_stop
   pub start_le_old : change.start ≤ change.old_stop
   pub old_short : change.old_stop < 2 ^ 32
 
--- the edit made the text of the one before, by putting in `insert`
+-- the edit is valid for the text `before`, and made `text` of it by inserting `insert`
 pub record IsEditOf (before : List ℕ) (edit : Change) (insert text : List ℕ) : Type 0 where
   pub is_text : IsText before
   pub inserted : IsUtf8 insert
@@ -21,12 +22,12 @@ pub record IsEditOf (before : List ℕ) (edit : Change) (insert text : List ℕ)
   pub made : text ≡ apply before edit.start edit.old_stop insert
   pub new_stop : edit.new_stop ≡ edit.start + length insert
 
--- the same of a text whose tokens have the lengths
+-- the same, and `lengths` are the lengths of the tokens of the text `before`
 pub record IsMadeOf (first : List ℕ → Token) (before lengths : List ℕ) (edit : Change) (insert text : List ℕ) : Type 0 where
   pub edit_of : IsEditOf before edit insert text
   pub lengths_are : lengths ≡ map (λ (t : Token). t.len) (tokens_by first before)
 
--- the numbers are such that relexing may go on from them
+-- relexing can go on from these numbers
 pub record MayGoOn (text : List ℕ) (count : ℕ) (at : Relexing) : Type 0 where
   pub boundary : IsCharBoundary text at.at
   pub number : at.back.number ≤ count
@@ -34,12 +35,13 @@ pub record MayGoOn (text : List ℕ) (count : ℕ) (at : Relexing) : Type 0 wher
   pub small : at.back.place < 2 ^ 63
   pub few : at.lexed ≤ at.at
 
--- the old tokens are met, or no text is left
+-- relexing is over: the old tokens are met, or no text is left
 abbrev pub is_over : List ℕ → Relexing → Bool
 is_over text at = at.met || nat_eq at.at (length text)
 
--- what so many calls of `next` do, none of which finds relexing over: the tokens are the first ones of the text that is
--- left there. Before the edit's end, at `past`, no old token is followed
+-- what `count` calls of `next` do, if relexing is not over before any of them. They lex the first `count` tokens of the
+-- text that is left. As long as they stay before `past`, where the edit ends, they do not advance in the old tokens,
+-- and do not meet them
 pub record TakesSteps (first : List ℕ → Token) (text : List ℕ) (past : ℕ) (at : Relexing) (count : ℕ) (at' : Relexing) : Type 0 where
   pub inside : count ≤ length (tokens_by first (drop at.at text))
   pub none : count ≡ 0 → at' ≡ at
@@ -49,17 +51,19 @@ pub record TakesSteps (first : List ℕ → Token) (text : List ℕ) (past : ℕ
   pub same_back : at'.at < past → at'.back ≡ at.back
   pub not_met : 0 < count → at'.at < past → at'.met ≡ false
 
--- relexing of a change of the old text is under way at these numbers. What that says of them need not be known: `begin`
--- gives such numbers, `next` and `fill` keep them so, and where the old tokens are met, `counts` says what they are
+-- these numbers are a state of relexing after a change of the old text. A reader need not know what that means for the
+-- numbers: `begin` returns such numbers, `next` and `fill` keep the property, and if the old tokens are met, `counts`
+-- says what the numbers are
 pub record IsUnderWay (first : List ℕ → Token) (old : List ℕ) (change : Change) (text : List ℕ) (at : Relexing) : Type 0 where
   pub stands : Stands first old change text at
 
--- of each old text of which the old tokens have the lengths, and of which the change made this one: relexing that
--- is under way before is so after, and the text that was left has the tokens that were still to come
+-- for each old text whose tokens have these lengths, and of which the change made this text: relexing that was under
+-- way before is still so after, and the text that was left had exactly the tokens that were still to come
 abbrev pub GoesOn : (List ℕ → Token) → List ℕ → List ℕ → Change → Relexing → Relexing → Type 0
 GoesOn first lengths text change at at' = (before insert : List ℕ) → IsMadeOf first before lengths change insert text → IsUnderWay first before change text at
     → IsUnderWay first before change text at' × (tokens_by first (drop at.at text) ≡ drop (known at) (tokens_by first text))
 
--- the kept front, the tokens that were lexed and the old ones behind the meeting are the new tokens
+-- the tokens kept at the front, those that were lexed, and the old ones after the boundary where they met are together
+-- the new tokens
 abbrev pub IsWhole : List Token → List Token → Relexing → Type 0
 IsWhole old new at = take at.front.number old ++ (take at.lexed (drop at.front.number new) ++ drop at.back.number old) ≡ new

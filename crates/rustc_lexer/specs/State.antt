@@ -1,4 +1,4 @@
--- A cursor or an iterator on its way through a text: where it is, and what a call takes.
+-- The state of a cursor or an iterator, and what a call takes.
 use Rattle.std.specs.Prelude.{ℕ, ◌≡◌, ◌+◌, ◌≤◌, List, drop, Bool, [], ◌∷◌, ◌++◌, codes, Option, Some, None, chars}
 use Rattle.rustc_lexer.specs.{Edition, GuardedStr, Token, TokenKind, Literal, Eof}
 use Rattle.rustc_lexer.specs.Classes.{Chars, Utf8, bytes, NextNotIn}
@@ -6,13 +6,13 @@ use Rattle.rustc_lexer.specs.LanguageCalls.{IsGuardedBefore}
 use Rattle.rustc_lexer.specs.LanguageText.{Mode, part, mode_after, AreTokens}
 use Rattle.rustc_lexer.specs.LiteralGrammar.{hashes}
 
--- how many bytes were taken since the last token, the text that is left, and how it is read
+-- how many bytes were taken since the last token, the text that is left, and the mode in which it is read
 pub record State : Type 0 where
   pub pending : ℕ
   pub rest : List ℕ
   pub mode : Mode
 
--- the kind of a token, and the token, with the pending bytes in its length and in where its suffix begins
+-- the kind of a token, and then the token, with the pending bytes added to its length and to the offset of its suffix
 abbrev pub kind_past : ℕ → TokenKind → TokenKind
 kind_past pending (Literal kind suffix_start) = Literal kind (pending + suffix_start)
 kind_past pending kind = kind
@@ -20,7 +20,7 @@ kind_past pending kind = kind
 abbrev pub token_past : ℕ → Token → Token
 token_past pending token = record { kind = kind_past pending token.kind; len = pending + token.len }
 
--- where the suffix of a token begins, or 0
+-- the offset at which the suffix of a token begins, or 0 if the token is no literal
 abbrev pub suffix_start_of : TokenKind → ℕ
 suffix_start_of (Literal kind suffix_start) = suffix_start
 suffix_start_of kind = 0
@@ -28,19 +28,19 @@ suffix_start_of kind = 0
 abbrev pub HasSuffixWithin : Token → Type 0
 HasSuffixWithin token = suffix_start_of token.kind ≤ token.len
 
--- the token is the first one of the text, read as a part in an edition
+-- the token is the first token of the text, read as a part in an edition
 abbrev pub IsFirst : Edition → Utf8 → Token → Type 0
 IsFirst edition text token = (tokens : List Token) × AreTokens (part edition) (chars text) (token ∷ tokens)
 
--- what a cursor takes: at the end a token of length 0, which changes nothing; else the first of the tokens that the
--- language allows there, with the bytes that were pending before it
+-- what a cursor takes. At the end of the text it is `Eof` of length 0, and the state stays the same. Otherwise it is
+-- the first of the tokens that the grammar allows there, with the pending bytes added to its front
 pub data TakesNext (s : State) : Token × State → Type 0 where
   nothing_left : s.rest ≡ [] → TakesNext s (record { kind = Eof; len = 0 }, s)
   first_left : {token : Token} {tokens : List Token} → AreTokens s.mode (chars s.rest) (token ∷ tokens)
       → TakesNext s (token_past s.pending token, record { pending = 0; rest = drop token.len s.rest; mode = mode_after s.mode token.kind })
 
--- what is taken of the text of a cursor: a guarded string, with what is pending; or hashes that begin none, which are
--- pending then
+-- what a cursor takes as a guarded string: the string, with the pending bytes added to its length; or, if the hashes
+-- there begin none, only the hashes, which are then pending
 pub data TakesGuarded (s : State) : Option GuardedStr × State → Type 0 where
   string : {n : ℕ} {terminated : Bool} {w next : Chars} → chars s.rest ≡ w ++ next → IsGuardedBefore next n terminated w
       → TakesGuarded s (

@@ -1,4 +1,4 @@
--- The tokens of a text, and what the calls that take them do.
+-- The tokens of a text, and what the calls that return them do.
 use Rattle.std.specs.Prelude.{ℕ, ◌≡◌, ◌↔◌, ◌<◌, ◌≤◌, List, [], ◌∷◌, length, take, drop, chars, codes, IsCharBoundary, Option, is_some, IsSome, Some, None, Ok, zero, suc, Bool, true, false, not, ◌++◌, map, All}
 use Rattle.rustc_lexer.specs.{Edition, FrontmatterAllowed, LiteralKind, Token, TokenKind, Char, Byte, Str, ByteStr, CStr, RawStr, RawByteStr, RawCStr, Literal, Eof, Ident, RawIdent, LineComment, BlockComment, Frontmatter, Lifetime}
 pub use Rattle.rustc_lexer.specs.Answers.{advance, raw_check, tokens_of}
@@ -8,18 +8,18 @@ use Rattle.rustc_lexer.specs.LanguageText.{part, mode_in, mode_edition, mode_aft
 pub use Rattle.rustc_lexer.specs.Partition.{cut_by, tokens_by, bound, Partitions}
 use Rattle.rustc_lexer.specs.State.{State, token_past, HasSuffixWithin}
 
--- the tokens that a cursor with nothing pending, or an iterator, will come to
+-- the tokens that an iterator, or a cursor with nothing pending, has still to return
 abbrev pub tokens_left : State → List Token
 tokens_left s = tokens_of s.mode s.rest
 
--- a part past any of its bounds has the rest of the tokens
+-- lexing a part again from any of its token boundaries gives the rest of its tokens
 abbrev pub RestartsAtBounds : Edition → List ℕ → Type 0
 RestartsAtBounds edition text =
     let tokens : List Token = tokens_of (part edition) text in
     (k : ℕ) → k ≤ length tokens → tokens_of (part edition) (drop (bound tokens k) text) ≡ drop k tokens
 
--- with nothing pending, the token is the first of those left, and the state after it is as `advance` says: it is not
--- empty, ends between characters and is taken off the text, and the edition stays
+-- with nothing pending, the token is the first of those that are left, and `advance` says which state follows. The
+-- token is not empty, ends between characters and is removed from the text, and the edition stays
 pub record TakesToken (s : State) (token : Token) (t : State) : Type 0 where
   pub first : tokens_left s ≡ token ∷ tokens_left t
   pub advances : advance s ≡ (token, t)
@@ -29,13 +29,13 @@ pub record TakesToken (s : State) (token : Token) (t : State) : Type 0 where
   pub mode : t.mode ≡ mode_after s.mode token.kind
   pub edition : mode_edition t.mode ≡ mode_edition s.mode
 
--- what `next` does: where no token is left it gives none and changes nothing; else it takes one
+-- what `next` does. If no token is left, it returns None and changes nothing. Otherwise it takes one
 abbrev pub YieldsToken : State → Option Token → State → Type 0
 YieldsToken s None t = (tokens_left s ≡ []) × (t ≡ s)
 YieldsToken s (Some token) t = TakesToken s token t
 
--- what a cursor takes while text is left: the token that it would take with nothing pending, `taken`, made longer by the
--- bytes that were pending; then none are
+-- what a cursor takes while text is left: `taken`, the token that it would take with nothing pending, with the pending
+-- bytes added to its front. After that nothing is pending
 pub record TakesFirst (s : State) (token : Token) (t : State) : Type 0 where
   pub taken : Token
   pub takes : TakesToken (record s { pending = 0 }) taken t
@@ -43,12 +43,12 @@ pub record TakesFirst (s : State) (token : Token) (t : State) : Type 0 where
   pub alone : s.pending ≡ 0 → token ≡ taken
   pub none_pending : t.pending ≡ 0
 
--- the text may be checked, and the check accepts it exactly where the number of hashes is there
+-- the text may be passed to the check of raw strings, which accepts it exactly if the number of hashes is Some
 abbrev pub IsChecked : ℕ → List ℕ → Option ℕ → Type 0
 IsChecked prefix text n_hashes = StartsRaw text prefix × ((raw_check text prefix ≡ Ok tt) ↔ IsSome n_hashes)
 
--- what is promised of the text of a token, beside what the grammar says: that of an identifier passes `is_ident`, and so
--- does what follows the `r#` of a raw one; that of a raw string may be checked; that of `Eof` is empty
+-- what is promised about the text of a token, in addition to the grammar: the text of an identifier passes `is_ident`,
+-- and so does what follows the `r#` of a raw one; the text of a raw string may be checked; the text of `Eof` is empty
 abbrev pub HasText : TokenKind → List ℕ → Type 0
 HasText Ident text = is_ident (chars text) ≡ true
 HasText RawIdent text = (word : List ℕ) × (text ≡ codes "r#" ++ word) × (is_ident (chars word) ≡ true)
@@ -58,12 +58,12 @@ HasText (Literal (RawCStr n_hashes) suffix_start) text = IsChecked 2 text n_hash
 HasText Eof text = length text ≡ 0
 HasText kind text = Unit {0}
 
--- the text of each token is one of its kind
+-- the text of each token has what is promised for its kind
 abbrev pub HaveTexts : List ℕ → List Token → Type 0
 HaveTexts text [] = Unit {0}
 HaveTexts text (token ∷ tokens) = HasText token.kind (take token.len text) × HaveTexts (drop token.len text) tokens
 
--- a quoted literal that nothing closes, or a raw one that is refused
+-- whether a literal is malformed: a quoted one that nothing closes, or a raw one that is refused
 abbrev pub is_faulty : LiteralKind → Bool
 is_faulty (Char terminated) = not terminated
 is_faulty (Byte terminated) = not terminated
@@ -75,17 +75,18 @@ is_faulty (RawByteStr n_hashes) = not (is_some n_hashes)
 is_faulty (RawCStr n_hashes) = not (is_some n_hashes)
 is_faulty kind = false
 
--- a faulty literal has no suffix, so that would begin at its end
+-- a malformed literal has no suffix, so its suffix_start is its end
 abbrev pub EndsFaulty : TokenKind → ℕ → Type 0
 EndsFaulty (Literal kind suffix_start) len = is_faulty kind ≡ true → suffix_start ≡ len
 EndsFaulty kind len = Unit {0}
 
--- where the suffix of a token begins
+-- what is promised about the offset of a token's suffix
 abbrev pub HasSuffix : Token → Type 0
 HasSuffix token = HasSuffixWithin token × EndsFaulty token.kind token.len
 
--- an iterator at the front of a text that fits, as a document or a part in an edition. Its tokens are those of the text:
--- they cut it, and where it is a part they go on from each bound; the suffix and the text of each is as its kind says
+-- an iterator at the start of a text, which it reads as a document or as a part in an edition. Its tokens are those of
+-- the text. They partition the text; a part can be lexed again from each token boundary; and the suffix and the text of
+-- each token are as its kind says
 pub record ReadsAs (allowed : FrontmatterAllowed) (edition : Edition) (text : List ℕ) (at : State) : Type 0 where
   pub state : at ≡ record { pending = 0; rest = text; mode = mode_in allowed edition }
   pub tokens : tokens_left at ≡ tokens_of (mode_in allowed edition) text
@@ -94,7 +95,7 @@ pub record ReadsAs (allowed : FrontmatterAllowed) (edition : Edition) (text : Li
   pub suffixes : All HasSuffix (tokens_of (mode_in allowed edition) text)
   pub texts : HaveTexts text (tokens_of (mode_in allowed edition) text)
 
--- whether tokens of the kind differ in more than their length
+-- whether two tokens of the kind may differ in more than their length
 abbrev pub has_fields : TokenKind → Bool
 has_fields (LineComment doc_style) = true
 has_fields (BlockComment doc_style terminated) = true
@@ -103,8 +104,9 @@ has_fields (Literal kind suffix_start) = true
 has_fields (Lifetime starts_with_number) = true
 has_fields kind = false
 
--- the buffer holds the first of the tokens at its front, each as it is written, and the rest of it stays. They are
--- those that begin before a place: each of them does, and where there is room for one more, it does not
+-- the start of the buffer holds the first `count` of the tokens that are left, each as it is written, and the rest of
+-- the buffer is unchanged. They are the tokens that begin before the offset `end`: each of them does, and if there is
+-- room for one more, the next boundary is not before `end`
 pub record IsFilledTo {X : Type 0} (written : Token → X) (end : ℕ) (left : List Token) (buffer filled : List X) (count : ℕ) : Type 0 where
   pub few : count ≤ length left
   pub within : count ≤ length buffer
@@ -112,7 +114,7 @@ pub record IsFilledTo {X : Type 0} (written : Token → X) (end : ℕ) (left : L
   pub begun : (k : ℕ) → k < count → bound left k < end
   pub all : count < length buffer → end ≤ bound left count
 
--- the state past `count` tokens
+-- the state after `count` tokens
 abbrev pub state_past : ℕ → State → State
 state_past zero s = s
 state_past (suc count) s = (advance (state_past count s)).1

@@ -1,4 +1,4 @@
--- Tokens in batches: as many as there is room for, and where to go on.
+-- Tokens in batches: as many as the buffer has room for, and where the next batch begins.
 use Rattle.std.specs.Prelude.{ℕ, zero, suc, ◌≡◌, ◌≢◌, List, [], ◌∷◌, ◌++◌, length, map, take, drop, min}
 use Rattle.std.specs.Str.{IsCharBoundary}
 use Rattle.rustc_lexer.specs.declared.edition.Edition.TheVariants.{E2024}
@@ -14,7 +14,7 @@ use Rattle.rustc_lexer_c.specs.declared.token.CToken.{CToken}
 use Rattle.rustc_lexer_c.specs.Numbers.{token_numbers}
 use Rattle.rustc_lexer_c.specs.Status.{IsStatus}
 
--- 0 is `No`, and any other number is `Yes`
+-- the flag for a number: 0 is `No`, and any other number is `Yes`
 abbrev pub allowed_of : ℕ → FrontmatterAllowed
 allowed_of zero = No
 allowed_of (suc n) = Yes
@@ -23,26 +23,27 @@ abbrev pub allowed_number : FrontmatterAllowed → ℕ
 allowed_number No = 0
 allowed_number Yes = 1
 
--- whether what is left may begin with a frontmatter: 1 in front of a document, 0 in a part
+-- whether the rest of the text may begin with a frontmatter: 1 at the start of a document, 0 in a part
 abbrev pub mode_number : Mode → ℕ
 mode_number (document edition) = 1
 mode_number (part edition) = 0
 
--- zeros, which are the numbers of no token
+-- zeros, which stand for no token
 abbrev pub no_token : CToken
 no_token = record { kind = 0; first = 0; second = 0; third = 0; suffix_start = 0; len = 0 }
 
--- the first of some tokens as numbers
+-- the first of these tokens as numbers, or zeros if there is none
 abbrev pub first_numbers : List Token → CToken
 first_numbers [] = no_token
 first_numbers (token ∷ tokens) = token_numbers token
 
--- the state of a cursor that stands at the place, with nothing pending
+-- the state of a cursor at this offset, with nothing pending
 abbrev pub state_at : List ℕ → CPlace → State
 state_at text place = record { pending = 0; rest = drop place.at text; mode = mode_in (allowed_of place.frontmatter_allowed) E2024 }
 
--- the batch at a state: as many of the tokens that are left there as there is room for, as numbers, at the front of the
--- buffer, whose rest stays; and the place behind them, from which the tokens are those that are left past the batch
+-- the batch from a state on. The start of the buffer holds the next tokens as numbers, as many as are left or as there
+-- is room for, and the rest of the buffer is unchanged. `place` is where the next batch begins, with the tokens that
+-- are still left
 pub record IsBatch (text : List ℕ) (s : State) (buffer : List CToken) (place : CPlace) (filled : List CToken) (count : ℕ) : Type 0 where
   pub as_many : count ≡ min (length buffer) (length (tokens_left s))
   pub tokens : filled ≡ map token_numbers (take count (tokens_left s)) ++ drop count buffer
@@ -51,8 +52,8 @@ pub record IsBatch (text : List ℕ) (s : State) (buffer : List CToken) (place :
   pub allowed : place.frontmatter_allowed ≡ mode_number (state_past count s).mode
   pub left : tokens_left (state_at text place) ≡ drop count (tokens_left s)
 
--- a call that takes the tokens from a place on, which is to be between characters; where it is refused nothing is
--- written
+-- a call that returns the tokens from a place on, whose offset must be between characters. If the call is refused,
+-- nothing is written
 pub record TakesTokens (text : List ℕ) (place place' : CPlace) (buffer filled : List CToken) (count status : ℕ) : Type 0 where
   pub status_is : IsStatus text (IsCharBoundary text place.at) 3 status
   pub batch : status ≡ 0 → IsBatch text (state_at text place) buffer place' filled count

@@ -1,4 +1,4 @@
--- What a literal stands for, as it crosses to C: its units in order, each as numbers with its place.
+-- What a literal stands for, as C sees it: its units in order, each as numbers with its range.
 use Rattle.std.specs.Prelude.{ℕ, ◌≡◌, ◌≢◌, ◌≤◌, if◌then◌else◌, List, [], ◌∷◌, ◌++◌, length, map, take, drop, max, min, nat_eq, Option, Some, None, Result, Ok, Err}
 use Rattle.std.specs.Option.{IsSomeAnd}
 use Rattle.std.specs.Str.{chars}
@@ -18,7 +18,7 @@ use Rattle.rustc_lexer_c.specs.declared.escapes.Listing.{Listing}
 use Rattle.rustc_lexer_c.specs.declared.escapes.Listing.TheVariants.{Units, Errors}
 use Rattle.rustc_lexer_c.specs.Status.{IsStatus}
 
--- the mode of a number, which is that of the literal's kind in a token
+-- the mode with this number. It is the number of the literal's kind in a token
 abbrev pub mode_of : ℕ → Option Mode
 mode_of number =
     if nat_eq number 3 then Some Char
@@ -31,7 +31,7 @@ mode_of number =
     else if nat_eq number 10 then Some RawCStr
     else None
 
--- the numbers of what may be wrong. They are fixed: a new error gets a new number
+-- the numbers of errors. They never change: a new error gets a new number
 abbrev pub error_number : EscapeError → ℕ
 error_number ZeroChars = 1
 error_number MoreThanOneChar = 2
@@ -69,7 +69,7 @@ unit_at place kind value = record { start = place.start; end = place.end; kind =
 abbrev pub wrong_unit : Range ℕ → EscapeError → CUnit
 wrong_unit place error = unit_at place (wrong_kind error) (error_number error)
 
--- a character has the kind 1, and a byte the kind 2
+-- the unit of a character, with kind 1, or of a byte, with kind 2
 abbrev pub coded_unit : ℕ → Range ℕ → Result ℕ EscapeError → CUnit
 coded_unit kind place (Ok code) = unit_at place kind code
 coded_unit kind place (Err error) = wrong_unit place error
@@ -79,7 +79,7 @@ mixed_unit place (Ok (CharUnit c)) = unit_at place 1 c
 mixed_unit place (Ok (HighByte b)) = unit_at place 2 b
 mixed_unit place (Err error) = wrong_unit place error
 
--- what an element stands for between double quotes
+-- the unit of an element between double quotes
 abbrev pub item_unit : Mode → Item → CUnit
 item_unit Char item = coded_unit 1 item.0 (char_of item.1)
 item_unit Str item = coded_unit 1 item.0 (char_of item.1)
@@ -90,7 +90,7 @@ item_unit RawByteStr item = coded_unit 2 item.0 (byte_of item.1)
 item_unit CStr item = mixed_unit item.0 (unit_of item.1)
 item_unit RawCStr item = coded_unit 1 item.0 (raw_unit_of item.1)
 
--- what stands between single quotes is one unit, of which the place is all of the text
+-- the text between single quotes is one unit, whose range is the whole text
 abbrev pub whole : List ℕ → Range ℕ
 whole text = record { start = 0; end = length text }
 
@@ -98,15 +98,16 @@ abbrev pub single_unit : Mode → List ℕ → CUnit
 single_unit Byte text = coded_unit 2 (whole text) (byte_literal (chars text))
 single_unit mode text = coded_unit 1 (whole text) (char_literal (chars text))
 
--- the units of what stands between a literal's quotes
+-- the units of the text between a literal's quotes
 abbrev pub units_of : Mode → List ℕ → List CUnit
 units_of mode text = if is_single mode then single_unit mode text ∷ [] else map (item_unit mode) (items_of (is_raw mode) text)
 
--- what is wrong, in order, each with its place
+-- the errors, in order, each with its range
 abbrev pub wrong_units : List Error → List CUnit
 wrong_units errors = map (λ (e : Error). wrong_unit e.0 e.1) errors
 
--- a batch of them: past the first ones as many as there is room for, at the front of the buffer, whose rest stays
+-- a batch of units: without the first `passed` ones, as many as there is room for. They are at the start of the buffer,
+-- and the rest of it is unchanged
 pub record IsUnits (units : List CUnit) (passed : ℕ) (buffer filled : List CUnit) (count : ℕ) : Type 0 where
   pub as_many : count ≡ min (length buffer) (length (drop passed units))
   pub written : filled ≡ take count (drop passed units) ++ drop count buffer
@@ -114,13 +115,14 @@ pub record IsUnits (units : List CUnit) (passed : ℕ) (buffer filled : List CUn
 abbrev pub wrong_units_of : Mode → List ℕ → List CUnit
 wrong_units_of mode text = wrong_units (errors_of mode text)
 
--- what is listed of a text
+-- the units that a call lists for a text
 abbrev pub listed : Listing → Mode → List ℕ → List CUnit
 listed Units mode text = units_of mode text
 listed Errors mode text = wrong_units_of mode text
 
--- a call that lists some of a text in the mode of a number. There are no more of them than the text has bytes, or one:
--- so much room is enough. Where it is refused nothing is written
+-- a call that lists units of a text, in a mode that is given by a number. The list is never longer than the text in
+-- bytes, but may have 1 unit for an empty text, so a buffer of that length is enough. If the call is refused, nothing
+-- is written
 pub record Lists (list : Mode → List ℕ → List CUnit) (mode : Option Mode) (text : List ℕ) (passed : ℕ) (buffer filled : List CUnit) (count status : ℕ) : Type 0 where
   pub status_is : IsStatus text (mode ≢ None) 7 status
   pub units : status ≡ 0 → IsSomeAnd mode (λ kind. IsUnits (list kind text) passed buffer filled count)

@@ -1,4 +1,4 @@
--- The head of a document from C, and what an edit of the document is to its body.
+-- The head of a document, as C sees it, and how an edit of the document changes its body.
 use Rattle.std.specs.Prelude.{ℕ, zero, suc, ◌≡◌, ◌≢◌, ◌<◌, ◌≤◌, ◌^◌, Bool, not, nat_eq, List, [], ◌∷◌, length, drop, get_or, Option, Some, None}
 use Rattle.std.specs.Str.{IsUtf8}
 use Rattle.rustc_lexer.specs.declared.relex.head.Head.{Head}
@@ -16,7 +16,7 @@ use Rattle.rustc_lexer_c.specs.Batch.{no_token}
 use Rattle.rustc_lexer_c.specs.Numbers.{bool_number, token_numbers}
 use Rattle.rustc_lexer_c.specs.Relex.{change_of}
 
--- at most two tokens as numbers, and zeros behind them
+-- at most two tokens as numbers, filled up with zeros
 abbrev pub two_of : List Token → List CToken
 two_of [] = no_token ∷ no_token ∷ []
 two_of (a ∷ []) = token_numbers a ∷ no_token ∷ []
@@ -30,11 +30,11 @@ head_numbers text = record { shebang_len = shebang_len text; body = body_start t
 abbrev pub numbers_of_head : Head → CHead
 numbers_of_head head = record { shebang_len = head.shebang_len; body = head.body; count = length (tokens_of_head head); tokens = two_of (tokens_of_head head) }
 
--- the frontmatter that numbers tell
+-- the frontmatter that these numbers stand for
 abbrev pub frontmatter_of : CToken → Token
 frontmatter_of c = record { kind = Frontmatter (not (nat_eq c.first 0)) (not (nat_eq c.second 0)); len = c.len }
 
--- the head that numbers tell
+-- the head that these numbers stand for
 abbrev pub head_with : ℕ → ℕ → ℕ → CToken → CToken → Head
 head_with shebang end zero a b = record { shebang_len = shebang; space_len = 0; frontmatter = None; body = end }
 head_with shebang end (suc zero) a b = record { shebang_len = shebang; space_len = 0; frontmatter = Some (frontmatter_of a); body = end }
@@ -43,7 +43,7 @@ head_with shebang end (suc (suc n)) a b = record { shebang_len = shebang; space_
 abbrev pub head_of : CHead → Head
 head_of c = head_with c.shebang_len c.body c.count (get_or c.tokens 0 no_token) (get_or c.tokens 1 no_token)
 
--- the status of a call that is told an edit of a document and the old head. An edit that made the text is not refused
+-- the status of a call that gets an edit of a document and the old head. An edit that made the text is not refused
 pub record IsHeadStatus (bytes : List ℕ) (edit : CEdit) (c : CHead) (status : ℕ) : Type 0 where
   pub ok : IsText bytes → (before insert : List ℕ) → IsEditOf before (change_of edit) insert bytes → c ≡ head_numbers before → status ≡ 0
   pub not_utf8 : length bytes < 2 ^ 32 → ¬ (IsUtf8 bytes) → status ≡ 1
@@ -51,9 +51,9 @@ pub record IsHeadStatus (bytes : List ℕ) (edit : CEdit) (c : CHead) (status : 
   pub bad_edit : IsText bytes → ¬ (IsChange bytes (change_of edit)) → status ≡ 6
   pub no_other : IsText bytes → status ≢ 0 → status ≡ 6
 
--- the head of the text is written, and an edit of the body that may be relexed. Of each text before, of which the old head
--- is, and of which the edit made the present text, it is what the edit is to the body. Where it is refused nothing is
--- written
+-- the call writes the head of the text, and an edit of the body from which relexing can begin. For every old text that
+-- has the old head, and that the edit made into the present text, it is what the edit means for the body. If the call
+-- is refused, nothing is written
 pub record FindsHead (text : List ℕ) (edit : CEdit) (c c' : CHead) (body body' : CEdit) (kept kept' status : ℕ) : Type 0 where
   pub status_is : IsHeadStatus text edit c status
   pub head : status ≡ 0 → c' ≡ head_numbers text

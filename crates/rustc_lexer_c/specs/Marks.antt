@@ -1,4 +1,4 @@
--- Marked tokens from C: the styles by their numbers, and the status of the call.
+-- Marked tokens, as C sees them: the numbers of the styles, and the status of the call.
 use Rattle.std.specs.Prelude.{ℕ, ◌≡◌, ◌≤◌, ◌<◌, ◌^◌, ◌⊎◌, nat_eq, if◌then◌else◌, List, length, take, drop, Option, Some, None}
 use Rattle.std.specs.Str.{IsUtf8}
 use Rattle.rustc_lexer.specs.declared.edition.Edition.{Edition}
@@ -7,7 +7,7 @@ use Rattle.rustc_lexer.specs.Classes.{IsText}
 use Rattle.marks.specs.declared.style.Style.{Style}
 use Rattle.marks.specs.declared.style.Style.TheVariants.{Html, Colours, NoColours}
 
--- the style of a number. The numbers are fixed: a new style gets a new one
+-- the style with this number. Numbers never change: a new style gets a new one
 abbrev pub style_of : ℕ → Option Style
 style_of number =
     if nat_eq number 1 then Some Html
@@ -15,13 +15,13 @@ style_of number =
     else if nat_eq number 3 then Some NoColours
     else None
 
--- the bytes stand at the front of the buffer, and behind them it is as before
+-- the bytes are at the start of the buffer, and the rest of it is unchanged
 pub record IsFront (bytes buffer filled : List ℕ) (written : ℕ) : Type 0 where
   pub within : written ≤ length filled
   pub front : take written filled ≡ bytes
   pub rest : drop written filled ≡ drop written buffer
 
--- the status of a call that takes a text, a style and a year, and has a buffer of which nothing is said
+-- the status of a call that takes a text, a style, a year and a buffer of any length
 pub record IsMarksStatus (bytes : List ℕ) (style year : ℕ) (status : ℕ) : Type 0 where
   pub ok : IsText bytes → (edition : Edition) → edition_of_year year ≡ Some edition → (kind : Style) → style_of style ≡ Some kind → (status ≡ 0) ⊎ (status ≡ 9)
   pub not_utf8 : length bytes < 2 ^ 32 → ¬ (IsUtf8 bytes) → status ≡ 1

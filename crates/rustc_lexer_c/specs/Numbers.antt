@@ -1,4 +1,4 @@
--- The numbers by which a token crosses to C: those of its kind, and a byte for each field of that.
+-- The numbers that C gets for a token: that of its kind, and a byte for each field of the kind.
 use Rattle.std.specs.Prelude.{ℕ, Bool, true, false, Option, Some, None}
 use Rattle.rustc_lexer.specs.declared.token.Base.{Base}
 use Rattle.rustc_lexer.specs.declared.token.Base.TheVariants.{Binary, Octal, Decimal, Hexadecimal}
@@ -28,7 +28,7 @@ abbrev pub bool_number : Bool → ℕ
 bool_number false = 0
 bool_number true = 1
 
--- 1 where there is a number, else 0; and the number, or 0
+-- 1 if there is a number, otherwise 0; and then the number, or 0
 abbrev pub some_number : Option ℕ → ℕ
 some_number None = 0
 some_number (Some n) = 1
@@ -37,8 +37,8 @@ abbrev pub some_or_zero : Option ℕ → ℕ
 some_or_zero None = 0
 some_or_zero (Some n) = n
 
--- the fields of a kind of literal, a byte for each in their order, behind its number; the hashes of a raw string are two
--- bytes, and a byte that no field has is 0
+-- the fields of a kind of literal, one byte each, in order, after the number of the kind. The hashes of a raw string
+-- take two bytes, and a byte without a field is 0
 unfoldable pub literal_second : LiteralKind → ℕ
 literal_second (Int base empty_int) = base_number base
 literal_second (Float base empty_exponent) = base_number base
@@ -59,7 +59,7 @@ literal_third (RawByteStr n_hashes) = some_or_zero n_hashes
 literal_third (RawCStr n_hashes) = some_or_zero n_hashes
 literal_third kind = 0
 
--- the fields of a kind, in the same way: of a literal the first is its kind
+-- the fields of a kind of token, in the same way. For a literal, the first byte is the number of its kind
 unfoldable pub first_of : TokenKind → ℕ
 first_of (LineComment doc_style) = style_number doc_style
 first_of (BlockComment doc_style terminated) = style_number doc_style

@@ -1,4 +1,4 @@
--- Relexing from C: an edit, and how far its text is lexed again.
+-- Relexing, as C sees it: an edit, and how far the text has been lexed again.
 use Rattle.std.specs.Prelude.{ℕ, ◌≡◌, ◌≢◌, ◌+◌, ◌-◌, ◌≤◌, ◌<◌, ◌^◌, if◌then◌else◌, nat_eq, List, ◌++◌, length, map, take, drop, Some, None}
 use Rattle.std.specs.Str.{IsUtf8}
 use Rattle.rustc_lexer.specs.declared.edition.Edition.{Edition}
@@ -21,11 +21,11 @@ use Rattle.rustc_lexer_c.specs.Numbers.{token_numbers}
 abbrev pub change_of : CEdit → Change
 change_of c = record { start = c.start; old_stop = c.old_stop; new_stop = c.new_stop }
 
--- the bound that the fields for the front have
+-- the token boundary that the fields for the front give
 abbrev pub front_of : CRelexing → Bound
 front_of c = record { number = c.kept_front; place = c.front_place }
 
--- how far so many old tokens were relexed
+-- the state of relexing that the fields give, if there are `count` old tokens
 abbrev pub relexing_of : ℕ → CRelexing → Relexing
 relexing_of count c = record {
   front = front_of c;
@@ -35,26 +35,27 @@ relexing_of count c = record {
   met = nat_eq c.stage 2;
 }
 
--- how many tokens were written by the calls before
+-- how many tokens earlier calls have written
 abbrev pub lexed_before : CRelexing → ℕ
 lexed_before c = if nat_eq c.stage 0 then 0 else c.lexed
 
--- a call may begin or go on with the numbers
+-- a call may begin with these numbers, or go on from them
 abbrev pub MayRelex : List ℕ → ℕ → CRelexing → Type 0
 MayRelex text count c = c.stage ≢ 0 → (c.kept_back ≤ count) × MayGoOn text count (relexing_of count c)
 
--- the numbers are those that a call may begin with, of which only a bound of the old tokens counts, or that a call left
+-- a call may begin with these numbers, of which only a boundary of the old tokens matters, or they are what an earlier
+-- call returned
 pub record IsPassed (first : List ℕ → Token) (before : List ℕ) (change : Change) (text : List ℕ) (count : ℕ) (c : CRelexing) : Type 0 where
   pub near : c.stage ≡ 0 → IsBound (tokens_by first before) (front_of c)
   pub under_way : c.stage ≢ 0 → IsUnderWay first before change text (relexing_of count c)
 
--- so many tokens of the present text past those of the front, as numbers
+-- the first `lexed` tokens of the present text after those of the front, as numbers
 abbrev pub written : List Token → ℕ → ℕ → List CToken
 written tokens front lexed = map token_numbers (take lexed (drop front tokens))
 
--- the tokens of the present text that follow the front and those of the calls before are written. Once the stage is 2
--- the counts are those of the edit, and the list that has the old tokens of the front, all that was written, and the
--- old tokens of the back is the tokens of the present text
+-- the call writes the tokens of the present text that follow the front and those of earlier calls. Once the stage is 2,
+-- the counts are those of the edit, and the present text has exactly the old tokens of the front, all tokens that were
+-- written, and the old tokens of the back
 pub record HasRelexed (first : List ℕ → Token) (before : List ℕ) (edit : CEdit) (insert text : List ℕ) (old : List CToken) (c : CRelexing) (buffer : List CToken) (c' : CRelexing) (filled : List CToken) (count : ℕ) : Type 0 where
   pub passed : IsPassed first before (change_of edit) text (length old) c'
   pub tokens : filled ≡ map token_numbers (take count (drop (c'.kept_front + lexed_before c) (tokens_by first text))) ++ drop count buffer
@@ -64,8 +65,8 @@ pub record HasRelexed (first : List ℕ → Token) (before : List ℕ) (edit : C
   pub list : c'.stage ≡ 2 → old ≡ map token_numbers (tokens_by first before)
       → take c'.kept_front old ++ (written (tokens_by first text) c'.kept_front c'.lexed ++ drop (length old - c'.kept_back) old) ≡ map token_numbers (tokens_by first text)
 
--- what a call does for any numbers, and what for those of an edit: of each text of which the old tokens are those in
--- the edition, and of which the edit made the present text
+-- what a call does for any numbers, and what it does for those of an edit. `relexed` is about every old text that has
+-- the old tokens in this edition, and that the edit made into the present text
 pub record IsRelexBatch (edition : Edition) (text : List ℕ) (old : List CToken) (edit : CEdit) (c : CRelexing) (buffer : List CToken) (c' : CRelexing) (filled : List CToken) (count : ℕ) : Type 0 where
   pub within : count ≤ length buffer
   pub rest : drop count filled ≡ drop count buffer
@@ -84,13 +85,13 @@ pub record IsRelexStatus (bytes : List ℕ) (edit : CEdit) (year count : ℕ) (c
   pub bad_edition : IsText bytes → edition_of_year year ≡ None → status ≡ 5
   pub bad_edit : IsText bytes → (edition : Edition) → edition_of_year year ≡ Some edition → ¬ (IsChange bytes (change_of edit) × MayRelex bytes count c) → status ≡ 6
 
--- a call that relexes in the edition of a year; where it is refused nothing is written
+-- a call that relexes in the edition of a year. If it is refused, nothing is written
 pub record Relexes (text : List ℕ) (old : List CToken) (edit : CEdit) (year : ℕ) (c c' : CRelexing) (buffer filled : List CToken) (count status : ℕ) : Type 0 where
   pub status_is : IsRelexStatus text edit year (length old) c status
   pub batch : status ≡ 0 → (edition : Edition) → edition_of_year year ≡ Some edition → IsRelexBatch edition text old edit c buffer c' filled count
   pub refused : status ≢ 0 → (c' ≡ c) × (filled ≡ buffer) × (count ≡ 0)
 
--- how far it was relexed, as numbers
+-- the state of relexing as numbers
 abbrev pub numbers_of : List ℕ → ℕ → Relexing → CRelexing
 numbers_of text count at = record {
   kept_front = at.front.number;

@@ -1,4 +1,4 @@
--- The statuses of calls from C: 0 where the call was done.
+-- The statuses of calls from C. A status of 0 means that the call was done.
 use Rattle.std.specs.Prelude.{ℕ, ◌≡◌, ◌≢◌, ◌<◌, ◌≤◌, ◌^◌, List, length}
 use Rattle.std.specs.Str.{IsUtf8}
 use Rattle.rustc_lexer.specs.Classes.{IsText}
@@ -16,13 +16,13 @@ refusal_number BadMode = 7
 refusal_number BadStyle = 8
 refusal_number SmallBuffer = 9
 
--- why bytes are no text that can be lexed; their length is looked at first
+-- why these bytes are not a text that can be lexed. Their length is tested first
 abbrev pub IsNoText : List ℕ → Refusal → Type 0
 IsNoText bytes TooLong = 2 ^ 32 ≤ length bytes
 IsNoText bytes NotUtf8 = (length bytes < 2 ^ 32) × ¬ (IsUtf8 bytes)
 IsNoText bytes refusal = ⊥
 
--- the status of a call that takes a text and asks something of it; where that is not so, it is the number
+-- the status of a call that takes a text and requires something. If that does not hold, the status is `number`
 pub record IsStatus (bytes : List ℕ) (Asked : Type 0) (number status : ℕ) : Type 0 where
   pub ok : IsText bytes → Asked → status ≡ 0
   pub not_utf8 : length bytes < 2 ^ 32 → ¬ (IsUtf8 bytes) → status ≡ 1
@@ -33,7 +33,7 @@ pub record IsStatus (bytes : List ℕ) (Asked : Type 0) (number status : ℕ) : 
 abbrev pub IsTextStatus : List ℕ → ℕ → Type 0
 IsTextStatus bytes status = IsStatus bytes (Unit {0}) 0 status
 
--- a call with such a status writes an answer, and where it is refused, what is none
+-- a call with such a status writes its answer, or `none` if it is refused
 pub record Writes {X : Type 0} (bytes : List ℕ) (Asked : Type 0) (number : ℕ) (answer none written : X) (status : ℕ) : Type 0 where
   pub status_is : IsStatus bytes Asked number status
   pub answer_is : status ≡ 0 → written ≡ answer

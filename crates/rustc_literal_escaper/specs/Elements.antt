@@ -1,4 +1,4 @@
--- What stands between double quotes: its elements in order, each with its place in bytes.
+-- The text between double quotes: its elements in order, each with its range of bytes.
 use Rattle.std.specs.Prelude.{Option, Some, None, ◌≡◌, ℕ, zero, suc, ◌-◌, ◌==◌, ◌||◌, Bool, true, false, if◌then◌else◌, List, [], ◌∷◌, ◌++◌, length, map}
 use Rattle.std.specs.Char.{is_whitespace}
 use Rattle.std.specs.List.{list_any}
@@ -10,13 +10,13 @@ use Rattle.rustc_literal_escaper.specs.declared.error.EscapeError.TheVariants.{E
 use Rattle.rustc_literal_escaper.specs.Escape.{escape}
 use Rattle.rustc_literal_escaper.specs.Runs.{front_run, past_run}
 
--- what stands at the front: what is told of it, each with what is left past the characters that it marks, and what is left
--- past it
+-- one step of reading a text: the elements that it reports, each with the text that is left after the characters of
+-- that element, and the text that is left after the step
 pub record Front : Type 0 where
   pub told : List (Element × List ℕ)
   pub left : List ℕ
 
--- one element
+-- a step that reports one element
 abbrev pub one : Element × List ℕ → Front
 one read = record { told = read ∷ []; left = read.1 }
 
@@ -27,43 +27,43 @@ abbrev pub begins_line : List ℕ → Bool
 begins_line [] = false
 begins_line (c ∷ s) = is_newline c
 
--- a backslash at a line's end passes over this white space: newlines, carriage returns, tabs and spaces
+-- the white space that a backslash at the end of a line skips: newlines, carriage returns, tabs and spaces
 abbrev pub is_passed_over : ℕ → Bool
 is_passed_over c = c == 10 || c == 13 || c == 9 || c == 32
 
--- a warning where more than one line end is passed over, that marks all that is
+-- a warning if more than one line end is skipped. It covers everything that is skipped
 abbrev pub more_lines : List ℕ → List ℕ → List (Element × List ℕ)
 more_lines passed left = if list_any is_newline passed then (Fault MultipleSkippedLinesWarning, left) ∷ [] else []
 
--- a warning where other white space follows, that marks its first character too
+-- a warning if other white space follows what is skipped. It covers the first character of that too
 abbrev pub more_space : List ℕ → List (Element × List ℕ)
 more_space [] = []
 more_space (c ∷ s) = if is_whitespace c then (Fault UnskippedWhitespaceWarning, s) ∷ [] else []
 
--- past a backslash and a newline
+-- the step after a backslash and a newline
 abbrev pub line_end : List ℕ → Front
 line_end s = record {
   told = more_lines (front_run is_passed_over s) (past_run is_passed_over s) ++ more_space (past_run is_passed_over s);
   left = past_run is_passed_over s;
 }
 
--- past a backslash
+-- the step after a backslash
 abbrev pub past_backslash : List ℕ → Front
 past_backslash [] = one (escape [])
 past_backslash (c ∷ s) = if is_newline c then line_end s else one (escape (c ∷ s))
 
--- a character that is not escaped: a double quote and a carriage return have to be
+-- an unescaped character. A double quote or a carriage return is an error, since it has to be escaped
 abbrev pub unescaped : ℕ → Element
 unescaped c =
     if c == byte "\"" then Fault EscapeOnlyChar else
     if c == 13 then Fault BareCarriageReturn else
     Plain c
 
--- the front of what begins with the character `c`
+-- the step that reads the character `c` before `s`
 unfoldable pub front : ℕ → List ℕ → Front
 front c s = if c == byte "\\" then past_backslash s else one (unescaped c, s)
 
--- the front of a raw string's text: each character is itself, but for a carriage return
+-- a step in a raw string: each character stands for itself, but a carriage return is an error
 abbrev pub raw_element : ℕ → Element
 raw_element c = if c == 13 then Fault BareCarriageReturnInRawString else Plain c
 
@@ -74,29 +74,29 @@ abbrev pub front_by : Bool → ℕ → List ℕ → Front
 front_by true = raw_front
 front_by false = front
 
--- a list that is not empty begins with this element alone, and this is left past it
+-- a list that is not empty begins with this element, without a warning, and `left` is the text after it
 abbrev pub StartsWithOne : Bool → List ℕ → Element → List ℕ → Type 0
 StartsWithOne raw [] element left = ⊥
 StartsWithOne raw (c ∷ s) element left = front_by raw c s ≡ one (element, left)
 
--- an element and its place
+-- an element and its range of bytes
 abbrev pub Item : Type 0
 Item = Range ℕ × Element
 
--- the place in a text of `total` bytes before what is left of it
+-- the offset of the rest `left` in a text of `total` bytes
 abbrev pub place : ℕ → List ℕ → ℕ
 place total left = total - length (encode_utf8_all left)
 
 abbrev pub item_at : ℕ → ℕ → Element × List ℕ → Item
 item_at total start told = (record { start = start; end = place total told.1 }, told.0)
 
--- the items of what is left of a text of `total` bytes, in no more than `count` steps
+-- the items of the rest of a text of `total` bytes, in at most `count` steps
 abbrev pub items_in : (ℕ → List ℕ → Front) → ℕ → ℕ → List ℕ → List Item
 items_in at zero total s = []
 items_in at (suc count) total [] = []
 items_in at (suc count) total (c ∷ s) = map (item_at total (place total (c ∷ s))) (at c s).told ++ items_in at count total (at c s).left
 
--- each step takes a character at least
+-- all items: a text has at most as many steps as characters, since each step takes at least one
 unfoldable pub items_from : (ℕ → List ℕ → Front) → ℕ → List ℕ → List Item
 items_from at total s = items_in at (length s) total s
 
@@ -104,7 +104,7 @@ items_from at total s = items_in at (length s) total s
 abbrev pub items_of : Bool → List ℕ → List Item
 items_of raw text = items_from (front_by raw) (length text) (chars text)
 
--- an iterator whose items left are a list: it takes the first, and with none left it stays so
+-- what `next` does if the iterator has this list of items left: it takes the first, or returns None if there is none
 abbrev pub TakesFirst : {A : Type 0} → List A → Option A → List A → Type 0
 TakesFirst s None t = (s ≡ []) × (t ≡ [])
 TakesFirst s (Some item) t = s ≡ item ∷ t

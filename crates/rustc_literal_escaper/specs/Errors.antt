@@ -13,7 +13,7 @@ use Rattle.rustc_literal_escaper.specs.Elements.{Item, items_of, place}
 use Rattle.rustc_literal_escaper.specs.Meaning.{byte_of, char_of, raw_unit_of, unit_of}
 use Rattle.rustc_literal_escaper.specs.Single.{single}
 
--- what is wrong with an element, in a literal of this kind
+-- the error of an element in a literal of this kind, if it has one
 abbrev pub error_of : Mode → Element → Option EscapeError
 error_of Char element = result_err (char_of element)
 error_of Str element = result_err (char_of element)
@@ -30,7 +30,7 @@ is_raw RawByteStr = true
 is_raw RawCStr = true
 is_raw mode = false
 
--- an error and its place
+-- an error and its range of bytes
 abbrev pub Error : Type 0
 Error = Range ℕ × EscapeError
 
@@ -38,12 +38,13 @@ abbrev pub put : Range ℕ → Option EscapeError → List Error → List Error
 put range None errors = errors
 put range (Some error) errors = (range, error) ∷ errors
 
--- those of a list of items, in order
+-- the errors of a list of items, in order
 abbrev pub errors_in : Mode → List Item → List Error
 errors_in mode [] = []
 errors_in mode (item ∷ items) = put item.0 (error_of mode item.1) (errors_in mode items)
 
--- between single quotes there is one at most: it marks the text from its front up to the character that shows it
+-- between single quotes there is at most one error. Its range begins at the start of the text, and ends after the
+-- character that shows the error
 abbrev pub error_to : ℕ → EscapeError → List ℕ → Option Error
 error_to total error left = Some (record { start = 0; end = place total left }, error)
 

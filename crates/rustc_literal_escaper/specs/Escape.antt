@@ -1,5 +1,5 @@
--- The escapes: what may follow a backslash, what it is, and what is left past it. A fault takes the characters up to the one
--- that shows it.
+-- The escapes: what may follow a backslash, what it stands for, and which text is left after it. An error covers the
+-- characters up to and including the one that shows it.
 use Rattle.std.specs.Prelude.{ℕ, ◌+◌, ◌*◌, ◌==◌, ◌||◌, nat_le, Bool, if◌then◌else◌, List, [], ◌∷◌, length, fold, filter}
 use Rattle.std.specs.Char.{digit_value, is_digit}
 use Rattle.std.specs.Str.{byte}
@@ -11,7 +11,7 @@ use Rattle.rustc_literal_escaper.specs.Runs.{front_run, past_run}
 abbrev pub is_hex : ℕ → Bool
 is_hex c = is_digit c 16
 
--- the escapes of one character: NUL, tab, newline, carriage return, and the quotes and the backslash for themselves
+-- the escapes of one character: NUL, tab, newline and carriage return; quotes and the backslash stand for themselves
 abbrev pub short : ℕ → Element
 short c =
     if c == byte "0" then Byte 0 else
@@ -31,18 +31,18 @@ hex (h ∷ l ∷ s) =
     if is_hex h then ((if is_hex l then Byte (digit_value h * 16 + digit_value l) else Fault InvalidCharInHexEscape), s)
     else (Fault InvalidCharInHexEscape, l ∷ s)
 
--- the digits of a number may be joined by underscores
+-- the digits of a number may be separated by underscores
 abbrev pub is_digit_or_underscore : ℕ → Bool
 is_digit_or_underscore c = c == byte "_" || is_hex c
 
 abbrev pub hex_value : List ℕ → ℕ
 hex_value digits = fold (λ value digit. value * 16 + digit_value digit) 0 digits
 
--- the number of at most six digits
+-- the number that these digits are; more than six are an error
 abbrev pub number : List ℕ → Element
 number digits = if nat_le (length digits) 6 then Unicode (hex_value digits) else Fault OverlongUnicodeEscape
 
--- what stands before the closing brace, and what follows: a brace, another character, or nothing
+-- the escape by the digits that were read, and by what follows them: the closing brace, another character, or nothing
 abbrev pub closed : List ℕ → List ℕ → Element × List ℕ
 closed digits [] = (Fault UnclosedUnicodeEscape, [])
 closed digits (c ∷ s) = (if c == byte "}" then number (filter is_hex digits) else Fault InvalidCharInUnicodeEscape, s)
@@ -58,12 +58,12 @@ braced (c ∷ s) =
     if is_hex c then closed_at_run (c ∷ s) else
     (Fault InvalidCharInUnicodeEscape, s)
 
--- `\u`, and between braces a number of hexadecimal digits
+-- the text after `\u`: a number of hexadecimal digits in braces
 abbrev pub unicode : List ℕ → Element × List ℕ
 unicode [] = (Fault NoBraceInUnicodeEscape, [])
 unicode (c ∷ s) = if c == byte "{" then braced s else (Fault NoBraceInUnicodeEscape, s)
 
--- what follows a backslash
+-- the text after a backslash
 abbrev pub escape : List ℕ → Element × List ℕ
 escape [] = (Fault LoneSlash, [])
 escape (c ∷ s) =

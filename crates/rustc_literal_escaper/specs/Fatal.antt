@@ -1,4 +1,4 @@
--- Which faults are errors.
+-- Which errors are fatal.
 use Rattle.std.specs.Prelude.{Bool, true, false}
 use Rattle.rustc_literal_escaper.specs.declared.error.EscapeError.{EscapeError}
 use Rattle.rustc_literal_escaper.specs.declared.error.EscapeError.TheVariants.{UnskippedWhitespaceWarning, MultipleSkippedLinesWarning}

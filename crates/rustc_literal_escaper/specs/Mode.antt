@@ -3,7 +3,7 @@ use Rattle.std.specs.Prelude.{ℕ, List, codes}
 use Rattle.rustc_literal_escaper.specs.declared.mode.Mode.{Mode}
 use Rattle.rustc_literal_escaper.specs.declared.mode.Mode.TheVariants.{Char, Byte, Str, RawStr, ByteStr, RawByteStr, CStr, RawCStr}
 
--- without the `r` of a raw string
+-- the prefix of a literal, without the `r` of a raw string
 abbrev pub prefix_of : Mode → List ℕ
 prefix_of Char = codes ""
 prefix_of Str = codes ""

@@ -1,8 +1,8 @@
--- Where the items of a text lie.
+-- The ranges of the items of a text.
 use Rattle.std.specs.Prelude.{ℕ, ◌<◌, List, All, IsCharBoundary}
 use Rattle.rustc_literal_escaper.specs.Elements.{Item}
 
--- an item marks some bytes, and its place begins and ends between characters
+-- the range of an item is not empty, and begins and ends between characters
 pub record IsPlaced (text : List ℕ) (item : Item) : Type 0 where
   pub not_empty : item.0.start < item.0.end
   pub start : IsCharBoundary text item.0.start

@@ -1,4 +1,4 @@
--- What is told at one place.
+-- What one step reports.
 use Rattle.std.specs.Prelude.{List, ◌++◌}
 use Rattle.std.specs.Option.{option_to_list}
 use Rattle.rustc_literal_escaper.specs.declared.steps.Told.{Told}

@@ -1,4 +1,4 @@
--- Texts and bytes, written so that they stand between double quotes.
+-- Texts and bytes, escaped so that they can be put between double quotes.
 use Rattle.std.specs.Prelude.{◌≡◌, ℕ, false, List, ◌++◌, map, Result, Ok}
 use Rattle.std.specs.Char.Escape.{escape_ascii, escape_default}
 use Rattle.std.specs.List.{flat_map}
@@ -7,15 +7,15 @@ use Rattle.rustc_literal_escaper.specs.declared.element.Element.{Element}
 use Rattle.rustc_literal_escaper.specs.declared.error.EscapeError.{EscapeError}
 use Rattle.rustc_literal_escaper.specs.Elements.{items_of}
 
--- a text: each character as `char::escape_default` writes it
+-- a text, each of whose characters is escaped as by `char::escape_default`
 abbrev pub written_text : List ℕ → List ℕ
 written_text text = flat_map escape_default (chars text)
 
--- bytes: each as `u8::escape_ascii` writes it
+-- bytes, each of which is escaped as by `u8::escape_ascii`
 abbrev pub written_bytes : List ℕ → List ℕ
 written_bytes bytes = flat_map escape_ascii bytes
 
--- what stands between double quotes is these units in order: nothing in it is wrong, and nothing is warned of
+-- a text between double quotes stands for these units in order, without errors and without warnings
 abbrev pub StandsFor : {U : Type 0} → (Element → Result U EscapeError) → List ℕ → List U → Type 0
 StandsFor meaning text units = map (λ item. meaning item.1) (items_of false text) ≡ map Ok units
 

@@ -1,4 +1,4 @@
--- A text in order: what its white space becomes. All else stays.
+-- A text in order: how `tidy` changes its white space. Everything else stays.
 use Rattle.std.specs.Prelude.{◌≡◌, ◌≢◌, ℕ, ◌+◌, ◌-◌, ◌<◌, ◌≤◌, ◌^◌, get_or, ◌==◌, ◌&&◌, ◌||◌, not, Bool, true, false, if◌then◌else◌, List, [], ◌∷◌, ◌++◌, length, take, drop, codes, nat_eq, None, is_none}
 use Rattle.std.specs.List.{list_all}
 use Rattle.std.specs.Option.{option_eq}
@@ -20,7 +20,8 @@ use Rattle.rustc_lexer.specs.laws.Same.{is_same}
 abbrev pub is_blank : ℕ → Bool
 is_blank c = is_among (0x9 ∷ 0xD ∷ 0x20 ∷ []) c
 
--- a text without what is dropped: each character is judged before what is left of those behind it
+-- a text without the characters that are dropped. Whether one is dropped depends on it and on what is left of the text
+-- after it
 abbrev pub without : (List ℕ → ℕ → Bool) → List ℕ → List ℕ
 without drops [] = []
 without drops (c ∷ cs) = if drops (without drops cs) c then without drops cs else c ∷ without drops cs
@@ -33,12 +34,12 @@ is_dropped_before next c = is_blank c && begins (codes "\n") next || c == byte "
 abbrev pub in_order : List ℕ → List ℕ
 in_order space = without is_dropped_before space
 
--- no blank stands right before a newline, and no three newlines in a row
+-- no blank comes directly before a newline, and there are no three newlines in a row
 pub record IsInOrder (space : List ℕ) : Type 0 where
   pub no_blank : (before after : List ℕ) (c : ℕ) → is_blank c ≡ true → space ≡ before ++ (c ∷ codes "\n" ++ after) → ⊥
   pub no_third : (before after : List ℕ) → space ≡ before ++ (codes "\n\n\n" ++ after) → ⊥
 
--- where newlines are: nowhere; or first at a place, behind which the text may be cut
+-- the text has no newline; then: its first newline is at this offset, and the text may be cut after it
 abbrev pub HasNoNewline : List ℕ → Type 0
 HasNoNewline text = (k : ℕ) → k < length text → get_or text k 0 ≢ 10
 
@@ -48,7 +49,7 @@ pub record IsNewline (text : List ℕ) (at : ℕ) : Type 0 where
   pub none : (k : ℕ) → k < at → get_or text k 0 ≢ 10
   pub cut : IsCharBoundary text (at + 1)
 
--- characters that pass stand from `end` up to a place, and right before `end` is none
+-- from `end` up to `place` there are only characters that pass, and the one directly before `end` does not
 pub record IsRunBefore (passes : ℕ → Bool) (text : List ℕ) (place end : ℕ) : Type 0 where
   pub inside : end ≤ place
   pub all : (k : ℕ) → end ≤ k → k < place → passes (get_or text k 0) ≡ true
@@ -63,13 +64,13 @@ abbrev pub is_last : List Token → Bool
 is_last [] = true
 is_last (token ∷ left) = false
 
--- the white space that ends a text is one newline
+-- white space in order; at the end of a text it is one newline
 abbrev pub space_in_order : List ℕ → Bool → List ℕ
 space_in_order space last = if last then codes "\n" else in_order space
 
 -- ---- the tokens that are no white space
 
--- whether only carriage returns stand before the end of a line; `last` says whether the end of the text is one
+-- whether only carriage returns come before the end of the line. `last` says whether the end of the text ends a line
 abbrev pub is_line_end : Bool → List ℕ → Bool
 is_line_end last [] = last
 is_line_end last (c ∷ cs) = c == byte "\n" || c == byte "\r" && is_line_end last cs
@@ -77,11 +78,11 @@ is_line_end last (c ∷ cs) = c == byte "\n" || c == byte "\r" && is_line_end la
 abbrev pub is_return_before : Bool → List ℕ → ℕ → Bool
 is_return_before last next c = c == byte "\r" && is_line_end last next
 
--- a text with unix line ends: no carriage return stands before the end of a line
+-- a text with unix line ends: without the carriage returns before the end of a line
 abbrev pub unix_lines : Bool → List ℕ → List ℕ
 unix_lines last text = without (is_return_before last) text
 
--- no carriage return stands right before a newline, nor at the end where that is the end of a line
+-- no carriage return comes directly before a newline, nor at the end of the text if that ends a line
 pub record IsUnix (last : Bool) (text : List ℕ) : Type 0 where
   pub no_return : (before after : List ℕ) → text ≡ before ++ (codes "\r\n" ++ after) → ⊥
   pub no_last : last ≡ true → (before : List ℕ) → text ≡ before ++ codes "\r" → ⊥
@@ -92,7 +93,7 @@ text_in_order (LineComment doc_style) text = unix_lines true text
 text_in_order (BlockComment doc_style true) text = unix_lines false text
 text_in_order kind text = text
 
--- whether a newline behind the token would become a part of it: nothing closes it, or it is a frontmatter
+-- whether a newline after the token would become a part of it: nothing closes the token, or it is a frontmatter
 abbrev pub is_open_literal : LiteralKind → Bool
 is_open_literal (Char terminated) = not terminated
 is_open_literal (Byte terminated) = not terminated
@@ -110,20 +111,20 @@ is_open (Literal kind suffix_start) = is_open_literal kind
 is_open (Frontmatter has_invalid_preceding_whitespace invalid_infostring) = true
 is_open kind = false
 
--- what comes behind a token: behind the last one a newline
+-- what is added after a token: a newline after the last one, unless it would become a part of the token
 abbrev pub closing : TokenKind → Bool → List ℕ
 closing kind last = if last && not (is_open kind) then codes "\n" else []
 
--- a part of the text that is a token, the last one or another
+-- a token in order, by its text; `last` says whether it is the last one
 abbrev pub part_in_order : TokenKind → List ℕ → Bool → List ℕ
 part_in_order kind part last = if is_space kind then space_in_order part last else text_in_order kind part ++ closing kind last
 
--- a text by its tokens
+-- a text in order, token by token
 abbrev pub code_in_order : List ℕ → List Token → List ℕ
 code_in_order text [] = []
 code_in_order text (token ∷ tokens) = part_in_order token.kind (take token.len text) (is_last tokens) ++ code_in_order (drop token.len text) tokens
 
--- the kinds of the tokens, each with its own text, but white space with none
+-- the kinds of the tokens, each with its text, but white space with an empty text
 abbrev pub parts : List ℕ → List Token → List (TokenKind × List ℕ)
 parts text [] = []
 parts text (token ∷ tokens) = (token.kind, if is_space token.kind then [] else take token.len text) ∷ parts (drop token.len text) tokens
@@ -139,8 +140,8 @@ abbrev pub begins_with : Token → List Token → Bool
 begins_with front [] = false
 begins_with front (token ∷ tokens) = is_same token front
 
--- where a frontmatter is first, what follows it is put in order only if the frontmatter stays the same token: what ends one
--- that is not closed may be white space behind it
+-- if a frontmatter comes first, the text after it is put in order only if the frontmatter stays the same token. If it
+-- is not closed, white space after it may be what ends it
 abbrev pub if_kept : Token → List ℕ → List ℕ → List ℕ
 if_kept front text out = if begins_with front (tokens_of (document E2024) out) then out else text
 
@@ -150,7 +151,7 @@ front_in_order text (token ∷ tokens) =
     if is_front token.kind then if_kept token text (take token.len text ++ code_in_order (drop token.len text) tokens)
     else code_in_order text (token ∷ tokens)
 
--- white space may stand before it
+-- the same for a text that may have white space before its frontmatter
 abbrev pub source_in_order : List ℕ → List Token → List ℕ
 source_in_order text [] = []
 source_in_order text (token ∷ tokens) =
@@ -160,15 +161,15 @@ source_in_order text (token ∷ tokens) =
 abbrev pub source_tidied : List ℕ → List ℕ
 source_tidied text = source_in_order text (tokens_of (document E2024) text)
 
--- a shebang line stays, and what follows it is a source
+-- a document in order: its shebang line stays, and the text after it is put in order
 abbrev pub document_in_order : List ℕ → List ℕ
 document_in_order text = take (shebang_len text) text ++ source_tidied (drop (shebang_len text) text)
 
--- a text of so many bytes has no room for a newline more
+-- a text of this length has no room for another newline
 abbrev pub is_full : List ℕ → Bool
 is_full text = length text == 2 ^ 32 - 1
 
--- a text stays as it is where it is full, and where its shebang line would be another
+-- whether the text may be changed: it has room for another newline, and its shebang line would stay the same
 abbrev pub may_change : List ℕ → Bool
 may_change text = not (is_full text) && option_eq nat_eq (shebang (document_in_order text)) (shebang text)
 
@@ -176,7 +177,7 @@ may_change text = not (is_full text) && option_eq nat_eq (shebang (document_in_o
 unfoldable pub tidied : List ℕ → List ℕ
 tidied text = if may_change text then document_in_order text else text
 
--- what is to stay: the shebang line, and of what follows it the tokens, white space as no more than that it is there
+-- what has to stay: the shebang line, and the tokens of the text after it, but of white space only that it is there
 pub record Solid : Type 0 where
   pub line : List ℕ
   pub parts : List (TokenKind × List ℕ)
@@ -187,7 +188,8 @@ source_parts text = parts text (tokens_of (document E2024) text)
 abbrev pub solid : List ℕ → Solid
 solid text = record { line = take (shebang_len text) text; parts = source_parts (drop (shebang_len text) text) }
 
--- what stays, with the texts of the tokens in order, and white space behind the last one where a newline comes there
+-- what stays, with the texts of the tokens in order, and with white space after the last one if a newline is added
+-- there
 abbrev pub end_parts : TokenKind → List (TokenKind × List ℕ) → List (TokenKind × List ℕ)
 end_parts kind [] = if is_space kind || is_open kind then [] else (Whitespace, []) ∷ []
 end_parts kind (p ∷ ps) = []
@@ -202,9 +204,9 @@ solid_in_order s = record { line = s.line; parts = parts_in_order s.parts }
 abbrev pub is_no_front : Token → Bool
 is_no_front token = not (is_front token.kind)
 
--- what is put in order has the shebang line and the tokens of the text, but for the line ends of comments and a newline at
--- its end, stays as it is, and has at most one byte more; and only a text that is full or has a shebang line or a
--- frontmatter may stay as it is where it is not in order
+-- the result has the shebang line and the tokens of the text, apart from the line ends of comments and a newline at its
+-- end. Putting it in order again changes nothing, and it has at most one byte more. Only a text that is full, or has a
+-- shebang line or a frontmatter, may be left as it is although it is not in order
 pub record IsSound (text : List ℕ) : Type 0 where
   pub solid_same : solid_in_order (solid (tidied text)) ≡ solid_in_order (solid text)
   pub again : tidied (tidied text) ≡ tidied text

@@ -14,13 +14,14 @@ use Rattle.rustc_lexer.specs.means.Frontmatter.{frontmatter, opens, spaces_len}
 use Rattle.rustc_lexer.specs.means.Relexing.{IsRenewed}
 use Rattle.rustc_lexer.specs.means.Scan.{past}
 
--- the head of a text with a shebang line of n bytes, past which `rest` stands, and `past` past the white space there
+-- the head of a text with a shebang line of n bytes. `rest` is the text after that line, and `past` the text after the
+-- white space with which `rest` begins
 abbrev pub head_past : ℕ → List ℕ → List ℕ → Head
 head_past n rest past =
     if opens (chars past) then record { shebang_len = n; space_len = length rest - length past; frontmatter = Some (frontmatter past); body = n + (length rest - length past) + (frontmatter past).len }
     else record { shebang_len = n; space_len = 0; frontmatter = None; body = n }
 
--- the same, where the frontmatter may begin with the white space
+-- the same, but the frontmatter may begin with the white space
 abbrev pub head_at : ℕ → List ℕ → Head
 head_at n rest =
     if opens (chars rest) then record { shebang_len = n; space_len = 0; frontmatter = Some (frontmatter rest); body = n + (frontmatter rest).len }
@@ -30,22 +31,22 @@ head_at n rest =
 unfoldable pub head_of : List ℕ → Head
 head_of text = head_at (shebang_len text) (drop (shebang_len text) text)
 
--- the same of a whole document, and of a part of one, which has no head
+-- the head of a whole document, or that of a part of one, which has none
 abbrev pub head_by : Bool → List ℕ → Head
 head_by true = head_of
 head_by false = λ text. record { shebang_len = 0; space_len = 0; frontmatter = None; body = 0 }
 
--- the tokens of a text, by what its head is: those of the head, and of what follows it
+-- the tokens of a text, if `heads` says what its head is: those of the head, and those of the text after it
 abbrev pub document_by : (List ℕ → Head) → (List ℕ → Token) → List ℕ → List Token
 document_by heads first text = tokens_of_head (heads text) ++ tokens_by first (drop (heads text).body text)
 
--- what is kept with a text: its tokens, its head, and bounds of the tokens of its body
+-- what is kept with a text: its tokens, its head, and boundaries of the tokens of its body
 abbrev pub AreKeptOf : Bool → (List ℕ → Token) → List ℕ → List Token → Head → Checkpoints → Type 0
 AreKeptOf whole first text tokens head checkpoints =
     IsText text × (tokens ≡ document_by (head_by whole) first text) × (head ≡ head_by whole text) × IsCharBoundary text head.body
     × AreBounds (drop (length (tokens_of_head head)) tokens) checkpoints
 
--- what an edit puts into the body
+-- what an edit inserts into the body
 abbrev pub body_insert : Bool → Change → List ℕ → List ℕ → List ℕ
 body_insert kept change insert body = if kept then insert else take change.new_stop body
 
@@ -53,7 +54,7 @@ body_insert kept change insert body = if kept then insert else take change.new_s
 abbrev pub HeadStays : (List ℕ → Head) → List ℕ → ℕ → ℕ → List ℕ → Type 0
 HeadStays heads text start stop insert = (heads text ≡ heads (apply text start stop insert)) × ((heads text).body ≤ start)
 
--- the counts of an edit, where the head stays or does not, by those of the edit of its body
+-- the counts of an edit, from those of the edit of its body, if the head stays or if it does not
 abbrev pub IsRelexedAs : (List ℕ → Token) → List ℕ → ℕ → ℕ → List ℕ → Bool → Head → Head → List ℕ → Relexed → Type 0
 IsRelexedAs first text start stop insert kept old now made r =
     let edit : Change = record { start = start; old_stop = stop; new_stop = start + length insert } in
@@ -61,32 +62,32 @@ IsRelexedAs first text start stop insert kept old now made r =
     (body : Relexed) × IsRelexed first (drop old.body text) change.start change.old_stop (body_insert kept change insert (drop now.body made)) body
     × (r ≡ counted kept (length (tokens_of_head old)) (length (tokens_of_head now)) body)
 
--- the same, by the text alone
+-- the same, by the old text and the edit
 unfoldable pub IsRelexedWith : (List ℕ → Head) → Bool → (List ℕ → Token) → List ℕ → ℕ → ℕ → List ℕ → Relexed → Type 0
 IsRelexedWith heads kept first text start stop insert r =
     IsRelexedAs first text start stop insert kept (heads text) (heads (apply text start stop insert)) (apply text start stop insert) r
 
--- these are the counts of an edit
+-- r has the counts of an edit
 pub record IsRelexedByHead (heads : List ℕ → Head) (first : List ℕ → Token) (text : List ℕ) (start stop : ℕ) (insert : List ℕ) (r : Relexed) : Type 0 where
   pub kept : HeadStays heads text start stop insert → IsRelexedWith heads true first text start stop insert r
   pub changed : (HeadStays heads text start stop insert → ⊥) → IsRelexedWith heads false first text start stop insert r
 
--- the count of steps rose by the tokens that were lexed, except those of a new head
+-- the step count grew by the number of tokens that were lexed, except those of a new head
 pub record IsCountedByHead (heads : List ℕ → Head) (text : List ℕ) (start stop : ℕ) (insert : List ℕ) (before after lexed : ℕ) : Type 0 where
   pub kept : HeadStays heads text start stop insert → after ≡ before + lexed
   pub changed : (HeadStays heads text start stop insert → ⊥) → after + length (tokens_of_head (heads (apply text start stop insert))) ≡ before + lexed
 
--- the head that is put in, where the old one does not stay
+-- the new head, if the old one does not stay
 abbrev pub head_unless : Bool → Head → Option Head
 head_unless true now = None
 head_unless false now = Some now
 
--- the new head's tokens, or those of the old one, which stays
+-- the tokens of the new head, or those of the old one if that stays
 abbrev pub head_put : List Token → Option Head → List Token
 head_put old None = old
 head_put old (Some head) = tokens_of_head head
 
--- the tokens of the head, and behind them those of the body, in place of the old ones
+-- the tokens of the head, and after them those of the body, instead of the old ones
 pub record IsRenewedBehind (first : List ℕ → Token) (body : List ℕ) (change : Change) (made : List ℕ) (count : ℕ) (tokens : List Token) (head : Option Head) (now : List Token) (at : Relexing) : Type 0 where
   pub behind : List Token
   pub renewed : IsRenewed first body change made (drop count tokens) behind at

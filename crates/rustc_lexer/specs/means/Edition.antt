@@ -10,26 +10,26 @@ use Rattle.rustc_lexer.specs.means.Scan.{run_len}
 abbrev pub token : TokenKind → ℕ → Token
 token kind len = record { kind = kind; len = len }
 
--- whether the name that stands after a quote is one that no lifetime of Rust has; the characters begin with the quote
+-- whether the name after a quote is invalid as the name of a lifetime; the characters begin with the quote
 abbrev pub has_marked_name : List ℕ → Bool
 has_marked_name [] = false
 has_marked_name (quote ∷ []) = false
 has_marked_name (quote ∷ c ∷ s) = is_bad_name (c ∷ (take (run_len is_word_continue s) s))
 
--- a token as an edition before 2024 has it, where no guarded string is reserved: a hash is a symbol, whatever follows it
+-- a token as an edition before 2024 has it. It reserves no guarded strings: a hash is a symbol, whatever follows it
 abbrev pub before_2024 : TokenKind → ℕ → Token
 before_2024 GuardedStrPrefix len = token Pound 1
 before_2024 kind len = token kind len
 
--- the token of these characters as an edition before 2021 has it, where no prefix is reserved either: no lifetime is raw,
--- and what stands right before a mark is an identifier or a lifetime, as it is elsewhere
+-- the token of these characters as an edition before 2021 has it. It reserves no prefixes either: no lifetime is raw,
+-- and what newer editions read as a prefix is an identifier or a lifetime
 abbrev pub before_2021 : List ℕ → TokenKind → ℕ → Token
 before_2021 cs RawLifetime len = token (Lifetime false) 2
 before_2021 cs UnknownPrefix len = token Ident len
 before_2021 cs UnknownPrefixLifetime len = token (Lifetime (has_marked_name cs)) len
 before_2021 cs kind len = before_2024 kind len
 
--- the token at the front of these characters, changed to what the edition of a year has in its place
+-- the first token of these characters, changed to what the edition of a year has instead
 abbrev pub changed_in : ℕ → List ℕ → Token → Token
 changed_in year cs t =
     if nat_le 2024 year then t
@@ -39,6 +39,6 @@ changed_in year cs t =
 abbrev pub changed : Edition → List ℕ → Token → Token
 changed edition cs t = changed_in (year edition) cs t
 
--- the token at the front of a text, in an edition
+-- the first token of a text, in an edition
 abbrev pub first_token_in : Edition → List ℕ → Token
 first_token_in edition text = changed edition (chars text) (first_token text)

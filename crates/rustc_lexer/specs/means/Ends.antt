@@ -1,4 +1,4 @@
--- Means, by how it is read: where runs of bytes end, as the bits of a number, and the tokens that these tell.
+-- Means, by how it is read: the ends of runs of bytes, as the bits of a number, and the tokens that these determine.
 use Rattle.std.specs.Prelude.{◌+◌, ◌-◌, ◌^◌, drop, ℕ, zero, suc, Bool, true, false, not, ◌&&◌, ◌||◌, ◌==◌, ◌≡◌, ◌<◌, ◌≤◌, nat_lt, List, length, slice_index, if◌then◌else◌, Option, Some, None}
 use Rattle.std.specs.Int.{bit_at}
 use Rattle.rustc_lexer.specs.declared.entry.ahead.Ahead.{Ahead}
@@ -23,15 +23,15 @@ abbrev pub is_end : List ℕ → ℕ → Bool
 is_end text zero = false
 is_end text (suc k) = not (goes_on (slice_index text k) (slice_index text (suc k)))
 
--- the bits tell the ends of runs, up to the highest that is set
+-- the bits are the ends of runs, up to the highest bit that is set
 abbrev pub IsEnds : List ℕ → ℕ → Type 0
 IsEnds text m = (j : ℕ) → bit m j ≡ true → (j < length text) × ((k : ℕ) → k ≤ j → bit m k ≡ is_end text k)
 
--- the bits tell the ends of runs past a place, up to the highest that is set, and none is set before
+-- the bits are the ends of runs after the index `from`, up to the highest bit that is set, and none up to `from` is set
 abbrev pub AreEndsPast : List ℕ → ℕ → ℕ → Type 0
 AreEndsPast text from m = (j : ℕ) → bit m j ≡ true → (from < j) × (j < length text) × ((k : ℕ) → from < k → k ≤ j → bit m k ≡ is_end text k)
 
--- the same of the bits past the place, where those before may be of tokens that are taken
+-- the same for the bits after `from`; those up to it may be of tokens that were taken already
 abbrev pub TellEndsPast : List ℕ → ℕ → ℕ → Type 0
 TellEndsPast text from m = (j : ℕ) → from < j → bit m j ≡ true → (j < length text) × ((k : ℕ) → from < k → k ≤ j → bit m k ≡ is_end text k)
 
@@ -39,7 +39,7 @@ pub record IsLowest (m low : ℕ) : Type 0 where
   pub set : bit m low ≡ true
   pub least : (k : ℕ) → k < low → bit m k ≡ false
 
--- the kind of a token that the first character, of ASCII, and its run tell
+-- the kind of a token, if its first character, which is in ASCII, and its run determine it
 abbrev pub classified_in : Family → ℕ → Option TokenKind
 classified_in Word c = Some Ident
 classified_in Space c = Some Whitespace
@@ -54,12 +54,12 @@ pub record StaysWithin (kind : TokenKind) (next : ℕ) : Type 0 where
   pub word : kind ≡ Ident → turns_word next ≡ false
   pub space : kind ≡ Whitespace → is_space_lead next ≡ false
 
--- the next token is one of the kind if the lowest of the bits tells it
+-- the next token is of this kind if the lowest bit that is set determines it
 pub record IsTold (text : List ℕ) (at block ends : ℕ) (kind : TokenKind) : Type 0 where
   pub tells : classified (slice_index text at) ≡ Some kind
   pub ahead : AreEndsPast (drop block text) (at - block) ends
 
--- what is known of the text at a place and past it. The bits are those of the bytes from `block` on
+-- what is known about the text from an offset on. The bits are for the bytes from `block` on
 pub record TellsAhead (text : List ℕ) (ahead : Ahead) : Type 0 where
   pub fits : Fits text
   pub bound : IsCharBoundary text ahead.at
@@ -68,13 +68,13 @@ pub record TellsAhead (text : List ℕ) (ahead : Ahead) : Type 0 where
   pub past : TellEndsPast (drop ahead.block text) (ahead.at - ahead.block) ahead.ends
   pub next : (kind : TokenKind) → ahead.told ≡ Some kind → IsTold text ahead.at ahead.block ahead.ends kind
 
--- no token is told at the place
+-- no token is determined at the offset
 pub record IsUntold (text : List ℕ) (old new : Ahead) : Type 0 where
   pub at : new.at ≡ old.at
   pub told : new.told ≡ None
   pub tells : TellsAhead text new
 
--- the token that is told at the place is the first of the text that is left, and the place is past it
+-- the token that is determined at the offset is the first of the text that is left, and the offset moves to its end
 pub record TakesTold (text : List ℕ) (old new : Ahead) (token : Token) : Type 0 where
   pub utf8 : IsUtf8 text
   pub told : old.told ≡ Some token.kind
@@ -83,7 +83,7 @@ pub record TakesTold (text : List ℕ) (old new : Ahead) (token : Token) : Type 
   pub place : new.at ≡ old.at + token.len
   pub tells : TellsAhead text new
 
--- an iterator is told tokens only of a part, and in the newest edition
+-- tokens are determined in advance only in a part, and in the newest edition
 pub record KnowsAhead (allowed : FrontmatterAllowed) (edition : Edition) (text : List ℕ) (ahead : Ahead) : Type 0 where
   pub tells : TellsAhead text ahead
   pub newest : (kind : TokenKind) → ahead.told ≡ Some kind → (allowed ≡ No) × (edition ≡ E2024)

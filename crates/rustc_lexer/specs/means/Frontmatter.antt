@@ -38,7 +38,7 @@ fence_len s = run_len is_dash (drop (spaces_len s) s)
 abbrev pub blanks_len : List ℕ → ℕ
 blanks_len s = run_len is_horizontal_whitespace s
 
--- an infostring, if one stands here; it begins as an identifier does
+-- an infostring, if there is one here. It begins as an identifier does
 abbrev pub infostring_len : List ℕ → ℕ
 infostring_len s = if next_is is_id_start s then 1 + run_len is_info (drop 1 s) else 0
 
@@ -56,26 +56,26 @@ ends_line [] = false
 ends_line (c ∷ []) = is_newline c
 ends_line (c ∷ d ∷ s) = ends_line (d ∷ s)
 
--- whether three dashes stand past the white space in front, which ends no line
+-- whether three dashes follow the white space at the start, which does not end in a newline
 abbrev pub opens : List ℕ → Bool
 opens s = begins (dashes 3) (drop (spaces_len s) s) && not (ends_line (take (spaces_len s) s))
 
--- The closing, which is read by bytes: each pattern is in ASCII. `rest` is what follows the opening.
+-- The closing, which is read by bytes: each pattern is in ASCII. `rest` is the text after the opening.
 
--- the least place where the pattern stands
+-- the offset of the first occurrence of the pattern
 abbrev pub first : List ℕ → List ℕ → Option ℕ
 first pattern rest = least_place (begins pattern) rest
 
--- a place that was found before, or this one if it is such
+-- an offset that was found before, or this one if the test holds here
 abbrev pub or_here : Option ℕ → Bool → ℕ → Option ℕ
 or_here (Some found) here place = Some found
 or_here None here place = if here then Some place else None
 
--- the first newline at or past a place, or the end
+-- the offset of the first newline that is not before this offset, or the end of the text
 abbrev pub line_end : ℕ → List ℕ → ℕ
 line_end place rest = place + run_len is_inline (drop place rest)
 
--- up to the end of the line that a newline begins, and of the line that a place is in
+-- the end of the line that the newline at an offset begins; then the end of the line that an offset is in
 abbrev pub past_newline : List ℕ → Option ℕ → Option ℕ
 past_newline rest None = None
 past_newline rest (Some place) = Some (line_end (suc place) rest)
@@ -91,7 +91,7 @@ full_fence n rest = past_newline rest (first (newline ∷ dashes n) rest)
 abbrev pub short_fence : List ℕ → Option ℕ
 short_fence rest = past_newline rest (first (newline ∷ dashes 3) rest)
 
--- before a line on which Rust begins: a `use` item, a doc comment or an attribute of what it stands in
+-- the offset before a line on which Rust code begins: a `use` item, an inner doc comment or an inner attribute
 abbrev pub use_item : List ℕ → Option ℕ
 use_item rest = first (newline ∷ codes "use ") rest
 
@@ -101,8 +101,8 @@ inner_doc rest = first (newline ∷ codes "//!") rest
 abbrev pub inner_attribute : List ℕ → Option ℕ
 inner_attribute rest = first (newline ∷ codes "#![") rest
 
--- the places of a pattern from the left, each at or past the end of the one before it. The first `skip` bytes belong
--- to that one, and `place` bytes stand before them
+-- the offsets at which a pattern occurs, from the left, each not before the end of the one before it. The first `skip`
+-- bytes belong to that one, and `place` bytes come before these bytes
 abbrev pub places_from : List ℕ → ℕ → ℕ → List ℕ → List ℕ
 places_from pattern skip place [] = []
 places_from pattern (suc skip) place (b ∷ bs) = places_from pattern skip (suc place) bs
@@ -113,12 +113,13 @@ places_from pattern zero place (b ∷ bs) =
 abbrev pub places : List ℕ → List ℕ → List ℕ
 places pattern rest = places_from pattern 0 0 rest
 
--- just past the last newline before a place, or 0
+-- the offset directly after the last newline before an offset, or 0
 abbrev pub line_start : ℕ → List ℕ → ℕ
 line_start zero rest = 0
 line_start (suc place) rest = if is_newline (slice_index rest place) then suc place else line_start place rest
 
--- whether only spaces and tabs stand before a place: on its line, and past `end`, where the pattern last stood
+-- whether only spaces and tabs come before an offset: on its line, and after `end`, the end of the previous occurrence
+-- of the pattern
 abbrev pub stands_alone : ℕ → ℕ → List ℕ → Bool
 stands_alone end place rest = list_all is_horizontal_whitespace (drop (max end (line_start place rest)) (take place rest))
 
@@ -127,11 +128,11 @@ abbrev pub first_alone : ℕ → List ℕ → List ℕ → Option ℕ
 first_alone end [] rest = None
 first_alone end (place ∷ places) rest = if stands_alone end place rest then Some place else first_alone (place + 3) places rest
 
--- a line on which such dashes stand
+-- the end of the line that has such dashes
 abbrev pub lone_dashes : List ℕ → Option ℕ
 lone_dashes rest = past_place rest (first_alone 0 (places (dashes 3) rest) rest)
 
--- the first of these that there is
+-- the first of these that is Some, or `otherwise`
 abbrev pub first_some : List (Option ℕ) → ℕ → ℕ
 first_some [] otherwise = otherwise
 first_some (None ∷ options) otherwise = first_some options otherwise
@@ -144,13 +145,13 @@ recoveries rest = short_fence rest ∷ use_item rest ∷ inner_doc rest ∷ inne
 unfoldable pub recovery : List ℕ → ℕ
 recovery rest = first_some (recoveries rest) (length rest)
 
--- where the frontmatter ends, by the first of these that applies; with none of them it takes all
+-- the end of the frontmatter, by the first of these that applies. If none does, it takes everything
 unfoldable pub closing_end : ℕ → List ℕ → ℕ
 closing_end n rest = first_some (full_fence n rest ∷ recoveries rest) (length rest)
 
 -- The token.
 
--- what follows the opening
+-- the text after the opening
 unfoldable pub past_opening : List ℕ → List ℕ
 past_opening text = past (opening_len (chars text)) text
 

@@ -15,31 +15,32 @@ abbrev pub is_odd : ℕ → Bool
 is_odd zero = false
 is_odd (suc n) = not (is_odd n)
 
--- an odd number of backslashes stands directly before the place
+-- whether an odd number of backslashes comes directly before the offset
 abbrev pub is_escaped : List ℕ → ℕ → Bool
 is_escaped s place = is_odd (run_len is_backslash (reverse (take place s)))
 
--- the least place that is not escaped, and where what follows passes a test
+-- the least offset that is not escaped, and from which on the text passes a test
 abbrev pub free_place : (List ℕ → Bool) → List ℕ → Option ℕ
 free_place test s = least (λ place. not (is_escaped s place) && test (drop place s)) (length s)
 
--- at the place of a stop: closed, with the quote taken, or not, with nothing of the stop taken; with no stop all is taken
+-- the end of a quoted text, by the offset of its stop. If the stop is the quote, the text is closed and takes it. If it
+-- is another stop, the text is not closed and ends before it. Without a stop it takes everything
 abbrev pub stopped : ℕ → Option ℕ → List ℕ → Bool × ℕ
 stopped quote None s = (false, length s)
 stopped quote (Some n) s = if begins (quote ∷ []) (drop n s) then (true, suc n) else (false, n)
 
--- a quoted text goes up to its first stop that is not escaped; whether it is closed, and how much it takes
+-- a quoted text goes up to its first stop that is not escaped: whether it is closed, and how many characters it takes
 abbrev pub quoted : ℕ → (List ℕ → Bool) → List ℕ → Bool × ℕ
 quoted quote stop s = stopped quote (free_place stop s) s
 
--- between double quotes nothing but the quote stops
+-- between double quotes, only the quote is a stop
 abbrev pub at_double_quote : List ℕ → Bool
 at_double_quote s = begins (codes "\"") s
 
 abbrev pub double_quoted_string : List ℕ → Bool × ℕ
 double_quoted_string s = quoted (byte "\"") at_double_quote s
 
--- between single quotes the quote stops, and so do a slash, and a newline that no quote follows
+-- between single quotes, the quote is a stop, and so are a slash, and a newline that no quote follows
 abbrev pub at_single_stop : List ℕ → Bool
 at_single_stop s = begins (codes "'") s || begins (codes "/") s || (begins (codes "\n") s && not (begins (codes "\n'") s))
 
@@ -50,7 +51,7 @@ is_lone s = not (begins (codes "\\") s) && begins (codes "'") (drop 1 s)
 abbrev pub single_quoted_string : List ℕ → Bool × ℕ
 single_quoted_string s = if is_lone s then (true, 2) else quoted (byte "'") at_single_stop s
 
--- the literal of a quoted text takes a suffix where it is closed
+-- the literal of a quoted text takes a suffix if it is closed
 abbrev pub quoted_body : (Bool → LiteralKind) → (List ℕ → Bool × ℕ) → List ℕ → Body × ℕ
 quoted_body kind scan s = (record { kind = kind (scan s).0; takes_suffix = (scan s).0 }, (scan s).1)
 
@@ -69,8 +70,8 @@ char_body s = quoted_body Char single_quoted_string s
 abbrev pub byte_body : List ℕ → Body × ℕ
 byte_body s = quoted_body Byte single_quoted_string s
 
--- by what a literal in quotes begins with, past the first character of that: whether it is closed, and how much its body
--- takes, with a quote that stands behind a letter
+-- the text after the first character of a quoted literal, by what the literal begins with: whether it is closed, and
+-- how many characters its body takes, with the quote if that comes after a letter
 abbrev pub quoted_string : QuotedPrefix → List ℕ → Bool × ℕ
 quoted_string Single s = single_quoted_string s
 quoted_string BSingle s = after 1 single_quoted_string s

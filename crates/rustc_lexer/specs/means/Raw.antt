@@ -9,11 +9,11 @@ use Rattle.rustc_lexer.specs.means.Literal.{Body, literal_past}
 use Rattle.rustc_lexer.specs.means.Scan.{IsLocalAt, after, bytes_of, gives, next_is, past, run_len}
 pub use Rattle.rustc_lexer.specs.LanguageCalls.{StartsRaw}
 
--- the least place from which the text passes a test
+-- the least offset from which on the text passes a test
 abbrev pub least_place : (List ℕ → Bool) → List ℕ → Option ℕ
 least_place test s = least (λ place. test (drop place s)) (length s)
 
--- the greatest value at a number below `count`, or 0
+-- the greatest value of f for a number less than `count`, or 0
 abbrev pub greatest : (ℕ → ℕ) → ℕ → ℕ
 greatest f zero = 0
 greatest f (suc count) = max (f 0) (greatest (λ i. f (suc i)) count)
@@ -30,38 +30,38 @@ is_quote c = c == byte "\""
 abbrev pub is_no_quote : ℕ → Bool
 is_no_quote c = not (is_quote c)
 
--- how many hashes stand at the front
+-- how many hashes the text begins with
 abbrev pub hash_run : List ℕ → ℕ
 hash_run s = run_len is_hash s
 
--- a quote stands at the front, and at least n hashes directly after it
+-- whether the text begins with a quote and at least n hashes directly after it
 abbrev pub closes : ℕ → List ℕ → Bool
 closes n s = next_is is_quote s && nat_le n (hash_run (drop 1 s))
 
--- the least place of a quote that at least n hashes follow
+-- the offset of the first quote that at least n hashes follow
 abbrev pub close : ℕ → List ℕ → Option ℕ
 close n u = least_place (closes n) u
 
--- how many hashes stand directly after the quote at the front; 0 where there is no quote
+-- how many hashes come directly after the quote with which the text begins, or 0 if it begins with none
 abbrev pub quote_hashes : List ℕ → ℕ
 quote_hashes s = if next_is is_quote s then hash_run (drop 1 s) else 0
 
--- the most hashes that stand directly after a quote
+-- the largest number of hashes directly after a quote
 abbrev pub most_hashes : List ℕ → ℕ
 most_hashes u = greatest (λ place. quote_hashes (drop place u)) (length u)
 
--- the least place of a quote with m hashes, where m is not 0
+-- the offset of the first quote with m hashes, for an m that is not 0
 abbrev pub quote_with : ℕ → List ℕ → Option ℕ
 quote_with m u = least_place (λ s. quote_hashes s == m) u
 
 abbrev pub quote_if : ℕ → List ℕ → Option ℕ
 quote_if m u = if m == 0 then None else quote_with m u
 
--- the place of the best quote: the first of those with the most hashes, if there are any hashes
+-- the offset of the best quote: the first of those with the most hashes, if any quote has hashes
 abbrev pub best_quote : List ℕ → Option ℕ
 best_quote u = quote_if (most_hashes u) u
 
--- where the quote at this place ends, in bytes; `before` of them stand before u
+-- the offset at which the quote at this place ends, in bytes, if `before` bytes come before u
 abbrev pub quote_end : ℕ → List ℕ → Option ℕ → Option ℕ
 quote_end before u None = None
 quote_end before u (Some place) = Some (before + bytes_of (suc place) u)
@@ -70,20 +70,21 @@ quote_end before u (Some place) = Some (before + bytes_of (suc place) u)
 abbrev pub hash_count : ℕ → Result ℕ RawStrError
 hash_count n = if nat_le n 255 then Ok n else Err (TooManyDelimiters n)
 
--- closed at a place: up to just past n hashes after the quote there; not closed: all of the text
+-- a string that is closed by the quote at this place ends after the n hashes that follow it. One that is not closed
+-- takes the whole text
 abbrev pub raw_closed : ℕ → ℕ → List ℕ → Option ℕ → Result ℕ RawStrError × ℕ
 raw_closed n before u (Some place) = (hash_count n, suc place + n)
 raw_closed n before u None = (Err (NoTerminator n (most_hashes u) (quote_end before u (best_quote u))), length u)
 
--- what follows n hashes and a quote; an offset counts `before` bytes for what stands before
+-- the text after n hashes and a quote. An offset counts `before` bytes in front of it
 abbrev pub raw_text : ℕ → ℕ → List ℕ → Result ℕ RawStrError × ℕ
 raw_text n before u = raw_closed n before u (close n u)
 
--- what follows the character that should be a quote
+-- the text after the character that should be a quote
 abbrev pub past_starter : ℕ → ℕ → ℕ → List ℕ → Result ℕ RawStrError × ℕ
 past_starter prefix n c u = if is_quote c then raw_text n (prefix + suc n) u else gives (Err (InvalidStarter c)) u
 
--- a quote stands behind n hashes, none or one, and `body` is what follows it
+-- the text begins with n hashes, none or one, and a quote, and `body` is the text after it
 pub record OpensShort (text : List ℕ) (n : ℕ) (body : List ℕ) : Type 0 where
   pub few : n ≤ 1
   pub hashes : n ≡ hash_run (chars text)
@@ -91,13 +92,13 @@ pub record OpensShort (text : List ℕ) (n : ℕ) (body : List ℕ) : Type 0 whe
   pub behind : body ≡ past (suc n) text
   pub shorter : suc n + length body ≡ length text
 
--- what follows n hashes; the end of the text counts as U+0000
+-- the text after n hashes. The end of the text counts as U+0000
 abbrev pub raw_starter : ℕ → ℕ → List ℕ → Result ℕ RawStrError × ℕ
 raw_starter prefix n [] = (Err (InvalidStarter 0), 0)
 raw_starter prefix n (c ∷ u) = ((past_starter prefix n c u).0, suc (past_starter prefix n c u).1)
 
--- what follows the `r`: the number of hashes on each side, or why the string is refused. An offset counts `prefix`
--- bytes for what stands before
+-- the text after the `r`: the number of hashes on each side, or why the string is refused. An offset counts `prefix`
+-- bytes in front of it
 abbrev pub raw_read : ℕ → List ℕ → Result ℕ RawStrError × ℕ
 raw_read prefix s = after (hash_run s) (raw_starter prefix (hash_run s)) s
 
@@ -110,7 +111,7 @@ abbrev pub is_accepted : Result ℕ RawStrError → Bool
 is_accepted (Ok n) = true
 is_accepted (Err e) = false
 
--- what follows the `r`, as the body of a literal: it takes a suffix where it is not refused
+-- the text after the `r`, as the body of a literal. It takes a suffix if it is not refused
 abbrev pub raw_body_by : (Option ℕ → LiteralKind) → Result ℕ RawStrError × ℕ → Body × ℕ
 raw_body_by kind read = (record { kind = kind (accepted read.0); takes_suffix = is_accepted read.0 }, read.1)
 
@@ -127,7 +128,7 @@ prefix_len R = 1
 prefix_len Br = 2
 prefix_len Cr = 2
 
--- what follows the prefix
+-- the text after the prefix
 abbrev pub raw_literal : RawPrefix → List ℕ → TokenKind × ℕ
 raw_literal prefix s = literal_past (prefix_len prefix) (raw_body (prefix_kind prefix) s) s
 
@@ -139,13 +140,13 @@ checked (Err e) = Err e
 unfoldable pub check_raw : List ℕ → ℕ → Result Unit RawStrError
 check_raw text p = checked (raw_read p (drop p (chars text))).0
 
--- what is read has an end of its own, and not the end of the text; v is what follows the first hashes
+-- the string has an end of its own, other than the end of the text; v is the text after the first hashes
 abbrev pub HasEnd : List ℕ → Result ℕ RawStrError → Type 0
 HasEnd v (Ok n) = Unit {0}
 HasEnd v (Err (TooManyDelimiters n)) = Unit {0}
 HasEnd v (Err (InvalidStarter c)) = 0 < length v
 HasEnd v (Err (NoTerminator n m end)) = ⊥
 
--- what has an end of its own depends on nothing past it
+-- a string with an end of its own depends on nothing after it
 abbrev pub EndsItself : ℕ → Type 0
 EndsItself prefix = (s : List ℕ) → HasEnd (drop (hash_run s) s) (raw_read prefix s).0 → IsLocalAt (Result ℕ RawStrError) 0 (raw_read prefix) s

@@ -13,21 +13,21 @@ use Rattle.rustc_lexer.specs.Edits.{IsBound, apply, ends_from, kept_front, known
 
 -- ---- what an edit keeps, by a search for the meeting
 
--- whether a place of the new text is past the edit, which ends at `new_stop` there and at `old_stop` in the old text,
--- and, moved back, a bound of the old tokens: 0 or the end of one
+-- whether an offset of the new text is not before the end of the edit, which is `new_stop` there and `old_stop` in the
+-- old text, and, moved back by the edit, is a boundary of the old tokens
 abbrev pub meets_at : List Token → ℕ → ℕ → ℕ → Bool
 meets_at old old_stop new_stop place = nat_le new_stop place && list_any (nat_eq (place - new_stop + old_stop)) (0 ∷ ends_from 0 old)
 
--- the first number from j on that passes the test, of at most n
+-- the first number from j on that passes the test, or j + n if none of the n numbers from j on does
 abbrev pub least_from : (ℕ → Bool) → ℕ → ℕ → ℕ
 least_from test zero j = j
 least_from test (suc n) j = cond (test j) j (least_from test n (suc j))
 
--- the number of the bound of the new tokens at which lexing from bound k meets the old ones
+-- the number of the boundary of the new tokens at which lexing from boundary k on meets the old ones
 unfoldable pub meet : List Token → List Token → ℕ → ℕ → ℕ → ℕ
 meet old new old_stop new_stop k = least_from (λ j. meets_at old old_stop new_stop (bound new j)) (length new - k) k
 
--- what an edit keeps of the old tokens, and how many it lexes
+-- the counts of an edit: how many old tokens it keeps at the front and at the back, and how many it lexes
 unfoldable pub relexed_of : (List ℕ → Token) → List ℕ → ℕ → ℕ → List ℕ → Relexed
 relexed_of first text start stop insert =
     let old : List Token = tokens_by first text in
@@ -37,9 +37,10 @@ relexed_of first text start stop insert =
     let j : ℕ = meet old new stop new_stop k in
     record { kept_front = k; lexed = j - k; kept_back = count_by (nat_lt (bound new j - new_stop + stop)) (ends_from 0 old) }
 
--- relexing stands at a bound of the new tokens, past the kept front and not past the meeting. Its bound of the old
--- tokens is the kept front before the end of the edit, and then the first that is not before its place, moved back, or
--- the last one
+-- relexing is at a boundary of the new tokens, not before the end of the kept front and not after the meeting point.
+-- `back` is a boundary of the old tokens. It is the end of the kept front as long as relexing is before the end of the
+-- edit. After that it is the first boundary that is not before the present offset, moved back by the edit, or the last
+-- boundary
 pub record Stands (first : List ℕ → Token) (old : List ℕ) (change : Change) (text : List ℕ) (at : Relexing) : Type 0 where
   pub front_number : at.front.number ≡ kept_front old (tokens_by first old) change.start
   pub front_bound : IsBound (tokens_by first old) at.front
@@ -56,8 +57,8 @@ pub record Stands (first : List ℕ → Token) (old : List ℕ) (change : Change
   pub reached : change.new_stop ≤ at.at → at.back.number < length (tokens_by first old)
       → at.at - change.new_stop + change.old_stop ≤ at.back.place
 
--- so many bytes on from where relexing stands, the new tokens cannot have met the old ones: they are inside what was put
--- in, or past its end, up to the bound of the old tokens, moved
+-- up to this many bytes after the present offset, the new tokens cannot have met the old ones: these bytes are inside
+-- the insertion, or after it and not beyond `back`, moved by the edit
 pub record IsApart (text : List ℕ) (change : Change) (at : Relexing) (bytes : ℕ) : Type 0 where
   pub inside : at.at + bytes ≤ length text
   pub early : at.at < change.new_stop → at.at + bytes ≤ change.new_stop
@@ -65,7 +66,7 @@ pub record IsApart (text : List ℕ) (change : Change) (at : Relexing) (bytes : 
 
 -- ---- the parts
 
--- each bound of the tokens is inside the text, between characters
+-- each boundary of the tokens is inside the text, between characters
 abbrev pub AreBoundaries : List ℕ → List Token → Type 0
 AreBoundaries text tokens = (k : ℕ) → k ≤ length tokens → IsCharBoundary text (bound tokens k)
 
@@ -73,7 +74,7 @@ AreBoundaries text tokens = (k : ℕ) → k ≤ length tokens → IsCharBoundary
 abbrev pub HasLengths : List Token → List ℕ → Type 0
 HasLengths tokens lengths = lengths ≡ map (λ (t : Token). t.len) tokens
 
--- the old text, which may be cut at the bounds of the tokens, and the new one are the same up to `start`
+-- the old text, whose token boundaries are between characters, and the new one are the same up to `start`
 pub record IsFront (old : List ℕ) (tokens : List Token) (lengths text : List ℕ) (start : ℕ) : Type 0 where
   pub utf8 : IsUtf8 old
   pub cuts : AreBoundaries old tokens
@@ -84,15 +85,16 @@ pub record IsFront (old : List ℕ) (tokens : List Token) (lengths text : List �
 abbrev pub damage_of : List ℕ → Change → Damage
 damage_of text change = record { past = change.new_stop; added = change.new_stop - change.start; removed = change.old_stop - change.start; end = length text }
 
--- where its end was in the old text
+-- the end of the change in the old text
 abbrev pub old_stop_of : Damage → ℕ
 old_stop_of damage = damage.past - damage.added + damage.removed
 
--- the last bound of the tokens is here, and no other
+-- the last boundary of the tokens, and no other, is at this offset
 abbrev pub IsLast : List Token → ℕ → Type 0
 IsLast tokens place = (bound tokens (length tokens) ≡ place) × ((k : ℕ) → k < length tokens → bound tokens k < place)
 
--- a place of the new text was followed to a bound of the old tokens, and whether it meets it
+-- the old tokens were followed to boundary `back` for an offset of the new text, and `met` says whether that offset
+-- meets the old tokens
 pub record IsFollowed (old : List Token) (old_stop new_stop place : ℕ) (back : Bound) (met : Bool) : Type 0 where
   pub bound_is : IsBound old back
   pub below : (k : ℕ) → k < back.number → bound old k + new_stop < max new_stop place + old_stop
@@ -106,7 +108,8 @@ pub record IsLexed (first : List ℕ → Token) (old : List ℕ) (change : Chang
   pub lexed : at.lexed ≡ length tokens
   pub tokens_are : drop at.front.number (tokens_by first text) ≡ tokens ++ drop (known at) (tokens_by first text)
 
--- the tokens of the old text are replaced by those of the new one: the kept front and back stay, and what was lexed is between
+-- the tokens of the old text are replaced by those of the new one: the kept front and back stay, and the lexed tokens
+-- come in between
 pub record IsRenewed (first : List ℕ → Token) (old : List ℕ) (change : Change) (text : List ℕ) (tokens now : List Token) (at : Relexing) : Type 0 where
   pub lexed : List Token
   pub lexed_is : IsLexed first old change text lexed at

@@ -1,52 +1,53 @@
--- Means, by how it is read: scanners: what is read at the front of a list of characters, and how many of them are taken.
+-- Means, by how it is read: scanners. A scanner reads a prefix of a list of characters, and returns what it read and
+-- how many characters it took.
 use Rattle.std.specs.Prelude.{ℕ, suc, ◌≡◌, ◌+◌, ◌≤◌, Bool, true, false, if◌then◌else◌, List, [], ◌∷◌, length, take, drop, Option, Some, None}
 use Rattle.std.specs.Str.{chars, encode_utf8_all}
 use Rattle.rustc_lexer.specs.{Token, TokenKind}
 pub use Rattle.rustc_lexer.specs.Classes.{begins, next_is}
 
--- what is read of this text depends on no more than `reach` characters past what is taken: a text that has the same first
--- characters up to there, or ends with this one before that, is read alike
+-- what the scanner reads in this text depends on at most `reach` characters after those that it takes. It reads the
+-- same in every text that has the same characters up to there, or that ends where this one ends before that
 pub record IsLocalAt (A : Type 0) (reach : ℕ) (scan : List ℕ → A × ℕ) (s : List ℕ) : Type 0 where
   pub inside : (scan s).1 ≤ length s
   pub local : (u : List ℕ) → take ((scan s).1 + reach) u ≡ take ((scan s).1 + reach) s → scan u ≡ scan s
 
--- so it is with each text
+-- the same for every text
 abbrev pub IsLocal : (A : Type 0) → ℕ → (List ℕ → A × ℕ) → Type 0
 IsLocal A reach scan = (s : List ℕ) → IsLocalAt A reach scan s
 
--- one scanner, then the next on what it left
+-- one scanner, and then the next one on the text that it left
 abbrev pub then_by : {A B : Type 0} → (A × ℕ) → List ℕ → (A → List ℕ → B × ℕ) → B × ℕ
 then_by a s next = ((next a.0 (drop a.1 s)).0, a.1 + (next a.0 (drop a.1 s)).1)
 
 abbrev pub and_then : {A B : Type 0} → (List ℕ → A × ℕ) → (A → List ℕ → B × ℕ) → List ℕ → B × ℕ
 and_then scan next s = then_by (scan s) s next
 
--- nothing taken
+-- a scanner that takes nothing
 abbrev pub gives : {A : Type 0} → A → List ℕ → A × ℕ
 gives a s = (a, 0)
 
--- the same characters, with another answer
+-- a scanner that takes the same characters and returns another answer
 abbrev pub read_as : {A B : Type 0} → (A → B) → (List ℕ → A × ℕ) → List ℕ → B × ℕ
 read_as f scan s = (f (scan s).0, (scan s).1)
 
--- past the first n characters
+-- a scanner that starts after the first n characters
 abbrev pub after : {A : Type 0} → ℕ → (List ℕ → A × ℕ) → List ℕ → A × ℕ
 after n scan s = ((scan (drop n s)).0, n + (scan (drop n s)).1)
 
--- how many characters at the front are in the class
+-- the length of the longest prefix whose characters are in the class
 abbrev pub run_len : (ℕ → Bool) → List ℕ → ℕ
 run_len p [] = 0
 run_len p (c ∷ cs) = if p c then suc (run_len p cs) else 0
 
--- the longest front in the class
+-- the scanner of that prefix
 abbrev pub run : {A : Type 0} → A → (ℕ → Bool) → List ℕ → A × ℕ
 run a p s = (a, run_len p s)
 
--- the same, with an answer by what it is and what follows it
+-- the same, with an answer that depends on the prefix and on the text after it
 abbrev pub run_as : {A : Type 0} → (List ℕ → List ℕ → A) → (ℕ → Bool) → List ℕ → A × ℕ
 run_as f p s = (f (take (run_len p s) s) (drop (run_len p s) s), run_len p s)
 
--- up to the end that is sought: true and the characters up to there, or else false and all of them
+-- up to the end that is looked for: true and the length up to there, or false and the length of the whole text
 abbrev pub or_all_at : Option ℕ → List ℕ → Bool × ℕ
 or_all_at None s = (false, length s)
 or_all_at (Some n) s = (true, n)
@@ -54,7 +55,7 @@ or_all_at (Some n) s = (true, n)
 abbrev pub or_all : (List ℕ → Option ℕ) → List ℕ → Bool × ℕ
 or_all end s = or_all_at (end s) s
 
--- an end that is found depends on no more than `reach` characters past it
+-- an end that is found depends on at most `reach` characters after it
 abbrev pub IsFound : ℕ → (List ℕ → Option ℕ) → Type 0
 IsFound reach end = (s : List ℕ) (n : ℕ) → end s ≡ Some n → IsLocalAt (Option ℕ) reach (λ u. (end u, (or_all end u).1)) s
 
@@ -62,11 +63,11 @@ IsFound reach end = (s : List ℕ) (n : ℕ) → end s ≡ Some n → IsLocalAt 
 abbrev pub bytes_of : ℕ → List ℕ → ℕ
 bytes_of n cs = length (encode_utf8_all (take n cs))
 
--- a text past its first n characters
+-- the text after its first n characters
 unfoldable pub past : ℕ → List ℕ → List ℕ
 past n text = encode_utf8_all (drop n (chars text))
 
--- what a scanner reads of a text, and what it leaves
+-- what a scanner reads in a text, and the text that it leaves
 abbrev pub scanned : {A : Type 0} → (List ℕ → A × ℕ) → List ℕ → A × List ℕ
 scanned scan text = ((scan (chars text)).0, past (scan (chars text)).1 text)
 

@@ -7,12 +7,12 @@ use Rattle.rustc_lexer.specs.State.{State, token_past}
 use Rattle.rustc_lexer.specs.means.Edition.{first_token_in}
 use Rattle.rustc_lexer.specs.means.Frontmatter.{frontmatter, opens}
 
--- the token at the front of a text: a frontmatter where one opens a document
+-- the first token of a text, which is a frontmatter if one opens a document
 abbrev pub token_at : Mode → List ℕ → Token
 token_at (part edition) text = first_token_in edition text
 token_at (document edition) text = if opens (chars text) then frontmatter text else first_token_in edition text
 
--- the token of a state, and the state after it; at the end a token of length 0, which changes nothing
+-- the token of a state, and the state after it. At the end of the text it is a token of length 0, which changes nothing
 abbrev pub advance_by : List ℕ → State → Token × State
 advance_by [] s = (record { kind = Eof; len = 0 }, s)
 advance_by (b ∷ bs) s = (

@@ -49,7 +49,7 @@ impl<'a> Cursor<'a> {
     }
 }
 
-/// Returns how many hashes are at the front of the text.
+/// Returns how many hashes the text begins with.
 #[inline]
 #[tactic(auto, using(crate::proofs::GuardedLemmas::hash_boundary, crate::proofs::RawLemmas::hash_len, std::proofs::lemmas::Grind::common_steps))]
 fn count_hashes(rest: &str) -> usize

@@ -68,7 +68,7 @@ pub trait Stepper: Drop {
     }
 }
 
-/// The stepper of this lexer in an edition. It allows no frontmatter.
+/// The lexer of this crate as a stepper, in an edition. It allows no frontmatter.
 #[derive(Drop)]
 pub struct Steps {
     edition: Edition,

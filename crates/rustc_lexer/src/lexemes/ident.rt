@@ -11,8 +11,8 @@ use crate::kernels::ends_word;
 use crate::scan::{eat_continue, eat_while, next_is, split_first, strip};
 use crate::token::TokenKind;
 
-/// Lexes an identifier, or a word that is not one because of an emoji in it or a mark right after it. Returns its
-/// kind, and the text after it. `tail` is the text after its first character.
+/// Lexes an identifier, or a word that is not one because of an emoji in it or because of the character after it.
+/// Returns its kind, and the text after it. `tail` is the text after its first character.
 #[inline(always)]
 pub(crate) fn ident_or_unknown_prefix(tail: &str) -> (TokenKind, &str)
     ensures { (result.0, result.1.now) ≡ scanned spec.ident_or_unknown_prefix tail.now }
@@ -39,7 +39,7 @@ pub(crate) fn invalid_ident(tail: &str) -> (TokenKind, &str)
     (TokenKind::InvalidIdent, eat_while(tail, is_word_continue))
 }
 
-/// Returns the text after a hash and an identifier, or `None` if these are not at the front.
+/// Returns the text after a hash and an identifier, or `None` if the text does not begin with these.
 #[inline(always)]
 pub(crate) fn eat_marked(tail: &str) -> Option<&str>
     ensures { MatchOption result (spec.marks_ident (chars tail.now) ≡ false)
@@ -54,8 +54,8 @@ pub(crate) fn eat_marked(tail: &str) -> Option<&str>
     Some(eat_continue(word))
 }
 
-/// Returns whether the text is an identifier. It is one if it is not empty, an identifier may begin with its first
-/// character, and may continue with all others. [`is_id_start`] and [`is_id_continue`] say by which tables.
+/// Returns whether the text is an identifier: it is not empty, an identifier may begin with its first character, and
+/// may continue with each of the others. [`is_id_start`] and [`is_id_continue`] say which tables decide that.
 ///
 /// Rust Reference, [Identifiers](https://doc.rust-lang.org/reference/identifiers.html).
 #[inline]
@@ -68,14 +68,14 @@ pub fn is_ident(string: &str) -> bool
     }
 }
 
-/// Returns whether an identifier or the name of a lifetime, right or wrong, continues with the character.
+/// Returns whether the character continues an identifier or the name of a lifetime, valid or not.
 pub(crate) fn is_word_continue(c: char) -> bool
     ensures { result ≡ Classes.is_word_continue c }
 {
     is_id_continue(c) || is_emoji(c)
 }
 
-/// Returns whether an identifier right before the character is a prefix.
+/// Returns whether an identifier directly before the character is a prefix.
 fn ends_prefix(c: char) -> bool
     ensures { result ≡ Classes.ends_prefix c }
 {

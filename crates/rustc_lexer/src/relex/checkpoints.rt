@@ -7,17 +7,17 @@ ghost use Rattle.rustc_lexer.specs.Edits.{IsBound};
 
 use crate::relex::front::{Bound, FIRST};
 
-/// How many bounds are remembered.
+/// How many token boundaries are remembered.
 const COUNT: usize = 64;
 
-/// Some bounds of a list of tokens: one for each of `COUNT` equal shares of its text.
+/// Some boundaries of a list of tokens: one for each of `COUNT` equal shares of its text.
 #[derive(Clone, Copy)]
 pub(crate) struct Checkpoints {
     bounds: [Bound; COUNT],
 }
 
 impl Checkpoints {
-    /// Creates checkpoints at the first bound alone, which each list has.
+    /// Creates checkpoints that hold only the first boundary, which each list has.
     pub(crate) fn new() -> Checkpoints
         ensures { (tokens : List Token) → AreBounds tokens result }
     {
@@ -26,7 +26,7 @@ impl Checkpoints {
         }
     }
 
-    /// Remembers the bound, in place of the one for the same share of a text of `len` bytes.
+    /// Remembers the boundary, instead of the one for the same share of a text of `len` bytes.
     pub(crate) fn remember(&mut self, bound: Bound, len: usize)
         ensures { (tokens : List Token) → AreBounds tokens self.old → IsBound tokens bound
             → AreBounds tokens self.new }
@@ -36,7 +36,7 @@ impl Checkpoints {
         self.bounds[index] = bound;
     }
 
-    /// Returns the checkpoint that is nearest to `place`.
+    /// Returns the checkpoint that is nearest to the offset `place`.
     pub(crate) fn nearest(&self, place: usize) -> Bound
         ensures { Contains self.now.bounds result }
     {
@@ -49,7 +49,7 @@ impl Checkpoints {
         nearest
     }
 
-    /// Returns the last checkpoint that has at most `number` tokens before it, or the first bound of the list.
+    /// Returns the last checkpoint that has at most `number` tokens before it, or the first boundary of the list.
     pub(crate) fn before_number(&self, number: usize) -> Bound
         ensures number { result.number ≤ number }
         ensures bound { (tokens : List Token) → AreBounds tokens self.now → IsBound tokens result }
@@ -80,7 +80,7 @@ impl Checkpoints {
     }
 }
 
-/// Returns the bound after an edit. The edit keeps the tokens up to `kept`, and those from `met` on, which is then
+/// Returns the boundary after an edit. The edit keeps the tokens up to `kept`, and those from `met` on, which is then
 /// `now`.
 #[tactic(auto, using(crate::proofs::CheckpointLemmas::front_stays, crate::proofs::CheckpointLemmas::kept_stays, std::proofs::lemmas::Grind::common_steps))]
 fn move_bound(bound: Bound, kept: Bound, met: Bound, now: Bound) -> Bound

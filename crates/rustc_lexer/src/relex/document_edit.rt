@@ -8,8 +8,8 @@ use crate::relex::replace::replace;
 use crate::token::Token;
 use std::alloc::{AllocError, Global};
 
-/// Returns what an edit changes in the body, which began at `from` and now begins at `to`. If the head stays, that
-/// is the edit itself. Otherwise it is everything up to where both texts are the same and both bodies have begun.
+/// Returns what an edit changes in the body, which began at `from` and now begins at `to`. If the head stays, that is
+/// the edit itself. Otherwise it is everything up to the first position after the edit at which both bodies have begun.
 pub(crate) fn body_change(kept: bool, from: usize, to: usize, edit: Change) -> Change
     requires old { edit.old_stop < 2 ^ 32 }
     requires new { edit.new_stop < 2 ^ 32 }
@@ -35,7 +35,8 @@ pub(crate) fn body_change(kept: bool, from: usize, to: usize, edit: Change) -> C
     }
 }
 
-/// Returns whether the head stays: whether the edit, which begins at `start`, is behind it and leaves it the same.
+/// Returns whether the head stays: whether the edit, which begins at `start`, comes after the head and does not change
+/// it.
 #[tactic(auto, using(crate::specs::laws::Same::told_head, std::proofs::lemmas::Grind::common_steps))]
 pub(crate) fn keeps_head(old: Head, now: Head, start: usize) -> bool
     ensures { IsTrue result ↔ (old ≡ now) × (old.body ≤ start) }
@@ -73,9 +74,8 @@ pub(crate) fn counted(kept: bool, old_count: usize, new_count: usize, body: Rele
     }
 }
 
-/// Replaces the old tokens of the body with the lexed ones. Those up to `at.front` and those from `at.back` on
-/// stay. Also replaces the tokens of the head with the new ones, unless they stay. If memory is refused nothing
-/// changes.
+/// Replaces the old tokens of the body with the lexed ones. Those up to `at.front` and those from `at.back` on stay.
+/// Also replaces the tokens of the head with the new ones, unless they stay. If an allocation fails, nothing changes.
 #[tactic(auto, using(crate::proofs::DocumentLemmas::put_behind, std::proofs::lemmas::Grind::common_steps))]
 pub(crate) fn put_tokens(
     alloc: Global,

@@ -21,7 +21,7 @@ use std::alloc::{AllocError, Global};
 /// One edit, which borrows its insertion.
 #[derive(Clone, Copy, Debug, PartialEq, Eq)]
 pub struct Edit<'a> {
-    /// Where the bytes that are taken out begin, in bytes from the start of the text.
+    /// Where the replaced bytes begin, in bytes from the start of the text.
     pub start: usize,
     /// Where they end, in bytes from the start of the text.
     pub stop: usize,
@@ -58,12 +58,12 @@ pub(crate) fn put_in_place(text: &mut String, start: usize, stop: usize, insert:
     ensures capacity { string_capacity text.old ≤ string_capacity text.new }
 {
     let put = text.replace_range(start..stop, insert);
-    // There is room, so it asks for no memory.
+    // There is room, so it does not allocate.
     prove!(put.is_ok());
 }
 
-/// Lexes the new text from the kept front on, until it meets the old tokens. Returns the tokens in between, and the
-/// place where they meet.
+/// Lexes the new text from the end of the kept front until it meets the old tokens. Returns the tokens in between, and
+/// where they meet the old ones.
 pub(crate) fn relex<S: Stepper>(
     alloc: Global,
     stepper: &mut S,
@@ -88,7 +88,7 @@ pub(crate) fn relex<S: Stepper>(
         → IsLexed (S.grammar stepper.old) before change text.now r.0.items r.1) }
     ensures may_go_on { IfOk result (λ r. MayGoOn text.now (length old.now) r.1) }
 
-    // How many steps were taken, also where it fails.
+    // How many steps were taken, also if it fails.
     ensures count { IfOk result
         (λ r. S.count stepper.new ≡ S.count stepper.old + length r.0.items) }
     ensures rose { S.count stepper.old ≤ S.count stepper.new }
@@ -113,7 +113,7 @@ pub(crate) fn relex<S: Stepper>(
     Ok((tokens, at))
 }
 
-/// Lexes tokens many at once, as long as the old tokens are far.
+/// Lexes many tokens at once, as long as the old tokens are far.
 ///
 /// It is not inlined, so that a short edit needs no room for the buffer.
 #[inline(never)]

@@ -46,8 +46,8 @@ impl fmt::Display for EditStop {
 impl Error for EditStop {}
 
 impl<S: Stepper> LexedText<S> {
-    /// Makes the edits in order, up to the first one that is refused. `Err` says which one that is and why. The edits
-    /// before it stay made.
+    /// Makes the edits in order, each on the text that the edits before it leave, up to the first one that is refused.
+    /// `Err` says which one that is and why. The edits before it stay made.
     pub fn edit_all(&mut self, edits: &[Edit<'_>]) -> Result<(), EditStop>
         ensures accepted { OnOk result (AreEdits self.old.text edits.now) }
         ensures text { OnOk result (self.new.text ≡ apply_list self.old.text edits.now) }
@@ -61,7 +61,7 @@ impl<S: Stepper> LexedText<S> {
             (AreStepped (IsStepped (S.grammar self.old.stepper)) self.old.text edits.now
             (S.count self.old.stepper) (S.count self.new.stepper)) }
 
-        // Where an edit is refused, the edits before it were made.
+        // If an edit is refused, the edits before it were made.
         ensures stop { IfErr result (λ e. IsStop e self.new.text edits.now) }
         ensures stop_accepted { IfErr result
             (λ e. AreEdits self.old.text (take (stop_at e) edits.now)) }

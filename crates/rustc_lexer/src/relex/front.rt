@@ -29,25 +29,25 @@ impl Measured for Token {
     }
 }
 
-/// A bound of a list of tokens, by its number and its place.
+/// A token boundary: how many tokens come before it, and its offset.
 #[derive(Clone, Copy, Debug, PartialEq, Eq)]
 pub struct Bound {
     /// How many tokens come before it.
     pub number: usize,
-    /// Where it is, in bytes from the start of the text.
+    /// Its offset, in bytes from the start of the text.
     pub place: usize,
 }
 
-/// The first bound, which each list has.
+/// The first boundary, which each list has.
 pub(crate) const FIRST: Bound = Bound {
     number: 0,
     place: 0,
 };
 
-/// From how many bytes before an edit on a bound is far from it.
+/// At how many bytes before an edit a boundary counts as far from it.
 const FAR: usize = 256;
 
-/// Returns whether there are at least two characters between the places.
+/// Returns whether there are at least two characters between the two offsets.
 #[inline(always)]
 #[tactic(auto, using(crate::proofs::EditLemmas::edit_lemmas, std::proofs::lemmas::Grind::common_steps))]
 pub(crate) fn two_stand(text: &str, from: usize, to: usize) -> bool
@@ -80,7 +80,7 @@ fn stand_before(text: &str, from: usize, to: usize) -> bool
     text.is_char_boundary(from) && two_stand(text, from, to)
 }
 
-/// Returns the last bound up to `from` that is at least two characters before `start`, or the first bound.
+/// Returns the last boundary up to `from` that is at least two characters before `start`, or the first boundary.
 fn walk_back<T: Measured>(text: &str, tokens: &[T], start: usize, from: Bound) -> Bound
     requires boundary { IsCharBoundary text.now start }
     ensures number { result.number ≤ length tokens.now }
@@ -107,7 +107,7 @@ fn walk_back<T: Measured>(text: &str, tokens: &[T], start: usize, from: Bound) -
     FIRST
 }
 
-/// Returns the first bound from `from` on that is at or past `start`, or the last bound.
+/// Returns the first boundary from `from` on that is not before `start`, or the last boundary.
 fn past_start<T: Measured>(tokens: &[T], from: Bound, start: usize) -> Bound
     requires number { from.number ≤ length tokens.now }
     requires small { start < 2 ^ 63 }
@@ -123,8 +123,8 @@ fn past_start<T: Measured>(tokens: &[T], from: Bound, start: usize) -> Bound
     at
 }
 
-/// Returns a bound with few tokens between it and `start`. If `from` is far before `start`, it reads only lengths
-/// on the way.
+/// Returns a boundary with few tokens between it and `start`. If `from` is far before `start`, it reads only lengths on
+/// the way.
 fn walk_ahead<T: Measured>(text: &str, tokens: &[T], start: usize, from: Bound) -> Bound
     requires boundary { IsCharBoundary text.now start }
     requires number { from.number ≤ length tokens.now }
@@ -136,7 +136,7 @@ fn walk_ahead<T: Measured>(text: &str, tokens: &[T], start: usize, from: Bound) 
     ensures boundary { IsCharBoundary text.now result.place }
     ensures before { result.place ≤ start }
 
-    // If these are the tokens of the old text, it is one of their bounds.
+    // If these are the tokens of the old text, it is one of their boundaries.
     ensures bound { (old : List ℕ) (ts : List Token)
         → IsFront old ts (map T.bytes tokens.now) text.now start → IsBound ts from
         → (0 < from.number → has_two old from.place start ≡ true)
@@ -149,8 +149,8 @@ fn walk_ahead<T: Measured>(text: &str, tokens: &[T], start: usize, from: Bound) 
     walk_back(text, tokens, start, past)
 }
 
-/// Returns how many of the tokens end at least two characters before `start`. The search begins at `near`, which
-/// may be any bound.
+/// Returns how many of the tokens end at least two characters before `start`. The search begins at `near`, which may be
+/// any boundary.
 pub(crate) fn kept_front<T: Measured>(text: &str, tokens: &[T], start: usize, near: Bound) -> Bound
     requires boundary { IsCharBoundary text.now start }
     ensures number { result.number ≤ length tokens.now }
@@ -177,7 +177,7 @@ pub(crate) fn kept_front<T: Measured>(text: &str, tokens: &[T], start: usize, ne
     at
 }
 
-/// Returns the first bound from `from` on that is at or past `target`, or the last bound.
+/// Returns the first boundary from `from` on that is not before `target`, or the last boundary.
 fn next_bound<T: Measured>(tokens: &[T], from: Bound, target: usize) -> Bound
     requires number { from.number ≤ length tokens.now }
     requires small { from.place < 2 ^ 63 }
@@ -201,7 +201,7 @@ fn next_bound<T: Measured>(tokens: &[T], from: Bound, target: usize) -> Bound
     at
 }
 
-/// A place in the old tokens, and whether the new tokens meet it.
+/// A position in the old tokens, and whether the new tokens meet it.
 #[derive(Clone, Copy)]
 pub(crate) struct Meeting {
     pub at: Bound,
@@ -218,9 +218,9 @@ pub(crate) struct Damage {
     pub end: usize,
 }
 
-/// Returns how far the old tokens are followed, and whether the new ones meet them there: whether the new bound at
-/// `place` is past the edit and, moved back, a bound of the old tokens. The end of the new text is always one, the last
-/// one, so no length is read there.
+/// Returns how far the old tokens are followed, and whether the new ones meet them there: whether the new boundary at
+/// offset `place` is after the edit and, moved back by it, is a boundary of the old tokens. The end of the new text
+/// always is one, the last one, so no length is read there.
 pub(crate) fn follow<T: Measured>(
     tokens: &[T],
     from: Bound,
@@ -232,16 +232,16 @@ pub(crate) fn follow<T: Measured>(
     requires added_le { damage.added ≤ damage.past }
     requires place_fits { place + damage.removed < 2 ^ 34 }
 
-    // It is at `from` or behind it, among the old tokens.
+    // It is not before `from`, and is among the old tokens.
     ensures number { result.at.number ≤ length tokens.now }
     ensures ahead { from.number ≤ result.at.number }
     ensures small { result.at.place < 2 ^ 63 }
 
-    // Before the end of the edit nothing is met.
+    // Before the end of the edit, no old token is met.
     ensures stays { place < damage.past → result.at ≡ from }
     ensures early { place < damage.past → result.met ≡ false }
 
-    // Past it, how far exactly they are followed, and whether they are met there.
+    // After it, how far exactly they are followed, and whether they are met there.
     ensures followed { (ts : List Token) → HasLengths ts (map T.bytes tokens.now) → IsBound ts from
         → ((k : ℕ) → k < from.number
         → bound ts k + damage.past < max damage.past place + old_stop_of damage)

@@ -32,7 +32,7 @@ pub(crate) struct Kept<S: Stepper> {
     pub stepper: S,
     /// The head of a whole document. A part of one has none.
     pub head: Head,
-    /// Bounds of the body's tokens, where the search of an edit may begin.
+    /// Boundaries of the body's tokens, at which the search of an edit may begin.
     pub checkpoints: Checkpoints,
 }
 
@@ -91,7 +91,7 @@ impl<S: Stepper> Kept<S> {
         requires change { IsChange body.now change }
         requires count { old_count ≤ length self.old.tokens.items }
 
-        // What stays as it was; where it fails, the tokens too.
+        // What stays as it was; if it fails, the tokens too.
         ensures grammar { S.grammar self.new.stepper ≡ S.grammar self.old.stepper }
         ensures number { S.number self.new.stepper ≡ S.number self.old.stepper }
         ensures head { self.new.head ≡ self.old.head }
@@ -110,7 +110,7 @@ impl<S: Stepper> Kept<S> {
         ensures may_go_on { IfOk result
             (λ at. MayGoOn body.now (length (drop old_count self.old.tokens.items)) at) }
 
-        // How many steps were taken where it fails.
+        // How many steps were taken if it fails.
         ensures rose { S.count self.old.stepper ≤ S.count self.new.stepper }
         ensures few { IfErr result
             (λ _. (before insert : List ℕ)
@@ -127,7 +127,7 @@ impl<S: Stepper> Kept<S> {
         Ok(at)
     }
 
-    /// Makes the edit in the text and in what is kept of it. If memory is refused all of it stays as it is. `whole`
+    /// Makes the edit in the text and in what is kept of it. If an allocation fails, all of it stays as it is. `whole`
     /// says whether the text is a whole document, which may have a head.
     pub(crate) fn edit(
         &mut self,
@@ -144,7 +144,7 @@ impl<S: Stepper> Kept<S> {
         ensures grammar { S.grammar self.new.stepper ≡ S.grammar self.old.stepper }
         ensures number { S.number self.new.stepper ≡ S.number self.old.stepper }
 
-        // What the text is afterwards, and what is kept of it. Where it fails, text and tokens are as before.
+        // What the text is afterwards, and what is kept of it. If it fails, text and tokens are as before.
         ensures text { OnOk result
             (string_bytes text.new
             ≡ apply (string_bytes text.old) edit.entry.start edit.entry.stop edit.entry.insert.now) }
@@ -165,7 +165,7 @@ impl<S: Stepper> Kept<S> {
             (λ r. drop (r.kept_front + r.lexed) self.new.tokens.items
             ≡ drop (length self.old.tokens.items - r.kept_back) self.old.tokens.items) }
 
-        // How many steps were taken, also where it fails.
+        // How many steps were taken, also if it fails.
         ensures count { IfOk result
             (λ r. means.IsCountedByHead (means.head_by whole) (string_bytes text.old)
             edit.entry.start edit.entry.stop edit.entry.insert.now
@@ -220,8 +220,8 @@ impl<S: Stepper> Kept<S> {
         }
     }
 
-    /// Returns the last bound known without a search that has at most `number` tokens before it: a remembered one, or
-    /// where the head begins or ends. Its place is in bytes from the start of the text.
+    /// Returns the last boundary known without a search that has at most `number` tokens before it: a remembered one,
+    /// or the start or the end of the head. Its offset is in bytes from the start of the text.
     fn bound_before(&self, number: usize) -> Bound
         requires kept { (whole : Bool) × (text : List ℕ)
             × means.AreKeptOf whole (S.grammar self.now.stepper) text self.now.tokens.items self.now.head
@@ -244,7 +244,7 @@ impl<S: Stepper> Kept<S> {
         }
     }
 
-    /// Returns where the bound with this number is, in bytes from the start of the text.
+    /// Returns the offset of token boundary `number`, in bytes from the start of the text.
     pub(crate) fn place_of(&self, number: usize) -> u32
         requires kept { (whole : Bool) × (text : List ℕ)
             × means.AreKeptOf whole (S.grammar self.now.stepper) text self.now.tokens.items self.now.head

@@ -110,7 +110,7 @@ impl<S: Stepper> LexedDocument<S> {
     }
 
     /// Gives back memory that edits have left unused, as `Vec::shrink_to_fit` does. Text, tokens and stepper stay. If
-    /// memory is refused on the way, the unused memory stays too.
+    /// an allocation fails on the way, the unused memory stays too.
     pub fn shrink_to_fit(&mut self)
         ensures { self.new ≡ self.old }
     {
@@ -168,7 +168,7 @@ impl<S: Stepper> LexedDocument<S> {
         ensures number { S.number self.new.stepper ≡ S.number self.old.stepper }
         ensures rose { S.count self.old.stepper ≤ S.count self.new.stepper }
 
-        // Where it fails, nothing changed, and few steps were taken.
+        // If it fails, nothing has changed, and few steps were taken.
         ensures same_text { OnErr result (self.new.text ≡ self.old.text) }
         ensures same_tokens { OnErr result (self.new.tokens ≡ self.old.tokens) }
         ensures few { OnErr result

@@ -84,7 +84,7 @@ impl<S: Stepper> LexedText<S> {
     }
 
     /// Gives back memory that edits have left unused, as `Vec::shrink_to_fit` does. Text, tokens and stepper stay. If
-    /// memory is refused on the way, the unused memory stays too.
+    /// an allocation fails on the way, the unused memory stays too.
     pub fn shrink_to_fit(&mut self)
         ensures { self.new ≡ self.old }
     {
@@ -139,7 +139,7 @@ impl<S: Stepper> LexedText<S> {
         ensures number { S.number self.new.stepper ≡ S.number self.old.stepper }
         ensures rose { S.count self.old.stepper ≤ S.count self.new.stepper }
 
-        // Where it fails, nothing changed, and few steps were taken.
+        // If it fails, nothing has changed, and few steps were taken.
         ensures same_text { OnErr result (self.new.text ≡ self.old.text) }
         ensures same_tokens { OnErr result (self.new.tokens ≡ self.old.tokens) }
         ensures few { OnErr result
@@ -158,8 +158,7 @@ impl<S: Stepper> LexedText<S> {
 }
 
 impl LexedText<Steps> {
-    /// Copies the text and lexes it. The text may have at most `u32::MAX` bytes. `Err` means that memory was
-    /// refused.
+    /// Copies the text and lexes it. The text may have at most `u32::MAX` bytes. `Err` means that an allocation failed.
     pub fn new(alloc: Global, text: &str) -> Result<LexedText<Steps>, AllocError>
         requires fits { Fits text.now }
         ensures text { IfOk result (λ l. l.text ≡ text.now) }

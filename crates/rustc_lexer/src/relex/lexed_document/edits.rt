@@ -24,7 +24,7 @@ impl<S: Stepper> LexedDocument<S> {
             (AreStepped (IsSteppedDocument (S.grammar self.old.stepper)) self.old.text edits.now
             (S.count self.old.stepper) (S.count self.new.stepper)) }
 
-        // Where an edit is refused, the edits before it were made.
+        // If an edit is refused, the edits before it were made.
         ensures stop { IfErr result (λ e. IsStop e self.new.text edits.now) }
         ensures stop_accepted { IfErr result
             (λ e. AreEdits self.old.text (take (stop_at e) edits.now)) }

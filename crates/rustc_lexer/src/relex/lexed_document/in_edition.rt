@@ -75,8 +75,8 @@ impl LexedDocument<Steps> {
         }
     }
 
-    /// Lexes the text again, in another edition. The head stays, as it is the same in each edition. `Err` means
-    /// that an allocation failed, and then nothing has changed.
+    /// Lexes the text again, in another edition. The head stays, as it is the same in all editions. `Err` means that an
+    /// allocation failed, and then nothing has changed.
     pub fn set_edition(&mut self, edition: Edition) -> Result<(), AllocError>
         ensures text { self.new.text ≡ self.old.text }
         ensures from_scratch { OnOk result (self.new.tokens ≡ spec.document_tokens edition self.new.text) }
