@@ -45,17 +45,7 @@ pub fn is_horizontal_whitespace(c: char) -> bool {
 /// Rust Reference, [Identifiers](https://doc.rust-lang.org/reference/identifiers.html).
 #[inline]
 pub fn is_id_start(c: char) -> bool {
-    if c.is_ascii() {
-        is_ascii_start(c)
-    } else {
-        unicode_ident::is_xid_start(c)
-    }
-}
-
-/// Returns whether an identifier may begin with the character, which is in ASCII.
-#[inline]
-fn is_ascii_start(c: char) -> bool {
-    c == '_' || c.is_ascii_alphabetic()
+    c == '_' || unicode_ident::is_xid_start(c)
 }
 
 /// Returns whether an identifier may continue with the character: with an `XID_Continue` character of
@@ -66,17 +56,7 @@ fn is_ascii_start(c: char) -> bool {
 /// Rust Reference, [Identifiers](https://doc.rust-lang.org/reference/identifiers.html).
 #[inline]
 pub fn is_id_continue(c: char) -> bool {
-    if c.is_ascii() {
-        is_ascii_continue(c)
-    } else {
-        unicode_ident::is_xid_continue(c)
-    }
-}
-
-/// Returns whether an identifier may continue with the character, which is in ASCII.
-#[inline]
-fn is_ascii_continue(c: char) -> bool {
-    c.is_ascii_alphanumeric() || c == '_'
+    unicode_ident::is_xid_continue(c)
 }
 
 /// Returns whether the text has at most `u32::MAX` bytes, so that every length in it is a `u32`.

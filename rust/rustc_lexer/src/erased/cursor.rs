@@ -28,15 +28,15 @@ mod guarded;
 #[derive(Clone)]
 pub struct Cursor<'a> {
     text: &'a str,
-    /// The place where the text that is left begins.
+    /// The offset at which the text that is left begins.
     index: usize,
-    /// The place where the next token begins. It is before `index` if bytes are pending.
+    /// The offset at which the next token begins. It is less than `index` if bytes are pending.
     start: usize,
     frontmatter_allowed: FrontmatterAllowed,
 }
 
 impl<'a> Cursor<'a> {
-    /// Creates a cursor at the front of the text, which may have at most `u32::MAX` bytes.
+    /// Creates a cursor at the start of the text, which may have at most `u32::MAX` bytes.
     #[inline]
     pub fn new(input: &'a str, frontmatter_allowed: FrontmatterAllowed) -> Cursor<'a> {
         Cursor {
@@ -55,26 +55,24 @@ impl<'a> Cursor<'a> {
 
     /// Returns the next character without taking it, or U+0000 at the end of the text.
     ///
-    /// A U+0000 in the text gives the same answer. [`as_str`](Cursor::as_str) shows which of the two it is.
+    /// If the next character is itself U+0000, the answer is the same. Then [`as_str`](Cursor::as_str) is not empty.
     #[inline]
     pub fn first(&self) -> char {
         scan::first(self.as_str())
     }
 
-    /// Returns the third of the next characters without taking it, or U+0000 if the text has no more than two.
+    /// Returns the third of the next characters without taking it, or U+0000 if fewer than three are left.
     #[inline]
     pub fn third(&self) -> char {
         scan::third(self.as_str())
     }
 
-    /// Takes the next token and returns it. At the end of the text it returns `Eof`, of length 0, and changes
-    /// nothing.
+    /// Takes the next token and returns it. At the end of the text it returns `Eof`, of length 0, and changes nothing.
     ///
-    /// No other token is `Eof`. Each token is longer than the bytes that were pending, and ends between two
-    /// characters.
+    /// No other token is `Eof`. Each token is longer than the bytes that were pending, and ends between two characters.
     ///
-    /// The length of the token, and the place where its suffix begins, count the pending bytes. After the call no
-    /// bytes are pending. After a token that is not white space, no frontmatter is allowed.
+    /// The pending bytes count in the length of the token and in the offset of its suffix. After the call no bytes are
+    /// pending. After a token that is not white space, no frontmatter is allowed.
     ///
     /// If no bytes are pending, each branch returns its token by itself, like `next` of the iterator.
     #[inline(always)]

@@ -93,7 +93,7 @@ impl fmt::Display for UnknownEdition {
 
 impl Error for UnknownEdition {}
 
-/// Returns the first token of a text in an edition, with or without a frontmatter in front. The text is not empty.
+/// Returns the first token of a text in an edition, with or without a frontmatter at the start. The text is not empty.
 #[inline(always)]
 pub(crate) fn token_as(rest: &str, allowed: FrontmatterAllowed, edition: Edition) -> Token {
     match edition {
@@ -159,7 +159,7 @@ fn before_2021(token: Token, text: &str) -> Token {
     }
 }
 
-/// Returns whether the name after the quote at the front of the text is one that no lifetime of Rust has.
+/// Returns whether the name after the quote at the start of the text is invalid as the name of a lifetime.
 fn has_marked_name(text: &str) -> bool {
     let Some((_, name)) = split_first(text) else {
         return false;

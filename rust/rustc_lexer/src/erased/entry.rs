@@ -40,23 +40,23 @@ pub fn tokenize<'a>(input: &'a str, frontmatter_allowed: FrontmatterAllowed) -> 
 }
 
 /// Returns an iterator over the tokens of a text in an edition. The text may have at most `u32::MAX` bytes. It is
-/// read as a part of a document, so dashes at its front are never a frontmatter.
+/// read as a part of a document, so dashes at its start are never a frontmatter.
 ///
 /// The lengths of the tokens add up to the length of the text, each token ends between two characters, and the text
 /// from the end of any token has the remaining tokens. With `Edition::E2024` the tokens are those of [`tokenize`]
 /// with `FrontmatterAllowed::No`.
 ///
-/// `docs/EDITIONS.md` has a table of the tokens that differ in other editions. A loop uses the iterator like that
-/// of [`tokenize`].
+/// `docs/EDITIONS.md` has a table of the tokens that differ in other editions. The loop at [`tokenize`] shows how to
+/// use the iterator.
 pub fn tokenize_in<'a>(text: &'a str, edition: Edition) -> EditionTokens<'a> {
     tokenize_as(text, FrontmatterAllowed::No, edition)
 }
 
-/// Returns an iterator over the tokens of a text in an edition, with or without a frontmatter in front. The text
+/// Returns an iterator over the tokens of a text in an edition, with or without a frontmatter at the start. The text
 /// may have at most `u32::MAX` bytes.
 ///
-/// With `FrontmatterAllowed::Yes` it reads a whole document of an older edition: the frontmatter, which is the same
-/// in all editions, and then the tokens of that edition. [`tokenize`] is this call with the newest edition, and
+/// With `FrontmatterAllowed::Yes` it reads a whole document of an older edition: the frontmatter, which is the same in
+/// all editions, and then the tokens of that edition. [`tokenize`] is this call with the newest edition, and
 /// [`tokenize_in`] is this call with `FrontmatterAllowed::No`.
 pub fn tokenize_as<'a>(
     text: &'a str,
@@ -97,10 +97,10 @@ impl<'a> Tokens<'a> {
         &self.text[self.ahead.at..]
     }
 
-    /// Returns whether a frontmatter may stand in front of the text that is left.
+    /// Returns whether the text that is left may begin with a frontmatter.
     ///
-    /// A caller that stops can go on later by [`tokenize_as`], with this answer, [`as_str`](Tokens::as_str) and the
-    /// edition.
+    /// A caller that stops can go on later: it passes [`as_str`](Tokens::as_str), this answer and the edition to
+    /// [`tokenize_as`].
     #[inline(always)]
     pub fn frontmatter_allowed(&self) -> FrontmatterAllowed {
         self.frontmatter_allowed
@@ -110,7 +110,7 @@ impl<'a> Tokens<'a> {
 impl<'a> Iterator for Tokens<'a> {
     type Item = Token;
 
-    /// Returns the next token. Past the last one it returns `None`, and does so from then on.
+    /// Returns the next token, or `None` if no token is left. After `None` it returns `None` again.
     ///
     /// The ends of runs determine most tokens; they are searched for after a word or a symbol. Each branch returns its
     /// token by itself, so a token that `quick_token` finds is never written to memory and read again.

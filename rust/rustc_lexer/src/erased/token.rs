@@ -43,11 +43,10 @@ pub enum TokenKind {
 
     /// A frontmatter: a block between two lines of dashes, which may come before the source of a document.
     Frontmatter {
-        /// Whether white space comes before its dashes and is part of the token. The last character of that is not
-        /// a newline.
+        /// Whether the token begins with white space, which is an error. Such white space does not end in a newline.
         has_invalid_preceding_whitespace: bool,
-        /// Whether its first line has more on it than dashes, an infostring and blanks, or the text ends in that
-        /// line.
+        /// Whether its first line has more on it than dashes, an infostring and blanks, or the text ends in that line.
+        /// Both are errors.
         invalid_infostring: bool,
     },
 
@@ -67,13 +66,12 @@ pub enum TokenKind {
     /// A forced keyword, like `k#while`.
     ForcedKeywordIdent,
 
-    /// An identifier right before `#`, `"` or `'`, like the `z` of `z"a"`. The mark itself is not part of the
-    /// token.
+    /// An identifier directly before `#`, `"` or `'`, like the `z` of `z"a"`. That character is not part of the token.
     ///
     /// Rust Reference, [Reserved prefixes](https://doc.rust-lang.org/reference/tokens.html#reserved-prefixes).
     UnknownPrefix,
 
-    /// A lifetime right before `#`, like the `'z` of `'z#`. The `#` itself is not part of the token.
+    /// A lifetime directly before `#`, like the `'z` of `'z#`. The `#` is not part of the token.
     ///
     /// Rust Reference, [Reserved prefixes](https://doc.rust-lang.org/reference/tokens.html#reserved-prefixes).
     UnknownPrefixLifetime,
@@ -95,8 +93,8 @@ pub enum TokenKind {
     Literal {
         /// The kind of the literal.
         kind: LiteralKind,
-        /// Where the suffix begins, in bytes from the start of the token. A literal without a suffix has the length
-        /// of the token here.
+        /// The offset of the suffix, in bytes from the start of the token. If there is no suffix, it is the length of
+        /// the token.
         suffix_start: u32,
     },
 
@@ -273,7 +271,7 @@ impl TokenKind {
     }
 }
 
-/// The place of a doc comment: before the item that it describes, or inside it.
+/// Where a doc comment stands: before the item that it describes, or inside it.
 ///
 /// Rust Reference, [Doc comments](https://doc.rust-lang.org/reference/comments.html#doc-comments).
 #[derive(Clone, Copy, Debug, PartialEq, Eq, Hash)]
@@ -414,8 +412,8 @@ pub enum RawStrError {
         expected: u32,
         /// The most hashes that follow a quote in it.
         found: u32,
-        /// Where the first quote that `found` hashes follow ends: its bytes past the prefix, plus the length of the
-        /// prefix. `None` if `found` is 0.
+        /// Where the first quote with `found` hashes after it ends: the number of bytes from the end of the prefix,
+        /// plus the length of the prefix. `None` if `found` is 0.
         possible_terminator_offset: Option<u32>,
     },
     /// The string has more than 255 hashes on each side.

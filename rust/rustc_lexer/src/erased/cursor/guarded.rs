@@ -40,7 +40,7 @@ impl<'a> Cursor<'a> {
     }
 }
 
-/// Returns how many hashes are at the front of the text.
+/// Returns how many hashes the text begins with.
 #[inline]
 fn count_hashes(rest: &str) -> usize {
     rest.len() - scan::eat_hashes(rest).len()

@@ -7,12 +7,12 @@ use crate::erased::token::{Token, TokenKind};
 /// How many bytes are searched at once for the ends of runs. For fewer bytes the search costs more than it saves.
 pub(crate) const BLOCK: usize = 64;
 
-/// A place in a text, and what is known of the bytes past it.
+/// An offset in a text, and what is known about the bytes after it.
 #[derive(Clone, Copy)]
 pub(crate) struct Ahead {
-    /// The place where the text that is left begins.
+    /// The offset at which the text that is left begins.
     pub(crate) at: usize,
-    /// The place where the bytes begin whose ends of runs are known.
+    /// The offset from which on the ends of runs are known.
     pub(crate) block: usize,
     /// The ends of runs from `block` on, as bits, or 0. Those up to `at` mean nothing.
     pub(crate) ends: u64,
@@ -21,7 +21,7 @@ pub(crate) struct Ahead {
 }
 
 impl Ahead {
-    /// Takes the next token of the text if its first byte and the ends of runs tell it.
+    /// Takes the next token of the text if its first byte and the ends of runs determine it.
     #[inline(always)]
     pub(crate) fn take(&mut self, text: &str) -> Option<Token> {
         let kind = self.told?;
@@ -60,8 +60,8 @@ impl Ahead {
     }
 }
 
-/// Returns the ends of runs past a place, and where the bytes begin that they are of: those that are known, or else
-/// those of the next 64 bytes.
+/// Returns the ends of runs after an offset, and the offset of the first byte that they cover: the ends that are known,
+/// or else those of the next 64 bytes.
 #[inline(always)]
 fn ends_ahead(text: &str, at: usize, block: usize, ends: u64) -> (usize, u64) {
     if ends != 0 {

@@ -34,7 +34,7 @@ pub trait Stepper {
     }
 }
 
-/// The stepper of this lexer in an edition. It allows no frontmatter.
+/// The lexer of this crate as a stepper, in an edition. It allows no frontmatter.
 #[derive(Clone)]
 pub struct Steps {
     edition: Edition,

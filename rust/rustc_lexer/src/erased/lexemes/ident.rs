@@ -6,8 +6,8 @@ use crate::erased::kernels::ends_word;
 use crate::erased::scan::{eat_continue, eat_while, next_is, split_first, strip};
 use crate::erased::token::TokenKind;
 
-/// Lexes an identifier, or a word that is not one because of an emoji in it or a mark right after it. Returns its
-/// kind, and the text after it. `tail` is the text after its first character.
+/// Lexes an identifier, or a word that is not one because of an emoji in it or because of the character after it.
+/// Returns its kind, and the text after it. `tail` is the text after its first character.
 #[inline(always)]
 pub(crate) fn ident_or_unknown_prefix(tail: &str) -> (TokenKind, &str) {
     let rest = eat_continue(tail);
@@ -30,7 +30,7 @@ pub(crate) fn invalid_ident(tail: &str) -> (TokenKind, &str) {
     (TokenKind::InvalidIdent, eat_while(tail, is_word_continue))
 }
 
-/// Returns the text after a hash and an identifier, or `None` if these are not at the front.
+/// Returns the text after a hash and an identifier, or `None` if the text does not begin with these.
 #[inline(always)]
 pub(crate) fn eat_marked(tail: &str) -> Option<&str> {
     let (first, word) = split_first(strip(tail, '#')?)?;
@@ -40,8 +40,8 @@ pub(crate) fn eat_marked(tail: &str) -> Option<&str> {
     Some(eat_continue(word))
 }
 
-/// Returns whether the text is an identifier. It is one if it is not empty, an identifier may begin with its first
-/// character, and may continue with all others. [`is_id_start`] and [`is_id_continue`] say by which tables.
+/// Returns whether the text is an identifier: it is not empty, an identifier may begin with its first character, and
+/// may continue with each of the others. [`is_id_start`] and [`is_id_continue`] say which tables decide that.
 ///
 /// Rust Reference, [Identifiers](https://doc.rust-lang.org/reference/identifiers.html).
 #[inline]
@@ -52,12 +52,12 @@ pub fn is_ident(string: &str) -> bool {
     }
 }
 
-/// Returns whether an identifier or the name of a lifetime, right or wrong, continues with the character.
+/// Returns whether the character continues an identifier or the name of a lifetime, valid or not.
 pub(crate) fn is_word_continue(c: char) -> bool {
     is_id_continue(c) || is_emoji(c)
 }
 
-/// Returns whether an identifier right before the character is a prefix.
+/// Returns whether an identifier directly before the character is a prefix.
 fn ends_prefix(c: char) -> bool {
     matches!(c, '#' | '"' | '\'')
 }

@@ -9,7 +9,7 @@ use crate::erased::relex::relexing::Change;
 pub struct BodyChange {
     /// Whether the edit keeps the head: whether it comes after the head, and the head stays the same.
     pub keeps_head: bool,
-    /// What it changes in the body, by places from where the body begins.
+    /// What it changes in the body, in bytes from the start of the body.
     pub change: Change,
 }
 
@@ -18,7 +18,7 @@ impl Head {
     /// of the present text.
     ///
     /// If the head stays, the change is the edit itself. Otherwise it is everything from the start of the body up to
-    /// where both texts are the same and both bodies have begun. Then no token of the body is kept before it.
+    /// the first position after the edit at which both bodies have begun. Then no token of the body is kept before it.
     pub fn change_to(self, now: Head, edit: Change) -> BodyChange {
         let keeps_head = keeps_head(self, now, edit.start);
         BodyChange {

@@ -2,31 +2,31 @@
 
 use crate::erased::relex::front::{Bound, FIRST};
 
-/// How many bounds are remembered.
+/// How many token boundaries are remembered.
 const COUNT: usize = 64;
 
-/// Some bounds of a list of tokens: one for each of `COUNT` equal shares of its text.
+/// Some boundaries of a list of tokens: one for each of `COUNT` equal shares of its text.
 #[derive(Clone, Copy)]
 pub(crate) struct Checkpoints {
     bounds: [Bound; COUNT],
 }
 
 impl Checkpoints {
-    /// Creates checkpoints at the first bound alone, which each list has.
+    /// Creates checkpoints that hold only the first boundary, which each list has.
     pub(crate) fn new() -> Checkpoints {
         Checkpoints {
             bounds: [FIRST; COUNT],
         }
     }
 
-    /// Remembers the bound, in place of the one for the same share of a text of `len` bytes.
+    /// Remembers the boundary, instead of the one for the same share of a text of `len` bytes.
     pub(crate) fn remember(&mut self, bound: Bound, len: usize) {
         let share = len / COUNT + 1;
         let index = (bound.place / share).min(COUNT - 1);
         self.bounds[index] = bound;
     }
 
-    /// Returns the checkpoint that is nearest to `place`.
+    /// Returns the checkpoint that is nearest to the offset `place`.
     pub(crate) fn nearest(&self, place: usize) -> Bound {
         let mut nearest = self.bounds[0];
         for bound in &self.bounds {
@@ -37,7 +37,7 @@ impl Checkpoints {
         nearest
     }
 
-    /// Returns the last checkpoint that has at most `number` tokens before it, or the first bound of the list.
+    /// Returns the last checkpoint that has at most `number` tokens before it, or the first boundary of the list.
     pub(crate) fn before_number(&self, number: usize) -> Bound {
         let mut last = FIRST;
         for bound in &self.bounds {
@@ -59,7 +59,7 @@ impl Checkpoints {
     }
 }
 
-/// Returns the bound after an edit. The edit keeps the tokens up to `kept`, and those from `met` on, which is then
+/// Returns the boundary after an edit. The edit keeps the tokens up to `kept`, and those from `met` on, which is then
 /// `now`.
 fn move_bound(bound: Bound, kept: Bound, met: Bound, now: Bound) -> Bound {
     if bound.number <= kept.number {

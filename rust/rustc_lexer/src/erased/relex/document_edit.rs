@@ -7,8 +7,8 @@ use crate::erased::relex::replace::replace;
 use crate::erased::token::Token;
 use crate::support::{AllocError, Global};
 
-/// Returns what an edit changes in the body, which began at `from` and now begins at `to`. If the head stays, that
-/// is the edit itself. Otherwise it is everything up to where both texts are the same and both bodies have begun.
+/// Returns what an edit changes in the body, which began at `from` and now begins at `to`. If the head stays, that is
+/// the edit itself. Otherwise it is everything up to the first position after the edit at which both bodies have begun.
 pub(crate) fn body_change(kept: bool, from: usize, to: usize, edit: Change) -> Change {
     if kept {
         return Change {
@@ -27,7 +27,8 @@ pub(crate) fn body_change(kept: bool, from: usize, to: usize, edit: Change) -> C
     }
 }
 
-/// Returns whether the head stays: whether the edit, which begins at `start`, is behind it and leaves it the same.
+/// Returns whether the head stays: whether the edit, which begins at `start`, comes after the head and does not change
+/// it.
 pub(crate) fn keeps_head(old: Head, now: Head, start: usize) -> bool {
     old.body <= start && old == now
 }
@@ -54,9 +55,8 @@ pub(crate) fn counted(kept: bool, old_count: usize, new_count: usize, body: Rele
     }
 }
 
-/// Replaces the old tokens of the body with the lexed ones. Those up to `at.front` and those from `at.back` on
-/// stay. Also replaces the tokens of the head with the new ones, unless they stay. If memory is refused nothing
-/// changes.
+/// Replaces the old tokens of the body with the lexed ones. Those up to `at.front` and those from `at.back` on stay.
+/// Also replaces the tokens of the head with the new ones, unless they stay. If an allocation fails, nothing changes.
 pub(crate) fn put_tokens(
     alloc: Global,
     tokens: &mut Vec<Token>,

@@ -12,7 +12,7 @@ use crate::support::{AllocError, Global};
 /// One edit, which borrows its insertion.
 #[derive(Clone, Copy, Debug, PartialEq, Eq)]
 pub struct Edit<'a> {
-    /// Where the bytes that are taken out begin, in bytes from the start of the text.
+    /// Where the replaced bytes begin, in bytes from the start of the text.
     pub start: usize,
     /// Where they end, in bytes from the start of the text.
     pub stop: usize,
@@ -38,12 +38,12 @@ pub(crate) fn accepts(text: &str, start: usize, stop: usize, insert: &str) -> bo
 /// Replaces the bytes from `start` up to `stop` with `insert`. The text already has room for it.
 pub(crate) fn put_in_place(text: &mut String, start: usize, stop: usize, insert: &str) {
     let put = text.replace_range(start..stop, insert);
-    // There is room, so it asks for no memory.
+    // There is room, so it does not allocate.
     debug_assert!(put.is_ok());
 }
 
-/// Lexes the new text from the kept front on, until it meets the old tokens. Returns the tokens in between, and the
-/// place where they meet.
+/// Lexes the new text from the end of the kept front until it meets the old tokens. Returns the tokens in between, and
+/// where they meet the old ones.
 pub(crate) fn relex<S: Stepper>(
     alloc: Global,
     stepper: &mut S,
@@ -64,7 +64,7 @@ pub(crate) fn relex<S: Stepper>(
     Ok((tokens, at))
 }
 
-/// Lexes tokens many at once, as long as the old tokens are far.
+/// Lexes many tokens at once, as long as the old tokens are far.
 ///
 /// It is not inlined, so that a short edit needs no room for the buffer.
 #[inline(never)]

@@ -41,8 +41,8 @@ impl fmt::Display for EditStop {
 impl Error for EditStop {}
 
 impl<S: Stepper> LexedText<S> {
-    /// Makes the edits in order, up to the first one that is refused. `Err` says which one that is and why. The edits
-    /// before it stay made.
+    /// Makes the edits in order, each on the text that the edits before it leave, up to the first one that is refused.
+    /// `Err` says which one that is and why. The edits before it stay made.
     pub fn edit_all(&mut self, edits: &[Edit<'_>]) -> Result<(), EditStop> {
         // So the tokens are those of the text, even if there is no edit.
         let _ = self.tokens();

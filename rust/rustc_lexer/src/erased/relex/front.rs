@@ -17,25 +17,25 @@ impl Measured for Token {
     }
 }
 
-/// A bound of a list of tokens, by its number and its place.
+/// A token boundary: how many tokens come before it, and its offset.
 #[derive(Clone, Copy, Debug, PartialEq, Eq)]
 pub struct Bound {
     /// How many tokens come before it.
     pub number: usize,
-    /// Where it is, in bytes from the start of the text.
+    /// Its offset, in bytes from the start of the text.
     pub place: usize,
 }
 
-/// The first bound, which each list has.
+/// The first boundary, which each list has.
 pub(crate) const FIRST: Bound = Bound {
     number: 0,
     place: 0,
 };
 
-/// From how many bytes before an edit on a bound is far from it.
+/// At how many bytes before an edit a boundary counts as far from it.
 const FAR: usize = 256;
 
-/// Returns whether there are at least two characters between the places.
+/// Returns whether there are at least two characters between the two offsets.
 #[inline(always)]
 pub(crate) fn two_stand(text: &str, from: usize, to: usize) -> bool {
     if from >= to {
@@ -57,7 +57,7 @@ fn stand_before(text: &str, from: usize, to: usize) -> bool {
     text.is_char_boundary(from) && two_stand(text, from, to)
 }
 
-/// Returns the last bound up to `from` that is at least two characters before `start`, or the first bound.
+/// Returns the last boundary up to `from` that is at least two characters before `start`, or the first boundary.
 fn walk_back<T: Measured>(text: &str, tokens: &[T], start: usize, from: Bound) -> Bound {
     if from.number > tokens.len() {
         return FIRST;
@@ -76,7 +76,7 @@ fn walk_back<T: Measured>(text: &str, tokens: &[T], start: usize, from: Bound) -
     FIRST
 }
 
-/// Returns the first bound from `from` on that is at or past `start`, or the last bound.
+/// Returns the first boundary from `from` on that is not before `start`, or the last boundary.
 fn past_start<T: Measured>(tokens: &[T], from: Bound, start: usize) -> Bound {
     let mut at = from;
     while at.number < tokens.len() && at.place < start {
@@ -88,8 +88,8 @@ fn past_start<T: Measured>(tokens: &[T], from: Bound, start: usize) -> Bound {
     at
 }
 
-/// Returns a bound with few tokens between it and `start`. If `from` is far before `start`, it reads only lengths
-/// on the way.
+/// Returns a boundary with few tokens between it and `start`. If `from` is far before `start`, it reads only lengths on
+/// the way.
 fn walk_ahead<T: Measured>(text: &str, tokens: &[T], start: usize, from: Bound) -> Bound {
     if start - from.place < FAR {
         return from;
@@ -98,8 +98,8 @@ fn walk_ahead<T: Measured>(text: &str, tokens: &[T], start: usize, from: Bound) 
     walk_back(text, tokens, start, past)
 }
 
-/// Returns how many of the tokens end at least two characters before `start`. The search begins at `near`, which
-/// may be any bound.
+/// Returns how many of the tokens end at least two characters before `start`. The search begins at `near`, which may be
+/// any boundary.
 pub(crate) fn kept_front<T: Measured>(
     text: &str,
     tokens: &[T],
@@ -121,7 +121,7 @@ pub(crate) fn kept_front<T: Measured>(
     at
 }
 
-/// Returns the first bound from `from` on that is at or past `target`, or the last bound.
+/// Returns the first boundary from `from` on that is not before `target`, or the last boundary.
 fn next_bound<T: Measured>(tokens: &[T], from: Bound, target: usize) -> Bound {
     let mut at = from;
     while at.number < tokens.len() && at.place < target {
@@ -133,7 +133,7 @@ fn next_bound<T: Measured>(tokens: &[T], from: Bound, target: usize) -> Bound {
     at
 }
 
-/// A place in the old tokens, and whether the new tokens meet it.
+/// A position in the old tokens, and whether the new tokens meet it.
 #[derive(Clone, Copy)]
 pub(crate) struct Meeting {
     pub at: Bound,
@@ -150,9 +150,9 @@ pub(crate) struct Damage {
     pub end: usize,
 }
 
-/// Returns how far the old tokens are followed, and whether the new ones meet them there: whether the new bound at
-/// `place` is past the edit and, moved back, a bound of the old tokens. The end of the new text is always one, the last
-/// one, so no length is read there.
+/// Returns how far the old tokens are followed, and whether the new ones meet them there: whether the new boundary at
+/// offset `place` is after the edit and, moved back by it, is a boundary of the old tokens. The end of the new text
+/// always is one, the last one, so no length is read there.
 pub(crate) fn follow<T: Measured>(
     tokens: &[T],
     from: Bound,

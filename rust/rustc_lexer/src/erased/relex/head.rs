@@ -15,11 +15,11 @@ use crate::support::AllocError;
 pub struct Head {
     /// The length of the shebang line in bytes, or 0.
     pub shebang_len: usize,
-    /// The length in bytes of the white space before the frontmatter if that is a token of its own, or 0.
+    /// The length in bytes of the white space before the frontmatter, if it is a token of its own, or 0.
     pub space_len: u32,
     /// The frontmatter, or `None` if there is none.
     pub frontmatter: Option<Token>,
-    /// Where the body begins, in bytes from the start of the text.
+    /// The offset of the body, in bytes from the start of the text.
     pub body: usize,
 }
 

@@ -21,7 +21,7 @@ pub(crate) struct Kept<S: Stepper> {
     pub stepper: S,
     /// The head of a whole document. A part of one has none.
     pub head: Head,
-    /// Bounds of the body's tokens, where the search of an edit may begin.
+    /// Boundaries of the body's tokens, at which the search of an edit may begin.
     pub checkpoints: Checkpoints,
 }
 
@@ -65,7 +65,7 @@ impl<S: Stepper> Kept<S> {
         Ok(at)
     }
 
-    /// Makes the edit in the text and in what is kept of it. If memory is refused all of it stays as it is. `whole`
+    /// Makes the edit in the text and in what is kept of it. If an allocation fails, all of it stays as it is. `whole`
     /// says whether the text is a whole document, which may have a head.
     pub(crate) fn edit(
         &mut self,
@@ -118,8 +118,8 @@ impl<S: Stepper> Kept<S> {
         }
     }
 
-    /// Returns the last bound known without a search that has at most `number` tokens before it: a remembered one, or
-    /// where the head begins or ends. Its place is in bytes from the start of the text.
+    /// Returns the last boundary known without a search that has at most `number` tokens before it: a remembered one,
+    /// or the start or the end of the head. Its offset is in bytes from the start of the text.
     fn bound_before(&self, number: usize) -> Bound {
         let count = self.head.count();
         if number < count {
@@ -135,7 +135,7 @@ impl<S: Stepper> Kept<S> {
         }
     }
 
-    /// Returns where the bound with this number is, in bytes from the start of the text.
+    /// Returns the offset of token boundary `number`, in bytes from the start of the text.
     pub(crate) fn place_of(&self, number: usize) -> u32 {
         let near = self.bound_before(number);
         let start = near.place as u32;

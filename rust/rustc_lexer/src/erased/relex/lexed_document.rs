@@ -63,7 +63,7 @@ impl<S: Stepper> LexedDocument<S> {
     }
 
     /// Gives back memory that edits have left unused, as `Vec::shrink_to_fit` does. Text, tokens and stepper stay. If
-    /// memory is refused on the way, the unused memory stays too.
+    /// an allocation fails on the way, the unused memory stays too.
     pub fn shrink_to_fit(&mut self) {
         self.text.shrink_to_fit();
         self.kept.tokens.shrink_to_fit();

@@ -43,7 +43,7 @@ impl<S: Stepper> LexedText<S> {
     }
 
     /// Gives back memory that edits have left unused, as `Vec::shrink_to_fit` does. Text, tokens and stepper stay. If
-    /// memory is refused on the way, the unused memory stays too.
+    /// an allocation fails on the way, the unused memory stays too.
     pub fn shrink_to_fit(&mut self) {
         self.text.shrink_to_fit();
         self.kept.tokens.shrink_to_fit();
@@ -76,8 +76,7 @@ impl<S: Stepper> LexedText<S> {
 }
 
 impl LexedText<Steps> {
-    /// Copies the text and lexes it. The text may have at most `u32::MAX` bytes. `Err` means that memory was
-    /// refused.
+    /// Copies the text and lexes it. The text may have at most `u32::MAX` bytes. `Err` means that an allocation failed.
     pub fn new(alloc: Global, text: &str) -> Result<LexedText<Steps>, AllocError> {
         LexedText::new_in(alloc, text, Edition::E2024)
     }

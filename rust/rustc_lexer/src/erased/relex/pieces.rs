@@ -6,7 +6,7 @@ use crate::erased::relex::lexed_text::LexedText;
 use crate::erased::token::Token;
 use core::iter::{ExactSizeIterator, Iterator};
 
-/// A token, the place where it begins, and its text.
+/// A token, the offset at which it begins, and its text.
 #[derive(Clone, Copy, Debug, PartialEq, Eq)]
 pub struct Piece<'a> {
     /// Where the token begins, in bytes from the start of the text.
@@ -32,7 +32,7 @@ pub struct Pieces<'a> {
 impl<'a> Iterator for Pieces<'a> {
     type Item = Piece<'a>;
 
-    /// Returns the next piece. Past the last one it returns `None`, and does so from then on.
+    /// Returns the next piece, or `None` if no piece is left. After `None` it returns `None` again.
     fn next(&mut self) -> Option<Piece<'a>> {
         let (token, tokens) = self.tokens.split_first()?;
         let end = self.start + token.len;

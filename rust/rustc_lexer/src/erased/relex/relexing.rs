@@ -5,29 +5,29 @@ use crate::erased::entry::stepper::Stepper;
 use crate::erased::relex::front::{Bound, Damage, Measured, follow, kept_front};
 use crate::erased::token::Token;
 
-/// The greatest place that a bound may have. No text is longer, even if a `usize` has 32 bits.
+/// The greatest offset that a token boundary may have. No text is longer, even if a `usize` has 32 bits.
 const MOST: usize = usize::MAX / 2;
 
 /// From how many bytes on they are lexed many tokens at once, if lexing cannot meet the old tokens before. For fewer
 /// bytes that costs more than it saves.
 pub(crate) const LONG: usize = 256;
 
-/// An edit that was made, by its places in bytes. It took out what was from `start` up to `old_stop` in the old
-/// text, and put in what is from `start` up to `new_stop` in the present text.
+/// An edit that was made, by its offsets in bytes. It replaced the bytes from `start` up to `old_stop` of the old text
+/// with those from `start` up to `new_stop` of the present text.
 #[derive(Clone, Copy, Debug, PartialEq, Eq)]
 pub struct Change {
     /// Where the change begins, in both texts.
     pub start: usize,
-    /// Where the bytes that were taken out ended, in the old text.
+    /// Where the removed bytes ended, in the old text.
     pub old_stop: usize,
-    /// Where the bytes that were put in end, in the present text.
+    /// Where the inserted bytes end, in the present text.
     pub new_stop: usize,
 }
 
 impl Change {
-    /// Returns whether the change may have made the text: whether its places are in order, the bytes that it put in
-    /// are inside the text, between characters, and its old place is below 2^32. It does not look at whether the
-    /// old text had these places.
+    /// Returns whether the change may have made the text: whether its offsets are in order, the inserted bytes are
+    /// inside the text, between characters, and its old offset is below 2^32. It does not know whether the old text had
+    /// these offsets.
     pub fn may_make(&self, text: &str) -> bool {
         self.start <= self.old_stop
             && self.old_stop <= u32::MAX as usize
@@ -58,31 +58,31 @@ pub struct Relexed {
     pub kept_back: usize,
 }
 
-/// How far a changed text has been lexed again: from its kept front up to a bound of its tokens.
+/// How far a changed text has been lexed again: from its kept front up to a token boundary.
 ///
-/// It knows the old tokens only by their lengths. If these are the lengths of the tokens of an old text, and the
-/// change made the present text from it, then all numbers are exact. Any other lengths may be passed too, but then
-/// the numbers mean nothing.
+/// It knows the old tokens only by their lengths. If these are the lengths of the tokens of an old text, and the change
+/// made the present text from it, then all numbers are exact. Any other lengths may be passed too, but then the numbers
+/// mean nothing.
 #[derive(Clone, Copy, Debug, PartialEq, Eq)]
 pub struct Relexing {
     /// How many of the old tokens stay at the front, and where they end.
     pub front: Bound,
     /// How many tokens were lexed.
     pub lexed: usize,
-    /// A bound of the old tokens. Once lexing meets it, the tokens after it stay.
+    /// A boundary of the old tokens. Once lexing meets it, the tokens after it stay.
     pub back: Bound,
     /// Where the last token that was lexed ends, in bytes from the start of the present text.
     pub at: usize,
-    /// Whether `at` is that bound of the old tokens.
+    /// Whether `at` is that boundary of the old tokens.
     pub met: bool,
 }
 
 impl Relexing {
-    /// Finds the kept front, and returns a start from which nothing has been lexed yet. The search for the front
-    /// begins at `near`, which may be any bound of the old tokens.
+    /// Finds the kept front, and returns a state in which nothing has been lexed yet. The search for the front begins
+    /// at `near`, which may be any boundary of the old tokens.
     ///
-    /// The text has at most `u32::MAX` bytes, and [`change.may_make(text)`](Change::may_make) is true. This is not
-    /// tested: otherwise the result means nothing, or the call panics.
+    /// The text must have at most `u32::MAX` bytes, and [`change.may_make(text)`](Change::may_make) must be true. This
+    /// is not tested: otherwise the result means nothing, or the call panics.
     pub fn begin<T: Measured>(text: &str, old: &[T], change: Change, near: Bound) -> Relexing {
         let front = kept_front(text, old, change.start, near);
         let to = follow(old, front, front.place, change.damage(text));
@@ -95,8 +95,8 @@ impl Relexing {
         }
     }
 
-    /// Returns whether `next` may be called with this text and this many old tokens. This is so after `begin` and
-    /// after `next`. The test is for numbers that come from elsewhere.
+    /// Returns whether `next` may be called with this text and this many old tokens. It may be after `begin` and after
+    /// `next`. The test is for numbers from elsewhere.
     pub fn may_go_on(&self, text: &str, old_count: usize) -> bool {
         text.is_char_boundary(self.at)
             && self.back.number <= old_count
@@ -140,8 +140,8 @@ impl Relexing {
     /// Returns how many. The number is less than the length of the buffer only if `is_over` is true. `text`, `old` and
     /// `change` are those that were passed to `begin`.
     ///
-    /// They are the tokens that as many calls of `next` return. Where the old tokens are far, as in a long insertion or
-    /// where a long token was, many tokens are lexed at once.
+    /// They are the tokens that as many calls of `next` return. If the old tokens are far, as in a long insertion or in
+    /// place of a long old token, many tokens are lexed at once.
     pub fn fill<S: Stepper, T: Measured, R: Record>(
         &mut self,
         stepper: &mut S,
@@ -165,8 +165,8 @@ impl Relexing {
         count
     }
 
-    /// Returns for how many bytes lexing cannot meet the old tokens: up to the end of the insertion, or past it up to
-    /// the next bound of the old tokens.
+    /// Returns for how many bytes lexing cannot meet the old tokens: up to the end of the insertion, or after it up to
+    /// the next boundary of the old tokens.
     pub(crate) fn apart(&self, text: &str, change: Change) -> usize {
         if self.at < change.new_stop {
             return change.new_stop - self.at;

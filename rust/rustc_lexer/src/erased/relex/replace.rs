@@ -4,8 +4,8 @@ use crate::support::Vec;
 use crate::erased::token::{Token, TokenKind};
 use crate::support::AllocError;
 
-/// Replaces the tokens from `from` up to `to`. It asks for memory at most once, only if the list has no room, and
-/// before it changes anything. A list that keeps no token and is to grow is not written: `with` becomes the list.
+/// Replaces the tokens from `from` up to `to`. It allocates at most once, only if the list has no room, and before it
+/// changes anything. A list that keeps no token and is to grow is not written: `with` becomes the list.
 pub(crate) fn replace(
     list: &mut Vec<Token>,
     from: usize,

@@ -38,8 +38,8 @@ impl LexedDocument<Steps> {
         }
     }
 
-    /// Lexes the text again, in another edition. The head stays, as it is the same in each edition. `Err` means
-    /// that an allocation failed, and then nothing has changed.
+    /// Lexes the text again, in another edition. The head stays, as it is the same in all editions. `Err` means that an
+    /// allocation failed, and then nothing has changed.
     pub fn set_edition(&mut self, edition: Edition) -> Result<(), AllocError> {
         let stepper = Steps::new_in(edition);
         let kept = Kept::with(self.kept.alloc, self.text.as_str(), true, stepper)?;
