@@ -1,0 +1,61 @@
+/* What calls.c and edits.c share: a check that names what failed, and a buffer of tokens with a mark in each byte. */
+#ifndef CHECKS_H
+#define CHECKS_H
+
+#include <stdio.h>
+#include <string.h>
+
+#include "rustc_lexer.h"
+
+#define CHECK(so) \
+    do { \
+        if (!(so)) { \
+            printf("%s:%d: %s\n", __FILE__, __LINE__, #so); \
+            return 1; \
+        } \
+    } while (0)
+
+#define BUFFER_LEN 8
+
+typedef uint32_t batch_call(const uint8_t *, size_t, struct rustc_lexer_place *, struct rustc_lexer_token *, size_t,
+                            size_t *);
+
+static struct rustc_lexer_token buffer[BUFFER_LEN];
+
+/* A call with so much room, on a buffer that has a mark in each byte. */
+static inline uint32_t call(batch_call *tokens, const char *text, size_t len, struct rustc_lexer_place *place,
+                     size_t buffer_len, size_t *count) {
+    memset(buffer, 0xAA, sizeof buffer);
+    *count = 99;
+    return tokens((const uint8_t *)text, len, place, buffer, buffer_len, count);
+}
+
+/* Whether the buffer from a token on still has the marks. */
+static inline bool is_marked(size_t from) {
+    const unsigned char *bytes = (const unsigned char *)&buffer[from];
+    for (size_t i = 0; i < (BUFFER_LEN - from) * sizeof buffer[0]; i++)
+        if (bytes[i] != 0xAA)
+            return false;
+    return true;
+}
+
+static inline bool is_token(size_t number, uint8_t kind, uint32_t len) {
+    return buffer[number].kind == kind && buffer[number].len == len;
+}
+
+/* More places than a text here has tokens. */
+#define PLACES 400
+
+static struct rustc_lexer_token whole[PLACES];
+
+/* Whether the text has so many tokens, which one call writes into `whole`. */
+static inline bool is_lexed(batch_call *tokens, const char *text, size_t len, uint32_t frontmatter_allowed,
+                            size_t wanted) {
+    struct rustc_lexer_place place = {0, frontmatter_allowed};
+    size_t count = 99;
+    memset(whole, 0xAA, sizeof whole);
+    return tokens((const uint8_t *)text, len, &place, whole, PLACES, &count) == RUSTC_LEXER_OK && count == wanted &&
+           place.at == len;
+}
+
+#endif
