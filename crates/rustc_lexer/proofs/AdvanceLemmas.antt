@@ -1,20 +1,20 @@
--- What taking a token off does to the text that is left.
-use Rattle.std.proofs.Common.{◌≡◌, ◌≢◌, ℕ, ◌<◌, ◌^◌, ◌==◌, List, [], ◌∷◌, length, drop, true, false, true≢false, refl, sym, ap, subst, ◌∙◌, arith}
-use Rattle.std.specs.Str.{IsUtf8}
-use Rattle.std.proofs.lemmas.Bool.{eqb-true, ne_eqb}
-use Rattle.std.proofs.lemmas.List.{nil_from_length}
-use Rattle.std.proofs.lemmas.Grind.{common_steps}
-use Rattle.rustc_lexer.specs.{Token, TokenKind, E2024, Eof, Literal}
-use Rattle.rustc_lexer.specs.LanguageText.{Mode, mode_after, part}
-use Rattle.rustc_lexer.specs.State.{State, kind_past, token_past}
-use Rattle.rustc_lexer.specs.means.Lexeme.{first_token}
-use Rattle.rustc_lexer.specs.means.Taking.{token_at, take_next}
+-- What a cursor takes, which is what its iterator takes, longer by the bytes that are pending.
+use Rattle.std.proofs.Common.{◌≡◌, ◌≢◌, ℕ, ◌+◌, ◌<◌, ◌≤◌, ◌^◌, ◌==◌, List, [], ◌∷◌, length, length-drop, drop, false, refl, sym, ap, subst, ◌∙◌, arith}
+use Rattle.std.specs.Prelude.{All}
+use Rattle.std.specs.Str.{IsCharBoundary, IsUtf8}
+use Rattle.std.proofs.lemmas.Bool.{ne_eqb}
+use Rattle.std.proofs.lemmas.List.Elements.{All-head}
+use Rattle.std.proofs.lemmas.Str.{IsUtf8-drop}
+use Rattle.rustc_lexer.specs.{FrontmatterAllowed, Token, TokenKind, E2024, Eof, Literal, No, Yes}
+use Rattle.rustc_lexer.specs.LanguageText.{Mode, mode_edition, mode_in}
+use Rattle.rustc_lexer.specs.State.{State, kind_past, token_past, HasSuffixWithin}
+use Rattle.rustc_lexer.specs.means.Taking.{IsCursor, token_at, take_next}
 use Rattle.rustc_lexer.specs.Classes.{IsText}
-use Rattle.rustc_lexer.specs.Tokens.{tokens_left, TakesFirst}
-use Rattle.rustc_lexer.specs.laws.State.{state, past_token, past_token-is, advance-some, token_past-zero}
-use Rattle.rustc_lexer.proofs.TextLemmas.{token_at-not_end}
+use Rattle.rustc_lexer.specs.Tokens.{tokens_left, tokens_of, HasSuffix, TakesFirst, TakesToken}
+use Rattle.rustc_lexer.specs.laws.State.{state, past_token, advance-end, advance-some, token_past-zero}
+use Rattle.rustc_lexer.proofs.TextLemmas.{suffixes, token_at-not_end}
 use Rattle.rustc_lexer.proofs.TokensLemmas.{takes_first as takes_alone}
-use Rattle.rustc_lexer.specs.laws.Tokens.{tokens-nil}
+use Rattle.rustc_lexer.specs.laws.Tokens.{tokens-cons}
 
 -- pending bytes make no end of a token that is none
 kind_past-end : (pending : ℕ) (kind : TokenKind) → kind_past pending kind ≡ Eof → kind ≡ Eof
@@ -43,10 +43,6 @@ module _ (s t : State) (token : Token) (is : IsText s.rest) (some : 0 < length s
         none_pending = own.pending;
       }
 
-pub something : (xs ys : List ℕ) → xs ≡ ys → (length xs == 0) ≡ false → 0 < length ys
-something [] ys e h = absurd (true≢false h)
-something (x ∷ xs) ys e h = let n = ap length e in omega arith
-
 -- what a cursor takes that no end of the text stops
 pub record Advances (s t : State) (token : Token) : Type 0 where
   pub token_is : token ≡ (take_next s).0
@@ -54,24 +50,104 @@ pub record Advances (s t : State) (token : Token) : Type 0 where
   pub no_end : token.kind ≢ Eof
   pub first : TakesFirst s token t
 
--- the first token of a part in the newest edition, where nothing is pending
-pub takes_plain : (s t : State) (text : List ℕ) (token : Token) → s.pending ≡ 0 → s.mode ≡ part E2024 → text ≡ s.rest → IsUtf8 text → length text < 2 ^ 32 → (length text == 0) ≡ false
-    → token ≡ first_token text → t ≡ state 0 (drop token.len s.rest) s.mode → Advances s t token
-takes_plain s t text token none newest rest is fits some e f =
-    let first : Token = token_at s.mode s.rest in
-    let whole : take_next s ≡ (token_past s.pending first, past_token s.rest s.mode first) = advance-some s.pending s.rest s.mode s refl (sym (ap (λ xs. length xs == 0) rest) ∙ some) in
-    let first_is : token ≡ first = e ∙ (ap first_token rest ∙ sym (ap (λ (m : Mode). token_at m s.rest) newest)) in
-    let token_is : token ≡ (take_next s).0 = first_is ∙ (sym (ap (λ n. token_past n first) none ∙ token_past-zero first) ∙ sym (ap (λ (r : Token × State). r.0) whole)) in
-    let stays : s.mode ≡ mode_after s.mode token.kind = subst (λ (m : Mode). m ≡ mode_after m token.kind) (sym newest) refl in
-    let state_is : t ≡ (take_next s).1 = f ∙ (past_token-is s.rest _ s.mode _ token refl stays ∙ (ap (past_token s.rest s.mode) first_is ∙ sym (ap (λ (r : Token × State). r.1) whole))) in
-    let whole_text : IsText s.rest = subst IsText rest record { utf8 = is; fits = fits } in
-    let left : 0 < length s.rest = something text s.rest rest some in
-    record {
+-- a part of a text that has no tokens is empty
+nothing_left : (mode : Mode) (text : List ℕ) → IsText text → tokens_of mode text ≡ [] → text ≡ []
+nothing_left mode [] is none = refl
+nothing_left mode (b ∷ bs) is none = let some = ap length (sym none ∙ tokens-cons mode (b ∷ bs) is (omega arith)) in absurd (omega arith)
+
+module _ (pending : ℕ) (tokens : State) (is : IsCursor pending tokens) (s : State) (view : state pending tokens.rest tokens.mode ≡ s) where
+  -- past some of the text that is left, with at most these bytes pending as well
+  pub passed : (rest : List ℕ) → rest ≡ s.rest → (len left : ℕ) → IsCharBoundary rest len → left ≤ pending + len → (t : State) → t ≡ record tokens { rest = drop len tokens.rest } → IsCursor left t
+  passed rest place len left boundary few t e =
+      let within : IsCharBoundary tokens.rest len = subst (λ xs. IsCharBoundary xs len) (place ∙ sym (ap (λ (x : State). x.rest) view)) boundary in
+      let shorter = length-drop len tokens.rest in
+      let fits = is.fits in
+      subst (IsCursor left) (sym e) record {
+        alone = is.alone;
+        newest = is.newest;
+        text = record { utf8 = IsUtf8-drop tokens.rest len is.text.utf8 within; fits = omega (arith, shorter, fits) };
+        fits = omega (arith, shorter, fits, within.0, few);
+      }
+
+  -- at the end of the text
+  pub ends : tokens_left tokens ≡ [] → take_next s ≡ (record { kind = Eof; len = 0 }, s)
+  ends none = advance-end pending tokens.rest tokens.mode s view (ap (λ xs. length xs == 0) (nothing_left tokens.mode tokens.rest is.text none))
+
+  pub none_left : tokens_left tokens ≡ [] → (tokens_left s ≡ []) × (s.rest ≡ [])
+  none_left none = subst (λ (x : State). (tokens_left x ≡ []) × (x.rest ≡ [])) view (none, nothing_left tokens.mode tokens.rest is.text none)
+
+  -- what the iterator takes, and the cursor
+  module _ (taken : Token) (t : State) (takes : TakesToken tokens taken t) where
+    abbrev first : Token
+    first = token_at tokens.mode tokens.rest
+
+    abbrev old : State
+    old = state pending tokens.rest tokens.mode
+
+    abbrev new : State
+    new = state 0 t.rest t.mode
+
+    some : 0 < length tokens.rest
+    some = omega (arith, takes.not_empty, takes.boundary.0)
+
+    more : (length tokens.rest == 0) ≡ false
+    more = ne_eqb (length tokens.rest) 0 (λ none. omega (arith, some, none))
+
+    alone_is : ◌≡◌ {A = Token × State} (taken, t) (token_past tokens.pending first, past_token tokens.rest tokens.mode first)
+    alone_is = sym takes.advances ∙ advance-some tokens.pending tokens.rest tokens.mode tokens refl more
+
+    taken_is : taken ≡ first
+    taken_is = ap (λ (r : Token × State). r.0) alone_is ∙ (ap (λ n. token_past n first) is.alone ∙ token_past-zero first)
+
+    next_is : t ≡ past_token tokens.rest tokens.mode first
+    next_is = ap (λ (r : Token × State). r.1) alone_is
+
+    whole : take_next old ≡ (token_past pending first, past_token tokens.rest tokens.mode first)
+    whole = advance-some pending tokens.rest tokens.mode old refl more
+
+    token_is : token_past pending taken ≡ (take_next old).0
+    token_is = ap (token_past pending) taken_is ∙ sym (ap (λ (r : Token × State). r.0) whole)
+
+    state_is : new ≡ (take_next old).1
+    state_is = ap (λ (x : State). state 0 x.rest x.mode) next_is ∙ sym (ap (λ (r : Token × State). r.1) whole)
+
+    pub advances : Advances s new (token_past pending taken)
+    advances = subst (λ (x : State). Advances x new (token_past pending taken)) view record {
       token_is = token_is;
       state_is = state_is;
-      no_end = not_end s t token whole_text left token_is state_is;
-      first = takes_first s t token whole_text left token_is state_is;
+      no_end = not_end old new _ is.text some token_is state_is;
+      first = takes_first old new _ is.text some token_is state_is;
     }
 
-pub stays_at_end : (s : State) (text : List ℕ) (len : ℕ) → text ≡ s.rest → (length text == 0) ≡ true → len ≡ 0 → (tokens_left s ≡ []) × (s.rest ≡ []) × (len ≡ 0) × (s ≡ s)
-stays_at_end s text len e none empty = grind (arith, common_steps, nil_from_length, eqb-true, tokens-nil)
+    pub advances_alone : pending ≡ 0 → Advances s (state pending t.rest t.mode) taken
+    advances_alone none =
+        let whole : Advances s new taken = subst (Advances s new) (ap (λ n. token_past n taken) none ∙ token_past-zero taken) advances in
+        subst (λ n. Advances s (state n t.rest t.mode) taken) (sym none) whole
+
+    pub suffix_within : HasSuffixWithin taken
+    suffix_within = (All-head HasSuffix taken (tokens_left t) (subst (All HasSuffix) takes.first (suffixes tokens.rest tokens.mode is.text))).0
+
+    pub whole_fits : pending + taken.len < 2 ^ 32
+    whole_fits = omega (arith, is.fits, takes.boundary.0)
+
+    pub still_cursor : (left : ℕ) → left ≤ pending → IsCursor left t
+    still_cursor left few =
+        let cut = ap length takes.rest in
+        let shorter = length-drop taken.len tokens.rest in
+        let fits = is.fits in
+        record {
+          alone = ap (λ (x : State). x.pending) next_is;
+          newest = takes.edition ∙ is.newest;
+          text = record { utf8 = subst IsUtf8 (sym takes.rest) (IsUtf8-drop tokens.rest taken.len is.text.utf8 takes.boundary); fits = omega (arith, cut, shorter, fits) };
+          fits = omega (arith, cut, shorter, fits, few);
+        }
+
+newest_in : (allowed : FrontmatterAllowed) → mode_edition (mode_in allowed E2024) ≡ E2024
+newest_in Yes = refl
+newest_in No = refl
+
+-- a cursor at the start of a text
+pub at_start : (allowed : FrontmatterAllowed) (text : List ℕ) → IsText text → (s : State) → s ≡ state 0 text (mode_in allowed E2024) → IsCursor 0 s
+at_start allowed text is s e = subst (IsCursor 0) (sym e) (
+    let fits = is.fits in
+    record { alone = refl; newest = newest_in allowed; text = is; fits = omega arith })

@@ -105,37 +105,22 @@ module _ (rest front : List ℕ) (n : ℕ) (is : IsUtf8 rest) (count : n ≡ has
     pub string_here : begins (34 ∷ []) (chars front) ≡ true → Some (closed, length rest - length left) ≡ string_past n (chars rest)
     string_here e = grind (arith, common_steps, read_is, taken_is, quote_next)
 
--- a cursor at `index` of a text, whose next token begins at `start`, with n hashes next
-module _ (text : List ℕ) (index start : ℕ) (mode : Mode) (s : State) (rest : List ℕ) (view : state (index - start) (drop index text) mode ≡ s) (place : rest ≡ s.rest) (before : start ≤ index)
-    (n : ℕ) (count : n ≡ hash_run (chars rest)) where
-  here : rest ≡ drop index text
+-- a cursor with bytes pending before what is left, where n hashes are next
+module _ (pending : ℕ) (left : List ℕ) (mode : Mode) (s : State) (rest : List ℕ) (view : state pending left mode ≡ s) (place : rest ≡ s.rest) (n : ℕ) (count : n ≡ hash_run (chars rest)) where
+  here : rest ≡ left
   here = place ∙ sym (ap (λ (x : State). x.rest) view)
 
-  further_on : (k : ℕ) → drop k rest ≡ drop (index + k) text
-  further_on k = ap (drop k) here ∙ drop-drop k index text
-
   abbrev here_is : State
-  here_is = state (index - start) rest mode
+  here_is = state pending rest mode
 
   guarded-is : (o : Option (Bool × ℕ)) → o ≡ string_past n (chars rest) → take_guarded s ≡ guarded_by n o here_is
   unfolding take_guarded
   guarded-is o read = grind (arith, common_steps)
 
-  pub none_here : None ≡ string_past n (chars rest) → take_guarded s ≡ (None, state (index + n - start) (drop (index + n) text) mode)
-  none_here read =
-      let pending : (index - start) + n ≡ index + n - start = omega arith in
-      guarded-is None read
-      ∙ (ap (λ (m : ℕ). let r : Option GuardedStr × State = (None, state m (drop n rest) mode) in r) pending
-      ∙ ap (λ (xs : List ℕ). let r : Option GuardedStr × State = (None, state (index + n - start) xs mode) in r) (further_on n))
+  pub none_here : None ≡ string_past n (chars rest) → take_guarded s ≡ (None, state (pending + n) (drop n left) mode)
+  none_here read = guarded-is None read ∙ ap (λ (xs : List ℕ). let r : Option GuardedStr × State = (None, state (pending + n) (drop n xs) mode) in r) here
 
-  pub some_here : (closed : Bool) (t : ℕ) → Some (closed, t) ≡ string_past n (chars rest) → take_guarded s ≡ (
-    Some record { n_hashes = n; terminated = closed; token_len = index + t - start },
-    state (index + t - (index + t)) (drop (index + t) text) mode,
-  )
+  pub some_here : (closed : Bool) (t : ℕ) → Some (closed, t) ≡ string_past n (chars rest) → take_guarded s ≡ (Some record { n_hashes = n; terminated = closed; token_len = pending + t }, state 0 (drop t left) mode)
   some_here closed t read =
-      let len : (index - start) + t ≡ index + t - start = omega arith in
-      let none_left : 0 ≡ index + t - (index + t) = omega arith in
       guarded-is (Some (closed, t)) read
-      ∙ (ap (λ (k : ℕ). let r : Option GuardedStr × State = (Some record { n_hashes = n; terminated = closed; token_len = k }, state 0 (drop t rest) mode) in r) len
-      ∙ (ap (λ (k : ℕ). let r : Option GuardedStr × State = (Some record { n_hashes = n; terminated = closed; token_len = index + t - start }, state k (drop t rest) mode) in r) none_left
-      ∙ ap (λ (xs : List ℕ). let r : Option GuardedStr × State = (Some record { n_hashes = n; terminated = closed; token_len = index + t - start }, state (index + t - (index + t)) xs mode) in r) (further_on t)))
+      ∙ ap (λ (xs : List ℕ). let r : Option GuardedStr × State = (Some record { n_hashes = n; terminated = closed; token_len = pending + t }, state 0 (drop t xs) mode) in r) here

@@ -1,18 +1,17 @@
 //! A cursor, which takes the tokens of a text one by one.
-ghost use Rattle.std.specs.Prelude.{◌≡◌, [], ◌≢◌, ◌+◌, ◌^◌, ◌<◌, ◌≤◌, IsTrue, drop, length, slice_index};
-ghost use Rattle.std.specs.Str.{chars, IsCharBoundary};
-ghost use Rattle.rustc_lexer.specs.{Edition, E2024};
+ghost use Rattle.std.specs.Prelude.{◌≡◌, [], ◌≢◌, ◌+◌, ◌^◌, ◌<◌, slice_index};
+ghost use Rattle.std.specs.Str.{chars};
+ghost use Rattle.rustc_lexer.specs.{E2024};
 ghost use Rattle.rustc_lexer.specs.Classes.{Fits};
 ghost use Rattle.rustc_lexer.specs.Tokens.{TakesFirst, tokens_left};
-ghost use Rattle.rustc_lexer.specs.LanguageText.{mode_after, mode_edition, mode_in, part};
+ghost use Rattle.rustc_lexer.specs.LanguageText.{mode_edition, mode_in};
 ghost use Rattle.rustc_lexer.specs.Answers.{advance};
 ghost use Rattle.rustc_lexer.specs.State.{token_past, HasSuffixWithin};
 
-use crate::frontmatter::token_at;
-use crate::lexemes::choose_token;
-use crate::lexemes::quick::quick_token;
+use crate::entry::{Tokens, tokenize};
 use crate::scan;
 use crate::token::{FrontmatterAllowed, Token, TokenKind};
+use std::iter::Iterator;
 use std::marker::Model;
 
 mod guarded;
@@ -36,32 +35,24 @@ mod guarded;
 /// ```
 #[derive(Drop)]
 pub struct Cursor<'a> {
-    text: &'a str,
-    /// The offset at which the text that is left begins.
-    index: usize,
-    /// The offset at which the next token begins. It is less than `index` if bytes are pending.
-    start: usize,
-    frontmatter_allowed: FrontmatterAllowed,
+    tokens: Tokens<'a>,
+    /// How many bytes were taken since the last token.
+    pending: u32,
 }
 
 impl<'a> Model for Cursor<'a> {
-    ghost use Rattle.std.specs.Prelude.{◌-◌, ◌≤◌, drop};
-    ghost use Rattle.std.specs.Str.{IsCharBoundary};
-    ghost use Rattle.rustc_lexer.specs.{E2024};
-    ghost use Rattle.rustc_lexer.specs.Classes.{Fits};
-    ghost use Rattle.rustc_lexer.specs.LanguageText.{mode_in};
     ghost use Rattle.rustc_lexer.specs.State.{State};
+    ghost use Rattle.rustc_lexer.specs.means.Taking.{IsCursor};
 
     ghost Value = { State };
 
     ghost view = { λ c. record {
-      pending = c.index - c.start;
-      rest = drop c.index c.text.now;
-      mode = mode_in c.frontmatter_allowed E2024;
+      pending = c.pending;
+      rest = c.tokens.rest;
+      mode = c.tokens.mode;
     } };
 
-    ghost invariant = { λ c. (c.start ≤ c.index) × IsCharBoundary c.text.now c.index
-        × IsCharBoundary c.text.now c.start × Fits c.text.now };
+    ghost invariant = { λ c. IsCursor c.pending c.tokens };
 }
 
 impl<'a> Cursor<'a> {
@@ -73,10 +64,8 @@ impl<'a> Cursor<'a> {
             ≡ record { pending = 0; rest = input.now; mode = mode_in frontmatter_allowed E2024 } }
     {
         Cursor {
-            text: input,
-            index: 0,
-            start: 0,
-            frontmatter_allowed,
+            tokens: tokenize(input, frontmatter_allowed),
+            pending: 0,
         }
     }
 
@@ -87,7 +76,7 @@ impl<'a> Cursor<'a> {
         ensures newest { mode_edition self.now.mode ≡ E2024 }
         ensures fits { Fits result.now }
     {
-        &self.text[self.index..]
+        self.tokens.as_str()
     }
 
     /// Returns the next character without taking it, or U+0000 at the end of the text.
@@ -114,8 +103,6 @@ impl<'a> Cursor<'a> {
     ///
     /// The pending bytes count in the length of the token and in the offset of its suffix. After the call no bytes are
     /// pending. After a token that is not white space, no frontmatter is allowed.
-    ///
-    /// If no bytes are pending, each branch returns its token by itself, like `next` of the iterator.
     #[inline(always)]
     pub fn advance_token(&mut self) -> Token
         ensures token { result ≡ (advance self.old).0 }
@@ -124,61 +111,18 @@ impl<'a> Cursor<'a> {
             × (self.old.rest ≡ []) × (result.len ≡ 0) × (self.new ≡ self.old) }
         ensures past { result.kind ≢ TokenKind.Eof → TakesFirst self.old result self.new }
     {
-        let rest = self.as_str();
-        if rest.is_empty() {
+        let Some(token) = self.tokens.next() else {
             return Token {
                 kind: TokenKind::Eof,
                 len: 0,
             };
+        };
+        if self.pending == 0 {
+            return token;
         }
-        if self.is_plain() {
-            if let Some(quick) = quick_token(rest.as_bytes()) {
-                self.pass(quick.len);
-                return quick;
-            }
-            let chosen = choose_token(rest);
-            self.pass(chosen.len);
-            return chosen;
-        }
-        let token = token_at(rest, self.frontmatter_allowed);
-        let pending = (self.index - self.start) as u32;
-        let end = self.index + token.len as usize;
-        self.index = end;
-        self.start = end;
-        self.frontmatter_allowed = next_allowed(self.frontmatter_allowed, token.kind);
+        let pending = self.pending;
+        self.pending = 0;
         with_pending(token, pending)
-    }
-
-    /// Returns whether no bytes are pending and no frontmatter may come. Past the first token this is mostly so.
-    #[inline(always)]
-    fn is_plain(&self) -> bool
-        ensures { IsTrue result → (self.now.pending ≡ 0) × (self.now.mode ≡ part E2024) }
-    {
-        self.index == self.start && matches!(self.frontmatter_allowed, FrontmatterAllowed::No)
-    }
-
-    /// Moves on by this many bytes. Then no bytes are pending.
-    #[inline(always)]
-    fn pass(&mut self, len: u32)
-        requires inside { len ≤ length self.old.rest }
-        requires boundary { IsCharBoundary self.old.rest len }
-        ensures { self.new
-            ≡ record { pending = 0; rest = drop len self.old.rest; mode = self.old.mode } }
-    {
-        self.index += len as usize;
-        self.start = self.index;
-    }
-}
-
-/// Returns whether a frontmatter may come after a token of this kind.
-#[inline(always)]
-pub(crate) fn next_allowed(allowed: FrontmatterAllowed, kind: TokenKind) -> FrontmatterAllowed
-    ensures { (edition : Edition)
-        → mode_in result edition ≡ mode_after (mode_in allowed edition) kind }
-{
-    match kind {
-        TokenKind::Whitespace | TokenKind::Eof => allowed,
-        _ => FrontmatterAllowed::No,
     }
 }
 

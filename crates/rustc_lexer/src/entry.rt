@@ -1,13 +1,13 @@
 //! The calls that lex a text, and their iterator.
-ghost use Rattle.std.specs.Prelude.{◌≡◌, length};
+ghost use Rattle.std.specs.Prelude.{◌≡◌, drop, length};
 ghost use Rattle.std.specs.Iterator.{at_most};
+ghost use Rattle.std.specs.Str.{IsCharBoundary};
 ghost use Rattle.rustc_lexer.specs.{E2015, E2018, E2024, No};
 ghost use Rattle.rustc_lexer.specs.Classes.{Fits};
-ghost use Rattle.rustc_lexer.specs.LanguageText.{mode_edition, mode_in, part};
+ghost use Rattle.rustc_lexer.specs.LanguageText.{mode_after, mode_edition, mode_in, part};
 ghost use Rattle.rustc_lexer.specs.Locality.{AreLocal};
 ghost use Rattle.rustc_lexer.specs.Tokens.{ReadsAs, tokens_of, YieldsToken};
 
-use crate::cursor::next_allowed;
 use crate::edition::{Edition, token_as};
 use crate::entry::ahead::Ahead;
 use crate::lexemes::choose_token;
@@ -150,6 +150,16 @@ impl<'a> Tokens<'a> {
     {
         self.frontmatter_allowed
     }
+
+    /// Moves on by this many bytes, whatever tokens they belong to.
+    #[inline(always)]
+    pub(crate) fn pass(&mut self, len: usize)
+        requires { IsCharBoundary self.old.rest len }
+        ensures { self.new ≡ record self.old { rest = drop len self.old.rest } }
+    {
+        self.ahead.told = None;
+        self.ahead.at += len;
+    }
 }
 
 impl<'a> Iterator for Tokens<'a> {
@@ -188,5 +198,17 @@ impl<'a> Iterator for Tokens<'a> {
         self.ahead.at += token.len as usize;
         self.frontmatter_allowed = next_allowed(self.frontmatter_allowed, token.kind);
         Some(token)
+    }
+}
+
+/// Returns whether a frontmatter may come after a token of this kind.
+#[inline(always)]
+fn next_allowed(allowed: FrontmatterAllowed, kind: TokenKind) -> FrontmatterAllowed
+    ensures { (edition : Edition)
+        → mode_in result edition ≡ mode_after (mode_in allowed edition) kind }
+{
+    match kind {
+        TokenKind::Whitespace | TokenKind::Eof => allowed,
+        _ => FrontmatterAllowed::No,
     }
 }

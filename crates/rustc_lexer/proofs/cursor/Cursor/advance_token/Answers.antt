@@ -1,60 +1,41 @@
-use Rattle.std.proofs.Common.{◌≡◌, ◌+◌, ◌-◌, ◌==◌, List, ℕ, length, drop, drop-drop, refl, sym, ap, subst, ◌∙◌, arith}
-use Rattle.rustc_lexer.specs.{Token, E2024}
-use Rattle.rustc_lexer.specs.LanguageText.{mode_in}
-use Rattle.rustc_lexer.specs.State.{State, token_past}
-use Rattle.rustc_lexer.specs.means.Lexeme.{first_token}
-use Rattle.rustc_lexer.specs.means.Quick.{BeginsWithNoHash}
-use Rattle.rustc_lexer.specs.means.Taking.{token_at}
-use Rattle.rustc_lexer.specs.Classes.{IsText}
-use Rattle.rustc_lexer.proofs.AdvanceLemmas.{not_end, takes_first, takes_plain, stays_at_end, something}
-use Rattle.rustc_lexer.specs.laws.State.{state, past_token, past_token-is, advance-end, advance-some}
+use Rattle.std.proofs.Common.{refl, sym, ap, ◌∙◌, arith}
+use Rattle.rustc_lexer.specs.{Token}
+use Rattle.rustc_lexer.specs.State.{State}
+use Rattle.rustc_lexer.specs.laws.State.{state}
+use Rattle.rustc_lexer.proofs.AdvanceLemmas.{advances, advances_alone, ends, none_left, still_cursor, suffix_within, whole_fits}
 use Rattle.rustc_lexer.proofs.cursor.Cursor.advance_token.Goals as goal
 
-pub returns-then-is_empty : goal.returns-then-is_empty
-returns-then-is_empty c =
-    let is = c.as_str-rest.ensures.rest ∙ sym (ap (λ (x : State). x.rest) c.self.view_is) in
-    let none = advance-end _ _ _ _ c.self.view_is (sym (ap (λ (xs : List ℕ). length xs == 0) is) ∙ sym c.if-is_empty.ensures) in
+pub returns-in_default : goal.returns-in_default
+returns-in_default c =
+    let steps = c.in_default.ensures.steps in
+    let end = ends _ _ c.self.invariant _ c.self.view_is steps.0 in
+    let left = none_left _ _ c.self.invariant _ c.self.view_is steps.0 in
+    let same = ap (λ (x : State). state c.self.inside.pending x.rest x.mode) steps.1 ∙ c.self.view_is in
     record {
-      token = sym (ap (λ (r : Token × State). r.0) none);
-      state = sym (ap (λ (r : Token × State). r.1) none);
-      end = λ e. stays_at_end _ _ 0 c.as_str-rest.ensures.rest (sym c.if-is_empty.ensures) refl;
+      token = sym (ap (λ (r : Token × State). r.0) end);
+      state = same ∙ sym (ap (λ (r : Token × State). r.1) end);
+      end = λ e. (left.0, left.1, refl, same);
       past = λ other. absurd (other refl);
     }
 
-pub returns-in-Some : goal.returns-in-Some
-returns-in-Some c =
-    let plain = c.is_plain.ensures c.if-is_plain.true in
-    let taken = takes_plain _ _ _ _ plain.0 plain.1 c.as_str-rest.ensures.rest c.as_str-rest.utf8 c.as_str-rest.ensures.fits (sym c.if-is_empty.ensures) (c.in-Some.ensures.token ∙ ap first_token c.as_bytes.ensures.value) c.pass.ensures in
+pub invariant_of-self-then-self-eq0 : goal.invariant_of-self-then-self-eq0
+invariant_of-self-then-self-eq0 c = still_cursor _ _ c.self.invariant _ c.self.view_is _ _ c.in-Some.ensures.steps _ (omega arith)
+
+pub returns-then-self-eq0 : goal.returns-then-self-eq0
+returns-then-self-eq0 c =
+    let taken = advances_alone _ _ c.self.invariant _ c.self.view_is _ _ c.in-Some.ensures.steps c.if-self-eq0.true in
     record { token = taken.token_is; state = taken.state_is; end = λ e. absurd (taken.no_end e); past = λ other. taken.first }
 
-pub returns-then-is_plain : goal.returns-then-is_plain
-returns-then-is_plain c =
-    let plain = c.is_plain.ensures c.if-is_plain.true in
-    let taken = takes_plain _ _ _ _ plain.0 plain.1 c.as_str-rest.ensures.rest c.as_str-rest.utf8 c.as_str-rest.ensures.fits (sym c.if-is_empty.ensures) c.choose_token-chosen.ensures.token c.pass-then-is_plain.ensures in
-    record { token = taken.token_is; state = taken.state_is; end = λ e. absurd (taken.no_end e); past = λ other. taken.first }
+pub with_pending-requires : goal.with_pending-requires
+with_pending-requires c = record {
+  suffix = suffix_within _ _ c.self.invariant _ c.self.view_is _ _ c.in-Some.ensures.steps;
+  fits = whole_fits _ _ c.self.invariant _ c.self.view_is _ _ c.in-Some.ensures.steps;
+}
+
+pub invariant_of-self-2 : goal.invariant_of-self-2
+invariant_of-self-2 c = still_cursor _ _ c.self.invariant _ c.self.view_is _ _ c.in-Some.ensures.steps 0 (omega arith)
 
 pub returns : goal.returns
 returns c =
-    let is = c.as_str-rest.ensures.rest ∙ sym (ap (λ (x : State). x.rest) c.self.view_is) in
-    let i = c.self.inside.index in
-    let n = c.token_at-token.result.len in
-    let none : (i + n) - (i + n) ≡ 0 = omega arith in
-    let some = advance-some _ _ _ _ c.self.view_is (sym (ap (λ (xs : List ℕ). length xs == 0) is) ∙ sym c.if-is_empty.ensures) in
-    let token = c.with_pending.ensures
-    ∙ (ap (λ (t : Token). token_past (c.self.inside.index - c.self.inside.start) t) (c.token_at-token.ensures.token ∙ ap (token_at (mode_in c.self.inside.frontmatter_allowed E2024)) is)
-    ∙ sym (ap (λ (r : Token × State). r.0) some)) in
-    let state = ap (λ p. state p (drop (i + n) c.self.inside.text.now) (mode_in c.next_allowed-self-inside.result E2024)) none
-    ∙ (past_token-is (drop i c.self.inside.text.now) _ (mode_in c.self.inside.frontmatter_allowed E2024) _ c.token_at-token.result (sym (drop-drop n i c.self.inside.text.now)) (c.next_allowed-self-inside.ensures E2024)
-    ∙ (ap (λ (t : Token). past_token (drop i c.self.inside.text.now) (mode_in c.self.inside.frontmatter_allowed E2024) t) (c.token_at-token.ensures.token ∙ ap (token_at (mode_in c.self.inside.frontmatter_allowed E2024)) is)
-    ∙ sym (ap (λ (r : Token × State). r.1) some))) in
-    let text : IsText c.args.self.now.rest = subst IsText c.as_str-rest.ensures.rest record { utf8 = c.as_str-rest.utf8; fits = c.as_str-rest.ensures.fits } in
-    let left = something _ _ c.as_str-rest.ensures.rest (sym c.if-is_empty.ensures) in
-    record {
-      token = token;
-      state = state;
-      end = λ e. absurd (not_end c.args.self.now _ _ text left token state e);
-      past = λ other. takes_first c.args.self.now _ _ text left token state;
-    }
-
-pub choose_token-chosen-requires-clause-no_hash : goal.choose_token-chosen-requires-clause-no_hash
-choose_token-chosen-requires-clause-no_hash c = subst BeginsWithNoHash c.as_bytes.ensures.value c.in_default.ensures
+    let taken = advances _ _ c.self.invariant _ c.self.view_is _ _ c.in-Some.ensures.steps in
+    rw c.with_pending.ensures record { token = taken.token_is; state = taken.state_is; end = λ e. absurd (taken.no_end e); past = λ other. taken.first }

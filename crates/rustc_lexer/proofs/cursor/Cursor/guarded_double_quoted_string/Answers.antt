@@ -1,21 +1,29 @@
-use Rattle.std.proofs.Common.{Option, ap, sym}
+use Rattle.std.proofs.Common.{Option, ap, sym, ◌∙◌, ◌+◌, arith}
 use Rattle.rustc_lexer.specs.{GuardedStr}
 use Rattle.rustc_lexer.specs.State.{State}
+use Rattle.rustc_lexer.specs.laws.State.{state}
+use Rattle.rustc_lexer.proofs.AdvanceLemmas.{passed}
 use Rattle.rustc_lexer.proofs.GuardedLemmas.{none_here, some_here}
 use Rattle.rustc_lexer.proofs.cursor.Cursor.guarded_double_quoted_string.Goals as goal
 
-pub returns-in_default-clause-answer : goal.returns-in_default-clause-answer
-returns-in_default-clause-answer c =
-    sym (ap (λ (r : Option GuardedStr × State). r.0) (none_here _ _ _ _ _ _ c.self.view_is c.as_str-rest.ensures.rest c.self.invariant.0 _ c.count_hashes-n_hashes.ensures.count c.in_default.ensures.read))
+pub returns-in_default : goal.returns-in_default
+returns-in_default c =
+    let taken = none_here _ _ _ _ _ c.self.view_is c.as_str-rest.ensures.rest _ c.count_hashes-n_hashes.ensures.count c.in_default.ensures.read in
+    record {
+      answer = sym (ap (λ (r : Option GuardedStr × State). r.0) taken);
+      state = ap (λ (x : State). state (c.self.inside.pending + c.count_hashes-n_hashes.result) x.rest x.mode) c.pass.ensures ∙ sym (ap (λ (r : Option GuardedStr × State). r.1) taken);
+    }
 
-pub returns-in_default-clause-state : goal.returns-in_default-clause-state
-returns-in_default-clause-state c =
-    sym (ap (λ (r : Option GuardedStr × State). r.1) (none_here _ _ _ _ _ _ c.self.view_is c.as_str-rest.ensures.rest c.self.invariant.0 _ c.count_hashes-n_hashes.ensures.count c.in_default.ensures.read))
+pub returns : goal.returns
+returns c =
+    let taken = some_here _ _ _ _ _ c.self.view_is c.as_str-rest.ensures.rest _ c.count_hashes-n_hashes.ensures.count _ _ c.in-Some.ensures.read in
+    record {
+      answer = sym (ap (λ (r : Option GuardedStr × State). r.0) taken);
+      state = ap (λ (x : State). state 0 x.rest x.mode) c.pass-2.ensures ∙ sym (ap (λ (r : Option GuardedStr × State). r.1) taken);
+    }
 
-pub returns-clause-answer : goal.returns-clause-answer
-returns-clause-answer c =
-    sym (ap (λ (r : Option GuardedStr × State). r.0) (some_here _ _ _ _ _ _ c.self.view_is c.as_str-rest.ensures.rest c.self.invariant.0 _ c.count_hashes-n_hashes.ensures.count _ _ c.in-Some.ensures.read))
+pub invariant_of-self : goal.invariant_of-self
+invariant_of-self c = passed _ _ c.self.invariant _ c.self.view_is _ c.as_str-rest.ensures.rest _ _ c.count_hashes-n_hashes.ensures.boundary (omega arith) _ c.pass.ensures
 
-pub returns-clause-state : goal.returns-clause-state
-returns-clause-state c =
-    sym (ap (λ (r : Option GuardedStr × State). r.1) (some_here _ _ _ _ _ _ c.self.view_is c.as_str-rest.ensures.rest c.self.invariant.0 _ c.count_hashes-n_hashes.ensures.count _ _ c.in-Some.ensures.read))
+pub invariant_of-self-2 : goal.invariant_of-self-2
+invariant_of-self-2 c = passed _ _ c.self.invariant _ c.self.view_is _ c.as_str-rest.ensures.rest _ 0 c.in-Some.ensures.boundary (omega arith) _ c.pass-2.ensures

@@ -1,6 +1,5 @@
-use Rattle.std.proofs.Common.{arith}
-use Rattle.std.proofs.lemmas.Str.{IsCharBoundary-start}
+use Rattle.rustc_lexer.proofs.AdvanceLemmas.{at_start}
 use Rattle.rustc_lexer.proofs.cursor.Cursor.new.Goals as goal
 
 pub invariant_of-result : goal.invariant_of-result
-invariant_of-result c = (omega arith, IsCharBoundary-start _ c.utf8.input, IsCharBoundary-start _ c.utf8.input, c.requires.fits)
+invariant_of-result c = at_start c.args.frontmatter_allowed c.args.input.now record { utf8 = c.utf8.input; fits = c.requires.fits } _ c.tokenize.ensures.state
