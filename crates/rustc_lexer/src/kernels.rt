@@ -1,8 +1,9 @@
-//! Searches over bytes that look at 32 or 64 bytes at a time: where a run ends, and where a byte is.
+//! Searches over bytes that look at 16, 32 or 64 bytes at a time: where a run ends, and where a byte is.
 ghost use Rattle.memchr.specs.Find.{IsFirstByte, is_byte, is_byte2};
-ghost use Rattle.std.specs.Prelude.{◌≡◌, ◌≤◌, ◌<◌, ◌&&◌, ◌||◌, ◌==◌, ℕ, suc, Bool, IfSome, true, false, drop, length, map, not};
+ghost use Rattle.std.specs.Prelude.{◌≡◌, ◌≤◌, ◌<◌, ◌&&◌, ◌||◌, ◌==◌, ℕ, suc, Bool, IfSome, true, false, drop, length, map, not, take};
 ghost use Rattle.std.specs.List.{prefix_len};
 ghost use Rattle.std.specs.Simd.Lanes.{mask_l};
+ghost use Rattle.std.proofs.Common.{arith};
 ghost use Rattle.rustc_lexer.specs.means.ByteRuns.{is_continue_byte, is_space_byte, is_decimal_byte, is_hexadecimal_byte, outside};
 ghost use Rattle.rustc_lexer.specs.means.Ends.{bit, IsEnds};
 ghost use Rattle.rustc_lexer.specs.means.Quick.{is_space_lead, turns_word};
@@ -14,15 +15,23 @@ use std::simd::prelude::*;
 
 /// A class of bytes in ASCII.
 pub(crate) trait ByteClass {
+    /// How many bytes [`stops`](ByteClass::stops) looks at.
+    const WIDTH: usize;
+
+    ghost WIDTH: { ℕ };
+
+    ghost width_fits: { (0 < WIDTH) × (WIDTH ≤ 64) };
+
     ghost passes: { ℕ → Bool };
 
     /// Returns whether the byte is in the class.
     fn has(byte: u8) -> bool
         ensures { result ≡ passes byte };
 
-    /// Returns a mask. Bit k is set if lane k is outside the class.
-    fn stops(v: u8x32) -> u64
-        ensures { result ≡ mask_l (map (outside passes) v) };
+    /// Returns a mask of the first bytes. Bit k is set if byte k is outside the class.
+    fn stops(bytes: &[u8]) -> u64
+        requires { WIDTH ≤ length bytes.now }
+        ensures { result ≡ mask_l (map (outside passes) (take WIDTH bytes.now)) };
 }
 
 /// The bytes that an identifier may continue with.
@@ -30,6 +39,12 @@ pub(crate) trait ByteClass {
 pub(crate) struct Continue;
 
 impl ByteClass for Continue {
+    const WIDTH: usize = 16;
+
+    ghost WIDTH = { 16 };
+
+    ghost width_fits = { (omega arith, omega arith) };
+
     ghost passes = { is_continue_byte };
 
     #[inline(always)]
@@ -38,12 +53,13 @@ impl ByteClass for Continue {
     }
 
     #[inline(always)]
-    fn stops(v: u8x32) -> u64 {
-        let from_a = (v | u8x32::splat(0x20)) - u8x32::splat(b'a');
-        let from_0 = v - u8x32::splat(b'0');
-        (from_a.simd_ge(u8x32::splat(26))
-            & from_0.simd_ge(u8x32::splat(10))
-            & v.simd_ne(u8x32::splat(b'_'))).to_bitmask()
+    fn stops(bytes: &[u8]) -> u64 {
+        let v = u8x16::from_slice(bytes);
+        let from_a = (v | u8x16::splat(0x20)) - u8x16::splat(b'a');
+        let from_0 = v - u8x16::splat(b'0');
+        (from_a.simd_ge(u8x16::splat(26))
+            & from_0.simd_ge(u8x16::splat(10))
+            & v.simd_ne(u8x16::splat(b'_'))).to_bitmask()
     }
 }
 
@@ -52,6 +68,12 @@ impl ByteClass for Continue {
 pub(crate) struct Space;
 
 impl ByteClass for Space {
+    const WIDTH: usize = 16;
+
+    ghost WIDTH = { 16 };
+
+    ghost width_fits = { (omega arith, omega arith) };
+
     ghost passes = { is_space_byte };
 
     #[inline(always)]
@@ -60,9 +82,10 @@ impl ByteClass for Space {
     }
 
     #[inline(always)]
-    fn stops(v: u8x32) -> u64 {
-        let from_tab = v - u8x32::splat(b'\t');
-        (v.simd_ne(u8x32::splat(b' ')) & from_tab.simd_ge(u8x32::splat(5))).to_bitmask()
+    fn stops(bytes: &[u8]) -> u64 {
+        let v = u8x16::from_slice(bytes);
+        let from_tab = v - u8x16::splat(b'\t');
+        (v.simd_ne(u8x16::splat(b' ')) & from_tab.simd_ge(u8x16::splat(5))).to_bitmask()
     }
 }
 
@@ -71,6 +94,12 @@ impl ByteClass for Space {
 pub(crate) struct Decimal;
 
 impl ByteClass for Decimal {
+    const WIDTH: usize = 32;
+
+    ghost WIDTH = { 32 };
+
+    ghost width_fits = { (omega arith, omega arith) };
+
     ghost passes = { is_decimal_byte };
 
     #[inline(always)]
@@ -79,7 +108,8 @@ impl ByteClass for Decimal {
     }
 
     #[inline(always)]
-    fn stops(v: u8x32) -> u64 {
+    fn stops(bytes: &[u8]) -> u64 {
+        let v = u8x32::from_slice(bytes);
         let from_0 = v - u8x32::splat(b'0');
         (from_0.simd_ge(u8x32::splat(10)) & v.simd_ne(u8x32::splat(b'_'))).to_bitmask()
     }
@@ -90,6 +120,12 @@ impl ByteClass for Decimal {
 pub(crate) struct Hexadecimal;
 
 impl ByteClass for Hexadecimal {
+    const WIDTH: usize = 32;
+
+    ghost WIDTH = { 32 };
+
+    ghost width_fits = { (omega arith, omega arith) };
+
     ghost passes = { is_hexadecimal_byte };
 
     #[inline(always)]
@@ -98,7 +134,8 @@ impl ByteClass for Hexadecimal {
     }
 
     #[inline(always)]
-    fn stops(v: u8x32) -> u64 {
+    fn stops(bytes: &[u8]) -> u64 {
+        let v = u8x32::from_slice(bytes);
         let from_a = (v | u8x32::splat(0x20)) - u8x32::splat(b'a');
         let from_0 = v - u8x32::splat(b'0');
         (from_a.simd_ge(u8x32::splat(6))
@@ -153,16 +190,16 @@ pub(crate) fn ends_of_runs(bytes: &[u8]) -> u64
     apart(words(v), spaces(v))
 }
 
-/// Returns how many bytes at the front are in the class. The run mostly ends within 32 bytes.
+/// Returns how many bytes at the front are in the class. The run mostly ends within `WIDTH` bytes.
 #[inline(always)]
 pub(crate) fn run_end<C: ByteClass>(bytes: &[u8]) -> usize
     ensures value { result ≡ prefix_len C.passes bytes.now }
     ensures bound { result ≤ length bytes.now }
 {
-    if bytes.len() < 32 {
+    if bytes.len() < C::WIDTH {
         return run_end_by_bytes::<C>(bytes);
     }
-    let stops = C::stops(u8x32::from_slice(bytes));
+    let stops = C::stops(bytes);
     if stops == 0 {
         return run_end_by_lanes::<C>(bytes);
     }
@@ -181,19 +218,19 @@ pub(crate) fn short_run_end<C: ByteClass>(bytes: &[u8]) -> usize
     0
 }
 
-/// Returns how many bytes at the front are in the class. Looks at 32 bytes at a time.
+/// Returns how many bytes at the front are in the class. Looks at `WIDTH` bytes at a time.
 #[inline(never)]
 fn run_end_by_lanes<C: ByteClass>(bytes: &[u8]) -> usize
     ensures value { result ≡ prefix_len C.passes bytes.now }
     ensures bound { result ≤ length bytes.now }
 {
     let mut end = 0;
-    'lanes: while bytes.len() - end >= 32 {
-        let stops = C::stops(u8x32::from_slice(&bytes[end..]));
+    'lanes: while bytes.len() - end >= C::WIDTH {
+        let stops = C::stops(&bytes[end..]);
         if stops != 0 {
             return end + stops.trailing_zeros() as usize;
         }
-        end += 32;
+        end += C::WIDTH;
     }
     end + run_end_by_bytes::<C>(&bytes[end..])
 }

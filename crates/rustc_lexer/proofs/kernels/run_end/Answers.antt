@@ -4,9 +4,12 @@ use Rattle.rustc_lexer.proofs.KernelLemmas.{run_bound, run_stops}
 use Rattle.rustc_lexer.proofs.kernels.run_end.Goals as goal
 
 pub returns-clause-value : goal.returns-clause-value
-returns-clause-value g c = sym (run_stops g.C.ByteClass.passes c.args.bytes.now 0 32 (omega arith) (omega arith) (omega (arith, c.stops-stops.ensures)) ∙ ap (count_trailing_zeros 64) (sym c.stops-stops.ensures))
+returns-clause-value g c =
+    let fits = g.C.ByteClass.width_fits in
+    sym (run_stops g.C.ByteClass.passes c.args.bytes.now 0 g.C.ByteClass.WIDTH (omega arith) fits.1 (omega (arith, c.stops-stops.ensures)) ∙ ap (count_trailing_zeros 64) (sym c.stops-stops.ensures))
 
 pub returns-clause-bound : goal.returns-clause-bound
 returns-clause-bound g c =
-    let run = run_stops g.C.ByteClass.passes c.args.bytes.now 0 32 (omega arith) (omega arith) (omega (arith, c.stops-stops.ensures)) ∙ ap (count_trailing_zeros 64) (sym c.stops-stops.ensures) in
+    let fits = g.C.ByteClass.width_fits in
+    let run = run_stops g.C.ByteClass.passes c.args.bytes.now 0 g.C.ByteClass.WIDTH (omega arith) fits.1 (omega (arith, c.stops-stops.ensures)) ∙ ap (count_trailing_zeros 64) (sym c.stops-stops.ensures) in
     omega (arith, run, run_bound g.C.ByteClass.passes c.args.bytes.now 0 (omega arith))

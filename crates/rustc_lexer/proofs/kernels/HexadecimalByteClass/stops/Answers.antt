@@ -1,12 +1,13 @@
-use Rattle.std.proofs.Common.{ℕ, bit_and, refl, arith}
-use Rattle.std.proofs.lemmas.Simd.{zip2_splat, zip2_of_maps, splat_is_map}
+use Rattle.std.proofs.Common.{List, ℕ, bit_and, refl, arith, rules, w8}
+use Rattle.std.proofs.lemmas.Simd.{chunk-fits, length-chunk, zip2_splat, zip2_of_maps, splat_is_map}
+use lib.Lanes.{chunk}
 use Rattle.rustc_lexer.specs.means.ByteRuns.{outside, is_hexadecimal_byte}
 use Rattle.rustc_lexer.proofs.LaneLemmas.{least, masked}
 use Rattle.rustc_lexer.proofs.kernels.HexadecimalByteClass.stops.Goals as goal
 
 pub returns : goal.returns
 returns c =
-    let v = c.args.v in
-    let long = c.fits-v.0 in
-    masked _ (outside is_hexadecimal_byte) v _ (omega arith) c.fits-v.1
+    let v : List ℕ = chunk 0 32 c.args.bytes.now in
+    let long = length-chunk 0 32 c.args.bytes.now (omega (arith, c.requires)) in
+    masked _ (outside is_hexadecimal_byte) v _ (omega arith) (chunk-fits w8 0 32 c.args.bytes.now (search rules))
     (zip2_of_maps bit_and _ _ v (zip2_of_maps bit_and _ _ v (zip2_of_maps least _ _ v (splat_is_map {Y = ℕ} v 32 6 long) (zip2_of_maps _ _ _ v (zip2_splat {Y = ℕ} _ v 32 32 long) (splat_is_map {Y = ℕ} v 32 97 long))) (zip2_of_maps least _ _ v (splat_is_map {Y = ℕ} v 32 10 long) (zip2_splat {Y = ℕ} _ v 32 48 long))) (zip2_splat {Y = ℕ} _ v 32 95 long)) refl
