@@ -1,4 +1,4 @@
-//! 32 and 64 bytes side by side, with the names of `std::simd`, on stable Rust: with SSE2, NEON or the vectors of
+//! 16, 32 and 64 bytes side by side, with the names of `std::simd`, on stable Rust: with SSE2, NEON or the vectors of
 //! WebAssembly; on other targets, or with the feature `portable`, with eight bytes in a word. The contracts are those
 //! of `std::simd` in Rattle.
 
@@ -57,6 +57,8 @@ pub struct Bytes<const N: usize>([Lanes; N]);
 #[derive(Clone, Copy)]
 pub struct Mask<const N: usize>([Lanes; N]);
 
+#[allow(non_camel_case_types)]
+pub type u8x16 = Bytes<{ 16 / COUNT }>;
 #[allow(non_camel_case_types)]
 pub type u8x32 = Bytes<{ 32 / COUNT }>;
 #[allow(non_camel_case_types)]

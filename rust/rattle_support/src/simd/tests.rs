@@ -1,7 +1,7 @@
 //! Each operation on bytes side by side, against the same said of one byte: of what this target takes, and of the files for
 //! NEON and for WebAssembly over plain functions with the names of their instructions.
 
-use super::{Bytes, COUNT, Mask, u8x32, u8x64};
+use super::{Bytes, COUNT, Mask, u8x16, u8x32, u8x64};
 
 /// Bit k is whether the test holds of the two bytes in lane k.
 fn bits(a: &[u8], b: &[u8], test: impl Fn(u8, u8) -> bool) -> u64 {
@@ -40,12 +40,16 @@ fn all_pairs<const N: usize>() {
 
 #[test]
 fn lanes_are_bytes() {
+    all_pairs::<{ 16 / COUNT }>();
     all_pairs::<{ 32 / COUNT }>();
     all_pairs::<{ 64 / COUNT }>();
     let bytes: [u8; 64] = core::array::from_fn(|n| n as u8);
-    let (three, other) = (u8x32::splat(3), u8x64::splat(3));
+    let three = u8x16::splat(3);
+    assert_eq!(u8x16::from_slice(&bytes).simd_lt(three).to_bitmask(), 7);
+    let three = u8x32::splat(3);
     assert_eq!(u8x32::from_slice(&bytes).simd_lt(three).to_bitmask(), 7);
-    assert_eq!(u8x64::from_slice(&bytes).simd_lt(other).to_bitmask(), 7);
+    let three = u8x64::splat(3);
+    assert_eq!(u8x64::from_slice(&bytes).simd_lt(three).to_bitmask(), 7);
 }
 
 /// The same of the lanes of a file, for each pair of bytes.
@@ -60,11 +64,10 @@ macro_rules! all_pairs_of {
                     |bytes: &[u8; 64], n| $lanes::load(bytes[16 * n..].first_chunk().unwrap());
                 let each = |f: &dyn Fn($lanes::Lanes, $lanes::Lanes) -> $lanes::Lanes| {
                     let masks: [_; 4] = core::array::from_fn(|n| f(part(&a, n), part(&b, n)));
-                    assert_eq!(
-                        $lanes::bits(&masks[..2]),
-                        $lanes::bits(&masks) & u64::from(u32::MAX)
-                    );
-                    $lanes::bits(&masks)
+                    let bits = $lanes::bits(&masks);
+                    assert_eq!($lanes::bits(&masks[..1]), bits & u64::from(u16::MAX));
+                    assert_eq!($lanes::bits(&masks[..2]), bits & u64::from(u32::MAX));
+                    bits
                 };
                 let seven = $lanes::splat(7);
                 assert_eq!(each(&$lanes::eq), bits(&a, &b, |a, b| a == b));

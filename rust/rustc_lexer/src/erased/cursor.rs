@@ -1,10 +1,9 @@
 //! A cursor, which takes the tokens of a text one by one.
 
-use crate::erased::frontmatter::token_at;
-use crate::erased::lexemes::choose_token;
-use crate::erased::lexemes::quick::quick_token;
+use crate::erased::entry::{Tokens, tokenize};
 use crate::erased::scan;
 use crate::erased::token::{FrontmatterAllowed, Token, TokenKind};
+use core::iter::Iterator;
 
 mod guarded;
 
@@ -27,12 +26,9 @@ mod guarded;
 /// ```
 #[derive(Clone)]
 pub struct Cursor<'a> {
-    text: &'a str,
-    /// The offset at which the text that is left begins.
-    index: usize,
-    /// The offset at which the next token begins. It is less than `index` if bytes are pending.
-    start: usize,
-    frontmatter_allowed: FrontmatterAllowed,
+    tokens: Tokens<'a>,
+    /// How many bytes were taken since the last token.
+    pending: u32,
 }
 
 impl<'a> Cursor<'a> {
@@ -40,17 +36,15 @@ impl<'a> Cursor<'a> {
     #[inline]
     pub fn new(input: &'a str, frontmatter_allowed: FrontmatterAllowed) -> Cursor<'a> {
         Cursor {
-            text: input,
-            index: 0,
-            start: 0,
-            frontmatter_allowed,
+            tokens: tokenize(input, frontmatter_allowed),
+            pending: 0,
         }
     }
 
     /// Returns the text that is left.
     #[inline(always)]
     pub fn as_str(&self) -> &'a str {
-        &self.text[self.index..]
+        self.tokens.as_str()
     }
 
     /// Returns the next character without taking it, or U+0000 at the end of the text.
@@ -73,55 +67,20 @@ impl<'a> Cursor<'a> {
     ///
     /// The pending bytes count in the length of the token and in the offset of its suffix. After the call no bytes are
     /// pending. After a token that is not white space, no frontmatter is allowed.
-    ///
-    /// If no bytes are pending, each branch returns its token by itself, like `next` of the iterator.
     #[inline(always)]
     pub fn advance_token(&mut self) -> Token {
-        let rest = self.as_str();
-        if rest.is_empty() {
+        let Some(token) = self.tokens.next() else {
             return Token {
                 kind: TokenKind::Eof,
                 len: 0,
             };
+        };
+        if self.pending == 0 {
+            return token;
         }
-        if self.is_plain() {
-            if let Some(quick) = quick_token(rest.as_bytes()) {
-                self.pass(quick.len);
-                return quick;
-            }
-            let chosen = choose_token(rest);
-            self.pass(chosen.len);
-            return chosen;
-        }
-        let token = token_at(rest, self.frontmatter_allowed);
-        let pending = (self.index - self.start) as u32;
-        let end = self.index + token.len as usize;
-        self.index = end;
-        self.start = end;
-        self.frontmatter_allowed = next_allowed(self.frontmatter_allowed, token.kind);
+        let pending = self.pending;
+        self.pending = 0;
         with_pending(token, pending)
-    }
-
-    /// Returns whether no bytes are pending and no frontmatter may come. Past the first token this is mostly so.
-    #[inline(always)]
-    fn is_plain(&self) -> bool {
-        self.index == self.start && matches!(self.frontmatter_allowed, FrontmatterAllowed::No)
-    }
-
-    /// Moves on by this many bytes. Then no bytes are pending.
-    #[inline(always)]
-    fn pass(&mut self, len: u32) {
-        self.index += len as usize;
-        self.start = self.index;
-    }
-}
-
-/// Returns whether a frontmatter may come after a token of this kind.
-#[inline(always)]
-pub(crate) fn next_allowed(allowed: FrontmatterAllowed, kind: TokenKind) -> FrontmatterAllowed {
-    match kind {
-        TokenKind::Whitespace | TokenKind::Eof => allowed,
-        _ => FrontmatterAllowed::No,
     }
 }
 

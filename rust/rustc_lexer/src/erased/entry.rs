@@ -1,6 +1,5 @@
 //! The calls that lex a text, and their iterator.
 
-use crate::erased::cursor::next_allowed;
 use crate::erased::edition::{Edition, token_as};
 use crate::erased::entry::ahead::Ahead;
 use crate::erased::lexemes::choose_token;
@@ -105,6 +104,13 @@ impl<'a> Tokens<'a> {
     pub fn frontmatter_allowed(&self) -> FrontmatterAllowed {
         self.frontmatter_allowed
     }
+
+    /// Moves on by this many bytes, whatever tokens they belong to.
+    #[inline(always)]
+    pub(crate) fn pass(&mut self, len: usize) {
+        self.ahead.told = None;
+        self.ahead.at += len;
+    }
 }
 
 impl<'a> Iterator for Tokens<'a> {
@@ -139,5 +145,14 @@ impl<'a> Iterator for Tokens<'a> {
         self.ahead.at += token.len as usize;
         self.frontmatter_allowed = next_allowed(self.frontmatter_allowed, token.kind);
         Some(token)
+    }
+}
+
+/// Returns whether a frontmatter may come after a token of this kind.
+#[inline(always)]
+fn next_allowed(allowed: FrontmatterAllowed, kind: TokenKind) -> FrontmatterAllowed {
+    match kind {
+        TokenKind::Whitespace | TokenKind::Eof => allowed,
+        _ => FrontmatterAllowed::No,
     }
 }

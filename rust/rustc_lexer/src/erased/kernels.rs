@@ -1,15 +1,18 @@
-//! Searches over bytes that look at 32 or 64 bytes at a time: where a run ends, and where a byte is.
+//! Searches over bytes that look at 16, 32 or 64 bytes at a time: where a run ends, and where a byte is.
 
 use crate::support::simd::*;
 use memchr::{memchr, memchr2};
 
 /// A class of bytes in ASCII.
 pub(crate) trait ByteClass {
+    /// How many bytes [`stops`](ByteClass::stops) looks at.
+    const WIDTH: usize;
+
     /// Returns whether the byte is in the class.
     fn has(byte: u8) -> bool;
 
-    /// Returns a mask. Bit k is set if lane k is outside the class.
-    fn stops(v: u8x32) -> u64;
+    /// Returns a mask of the first bytes. Bit k is set if byte k is outside the class.
+    fn stops(bytes: &[u8]) -> u64;
 }
 
 /// The bytes that an identifier may continue with.
@@ -17,18 +20,21 @@ pub(crate) trait ByteClass {
 pub(crate) struct Continue;
 
 impl ByteClass for Continue {
+    const WIDTH: usize = 16;
+
     #[inline(always)]
     fn has(byte: u8) -> bool {
         byte.is_ascii_alphanumeric() || byte == b'_'
     }
 
     #[inline(always)]
-    fn stops(v: u8x32) -> u64 {
-        let from_a = (v | u8x32::splat(0x20)) - u8x32::splat(b'a');
-        let from_0 = v - u8x32::splat(b'0');
-        (from_a.simd_ge(u8x32::splat(26))
-            & from_0.simd_ge(u8x32::splat(10))
-            & v.simd_ne(u8x32::splat(b'_')))
+    fn stops(bytes: &[u8]) -> u64 {
+        let v = u8x16::from_slice(bytes);
+        let from_a = (v | u8x16::splat(0x20)) - u8x16::splat(b'a');
+        let from_0 = v - u8x16::splat(b'0');
+        (from_a.simd_ge(u8x16::splat(26))
+            & from_0.simd_ge(u8x16::splat(10))
+            & v.simd_ne(u8x16::splat(b'_')))
         .to_bitmask()
     }
 }
@@ -38,15 +44,18 @@ impl ByteClass for Continue {
 pub(crate) struct Space;
 
 impl ByteClass for Space {
+    const WIDTH: usize = 16;
+
     #[inline(always)]
     fn has(byte: u8) -> bool {
         matches!(byte, b' ' | b'\t'..=b'\r')
     }
 
     #[inline(always)]
-    fn stops(v: u8x32) -> u64 {
-        let from_tab = v - u8x32::splat(b'\t');
-        (v.simd_ne(u8x32::splat(b' ')) & from_tab.simd_ge(u8x32::splat(5))).to_bitmask()
+    fn stops(bytes: &[u8]) -> u64 {
+        let v = u8x16::from_slice(bytes);
+        let from_tab = v - u8x16::splat(b'\t');
+        (v.simd_ne(u8x16::splat(b' ')) & from_tab.simd_ge(u8x16::splat(5))).to_bitmask()
     }
 }
 
@@ -55,13 +64,16 @@ impl ByteClass for Space {
 pub(crate) struct Decimal;
 
 impl ByteClass for Decimal {
+    const WIDTH: usize = 32;
+
     #[inline(always)]
     fn has(byte: u8) -> bool {
         byte.is_ascii_digit() || byte == b'_'
     }
 
     #[inline(always)]
-    fn stops(v: u8x32) -> u64 {
+    fn stops(bytes: &[u8]) -> u64 {
+        let v = u8x32::from_slice(bytes);
         let from_0 = v - u8x32::splat(b'0');
         (from_0.simd_ge(u8x32::splat(10)) & v.simd_ne(u8x32::splat(b'_'))).to_bitmask()
     }
@@ -72,13 +84,16 @@ impl ByteClass for Decimal {
 pub(crate) struct Hexadecimal;
 
 impl ByteClass for Hexadecimal {
+    const WIDTH: usize = 32;
+
     #[inline(always)]
     fn has(byte: u8) -> bool {
         byte.is_ascii_hexdigit() || byte == b'_'
     }
 
     #[inline(always)]
-    fn stops(v: u8x32) -> u64 {
+    fn stops(bytes: &[u8]) -> u64 {
+        let v = u8x32::from_slice(bytes);
         let from_a = (v | u8x32::splat(0x20)) - u8x32::splat(b'a');
         let from_0 = v - u8x32::splat(b'0');
         (from_a.simd_ge(u8x32::splat(6))
@@ -123,13 +138,13 @@ pub(crate) fn ends_of_runs(bytes: &[u8]) -> u64 {
     apart(words(v), spaces(v))
 }
 
-/// Returns how many bytes at the front are in the class. The run mostly ends within 32 bytes.
+/// Returns how many bytes at the front are in the class. The run mostly ends within `WIDTH` bytes.
 #[inline(always)]
 pub(crate) fn run_end<C: ByteClass>(bytes: &[u8]) -> usize {
-    if bytes.len() < 32 {
+    if bytes.len() < C::WIDTH {
         return run_end_by_bytes::<C>(bytes);
     }
-    let stops = C::stops(u8x32::from_slice(bytes));
+    let stops = C::stops(bytes);
     if stops == 0 {
         return run_end_by_lanes::<C>(bytes);
     }
@@ -145,16 +160,16 @@ pub(crate) fn short_run_end<C: ByteClass>(bytes: &[u8]) -> usize {
     0
 }
 
-/// Returns how many bytes at the front are in the class. Looks at 32 bytes at a time.
+/// Returns how many bytes at the front are in the class. Looks at `WIDTH` bytes at a time.
 #[inline(never)]
 fn run_end_by_lanes<C: ByteClass>(bytes: &[u8]) -> usize {
     let mut end = 0;
-    while bytes.len() - end >= 32 {
-        let stops = C::stops(u8x32::from_slice(&bytes[end..]));
+    while bytes.len() - end >= C::WIDTH {
+        let stops = C::stops(&bytes[end..]);
         if stops != 0 {
             return end + stops.trailing_zeros() as usize;
         }
-        end += 32;
+        end += C::WIDTH;
     }
     end + run_end_by_bytes::<C>(&bytes[end..])
 }

@@ -25,13 +25,13 @@ impl<'a> Cursor<'a> {
         let rest = self.as_str();
         let n_hashes = count_hashes(rest);
         let Some((terminated, len)) = string_past(rest, n_hashes) else {
-            self.index += n_hashes;
+            self.tokens.pass(n_hashes);
+            self.pending += n_hashes as u32;
             return None;
         };
-        let end = self.index + len;
-        let token_len = (end - self.start) as u32;
-        self.index = end;
-        self.start = end;
+        let token_len = self.pending + len as u32;
+        self.tokens.pass(len);
+        self.pending = 0;
         Some(GuardedStr {
             n_hashes: n_hashes as u32,
             terminated,

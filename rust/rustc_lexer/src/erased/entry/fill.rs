@@ -28,8 +28,7 @@ impl<'a> Tokens<'a> {
         let rest = self.as_str();
         if self.is_part() && rest.len() >= BLOCK {
             let (count, bytes) = fill_part(rest, self.edition, buffer);
-            self.ahead.told = None;
-            self.ahead.at += bytes;
+            self.pass(bytes);
             return count;
         }
         self.fill_singly(buffer)
