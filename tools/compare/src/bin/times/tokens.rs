@@ -204,6 +204,22 @@ macro_rules! ways {
                 consumer.sum()
             }
 
+            /// The number of each token's kind with its fields, and where the token begins, in two lists, as a parser
+            /// keeps them.
+            pub fn kinds_and_starts(text: &str) -> Sum {
+                let (mut kinds, mut starts) = (Vec::new(), Vec::new());
+                let mut start = 0;
+                for token in tokenize(text, FrontmatterAllowed::No) {
+                    kinds.push(number::<true>(token.kind) as u16);
+                    starts.push(start);
+                    start += token.len;
+                }
+                Sum {
+                    count: black_box(&kinds).len() as u64,
+                    sum: black_box(&starts).len() as u64,
+                }
+            }
+
             pub const WAYS: [Way; 6] = [
                 way!("`for` over `tokenize`", by_for),
                 way!("`fold` of `tokenize`", by_fold),
@@ -260,5 +276,9 @@ pub fn ways() -> Vec<(&'static str, Pairs)> {
         vec![[theirs::collected, ours::collected]],
     ));
     ways.push(("`Tokens::into_vec`", vec![[theirs::collected, into_vec]]));
+    ways.push((
+        "kinds and starts in two lists",
+        vec![[theirs::kinds_and_starts, ours::kinds_and_starts]],
+    ));
     ways
 }
