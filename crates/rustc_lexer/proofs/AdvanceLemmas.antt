@@ -13,35 +13,12 @@ use Rattle.rustc_lexer.specs.Classes.{IsText}
 use Rattle.rustc_lexer.specs.Tokens.{tokens_left, tokens_of, HasSuffix, TakesFirst, TakesToken}
 use Rattle.rustc_lexer.specs.laws.State.{state, past_token, advance-end, advance-some, token_past-zero}
 use Rattle.rustc_lexer.proofs.TextLemmas.{suffixes, token_at-not_end}
-use Rattle.rustc_lexer.proofs.TokensLemmas.{takes_first as takes_alone}
 use Rattle.rustc_lexer.specs.laws.Tokens.{tokens-cons}
 
 -- pending bytes make no end of a token that is none
 kind_past-end : (pending : ℕ) (kind : TokenKind) → kind_past pending kind ≡ Eof → kind ≡ Eof
 kind_past-end pending (Literal kind start) e = absurd (cc)
 kind_past-end pending kind e = e
-
-module _ (s t : State) (token : Token) (is : IsText s.rest) (some : 0 < length s.rest) (e : token ≡ (take_next s).0) (f : t ≡ (take_next s).1) where
-  pub not_end : token.kind ≢ Eof
-  not_end h = token_at-not_end s.mode s.rest is some (kind_past-end s.pending (token_at s.mode s.rest).kind (
-      ap (λ (r : Token × State). r.0.kind) (sym (advance-some s.pending s.rest s.mode s refl (ne_eqb (length s.rest) 0 (λ none. omega arith))))
-      ∙ (ap (λ (k : Token). k.kind) (sym e) ∙ h)))
-
-  pub takes_first : TakesFirst s token t
-  takes_first =
-      let first : Token = token_at s.mode s.rest in
-      let more : (length s.rest == 0) ≡ false = ne_eqb (length s.rest) 0 (λ none. omega arith) in
-      let whole = advance-some s.pending s.rest s.mode s refl more in
-      let token_is : token ≡ token_past s.pending first = e ∙ ap (λ (r : Token × State). r.0) whole in
-      let state_is : t ≡ past_token s.rest s.mode first = f ∙ ap (λ (r : Token × State). r.1) whole in
-      let own = takes_alone (state 0 s.rest s.mode) t first refl is more refl state_is in
-      record {
-        taken = first;
-        takes = own.takes;
-        with_pending = token_is;
-        alone = λ none. token_is ∙ (ap (λ n. token_past n first) none ∙ token_past-zero first);
-        none_pending = own.pending;
-      }
 
 -- what a cursor takes that no end of the text stops
 pub record Advances (s t : State) (token : Token) : Type 0 where
@@ -111,12 +88,26 @@ module _ (pending : ℕ) (tokens : State) (is : IsCursor pending tokens) (s : St
     state_is : new ≡ (take_next old).1
     state_is = ap (λ (x : State). state 0 x.rest x.mode) next_is ∙ sym (ap (λ (r : Token × State). r.1) whole)
 
+    no_end : (token_past pending taken).kind ≢ Eof
+    no_end h = token_at-not_end tokens.mode tokens.rest is.text some (sym (ap (λ (k : Token). k.kind) taken_is) ∙ kind_past-end pending taken.kind h)
+
+    takes_alone : TakesToken (state 0 tokens.rest tokens.mode) taken new
+    takes_alone =
+        let from : TakesToken (state 0 tokens.rest tokens.mode) taken t = subst (λ n. TakesToken (state n tokens.rest tokens.mode) taken t) is.alone takes in
+        subst (λ n. TakesToken (state 0 tokens.rest tokens.mode) taken (state n t.rest t.mode)) (ap (λ (x : State). x.pending) next_is) from
+
     pub advances : Advances s new (token_past pending taken)
     advances = subst (λ (x : State). Advances x new (token_past pending taken)) view record {
       token_is = token_is;
       state_is = state_is;
-      no_end = not_end old new _ is.text some token_is state_is;
-      first = takes_first old new _ is.text some token_is state_is;
+      no_end = no_end;
+      first = record {
+        taken = taken;
+        takes = takes_alone;
+        with_pending = refl;
+        alone = λ none. ap (λ n. token_past n taken) none ∙ token_past-zero taken;
+        none_pending = refl;
+      };
     }
 
     pub advances_alone : pending ≡ 0 → Advances s (state pending t.rest t.mode) taken
