@@ -1,11 +1,18 @@
 -- What an edition has in place of some tokens.
-use Rattle.std.proofs.Common.{◌≡◌, ◌<◌, ℕ, Bool, true, false, List, length, refl, sym, ap, ◌∙◌, Option, Some, IsCharBoundary, arith}
-use Rattle.rustc_lexer.specs.{Edition, FrontmatterAllowed, Token, TokenKind, E2015, E2018, E2021, E2024, Yes, No, Literal, Eof}
+use Rattle.std.proofs.Common.{◌≡◌, ◌≢◌, ◌<◌, ◌==◌, ℕ, suc, Bool, true, false, true≢false, List, [], ◌∷◌, length, nat_le, ◌⊎◌, inl, inr, refl, sym, ap, ◌∙◌, Option, Some, IsCharBoundary, arith}
+use Rattle.rustc_lexer.specs.{Edition, FrontmatterAllowed, Token, TokenKind, E2015, E2018, E2021, E2024, Yes, No, Literal, Eof, Pound, GuardedStrPrefix, RawLifetime, UnknownPrefix, UnknownPrefixLifetime}
 use Rattle.rustc_lexer.specs.LanguageCalls.{edition_of_year}
 use Rattle.rustc_lexer.specs.LanguageText.{mode_in, year}
 use Rattle.rustc_lexer.specs.laws.Choice.{by_either}
-use Rattle.rustc_lexer.specs.laws.Edition.{edition_grammar}
-use Rattle.rustc_lexer.specs.means.Edition.{token, before_2021, changed, first_token_in}
+use Rattle.rustc_lexer.specs.laws.Edition.{edition_grammar, kept_2021}
+use Rattle.rustc_lexer.specs.declared.lexemes.family.Family.TheVariants.{Hash}
+use Rattle.rustc_lexer.specs.Tables.{is_emoji}
+use Rattle.unicode_ident.proofs.Computing.{unicode_ident}
+use Rattle.std.proofs.lemmas.Bool.{eqb-true}
+use Rattle.rustc_lexer.specs.means.Lexeme.{family_of, first_token, lexeme, past_first}
+use Rattle.rustc_lexer.specs.means.Quick.{BeginsWithNoHash, IsFirstBy, IsFirstToken}
+use Rattle.rustc_lexer.specs.means.Scan.{bytes_of}
+use Rattle.rustc_lexer.specs.means.Edition.{token, before_2024, before_2021, changed, first_token_in}
 use Rattle.rustc_lexer.specs.Classes.{IsText}
 use Rattle.rustc_lexer.specs.means.Frontmatter.{frontmatter, opens}
 use Rattle.rustc_lexer.specs.means.Taking.{token_at}
@@ -26,6 +33,24 @@ module _ (P : Token → Type 0) (silent : (kind : TokenKind) (len : ℕ) → is_
 
   pub changed-either : (edition : Edition) (cs : List ℕ) (t : Token) → P t → P (changed edition cs t)
   changed-either edition cs t p = grind (arith, common_steps, in_2018)
+
+-- whether an older edition has another token in place of one of this kind
+abbrev pub is_newer : TokenKind → Bool
+is_newer GuardedStrPrefix = true
+is_newer RawLifetime = true
+is_newer UnknownPrefix = true
+is_newer UnknownPrefixLifetime = true
+is_newer kind = false
+
+older_2021 : (kind : TokenKind) (len : ℕ) → is_newer kind ≡ false → before_2024 kind len ≡ record { kind = kind; len = len }
+older_2021 GuardedStrPrefix len old = absurd (true≢false old)
+older_2021 kind len old = refl
+
+older_2018 : (cs : List ℕ) (kind : TokenKind) (len : ℕ) → is_newer kind ≡ false → before_2021 cs kind len ≡ record { kind = kind; len = len }
+older_2018 cs kind len old = grind (arith, common_steps)
+
+pub older : (edition : Edition) (cs : List ℕ) (t : Token) → is_newer t.kind ≡ false → changed edition cs t ≡ t
+older edition cs t old = grind (arith, common_steps, older_2021, older_2018)
 
 -- the token of an edition at the front of a text may be cut off
 pub boundary-of : (edition : Edition) (text : List ℕ) (token : Token) → IsText text → 0 < length text → token ≡ first_token_in edition text → IsCharBoundary text token.len
@@ -52,3 +77,57 @@ edition-back E2024 = refl
 
 pub year-only : (edition other : Edition) → year edition ≡ year other → edition ≡ other
 year-only edition other e = ap (λ (o : Option Edition). unwrap_or o edition) (sym (edition-back edition) ∙ (ap edition_of_year e ∙ edition-back other))
+
+-- ---- tokens of the newest edition that another one has too
+
+hash_family : family_of 35 ≡ Hash
+unfolding is_emoji unicode_ident
+hash_family = refl
+
+kept_first : (cs : List ℕ) → ((first : ℕ) (s : List ℕ) → cs ≡ first ∷ s → family_of first ≢ Hash) → before_2024 (lexeme cs).0 (bytes_of (lexeme cs).1 cs) ≡ token (lexeme cs).0 (bytes_of (lexeme cs).1 cs)
+kept_first [] none = refl
+kept_first (c ∷ s) none =
+    kept_2021 c (by_either (c == 35) (λ e. absurd (none c s refl (ap family_of (eqb-true c 35 e) ∙ hash_family))) (λ e. e)) s (bytes_of (suc (past_first c s).1) (c ∷ s))
+
+-- where no hash stands in front
+first_2021 : (text : List ℕ) → BeginsWithNoHash text → first_token text ≡ first_token_in E2021 text
+unfolding first_token
+first_2021 text none = sym (kept_first (chars text) none)
+
+pub first_newer : (edition : Edition) (text : List ℕ) → BeginsWithNoHash text → (edition ≡ E2024) ⊎ (edition ≡ E2021) → first_token text ≡ first_token_in edition text
+first_newer edition text none (inl e) = rw e refl
+first_newer edition text none (inr e) = rw e (first_2021 text none)
+
+-- the two oldest have the same
+pub first_oldest : (edition : Edition) (text : List ℕ) → (edition ≡ E2018) ⊎ (edition ≡ E2015) → first_token_in E2018 text ≡ first_token_in edition text
+first_oldest edition text (inl e) = rw e refl
+first_oldest edition text (inr e) = rw e refl
+
+-- a token whose kind each edition keeps
+pub first_by : (guards : Bool) (text : List ℕ) (t : Token) → IsFirstToken text t → is_newer t.kind ≡ false → IsFirstBy guards text t
+first_by guards text t is old = record {
+  token = λ edition e. sym (older edition (chars text) t old) ∙ ap (changed edition (chars text)) is.token;
+  inside = is.inside;
+  boundary = is.boundary;
+  suffix = is.suffix;
+}
+
+-- the newest edition reserves guarded strings
+pub newest_first : (text : List ℕ) (t : Token) → IsFirstBy true text t → IsFirstToken text t
+newest_first text t is = record { token = is.token E2024 refl; inside = is.inside; boundary = is.boundary; suffix = is.suffix }
+
+-- a hash before a mark, where the edition reserves it
+pub guard_by : (text : List ℕ) → IsFirstToken text record { kind = GuardedStrPrefix; len = 2 } → IsFirstBy true text record { kind = GuardedStrPrefix; len = 2 }
+guard_by text is = record { token = λ edition e. rw e is.token; inside = is.inside; boundary = is.boundary; suffix = is.suffix }
+
+-- and where it does not
+guard_older : (edition : Edition) (cs : List ℕ) → nat_le 2024 (year edition) ≡ false → changed edition cs record { kind = GuardedStrPrefix; len = 2 } ≡ record { kind = Pound; len = 1 }
+guard_older edition cs old = grind (arith, common_steps)
+
+pub pound_by : (text : List ℕ) → IsFirstToken text record { kind = GuardedStrPrefix; len = 2 } → IsCharBoundary text 1 → IsFirstBy false text record { kind = Pound; len = 1 }
+pound_by text is bound = record {
+  token = λ edition e. sym (guard_older edition (chars text) e) ∙ ap (changed edition (chars text)) is.token;
+  inside = let inside = is.inside in omega (arith, inside);
+  boundary = bound;
+  suffix = omega arith;
+}

@@ -12,18 +12,19 @@ use Rattle.std.proofs.Math.Bool.{and_comm, or_comm}
 use Rattle.std.proofs.lemmas.Grind.{common_steps}
 use lib.Lanes.{chunk, mask_l}
 use Rattle.unicode_ident.proofs.Computing.{unicode_ident}
-use Rattle.rustc_lexer.specs.{Edition, TokenKind, Token, Ident, Whitespace, GuardedStrPrefix, RawLifetime, UnknownPrefix, UnknownPrefixLifetime}
+use Rattle.rustc_lexer.specs.{Edition, TokenKind, Ident, Whitespace}
 use Rattle.rustc_lexer.specs.declared.lexemes.classified.TheConstants.{CLASSIFIED, SYMBOLS}
 use Rattle.rustc_lexer.specs.declared.lexemes.family.Family.{Family}
 use Rattle.rustc_lexer.specs.declared.lexemes.family.Family.TheVariants.{Slash, Space, Word, Number, Quote, Str, Emoji, Hash, Symbol}
 use Rattle.rustc_lexer.specs.Tokens.{has_fields}
-use Rattle.rustc_lexer.specs.means.Edition.{before_2024, before_2021, changed}
+use Rattle.rustc_lexer.specs.means.Edition.{changed}
 use Rattle.rustc_lexer.specs.means.Ends.{bit, goes_on, is_end, AreEndsPast, IsEnds, IsLowest, classified, classified_in, StaysWithin}
 use Rattle.rustc_lexer.specs.means.ByteRuns.{is_continue_byte, is_space_byte}
 use Rattle.rustc_lexer.specs.Tables.{is_emoji}
 use Rattle.rustc_lexer.specs.means.Lexeme.{family_of, symbol_kind}
 use Rattle.rustc_lexer.specs.means.Quick.{is_space_lead, turns_word, IsFirstToken}
 use Rattle.rustc_lexer.specs.means.Scan.{next_is}
+use Rattle.rustc_lexer.proofs.EditionLemmas.{is_newer, older}
 use Rattle.rustc_lexer.proofs.BitLemmas.{below-high, below-low, bit-at_byte, bit-zero, high, past-first, past-later, within}
 use Rattle.rustc_lexer.proofs.QuickLemmas.{word_first, space_first, symbol_first}
 
@@ -293,27 +294,9 @@ pub classified_bare : (b : ℕ) (kind : TokenKind) → classified b ≡ Some kin
 unfolding is_emoji unicode_ident
 classified_bare b kind some = sym (ap (said has_fields) some) ∙ agree_below_at (λ x. said has_fields (classified x)) (λ _. false) 128 b refl (tells b kind some).small
 
--- whether an older edition has another token in place of one of this kind
-abbrev is_newer : TokenKind → Bool
-is_newer GuardedStrPrefix = true
-is_newer RawLifetime = true
-is_newer UnknownPrefix = true
-is_newer UnknownPrefixLifetime = true
-is_newer kind = false
-
 classified_older : (b : ℕ) (kind : TokenKind) → classified b ≡ Some kind → is_newer kind ≡ false
 unfolding is_emoji unicode_ident
 classified_older b kind some = sym (ap (said is_newer) some) ∙ agree_below_at (λ x. said is_newer (classified x)) (λ _. false) 128 b refl (tells b kind some).small
-
-older_2021 : (kind : TokenKind) (len : ℕ) → is_newer kind ≡ false → before_2024 kind len ≡ record { kind = kind; len = len }
-older_2021 GuardedStrPrefix len old = absurd (true≢false old)
-older_2021 kind len old = refl
-
-older_2018 : (cs : List ℕ) (kind : TokenKind) (len : ℕ) → is_newer kind ≡ false → before_2021 cs kind len ≡ record { kind = kind; len = len }
-older_2018 cs kind len old = grind (arith, common_steps)
-
-older : (edition : Edition) (cs : List ℕ) (t : Token) → is_newer t.kind ≡ false → changed edition cs t ≡ t
-older edition cs t old = grind (arith, common_steps, older_2021, older_2018)
 
 pub classified_same : (b : ℕ) (kind : TokenKind) → classified b ≡ Some kind → (edition : Edition) (cs : List ℕ) (len : ℕ) → changed edition cs record { kind = kind; len = len } ≡ record { kind = kind; len = len }
 classified_same b kind some edition cs len = older edition cs record { kind = kind; len = len } (classified_older b kind some)

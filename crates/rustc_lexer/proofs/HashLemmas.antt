@@ -1,17 +1,19 @@
 -- A hash, by the byte after it.
-use Rattle.std.proofs.Common.{◌≡◌, ◌≢◌, ℕ, ◌<◌, ◌≤◌, true, false, true≢false, List, [], ◌∷◌, ◌++◌, length, sym, ap, ◌∙◌, arith}
-use Rattle.std.specs.Str.{chars, encode_utf8_all, IsUtf8}
+use Rattle.std.proofs.Common.{◌≡◌, ◌≢◌, ℕ, ◌<◌, ◌≤◌, Bool, drop, refl, subst, true, false, true≢false, List, [], ◌∷◌, ◌++◌, length, sym, ap, ◌∙◌, arith}
+use Rattle.std.specs.Str.{chars, encode_utf8_all, IsCharBoundary, IsUtf8}
 use Rattle.std.proofs.lemmas.Bool.{eqb-true, or_cases}
-use Rattle.std.proofs.lemmas.Str.{chars-nil, encode_ascii, encodes-chars}
+use Rattle.std.proofs.lemmas.Str.{chars-nil, encode_ascii, encodes-chars, IsCharBoundary-from_drop}
 use Rattle.std.proofs.lemmas.Grind.{common_steps}
 use Rattle.rustc_lexer.specs.{GuardedStrPrefix, Pound}
+use Rattle.rustc_lexer.specs.laws.Choice.{by_either}
+use Rattle.rustc_lexer.proofs.EditionLemmas.{first_by, pound_by}
 use Rattle.rustc_lexer.specs.declared.lexemes.family.Family.TheVariants.{Hash}
 use Rattle.rustc_lexer.specs.means.Hash.{is_guarded_mark, hash}
 use Rattle.rustc_lexer.specs.means.Lexeme.{family_of, past_first}
-use Rattle.rustc_lexer.specs.means.Quick.{BeginsWithNoHash, IsFirstToken}
+use Rattle.rustc_lexer.specs.means.Quick.{BeginsWithNoHash, IsFirstBy, IsFirstToken}
 use Rattle.rustc_lexer.specs.means.Raw.{is_hash, is_quote}
 use Rattle.rustc_lexer.specs.means.Scan.{after, gives, next_is, past, scanned}
-use Rattle.rustc_lexer.proofs.BridgeLemmas.{next_byte}
+use Rattle.rustc_lexer.proofs.BridgeLemmas.{next_byte, IsUtf8-ascii}
 use Rattle.rustc_lexer.proofs.FamilyLemmas.{by_family}
 use Rattle.rustc_lexer.specs.laws.Past.{past-one}
 use Rattle.rustc_lexer.proofs.QuickLemmas.{first}
@@ -73,5 +75,21 @@ pound_first text b rest is e small family none = first text b rest Pound 0 is e 
   where
     told : IsUtf8 rest → (Pound, rest) ≡ scanned (past_first b) rest
     told inner = by_family Hash b rest _ (pound_read rest inner (mark-byte rest inner ∙ none)) family
+
+-- the same in each edition
+pub hash_alone : (guards : Bool) (text : List ℕ) (b : ℕ) (rest : List ℕ) → IsUtf8 text → text ≡ b ∷ rest → b < 128 → Hash ≡ family_of b → next_is is_guarded_mark rest ≡ false → IsFirstBy guards text record { kind = Pound; len = 1 }
+hash_alone guards text b rest is e small family none = first_by guards text _ (pound_first text b rest is e small family none) refl
+
+pub hash_older : (text : List ℕ) (b : ℕ) (rest : List ℕ) → IsUtf8 text → text ≡ b ∷ rest → b < 128 → Hash ≡ family_of b → IsFirstBy false text record { kind = Pound; len = 1 }
+hash_older text b rest is e small family =
+    by_either (next_is is_guarded_mark rest)
+        (λ mark. pound_by text (prefix_first text b rest is e small family mark) past)
+        (λ none. hash_alone false text b rest is e small family none)
+  where
+    past : IsCharBoundary text 1
+    past =
+        let inner : IsUtf8 rest = IsUtf8-ascii b rest (subst IsUtf8 e is) small in
+        let left : rest ≡ drop 1 text = ap (drop 1) (sym e) in
+        IsCharBoundary-from_drop text 1 (omega (arith, ap length e)) (subst IsUtf8 left inner)
 
 pub ruleset hash_lemmas = (hash-small)

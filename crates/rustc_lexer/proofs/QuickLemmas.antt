@@ -12,9 +12,11 @@ use Rattle.rustc_lexer.specs.means.ByteRuns.{is_continue_byte, is_space_byte, is
 use Rattle.rustc_lexer.specs.Classes.{is_id_continue, ends_prefix}
 use Rattle.rustc_lexer.specs.Tables.{is_emoji}
 use Rattle.rustc_lexer.specs.means.Ident.{ident_or_unknown_prefix, marks_ident}
+use Rattle.rustc_lexer.specs.laws.Choice.{by_symbol}
 use Rattle.rustc_lexer.specs.laws.Family.{by_letter}
-use Rattle.rustc_lexer.specs.means.Lexeme.{family_of, word, symbol_kind, past_first, is_raw_mark, begins_raw}
-use Rattle.rustc_lexer.specs.means.Quick.{is_space_lead, turns_word, IsFirstToken}
+use Rattle.rustc_lexer.proofs.EditionLemmas.{first_by, is_newer}
+use Rattle.rustc_lexer.specs.means.Lexeme.{family_of, word, symbols, symbol_kind, past_first, is_raw_mark, begins_raw}
+use Rattle.rustc_lexer.specs.means.Quick.{is_space_lead, turns_word, IsFirstBy, IsFirstToken}
 use Rattle.rustc_lexer.specs.means.Scan.{begins, next_is, past, run_len, scanned}
 use Rattle.rustc_lexer.proofs.BridgeLemmas.{chars-ascii, IsUtf8-ascii, skips, stops_here}
 use Rattle.rustc_lexer.proofs.IdentLemmas.{ident_or_unknown_prefix-valid}
@@ -123,6 +125,13 @@ symbol_first text b rest kind is e small family same = first text b rest kind 0 
   where
     told : IsUtf8 rest → (kind, rest) ≡ scanned (past_first b) rest
     told inner = by_family Symbol b rest _ (ap (λ (k : TokenKind). (k, rest)) same ∙ sym (scanned-gives (symbol_kind b) rest inner)) family
+
+-- no edition has another token in place of a symbol
+symbol-kept : (b : ℕ) → is_newer (symbol_kind b) ≡ false
+symbol-kept b = not-true _ (by_symbol (λ (kind : TokenKind). not (is_newer kind)) symbols b refl refl)
+
+pub symbol_by : (guards : Bool) (text : List ℕ) (b : ℕ) (rest : List ℕ) (kind : TokenKind) → IsUtf8 text → text ≡ b ∷ rest → b < 128 → Symbol ≡ family_of b → kind ≡ symbol_kind b → IsFirstBy guards text record { kind = kind; len = 1 }
+symbol_by guards text b rest kind is e small family same = first_by guards text _ (symbol_first text b rest kind is e small family same) (ap is_newer same ∙ symbol-kept b)
 
 -- an identifier, by the byte after it
 pub ident_or_unknown_prefix_ends : (tail rest bytes : List ℕ) → IsUtf8 tail → IsUtf8 rest → rest ≡ past (run_len is_id_continue (chars tail)) tail → bytes ≡ rest → not (next_is turns_word bytes) ≡ true → (Ident, rest) ≡ scanned ident_or_unknown_prefix tail

@@ -1,17 +1,17 @@
 -- Taking the tokens of a whole text, one by one.
-use Rattle.std.proofs.Common.{◌≡◌, ℕ, ◌<◌, ◌==◌, true, false, subst, List, [], length, length-drop, drop, arith, refl, sym, ap, ap₂, ◌∙◌, ◌^◌, Some, rules, pos_of_ne-zero}
+use Rattle.std.proofs.Common.{◌≡◌, ℕ, ◌<◌, ◌==◌, true, false, subst, List, [], length, length-drop, drop, arith, refl, sym, ap, ◌∙◌, ◌^◌, Some, rules, pos_of_ne-zero}
 use Rattle.std.specs.Prelude.{⊤}
 use Rattle.std.specs.Iterator.{at_most, MakesProgress}
 use Rattle.std.specs.Str.{IsUtf8}
 use Rattle.std.proofs.lemmas.Bool.{eqb-true, eqb-false}
 use Rattle.std.proofs.lemmas.Str.{IsCharBoundary-from_take}
 use Rattle.std.proofs.lemmas.List.{nil_from_length}
-use Rattle.rustc_lexer.specs.{Edition, FrontmatterAllowed, Token, E2024, No}
+use Rattle.rustc_lexer.specs.{Edition, FrontmatterAllowed, Token, No}
 use Rattle.rustc_lexer.specs.Tokens.{tokens_of, tokens_left, RestartsAtBounds, TakesToken}
 use Rattle.rustc_lexer.specs.laws.Tokens.{CutsOff, token_at-cuts, tokens-cons, tokens-nil}
 use Rattle.rustc_lexer.specs.LanguageText.{Mode, part, mode_after, mode_in}
 use Rattle.rustc_lexer.specs.laws.Edition.{edition_grammar}
-use Rattle.rustc_lexer.specs.means.Lexeme.{first_token}
+use Rattle.rustc_lexer.specs.means.Edition.{first_token_in}
 use Rattle.rustc_lexer.specs.State.{State, token_past}
 use Rattle.rustc_lexer.specs.means.Taking.{token_at}
 use Rattle.rustc_lexer.specs.laws.Cuts.{at_bound}
@@ -58,11 +58,11 @@ takes_own mode next inside text s view rest left token is fits some e f g =
     let here : state 0 text mode ≡ s = ap (λ xs. state 0 xs mode) (rest ∙ ap (λ (x : State). x.rest) (sym view)) ∙ view in
     subst (λ (x : State). TakesFirst x (state 0 left next) token) here (takes_first (state 0 text mode) (state 0 left next) token refl record { utf8 = is; fits = fits } some e (past_token-is text left mode next token f g))
 
--- a token of a part in the newest edition, which leaves how the iterator reads as it is
-pub takes_newest : (allowed : FrontmatterAllowed) (edition : Edition) (inside text : List ℕ) (s : State) → allowed ≡ No → edition ≡ E2024 → state 0 inside (mode_in allowed edition) ≡ s → text ≡ s.rest → (left : List ℕ) (token : Token) → IsUtf8 text → length text < 2 ^ 32 → (length text == 0) ≡ false
-    → token ≡ first_token text → left ≡ drop token.len text → TakesFirst s (state 0 left (mode_in allowed edition)) token
-takes_newest allowed edition inside text s never newest view rest left token is fits some e f =
-    let part_of : mode_in allowed edition ≡ part E2024 = ap₂ mode_in never newest in
+-- a token of a part, which leaves how the iterator reads as it is
+pub takes_part : (allowed : FrontmatterAllowed) (edition : Edition) (inside text : List ℕ) (s : State) → allowed ≡ No → state 0 inside (mode_in allowed edition) ≡ s → text ≡ s.rest → (left : List ℕ) (token : Token) → IsUtf8 text → length text < 2 ^ 32 → (length text == 0) ≡ false
+    → token ≡ first_token_in edition text → left ≡ drop token.len text → TakesFirst s (state 0 left (mode_in allowed edition)) token
+takes_part allowed edition inside text s never view rest left token is fits some e f =
+    let part_of : mode_in allowed edition ≡ part edition = ap (λ (a : FrontmatterAllowed). mode_in a edition) never in
     takes_own (mode_in allowed edition) (mode_in allowed edition) inside text s view rest left token is fits some (e ∙ sym (ap (λ (m : Mode). token_at m text) part_of)) f
     (subst (λ (m : Mode). m ≡ mode_after m token.kind) (sym part_of) refl)
 

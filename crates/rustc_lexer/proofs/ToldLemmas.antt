@@ -1,22 +1,22 @@
 -- What an iterator knows of the ends of runs past its place, and the tokens that it takes by them.
 use Rattle.std.proofs.Common.{◌≡◌, ℕ, ◌+◌, ◌-◌, ◌^◌, ◌<◌, ◌≤◌, ◌==◌, false, true, true≢false, List, length, length-drop, drop, take, get_or, sym, ap, subst, ◌∙◌, arith, drop-drop, Some}
-use Rattle.std.specs.Str.{IsCharBoundary, IsUtf8}
+use Rattle.std.specs.Str.{chars, IsCharBoundary, IsUtf8}
 use Rattle.std.proofs.lemmas.Bool.{ne_eqb}
 use Rattle.std.proofs.lemmas.List.{get_or-drop, take_rest}
 use Rattle.std.proofs.lemmas.Str.{IsCharBoundary-from_rest, IsUtf8-drop}
-use Rattle.rustc_lexer.specs.{Edition, FrontmatterAllowed, Token, TokenKind, E2024, No}
+use Rattle.rustc_lexer.specs.{Edition, FrontmatterAllowed, Token, TokenKind, No}
 use Rattle.rustc_lexer.specs.Classes.{Fits}
 use Rattle.rustc_lexer.specs.LanguageText.{Mode, mode_in}
 use Rattle.rustc_lexer.specs.declared.entry.ahead.Ahead.{Ahead}
 use Rattle.rustc_lexer.specs.State.{State}
 use Rattle.rustc_lexer.specs.Tokens.{TakesToken}
 use Rattle.rustc_lexer.specs.laws.State.{state}
-use Rattle.rustc_lexer.specs.means.Lexeme.{first_token}
+use Rattle.rustc_lexer.specs.means.Edition.{changed, first_token_in}
 use Rattle.rustc_lexer.specs.means.Ends.{bit, classified, AreEndsPast, IsEnds, IsLowest, IsUntold, StaysWithin, TellEndsPast}
 use Rattle.rustc_lexer.specs.means.Quick.{IsFirstToken}
 use Rattle.rustc_lexer.proofs.BitLemmas.{bit-zero}
-use Rattle.rustc_lexer.proofs.EndsLemmas.{all_past, classified_behind, past_end}
-use Rattle.rustc_lexer.proofs.TokensLemmas.{takes_newest}
+use Rattle.rustc_lexer.proofs.EndsLemmas.{all_past, classified_behind, classified_same, past_end}
+use Rattle.rustc_lexer.proofs.TokensLemmas.{takes_part}
 
 -- no bits tell of every end
 pub none_tell : (text : List ℕ) (from : ℕ) → TellEndsPast text from 0
@@ -68,6 +68,12 @@ module _ (text : List ℕ) (at block ends low : ℕ) (kind : TokenKind) (next : 
       let long : low - (at - block) ≡ block + low - at = omega (arith, next.behind, told_after) in
       subst (λ xs. IsFirstToken xs record { kind = kind; len = block + low - at }) joined (subst (λ n. IsFirstToken (drop (at - block) (drop block text)) record { kind = kind; len = n }) long behind_block)
 
+  -- no edition has another token there
+  pub told_in : (edition : Edition) → record { kind = kind; len = block + low - at } ≡ first_token_in edition (drop at text)
+  told_in edition =
+      let same = classified_same (get_or text at 0) kind next.tells edition (chars (drop at text)) (block + low - at) in
+      sym same ∙ ap (changed edition (chars (drop at text))) told_token.token
+
   pub told_bound : IsCharBoundary text (block + low)
   told_bound =
       let end : at + (block + low - at) ≡ block + low = omega (arith, told_after) in
@@ -95,9 +101,9 @@ still text mode s old new untold view = subst (λ p. state 0 (drop p text) mode 
 pub left_utf8 : (text left : List ℕ) (at : ℕ) → IsUtf8 text → IsCharBoundary text at → left ≡ drop at text → IsUtf8 left
 left_utf8 text left at is bound e = subst IsUtf8 (sym e) (IsUtf8-drop text at is bound)
 
--- taking the first token of the text that is left, of a part in the newest edition
-pub takes_at : (allowed : FrontmatterAllowed) (edition : Edition) (text left : List ℕ) (at : ℕ) (s : State) → allowed ≡ No → edition ≡ E2024 → state 0 (drop at text) (mode_in allowed edition) ≡ s → IsUtf8 text → left ≡ drop at text → IsCharBoundary text at → Fits text
-    → (length left == 0) ≡ false → (token : Token) → token ≡ first_token left → TakesToken s token (state 0 (drop (at + token.len) text) (mode_in allowed edition))
-takes_at allowed edition text left at s never newest view is e bound fits some token first =
-    (takes_newest allowed edition (drop at text) left s never newest view (e ∙ ap (λ (x : State). x.rest) view) (drop (at + token.len) text) token (left_utf8 text left at is bound e) (omega (arith, length-drop at text, ap length e)) some first
+-- taking the first token of the text that is left, of a part
+pub takes_at : (allowed : FrontmatterAllowed) (edition : Edition) (text left : List ℕ) (at : ℕ) (s : State) → allowed ≡ No → state 0 (drop at text) (mode_in allowed edition) ≡ s → IsUtf8 text → left ≡ drop at text → IsCharBoundary text at → Fits text
+    → (length left == 0) ≡ false → (token : Token) → token ≡ first_token_in edition left → TakesToken s token (state 0 (drop (at + token.len) text) (mode_in allowed edition))
+takes_at allowed edition text left at s never view is e bound fits some token first =
+    (takes_part allowed edition (drop at text) left s never view (e ∙ ap (λ (x : State). x.rest) view) (drop (at + token.len) text) token (left_utf8 text left at is bound e) (omega (arith, length-drop at text, ap length e)) some first
     (sym (drop-drop token.len at text) ∙ ap (drop token.len) (sym e))).takes

@@ -1,18 +1,21 @@
 //! The editions of Rust, and how their tokens differ from those of the newest edition.
-ghost use Rattle.std.specs.Prelude.{◌≡◌, ◌<◌, not, codes, length, take, IsCharBoundary, Some};
+ghost use Rattle.std.specs.Prelude.{◌≡◌, ◌<◌, nat_le, not, codes, length, take, IsCharBoundary, Some};
 ghost use Rattle.std.specs.List.{list_all};
 ghost use Rattle.std.specs.Result.{result_ok};
 ghost use Rattle.std.specs.Str.{chars};
+ghost use Rattle.rustc_lexer.specs.{E2018};
 ghost use Rattle.rustc_lexer.specs.Classes.{Fits, is_id_continue, is_word_continue};
 ghost use Rattle.rustc_lexer.specs.LanguageCalls.{edition_of, edition_of_year};
 ghost use Rattle.rustc_lexer.specs.LanguageText.{year, mode_in};
 ghost use Rattle.rustc_lexer.specs.means.Edition as spec;
+ghost use Rattle.rustc_lexer.specs.means.Quick.{BeginsWithNoHash};
 ghost use Rattle.rustc_lexer.specs.means.Scan.{run_len};
 ghost use Rattle.rustc_lexer.specs.means.Taking as state;
 
 use crate::classes::emoji::is_emoji;
 use crate::frontmatter::token_at;
-use crate::lexemes::lexeme;
+use crate::lexemes::choose_token;
+use crate::lexemes::quick::quick_token;
 use crate::scan::{eat_continue, next_is, split_first};
 use crate::token::{FrontmatterAllowed, Token, TokenKind};
 use std::error::Error;
@@ -145,7 +148,48 @@ pub(crate) fn token_in(rest: &str, edition: Edition) -> Token
     ensures token { result ≡ spec.first_token_in edition rest.now }
     ensures boundary { IsCharBoundary rest.now result.len }
 {
-    changed(lexeme(rest), rest, edition)
+    match quick_token(rest.as_bytes(), reserves_guards(edition)) {
+        Some(token) => token,
+        None => choose_in(rest, edition),
+    }
+}
+
+/// Returns the first token in an edition of a text that does not begin with a hash, as its first character chooses. The
+/// text is not empty.
+///
+/// The tokens that the newest edition and the one before it do not share begin with a hash.
+#[inline(always)]
+pub(crate) fn choose_in(rest: &str, edition: Edition) -> Token
+    requires not_empty { 0 < length rest.now }
+    requires fits { Fits rest.now }
+    requires no_hash { BeginsWithNoHash rest.now }
+    ensures token { result ≡ spec.first_token_in edition rest.now }
+    ensures boundary { IsCharBoundary rest.now result.len }
+{
+    match edition {
+        Edition::E2024 | Edition::E2021 => choose_token(rest),
+        Edition::E2018 | Edition::E2015 => choose_older(rest),
+    }
+}
+
+/// Returns what [`choose_in`] returns, for the two oldest editions. It is not inlined, so that the code for the others
+/// stays short.
+#[inline(never)]
+fn choose_older(rest: &str) -> Token
+    requires fits { Fits rest.now }
+    requires no_hash { BeginsWithNoHash rest.now }
+    ensures { result ≡ spec.first_token_in E2018 rest.now }
+{
+    let token = choose_token(rest);
+    before_2021(token, rest)
+}
+
+/// Returns whether guarded strings are reserved in the edition, so that their prefixes are tokens.
+#[inline(always)]
+pub(crate) fn reserves_guards(edition: Edition) -> bool
+    ensures { result ≡ nat_le 2024 (year edition) }
+{
+    matches!(edition, Edition::E2024)
 }
 
 /// Returns the token that the edition has in place of the text's first token.

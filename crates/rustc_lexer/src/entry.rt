@@ -8,9 +8,8 @@ ghost use Rattle.rustc_lexer.specs.LanguageText.{mode_after, mode_edition, mode_
 ghost use Rattle.rustc_lexer.specs.Locality.{AreLocal};
 ghost use Rattle.rustc_lexer.specs.Tokens.{ReadsAs, tokens_of, YieldsToken};
 
-use crate::edition::{Edition, token_as};
+use crate::edition::{Edition, choose_in, reserves_guards, token_as};
 use crate::entry::ahead::Ahead;
-use crate::lexemes::choose_token;
 use crate::lexemes::quick::quick_token;
 use crate::token::{FrontmatterAllowed, Token, TokenKind};
 use std::iter::Iterator;
@@ -125,7 +124,7 @@ impl<'a> Model for Tokens<'a> {
     } };
 
     ghost invariant = { λ t. KnowsAhead
-        t.frontmatter_allowed t.edition t.text.now t.ahead };
+        t.frontmatter_allowed t.text.now t.ahead };
 }
 
 impl<'a> Tokens<'a> {
@@ -182,15 +181,15 @@ impl<'a> Iterator for Tokens<'a> {
             return None;
         }
         let bytes = &self.text.as_bytes()[self.ahead.at..];
-        if let (FrontmatterAllowed::No, Edition::E2024) = (self.frontmatter_allowed, self.edition) {
-            if let Some(quick) = quick_token(bytes) {
+        if let FrontmatterAllowed::No = self.frontmatter_allowed {
+            if let Some(quick) = quick_token(bytes, reserves_guards(self.edition)) {
                 self.ahead.at += quick.len as usize;
                 if !matches!(quick.kind, TokenKind::Whitespace) {
                     self.ahead.begin(self.text);
                 }
                 return Some(quick);
             }
-            let chosen = choose_token(self.as_str());
+            let chosen = choose_in(self.as_str(), self.edition);
             self.ahead.at += chosen.len as usize;
             return Some(chosen);
         }

@@ -40,7 +40,7 @@ pub(crate) fn lexeme(text: &str) -> Token
     requires fits { Fits text.now }
     ensures { IsFirstToken text.now result }
 {
-    match quick_token(text.as_bytes()) {
+    match quick_token(text.as_bytes(), true) {
         Some(token) => token,
         None => choose_token(text),
     }

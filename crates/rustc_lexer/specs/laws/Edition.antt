@@ -177,6 +177,32 @@ quote_2021 = record {
         let Same : TokenKind × ℕ → Type 0 = λ r. in_2021 (39 ∷ c ∷ s) r.0 (bytes_of (suc r.1) (39 ∷ c ∷ s)) ≡ token_past 39 (c ∷ s) r in
         quote_kinds Same c s (λ e. refl) (λ e f. refl) (λ e f. named_kinds (λ r. Same (r.0, suc r.1)) c s (λ g. refl) (λ g. refl) (λ g. refl))
 
+-- what no hash begins is as in the newest edition
+abbrev Kept : ℕ → (List ℕ → TokenKind × ℕ) → Type 0
+Kept c scan = (c == byte "#") ≡ false → (s : List ℕ) (len : ℕ) → before_2024 (scan s).0 len ≡ token (scan s).0 len
+
+quote-kept : (s : List ℕ) (len : ℕ) → before_2024 (lifetime_or_char s).0 len ≡ token (lifetime_or_char s).0 len
+quote-kept [] len = refl
+quote-kept (c ∷ s) len =
+    let Same : TokenKind × ℕ → Type 0 = λ r. before_2024 r.0 len ≡ token r.0 len in
+    quote_kinds Same c s (λ e. refl) (λ e f. refl) (λ e f. named_kinds (λ r. Same (r.0, suc r.1)) c s (λ g. refl) (λ g. refl) (λ g. refl))
+
+kept_arms : EachFamily Kept
+kept_arms = record {
+  of_slash = λ c e n s len. keeps_2021 [] _ len (slash-plain s);
+  of_space = λ c e n s len. refl;
+  of_word = λ c e n s len. keeps_2021 [] _ len (word-plain c s);
+  of_number = λ c e n s len. refl;
+  of_quote = λ c e n s len. quote-kept s len;
+  of_str = λ c e n s len. refl;
+  of_emoji = λ c e n s len. refl;
+  of_hash = λ c e n. absurd (true≢false (sym e ∙ n));
+  of_symbol = λ c n s len. keeps_2021 [] _ len (by_symbol is_plain symbols c refl refl);
+}
+
+pub kept_2021 : (c : ℕ) → Kept c (past_first c)
+kept_2021 c = each_family Kept kept_arms c
+
 hash_2021 : Changed in_2021 35 hash
 unfolding encode
 hash_2021 = record {

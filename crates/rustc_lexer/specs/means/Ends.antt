@@ -5,10 +5,11 @@ use Rattle.rustc_lexer.specs.declared.entry.ahead.Ahead.{Ahead}
 use Rattle.rustc_lexer.specs.declared.lexemes.family.Family.{Family}
 use Rattle.rustc_lexer.specs.declared.lexemes.family.Family.TheVariants.{Space, Symbol, Word}
 use Rattle.std.specs.Str.{IsCharBoundary, IsUtf8}
-use Rattle.rustc_lexer.specs.{Edition, FrontmatterAllowed, Token, TokenKind, E2024, Ident, No, Whitespace}
+use Rattle.rustc_lexer.specs.{Edition, FrontmatterAllowed, Token, TokenKind, Ident, No, Whitespace}
 use Rattle.rustc_lexer.specs.Classes.{Fits}
 use Rattle.rustc_lexer.specs.means.ByteRuns.{is_continue_byte, is_space_byte}
-use Rattle.rustc_lexer.specs.means.Lexeme.{family_of, first_token, symbol_kind}
+use Rattle.rustc_lexer.specs.means.Edition.{first_token_in}
+use Rattle.rustc_lexer.specs.means.Lexeme.{family_of, symbol_kind}
 use Rattle.rustc_lexer.specs.means.Quick.{is_space_lead, turns_word}
 
 unfoldable pub bit : ℕ → ℕ → Bool
@@ -74,16 +75,16 @@ pub record IsUntold (text : List ℕ) (old new : Ahead) : Type 0 where
   pub told : new.told ≡ None
   pub tells : TellsAhead text new
 
--- the token that is determined at the offset is the first of the text that is left, and the offset moves to its end
+-- the token that is determined at the offset is in each edition the first of the text that is left, and the offset moves to its end
 pub record TakesTold (text : List ℕ) (old new : Ahead) (token : Token) : Type 0 where
   pub utf8 : IsUtf8 text
   pub told : old.told ≡ Some token.kind
   pub some : old.at < length text
-  pub first : token ≡ first_token (drop old.at text)
+  pub first : (edition : Edition) → token ≡ first_token_in edition (drop old.at text)
   pub place : new.at ≡ old.at + token.len
   pub tells : TellsAhead text new
 
--- tokens are determined in advance only in a part, and in the newest edition
-pub record KnowsAhead (allowed : FrontmatterAllowed) (edition : Edition) (text : List ℕ) (ahead : Ahead) : Type 0 where
+-- tokens are determined in advance only in a part
+pub record KnowsAhead (allowed : FrontmatterAllowed) (text : List ℕ) (ahead : Ahead) : Type 0 where
   pub tells : TellsAhead text ahead
-  pub newest : (kind : TokenKind) → ahead.told ≡ Some kind → (allowed ≡ No) × (edition ≡ E2024)
+  pub part : (kind : TokenKind) → ahead.told ≡ Some kind → allowed ≡ No

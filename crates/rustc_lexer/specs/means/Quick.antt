@@ -1,16 +1,25 @@
 -- Means, by how it is read: what bytes say of a token.
-use Rattle.std.specs.Prelude.{ℕ, Bool, List, ◌∷◌, ◌≡◌, ◌≢◌, ◌≤◌, ◌||◌, ◌==◌, length}
+use Rattle.std.specs.Prelude.{ℕ, Bool, List, ◌∷◌, ◌≡◌, ◌≢◌, ◌≤◌, ◌||◌, ◌==◌, nat_le, length}
 use Rattle.std.specs.Str.{chars, IsCharBoundary}
 use Rattle.rustc_lexer.specs.declared.lexemes.family.Family.TheVariants.{Hash}
-use Rattle.rustc_lexer.specs.{Token}
+use Rattle.rustc_lexer.specs.{Edition, Token}
 use Rattle.rustc_lexer.specs.means.ByteRuns.{is_wide}
 use Rattle.rustc_lexer.specs.Classes.{ends_prefix}
+use Rattle.rustc_lexer.specs.means.Edition.{first_token_in}
 use Rattle.rustc_lexer.specs.means.Lexeme.{family_of, first_token}
+use Rattle.rustc_lexer.specs.LanguageText.{year}
 use Rattle.rustc_lexer.specs.State.{HasSuffixWithin}
 
 -- the token is the first of the text, and may be taken off it
 pub record IsFirstToken (text : List ℕ) (t : Token) : Type 0 where
   pub token : t ≡ first_token text
+  pub inside : t.len ≤ length text
+  pub boundary : IsCharBoundary text t.len
+  pub suffix : HasSuffixWithin t
+
+-- the same in each edition that reserves guarded strings, or in each that does not
+pub record IsFirstBy (guards : Bool) (text : List ℕ) (t : Token) : Type 0 where
+  pub token : (edition : Edition) → nat_le 2024 (year edition) ≡ guards → t ≡ first_token_in edition text
   pub inside : t.len ≤ length text
   pub boundary : IsCharBoundary text t.len
   pub suffix : HasSuffixWithin t

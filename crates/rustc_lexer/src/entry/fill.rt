@@ -71,8 +71,6 @@ impl<'a> Tokens<'a> {
 
 /// Writes the first tokens of a text in an edition into the buffer. Returns how many tokens it wrote, and how many
 /// bytes they take.
-///
-/// The newest edition has a branch of its own, in which no token looks at the edition.
 #[inline(always)]
 fn fill_part<R: Record>(text: &str, edition: Edition, buffer: &mut [R]) -> (usize, usize)
     requires fits { Fits text.now }
@@ -81,8 +79,5 @@ fn fill_part<R: Record>(text: &str, edition: Edition, buffer: &mut [R]) -> (usiz
     ensures bytes { result.1 ≡ bound (tokens_of (part edition) text.now) result.0 }
     ensures boundary { IsCharBoundary text.now result.1 }
 {
-    match edition {
-        Edition::E2024 => bulk::fill(text, text.len(), Edition::E2024, buffer),
-        _ => bulk::fill(text, text.len(), edition, buffer),
-    }
+    bulk::fill(text, text.len(), edition, buffer)
 }

@@ -2,7 +2,7 @@
 ghost use Rattle.std.specs.Prelude.{◌≡◌, IsUtf8, MatchOption};
 ghost use Rattle.rustc_lexer.specs.Classes.{Fits};
 ghost use Rattle.rustc_lexer.specs.means.Hash.{is_guarded_mark};
-ghost use Rattle.rustc_lexer.specs.means.Quick.{BeginsWithNoHash, IsFirstToken};
+ghost use Rattle.rustc_lexer.specs.means.Quick.{BeginsWithNoHash, IsFirstBy};
 ghost use Rattle.rustc_lexer.specs.means.Scan;
 
 use crate::kernels::{Continue, Space, ends_space, ends_word, run_end, short_run_end};
@@ -10,14 +10,15 @@ use crate::lexemes::classified::symbol_kind;
 use crate::lexemes::family::{Family, family_of_byte};
 use crate::token::{Token, TokenKind};
 
-/// Returns the first token of the text if the bytes of one run and the byte after it determine its kind. For a hash
-/// they always do. The text is given as its bytes, so a slice of it takes no test for a bound of a character.
+/// Returns the first token of the text if the bytes of one run and the byte after it determine its kind. For a hash they
+/// always do, and for a hash alone the edition matters: it may not reserve guarded strings. The text is given as its
+/// bytes, so a slice of it takes no test for a bound of a character.
 #[inline(always)]
-pub(crate) fn quick_token(text: &[u8]) -> Option<Token>
+pub(crate) fn quick_token(text: &[u8], reserves_guards: bool) -> Option<Token>
     requires utf8 { IsUtf8 text.now }
     requires fits { Fits text.now }
     ensures { MatchOption result (BeginsWithNoHash text.now)
-        (λ token. IsFirstToken text.now token) }
+        (λ token. IsFirstBy reserves_guards text.now token) }
 {
     let (first, rest) = text.split_first()?;
     match family_of_byte(*first)? {
@@ -44,7 +45,7 @@ pub(crate) fn quick_token(text: &[u8]) -> Option<Token>
             }
         }
         Family::Hash => {
-            if begins_guarded(rest) {
+            if reserves_guards && begins_guarded(rest) {
                 Some(Token {
                     kind: TokenKind::GuardedStrPrefix,
                     len: 2,

@@ -2,7 +2,8 @@
 
 use crate::erased::classes::emoji::is_emoji;
 use crate::erased::frontmatter::token_at;
-use crate::erased::lexemes::lexeme;
+use crate::erased::lexemes::choose_token;
+use crate::erased::lexemes::quick::quick_token;
 use crate::erased::scan::{eat_continue, next_is, split_first};
 use crate::erased::token::{FrontmatterAllowed, Token, TokenKind};
 use core::error::Error;
@@ -112,7 +113,36 @@ fn older_token(rest: &str, allowed: FrontmatterAllowed, edition: Edition) -> Tok
 /// Returns the first token of a text in an edition, where no frontmatter is allowed. The text is not empty.
 #[inline(always)]
 pub(crate) fn token_in(rest: &str, edition: Edition) -> Token {
-    changed(lexeme(rest), rest, edition)
+    match quick_token(rest.as_bytes(), reserves_guards(edition)) {
+        Some(token) => token,
+        None => choose_in(rest, edition),
+    }
+}
+
+/// Returns the first token in an edition of a text that does not begin with a hash, as its first character chooses. The
+/// text is not empty.
+///
+/// The tokens that the newest edition and the one before it do not share begin with a hash.
+#[inline(always)]
+pub(crate) fn choose_in(rest: &str, edition: Edition) -> Token {
+    match edition {
+        Edition::E2024 | Edition::E2021 => choose_token(rest),
+        Edition::E2018 | Edition::E2015 => choose_older(rest),
+    }
+}
+
+/// Returns what [`choose_in`] returns, for the two oldest editions. It is not inlined, so that the code for the others
+/// stays short.
+#[inline(never)]
+fn choose_older(rest: &str) -> Token {
+    let token = choose_token(rest);
+    before_2021(token, rest)
+}
+
+/// Returns whether guarded strings are reserved in the edition, so that their prefixes are tokens.
+#[inline(always)]
+pub(crate) fn reserves_guards(edition: Edition) -> bool {
+    matches!(edition, Edition::E2024)
 }
 
 /// Returns the token that the edition has in place of the text's first token.

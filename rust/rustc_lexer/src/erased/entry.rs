@@ -1,8 +1,7 @@
 //! The calls that lex a text, and their iterator.
 
-use crate::erased::edition::{Edition, token_as};
+use crate::erased::edition::{Edition, choose_in, reserves_guards, token_as};
 use crate::erased::entry::ahead::Ahead;
-use crate::erased::lexemes::choose_token;
 use crate::erased::lexemes::quick::quick_token;
 use crate::erased::token::{FrontmatterAllowed, Token, TokenKind};
 use core::iter::Iterator;
@@ -129,15 +128,15 @@ impl<'a> Iterator for Tokens<'a> {
             return None;
         }
         let bytes = &self.text.as_bytes()[self.ahead.at..];
-        if let (FrontmatterAllowed::No, Edition::E2024) = (self.frontmatter_allowed, self.edition) {
-            if let Some(quick) = quick_token(bytes) {
+        if let FrontmatterAllowed::No = self.frontmatter_allowed {
+            if let Some(quick) = quick_token(bytes, reserves_guards(self.edition)) {
                 self.ahead.at += quick.len as usize;
                 if !matches!(quick.kind, TokenKind::Whitespace) {
                     self.ahead.begin(self.text);
                 }
                 return Some(quick);
             }
-            let chosen = choose_token(self.as_str());
+            let chosen = choose_in(self.as_str(), self.edition);
             self.ahead.at += chosen.len as usize;
             return Some(chosen);
         }

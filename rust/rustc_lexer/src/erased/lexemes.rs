@@ -31,7 +31,7 @@ mod word;
 /// at the first character. Both branches promise the same.
 #[inline(always)]
 pub(crate) fn lexeme(text: &str) -> Token {
-    match quick_token(text.as_bytes()) {
+    match quick_token(text.as_bytes(), true) {
         Some(token) => token,
         None => choose_token(text),
     }

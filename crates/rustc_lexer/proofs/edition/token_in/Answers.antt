@@ -1,15 +1,10 @@
-use Rattle.std.proofs.Common.{◌≡◌, ap, ◌∙◌}
-use Rattle.std.specs.Str.{chars}
-use Rattle.rustc_lexer.specs.means.Edition.{changed, first_token_in}
-use Rattle.rustc_lexer.proofs.EditionLemmas.{boundary-of}
+use Rattle.std.proofs.Common.{sym, ap, ◌∙◌, subst}
+use Rattle.rustc_lexer.specs.means.Edition.{first_token_in}
+use Rattle.rustc_lexer.specs.means.Quick.{BeginsWithNoHash}
 use Rattle.rustc_lexer.proofs.edition.token_in.Goals as goal
 
-token_is : (c : goal.After-changed) → c.changed.result ≡ first_token_in c.args.edition c.args.rest.now
-token_is c = c.changed.ensures ∙ ap (changed c.args.edition (chars c.args.rest.now)) c.lexeme.ensures.token
+pub returns-in-Some-clause-token : goal.returns-in-Some-clause-token
+returns-in-Some-clause-token c = c.in-Some.ensures.token c.args.edition (sym c.reserves_guards.ensures) ∙ ap (first_token_in c.args.edition) c.as_bytes.ensures.value
 
-pub returns-clause-token : goal.returns-clause-token
-returns-clause-token c = token_is c
-
-pub returns-clause-boundary : goal.returns-clause-boundary
-returns-clause-boundary c =
-    boundary-of c.args.edition _ _ record { utf8 = c.utf8.rest; fits = c.requires.fits } c.requires.not_empty (token_is c)
+pub choose_in-requires-clause-no_hash : goal.choose_in-requires-clause-no_hash
+choose_in-requires-clause-no_hash c = subst BeginsWithNoHash c.as_bytes.ensures.value c.in-None.ensures

@@ -32,5 +32,5 @@ invariant_of-result c = record {
     past = none_tell c.args.text.now 0;
     next = λ kind e. absurd (none-some kind e);
   };
-  newest = λ kind e. absurd (none-some kind e);
+  part = λ kind e. absurd (none-some kind e);
 }

@@ -56,12 +56,7 @@ impl<'a> Tokens<'a> {
 
 /// Writes the first tokens of a text in an edition into the buffer. Returns how many tokens it wrote, and how many
 /// bytes they take.
-///
-/// The newest edition has a branch of its own, in which no token looks at the edition.
 #[inline(always)]
 fn fill_part<R: Record>(text: &str, edition: Edition, buffer: &mut [R]) -> (usize, usize) {
-    match edition {
-        Edition::E2024 => bulk::fill(text, text.len(), Edition::E2024, buffer),
-        _ => bulk::fill(text, text.len(), edition, buffer),
-    }
+    bulk::fill(text, text.len(), edition, buffer)
 }

@@ -5,10 +5,11 @@ use crate::erased::lexemes::classified::symbol_kind;
 use crate::erased::lexemes::family::{Family, family_of_byte};
 use crate::erased::token::{Token, TokenKind};
 
-/// Returns the first token of the text if the bytes of one run and the byte after it determine its kind. For a hash
-/// they always do. The text is given as its bytes, so a slice of it takes no test for a bound of a character.
+/// Returns the first token of the text if the bytes of one run and the byte after it determine its kind. For a hash they
+/// always do, and for a hash alone the edition matters: it may not reserve guarded strings. The text is given as its
+/// bytes, so a slice of it takes no test for a bound of a character.
 #[inline(always)]
-pub(crate) fn quick_token(text: &[u8]) -> Option<Token> {
+pub(crate) fn quick_token(text: &[u8], reserves_guards: bool) -> Option<Token> {
     let (first, rest) = text.split_first()?;
     match family_of_byte(*first)? {
         Family::Word => {
@@ -34,7 +35,7 @@ pub(crate) fn quick_token(text: &[u8]) -> Option<Token> {
             }
         }
         Family::Hash => {
-            if begins_guarded(rest) {
+            if reserves_guards && begins_guarded(rest) {
                 Some(Token {
                     kind: TokenKind::GuardedStrPrefix,
                     len: 2,

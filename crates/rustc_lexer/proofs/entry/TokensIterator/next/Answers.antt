@@ -6,7 +6,7 @@ use Rattle.rustc_lexer.specs.LanguageText.{Mode, mode_in}
 use Rattle.rustc_lexer.specs.Tokens.{TakesToken}
 use Rattle.rustc_lexer.specs.State.{State}
 use Rattle.rustc_lexer.specs.laws.State.{state}
-use Rattle.rustc_lexer.specs.means.Lexeme.{first_token}
+use Rattle.rustc_lexer.specs.means.Edition.{first_token_in}
 use Rattle.rustc_lexer.specs.means.Taking.{token_at}
 use Rattle.rustc_lexer.specs.means.Quick.{BeginsWithNoHash}
 use Rattle.rustc_lexer.proofs.TokensLemmas.{goes, none_left, takes_own}
@@ -20,8 +20,8 @@ returns-in-Some c =
     let text : List ℕ = c.self.inside.text.now in
     let at : ℕ = c.self.inside.ahead.at in
     let mode : Mode = mode_in c.self.inside.frontmatter_allowed c.self.inside.edition in
-    let newest = inv.newest c.in-Some.token.kind told.told in
-    let takes = takes_at _ _ text (drop at text) at c.args.self.now newest.0 newest.1 c.self.view_is told.utf8 refl inv.tells.bound inv.tells.fits (left_some text _ at refl told.some) c.in-Some.token told.first in
+    let never = inv.part c.in-Some.token.kind told.told in
+    let takes = takes_at _ _ text (drop at text) at c.args.self.now never c.self.view_is told.utf8 refl inv.tells.bound inv.tells.fits (left_some text _ at refl told.some) c.in-Some.token (told.first c.self.inside.edition) in
     let taken : TakesToken c.args.self.now c.in-Some.token (state 0 (drop c.take.new.self.at text) mode) = subst (λ p. TakesToken c.args.self.now c.in-Some.token (state 0 (drop p text) mode)) (sym told.place) takes in
     record { steps = taken; goes = goes _ _ _ taken }
 
@@ -36,8 +36,8 @@ quick_token-requires-clause-utf8 c =
     let text : List ℕ = c.self.inside.text.now in
     left_utf8 text _ c.take.new.self.at (subst IsUtf8 c.as_bytes.ensures.value c.as_bytes.ensures.utf8) c.in_default.ensures.tells.bound (left_is text c.as_bytes.result.now c.take.new.self.at c.as_bytes.ensures.value)
 
-pub choose_token-chosen-requires-clause-no_hash : goal.choose_token-chosen-requires-clause-no_hash
-choose_token-chosen-requires-clause-no_hash c =
+pub choose_in-chosen-requires-clause-no_hash : goal.choose_in-chosen-requires-clause-no_hash
+choose_in-chosen-requires-clause-no_hash c =
     let rest = left_is c.self.inside.text.now c.as_bytes.result.now c.take.new.self.at c.as_bytes.ensures.value ∙ sym c.as_str.ensures.rest in
     subst BeginsWithNoHash rest c.in_default-quick_token.ensures
 
@@ -48,8 +48,8 @@ returns-then-not-matches c =
     let known = c.in_default.ensures.tells in
     let mode : Mode = mode_in c.self.inside.frontmatter_allowed c.self.inside.edition in
     let left = left_is text c.as_bytes.result.now at c.as_bytes.ensures.value in
-    let takes = takes_at _ _ text _ at c.args.self.now c.in-No-E2024.is-0 c.in-No-E2024.is-1 (still text _ c.args.self.now _ _ c.in_default.ensures c.self.view_is) (subst IsUtf8 c.as_bytes.ensures.value c.as_bytes.ensures.utf8)
-    left known.bound known.fits (left_some text _ at left c.if-self.false) _ c.in-Some-quick_token.ensures.token in
+    let takes = takes_at _ _ text _ at c.args.self.now c.in-No.is (still text _ c.args.self.now _ _ c.in_default.ensures c.self.view_is) (subst IsUtf8 c.as_bytes.ensures.value c.as_bytes.ensures.utf8)
+    left known.bound known.fits (left_some text _ at left c.if-self.false) _ (c.in-Some-quick_token.ensures.token c.self.inside.edition (sym c.reserves_guards.ensures)) in
     let taken : TakesToken c.args.self.now c.in-Some-quick_token.quick (state 0 (drop c.begin.new.self.at text) mode) = subst (λ p. TakesToken c.args.self.now c.in-Some-quick_token.quick (state 0 (drop p text) mode)) (sym c.begin.ensures.at) takes in
     record { steps = taken; goes = goes _ _ _ taken }
 
@@ -59,19 +59,19 @@ returns-else-not-matches c =
     let at : ℕ = c.take.new.self.at in
     let known = c.in_default.ensures.tells in
     let left = left_is text c.as_bytes.result.now at c.as_bytes.ensures.value in
-    let taken = takes_at _ _ text _ at c.args.self.now c.in-No-E2024.is-0 c.in-No-E2024.is-1 (still text _ c.args.self.now _ _ c.in_default.ensures c.self.view_is) (subst IsUtf8 c.as_bytes.ensures.value c.as_bytes.ensures.utf8)
-    left known.bound known.fits (left_some text _ at left c.if-self.false) _ c.in-Some-quick_token.ensures.token in
+    let taken = takes_at _ _ text _ at c.args.self.now c.in-No.is (still text _ c.args.self.now _ _ c.in_default.ensures c.self.view_is) (subst IsUtf8 c.as_bytes.ensures.value c.as_bytes.ensures.utf8)
+    left known.bound known.fits (left_some text _ at left c.if-self.false) _ (c.in-Some-quick_token.ensures.token c.self.inside.edition (sym c.reserves_guards.ensures)) in
     record { steps = taken; goes = goes _ _ _ taken }
 
-pub returns-in-No-E2024 : goal.returns-in-No-E2024
-returns-in-No-E2024 c =
+pub returns-in-No : goal.returns-in-No
+returns-in-No c =
     let text : List ℕ = c.self.inside.text.now in
     let at : ℕ = c.take.new.self.at in
     let known = c.in_default.ensures.tells in
     let left = left_is text c.as_bytes.result.now at c.as_bytes.ensures.value in
     let rest = c.as_str.ensures.rest ∙ sym left in
-    let taken = takes_at _ _ text _ at c.args.self.now c.in-No-E2024.is-0 c.in-No-E2024.is-1 (still text _ c.args.self.now _ _ c.in_default.ensures c.self.view_is) (subst IsUtf8 c.as_bytes.ensures.value c.as_bytes.ensures.utf8)
-    left known.bound known.fits (left_some text _ at left c.if-self.false) _ (c.choose_token-chosen.ensures.token ∙ ap first_token rest) in
+    let taken = takes_at _ _ text _ at c.args.self.now c.in-No.is (still text _ c.args.self.now _ _ c.in_default.ensures c.self.view_is) (subst IsUtf8 c.as_bytes.ensures.value c.as_bytes.ensures.utf8)
+    left known.bound known.fits (left_some text _ at left c.if-self.false) _ (c.choose_in-chosen.ensures.token ∙ ap (first_token_in c.self.inside.edition) rest) in
     record { steps = taken; goes = goes _ _ _ taken }
 
 pub returns : goal.returns

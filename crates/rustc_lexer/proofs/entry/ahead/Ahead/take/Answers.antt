@@ -4,7 +4,7 @@ use lib.Count.{count_trailing_zeros}
 use Rattle.rustc_lexer.specs.means.Ends.{IsLowest, StaysWithin, classified}
 use Rattle.rustc_lexer.proofs.BitLemmas.{lowest_is}
 use Rattle.rustc_lexer.proofs.EndsLemmas.{classified_stays}
-use Rattle.rustc_lexer.proofs.ToldLemmas.{TellsNext, all_tell, told_after, told_ahead, told_bound, told_inside, told_token}
+use Rattle.rustc_lexer.proofs.ToldLemmas.{TellsNext, all_tell, told_after, told_ahead, told_bound, told_in, told_inside}
 use Rattle.rustc_lexer.proofs.entry.ahead.Ahead.take.Goals as goal
 use Rattle.rustc_lexer.proofs.entry.ahead.Ahead.take.Goals.{then-is_some-via-then-is_some, then-is_some-via-else-is_some+then-not-turns}
 
@@ -52,7 +52,7 @@ returns-then-is_some c =
       utf8 = c.utf8.text;
       told = is;
       some = let inside = told_inside text at block ends low c.in_ok-kind.kind next in omega (arith, after, inside);
-      first = (told_token text at block ends low c.in_ok-kind.kind next).token;
+      first = told_in text at block ends low c.in_ok-kind.kind next;
       place = omega (arith, after);
       tells = record {
         fits = known.fits;
