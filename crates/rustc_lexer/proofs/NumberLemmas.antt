@@ -10,7 +10,7 @@ use Rattle.rustc_lexer.specs.{Base, LiteralKind, Decimal, Int}
 use Rattle.rustc_lexer.specs.means.Number.{is_underscore, or_underscore, digits, Front, front_of, binary, octal, hexadecimal, decimal, front_past_zero, is_exponent_letter, float_exponent, fraction, is_no_fraction, begins_fraction, past_digits, front, tail, number_kind}
 use Rattle.rustc_lexer.specs.means.Scan.{after, begins, gives, next_is, past, run_len, scanned}
 use Rattle.rustc_lexer.specs.laws.Past.{IsUtf8-past, chars-past, past-past}
-use Rattle.rustc_lexer.specs.laws.Scan.{scanned-and_then, next_is-cons, next_is-nil, scanned-after, scanned-gives, scanned-same, scanned-yes, scanned-no}
+use Rattle.rustc_lexer.specs.laws.Scan.{scanned-and_then, scanned-read_as, next_is-cons, next_is-nil, scanned-after, scanned-gives, scanned-same, scanned-yes, scanned-no}
 
 -- whether the next character is in a class that U+0000 is not in, which the code sees at the end
 pub next_is-first : (p : ℕ → Bool) (s : List ℕ) → p 0 ≡ false → next_is p s ≡ p (get_or s 0 0)
@@ -60,7 +60,7 @@ pub front_past_zero-end : (text : List ℕ) → IsUtf8 text → chars text ≡ [
 front_past_zero-end text is e = scanned-same front_past_zero (gives (front_of Decimal false)) text (ap front_past_zero e) ∙ scanned-gives _ text is
 
 -- U+0000, which the code sees at the end, goes with a fraction
-is_no_fraction-zero : is_no_fraction 0 ≡ false
+pub is_no_fraction-zero : is_no_fraction 0 ≡ false
 is_no_fraction-zero = is_xid_start-ascii 0 (omega arith)
 
 begins_fraction-first : (c : ℕ) (s cs : List ℕ) → cs ≡ c ∷ s → begins_fraction cs ≡ ((c == 46) && not (next_is is_no_fraction s))
@@ -146,4 +146,4 @@ module _ (is_digit : ℕ → Bool) (none : is_digit 95 ≡ false) where
   digits-is text middle rest some w4 is e f g =
       grind (arith, common_steps, chars-past, next_is-first, list_any-past, run_len-past, past-past)
 
-pub ruleset number_lemmas = (pick-tail)
+pub ruleset number_lemmas = (pick-tail, pick-binary, pick-octal, pick-hexadecimal, front_past_zero-end, next_is-first, is_no_fraction-zero, pick-fraction, pick-int_before_dot, pick-exponent, pick-int, past_digits-end, scanned-read_as)

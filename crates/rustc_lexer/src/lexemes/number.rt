@@ -56,6 +56,7 @@ fn front(first_digit: char, tail: &str) -> (Base, bool, &str)
 /// Returns the base of a number whose first digit is 0, whether its prefix has no digit after it, and the text
 /// after its digits.
 #[inline(always)]
+#[tactic(auto, using(crate::proofs::NumberLemmas::number_lemmas, std::proofs::lemmas::Grind::common_steps))]
 fn front_past_zero(tail: &str) -> (Base, bool, &str)
     ensures { (spec.front_of result.0 result.1, result.2.now)
         ≡ scanned spec.front_past_zero tail.now }
@@ -80,6 +81,7 @@ fn front_past_zero(tail: &str) -> (Base, bool, &str)
 /// Returns the kind of a number of this base, and the text after it. The text after its front makes it a number
 /// with a fraction, with an exponent or with neither.
 #[inline(always)]
+#[tactic(auto, using(crate::proofs::NumberLemmas::number_lemmas, std::proofs::lemmas::Grind::common_steps))]
 fn past_digits(base: Base, rest: &str) -> (LiteralKind, &str)
     ensures { (result.0, result.1.now) ≡ scanned (spec.past_digits base) rest.now }
 {
