@@ -4,9 +4,9 @@ use Rattle.std.specs.Str.{chars, IsUtf8}
 use Rattle.std.proofs.lemmas.Bool.{ne_eqb}
 use Rattle.std.proofs.lemmas.Grind.{common_steps}
 use Rattle.rustc_lexer.specs.means.Scan.{begins, past, run_len, scanned}
-use Rattle.rustc_lexer.specs.means.Quoted.{is_backslash, stopped, quoted, at_single_stop, is_lone, single_quoted_string}
+use Rattle.rustc_lexer.specs.means.Quoted.{is_backslash, seek, stopped, quoted, at_single_stop, is_lone, single_quoted_string}
 use Rattle.rustc_lexer.specs.laws.Choice.{by_either}
-use Rattle.rustc_lexer.specs.laws.Seek.{seek, free_place-seek, stopped-more}
+use Rattle.rustc_lexer.specs.laws.Seek.{stopped-more}
 use Rattle.rustc_lexer.specs.laws.Scan.{run_len-stop}
 use Rattle.rustc_lexer.specs.laws.Past.{past-zero, past-past, past-two, chars-past, IsUtf8-past}
 
@@ -25,7 +25,7 @@ module _ (quote : ℕ) (test : List ℕ → Bool) where
     pub same : leaves (seek test (chars rest) escaped) rest ≡ scanned (quoted quote test) text
 
   pub seek-start : (text : List ℕ) → IsUtf8 text → Seeking text text false
-  seek-start text is = record { utf8 = is; same = ap (λ o. leaves o text) (sym (free_place-seek test (chars text))) }
+  seek-start text is = record { utf8 = is; same = refl }
 
   module _ (text rest tail : List ℕ) (escaped : Bool) (c : ℕ) (at : Seeking text rest escaped) (reads : chars rest ≡ c ∷ chars tail) (cut : tail ≡ past 1 rest) where
     tail-is : (n : ℕ) → past (suc n) rest ≡ past n tail

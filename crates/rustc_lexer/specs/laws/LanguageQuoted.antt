@@ -9,9 +9,9 @@ use Rattle.rustc_lexer.specs.laws.Choice.{by_either}
 use Rattle.rustc_lexer.specs.laws.LanguageRuns.{begins-next, either-way, pair, parted}
 use Rattle.rustc_lexer.specs.LiteralGrammar as lit
 use Rattle.rustc_lexer.specs.LiteralGrammar.{QuotedTo, ends, plain, escape, SingleTo, IsDoubleQuoted, IsSingleQuoted}
-use Rattle.rustc_lexer.specs.means.Quoted.{is_backslash, stopped, quoted, at_double_quote, double_quoted_string, at_single_stop, is_lone, single_quoted_string}
+use Rattle.rustc_lexer.specs.means.Quoted.{is_backslash, seek, stopped, quoted, at_double_quote, double_quoted_string, at_single_stop, is_lone, single_quoted_string}
 use Rattle.rustc_lexer.specs.means.Scan.{begins}
-use Rattle.rustc_lexer.specs.laws.Seek.{seek, free_place-seek, stopped-more}
+use Rattle.rustc_lexer.specs.laws.Seek.{stopped-more}
 
 -- ---- one pass
 
@@ -19,9 +19,6 @@ module _ (quote : ℕ) (test : List ℕ → Bool) (special : ℕ → Bool) (at_e
     (straight : (c : ℕ) → special c ≡ false → is_backslash c ≡ false) (slashed : (s : List ℕ) → test (92 ∷ s) ≡ false) where
   abbrev pass : List ℕ → Bool × ℕ
   pass s = stopped quote (seek test s false) s
-
-  passed : (s : List ℕ) → quoted quote test s ≡ pass s
-  passed s = ap (λ o. stopped quote o s) (free_place-seek test s)
 
   pass-plain : (c : ℕ) (s : List ℕ) → special c ≡ false → pass (c ∷ s) ≡ ((pass s).0, suc (pass s).1)
   pass-plain c s e = grind (arith, common_steps, stopped-more)
@@ -39,7 +36,7 @@ module _ (quote : ℕ) (test : List ℕ → Bool) (special : ℕ → Bool) (at_e
   quoted-pass (escape {c} {w} q) next t e = pass-escape c (w ++ next) ∙ ap (λ (r : Bool × ℕ). let q : Bool × ℕ = (r.0, suc (suc r.1)) in q) (quoted-pass q next t e)
 
   pub quoted-read : {end w : List ℕ} → QuotedTo end special w → (next : List ℕ) (t : Bool) → stopped quote (seek test (end ++ next) false) (end ++ next) ≡ (t, length end) → quoted quote test (w ++ next) ≡ (t, length w)
-  quoted-read {end} {w} q next t e = passed (w ++ next) ∙ quoted-pass q next t e
+  quoted-read {end} {w} q next t e = quoted-pass q next t e
 
   -- a text up to its first special character, or all of it
   pub data Outcome : List ℕ → Type 0 where
@@ -49,17 +46,17 @@ module _ (quote : ℕ) (test : List ℕ → Bool) (special : ℕ → Bool) (at_e
 
   add-plain : (c : ℕ) → special c ≡ false → {s : List ℕ} → Outcome s → Outcome (c ∷ s)
   add-plain c out (stops v x rest q sp nb e) =
-      let more : pass (c ∷ v ++ x ∷ rest) ≡ ((quoted quote test (x ∷ rest)).0, suc (length v + (quoted quote test (x ∷ rest)).1)) = pass-plain c (v ++ x ∷ rest) out ∙ ap (λ (r : Bool × ℕ). let q : Bool × ℕ = (r.0, suc r.1) in q) (sym (passed (v ++ x ∷ rest)) ∙ e) in
-      stops (c ∷ v) x rest (plain out q) sp nb (passed (c ∷ v ++ x ∷ rest) ∙ (more ∙ pair _ _ _ _ refl (omega arith)))
-  add-plain c out (whole {s} q e) = whole (plain out q) (passed (c ∷ s) ∙ (pass-plain c s out ∙ ap (λ (r : Bool × ℕ). let q : Bool × ℕ = (r.0, suc r.1) in q) (sym (passed s) ∙ e)))
-  add-plain c out (escaped {s} q e) = escaped (plain out q) (passed (c ∷ s) ∙ (pass-plain c s out ∙ ap (λ (r : Bool × ℕ). let q : Bool × ℕ = (r.0, suc r.1) in q) (sym (passed s) ∙ e)))
+      let more : pass (c ∷ v ++ x ∷ rest) ≡ ((quoted quote test (x ∷ rest)).0, suc (length v + (quoted quote test (x ∷ rest)).1)) = pass-plain c (v ++ x ∷ rest) out ∙ ap (λ (r : Bool × ℕ). let q : Bool × ℕ = (r.0, suc r.1) in q) e in
+      stops (c ∷ v) x rest (plain out q) sp nb ((more ∙ pair _ _ _ _ refl (omega arith)))
+  add-plain c out (whole {s} q e) = whole (plain out q) ((pass-plain c s out ∙ ap (λ (r : Bool × ℕ). let q : Bool × ℕ = (r.0, suc r.1) in q) (e)))
+  add-plain c out (escaped {s} q e) = escaped (plain out q) ((pass-plain c s out ∙ ap (λ (r : Bool × ℕ). let q : Bool × ℕ = (r.0, suc r.1) in q) (e)))
 
   add-escape : (c : ℕ) {s : List ℕ} → Outcome s → Outcome (92 ∷ c ∷ s)
   add-escape c (stops v x rest q sp nb e) =
-      let more : pass (92 ∷ c ∷ v ++ x ∷ rest) ≡ ((quoted quote test (x ∷ rest)).0, suc (suc (length v + (quoted quote test (x ∷ rest)).1))) = pass-escape c (v ++ x ∷ rest) ∙ ap (λ (r : Bool × ℕ). let q : Bool × ℕ = (r.0, suc (suc r.1)) in q) (sym (passed (v ++ x ∷ rest)) ∙ e) in
-      stops (92 ∷ c ∷ v) x rest (escape q) sp nb (passed (92 ∷ c ∷ v ++ x ∷ rest) ∙ (more ∙ pair _ _ _ _ refl (omega arith)))
-  add-escape c (whole {s} q e) = whole (escape q) (passed (92 ∷ c ∷ s) ∙ (pass-escape c s ∙ ap (λ (r : Bool × ℕ). let q : Bool × ℕ = (r.0, suc (suc r.1)) in q) (sym (passed s) ∙ e)))
-  add-escape c (escaped {s} q e) = escaped (escape q) (passed (92 ∷ c ∷ s) ∙ (pass-escape c s ∙ ap (λ (r : Bool × ℕ). let q : Bool × ℕ = (r.0, suc (suc r.1)) in q) (sym (passed s) ∙ e)))
+      let more : pass (92 ∷ c ∷ v ++ x ∷ rest) ≡ ((quoted quote test (x ∷ rest)).0, suc (suc (length v + (quoted quote test (x ∷ rest)).1))) = pass-escape c (v ++ x ∷ rest) ∙ ap (λ (r : Bool × ℕ). let q : Bool × ℕ = (r.0, suc (suc r.1)) in q) e in
+      stops (92 ∷ c ∷ v) x rest (escape q) sp nb ((more ∙ pair _ _ _ _ refl (omega arith)))
+  add-escape c (whole {s} q e) = whole (escape q) ((pass-escape c s ∙ ap (λ (r : Bool × ℕ). let q : Bool × ℕ = (r.0, suc (suc r.1)) in q) (e)))
+  add-escape c (escaped {s} q e) = escaped (escape q) ((pass-escape c s ∙ ap (λ (r : Bool × ℕ). let q : Bool × ℕ = (r.0, suc (suc r.1)) in q) (e)))
 
   outcome-next : (ih : List ℕ → Type 0) → ((s : List ℕ) → ih s → Outcome s) → (c : ℕ) (s : List ℕ) → ih s → ((d : ℕ) (u : List ℕ) → s ≡ d ∷ u → ih u) → Outcome (c ∷ s)
   outcome-next ih have c s here next = by_either (special c)
@@ -67,7 +64,7 @@ module _ (quote : ℕ) (test : List ℕ → Bool) (special : ℕ → Bool) (at_e
       (λ e. add-plain c e (have s here))
     where
       by_next : (s : List ℕ) → ((d : ℕ) (u : List ℕ) → s ≡ d ∷ u → ih u) → Outcome (92 ∷ s)
-      by_next [] next = escaped ends (passed (92 ∷ []) ∙ pass-slash)
+      by_next [] next = escaped ends (pass-slash)
       by_next (d ∷ s) next = add-escape d (have s (next d s refl))
 
       by_slash : (b : Bool) → special c ≡ true → is_backslash c ≡ b → Outcome (c ∷ s)
@@ -75,7 +72,7 @@ module _ (quote : ℕ) (test : List ℕ → Bool) (special : ℕ → Bool) (at_e
       by_slash true sp e = subst (λ (x : ℕ). Outcome (x ∷ s)) (sym (eqb-true c 92 e)) (by_next s next)
 
   outcome-in : (fuel : ℕ) (s : List ℕ) → length s ≤ fuel → Outcome s
-  outcome-in fuel [] fits = whole ends (passed [] ∙ refl)
+  outcome-in fuel [] fits = whole ends (refl)
   outcome-in zero (c ∷ s) fits = absurd (omega arith)
   outcome-in (suc fuel) (c ∷ s) fits = outcome-next (λ u. length u ≤ fuel) (outcome-in fuel) c s (omega arith) (λ d u e. omega (arith, ap length e))
 

@@ -1,27 +1,20 @@
 -- Means, by how it is read: quoted text: what follows an opening quote.
-use Rattle.std.specs.Prelude.{ℕ, zero, suc, ◌==◌, ◌&&◌, ◌||◌, not, Bool, true, false, if◌then◌else◌, List, [], ◌∷◌, length, take, drop, reverse, codes, Option, Some, None}
+use Rattle.std.specs.Prelude.{ℕ, suc, ◌==◌, ◌&&◌, ◌||◌, not, Bool, true, false, if◌then◌else◌, List, [], ◌∷◌, length, drop, codes, Option, Some, None}
 use Rattle.std.specs.Str.{byte}
 use Rattle.rustc_lexer.specs.declared.lexemes.quoted.QuotedPrefix.{QuotedPrefix}
 use Rattle.rustc_lexer.specs.declared.lexemes.quoted.QuotedPrefix.TheVariants.{Single, BSingle, Double, BDouble, CDouble}
 use Rattle.rustc_lexer.specs.{LiteralKind, TokenKind, Char, Byte, Str, ByteStr, CStr}
-use Rattle.rustc_lexer.specs.means.Least.{least}
+use Rattle.rustc_lexer.specs.means.Least.{one_more}
 use Rattle.rustc_lexer.specs.means.Literal.{Body, literal}
-use Rattle.rustc_lexer.specs.means.Scan.{after, begins, run_len}
+use Rattle.rustc_lexer.specs.means.Scan.{after, begins}
 
 abbrev pub is_backslash : ℕ → Bool
 is_backslash c = c == byte "\\"
 
-abbrev pub is_odd : ℕ → Bool
-is_odd zero = false
-is_odd (suc n) = not (is_odd n)
-
--- whether an odd number of backslashes comes directly before the offset
-abbrev pub is_escaped : List ℕ → ℕ → Bool
-is_escaped s place = is_odd (run_len is_backslash (reverse (take place s)))
-
--- the least offset that is not escaped, and from which on the text passes a test
-abbrev pub free_place : (List ℕ → Bool) → List ℕ → Option ℕ
-free_place test s = least (λ place. not (is_escaped s place) && test (drop place s)) (length s)
+-- the offset of the first stop that is not escaped. A backslash that is not escaped itself makes the next character escaped
+abbrev pub seek : (List ℕ → Bool) → List ℕ → Bool → Option ℕ
+seek test [] escaped = None
+seek test (c ∷ cs) escaped = if not escaped && test (c ∷ cs) then Some 0 else one_more (seek test cs (if escaped then false else is_backslash c))
 
 -- the end of a quoted text, by the offset of its stop. If the stop is the quote, the text is closed and takes it. If it
 -- is another stop, the text is not closed and ends before it. Without a stop it takes everything
@@ -31,7 +24,7 @@ stopped quote (Some n) s = if begins (quote ∷ []) (drop n s) then (true, suc n
 
 -- a quoted text goes up to its first stop that is not escaped: whether it is closed, and how many characters it takes
 abbrev pub quoted : ℕ → (List ℕ → Bool) → List ℕ → Bool × ℕ
-quoted quote stop s = stopped quote (free_place stop s) s
+quoted quote stop s = stopped quote (seek stop s false) s
 
 -- between double quotes, only the quote is a stop
 abbrev pub at_double_quote : List ℕ → Bool
