@@ -8,7 +8,7 @@ use Rattle.rustc_lexer.specs.declared.edition.Edition.TheVariants.{E2024}
 use Rattle.rustc_lexer.specs.declared.token.Token.{Token}
 use Rattle.rustc_lexer.specs.Tokens.{bound, tokens_of}
 use Rattle.rustc_lexer.specs.means.Lexeme.{first_token}
-use Rattle.rustc_lexer.specs.laws.Lookahead.{first_token_grammar}
+use Rattle.rustc_lexer.specs.laws.Edition.{first_token_grammar}
 use Rattle.rustc_lexer.specs.LanguageText.{part}
 use Rattle.rustc_lexer.specs.Locality.{IsSettled, StaysUpTo}
 use Rattle.rustc_lexer.specs.Classes.{IsText}

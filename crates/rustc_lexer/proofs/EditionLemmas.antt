@@ -4,7 +4,9 @@ use Rattle.rustc_lexer.specs.{Edition, FrontmatterAllowed, Token, TokenKind, E20
 use Rattle.rustc_lexer.specs.LanguageCalls.{edition_of_year}
 use Rattle.rustc_lexer.specs.LanguageText.{mode_in, year}
 use Rattle.rustc_lexer.specs.laws.Choice.{by_either}
-use Rattle.rustc_lexer.specs.laws.Edition.{edition_grammar, kept_2021}
+use Rattle.rustc_lexer.specs.laws.Edition.{edition_grammar}
+use Rattle.rustc_lexer.specs.laws.Language.{lexeme-sound}
+use Rattle.rustc_lexer.specs.laws.LanguageIn.{unhashed}
 use Rattle.rustc_lexer.specs.declared.lexemes.family.Family.TheVariants.{Hash}
 use Rattle.rustc_lexer.specs.Tables.{is_emoji}
 use Rattle.unicode_ident.proofs.Computing.{unicode_ident}
@@ -87,7 +89,7 @@ hash_family = refl
 kept_first : (cs : List ℕ) → ((first : ℕ) (s : List ℕ) → cs ≡ first ∷ s → family_of first ≢ Hash) → before_2024 (lexeme cs).0 (bytes_of (lexeme cs).1 cs) ≡ token (lexeme cs).0 (bytes_of (lexeme cs).1 cs)
 kept_first [] none = refl
 kept_first (c ∷ s) none =
-    kept_2021 c (by_either (c == 35) (λ e. absurd (none c s refl (ap family_of (eqb-true c 35 e) ∙ hash_family))) (λ e. e)) s (bytes_of (suc (past_first c s).1) (c ∷ s))
+    unhashed (lexeme-sound (c ∷ s)) (λ e. none c s refl (ap family_of e ∙ hash_family)) (bytes_of (suc (past_first c s).1) (c ∷ s))
 
 -- where no hash stands in front
 first_2021 : (text : List ℕ) → BeginsWithNoHash text → first_token text ≡ first_token_in E2021 text

@@ -7,7 +7,6 @@ pub mod Edition
 pub mod Family
 pub mod Fences
 pub mod Frontmatter
-pub mod Hash
 pub mod Ident
 pub mod Language
 pub mod LanguageClosing
@@ -29,13 +28,10 @@ pub mod LanguageTokens
 pub mod LanguageWords
 pub mod Least
 pub mod Lifetime
-pub mod Literal
-pub mod Lookahead
 pub mod Number
 pub mod NumberGrammar
 pub mod NumberLongest
 pub mod Past
-pub mod Quoted
 pub mod Raw
 pub mod Reach
 pub mod Same

@@ -14,7 +14,6 @@ use Rattle.rustc_lexer.specs.laws.BlockComment.{two_at_least, closes-inside, at_
 use Rattle.rustc_lexer.specs.laws.BlockGrammar.{comment_end-found, comment_end-allowed}
 use Rattle.rustc_lexer.specs.laws.Choice.{by_test}
 use Rattle.rustc_lexer.specs.laws.LanguageRuns.{run_len-here, run-stops, Sound, Read, read-first, sound-after, told-front, begins-next, chooses-slash, chooses-space, chooses-hash, chooses-symbol, pair}
-use Rattle.rustc_lexer.specs.laws.Lookahead.{line_doc_style-own}
 use Rattle.rustc_lexer.specs.laws.Reach.{run_all}
 use Rattle.rustc_lexer.specs.Language as the
 use Rattle.rustc_lexer.specs.Language.{IsStyle, inner, outer, no_outer, neither, IsCommentRest, IsTokenBefore, has_rule}
@@ -52,6 +51,10 @@ symbol-read c next e = read-first c (symbol c) next (symbol_kind c) 0 1 (chooses
 
 abbrev pub IsLineStyle : Option DocStyle → List ℕ → Type 0
 IsLineStyle style w = IsStyle 47 (codes "/") style w
+
+-- the style of a comment is told by the comment
+line_doc_style-own : (s : List ℕ) → line_doc_style (take (run_len is_inline s) s) ≡ line_doc_style s
+line_doc_style-own w0 = grind (arith, common_steps, eqb-true)
 
 -- the style that is told is the one of the language
 line-styled : (w : List ℕ) → IsLineStyle (line_doc_style w) w

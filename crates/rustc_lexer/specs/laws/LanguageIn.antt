@@ -1,5 +1,5 @@
 -- The token at the front of a text in an edition is the one that its language has there.
-use Rattle.std.proofs.Common.{◌≡◌, ◌↔◌, ℕ, ◌+◌, ◌<◌, ◌≤◌, ◌==◌, Bool, true, false, true≢false, List, [], ◌∷◌, ◌++◌, length, take, drop, codes, refl, sym, ap, ◌∙◌, subst, arith, take-append-drop}
+use Rattle.std.proofs.Common.{◌≡◌, ◌≢◌, ◌↔◌, ℕ, ◌+◌, ◌<◌, ◌≤◌, ◌==◌, Bool, true, false, true≢false, List, [], ◌∷◌, ◌++◌, length, take, drop, codes, refl, sym, ap, ◌∙◌, subst, arith, take-append-drop}
 use lib.Utf8.{encode}
 use Rattle.std.proofs.Math.Seq.{take-append_seam}
 use Rattle.std.proofs.lemmas.Bool.{and_parts, leb-true, leb-false, eqb-true}
@@ -15,7 +15,6 @@ use Rattle.rustc_lexer.specs.Language.{IsTokenBefore}
 use Rattle.rustc_lexer.specs.means.Lexeme.{past_first, lexeme, first_token, symbols, symbol_kind}
 use Rattle.rustc_lexer.specs.means.Scan.{bytes_of, next_is, run_len}
 use Rattle.rustc_lexer.specs.laws.Choice.{by_either, by_symbol}
-use Rattle.rustc_lexer.specs.laws.Edition.{oldest}
 use Rattle.rustc_lexer.specs.laws.Language.{lexeme-sound}
 use Rattle.rustc_lexer.specs.laws.LanguageRuns.{run_len-here}
 use Rattle.rustc_lexer.specs.laws.LanguageWords.{marked-sound}
@@ -30,6 +29,10 @@ kept_2021 kind len lt = refl
 
 kept_2018 : (cs : List ℕ) (kind : TokenKind) (len : ℕ) → kept_since kind < 2021 → before_2021 cs kind len ≡ token kind len
 kept_2018 cs kind len lt = grind (arith, common_steps)
+
+-- no edition is older
+oldest : (edition : Edition) → 2015 ≤ year edition
+oldest w0 = grind (arith, common_steps)
 
 keeps : (edition : Edition) (cs : List ℕ) (kind : TokenKind) (len : ℕ) → kept_since kind ≤ year edition → changed edition cs (token kind len) ≡ token kind len
 keeps edition cs kind len le = grind (arith, common_steps, kept_2021, leb-false, kept_2018)
@@ -59,6 +62,15 @@ view (the.raw_lifetime is stop) = cut_raw is
 view (the.guarded_prefix is) = cut_hash
 view (the.symbol {c} is) = other (symbol-old c)
 view whole = other refl
+
+-- what no hash begins is in 2021 as in 2024
+pub unhashed : {next : List ℕ} {kind : TokenKind} {c : ℕ} {w : List ℕ} → IsTokenBefore next kind (c ∷ w) → c ≢ 35 → (len : ℕ) → before_2024 kind len ≡ token kind len
+unhashed p none len = by_view (view p) none
+  where
+    by_view : {next : List ℕ} {kind : TokenKind} {c : ℕ} {w : List ℕ} → View next kind (c ∷ w) → c ≢ 35 → before_2024 kind len ≡ token kind len
+    by_view cut_hash none = absurd (none refl)
+    by_view {kind = kind} (other old) none = kept_2021 kind len (omega (arith, old))
+    by_view v none = refl
 
 -- whether a name is marked
 name-marked : (c : ℕ) (w next : List ℕ) → AreAll is_word_continue w → NextIs (is_among (codes "#")) next → has_marked_name (39 ∷ c ∷ w ++ next) ≡ is_bad_name (c ∷ w)

@@ -1,15 +1,13 @@
 -- How far a token of each kind looks can be read off the conditions of the language on what follows.
-use Rattle.std.proofs.Common.{◌≡◌, ℕ, suc, ◌+◌, ◌-◌, ◌<◌, ◌==◌, ◌&&◌, if◌then◌else◌, not, Bool, true, false, true≢false, List, [], ◌∷◌, ◌++◌, length, take, drop, codes, refl, sym, ap, ◌∙◌, subst, arith, take-add, Option, Some, None, bytes_eq}
+use Rattle.std.proofs.Common.{◌≡◌, ℕ, zero, suc, ◌-◌, ◌<◌, ◌==◌, ◌&&◌, if◌then◌else◌, not, Bool, true, false, true≢false, List, [], ◌∷◌, ◌++◌, length, take, drop, codes, refl, sym, ap, ◌∙◌, subst, arith, Option, Some, None, bytes_eq}
 use lib.Utf8.{encode}
-use Rattle.std.proofs.Math.Seq.{take-append_seam, drop-append_seam}
 use Rattle.std.proofs.lemmas.Bool.{and_parts, or_parts, or_from, eqb-true, not-true}
 use Rattle.std.proofs.lemmas.List.{append-nil}
-use Rattle.std.specs.Char.{is_ascii_digit}
 use Rattle.std.specs.List.{list_all, list_any}
 use Rattle.std.specs.Option.{is_some}
 use Rattle.std.proofs.Math.Bool.{and-false, and-true}
 use Rattle.std.proofs.lemmas.Grind.{common_steps}
-use Rattle.rustc_lexer.specs.Classes.{is_among, Chars, AreAll, NextIs, NextIsNot, is_word_continue, is_name_start, begins_ident_after, ends_prefix}
+use Rattle.rustc_lexer.specs.Classes.{is_among, is_ident, Chars, AreAll, NextIs, NextIsNot, is_word_continue, is_name_start, begins_ident_after, ends_prefix}
 use Rattle.unicode_ident.proofs.Computing.{unicode_ident}
 use Rattle.rustc_lexer.specs.{Base, LiteralKind, TokenKind, Decimal, Int, Float, Char, Byte, Str, ByteStr, CStr, RawStr, RawByteStr, RawCStr, LineComment, BlockComment, Whitespace, Ident, InvalidIdent, RawIdent, ForcedKeywordIdent, RawLifetime, Lifetime, Slash, Pound, Eof, Literal, UnknownPrefix, UnknownPrefixLifetime}
 use Rattle.rustc_lexer.specs.Language as the
@@ -19,19 +17,21 @@ use Rattle.rustc_lexer.specs.Language.{known_prefixes, begins_prefixed, IsTokenB
 use Rattle.rustc_lexer.specs.GrammarLaws.{reach}
 use Rattle.rustc_lexer.specs.means.Lexeme.{past_first, lexeme}
 use Rattle.rustc_lexer.specs.Tables.{is_emoji, emoji_ranges, symbols}
-use Rattle.rustc_lexer.specs.means.Number.{number_kind, fraction, number as number_past}
+use Rattle.rustc_lexer.specs.means.Number.{number_kind, fraction}
 use Rattle.rustc_lexer.specs.NumberGrammar as number
-use Rattle.rustc_lexer.specs.NumberGrammar.{IsExponent, IsTailBefore, HasNumberForm}
-use Rattle.rustc_lexer.specs.means.Scan.{IsLocalAt, begins, next_is}
-use Rattle.rustc_lexer.specs.laws.Language.{language, token-read}
+use Rattle.rustc_lexer.specs.NumberGrammar.{or_underscore, IsExponent, IsTailBefore, HasNumberForm, IsNumberBefore}
+use Rattle.rustc_lexer.specs.means.Scan.{begins, next_is}
+use Rattle.rustc_lexer.specs.laws.Language.{language}
 use Rattle.rustc_lexer.specs.laws.Choice.{by_symbol}
 use Rattle.rustc_lexer.specs.laws.LanguageLiterals.{HasDigit, number-digit}
-use Rattle.rustc_lexer.specs.laws.LanguageRuns.{chooses-number, either-way, word-no_mark}
+use Rattle.rustc_lexer.specs.laws.LanguageRuns.{either-way, word-no_mark}
 use Rattle.rustc_lexer.specs.laws.LanguageLifetimes.{end-stops}
 use Rattle.rustc_lexer.specs.laws.LanguageWords.{continue-word}
-use Rattle.rustc_lexer.specs.laws.Lookahead.{lexeme_local}
-use Rattle.rustc_lexer.specs.laws.Number.{is_float, number_float}
-use Rattle.rustc_lexer.specs.laws.Reach.{first_at, told_same, next_is-told}
+use Rattle.rustc_lexer.specs.laws.Ident.{marks_ident-told}
+use Rattle.rustc_lexer.specs.means.Ident.{marks_ident}
+use Rattle.rustc_lexer.specs.laws.Number.{is_float, number_reach}
+use Rattle.rustc_lexer.specs.laws.NumberLongest.{number-alike}
+use Rattle.rustc_lexer.specs.laws.Reach.{begins-told, cut, told_same, next_is-told}
 
 -- ---- one character, and the end
 
@@ -48,36 +48,10 @@ stops p s u e stop = same p s u e ∙ stop
 goes : (p : ℕ → Bool) (s u : List ℕ) → take 1 u ≡ take 1 s → NextIs p s → NextIs p u
 goes p s u e go = same p s u e ∙ go
 
-past : (w s u : List ℕ) → take 1 u ≡ take 1 s → take 1 (w ++ u) ≡ take 1 (w ++ s)
-past [] s u e = e
-past (c ∷ w) s u e = refl
-
--- ---- two characters are enough for each, and one for a float
-
-seam : (k : ℕ) (w s : List ℕ) → take (length w + k) (w ++ s) ≡ w ++ take k s
-seam k w s = take-add (length w) k (w ++ s) ∙ (ap (λ (x : List ℕ). x ++ take k (drop (length w) (w ++ s))) (take-append_seam w s) ∙ ap (λ (x : List ℕ). w ++ take k x) (drop-append_seam w s))
-
-by_local : (k : ℕ) (next other w : List ℕ) (kind : TokenKind) → IsTokenBefore next kind w → IsLocalAt TokenKind k lexeme (w ++ next) → take k other ≡ take k next → IsTokenBefore other kind w
-by_local k next other w kind p is e = grind (arith, common_steps, token-read, seam, language)
-
-by_two : (next other w : List ℕ) (kind : TokenKind) → IsTokenBefore next kind w → take 2 other ≡ take 2 next → IsTokenBefore other kind w
-by_two next other w kind p e = by_local 2 next other w kind p (lexeme_local (w ++ next)) e
-
-abbrev is_float_token : TokenKind → Bool
-is_float_token (Literal kind suffix_start) = is_float kind
-is_float_token kind = false
-
-float-at : (c : ℕ) (v next : List ℕ) (kind : LiteralKind) (n : ℕ) → is_ascii_digit c ≡ true → is_float kind ≡ true → lexeme (c ∷ v ++ next) ≡ (Literal kind n, suc (length v)) → IsLocalAt TokenKind 1 lexeme (c ∷ v ++ next)
-float-at c v next kind n digit float read =
-    let chosen : past_first c ≡ number_past c = chooses-number c digit in
-    let first : (past_first c (v ++ next)).0 ≡ Literal kind n = ap (λ (r : TokenKind × ℕ). r.0) read in
-    let is : is_float (number_kind c (v ++ next)).0 ≡ true = ap (λ (f : List ℕ → TokenKind × ℕ). is_float_token (f (v ++ next)).0) (sym chosen) ∙ (ap is_float_token first ∙ float) in
-    first_at 1 past_first lexeme c (v ++ next) (λ c s. refl) (subst (λ (f : List ℕ → TokenKind × ℕ). IsLocalAt TokenKind 1 f (v ++ next)) (sym chosen) (number_float c (v ++ next) is))
-
-by_float : (next other w : List ℕ) (kind : LiteralKind) (n : ℕ) → IsTokenBefore next (Literal kind n) w → is_float kind ≡ true → HasDigit w → take 1 other ≡ take 1 next → IsTokenBefore other (Literal kind n) w
-by_float next other w kind n p float d e =
-    let read = subst (λ (x : List ℕ). lexeme (x ++ next) ≡ (Literal kind n, length x)) d.whole (token-read p) in
-    by_local 1 next other w (Literal kind n) p (subst (λ (x : List ℕ). IsLocalAt TokenKind 1 lexeme (x ++ next)) (sym d.whole) (float-at d.first d.rest next kind n d.digit float read)) e
+past : (k : ℕ) (w s u : List ℕ) → take k u ≡ take k s → take k (w ++ u) ≡ take k (w ++ s)
+past k [] s u e = e
+past zero (c ∷ w) s u e = refl
+past (suc k) (c ∷ w) s u e = ap (λ (xs : List ℕ). c ∷ xs) (past k w s u (cut k (suc k) u s (omega arith) e))
 
 -- ---- literals
 
@@ -104,11 +78,8 @@ is_refused (RawCStr None) = true
 is_refused kind = false
 
 -- how far a number looks; and it is no raw string
-abbrev number_reach : Bool → ℕ
-number_reach float = if float then 1 else 2
-
 abbrev IsNumberKind : LiteralKind → List ℕ → Type 0
-IsNumberKind kind v = (literal_reach kind v ≡ number_reach (is_float kind)) × (is_refused kind ≡ false)
+IsNumberKind kind v = (literal_reach kind v ≡ number_reach kind) × (is_refused kind ≡ false)
 
 exponent-kind : {base : Base} {kind : LiteralKind} {w : List ℕ} → IsExponent base kind w → (v : List ℕ) → IsNumberKind kind v
 exponent-kind (number.signed e g ds) v = (refl, refl)
@@ -121,16 +92,15 @@ number-kind : {next : List ℕ} {kind : LiteralKind} {w : List ℕ} → HasNumbe
 number-kind (number.of_prefix is) v = (refl, refl)
 number-kind (number.of_parts is tail) v = tail-kind tail v
 
-number-looks : (float : Bool) → 0 < number_reach float
-number-looks true = omega arith
-number-looks false = omega arith
+number-looks : (kind : LiteralKind) → 0 < number_reach kind
+number-looks kind = by_looks (is_float kind)
+  where
+    by_looks : (b : Bool) → 0 < (if b then 1 else 2)
+    by_looks true = omega arith
+    by_looks false = omega arith
 
-float-digit : {next : List ℕ} {kind : LiteralKind} {takes : Bool} {w : List ℕ} → IsLiteralBefore next kind takes w → is_float kind ≡ true → HasDigit w
-float-digit {next} (lit.number {kind} {w} is) e = number-digit is
-float-digit other e = absurd (true≢false (sym e))
-
-digit-append : {w : List ℕ} → HasDigit w → (suffix : List ℕ) → HasDigit (w ++ suffix)
-digit-append d suffix = record { first = d.first; rest = d.rest ++ suffix; whole = ap (λ (x : List ℕ). x ++ suffix) d.whole; digit = d.digit }
+number-stays : {next : List ℕ} {kind : LiteralKind} (w : List ℕ) → HasDigit w → IsNumberBefore next kind w → (other : List ℕ) → take (number_reach kind) other ≡ take (number_reach kind) next → IsNumberBefore other kind w
+number-stays {next} {kind} w d is other e = subst (IsNumberBefore other kind) (sym d.whole) (number-alike d.first d.rest d.digit (subst (IsNumberBefore next kind) d.whole is) other e)
 
 double-alike : {next : List ℕ} {t : Bool} {w : List ℕ} → IsDoubleQuoted next t w → (other : List ℕ) → take 1 other ≡ take 1 next → IsDoubleQuoted other t w
 double-alike {next} (lit.closed q) other e = lit.closed q
@@ -148,33 +118,22 @@ single-alike {next} (lit.closed {w} q f) t other e = lit.closed q (lone-alike w 
 single-alike {next} (lit.closed_line q) t other e = lit.closed_line q
 single-alike other t text e = absurd (cc t)
 
+-- and where none does
+open-alike : {next : List ℕ} {t : Bool} {w : List ℕ} → IsSingleQuoted next t w → (other : List ℕ) → take 2 other ≡ take 2 next → IsSingleQuoted other t w
+open-alike {next} (lit.one out) other e = lit.one out
+open-alike {next} (lit.closed {w} q f) other e = lit.closed q (lone-alike w next other (cut 1 2 other next (omega arith) e) q f)
+open-alike {next} (lit.closed_line q) other e = lit.closed_line q
+open-alike {next} (lit.at_slash {w} q go f) other e = lit.at_slash q (goes _ next other (cut 1 2 other next (omega arith) e) go) (told_same 2 2 (begins (codes "/'")) (w ++ other) (w ++ next) (begins-told (codes "/'")) (omega arith) (past 2 w next other e) ∙ f)
+open-alike {next} (lit.at_newline {w} q go f) other e = lit.at_newline q (goes _ next other (cut 1 2 other next (omega arith) e) go) (told_same 2 2 (begins (codes "\n'")) other next (begins-told (codes "\n'")) (omega arith) e ∙ f)
+open-alike {next} (lit.unclosed none q) other e = lit.unclosed (ends next other (cut 1 2 other next (omega arith) e) none) q
+open-alike {next} (lit.unclosed_escape none q) other e = lit.unclosed_escape (ends next other (cut 1 2 other next (omega arith) e) none) q
+
 raw-alike : {next : List ℕ} {o : Option ℕ} {w : List ℕ} → IsRaw next o w → (other : List ℕ) → take 1 other ≡ take 1 next → IsRaw other o w
 raw-alike {next} (lit.closed n w le lacks) other e = lit.closed n w le lacks
 raw-alike {next} (lit.too_many n w lt lacks) other e = lit.too_many n w lt lacks
 raw-alike {next} (lit.unclosed n w none lacks) other e = lit.unclosed n w (ends next other e none) lacks
 raw-alike {next} (lit.no_quote n c out) other e = lit.no_quote n c out
 raw-alike {next} (lit.no_more n none) other e = lit.no_more n (ends next other e none)
-
-char-closed : (t : Bool) (v : List ℕ) → literal_reach (Char t) v ≡ 1 → t ≡ true
-char-closed true v e = refl
-char-closed false v e = absurd (omega (arith, e))
-
-byte-closed : (t : Bool) (v : List ℕ) → literal_reach (Byte t) v ≡ 1 → t ≡ true
-byte-closed true v e = refl
-byte-closed false v e = absurd (omega (arith, e))
-
-literal-alike : {next : List ℕ} {kind : LiteralKind} {takes : Bool} {w : List ℕ} → IsLiteralBefore next kind takes w → is_float kind ≡ false → (v : List ℕ) → literal_reach kind v ≡ 1 → (other : List ℕ) → take 1 other ≡ take 1 next → IsLiteralBefore other kind takes w
-literal-alike {next} (lit.number {kind} {w} is) whole v one other e = absurd (let two : literal_reach kind v ≡ 2 = (number-kind is.form v).0 ∙ ap number_reach whole in omega (arith, one, two))
-literal-alike {next} (lit.str q) whole v one other e = lit.str (double-alike q other e)
-literal-alike {next} (lit.byte_str q) whole v one other e = lit.byte_str (double-alike q other e)
-literal-alike {next} (lit.c_str q) whole v one other e = lit.c_str (double-alike q other e)
-literal-alike {next} (lit.byte_char {t} q) whole v one other e = lit.byte_char (single-alike q (byte-closed t v one) other e)
-literal-alike {next} (lit.char_of_one out) whole v one other e = lit.char_of_one out
-literal-alike {next} (lit.char {t} q stop) whole v one other e = lit.char (single-alike q (char-closed t v one) other e) stop
-literal-alike {next} (lit.char_of_name w start all) whole v one other e = lit.char_of_name w start all
-literal-alike {next} (lit.raw_str q free) whole v one other e = lit.raw_str (raw-alike q other e) free
-literal-alike {next} (lit.raw_byte_str q) whole v one other e = lit.raw_byte_str (raw-alike q other e)
-literal-alike {next} (lit.raw_c_str q) whole v one other e = lit.raw_c_str (raw-alike q other e)
 
 suffix-alike : {next w : List ℕ} → IsSuffixBefore next w → (other : List ℕ) → take 1 other ≡ take 1 next → IsSuffixBefore other w
 suffix-alike {next} (lit.none stop) other e = lit.none (stops _ next other e stop)
@@ -184,33 +143,36 @@ suffix-alike {next} (lit.some is stop) other e = lit.some is (stops _ next other
 closed-first : {next : List ℕ} {t : Bool} {w : List ℕ} → IsSingleQuoted next t w → t ≡ true → NextIsNot is_name_start w → (s : List ℕ) → NextIsNot is_name_start (w ++ s)
 closed-first other t stop s = grind (arith, common_steps, end-stops)
 
--- what looks at nothing
-literal-none : {next : List ℕ} {kind : LiteralKind} {takes : Bool} {w : List ℕ} → IsLiteralBefore next kind takes w → (s : List ℕ) → literal_reach kind (w ++ s) ≡ 0 → (takes ≡ false) × ((other : List ℕ) → IsLiteralBefore other kind takes w)
-literal-none (lit.number {kind} {w} is) s e = absurd (let reach = (number-kind is.form (w ++ s)).0 in omega (arith, reach, number-looks (is_float kind), e))
-literal-none (lit.char_of_one {c} out) s e = absurd (let long : is_long_char (39 ∷ c ∷ 39 ∷ s) ≡ false = and-false (is_name_start c) in let one : literal_reach (Char true) (39 ∷ c ∷ 39 ∷ s) ≡ 1 = rw long refl in omega (arith, e, one))
-literal-none (lit.char {t = true} {w} q stop) s e = absurd (let first : next_is is_name_start (w ++ s) ≡ false = closed-first q refl stop s in let one : literal_reach (Char true) (39 ∷ w ++ s) ≡ 1 = rw first refl in omega (arith, e, one))
-literal-none (lit.byte_char {t = true} q) s e = absurd (omega (arith, e))
-literal-none (lit.char_of_name w start all) s e = (refl, λ other. lit.char_of_name w start all)
-literal-none other s e = absurd (omega (arith, e))
+-- how far a character looks that a quote closes, behind one character or behind what begins no name
+one-reach : (c : ℕ) (s : List ℕ) → literal_reach (Char true) (39 ∷ c ∷ 39 ∷ s) ≡ 1
+one-reach c s = let short : is_long_char (39 ∷ c ∷ 39 ∷ s) ≡ false = and-false (is_name_start c) in rw short refl
 
-literal-end : {next : List ℕ} {kind : LiteralKind} {w : List ℕ} → IsLiteralBefore next kind false w → literal_reach kind w ≡ 0 → (other : List ℕ) → IsLiteralBefore other kind false w
-literal-end {next} {kind} {w} is none other = (literal-none is [] (subst (λ (v : List ℕ). literal_reach kind v ≡ 0) (sym (append-nil w)) none)).1 other
+closed-reach : {next : List ℕ} (w : List ℕ) → IsSingleQuoted next true w → NextIsNot is_name_start w → (s : List ℕ) → literal_reach (Char true) (39 ∷ w ++ s) ≡ 1
+closed-reach w q stop s = let first : next_is is_name_start (w ++ s) ≡ false = closed-first q refl stop s in rw first refl
 
-abbrev long_reach : Bool → ℕ
-long_reach b = if b then 0 else 1
+-- what may have a suffix looks at something
+literal-looks : {next : List ℕ} {kind : LiteralKind} {takes : Bool} {w : List ℕ} → IsLiteralBefore next kind takes w → takes ≡ true → (s : List ℕ) → 0 < literal_reach kind (w ++ s)
+literal-looks (lit.number {kind} {w} is) t s = let reach = (number-kind is.form (w ++ s)).0 in omega (arith, reach, number-looks kind)
+literal-looks (lit.char_of_one {c} out) t s = omega (arith, one-reach c s)
+literal-looks (lit.char {t = true} {w} q stop) t s = omega (arith, closed-reach w q stop s)
+literal-looks (lit.byte_char {t = true} q) t s = omega arith
+literal-looks (lit.char_of_name w start all) t s = absurd (true≢false (sym t))
+literal-looks other t s = omega arith
 
--- by how far the literal looks
-by_reach : {A : Type 0} (kind : LiteralKind) (w : List ℕ) → (literal_reach kind w ≡ 0 → A) → (is_float kind ≡ true → literal_reach kind w ≡ 1 → A) → (is_float kind ≡ false → literal_reach kind w ≡ 1 → A) → (literal_reach kind w ≡ 2 → A) → A
-by_reach (Int base empty) w none float one two = two refl
-by_reach (Float base empty) w none float one two = float refl refl
-by_reach (Char false) w none float one two = two refl
-by_reach (Byte false) w none float one two = two refl
-by_reach {A} (Char true) w none float one two = by_long (is_long_char w) none (one refl)
-  where
-    by_long : (b : Bool) → (long_reach b ≡ 0 → A) → (long_reach b ≡ 1 → A) → A
-    by_long true none one = none refl
-    by_long false none one = one refl
-by_reach kind w none float one two = one refl refl
+literal-alike : {next : List ℕ} {kind : LiteralKind} {takes : Bool} {w : List ℕ} → IsLiteralBefore next kind takes w → (s other : List ℕ) → take (literal_reach kind (w ++ s)) other ≡ take (literal_reach kind (w ++ s)) next → IsLiteralBefore other kind takes w
+literal-alike {next} (lit.number {kind} {w} is) s other e = lit.number (number-stays w (number-digit is) is other (subst (λ (k : ℕ). take k other ≡ take k next) (number-kind is.form (w ++ s)).0 e))
+literal-alike {next} (lit.str q) s other e = lit.str (double-alike q other e)
+literal-alike {next} (lit.byte_str q) s other e = lit.byte_str (double-alike q other e)
+literal-alike {next} (lit.c_str q) s other e = lit.c_str (double-alike q other e)
+literal-alike {next} (lit.byte_char {t = true} q) s other e = lit.byte_char (single-alike q refl other e)
+literal-alike {next} (lit.byte_char {t = false} q) s other e = lit.byte_char (open-alike q other e)
+literal-alike {next} (lit.char_of_one out) s other e = lit.char_of_one out
+literal-alike {next} (lit.char {t = true} {w} q stop) s other e = lit.char (single-alike q refl other (subst (λ (k : ℕ). take k other ≡ take k next) (closed-reach w q stop s) e)) stop
+literal-alike {next} (lit.char {t = false} q stop) s other e = lit.char (open-alike q other e) stop
+literal-alike {next} (lit.char_of_name w start all) s other e = lit.char_of_name w start all
+literal-alike {next} (lit.raw_str q free) s other e = lit.raw_str (raw-alike q other e) free
+literal-alike {next} (lit.raw_byte_str q) s other e = lit.raw_byte_str (raw-alike q other e)
+literal-alike {next} (lit.raw_c_str q) s other e = lit.raw_c_str (raw-alike q other e)
 
 -- ---- prefixes
 
@@ -251,9 +213,25 @@ by_only : {A : Type 0} (b : Bool) (other next : List ℕ) → take (if b then 2 
 by_only true other next e two one = two refl e
 by_only false other next e two one = one refl e
 
+-- the letter that looks further
+one-letter : (w : List ℕ) (d : ℕ) → bytes_eq w (d ∷ []) ≡ true → w ≡ d ∷ []
+one-letter [] d e = absurd (true≢false (sym e))
+one-letter (c ∷ []) d e = ap (λ (x : ℕ). x ∷ []) (eqb-true c d (and_parts (c == d) true e).0)
+one-letter (c ∷ x ∷ w) d e = absurd (true≢false (sym (and_parts (c == d) false e).1))
+
+marked_word : (next other w : List ℕ) → bytes_eq w (codes "k") ≡ true → is_ident w ≡ true → NextIs ends_prefix other → take 2 other ≡ take 2 next → begins_prefixed (w ++ next) ≡ false → IsTokenBefore other UnknownPrefix w
+marked_word next other w is_k is go two free =
+    let k : w ≡ 107 ∷ [] = one-letter w 107 is_k in
+    the.unknown_prefix is go (ap (λ (xs : List ℕ). begins_prefixed (xs ++ other)) k ∙ (told_same 2 2 marks_ident other next marks_ident-told (omega arith) two ∙ (ap (λ (xs : List ℕ). begins_prefixed (xs ++ next)) (sym k) ∙ free)))
+
+mark-told_by : (w : List ℕ) → bytes_eq w (114 ∷ []) ≡ true → (next other : List ℕ) → take 2 other ≡ take 2 next → begins_ident_after (codes "r#") (w ++ next) ≡ false → begins_ident_after (codes "r#") (w ++ other) ≡ false
+mark-told_by w is_r next other two free =
+    let r : w ≡ 114 ∷ [] = one-letter w 114 is_r in
+    ap (λ (xs : List ℕ). begins_ident_after (codes "r#") (xs ++ other)) r ∙ (told_same 2 2 marks_ident other next marks_ident-told (omega arith) two ∙ (ap (λ (xs : List ℕ). begins_ident_after (codes "r#") (xs ++ next)) (sym r) ∙ free))
+
 -- ---- tokens
 
-token-alike : {next : List ℕ} {kind : TokenKind} {w : List ℕ} → IsTokenBefore next kind w → (other : List ℕ) → take (reach kind w) other ≡ take (reach kind w) next → IsTokenBefore other kind w
+pub token-alike : {next : List ℕ} {kind : TokenKind} {w : List ℕ} → IsTokenBefore next kind w → (other : List ℕ) → take (reach kind w) other ≡ take (reach kind w) next → IsTokenBefore other kind w
 token-alike {next} (the.end none) other e = the.end (ends next other e none)
 token-alike {next} (the.whitespace all stop) other e = the.whitespace all (stops _ next other e stop)
 token-alike {next} (the.line_comment all stop is) other e = the.line_comment all (stops _ next other e stop) is
@@ -261,26 +239,22 @@ token-alike {next} (the.block_comment p is) other e = the.block_comment p is
 token-alike {next} (the.open_comment none never is) other e = the.open_comment (ends next other e none) never is
 token-alike {next} (the.ident is stop none) other e = the.ident is (stops _ next other e stop) (stops _ next other e none)
 token-alike {next} (the.unknown_prefix {w} is go free) other e = by_only (bytes_eq w (codes "k")) other next e
-    (λ is_k two. by_two next other w UnknownPrefix (the.unknown_prefix is go free) two)
+    (λ is_k two. marked_word next other w is_k is (goes _ next other (cut 1 2 other next (omega arith) two) go) two free)
     (λ no_k one. the.unknown_prefix is (goes _ next other one go) (grind (arith, common_steps, same, known-told, or_parts, continue-word, and_parts, or_from, no-hash)))
 token-alike {next} (the.invalid_ident start all wrong stop) other e = the.invalid_ident start all wrong (stops _ next other e stop)
 token-alike {next} (the.raw_ident is stop) other e = the.raw_ident is (stops _ next other e stop)
 token-alike {next} (the.forced_keyword is stop) other e = the.forced_keyword is (stops _ next other e stop)
 token-alike {next} (the.lifetime start all stop quote hash) other e = the.lifetime start all (stops _ next other e stop) (stops _ next other e quote) (λ go. hash (goes _ other next (sym e) go))
 token-alike {next} (the.unknown_prefix_lifetime {c} {w} start all hash free) other e = by_only (bytes_eq (c ∷ w) (codes "r")) other next e
-    (λ is_r two. by_two next other (39 ∷ c ∷ w) UnknownPrefixLifetime (the.unknown_prefix_lifetime start all hash free) two)
+    (λ is_r two. the.unknown_prefix_lifetime start all (goes _ next other (cut 1 2 other next (omega arith) two) hash) (mark-told_by (c ∷ w) is_r next other two free))
     (λ no_r one. the.unknown_prefix_lifetime start all (goes _ next other one hash) (no-hash 114 c w other all no_r))
 token-alike {next} (the.raw_lifetime is stop) other e = the.raw_lifetime is (stops _ next other e stop)
-token-alike {next} (the.literal {kind} {w} is) other far = let e = subst (λ (k : ℕ). take k other ≡ take k next) (reach-literal kind _ w) far in by_reach kind w
-    (λ none. the.literal (literal-end is none other))
-    (λ float one. by_float next other w kind _ (the.literal is) float (float-digit is float) (subst (λ (k : ℕ). take k other ≡ take k next) one e))
-    (λ whole one. the.literal (literal-alike is whole w one other (subst (λ (k : ℕ). take k other ≡ take k next) one e)))
-    (λ two. by_two next other w _ (the.literal is) (subst (λ (k : ℕ). take k other ≡ take k next) two e))
-token-alike {next} (the.literal_with {kind} {w} {suffix} is suffix_is) other far = let e = subst (λ (k : ℕ). take k other ≡ take k next) (reach-literal kind _ (w ++ suffix)) far in by_reach kind (w ++ suffix)
-    (λ none. absurd (true≢false (literal-none is suffix none).0))
-    (λ float one. by_float next other (w ++ suffix) kind _ (the.literal_with is suffix_is) float (digit-append (float-digit is float) suffix) (subst (λ (k : ℕ). take k other ≡ take k next) one e))
-    (λ whole one. let near = subst (λ (k : ℕ). take k other ≡ take k next) one e in the.literal_with (literal-alike is whole (w ++ suffix) one (suffix ++ other) (past suffix next other near)) (suffix-alike suffix_is other near))
-    (λ two. by_two next other (w ++ suffix) _ (the.literal_with is suffix_is) (subst (λ (k : ℕ). take k other ≡ take k next) two e))
+token-alike {next} (the.literal {kind} {w} is) other far =
+    let e = subst (λ (k : ℕ). take k other ≡ take k next) (reach-literal kind _ w ∙ ap (literal_reach kind) (sym (append-nil w))) far in the.literal (literal-alike is [] other e)
+token-alike {next} (the.literal_with {kind} {w} {suffix} is suffix_is) other far =
+    let e = subst (λ (k : ℕ). take k other ≡ take k next) (reach-literal kind _ (w ++ suffix)) far in
+    let k : ℕ = literal_reach kind (w ++ suffix) in
+    the.literal_with (literal-alike is suffix (suffix ++ other) (past k suffix next other e)) (suffix-alike suffix_is other (cut 1 k other next (literal-looks is refl suffix) e))
 token-alike {next} (the.slash stop) other e = the.slash (stops _ next other e stop)
 token-alike {next} (the.pound stop) other e = the.pound (stops _ next other e stop)
 token-alike {next} (the.guarded_prefix is) other e = the.guarded_prefix is

@@ -23,7 +23,7 @@ use Rattle.rustc_lexer.specs.means.Shebang.{is_passed, is_open_bracket, is_attri
 use Rattle.rustc_lexer.specs.Classes.{AreAll, is_inline, IsText}
 use Rattle.rustc_lexer.specs.laws.Choice.{by_either, by_test}
 use Rattle.rustc_lexer.specs.laws.Language.{lexeme-sound}
-use Rattle.rustc_lexer.specs.laws.Lookahead.{first_token_grammar}
+use Rattle.rustc_lexer.specs.laws.Edition.{first_token_grammar}
 use Rattle.rustc_lexer.specs.laws.Cuts.{past_first as text_past, shorter, tokens-nil, tokens-cons}
 use Rattle.rustc_lexer.specs.laws.LanguageFront.{empty-text, split, first-is}
 

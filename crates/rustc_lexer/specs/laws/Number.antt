@@ -4,10 +4,9 @@ use Rattle.std.specs.Char.{is_ascii_digit, is_ascii_hexdigit}
 use Rattle.std.specs.List.{list_any}
 use Rattle.std.specs.Str.{byte}
 use Rattle.std.proofs.lemmas.Grind.{common_steps}
-use Rattle.rustc_lexer.specs.{Base, LiteralKind, TokenKind, Binary, Octal, Hexadecimal, Int, Float}
-use Rattle.rustc_lexer.specs.laws.Choice.{by_either}
-use Rattle.rustc_lexer.specs.laws.Literal.{literal_at, literal_local}
-use Rattle.rustc_lexer.specs.means.Number.{or_underscore, digits, Front, prefixed, decimal, front_past_zero, front, float, is_exponent_letter, is_sign, past_sign, float_exponent, optional_exponent, fraction_digits, fraction, begins_fraction, past_digits, tail, number_kind, with_suffix, number_body, number}
+use Rattle.rustc_lexer.specs.{Base, LiteralKind, Binary, Octal, Hexadecimal, Int, Float}
+use Rattle.rustc_lexer.specs.laws.Choice.{by_either, by_test}
+use Rattle.rustc_lexer.specs.means.Number.{or_underscore, digits, Front, prefixed, decimal, front_past_zero, front, float, is_exponent_letter, is_sign, past_sign, float_exponent, optional_exponent, fraction_digits, fraction, begins_fraction, past_digits, tail, number_kind}
 use Rattle.rustc_lexer.specs.laws.Reach.{IsToldBy, next_is-told, wider, read_as_at, and_then_at, and_then_local, after_at, yes_at, no_at, either_at, begins_local, next_is_local, gives_local, run_as_local, run_local}
 use Rattle.rustc_lexer.specs.means.Scan.{IsLocalAt, IsLocal, after, gives, next_is, read_as, run}
 
@@ -64,9 +63,6 @@ pub number_kind_local : (first : ℕ) → IsLocal LiteralKind 2 (number_kind fir
 unfolding number_kind
 number_kind_local first = and_then_local 2 (front first) tail (λ s. wider 1 2 (omega arith) (front_local first s)) tail_local
 
-pub number_local : (first : ℕ) → IsLocal TokenKind 2 (number first)
-number_local first = literal_local 2 (number_body first) (omega arith) (λ s. read_as_at 2 with_suffix (number_kind first) s (number_kind_local first s))
-
 -- ---- floats
 
 abbrev pub is_float : LiteralKind → Bool
@@ -91,5 +87,9 @@ number_kind_float : (first : ℕ) (s : List ℕ) → is_float (number_kind first
 unfolding number_kind
 number_kind_float first s float = and_then_at 1 1 (front first) tail s (front_local first s) (grind (arith, common_steps, past_digits_float)) (omega arith)
 
-pub number_float : (first : ℕ) (s : List ℕ) → is_float (number_kind first s).0 ≡ true → IsLocalAt TokenKind 1 (number first) s
-number_float first s float = literal_at 1 1 (number_body first) s (λ t. omega arith) (read_as_at 1 with_suffix (number_kind first) s (number_kind_float first s float))
+-- how far a number looks
+abbrev pub number_reach : LiteralKind → ℕ
+number_reach kind = if is_float kind then 1 else 2
+
+pub kind-local : (first : ℕ) (s : List ℕ) → IsLocalAt LiteralKind (number_reach (number_kind first s).0) (number_kind first) s
+kind-local first s = by_test (λ (k : ℕ). IsLocalAt LiteralKind k (number_kind first) s) (is_float (number_kind first s).0) 1 2 (number_kind_float first s) (λ e. number_kind_local first s)

@@ -8,7 +8,9 @@ use Rattle.std.proofs.lemmas.Grind.{common_steps}
 use Rattle.unicode_ident.proofs.Computing.{unicode_ident}
 use Rattle.rustc_lexer.specs.{Base, LiteralKind, Binary, Octal, Decimal, Hexadecimal, Int, Float}
 use Rattle.rustc_lexer.specs.laws.Choice.{by_test}
-use Rattle.rustc_lexer.specs.laws.Number.{number_kind_local}
+use Rattle.std.proofs.Math.Seq.{take-append_seam, drop-append_seam}
+use Rattle.rustc_lexer.specs.laws.Number.{number_kind_local, number_reach, kind-local}
+use Rattle.rustc_lexer.specs.laws.Reach.{seam}
 use Rattle.rustc_lexer.specs.laws.NumberGrammar.{number-form}
 use Rattle.rustc_lexer.specs.laws.Within.{Within, within-suc, within-one, within-any, then-within, run-within}
 use Rattle.rustc_lexer.specs.means.Number.{or_underscore, digits, Front, front_of, prefixed, binary, octal, hexadecimal, decimal, front_past_zero, front, float, is_exponent_letter, is_sign, past_sign, float_exponent, optional_exponent, fraction_digits, fraction, is_no_fraction, begins_fraction, past_digits, tail, number_kind}
@@ -256,3 +258,12 @@ number-is {next} {kind} first v digit is = elim (form-within first s refl is.for
 
     m : ℕ
     m = (number_kind first s).1
+
+-- a number stays one before a text that begins alike
+pub number-alike : {next : List ℕ} {kind : LiteralKind} (first : ℕ) (v : List ℕ) → is_ascii_digit first ≡ true → IsNumberBefore next kind (first ∷ v) → (other : List ℕ) → take (number_reach kind) other ≡ take (number_reach kind) next → IsNumberBefore other kind (first ∷ v)
+number-alike {next} {kind} first v digit is other a =
+    let begin : take (length v + number_reach kind) (v ++ other) ≡ take (length v + number_reach kind) (v ++ next) = seam (number_reach kind) v other ∙ (ap (λ (xs : List ℕ). v ++ xs) a ∙ sym (seam (number_reach kind) v next)) in
+    let at = subst (λ (r : LiteralKind × ℕ). (u : List ℕ) → take (r.1 + number_reach r.0) u ≡ take (r.1 + number_reach r.0) (v ++ next) → number_kind first u ≡ number_kind first (v ++ next)) (number-is first v digit is) (λ u e. let local = kind-local first (v ++ next) in local.local u e) in
+    let read : number_kind first (v ++ other) ≡ (kind, length v) = at (v ++ other) begin ∙ number-is first v digit is in
+    let there = subst (λ (r : LiteralKind × ℕ). IsNumberBefore (drop r.1 (v ++ other)) r.0 (first ∷ take r.1 (v ++ other))) read (number-read first (v ++ other) digit) in
+    subst (λ (xs : List ℕ). IsNumberBefore xs kind (first ∷ v)) (drop-append_seam v other) (subst (λ (xs : List ℕ). IsNumberBefore (drop (length v) (v ++ other)) kind (first ∷ xs)) (take-append_seam v other) there)

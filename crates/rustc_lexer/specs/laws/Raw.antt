@@ -4,11 +4,9 @@ use Rattle.std.proofs.lemmas.Bool.{leb-true, leb-false, le-leb, lt-leb, and_part
 use Rattle.std.specs.Str.{chars}
 use Rattle.std.proofs.lemmas.Grind.{common_steps}
 use Rattle.rustc_lexer.specs.declared.lexemes.raw.RawPrefix.{RawPrefix}
-use Rattle.rustc_lexer.specs.{LiteralKind, RawStrError, TokenKind}
-use Rattle.rustc_lexer.specs.means.Literal.{Body}
-use Rattle.rustc_lexer.specs.laws.Literal.{literal_at}
-use Rattle.rustc_lexer.specs.means.Raw.{is_hash, is_quote, hash_run, closes, close, raw_text, raw_starter, raw_read, accepted, is_accepted, raw_body, prefix_kind, prefix_len, raw_literal, checked, check_raw, HasEnd, EndsItself}
-use Rattle.rustc_lexer.specs.laws.Reach.{IsToldBy, cut_past, told_same, wider, all_at, read_as_at, and_then_at, first_at, gives_local, run_len_le, run_len_same, found-same, least-some, least_found}
+use Rattle.rustc_lexer.specs.{RawStrError}
+use Rattle.rustc_lexer.specs.means.Raw.{is_hash, is_quote, hash_run, closes, close, raw_text, raw_starter, raw_read, accepted, raw_literal, checked, check_raw, HasEnd, EndsItself}
+use Rattle.rustc_lexer.specs.laws.Reach.{IsToldBy, cut_past, told_same, and_then_at, first_at, gives_local, run_len_le, run_len_same, found-same, least-some, least_found}
 use Rattle.rustc_lexer.specs.means.Scan.{IsLocalAt, IsLocal, IsFound, run_len}
 
 run_len-take : (p : ℕ → Bool) (k : ℕ) (s : List ℕ) → run_len p (take k s) ≡ min k (run_len p s)
@@ -68,9 +66,6 @@ raw_read_ended prefix s =
       ends = elim (is.ends) as (λ _. HasEnd (drop n s) (raw_read prefix s).0 ⊎ ((raw_read prefix s).1 ≡ length s)) [ inl end ↦ inl end | inr all ↦ inr (omega (arith, run_len_le is_hash s, length-drop n s)) ];
     }
 
-pub raw_read_local : (prefix : ℕ) → IsLocal (Result ℕ RawStrError) 1 (raw_read prefix)
-raw_read_local prefix s = let is = raw_read_ended prefix s in elim (is.ends) [ inl end ↦ wider 0 1 (omega arith) (is.within end) | inr all ↦ all_at 1 (raw_read prefix) s (omega arith) all ]
-
 pub raw_read_within : (prefix : ℕ) → EndsItself prefix
 raw_read_within prefix s = (raw_read_ended prefix s).within
 
@@ -88,16 +83,6 @@ raw_read_prefix p q s = ap (λ (r : Option ℕ × ℕ). let t : Option ℕ × �
 pub raw_read_own : (prefix : ℕ) (s : List ℕ) (t : ℕ) → (raw_read 0 s).1 ≤ t → accepted (raw_read prefix (take t s)).0 ≡ accepted (raw_read 0 s).0
 raw_read_own prefix s t le =
     grind (arith, common_steps, raw_read_prefix, raw_read_ended, raw_read_within, take-take, take_all)
-
--- how far the body of a literal looks, from how far what is read does
-body_at : (k : ℕ) (kind : Option ℕ → LiteralKind) (s : List ℕ) → IsLocalAt (Result ℕ RawStrError) k (raw_read 0) s → IsLocalAt Body k (raw_body kind) s
-body_at k kind s is = read_as_at k (λ r. record { kind = kind (accepted r); takes_suffix = is_accepted r }) (raw_read 0) s is
-
-pub raw_body_local : (kind : Option ℕ → LiteralKind) → IsLocal Body 1 (raw_body kind)
-raw_body_local kind s = body_at 1 kind s (raw_read_local 0 s)
-
-pub raw_literal_local : (prefix : RawPrefix) → IsLocal TokenKind 1 (raw_literal prefix)
-raw_literal_local prefix s = literal_at (prefix_len prefix) 1 (raw_body (prefix_kind prefix)) s (λ e. omega arith) (raw_body_local (prefix_kind prefix) s)
 
 checked-ok : (r : Result ℕ RawStrError) → (checked r ≡ Ok tt) ↔ IsSome (accepted r)
 checked-ok (Ok n) = (λ e. refl, λ some. refl)

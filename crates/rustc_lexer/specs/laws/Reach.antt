@@ -1,5 +1,6 @@
 -- What depends on a few characters past its end: the laws of local scanners.
-use Rattle.std.proofs.Common.{◌≡◌, ℕ, zero, suc, ◌+◌, ◌≤◌, ◌<◌, ◌==◌, ◌&&◌, Bool, true, false, true≢false, if◌then◌else◌, List, [], ◌∷◌, length, get_or, take, drop, refl, sym, ap, ◌∙◌, subst, arith, length-drop, length-take, take-take, take_all, Option, Some, None}
+use Rattle.std.proofs.Common.{◌≡◌, ℕ, zero, suc, ◌+◌, ◌≤◌, ◌<◌, ◌==◌, ◌&&◌, Bool, true, false, true≢false, if◌then◌else◌, List, [], ◌∷◌, ◌++◌, length, get_or, take, drop, refl, sym, ap, ◌∙◌, subst, arith, take-add, length-drop, length-take, take-take, take_all, Option, Some, None}
+use Rattle.std.proofs.Math.Seq.{take-append_seam, drop-append_seam}
 use Rattle.std.proofs.lemmas.List.{drop-take}
 use Rattle.std.specs.List.{list_all}
 use Rattle.std.proofs.lemmas.Bool.{and_parts}
@@ -29,6 +30,10 @@ cut_first n c (d ∷ us) s e = record { rest = us; whole = ap (λ x. x ∷ us) (
 -- a text that begins like all of another, and ends there, is that text
 pub same_text : (k : ℕ) (u s : List ℕ) → length s < k → take k u ≡ take k s → u ≡ s
 same_text k u s lt e = sym (take_all k u (omega (arith, ap length e, length-take k u, length-take k s))) ∙ (e ∙ take_all k s (omega arith))
+
+-- a text and the first k characters of what follows it
+pub seam : (k : ℕ) (w s : List ℕ) → take (length w + k) (w ++ s) ≡ w ++ take k s
+seam k w s = take-add (length w) k (w ++ s) ∙ (ap (λ (x : List ℕ). x ++ take k (drop (length w) (w ++ s))) (take-append_seam w s) ∙ ap (λ (x : List ℕ). w ++ take k x) (drop-append_seam w s))
 
 -- what is told by the first characters of a text
 abbrev pub IsToldBy : {B : Type 0} → ℕ → (List ℕ → B) → Type 0
@@ -67,10 +72,6 @@ wider {A} {scan} {s} j k le is = record { inside = is.inside; local = λ u e. is
 -- what takes all of the text
 pub all_at : {A : Type 0} (k : ℕ) (scan : List ℕ → A × ℕ) (s : List ℕ) → 0 < k → (scan s).1 ≡ length s → IsLocalAt A k scan s
 all_at k scan s some all = record { inside = omega arith; local = λ u e. ap scan (same_text ((scan s).1 + k) u s (omega arith) e) }
-
--- two ways to say the same scanner
-pub same_at : {A : Type 0} (k : ℕ) (scan other : List ℕ → A × ℕ) (s : List ℕ) → ((s : List ℕ) → scan s ≡ other s) → IsLocalAt A k other s → IsLocalAt A k scan s
-same_at {A} k scan other s same is = grind (arith, common_steps)
 
 -- another answer
 pub read_as_at : {A B : Type 0} (k : ℕ) (f : A → B) (scan : List ℕ → A × ℕ) (s : List ℕ) → IsLocalAt A k scan s → IsLocalAt B k (read_as f scan) s

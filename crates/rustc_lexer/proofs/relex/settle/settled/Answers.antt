@@ -2,7 +2,7 @@ use Rattle.std.proofs.Common.{List, ℕ, ap, subst}
 use Rattle.rustc_lexer.specs.{Token}
 use Rattle.rustc_lexer.specs.Locality.{IsSettled}
 use Rattle.rustc_lexer.specs.Tokens.{tokens_by}
-use Rattle.rustc_lexer.specs.laws.Lookahead.{first_token_grammar}
+use Rattle.rustc_lexer.specs.laws.Edition.{first_token_grammar}
 use Rattle.rustc_lexer.proofs.SettledLemmas.{stays}
 use Rattle.rustc_lexer.proofs.relex.settle.settled.Goals as goal
 
