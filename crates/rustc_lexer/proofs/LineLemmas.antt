@@ -2,19 +2,23 @@
 use Rattle.std.proofs.Common.{◌≡◌, ℕ, zero, suc, ◌+◌, ◌-◌, ◌<◌, ◌≤◌, ◌==◌, Bool, true, false, true≢false, inl, inr, if◌then◌else◌, List, [], ◌∷◌, length, drop, get_or, codes, refl, sym, ap, ◌∙◌, subst, arith, Option, Some, None, length-drop, drop-drop}
 use Rattle.std.proofs.lemmas.Bool.{and_parts, cases_lt, eqb-true, eq-eqb, false_from_ne_true}
 use Rattle.std.proofs.lemmas.Bool.Decides.{Decides-eqb}
+use Rattle.std.proofs.lemmas.List.{get_or-drop}
 use Rattle.std.proofs.lemmas.Slice.Eq.{starts_is}
 use Rattle.std.specs.List.{starts_with}
 use Rattle.memchr.specs.Find.{IsFirstByte, is_byte}
 use Rattle.rustc_lexer.specs.Classes.{is_among}
-use Rattle.rustc_lexer.specs.means.Frontmatter.{closing_end, dashes, first, inner_attribute, inner_doc, is_dash, line_end, newline, or_here, use_item}
+use Rattle.rustc_lexer.specs.FrontmatterGrammar.{fence}
+use Rattle.rustc_lexer.specs.means.Frontmatter.{closing_end, first, is_dash, line_end, newline, or_here}
 use Rattle.rustc_lexer.specs.means.Scan.{begins, next_is, run_len}
 use Rattle.rustc_lexer.specs.laws.Choice.{by_either}
 use Rattle.rustc_lexer.specs.laws.Fences.{begins-enough, begins-few, begins-whole}
 use Rattle.rustc_lexer.specs.laws.Frontmatter.{closing_end-full}
-use Rattle.rustc_lexer.specs.laws.LanguageLone.{dropped}
 use Rattle.rustc_lexer.specs.laws.LanguageRuns.{either-way}
 use Rattle.rustc_lexer.specs.laws.Reach.{least-is, least-none, least-some}
 use Rattle.rustc_lexer.proofs.SearchLemmas.{begins-front}
+
+dropped : (s : List ℕ) (i k m : ℕ) → i + k ≡ m → get_or (drop i s) k 0 ≡ get_or s m 0
+dropped s i k m e = get_or-drop i s k 0 ∙ ap (λ n. get_or s n 0) e
 
 -- a newline, and a line that is not empty
 pub record IsLinePattern (pattern : List ℕ) : Type 0 where
@@ -33,9 +37,9 @@ line_pattern d ds other = record { head = head; next = next }
     next (a ∷ []) e f = omega arith
     next (a ∷ b ∷ s) e f = other (sym (eqb-true b d (and_parts (b == d) (begins ds s) (and_parts (a == 10) _ e).1).0) ∙ f)
 
-pub fence_pattern : (n : ℕ) → 0 < n → IsLinePattern (newline ∷ dashes n)
+pub fence_pattern : (n : ℕ) → 0 < n → IsLinePattern (newline ∷ fence n)
 fence_pattern zero some = absurd (omega arith)
-fence_pattern (suc n) some = line_pattern 45 (dashes n) (λ e. omega arith)
+fence_pattern (suc n) some = line_pattern 45 (fence n) (λ e. omega arith)
 
 -- what was found of a pattern before `from`
 pub record IsSeen (pattern rest : List ℕ) (from : ℕ) (found : Option ℕ) : Type 0 where
@@ -99,10 +103,10 @@ run-byte : (byte : ℕ) (rest : List ℕ) (from end : ℕ) → end ≡ from + ru
 run-byte byte rest from end e j le lt = sym (dropped rest from (j - from) j (omega arith)) ∙ eqb-true _ byte (run-passes (λ b. b == byte) (drop from rest) (j - from) (omega arith))
 
 -- what the loop has seen of each of them
-pub record AreSeen (n : ℕ) (rest : List ℕ) (from : ℕ) (fence item doc attribute : Option ℕ) : Type 0 where
+pub record AreSeen (n : ℕ) (rest : List ℕ) (from : ℕ) (short item doc attribute : Option ℕ) : Type 0 where
   pub inside : from ≤ length rest
-  pub full : IsSeen (newline ∷ dashes n) rest from None
-  pub fence_seen : IsSeen (newline ∷ dashes 3) rest from fence
+  pub full : IsSeen (newline ∷ fence n) rest from None
+  pub fence_seen : IsSeen (newline ∷ fence 3) rest from short
   pub item_seen : IsSeen (codes "\nuse ") rest from item
   pub doc_seen : IsSeen (codes "\n//!") rest from doc
   pub attribute_seen : IsSeen (codes "\n#![") rest from attribute
@@ -110,23 +114,23 @@ pub record AreSeen (n : ℕ) (rest : List ℕ) (from : ℕ) (fence item doc attr
 pub seen_none : (n : ℕ) (rest : List ℕ) → AreSeen n rest 0 None None None None
 seen_none n rest = record {
   inside = omega arith;
-  full = seen_nothing (newline ∷ dashes n) rest;
-  fence_seen = seen_nothing (newline ∷ dashes 3) rest;
+  full = seen_nothing (newline ∷ fence n) rest;
+  fence_seen = seen_nothing (newline ∷ fence 3) rest;
   item_seen = seen_nothing (codes "\nuse ") rest;
   doc_seen = seen_nothing (codes "\n//!") rest;
   attribute_seen = seen_nothing (codes "\n#![") rest;
 }
 
 -- where no newline is left, they are what is found
-pub record AreFound (n : ℕ) (rest : List ℕ) (fence item doc attribute : Option ℕ) : Type 0 where
-  pub full : None ≡ first (newline ∷ dashes n) rest
-  pub fence_is : fence ≡ first (newline ∷ dashes 3) rest
-  pub item_is : item ≡ use_item rest
-  pub doc_is : doc ≡ inner_doc rest
-  pub attribute_is : attribute ≡ inner_attribute rest
+pub record AreFound (n : ℕ) (rest : List ℕ) (short item doc attribute : Option ℕ) : Type 0 where
+  pub full : None ≡ first (newline ∷ fence n) rest
+  pub fence_is : short ≡ first (newline ∷ fence 3) rest
+  pub item_is : item ≡ first (codes "\nuse ") rest
+  pub doc_is : doc ≡ first (codes "\n//!") rest
+  pub attribute_is : attribute ≡ first (codes "\n#![") rest
 
-pub all_seen : (n : ℕ) (rest cut : List ℕ) (from : ℕ) (fence item doc attribute : Option ℕ) → 0 < n → AreSeen n rest from fence item doc attribute → cut ≡ drop from rest → IsFirstByte (is_byte 10) cut None → AreFound n rest fence item doc attribute
-all_seen n rest cut from fence item doc attribute some at e lost = record {
+pub all_seen : (n : ℕ) (rest cut : List ℕ) (from : ℕ) (short item doc attribute : Option ℕ) → 0 < n → AreSeen n rest from short item doc attribute → cut ≡ drop from rest → IsFirstByte (is_byte 10) cut None → AreFound n rest short item doc attribute
+all_seen n rest cut from short item doc attribute some at e lost = record {
   full = seen_all rest (fence_pattern n some) cut at.full e lost;
   fence_is = seen_all rest (fence_pattern 3 (omega arith)) cut at.fence_seen e lost;
   item_is = seen_all rest (line_pattern 117 (codes "se ") (λ e. omega arith)) cut at.item_seen e lost;
@@ -200,36 +204,36 @@ module _ (rest cut : List ℕ) (from step line end : ℕ) (e : cut ≡ drop from
     })
 
   -- the dashes of the line
-  fence_back : (n : ℕ) → begins (newline ∷ dashes n) (drop (line - 1) rest) ≡ begins (dashes n) (drop line rest)
+  fence_back : (n : ℕ) → begins (newline ∷ fence n) (drop (line - 1) rest) ≡ begins (fence n) (drop line rest)
   fence_back n = by_front (drop (line - 1) rest) refl
     where
       there : get_or rest (line - 1) 0 ≡ 10
       there = newlines (line - 1) (omega arith) (omega arith)
 
-      by_front : (s : List ℕ) → drop (line - 1) rest ≡ s → begins (newline ∷ dashes n) (drop (line - 1) rest) ≡ begins (dashes n) (drop line rest)
+      by_front : (s : List ℕ) → drop (line - 1) rest ≡ s → begins (newline ∷ fence n) (drop (line - 1) rest) ≡ begins (fence n) (drop line rest)
       by_front [] f = absurd (let clash = sym there ∙ (sym (dropped rest (line - 1) 0 (line - 1) (omega arith)) ∙ ap (λ (xs : List ℕ). get_or xs 0 0) f) in omega arith)
       by_front (c ∷ s) f =
           let is : c ≡ 10 = sym (ap (λ (xs : List ℕ). get_or xs 0 0) f) ∙ (dropped rest (line - 1) 0 (line - 1) (omega arith) ∙ there) in
           let left : s ≡ drop line rest = ap (drop 1) (sym f) ∙ (drop-drop 1 (line - 1) rest ∙ ap (λ k. drop k rest) (let same : line - 1 + 1 ≡ line = omega arith in same)) in
-          ap (begins (newline ∷ dashes n)) f ∙ (rw (eq-eqb c 10 is) refl ∙ ap (begins (dashes n)) left)
+          ap (begins (newline ∷ fence n)) f ∙ (rw (eq-eqb c 10 is) refl ∙ ap (begins (fence n)) left)
 
-  pub fence_closes : (n : ℕ) → n ≤ end - line → begins (newline ∷ dashes n) (drop (line - 1) rest) ≡ true
+  pub fence_closes : (n : ℕ) → n ≤ end - line → begins (newline ∷ fence n) (drop (line - 1) rest) ≡ true
   fence_closes n enough = fence_back n ∙ begins-enough n (drop line rest) (let run : run_len is_dash (drop line rest) ≡ run_from 45 line rest = refl in omega arith)
 
-  pub fence_not : (n : ℕ) → end - line < n → begins (newline ∷ dashes n) (drop (line - 1) rest) ≡ false
+  pub fence_not : (n : ℕ) → end - line < n → begins (newline ∷ fence n) (drop (line - 1) rest) ≡ false
   fence_not n few = fence_back n ∙ begins-few n (drop line rest) (let run : run_len is_dash (drop line rest) ≡ run_from 45 line rest = refl in omega arith)
 
-  pub closes_here : (n : ℕ) → 0 < n → IsSeen (newline ∷ dashes n) rest from None → n ≤ end - line → line ≤ length rest → line_end line rest ≡ closing_end n rest
+  pub closes_here : (n : ℕ) → 0 < n → IsSeen (newline ∷ fence n) rest from None → n ≤ end - line → line ≤ length rest → line_end line rest ≡ closing_end n rest
   closes_here n some seen enough inside =
       ap (λ k. line_end k rest) (let same : line ≡ line - 1 + 1 = omega arith in same) ∙ closing_end-full n (line - 1) rest (found_line (fence_pattern n some) seen (fence_closes n enough) inside)
 
-  pub seen_on : (n : ℕ) (fence item doc attribute new_fence new_item new_doc new_attribute : Option ℕ) → 0 < n → AreSeen n rest from fence item doc attribute → end - line < n → end ≤ length rest
-      → new_fence ≡ or_here fence (begins (newline ∷ dashes 3) (drop (line - 1) rest)) (line - 1)
+  pub seen_on : (n : ℕ) (short item doc attribute new_fence new_item new_doc new_attribute : Option ℕ) → 0 < n → AreSeen n rest from short item doc attribute → end - line < n → end ≤ length rest
+      → new_fence ≡ or_here short (begins (newline ∷ fence 3) (drop (line - 1) rest)) (line - 1)
       → new_item ≡ or_here item (begins (codes "\nuse ") (drop (line - 1) rest)) (line - 1)
       → new_doc ≡ or_here doc (begins (codes "\n//!") (drop (line - 1) rest)) (line - 1)
       → new_attribute ≡ or_here attribute (begins (codes "\n#![") (drop (line - 1) rest)) (line - 1)
       → AreSeen n rest end new_fence new_item new_doc new_attribute
-  seen_on n fence item doc attribute new_fence new_item new_doc new_attribute some at few inside f i d a = record {
+  seen_on n short item doc attribute new_fence new_item new_doc new_attribute some at few inside f i d a = record {
     inside = inside;
     full = seen_line (fence_pattern n some) false (sym (fence_not n few)) at.full refl;
     fence_seen = seen_line (fence_pattern 3 (omega arith)) _ refl at.fence_seen f;

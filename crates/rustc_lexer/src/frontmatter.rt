@@ -1,9 +1,10 @@
 //! Frontmatter: a block between two fences of dashes, which may come before the first token.
-ghost use Rattle.std.specs.Prelude.{◌≡◌, ◌+◌, ◌-◌, ◌≤◌, ◌<◌, ◌==◌, ◌&&◌, true, false, length, nat_lt, slice_index, drop, codes, MatchOption, IfSome, ◌∷◌};
+ghost use Rattle.std.specs.Prelude.{◌≡◌, ◌+◌, ◌-◌, ◌≤◌, ◌<◌, ◌==◌, ◌&&◌, true, false, length, nat_lt, slice_index, take, drop, codes, MatchOption, IfSome, ◌∷◌};
 ghost use Rattle.std.specs.Str.{chars, IsCharBoundary};
 ghost use Rattle.rustc_lexer.specs.{E2024};
 ghost use Rattle.rustc_lexer.specs.Classes;
 ghost use Rattle.rustc_lexer.specs.Classes.{Fits, begins, is_among, next_is};
+ghost use Rattle.rustc_lexer.specs.FrontmatterGrammar.{fence};
 ghost use Rattle.rustc_lexer.specs.LanguageText.{document, mode_in};
 ghost use Rattle.rustc_lexer.specs.means.Frontmatter as spec;
 ghost use Rattle.rustc_lexer.specs.means.Scan.{past, run_len};
@@ -149,7 +150,7 @@ struct Guesses {
 fn with_line(guesses: Guesses, rest: &[u8], line: usize) -> Guesses
     requires some { 0 < line }
     requires inside { line ≤ length rest.now }
-    ensures short_fence { result.short_fence ≡ spec.or_here guesses.short_fence (begins (spec.newline ∷ spec.dashes 3) (drop (line - 1) rest.now)) (line - 1) }
+    ensures short_fence { result.short_fence ≡ spec.or_here guesses.short_fence (begins (spec.newline ∷ fence 3) (drop (line - 1) rest.now)) (line - 1) }
     ensures use_item { result.use_item ≡ spec.or_here guesses.use_item (begins (codes "\nuse ") (drop (line - 1) rest.now)) (line - 1) }
     ensures inner_doc { result.inner_doc ≡ spec.or_here guesses.inner_doc (begins (codes "\n//!") (drop (line - 1) rest.now)) (line - 1) }
     ensures inner_attribute { result.inner_attribute ≡ spec.or_here guesses.inner_attribute (begins (codes "\n#![") (drop (line - 1) rest.now)) (line - 1) }
@@ -194,10 +195,10 @@ fn or_here(found: Option<usize>, rest: &[u8], place: usize, pattern: &[u8]) -> O
 
 /// Returns where a frontmatter ends that no line of enough dashes closes: the best guess of where Rust begins.
 fn recovery(rest: &[u8], guesses: Guesses) -> usize
-    requires short_fence { guesses.short_fence ≡ spec.first (spec.newline ∷ spec.dashes 3) rest.now }
-    requires use_item { guesses.use_item ≡ spec.use_item rest.now }
-    requires inner_doc { guesses.inner_doc ≡ spec.inner_doc rest.now }
-    requires inner_attribute { guesses.inner_attribute ≡ spec.inner_attribute rest.now }
+    requires short_fence { guesses.short_fence ≡ spec.first (spec.newline ∷ fence 3) rest.now }
+    requires use_item { guesses.use_item ≡ spec.first (codes "\nuse ") rest.now }
+    requires inner_doc { guesses.inner_doc ≡ spec.first (codes "\n//!") rest.now }
+    requires inner_attribute { guesses.inner_attribute ≡ spec.first (codes "\n#![") rest.now }
     ensures end { result ≡ spec.recovery rest.now }
     ensures inside { result ≤ length rest.now }
 {
@@ -236,7 +237,7 @@ fn run_end(rest: &[u8], from: usize, byte: u8) -> usize
 /// Returns the first place of three dashes with only blanks before them, on their line and past the dashes before.
 #[tactic(auto, using(std::proofs::lemmas::List::take_rest, crate::specs::laws::Fences::walk_end, crate::specs::laws::Fences::walk_found, crate::specs::laws::Fences::walk_on, std::proofs::lemmas::Grind::common_steps))]
 fn find_lone_dashes(rest: &[u8]) -> Option<usize>
-    ensures place { result ≡ spec.first_alone 0 (spec.places (spec.dashes 3) rest.now) rest.now }
+    ensures place { result ≡ spec.first_lone true 0 rest.now }
     ensures inside { IfSome result (λ place. place < length rest.now) }
 {
     let mut end = 0;
@@ -254,7 +255,7 @@ fn find_lone_dashes(rest: &[u8]) -> Option<usize>
 fn stands_alone(rest: &[u8], end: usize, place: usize) -> bool
     requires order { end ≤ place }
     requires inside { place ≤ length rest.now }
-    ensures { result ≡ spec.stands_alone end place rest.now }
+    ensures { result ≡ spec.blank_over true (take (place - end) (drop end rest.now)) }
 {
     let mut start = place;
     'blanks: while start > end && is_horizontal_whitespace(rest[start - 1] as char) {

@@ -12,7 +12,8 @@ use Rattle.rustc_lexer.specs.declared.token.Token.{Token}
 use Rattle.rustc_lexer.specs.declared.token.TokenKind.{TokenKind}
 use Rattle.rustc_lexer.specs.declared.token.TokenKind.TheVariants.{Whitespace}
 use Rattle.rustc_lexer.specs.Classes.{is_whitespace, AreAll, NextIsNot, bytes, begins}
-use Rattle.rustc_lexer.specs.means.Frontmatter.{dashes, ends_line, opens}
+use Rattle.rustc_lexer.specs.FrontmatterGrammar.{fence}
+use Rattle.rustc_lexer.specs.means.Frontmatter.{ends_line, opens}
 use Rattle.rustc_lexer.specs.FrontmatterGrammar.{OpensNone}
 use Rattle.rustc_lexer.specs.Language as the
 use Rattle.rustc_lexer.specs.Language.{IsTokenBefore}
@@ -52,11 +53,11 @@ part-none is_part is e = grind (arith, common_steps)
 
 -- ---- where a frontmatter opens
 
-opens-space : (u next : List ℕ) → AreAll is_whitespace u → NextIsNot is_whitespace next → opens (u ++ next) ≡ (begins (dashes 3) next && not (ends_line u))
+opens-space : (u next : List ℕ) → AreAll is_whitespace u → NextIsNot is_whitespace next → opens (u ++ next) ≡ (begins (fence 3) next && not (ends_line u))
 opens-space u next all stop = grind (arith, common_steps, run_len-here, drop-append_seam, take-append_seam)
 
-opens-solid : (c : ℕ) (s : List ℕ) → is_whitespace c ≡ false → opens (c ∷ s) ≡ (begins (dashes 3) (c ∷ s) && true)
-opens-solid c s e = ap (λ (n : ℕ). begins (dashes 3) (drop n (c ∷ s)) && not (ends_line (take n (c ∷ s)))) (run_len-out is_whitespace c s e)
+opens-solid : (c : ℕ) (s : List ℕ) → is_whitespace c ≡ false → opens (c ∷ s) ≡ (begins (fence 3) (c ∷ s) && true)
+opens-solid c s e = ap (λ (n : ℕ). begins (fence 3) (drop n (c ∷ s)) && not (ends_line (take n (c ∷ s)))) (run_len-out is_whitespace c s e)
 
 -- a token that is no white space begins with none
 pub no-space : {next : List ℕ} {kind : TokenKind} {c : ℕ} {w : List ℕ} → IsTokenBefore next kind (c ∷ w) → is_space kind ≡ false → is_whitespace c ≡ false
@@ -128,7 +129,7 @@ spaces c w (token ∷ tokens) {s} {t} all stop near too none = by_first (order-f
       near = subst (λ (xs : List ℕ). Near (c ∷ w ++ s) (xs ++ t)) has.whole (order-near c w all near);
       is = order-bytes u all ∙ ap encode_utf8_all has.whole;
       again = order-bytes (has.first ∷ has.rest) all_space ∙ ap encode_utf8_all (ap in_order (sym has.whole) ∙ (without-again is_dropped_before u ∙ has.whole));
-      closed = λ e. opens-space (has.first ∷ has.rest) t all_space stop_t ∙ (ap (λ (b : Bool). b && not (ends_line (has.first ∷ has.rest))) (sym (near-begins (dashes 3) refl near)) ∙ (ap (λ (b : Bool). begins (dashes 3) s && not b) (sym (ap ends_line has.whole) ∙ order-ends u) ∙ (sym (opens-space u s all stop) ∙ e)));
+      closed = λ e. opens-space (has.first ∷ has.rest) t all_space stop_t ∙ (ap (λ (b : Bool). b && not (ends_line (has.first ∷ has.rest))) (sym (near-begins (fence 3) refl near)) ∙ (ap (λ (b : Bool). begins (fence 3) s && not b) (sym (ap ends_line has.whole) ∙ order-ends u) ∙ (sym (opens-space u s all stop) ∙ e)));
       size = subst (λ (xs : List ℕ). bytes xs ≤ bytes u) has.whole (without-size is_dropped_before u);
     }
       where
@@ -240,7 +241,7 @@ pub solid-step : (order : Order) (mode : Mode) (kind : TokenKind) (c : ℕ) (w n
 solid-step order mode kind c w next tokens newest puts solid p free more turned = record {
   out = c ∷ v ++ more.out;
   outs = record { kind = kind; len = bytes (c ∷ v) } ∷ more.outs;
-  are = something (of_grammar newest turned.token) (λ y. opens-none (c ∷ v ++ more.out) (opens-solid c (v ++ more.out) first ∙ (ap (λ (b : Bool). b && true) (sym (near-begins (dashes 3) refl turned.near)) ∙ (sym (opens-solid c (w ++ next) first) ∙ none-opens (c ∷ w ++ next) (free y))))) more.are;
+  are = something (of_grammar newest turned.token) (λ y. opens-none (c ∷ v ++ more.out) (opens-solid c (v ++ more.out) first ∙ (ap (λ (b : Bool). b && true) (sym (near-begins (fence 3) refl turned.near)) ∙ (sym (opens-solid c (w ++ next) first) ∙ none-opens (c ∷ w ++ next) (free y))))) more.are;
   near = turned.near;
   is = own w turned.is next tokens ∙ (ap (λ (xs : List ℕ). encode_utf8_all (c ∷ v) ++ xs) more.is ∙ sym (encodes-append (c ∷ v) more.out));
   too = λ e. absurd (let n : suc (length (w ++ next)) ≡ 0 = ap length e in omega arith);

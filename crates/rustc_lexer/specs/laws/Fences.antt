@@ -1,19 +1,19 @@
 -- Searches of a frontmatter's closing.
-use Rattle.std.proofs.Common.{◌≡◌, ℕ, zero, suc, ◌+◌, ◌-◌, ◌<◌, ◌≤◌, ◌==◌, ◌&&◌, max, nat_lt, Bool, true, false, true≢false, if◌then◌else◌, List, [], ◌∷◌, ◌++◌, length, take, drop, get_or, refl, sym, ap, ◌∙◌, arith, Option, Some, None, length-drop, length-take, drop-drop, inl, inr}
+use Rattle.std.proofs.Common.{◌≡◌, ℕ, zero, suc, ◌+◌, ◌-◌, ◌<◌, ◌≤◌, ◌==◌, ◌&&◌, nat_lt, Bool, true, false, true≢false, if◌then◌else◌, List, [], ◌∷◌, ◌++◌, length, take, drop, get_or, refl, sym, ap, ◌∙◌, subst, arith, Option, Some, None, length-drop, drop-drop, inl, inr}
+use Rattle.std.proofs.Math.Seq.{take-suc}
 use Rattle.std.proofs.lemmas.Bool.{false_from_ne_true, eqb-true, eq-eqb, and_parts, lt-ltb, cases_lt}
-use Rattle.std.proofs.lemmas.List.{get_or-drop, get_or-take}
-use Rattle.std.proofs.lemmas.List.Folds.{list_all_at}
-use Rattle.std.specs.List.{list_all}
+use Rattle.std.proofs.lemmas.List.{get_or-drop}
 use Rattle.std.proofs.lemmas.Grind.{common_steps}
 use Rattle.rustc_lexer.specs.Classes.{is_horizontal_whitespace, is_inline}
 use Rattle.memchr.specs.Find.{FindsNeedle, IsFirstByte, OccursAt, is_byte}
-use Rattle.rustc_lexer.specs.means.Frontmatter.{dashes, first, first_alone, is_dash, is_newline, line_end, line_start, places, places_from, stands_alone}
+use Rattle.rustc_lexer.specs.FrontmatterGrammar.{fence}
+use Rattle.rustc_lexer.specs.means.Frontmatter.{first, blank_past, blank_over, first_lone, is_dash, is_newline, line_end}
 use Rattle.rustc_lexer.specs.means.Least.{more, one_more}
 use Rattle.rustc_lexer.specs.means.Raw.{least_place}
 use Rattle.rustc_lexer.specs.means.Scan.{begins, run_len}
 use Rattle.rustc_lexer.specs.laws.Choice.{by_either}
-use Rattle.rustc_lexer.specs.laws.Least.{more-zero, one_more-more, place-here, place-on, one_more-none}
-use Rattle.rustc_lexer.specs.laws.Reach.{least-is, least-none}
+use Rattle.rustc_lexer.specs.laws.Least.{more-more, more-zero, one_more-more, place-here, place-on, one_more-none}
+use Rattle.rustc_lexer.specs.laws.Reach.{least-is, least-none, one_more-some}
 
 -- a text begins with a pattern where it has the pattern's bytes
 record Reads (pattern s : List ℕ) : Type 0 where
@@ -110,122 +110,102 @@ module _ (p : ℕ → Bool) (test : List ℕ → Bool) (fails : (c : ℕ) (s : L
       by_class ih false e = more-zero (least_place test (c ∷ s)) ∙ ap (λ (b : Bool). let m : ℕ = if b then suc (run_len p s) else 0 in more m (least_place test (drop m (c ∷ s)))) (sym e)
 
 -- so many dashes at the front, or more
-pub begins-enough : (n : ℕ) (s : List ℕ) → n ≤ run_len is_dash s → begins (dashes n) s ≡ true
+pub begins-enough : (n : ℕ) (s : List ℕ) → n ≤ run_len is_dash s → begins (fence n) s ≡ true
 begins-enough zero s le = refl
 begins-enough (suc n) [] le = absurd (omega arith)
 begins-enough (suc n) (c ∷ s) le = by_test (begins-enough n s) (is_dash c) refl le
   where
-    by_test : (n ≤ run_len is_dash s → begins (dashes n) s ≡ true) → (b : Bool) → is_dash c ≡ b → suc n ≤ (if b then suc (run_len is_dash s) else 0) → begins (dashes (suc n)) (c ∷ s) ≡ true
+    by_test : (n ≤ run_len is_dash s → begins (fence n) s ≡ true) → (b : Bool) → is_dash c ≡ b → suc n ≤ (if b then suc (run_len is_dash s) else 0) → begins (fence (suc n)) (c ∷ s) ≡ true
     by_test ih true e le = rw (e, ih (omega arith)) refl
     by_test ih false e le = absurd (omega arith)
 
-pub begins-few : (n : ℕ) (s : List ℕ) → run_len is_dash s < n → begins (dashes n) s ≡ false
+pub begins-few : (n : ℕ) (s : List ℕ) → run_len is_dash s < n → begins (fence n) s ≡ false
 begins-few zero s less = absurd (omega arith)
 begins-few (suc n) [] less = refl
 begins-few (suc n) (c ∷ s) less = by_test (begins-few n s) (is_dash c) refl less
   where
-    by_test : (run_len is_dash s < n → begins (dashes n) s ≡ false) → (b : Bool) → is_dash c ≡ b → (if b then suc (run_len is_dash s) else 0) < suc n → begins (dashes (suc n)) (c ∷ s) ≡ false
+    by_test : (run_len is_dash s < n → begins (fence n) s ≡ false) → (b : Bool) → is_dash c ≡ b → (if b then suc (run_len is_dash s) else 0) < suc n → begins (fence (suc n)) (c ∷ s) ≡ false
     by_test ih true e less = rw (e, ih (omega arith)) refl
     by_test ih false e less = rw e refl
 
-pub begins-dashes : (n : ℕ) (s : List ℕ) → begins (dashes n) s ≡ true → n ≤ run_len is_dash s
+pub begins-dashes : (n : ℕ) (s : List ℕ) → begins (fence n) s ≡ true → n ≤ run_len is_dash s
 begins-dashes n s e = elim (cases_lt (run_len is_dash s) n) [ inl few ↦ absurd (true≢false (sym e ∙ begins-few n s few)) | inr enough ↦ enough ]
 
--- the places of a pattern, by the first of them
-module _ (pattern : List ℕ) where
-  pub places-none : (place : ℕ) (s : List ℕ) → first pattern s ≡ None → places_from pattern 0 place s ≡ []
-  places-none place [] e = refl
-  places-none place (b ∷ s) e = by_either (begins pattern (b ∷ s))
-      (λ f. absurd (let at : first pattern (b ∷ s) ≡ Some 0 = place-here (begins pattern) b s f in let no : None ≡ Some 0 = sym e ∙ at in cc))
-      (λ f. rw f (places-none (suc place) s (one_more-none (first pattern s) (sym (place-on (begins pattern) b s f) ∙ e))))
+-- ---- lone dashes, as the code searches for them
 
-  -- a place, and those past it
-  abbrev next : ℕ → List ℕ → List ℕ
-  next m xs = m ∷ places_from pattern (length pattern - 1) (suc m) xs
+-- what comes last
+blank-last : (blank : Bool) (w : List ℕ) (c : ℕ) → blank_over blank (w ++ c ∷ []) ≡ blank_past (blank_over blank w) c
+blank-last blank [] c = refl
+blank-last blank (d ∷ w) c = blank-last (blank_past blank d) w c
 
-  places-some : (place k : ℕ) (s : List ℕ) → first pattern s ≡ Some k → places_from pattern 0 place s ≡ (place + k) ∷ places_from pattern (length pattern - 1) (suc (place + k)) (drop (suc k) s)
-  places-some place k [] e = absurd (let no : None ≡ Some k = e in cc)
-  places-some place k (b ∷ s) e = by_test (λ m f. places-some (suc place) m s f) (begins pattern (b ∷ s)) refl
-    where
-      later : (o : Option ℕ) → one_more o ≡ Some k → (m : ℕ) × (o ≡ Some m) × (k ≡ suc m)
-      later None f = absurd (cc)
-      later (Some m) f = (m, refl, (let some : Some (suc m) ≡ Some k = f in let same : suc m ≡ k = cc in sym same))
+-- back over a byte
+module _ (end start : ℕ) (rest : List ℕ) (past_end : end < start) (inside : start ≤ length rest) where
+  blank-back : blank_over true (take (start - end) (drop end rest)) ≡ blank_past (blank_over true (take (start - 1 - end) (drop end rest))) (get_or rest (start - 1) 0)
+  blank-back =
+      let n : ℕ = start - 1 - end in
+      let more : start - end ≡ suc (start - 1 - end) = omega arith in
+      let there : get_or (drop end rest) (start - 1 - end) 0 ≡ get_or rest (start - 1) 0 = get_or-drop end rest (start - 1 - end) 0 ∙ ap (λ (k : ℕ). get_or rest k 0) (let same : end + (start - 1 - end) ≡ start - 1 = omega arith in same) in
+      ap (λ (k : ℕ). blank_over true (take k (drop end rest))) more
+      ∙ (ap (blank_over true) (take-suc (drop end rest) (start - 1 - end) 0 (omega (arith, length-drop end rest)))
+      ∙ (blank-last true (take (start - 1 - end) (drop end rest)) (get_or (drop end rest) (start - 1 - end) 0) ∙ ap (blank_past (blank_over true (take (start - 1 - end) (drop end rest)))) there))
 
-      by_test : ((m : ℕ) → first pattern s ≡ Some m → places_from pattern 0 (suc place) s ≡ next (suc place + m) (drop (suc m) s))
-          → (t : Bool) → begins pattern (b ∷ s) ≡ t → places_from pattern 0 place (b ∷ s) ≡ next (place + k) (drop (suc k) (b ∷ s))
-      by_test ih true f =
-          let at : Some k ≡ Some 0 = sym e ∙ place-here (begins pattern) b s f in
-          let none : k ≡ 0 = cc in
-          let same : place ≡ place + k = omega arith in
-          rw f (ap (λ (m : ℕ). next m s) same ∙ ap (λ (m : ℕ). next (place + k) (drop m s)) (sym none))
-      by_test ih false f =
-          let m = later (first pattern s) (sym (place-on (begins pattern) b s f) ∙ e) in
-          let same : suc place + m.0 ≡ place + k = omega (arith, m.2) in
-          rw f (ih m.0 m.1 ∙ (ap (λ (i : ℕ). next i (drop (suc m.0) s)) same ∙ ap (λ (i : ℕ). next (place + k) (drop i s)) (sym m.2)))
+  pub blank_on : is_horizontal_whitespace (get_or rest (start - 1) 0) ≡ true → blank_over true (take (start - end) (drop end rest)) ≡ blank_over true (take (start - 1 - end) (drop end rest))
+  blank_on e = blank-back ∙ by_either (is_newline (get_or rest (start - 1) 0))
+      (λ f. absurd (true≢false (sym e ∙ ap is_horizontal_whitespace (eqb-true (get_or rest (start - 1) 0) 10 f))))
+      (λ f. rw (f, e) refl)
 
-  places-skip : (skip place : ℕ) (s : List ℕ) → places_from pattern skip place s ≡ places_from pattern 0 (place + skip) (drop skip s)
-  places-skip zero place s = ap (λ m. places_from pattern 0 m s) (let same : place ≡ place + 0 = omega arith in same)
-  places-skip (suc skip) place [] = refl
-  places-skip (suc skip) place (b ∷ s) = places-skip skip (suc place) s ∙ ap (λ m. places_from pattern 0 m (drop skip s)) (let same : suc place + skip ≡ place + suc skip = omega arith in same)
+  pub blank_end : is_horizontal_whitespace (get_or rest (start - 1) 0) ≡ false → (nat_lt 0 start && is_newline (get_or rest (start - 1) 0)) ≡ blank_over true (take (start - end) (drop end rest))
+  blank_end e = rw (lt-ltb 0 start (omega arith)) (sym (blank-back ∙ by_either (is_newline (get_or rest (start - 1) 0)) (λ f. rw f refl) (λ f. rw (f, e) refl)))
 
-pub places-more : (place k : ℕ) (s : List ℕ) → first (dashes 3) s ≡ Some k → places_from (dashes 3) 0 place s ≡ (place + k) ∷ places_from (dashes 3) 0 (place + k + 3) (drop (k + 3) s)
-places-more place k s e =
-    let same : suc (place + k) + 2 ≡ place + k + 3 = omega arith in
-    let left : drop 2 (drop (suc k) s) ≡ drop (k + 3) s = drop-drop 2 (suc k) s ∙ ap (λ m. drop m s) (let same : suc k + 2 ≡ k + 3 = omega arith in same) in
-    places-some (dashes 3) place k s e
-    ∙ ap (λ xs. (place + k) ∷ xs) (places-skip (dashes 3) 2 (suc (place + k)) (drop (suc k) s)
-    ∙ (ap (λ m. places_from (dashes 3) 0 m (drop 2 (drop (suc k) s))) same ∙ ap (places_from (dashes 3) 0 (place + k + 3)) left))
+pub lone-none : (blank : Bool) (s : List ℕ) → first (fence 3) s ≡ None → first_lone blank 0 s ≡ None
+lone-none blank [] e = refl
+lone-none blank (c ∷ s) e = by_either (begins (fence 3) (c ∷ s))
+    (λ t. absurd (let no : None ≡ Some 0 = sym e ∙ place-here (begins (fence 3)) c s t in cc))
+    (λ t. rw t (ap one_more (lone-none (blank_past blank c) s (one_more-none (first (fence 3) s) (sym (place-on (begins (fence 3)) c s t) ∙ e)))))
+
+-- by the first three dashes
+pub lone-three : (blank : Bool) (k : ℕ) (s : List ℕ) → first (fence 3) s ≡ Some k → first_lone blank 0 s ≡ (if blank_over blank (take k s) then Some k else more (k + 3) (first_lone true 0 (drop (k + 3) s)))
+lone-three blank k [] e = absurd (let no : None ≡ Some k = e in cc)
+lone-three blank k (c ∷ s) e = by_either (begins (fence 3) (c ∷ s))
+    (λ t.
+    let some : Some 0 ≡ Some k = sym (place-here (begins (fence 3)) c s t) ∙ e in
+    let none : 0 ≡ k = cc in
+    subst (λ (n : ℕ). first_lone blank 0 (c ∷ s) ≡ (if blank_over blank (take n (c ∷ s)) then Some n else more (n + 3) (first_lone true 0 (drop (n + 3) (c ∷ s))))) none
+    (ap (first_lone blank 0) (begins-whole (fence 3) (c ∷ s) t) ∙ by_either blank (λ b. rw b refl) (λ b. rw b (three (first_lone true 0 (drop 2 s))))))
+    (λ t. let m = one_more-some (first (fence 3) s) k (sym (place-on (begins (fence 3)) c s t) ∙ e) in on m.0 m.2 t (lone-three (blank_past blank c) m.0 s m.1))
+  where
+    three : (o : Option ℕ) → one_more (one_more (one_more o)) ≡ more 3 o
+    three None = refl
+    three (Some n) = ap Some (omega arith)
+
+    on : (m : ℕ) → k ≡ suc m → begins (fence 3) (c ∷ s) ≡ false → first_lone (blank_past blank c) 0 s ≡ (if blank_over (blank_past blank c) (take m s) then Some m else more (m + 3) (first_lone true 0 (drop (m + 3) s)))
+        → first_lone blank 0 (c ∷ s) ≡ (if blank_over blank (take k (c ∷ s)) then Some k else more (k + 3) (first_lone true 0 (drop (k + 3) (c ∷ s))))
+    on m same t ih =
+        let far : suc (m + 3) ≡ k + 3 = omega (arith, same) in
+        let past : Option ℕ = more (k + 3) (first_lone true 0 (drop (k + 3) (c ∷ s))) in
+        rw t (ap one_more ih
+        ∙ (by_either (blank_over (blank_past blank c) (take m s)) (λ b. rw b refl) (λ b. rw b (one_more-more (m + 3) (first_lone true 0 (drop (m + 3) s)) ∙ ap (λ (n : ℕ). more n (first_lone true 0 (drop n (c ∷ s)))) far))
+        ∙ ap (λ (n : ℕ). if blank_over blank (take n (c ∷ s)) then Some n else more (k + 3) (first_lone true 0 (drop (k + 3) (c ∷ s)))) (sym same)))
 
 -- the loop over the places stands at `end`
 pub record IsWalking (rest : List ℕ) (end : ℕ) : Type 0 where
   pub inside : end ≤ length rest
-  pub left : first_alone 0 (places (dashes 3) rest) rest ≡ first_alone end (places_from (dashes 3) 0 end (drop end rest)) rest
+  pub left : first_lone true 0 rest ≡ more end (first_lone true 0 (drop end rest))
 
 module _ (rest cut : List ℕ) (end : ℕ) (at : IsWalking rest end) (e : cut ≡ drop end rest) where
-  pub walk_end : None ≡ first (dashes 3) cut → None ≡ first_alone 0 (places (dashes 3) rest) rest
-  walk_end none = sym (at.left ∙ ap (λ ps. first_alone end ps rest) (ap (places_from (dashes 3) 0 end) (sym e) ∙ places-none (dashes 3) end cut (sym none)))
+  pub walk_end : None ≡ first (fence 3) cut → None ≡ first_lone true 0 rest
+  walk_end none = sym (at.left ∙ ap (more end) (ap (first_lone true 0) (sym e) ∙ lone-none true cut (sym none)))
 
-  module _ (step : ℕ) (found : Some step ≡ first (dashes 3) cut) where
-    here : first_alone 0 (places (dashes 3) rest) rest ≡ first_alone end ((end + step) ∷ places_from (dashes 3) 0 (end + step + 3) (drop (end + step + 3) rest)) rest
-    here =
-        let left : drop (step + 3) cut ≡ drop (end + step + 3) rest = ap (drop (step + 3)) e ∙ (drop-drop (step + 3) end rest ∙ ap (λ m. drop m rest) (let same : end + (step + 3) ≡ end + step + 3 = omega arith in same)) in
-        at.left ∙ ap (λ ps. first_alone end ps rest) (ap (places_from (dashes 3) 0 end) (sym e) ∙ (places-more end step cut (sym found)
-        ∙ ap (λ s. (end + step) ∷ places_from (dashes 3) 0 (end + step + 3) s) left))
+  module _ (step : ℕ) (found : Some step ≡ first (fence 3) cut) where
+    here : first_lone true 0 rest ≡ more end (if blank_over true (take step (drop end rest)) then Some step else more (step + 3) (first_lone true 0 (drop (step + 3) (drop end rest))))
+    here = at.left ∙ ap (more end) (lone-three true step (drop end rest) (ap (first (fence 3)) (sym e) ∙ sym found))
 
-    pub walk_found : stands_alone end (end + step) rest ≡ true → Some (end + step) ≡ first_alone 0 (places (dashes 3) rest) rest
+    pub walk_found : blank_over true (take step (drop end rest)) ≡ true → Some (end + step) ≡ first_lone true 0 rest
     walk_found alone = sym (here ∙ rw alone refl)
 
-    pub walk_on : stands_alone end (end + step) rest ≡ false → end + step + 3 ≤ length rest → IsWalking rest (end + step + 3)
-    walk_on crowded inside = record { inside = inside; left = here ∙ rw crowded refl }
-
-line_start-le : (place : ℕ) (rest : List ℕ) → line_start place rest ≤ place
-line_start-le zero rest = omega arith
-line_start-le (suc place) rest = elim (is_newline (get_or rest place 0)) as (λ b. (if b then suc place else line_start place rest) ≤ suc place) [ true ↦ omega arith | false ↦ omega (arith, line_start-le place rest) ]
-
--- the loop over the blanks before a place came to `start`
-module _ (end place start : ℕ) (rest : List ℕ) (inside : place ≤ length rest) (before : start ≤ place) (line : line_start place rest ≡ line_start start rest)
-    (blank : list_all is_horizontal_whitespace (drop start (take place rest)) ≡ true) where
-  pub alone_past_end : start ≡ end → true ≡ stands_alone end place rest
-  alone_past_end e = grind (arith, common_steps, line_start-le)
-
-  pub alone_or_not : end < start → is_horizontal_whitespace (get_or rest (start - 1) 0) ≡ false → (nat_lt 0 start && is_newline (get_or rest (start - 1) 0)) ≡ stands_alone end place rest
-  alone_or_not more other = by_either (is_newline (get_or rest (start - 1) 0))
-      (λ e.
-      let here : line_start start rest ≡ start = at_line ∙ (ap (λ (t : Bool). if t then suc (start - 1) else line_start (start - 1) rest) e ∙ same) in
-      let base : max end (line_start place rest) ≡ start = omega arith in
-      rw (e, lt-ltb 0 start (omega arith)) (sym (ap (λ n. list_all is_horizontal_whitespace (drop n (take place rest))) base ∙ blank)))
-      (λ e.
-      let earlier : line_start start rest ≡ line_start (start - 1) rest = at_line ∙ ap (λ (t : Bool). if t then suc (start - 1) else line_start (start - 1) rest) e in
-      let low : max end (line_start place rest) ≤ start - 1 = omega (arith, line_start-le (start - 1) rest) in
-      let base : ℕ = max end (line_start place rest) in
-      let there : get_or (drop base (take place rest)) (start - 1 - base) 0 ≡ get_or rest (start - 1) 0 =
-      get_or-drop base (take place rest) (start - 1 - base) 0 ∙ (ap (λ n. get_or (take place rest) n 0) (let sum : base + (start - 1 - base) ≡ start - 1 = omega arith in sum) ∙ get_or-take place rest (start - 1) 0 (omega arith)) in
-      let crowded : stands_alone end place rest ≡ false =
-      list_all_at is_horizontal_whitespace (drop base (take place rest)) (start - 1 - base) 0 (omega (arith, length-drop base (take place rest), length-take place rest)) (ap is_horizontal_whitespace there ∙ other) in
-      rw (e, lt-ltb 0 start (omega arith)) (sym crowded))
-    where
-      same : suc (start - 1) ≡ start
-      same = omega arith
-
-      at_line : line_start start rest ≡ (if is_newline (get_or rest (start - 1) 0) then suc (start - 1) else line_start (start - 1) rest)
-      at_line = ap (λ n. line_start n rest) (sym same)
+    pub walk_on : blank_over true (take step (drop end rest)) ≡ false → end + step + 3 ≤ length rest → IsWalking rest (end + step + 3)
+    walk_on crowded inside = record {
+      inside = inside;
+      left = here ∙ (rw crowded (more-more end (step + 3) (first_lone true 0 (drop (step + 3) (drop end rest))))
+          ∙ (ap (λ (t : List ℕ). more (end + (step + 3)) (first_lone true 0 t)) (drop-drop (step + 3) end rest) ∙ ap (λ (k : ℕ). more k (first_lone true 0 (drop k rest))) (let same : end + (step + 3) ≡ end + step + 3 = omega arith in same)));
+    }

@@ -1,28 +1,28 @@
 -- The opening of a frontmatter, and where the token ends.
-use Rattle.std.proofs.Common.{◌≡◌, ℕ, zero, suc, ◌+◌, ◌-◌, ◌<◌, ◌≤◌, ◌==◌, ◌&&◌, ◌||◌, nat_lt, not, Bool, true, false, if◌then◌else◌, List, [], ◌∷◌, ◌++◌, codes, length, take, drop, get_or, refl, sym, ap, ◌∙◌, subst, arith, Option, Some, None, All, length-append, length-drop, length-take, append_assoc}
+use Rattle.std.proofs.Common.{◌≡◌, ℕ, zero, suc, ◌+◌, ◌-◌, ◌<◌, ◌≤◌, ◌&&◌, ◌||◌, nat_lt, not, Bool, true, false, if◌then◌else◌, List, [], ◌∷◌, ◌++◌, codes, length, take, drop, get_or, refl, sym, ap, ◌∙◌, subst, arith, Option, Some, None, length-append, length-drop, length-take, append_assoc}
 use Rattle.std.specs.Char.{encode_utf8}
 use Rattle.std.specs.Str.{chars, encode_utf8_all, IsUtf8, IsCharBoundary}
 use Rattle.std.proofs.Math.Seq.{drop-append_seam}
-use Rattle.std.proofs.lemmas.Bool.{cases_lt, eqb-true, and_parts, lt-ltb, or_parts}
+use Rattle.std.proofs.lemmas.Bool.{eqb-true, and_parts, lt-ltb, or_parts}
 use Rattle.std.proofs.lemmas.List.{get_or-drop}
-use Rattle.std.proofs.lemmas.List.Elements.{All-nil, All-cons, All-head, All-tail}
-use Rattle.std.proofs.lemmas.Str.{encode_ascii, byte_from_char, inside_one, length-encode, len_utf8_bounds, length-le-encodes, IsCharBoundary-end, IsCharBoundary-before_ascii, IsCharBoundary-from_rest}
+use Rattle.std.proofs.lemmas.Str.{encode_ascii, byte_from_char, inside_one, length-encode, len_utf8_bounds, length-le-encodes, IsCharBoundary-from_drop}
 use Rattle.std.proofs.Math.Bool.{and-false}
 use Rattle.std.proofs.lemmas.Grind.{common_steps}
 use Rattle.rustc_lexer.specs.{Edition, Token, Frontmatter}
-use Rattle.rustc_lexer.specs.Classes.{is_whitespace, is_id_start, is_info, is_inline}
+use Rattle.rustc_lexer.specs.Classes.{is_whitespace, is_id_start, is_info}
 use Rattle.rustc_lexer.specs.LanguageText.{Mode}
 use Rattle.rustc_lexer.specs.means.Edition.{first_token_in}
-use Rattle.rustc_lexer.specs.means.Frontmatter.{closing_end, dashes, ends_line, fence_len, first, first_alone, first_some, frontmatter, full_fence, infostring_len, inner_attribute, inner_doc, is_dash, is_newline, label_len, line_end, lone_dashes, newline, opening_len, opens, past_newline, past_opening, past_place, places, places_from, recoveries, recovery, short_fence, spaces_len, stands_alone, then_len, use_item}
-use Rattle.rustc_lexer.specs.means.Least.{one_more}
+use Rattle.rustc_lexer.specs.FrontmatterGrammar as the
+use Rattle.rustc_lexer.specs.FrontmatterGrammar.{fence, endings}
+use Rattle.rustc_lexer.specs.means.Frontmatter.{closing_end, end_by, ends_line, fence_len, first, first_lone, frontmatter, if_found, infostring_len, is_dash, is_newline, label_len, line_end, newline, opening_len, opens, past_opening, recovery, spaces_len, then_len}
 use Rattle.rustc_lexer.specs.laws.Choice.{by_either}
-use Rattle.rustc_lexer.specs.laws.Least.{place-here, place-on}
 use Rattle.rustc_lexer.specs.laws.Reach.{run_len_le}
 use Rattle.rustc_lexer.specs.means.Scan.{begins, bytes_of, next_is, past, run_len}
 use Rattle.rustc_lexer.specs.State.{HasSuffixWithin}
 use Rattle.rustc_lexer.specs.means.Taking.{token_at}
-use Rattle.rustc_lexer.specs.laws.CharSteps.{bytes_of-suc}
+use Rattle.rustc_lexer.specs.laws.CharSteps.{bytes_of-suc, bytes_of-add}
 use Rattle.rustc_lexer.specs.laws.Fences.{begins-enough, begins-few, begins-dashes}
+use Rattle.rustc_lexer.specs.laws.LanguageClosing.{closing-encode}
 use Rattle.rustc_lexer.specs.laws.Past.{past-zero, split_past, past-past, past-drop, chars-past, IsUtf8-past, length-past}
 
 -- past one length, and then another
@@ -129,7 +129,7 @@ module _ (text fence label : List ℕ) (is : IsUtf8 text) (fence_is : fence ≡ 
     told_so = told ∙ (ap (λ xs. nat_lt 0 place && is_newline (get_or xs (place - 1) 0)) read ∙ (ap (λ n. nat_lt 0 n && is_newline (get_or text (n - 1) 0)) at ∙ newline_before))
 
     pub opens-line : newline_there ≡ true → opens (chars text) ≡ false
-    opens-line before = ap (λ b. begins (dashes 3) (drop (spaces_len (chars text)) (chars text)) && not b) (sym told_so ∙ before) ∙ and-false (begins (dashes 3) (drop (spaces_len (chars text)) (chars text)))
+    opens-line before = ap (λ b. begins (the.fence 3) (drop (spaces_len (chars text)) (chars text)) && not b) (sym told_so ∙ before) ∙ and-false (begins (the.fence 3) (drop (spaces_len (chars text)) (chars text)))
 
     pub opens-yes : newline_there ≡ false → 3 ≤ length fence - length label → opens (chars text) ≡ true
     opens-yes none enough = rw (begins-enough 3 (drop (spaces_len (chars text)) (chars text)) (omega (arith, dashes_are)), sym told_so ∙ none) refl
@@ -146,113 +146,21 @@ module _ (text fence label : List ℕ) (is : IsUtf8 text) (fence_is : fence ≡ 
         grind (arith, common_steps, past_opening-is, length-past, dashes_are)
 
 -- the closing, by what the searches answer
-pub closing_end-full : (n place : ℕ) (rest : List ℕ) → Some place ≡ first (newline ∷ dashes n) rest → line_end (place + 1) rest ≡ closing_end n rest
+pub closing_end-full : (n place : ℕ) (rest : List ℕ) → Some place ≡ first (newline ∷ fence n) rest → line_end (place + 1) rest ≡ closing_end n rest
 unfolding closing_end
 closing_end-full n place rest e =
     ap (λ k. line_end k rest) (let same : place + 1 ≡ suc place = omega arith in same)
-    ∙ ap (λ (o : Option ℕ). first_some (past_newline rest o ∷ recoveries rest) (length rest)) e
+    ∙ ap (λ (o : Option ℕ). if_found o (λ place. line_end (suc place) rest) (end_by (drop 1 (endings n)) rest)) e
 
-pub closing_end-none : (n : ℕ) (rest : List ℕ) → None ≡ first (newline ∷ dashes n) rest → recovery rest ≡ closing_end n rest
+pub closing_end-none : (n : ℕ) (rest : List ℕ) → None ≡ first (newline ∷ fence n) rest → recovery rest ≡ closing_end n rest
 unfolding closing_end recovery
-closing_end-none n rest e = ap (λ (o : Option ℕ). first_some (past_newline rest o ∷ recoveries rest) (length rest)) e
+closing_end-none n rest e = ap (λ (o : Option ℕ). if_found o (λ place. line_end (suc place) rest) (end_by (drop 1 (endings n)) rest)) e
 
-pub recovery-is : (rest : List ℕ) (fence item doc attribute alone : Option ℕ) → fence ≡ first (newline ∷ dashes 3) rest → item ≡ use_item rest → doc ≡ inner_doc rest → attribute ≡ inner_attribute rest
-    → alone ≡ first_alone 0 (places (dashes 3) rest) rest
-    → first_some (past_newline rest fence ∷ item ∷ doc ∷ attribute ∷ past_place rest alone ∷ []) (length rest) ≡ recovery rest
+pub recovery-is : (rest : List ℕ) (short item doc attribute alone : Option ℕ) → short ≡ first (codes "\n---") rest → item ≡ first (codes "\nuse ") rest → doc ≡ first (codes "\n//!") rest → attribute ≡ first (codes "\n#![") rest
+    → alone ≡ first_lone true 0 rest
+    → if_found short (λ place. line_end (suc place) rest) (if_found item (λ place. place) (if_found doc (λ place. place) (if_found attribute (λ place. place) (if_found alone (λ place. line_end place rest) (length rest))))) ≡ recovery rest
 unfolding recovery
-recovery-is rest fence item doc attribute alone e f g h i = grind (arith, common_steps)
-
--- a place inside the text, at its end or at a newline
-record IsLineEnd (rest : List ℕ) (place : ℕ) : Type 0 where
-  inside : place ≤ length rest
-  here : place < length rest → get_or rest place 0 ≡ 10
-
-run-ends : (s : List ℕ) → run_len is_inline s < length s → get_or s (run_len is_inline s) 0 ≡ 10
-run-ends [] l = absurd (omega arith)
-run-ends (c ∷ s) l = by_either (is_newline c)
-    (λ e. rw e (eqb-true c 10 e))
-    (λ e. rw e (run-ends s (let more : suc (run_len is_inline s) < suc (length s) = rw e at l in omega arith)))
-
-line_end-ends : (place : ℕ) (rest : List ℕ) → place ≤ length rest → IsLineEnd rest (line_end place rest)
-line_end-ends place rest le = grind (arith, common_steps, run_len_le, length-drop, get_or-drop, run-ends)
-
--- a pattern that begins with a newline stands at one
-record StandsAt (rest : List ℕ) (place : ℕ) : Type 0 where
-  inside : place < length rest
-  here : get_or rest place 0 ≡ 10
-
-first-stands : (pattern rest : List ℕ) (place : ℕ) → first (newline ∷ pattern) rest ≡ Some place → StandsAt rest place
-first-stands pattern [] place e = absurd (let no : None ≡ Some place = e in cc)
-first-stands pattern (b ∷ s) place e = by_either (begins (newline ∷ pattern) (b ∷ s))
-    (λ f.
-    let at : Some place ≡ Some 0 = sym e ∙ place-here (begins (newline ∷ pattern)) b s f in
-    let none : place ≡ 0 = cc in
-    subst (StandsAt (b ∷ s)) (sym none) record { inside = omega arith; here = eqb-true b 10 (and_parts (b == 10) (begins pattern s) f).0 })
-    (λ f.
-    let m = later (first (newline ∷ pattern) s) (sym (place-on (begins (newline ∷ pattern)) b s f) ∙ e) in
-    let there = first-stands pattern s m.0 m.1 in
-    subst (StandsAt (b ∷ s)) (sym m.2) record { inside = let i = there.inside in omega arith; here = there.here })
-  where
-    later : (o : Option ℕ) → one_more o ≡ Some place → (m : ℕ) × (o ≡ Some m) × (place ≡ suc m)
-    later None f = absurd (cc)
-    later (Some m) f = (m, refl, (let some : Some (suc m) ≡ Some place = f in let same : suc m ≡ place = cc in sym same))
-
--- each place of a pattern is inside
-places-inside : (pattern : List ℕ) (skip place limit : ℕ) (s : List ℕ) → place + length s ≤ limit → All (λ k. k < limit) (places_from pattern skip place s)
-places-inside pattern skip place limit [] le = All-nil (λ k. k < limit)
-places-inside pattern (suc skip) place limit (b ∷ s) le = places-inside pattern skip (suc place) limit s (omega arith)
-places-inside pattern zero place limit (b ∷ s) le = by_test (λ skip. places-inside pattern skip (suc place) limit s (omega arith)) (begins pattern (b ∷ s)) refl
-  where
-    by_test : ((skip : ℕ) → All (λ k. k < limit) (places_from pattern skip (suc place) s)) → (t : Bool) → begins pattern (b ∷ s) ≡ t → All (λ k. k < limit) (places_from pattern 0 place (b ∷ s))
-    by_test ih true e = rw e (All-cons (λ k. k < limit) place (places_from pattern (length pattern - 1) (suc place) s) (omega arith) (ih (length pattern - 1)))
-    by_test ih false e = rw e (ih 0)
-
-alone-inside : (limit end : ℕ) (ps rest : List ℕ) → All (λ k. k < limit) ps → (place : ℕ) → first_alone end ps rest ≡ Some place → place < limit
-alone-inside limit end [] rest all place e = absurd (let no : None ≡ Some place = e in cc)
-alone-inside limit end (p ∷ ps) rest all place e = by_test (alone-inside limit (p + 3) ps rest (All-tail (λ k. k < limit) p ps all) place) (stands_alone end p rest) refl
-  where
-    by_test : (first_alone (p + 3) ps rest ≡ Some place → place < limit) → (t : Bool) → stands_alone end p rest ≡ t → place < limit
-    by_test ih true f =
-        let some : Some p ≡ Some place = sym (rw f refl) ∙ e in
-        let same : p ≡ place = cc in
-        subst (λ (k : ℕ). k < limit) same (All-head (λ k. k < limit) p ps all)
-    by_test ih false f = ih (sym (rw f refl) ∙ e)
-
--- the first of these that there is, where each is such a place
-first_some-ends : (rest : List ℕ) (o : Option ℕ) (os : List (Option ℕ)) → ((k : ℕ) → o ≡ Some k → IsLineEnd rest k) → IsLineEnd rest (first_some os (length rest)) → IsLineEnd rest (first_some (o ∷ os) (length rest))
-first_some-ends rest None os one others = others
-first_some-ends rest (Some k) os one others = one k refl
-
-newline-ends : (pattern rest : List ℕ) (k : ℕ) → past_newline rest (first (newline ∷ pattern) rest) ≡ Some k → IsLineEnd rest k
-newline-ends pattern rest k e = by_place (first (newline ∷ pattern) rest) refl e
-  where
-    by_place : (o : Option ℕ) → first (newline ∷ pattern) rest ≡ o → past_newline rest o ≡ Some k → IsLineEnd rest k
-    by_place None f e = absurd (let no : None ≡ Some k = e in cc)
-    by_place (Some place) f e =
-        let same : line_end (suc place) rest ≡ k = cc in
-        subst (IsLineEnd rest) same (line_end-ends (suc place) rest (let at = (first-stands pattern rest place f).inside in omega arith))
-
-before-ends : (pattern rest : List ℕ) (k : ℕ) → first (newline ∷ pattern) rest ≡ Some k → IsLineEnd rest k
-before-ends pattern rest k e = let at = first-stands pattern rest k e in record { inside = let i = at.inside in omega arith; here = λ l. at.here }
-
-alone-ends : (rest : List ℕ) (k : ℕ) → lone_dashes rest ≡ Some k → IsLineEnd rest k
-alone-ends rest k e = by_place (first_alone 0 (places (dashes 3) rest) rest) refl e
-  where
-    by_place : (o : Option ℕ) → first_alone 0 (places (dashes 3) rest) rest ≡ o → past_place rest o ≡ Some k → IsLineEnd rest k
-    by_place None f e = absurd (let no : None ≡ Some k = e in cc)
-    by_place (Some place) f e =
-        let same : line_end place rest ≡ k = cc in
-        subst (IsLineEnd rest) same (line_end-ends place rest (let at = alone-inside (length rest) 0 (places (dashes 3) rest) rest (places-inside (dashes 3) 0 0 (length rest) rest (omega arith)) place f in omega arith))
-
-closing_end-ends : (n : ℕ) (rest : List ℕ) → IsLineEnd rest (closing_end n rest)
-unfolding closing_end
-closing_end-ends n rest =
-    first_some-ends rest (full_fence n rest) (recoveries rest) (newline-ends (dashes n) rest)
-    (first_some-ends rest (short_fence rest) _ (newline-ends (dashes 3) rest)
-    (first_some-ends rest (use_item rest) _ (before-ends (codes "use ") rest)
-    (first_some-ends rest (inner_doc rest) _ (before-ends (codes "//!") rest)
-    (first_some-ends rest (inner_attribute rest) _ (before-ends (codes "#![") rest)
-    (first_some-ends rest (lone_dashes rest) [] (alone-ends rest) record { inside = omega arith; here = λ l. absurd (omega arith) })))))
+recovery-is rest short item doc attribute alone e f g h i = grind (arith, common_steps)
 
 -- a frontmatter is not empty, and ends between characters
 pub record IsCutOff (text : List ℕ) (token : Token) : Type 0 where
@@ -261,21 +169,19 @@ pub record IsCutOff (text : List ℕ) (token : Token) : Type 0 where
   pub boundary : IsCharBoundary text token.len
 
 pub frontmatter-cut : (text : List ℕ) → IsUtf8 text → opens (chars text) ≡ true → IsCutOff text (frontmatter text)
-unfolding frontmatter past_opening
+unfolding frontmatter past_opening past
 frontmatter-cut text is e =
     let s : List ℕ = chars text in
     let n : ℕ = opening_len s in
-    let b : ℕ = bytes_of n s in
-    let rest : List ℕ = past_opening text in
-    let long : b + length rest ≡ length text = length-past n text is in
-    let ends : IsLineEnd rest (closing_end (fence_len s) rest) = closing_end-ends (fence_len s) rest in
-    let left : drop b text ≡ rest = sym (past-drop n text is) in
-    let some : 3 ≤ fence_len s = begins-dashes 3 (drop (spaces_len s) s) (and_parts (begins (dashes 3) (drop (spaces_len s) s)) _ e).0 in
+    let k : ℕ = closing_end (fence_len s) (drop n s) in
+    let end : bytes_of n s + closing_end (fence_len s) (past_opening text) ≡ bytes_of (n + k) s = ap (λ (m : ℕ). bytes_of n s + m) (closing-encode (fence_len s) (drop n s)) ∙ sym (bytes_of-add n k s) in
+    let inside : bytes_of (n + k) s ≤ length text = omega (arith, length-past (n + k) text is) in
+    let some : 3 ≤ fence_len s = begins-dashes 3 (drop (spaces_len s) s) (and_parts (begins (fence 3) (drop (spaces_len s) s)) _ e).0 in
     let chars_some : 3 ≤ length s = omega (arith, run_len_le is_dash (drop (spaces_len s) s), length-drop (spaces_len s) s) in
     record {
       not_empty = omega (arith, length-le-encodes (take n s), length-take n s);
-      inside = let i = ends.inside in omega arith;
-      boundary = IsCharBoundary-from_rest text b (closing_end (fence_len s) rest) (omega arith) (subst (λ xs. IsCharBoundary xs (closing_end (fence_len s) rest)) (sym left) (grind (arith, common_steps, cases_lt, IsCharBoundary-before_ascii, IsCharBoundary-end)));
+      inside = omega (arith, end, inside);
+      boundary = subst (IsCharBoundary text) (sym end) (IsCharBoundary-from_drop text (bytes_of (n + k) s) inside (subst IsUtf8 (past-drop (n + k) text is) (IsUtf8-past (n + k) text is)));
     }
 
 pub frontmatter-suffix : (text : List ℕ) → HasSuffixWithin (frontmatter text)

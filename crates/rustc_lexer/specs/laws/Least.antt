@@ -1,5 +1,5 @@
 -- The least place at which a test passes.
-use Rattle.std.proofs.Common.{◌≡◌, ℕ, suc, Bool, true, false, List, ◌∷◌, Option, Some, None, refl, ap, arith}
+use Rattle.std.proofs.Common.{◌≡◌, ℕ, suc, ◌+◌, Bool, true, false, List, ◌∷◌, Option, Some, None, refl, ap, arith}
 use Rattle.rustc_lexer.specs.means.Least.{one_more, more}
 use Rattle.rustc_lexer.specs.means.Raw.{least_place}
 
@@ -22,3 +22,7 @@ one_more-more k (Some n) = ap Some (omega arith)
 pub one_more-none : (o : Option ℕ) → one_more o ≡ None → o ≡ None
 one_more-none None e = refl
 one_more-none (Some n) e = absurd (cc)
+
+pub more-more : (m n : ℕ) (o : Option ℕ) → more m (more n o) ≡ more (m + n) o
+more-more m n None = refl
+more-more m n (Some k) = ap Some (omega arith)

@@ -6,6 +6,7 @@ use Rattle.std.specs.List.{list_all}
 use Rattle.std.proofs.lemmas.Bool.{and_parts}
 use Rattle.std.proofs.lemmas.Grind.{common_steps}
 use Rattle.rustc_lexer.specs.laws.Choice.{by_test}
+use Rattle.rustc_lexer.specs.laws.Least.{one_more-none}
 use Rattle.rustc_lexer.specs.means.Least.{one_more, least}
 use Rattle.rustc_lexer.specs.means.Scan.{IsLocalAt, IsLocal, IsFound, or_all, or_all_at, then_by, and_then, gives, after, read_as, begins, next_is, run_len, run, run_as}
 
@@ -249,6 +250,15 @@ least-is test (suc count) (suc n) is =
 pub least-none : (test : ℕ → Bool) (count : ℕ) → ((i : ℕ) → i < count → test i ≡ false) → least test count ≡ None
 least-none test zero none = refl
 least-none test (suc count) none = rw (none 0 (omega arith)) (ap one_more (least-none (λ i. test (suc i)) count (λ i lt. none (suc i) (omega arith))))
+
+pub none-least : (test : ℕ → Bool) (count : ℕ) → least test count ≡ None → (i : ℕ) → i < count → test i ≡ false
+none-least test zero e i lt = absurd (omega arith)
+none-least test (suc count) e i lt = by_test (test 0) refl (none-least (λ i. test (suc i)) count) i lt
+  where
+    by_test : (b : Bool) → test 0 ≡ b → (least (λ i. test (suc i)) count ≡ None → (i : ℕ) → i < count → test (suc i) ≡ false) → (i : ℕ) → i < suc count → test i ≡ false
+    by_test true f ih i lt = absurd (let found : Some 0 ≡ None = sym (rw f refl) ∙ e in cc)
+    by_test false f ih zero lt = f
+    by_test false f ih (suc i) lt = ih (one_more-none (least (λ i. test (suc i)) count) (sym (rw f refl) ∙ e)) i (omega arith)
 
 -- the least place that passes a test of what stands before it and of k characters from it on
 pub least_found : (k : ℕ) (test : List ℕ → ℕ → Bool) → 0 < k → ((u s : List ℕ) (i : ℕ) → take (i + k) u ≡ take (i + k) s → test u i ≡ test s i) → IsFound k (λ s. least (test s) (length s))

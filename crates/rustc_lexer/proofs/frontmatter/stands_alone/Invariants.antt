@@ -1,15 +1,12 @@
-use Rattle.std.proofs.Common.{◌≡◌, ◌≤◌, true, drop, take}
-use Rattle.std.specs.List.{list_all}
-use Rattle.rustc_lexer.specs.Classes.{is_horizontal_whitespace}
-use Rattle.rustc_lexer.specs.means.Frontmatter.{line_start}
+use Rattle.std.proofs.Common.{◌≡◌, ◌≤◌, ◌-◌, true, drop, take}
+use Rattle.rustc_lexer.specs.means.Frontmatter.{blank_over}
 use Rattle.rustc_lexer.proofs.frontmatter.stands_alone.Given as goal
 
 abbrev pub invariant-blanks : goal.invariant-blanks
 invariant-blanks l = record {
   past_end : l.end ≤ l.start;
   before : l.start ≤ l.place;
-  line : line_start l.place l.rest ≡ line_start l.start l.rest;
-  blank : list_all is_horizontal_whitespace (drop l.start (take l.place l.rest)) ≡ true;
+  same : blank_over true (take (l.place - l.end) (drop l.end l.rest)) ≡ blank_over true (take (l.start - l.end) (drop l.end l.rest));
 }
 
 abbrev pub decreases-blanks : goal.decreases-blanks
