@@ -194,6 +194,7 @@ fn or_here(found: Option<usize>, rest: &[u8], place: usize, pattern: &[u8]) -> O
 }
 
 /// Returns where a frontmatter ends that no line of enough dashes closes: the best guess of where Rust begins.
+#[tactic(auto, using(crate::specs::laws::Frontmatter::recovery_is, crate::specs::laws::Frontmatter::if_found_some, crate::specs::laws::Frontmatter::if_found_none, crate::proofs::LineLemmas::place_inside, std::proofs::lemmas::Grind::common_steps))]
 fn recovery(rest: &[u8], guesses: Guesses) -> usize
     requires short_fence { guesses.short_fence ≡ spec.first (spec.newline ∷ fence 3) rest.now }
     requires use_item { guesses.use_item ≡ spec.first (codes "\nuse ") rest.now }

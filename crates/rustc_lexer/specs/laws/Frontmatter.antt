@@ -148,19 +148,22 @@ module _ (text fence label : List ℕ) (is : IsUtf8 text) (fence_is : fence ≡ 
 -- the closing, by what the searches answer
 pub closing_end-full : (n place : ℕ) (rest : List ℕ) → Some place ≡ first (newline ∷ fence n) rest → line_end (place + 1) rest ≡ closing_end n rest
 unfolding closing_end
-closing_end-full n place rest e =
-    ap (λ k. line_end k rest) (let same : place + 1 ≡ suc place = omega arith in same)
-    ∙ ap (λ (o : Option ℕ). if_found o (λ place. line_end (suc place) rest) (end_by (drop 1 (endings n)) rest)) e
+closing_end-full n place rest e = ap (λ (o : Option ℕ). if_found o (λ place. line_end (place + 1) rest) (end_by (drop 1 (endings n)) rest)) e
 
 pub closing_end-none : (n : ℕ) (rest : List ℕ) → None ≡ first (newline ∷ fence n) rest → recovery rest ≡ closing_end n rest
 unfolding closing_end recovery
-closing_end-none n rest e = ap (λ (o : Option ℕ). if_found o (λ place. line_end (suc place) rest) (end_by (drop 1 (endings n)) rest)) e
+closing_end-none n rest e = ap (λ (o : Option ℕ). if_found o (λ place. line_end (place + 1) rest) (end_by (drop 1 (endings n)) rest)) e
 
-pub recovery-is : (rest : List ℕ) (short item doc attribute alone : Option ℕ) → short ≡ first (codes "\n---") rest → item ≡ first (codes "\nuse ") rest → doc ≡ first (codes "\n//!") rest → attribute ≡ first (codes "\n#![") rest
-    → alone ≡ first_lone true 0 rest
-    → if_found short (λ place. line_end (suc place) rest) (if_found item (λ place. place) (if_found doc (λ place. place) (if_found attribute (λ place. place) (if_found alone (λ place. line_end place rest) (length rest))))) ≡ recovery rest
+pub if_found_some : (place : ℕ) (end : ℕ → ℕ) (otherwise : ℕ) → if_found (Some place) end otherwise ≡ end place
+if_found_some place end otherwise = refl
+
+pub if_found_none : (end : ℕ → ℕ) (otherwise : ℕ) → if_found None end otherwise ≡ otherwise
+if_found_none end otherwise = refl
+
+pub recovery_is : (rest : List ℕ) → recovery rest ≡ if_found (first (codes "\n---") rest) (λ place. line_end (place + 1) rest) (if_found (first (codes "\nuse ") rest) (λ place. place) (if_found (first (codes "\n//!") rest) (λ place. place)
+    (if_found (first (codes "\n#![") rest) (λ place. place) (if_found (first_lone true 0 rest) (λ place. line_end place rest) (length rest)))))
 unfolding recovery
-recovery-is rest short item doc attribute alone e f g h i = grind (arith, common_steps)
+recovery_is rest = refl
 
 -- a frontmatter is not empty, and ends between characters
 pub record IsCutOff (text : List ℕ) (token : Token) : Type 0 where

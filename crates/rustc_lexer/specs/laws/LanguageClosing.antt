@@ -91,9 +91,9 @@ lone-tells = record { told = lone-told; some = lone-some; is = told-lone }
 at-line : (u line next : Chars) → AreAll is_inline line → NextIsNot is_inline next → line_end (length u) (u ++ (line ++ next)) ≡ length (u ++ line)
 at-line u line next all stop = ap (λ (t : Chars). length u + run_len is_inline t) (drop-append_seam u (line ++ next)) ∙ omega (arith, run_len-here is_inline line next all stop, length-append u line)
 
-past-line : (u line next : Chars) → AreAll is_inline line → NextIsNot is_inline next → line_end (suc (length u)) (u ++ (10 ∷ line ++ next)) ≡ length (u ++ (10 ∷ line))
+past-line : (u line next : Chars) → AreAll is_inline line → NextIsNot is_inline next → line_end (length u + 1) (u ++ (10 ∷ line ++ next)) ≡ length (u ++ (10 ∷ line))
 past-line u line next all stop =
-    let place : suc (length u) ≡ length (u ++ codes "\n") = omega (arith, length-append u (codes "\n")) in
+    let place : length u + 1 ≡ length (u ++ codes "\n") = omega (arith, length-append u (codes "\n")) in
     ap (λ (k : ℕ). line_end k (u ++ (10 ∷ line ++ next))) place
     ∙ (ap (line_end (length (u ++ codes "\n"))) (sym (append_assoc u (codes "\n") (line ++ next))) ∙ (at-line (u ++ codes "\n") line next all stop ∙ ap length (append_assoc u (codes "\n") line)))
 
@@ -101,13 +101,13 @@ end-read : {next w : Chars} {es : List (Chars × Bool)} → IsBodyBefore next es
 end-read {next} (the.with_line pattern u line {others} is all stop) good =
     let parts = and_parts (is_pattern pattern) (are_patterns others) good in
     ap (end_by ((pattern, true) ∷ others)) (append_assoc u (10 ∷ line) next)
-    ∙ (ap (λ (o : Option ℕ). if_found o (λ place. line_end (suc place) (u ++ (10 ∷ line ++ next))) (end_by others (u ++ (10 ∷ line ++ next)))) (first-read (pattern-tells pattern parts.0) u (10 ∷ line ++ next) is) ∙ past-line u line next all stop)
+    ∙ (ap (λ (o : Option ℕ). if_found o (λ place. line_end (place + 1) (u ++ (10 ∷ line ++ next))) (end_by others (u ++ (10 ∷ line ++ next)))) (first-read (pattern-tells pattern parts.0) u (10 ∷ line ++ next) is) ∙ past-line u line next all stop)
 end-read {next} (the.before_line pattern w {others} is) good =
     let parts = and_parts (is_pattern pattern) (are_patterns others) good in
     ap (λ (o : Option ℕ). if_found o (λ place. place) (end_by others (w ++ next))) (first-read (pattern-tells pattern parts.0) w next is)
 end-read {next} (the.other pattern {takes_line} {w} {others} none rest) good =
     let parts = and_parts (is_pattern pattern) (are_patterns others) good in
-    ap (λ (o : Option ℕ). if_found o (λ place. if takes_line then line_end (suc place) (w ++ next) else place) (end_by others (w ++ next))) (nowhere-read (pattern-tells pattern parts.0) (w ++ next) none) ∙ end-read rest parts.1
+    ap (λ (o : Option ℕ). if_found o (λ place. if takes_line then line_end (place + 1) (w ++ next) else place) (end_by others (w ++ next))) (nowhere-read (pattern-tells pattern parts.0) (w ++ next) none) ∙ end-read rest parts.1
 end-read {next} (the.lone_dashes u line is all stop) good =
     ap (end_by []) (append_assoc u line next)
     ∙ (ap (λ (o : Option ℕ). if_found o (λ place. line_end place (u ++ (line ++ next))) (length (u ++ (line ++ next)))) (lone-first (u ++ (line ++ next)) ∙ first-read lone-tells u (line ++ next) is) ∙ at-line u line next all stop)
@@ -307,10 +307,9 @@ line-encode k s =
     let past : drop (bytes_of k s) (encode_utf8_all s) ≡ encode_utf8_all (drop k s) = ap (drop (bytes_of k s)) whole ∙ drop-append_seam (encode_utf8_all (take k s)) (encode_utf8_all (drop k s)) in
     ap (λ (t : List ℕ). bytes_of k s + run_len is_inline t) past ∙ (ap (λ (n : ℕ). bytes_of k s + n) (run-encode (drop k s)) ∙ sym (bytes_of-add k (run_len is_inline (drop k s)) s))
 
-past_newline-encode : (pattern : List ℕ) (k : ℕ) (s : Chars) → is_pattern pattern ≡ true → begins pattern (drop k s) ≡ true → bytes_of (suc k) s ≡ suc (bytes_of k s)
+past_newline-encode : (pattern : List ℕ) (k : ℕ) (s : Chars) → is_pattern pattern ≡ true → begins pattern (drop k s) ≡ true → bytes_of (k + 1) s ≡ bytes_of k s + 1
 past_newline-encode pattern k s is e =
-    ap (λ (n : ℕ). bytes_of n s) (let more : suc k ≡ k + 1 = omega arith in more)
-    ∙ (bytes_of-add k 1 s ∙ (ap (λ (t : Chars). bytes_of k s + bytes_of 1 t) (newline-first pattern (drop k s) is e) ∙ omega (arith, ap (λ (w : List ℕ). length (w ++ [])) (encode_ascii 10 (omega arith)))))
+    (bytes_of-add k 1 s ∙ (ap (λ (t : Chars). bytes_of k s + bytes_of 1 t) (newline-first pattern (drop k s) is e) ∙ omega (arith, ap (λ (w : List ℕ). length (w ++ [])) (encode_ascii 10 (omega arith)))))
 
 end-encode : (es : List (Chars × Bool)) (s : Chars) → are_patterns es ≡ true → end_by es (encode_utf8_all s) ≡ bytes_of (end_by es s) s
 end-encode [] s good =
@@ -322,15 +321,15 @@ end-encode (([], takes_line) ∷ others) s good = absurd (true≢false (sym good
 end-encode ((d ∷ ds, takes_line) ∷ others) s good =
     let parts = and_parts (is_pattern (d ∷ ds)) (are_patterns others) good in
     let ascii : list_all is_ascii (d ∷ ds) ≡ true = (and_parts (begins (codes "\n") (d ∷ ds)) (list_all is_ascii (d ∷ ds)) parts.0).1 in
-    ap (λ (o : Option ℕ). if_found o (λ place. if takes_line then line_end (suc place) (encode_utf8_all s) else place) (end_by others (encode_utf8_all s))) (first-encode d ds s ascii) ∙ by_found (first (d ∷ ds) s)
+    ap (λ (o : Option ℕ). if_found o (λ place. if takes_line then line_end (place + 1) (encode_utf8_all s) else place) (end_by others (encode_utf8_all s))) (first-encode d ds s ascii) ∙ by_found (first (d ∷ ds) s)
     (λ k e. let at = least-some (λ place. begins (d ∷ ds) (drop place s)) (length s) k e in by_kind takes_line k (past_newline-encode (d ∷ ds) k s parts.0 at.here) e)
-    (λ e. ap (λ (o : Option ℕ). if_found (in_bytes s o) (λ place. if takes_line then line_end (suc place) (encode_utf8_all s) else place) (end_by others (encode_utf8_all s))) e ∙ (end-encode others s parts.1 ∙ ap (λ (o : Option ℕ). bytes_of (if_found o (λ place. if takes_line then line_end (suc place) s else place) (end_by others s)) s) (sym e)))
+    (λ e. ap (λ (o : Option ℕ). if_found (in_bytes s o) (λ place. if takes_line then line_end (place + 1) (encode_utf8_all s) else place) (end_by others (encode_utf8_all s))) e ∙ (end-encode others s parts.1 ∙ ap (λ (o : Option ℕ). bytes_of (if_found o (λ place. if takes_line then line_end (place + 1) s else place) (end_by others s)) s) (sym e)))
   where
-    by_kind : (b : Bool) (k : ℕ) → bytes_of (suc k) s ≡ suc (bytes_of k s) → first (d ∷ ds) s ≡ Some k
-        → if_found (in_bytes s (first (d ∷ ds) s)) (λ place. if b then line_end (suc place) (encode_utf8_all s) else place) (end_by others (encode_utf8_all s)) ≡ bytes_of (end_by ((d ∷ ds, b) ∷ others) s) s
+    by_kind : (b : Bool) (k : ℕ) → bytes_of (k + 1) s ≡ bytes_of k s + 1 → first (d ∷ ds) s ≡ Some k
+        → if_found (in_bytes s (first (d ∷ ds) s)) (λ place. if b then line_end (place + 1) (encode_utf8_all s) else place) (end_by others (encode_utf8_all s)) ≡ bytes_of (end_by ((d ∷ ds, b) ∷ others) s) s
     by_kind true k more e =
-        ap (λ (o : Option ℕ). if_found (in_bytes s o) (λ place. line_end (suc place) (encode_utf8_all s)) (end_by others (encode_utf8_all s))) e
-        ∙ (ap (λ (n : ℕ). line_end n (encode_utf8_all s)) (sym more) ∙ (line-encode (suc k) s ∙ ap (λ (o : Option ℕ). bytes_of (if_found o (λ place. line_end (suc place) s) (end_by others s)) s) (sym e)))
+        ap (λ (o : Option ℕ). if_found (in_bytes s o) (λ place. line_end (place + 1) (encode_utf8_all s)) (end_by others (encode_utf8_all s))) e
+        ∙ (ap (λ (n : ℕ). line_end n (encode_utf8_all s)) (sym more) ∙ (line-encode (k + 1) s ∙ ap (λ (o : Option ℕ). bytes_of (if_found o (λ place. line_end (place + 1) s) (end_by others s)) s) (sym e)))
     by_kind false k more e =
         ap (λ (o : Option ℕ). if_found (in_bytes s o) (λ place. place) (end_by others (encode_utf8_all s))) e ∙ ap (λ (o : Option ℕ). bytes_of (if_found o (λ place. place) (end_by others s)) s) (sym e)
 

@@ -95,7 +95,7 @@ if_found (Some place) end otherwise = end place
 -- the end by the first of these endings that occurs. If none does, it is that of the line of lone dashes
 abbrev pub end_by : List (Chars × Bool) → List ℕ → ℕ
 end_by [] s = if_found (first_lone true 0 s) (λ place. line_end place s) (length s)
-end_by ((pattern, takes_line) ∷ others) s = if_found (first pattern s) (λ place. if takes_line then line_end (suc place) s else place) (end_by others s)
+end_by ((pattern, takes_line) ∷ others) s = if_found (first pattern s) (λ place. if takes_line then line_end (place + 1) s else place) (end_by others s)
 
 unfoldable pub closing_end : ℕ → List ℕ → ℕ
 closing_end n s = end_by (endings n) s
