@@ -1,7 +1,7 @@
 -- The lines of a frontmatter, looked at one by one.
-use Rattle.std.proofs.Common.{◌≡◌, ℕ, zero, suc, ◌+◌, ◌-◌, ◌<◌, ◌≤◌, ◌==◌, Bool, true, false, true≢false, inl, inr, if◌then◌else◌, List, [], ◌∷◌, length, drop, get_or, codes, refl, sym, ap, ◌∙◌, subst, arith, Option, Some, None, length-drop, drop-drop}
+use Rattle.std.proofs.Common.{◌≡◌, ℕ, zero, suc, ◌+◌, ◌-◌, ◌<◌, ◌≤◌, ◌==◌, Bool, true, false, true≢false, if◌then◌else◌, List, [], ◌∷◌, length, drop, get_or, codes, refl, sym, ap, ◌∙◌, arith, Option, Some, None, length-drop, drop-drop}
 use Rattle.std.proofs.Math.Seq.{drop-cons}
-use Rattle.std.proofs.lemmas.Bool.{and_parts, cases_lt, eqb-true, eq-eqb, not-true, false_from_ne_true}
+use Rattle.std.proofs.lemmas.Bool.{and_parts, eqb-true, not-true, false_from_ne_true}
 use Rattle.std.proofs.lemmas.Bool.Decides.{Decides-eqb}
 use Rattle.std.proofs.lemmas.List.{drop_all, get_or-drop}
 use Rattle.std.proofs.lemmas.Slice.Eq.{starts_is}
@@ -158,23 +158,9 @@ seen_none n rest = let none : (pattern : List ℕ) → IsSeen pattern rest 0 Non
   attribute_seen = none (codes "\n#![");
 }
 
--- where no newline is left, they are what is found
-pub record AreFound (n : ℕ) (rest : List ℕ) (short item doc attribute : Option ℕ) : Type 0 where
-  pub full : None ≡ first (newline ∷ fence n) rest
-  pub fence_is : short ≡ first (newline ∷ fence 3) rest
-  pub item_is : item ≡ first (codes "\nuse ") rest
-  pub doc_is : doc ≡ first (codes "\n//!") rest
-  pub attribute_is : attribute ≡ first (codes "\n#![") rest
-
-pub all_seen : (n : ℕ) (rest cut : List ℕ) (from : ℕ) (short item doc attribute : Option ℕ) → 0 < n → AreSeen n rest from short item doc attribute → cut ≡ drop from rest → IsFirstByte (is_byte 10) cut None → AreFound n rest short item doc attribute
-all_seen zero rest cut from short item doc attribute some at e lost = absurd (omega arith)
-all_seen (suc n) rest cut from short item doc attribute some at e lost = record {
-  full = seen_all 45 (fence n) refl rest cut from None at.full e lost;
-  fence_is = seen_all 45 (codes "--") refl rest cut from short at.fence_seen e lost;
-  item_is = seen_all 117 (codes "se ") refl rest cut from item at.item_seen e lost;
-  doc_is = seen_all 47 (codes "/!") refl rest cut from doc at.doc_seen e lost;
-  attribute_is = seen_all 35 (codes "![") refl rest cut from attribute at.attribute_seen e lost;
-}
+pub full_none : (n : ℕ) (rest cut : List ℕ) (from : ℕ) → 0 < n → IsSeen (newline ∷ fence n) rest from None → cut ≡ drop from rest → IsFirstByte (is_byte 10) cut None → None ≡ first (newline ∷ fence n) rest
+full_none zero rest cut from some seen e lost = absurd (omega arith)
+full_none (suc n) rest cut from some seen e lost = seen_all 45 (fence n) refl rest cut from None seen e lost
 
 -- one step more
 module _ (rest : List ℕ) (from step line end : ℕ) (at : IsLine rest from step line end) where

@@ -309,11 +309,10 @@ line-encode k s =
 
 past_newline-encode : (pattern : List ℕ) (k : ℕ) (s : Chars) → is_pattern pattern ≡ true → begins pattern (drop k s) ≡ true → bytes_of (k + 1) s ≡ bytes_of k s + 1
 past_newline-encode pattern k s is e =
-    (bytes_of-add k 1 s ∙ (ap (λ (t : Chars). bytes_of k s + bytes_of 1 t) (newline-first pattern (drop k s) is e) ∙ omega (arith, ap (λ (w : List ℕ). length (w ++ [])) (encode_ascii 10 (omega arith)))))
+    bytes_of-add k 1 s ∙ (ap (λ (t : Chars). bytes_of k s + bytes_of 1 t) (newline-first pattern (drop k s) is e) ∙ omega (arith, ap (λ (w : List ℕ). length (w ++ [])) (encode_ascii 10 (omega arith))))
 
 end-encode : (es : List (Chars × Bool)) (s : Chars) → are_patterns es ≡ true → end_by es (encode_utf8_all s) ≡ bytes_of (end_by es s) s
 end-encode [] s good =
-    let ends : Option ℕ → ℕ = λ o. if_found o (λ place. line_end place s) (length s) in
     ap (λ (o : Option ℕ). if_found o (λ place. line_end place (encode_utf8_all s)) (length (encode_utf8_all s))) (lone-encode true 0 s refl) ∙ by_found (first_lone true 0 s)
     (λ k e. rw e (line-encode k s))
     (λ e. rw e (ap bytes (sym (take-length s))))

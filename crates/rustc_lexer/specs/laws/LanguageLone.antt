@@ -62,7 +62,6 @@ is-standing (c ∷ r) e = elim (or_cases (c == 10) _ e) [
         }
     | inr three ↦
         let parts = and_parts (begins (fence 3) (c ∷ r)) _ three in
-        let front : Chars = drop 2 r in
         subst (λ (u : Chars). IsStanding (reverse u)) (sym (begins-whole (fence 3) (c ∷ r) parts.0)) record {
           edge = reverse (drop 2 r) ++ fence 3;
           blanks = [];

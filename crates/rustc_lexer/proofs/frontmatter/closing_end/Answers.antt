@@ -1,7 +1,7 @@
-use Rattle.std.proofs.Common.{◌∙◌}
+use Rattle.std.proofs.Common.{◌∙◌, codes, refl}
 use Rattle.std.proofs.lemmas.List.{take_rest}
 use Rattle.rustc_lexer.specs.laws.Frontmatter.{closing_end-none}
-use Rattle.rustc_lexer.proofs.LineLemmas.{all_seen, closes_here, is_line, seen_none, seen_on}
+use Rattle.rustc_lexer.proofs.LineLemmas.{closes_here, full_none, is_line, seen_all, seen_none, seen_on}
 use Rattle.rustc_lexer.proofs.frontmatter.closing_end.Goals as goal
 
 pub lines-init : goal.lines-init
@@ -22,18 +22,17 @@ lines-preserved c =
     c.with_line-guesses.ensures.short_fence c.with_line-guesses.ensures.use_item c.with_line-guesses.ensures.inner_doc c.with_line-guesses.ensures.inner_attribute
 
 pub recovery-requires-clause-short_fence : goal.recovery-requires-clause-short_fence
-recovery-requires-clause-short_fence c = (all_seen c.args.n_dashes c.args.rest.now _ c.lines.from _ _ _ _ c.requires.some c.lines.invariant (take_rest c.args.rest.now c.lines.from) c.in_default.ensures).fence_is
+recovery-requires-clause-short_fence c = seen_all 45 (codes "--") refl c.args.rest.now _ c.lines.from _ c.lines.invariant.fence_seen (take_rest c.args.rest.now c.lines.from) c.in_default.ensures
 
 pub recovery-requires-clause-use_item : goal.recovery-requires-clause-use_item
-recovery-requires-clause-use_item c = (all_seen c.args.n_dashes c.args.rest.now _ c.lines.from _ _ _ _ c.requires.some c.lines.invariant (take_rest c.args.rest.now c.lines.from) c.in_default.ensures).item_is
+recovery-requires-clause-use_item c = seen_all 117 (codes "se ") refl c.args.rest.now _ c.lines.from _ c.lines.invariant.item_seen (take_rest c.args.rest.now c.lines.from) c.in_default.ensures
 
 pub recovery-requires-clause-inner_doc : goal.recovery-requires-clause-inner_doc
-recovery-requires-clause-inner_doc c = (all_seen c.args.n_dashes c.args.rest.now _ c.lines.from _ _ _ _ c.requires.some c.lines.invariant (take_rest c.args.rest.now c.lines.from) c.in_default.ensures).doc_is
+recovery-requires-clause-inner_doc c = seen_all 47 (codes "/!") refl c.args.rest.now _ c.lines.from _ c.lines.invariant.doc_seen (take_rest c.args.rest.now c.lines.from) c.in_default.ensures
 
 pub recovery-requires-clause-inner_attribute : goal.recovery-requires-clause-inner_attribute
-recovery-requires-clause-inner_attribute c = (all_seen c.args.n_dashes c.args.rest.now _ c.lines.from _ _ _ _ c.requires.some c.lines.invariant (take_rest c.args.rest.now c.lines.from) c.in_default.ensures).attribute_is
+recovery-requires-clause-inner_attribute c = seen_all 35 (codes "![") refl c.args.rest.now _ c.lines.from _ c.lines.invariant.attribute_seen (take_rest c.args.rest.now c.lines.from) c.in_default.ensures
 
 pub returns-clause-end : goal.returns-clause-end
 returns-clause-end c =
-    c.recovery.ensures.end
-    ∙ closing_end-none c.args.n_dashes c.args.rest.now (all_seen c.args.n_dashes c.args.rest.now _ c.lines.from _ _ _ _ c.requires.some c.lines.invariant (take_rest c.args.rest.now c.lines.from) c.in_default.ensures).full
+    c.recovery.ensures.end ∙ closing_end-none c.args.n_dashes c.args.rest.now (full_none c.args.n_dashes c.args.rest.now _ c.lines.from c.requires.some c.lines.invariant.full (take_rest c.args.rest.now c.lines.from) c.in_default.ensures)
