@@ -7,7 +7,7 @@ use Rattle.rustc_lexer.specs.Classes.{is_among, is_whitespace, is_horizontal_whi
 use Rattle.rustc_lexer.specs.means.Frontmatter.{is_dash, then_len, spaces_len, fence_len, blanks_len, infostring_len, label_len, opening_len, ends_line, opens}
 use Rattle.rustc_lexer.specs.laws.LanguageRuns.{run_len-here, run-stops, either-way, none-among}
 use Rattle.rustc_lexer.specs.laws.Reach.{run_all, run_len-out}
-use Rattle.rustc_lexer.specs.laws.Fences.{begins-dashes}
+use Rattle.rustc_lexer.specs.laws.Fences.{begins-dashes, begins-enough}
 use Rattle.rustc_lexer.specs.FrontmatterGrammar as the
 use Rattle.rustc_lexer.specs.FrontmatterGrammar.{fence, IsLabelBefore, IsOpeningBefore, OpensNone}
 use Rattle.rustc_lexer.specs.means.Scan.{begins, next_is, run_len}
@@ -57,12 +57,6 @@ run-fence (c ∷ s) = by_dash (is_dash c) refl (run-fence s)
     by_dash : (b : Bool) → is_dash c ≡ b → take (run_len is_dash s) s ≡ fence (run_len is_dash s) → take (if b then suc (run_len is_dash s) else 0) (c ∷ s) ≡ fence (if b then suc (run_len is_dash s) else 0)
     by_dash true e ih = ap (λ (x : ℕ). x ∷ take (run_len is_dash s) s) (eqb-true c 45 e) ∙ ap (λ (xs : List ℕ). 45 ∷ xs) ih
     by_dash false e ih = refl
-
-three-begin : (n : ℕ) (v : List ℕ) → 3 ≤ n → begins (fence 3) (fence n ++ v) ≡ true
-three-begin zero v le = absurd (omega arith)
-three-begin (suc zero) v le = absurd (omega arith)
-three-begin (suc (suc zero)) v le = absurd (omega arith)
-three-begin (suc (suc (suc n))) v le = refl
 
 dash-stops : (s : List ℕ) → NextIsNot (is_among (codes "-")) s → NextIsNot is_dash s
 dash-stops [] e = refl
@@ -121,7 +115,7 @@ opening-read {next} (the.opening n space label spaces no_line many is stop) =
     let left : drop (spaces_len s) s ≡ rest = ap (λ (k : ℕ). drop k s) front ∙ (ap (drop (length space)) text ∙ drop-append_seam space rest) in
     let taken : take (spaces_len s) s ≡ space = ap (λ (k : ℕ). take k s) front ∙ (ap (take (length space)) text ∙ take-append_seam space rest) in
     let run : run_len is_dash rest ≡ n = fence-run n (label ++ next) (dash-stops (label ++ next) stop) in
-    let begun : begins (fence 3) (drop (spaces_len s) s) ≡ true = ap (begins (fence 3)) left ∙ three-begin n (label ++ next) many in
+    let begun : begins (fence 3) (drop (spaces_len s) s) ≡ true = ap (begins (fence 3)) left ∙ begins-enough 3 rest (omega (arith, run, many)) in
     let line : ends_line (take (spaces_len s) s) ≡ false = ap ends_line taken ∙ false_from_ne_true (ends_line space) (λ e. let ends = ends-line space e in no_line ends.front ends.whole) in
     let fences : then_len spaces_len (run_len is_dash) s ≡ length (space ++ fence n) = then-read spaces_len (run_len is_dash) space rest s text front ∙ omega (arith, run, length-append space (fence n), fence-length n) in
     let text_label : s ≡ (space ++ fence n) ++ (label ++ next) = text ∙ sym (append_assoc space (fence n) (label ++ next)) in
