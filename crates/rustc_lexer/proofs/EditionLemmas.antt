@@ -1,5 +1,5 @@
 -- What an edition has in place of some tokens.
-use Rattle.std.proofs.Common.{◌≡◌, ◌≢◌, ◌<◌, ◌==◌, ℕ, suc, Bool, true, false, true≢false, List, [], ◌∷◌, length, nat_le, ◌⊎◌, inl, inr, refl, sym, ap, ◌∙◌, Option, Some, IsCharBoundary, arith}
+use Rattle.std.proofs.Common.{◌≡◌, ◌≢◌, ◌<◌, ℕ, suc, Bool, true, false, true≢false, List, [], ◌∷◌, length, nat_le, ◌⊎◌, inl, inr, refl, sym, ap, ◌∙◌, Option, Some, IsCharBoundary, arith}
 use Rattle.rustc_lexer.specs.{Edition, FrontmatterAllowed, Token, TokenKind, E2015, E2018, E2021, E2024, Yes, No, Literal, Eof, Pound, GuardedStrPrefix, RawLifetime, UnknownPrefix, UnknownPrefixLifetime}
 use Rattle.rustc_lexer.specs.LanguageCalls.{edition_of_year}
 use Rattle.rustc_lexer.specs.LanguageText.{mode_in, year}
@@ -10,7 +10,6 @@ use Rattle.rustc_lexer.specs.laws.LanguageIn.{unhashed}
 use Rattle.rustc_lexer.specs.declared.lexemes.family.Family.TheVariants.{Hash}
 use Rattle.rustc_lexer.specs.Tables.{is_emoji}
 use Rattle.unicode_ident.proofs.Computing.{unicode_ident}
-use Rattle.std.proofs.lemmas.Bool.{eqb-true}
 use Rattle.rustc_lexer.specs.means.Lexeme.{family_of, first_token, lexeme, past_first}
 use Rattle.rustc_lexer.specs.means.Quick.{BeginsWithNoHash, IsFirstBy, IsFirstToken}
 use Rattle.rustc_lexer.specs.means.Scan.{bytes_of}
