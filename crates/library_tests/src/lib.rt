@@ -9,5 +9,3 @@ mod erased;
 mod literals;
 #[cfg(test)]
 mod table;
-#[cfg(test)]
-mod texts;
