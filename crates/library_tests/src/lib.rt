@@ -7,5 +7,3 @@ mod callers;
 mod literals;
 #[cfg(test)]
 mod table;
-#[cfg(test)]
-mod texts;
