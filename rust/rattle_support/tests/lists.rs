@@ -124,8 +124,8 @@ fn lists() {
     assert_eq!(held.as_slice(), [7, 2, 7], "in a row");
     held.truncate(2);
     assert!((&held).into_iter().copied().eq([7, 2]) && held.clone().into_iter().eq([7, 2]));
-    held.truncate(0);
-    assert_eq!((held.pop(), held.len()), (None, 0));
+    held.truncate(1);
+    assert_eq!((held.pop(), held.pop(), held.len()), (Some(7), None, 0));
     let mut full = Vec::new(Global);
     assert_eq!(given(0, || full.resize(1, 0u8)), Err(AllocError));
     assert_eq!(full.len(), 0);
