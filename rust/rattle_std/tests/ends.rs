@@ -38,6 +38,24 @@ fn streams_that_do_not_wait() {
     assert_eq!(rattle_std::env::var(&rt, NAME).ok().as_deref(), Some(""));
 }
 
+/// A line on standard error, with its end. This test runs itself as a process, whose standard error has that alone.
+#[test]
+fn a_line_is_said() {
+    use std::process::Command;
+    const NAME: &str = "RATTLE_STD_SAYS";
+    if std::env::var_os(NAME).is_none() {
+        let mut again = Command::new(std::env::current_exe().unwrap());
+        let again = again.args(["--exact", "a_line_is_said"]).env(NAME, " ");
+        let ended = again.output().unwrap();
+        assert!(ended.status.success());
+        return assert_eq!(ended.stderr, b"1 of two\n");
+    }
+    let rt = rt::start();
+    assert!(rattle_std::eprintln!(rt; "{} of {}", 1, "two").is_ok());
+    // A variable that has a blank alone is set to that.
+    assert_eq!(rattle_std::env::var(&rt, NAME).ok().as_deref(), Some(" "));
+}
+
 /// One stream is a terminal, and the others are none. This test runs itself as a process with such streams.
 #[cfg(target_os = "linux")]
 #[test]
