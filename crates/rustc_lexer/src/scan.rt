@@ -8,7 +8,7 @@ ghost use Rattle.rustc_lexer.specs.means.ByteRuns.{is_continue_byte, is_wide};
 ghost use Rattle.rustc_lexer.specs.Classes;
 ghost use Rattle.rustc_lexer.specs.means.Number.{or_underscore};
 ghost use Rattle.rustc_lexer.specs.means.Raw;
-ghost use Rattle.rustc_lexer.specs.means.Raw.{hash_run, is_quote};
+ghost use Rattle.rustc_lexer.specs.means.Raw.{hash_run};
 ghost use Rattle.rustc_lexer.specs.means.Scan;
 ghost use Rattle.rustc_lexer.specs.means.Scan.{begins, past, run_len};
 
@@ -67,36 +67,27 @@ pub(crate) fn next_is<F: Fn(char) -> bool>(rest: &str, test: F) -> bool
     }
 }
 
-/// Returns the text after the character `c`, or `None` if the text does not begin with it.
+/// Returns whether the text begins with the byte.
 #[inline(always)]
-pub(crate) fn strip(rest: &str, c: char) -> Option<&str>
-    ensures { MatchOption result (begins (c ∷ []) (chars rest.now) ≡ false)
-        (λ tail. (begins (c ∷ []) (chars rest.now) ≡ true) × (tail.now ≡ past 1 rest.now)
-        × (length tail.now < length rest.now)) }
-{
-    let (first, tail) = split_first(rest)?;
-    if first == c { Some(tail) } else { None }
-}
-
-/// Returns whether the next character is a double quote, as the next byte determines.
-#[inline(always)]
-fn begins_quote(rest: &str) -> bool
-    ensures { result ≡ Scan.next_is is_quote rest.now }
+fn begins_with(rest: &str, byte: u8) -> bool
+    ensures { result ≡ Scan.next_is (is_byte byte) rest.now }
 {
     match rest.as_bytes().first() {
-        Some(byte) => *byte == b'"',
+        Some(first) => *first == byte,
         None => false,
     }
 }
 
-/// Returns the text after the double quote at its front, or `None` if it does not begin with one.
+/// Returns the text after a character of ASCII, or `None` if the text does not begin with it, as its first byte
+/// determines.
 #[inline(always)]
-pub(crate) fn strip_quote(rest: &str) -> Option<&str>
-    ensures { MatchOption result (begins (34 ∷ []) (chars rest.now) ≡ false)
-        (λ tail. (begins (34 ∷ []) (chars rest.now) ≡ true) × (tail.now ≡ past 1 rest.now)
+pub(crate) fn strip(rest: &str, byte: u8) -> Option<&str>
+    requires ascii { byte < 128 }
+    ensures { MatchOption result (begins (byte ∷ []) (chars rest.now) ≡ false)
+        (λ tail. (begins (byte ∷ []) (chars rest.now) ≡ true) × (tail.now ≡ past 1 rest.now)
         × (length tail.now < length rest.now)) }
 {
-    if begins_quote(rest) {
+    if begins_with(rest, byte) {
         Some(&rest[1..])
     } else {
         None

@@ -43,26 +43,20 @@ pub(crate) fn next_is<F: Fn(char) -> bool>(rest: &str, test: F) -> bool {
     }
 }
 
-/// Returns the text after the character `c`, or `None` if the text does not begin with it.
+/// Returns whether the text begins with the byte.
 #[inline(always)]
-pub(crate) fn strip(rest: &str, c: char) -> Option<&str> {
-    let (first, tail) = split_first(rest)?;
-    if first == c { Some(tail) } else { None }
-}
-
-/// Returns whether the next character is a double quote, as the next byte determines.
-#[inline(always)]
-fn begins_quote(rest: &str) -> bool {
+fn begins_with(rest: &str, byte: u8) -> bool {
     match rest.as_bytes().first() {
-        Some(byte) => *byte == b'"',
+        Some(first) => *first == byte,
         None => false,
     }
 }
 
-/// Returns the text after the double quote at its front, or `None` if it does not begin with one.
+/// Returns the text after a character of ASCII, or `None` if the text does not begin with it, as its first byte
+/// determines.
 #[inline(always)]
-pub(crate) fn strip_quote(rest: &str) -> Option<&str> {
-    if begins_quote(rest) {
+pub(crate) fn strip(rest: &str, byte: u8) -> Option<&str> {
+    if begins_with(rest, byte) {
         Some(&rest[1..])
     } else {
         None
