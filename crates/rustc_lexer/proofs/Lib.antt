@@ -64,4 +64,3 @@ pub mod TallyWalk
 pub mod TextLemmas
 pub mod TokensLemmas
 pub mod ToldLemmas
-pub mod WideLemmas

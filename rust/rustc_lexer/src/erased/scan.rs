@@ -1,6 +1,6 @@
 //! Looks at the characters that are left of a text, and skips runs of a class at its front.
 
-use crate::erased::classes::is_whitespace;
+use crate::erased::classes::{is_id_continue, is_whitespace};
 use crate::erased::kernels::{
     Continue, Space, ends_space, find, find_either, run_end, short_run_end,
 };
@@ -109,59 +109,9 @@ pub(crate) fn begins_wide(rest: &str) -> bool {
 pub(crate) fn eat_continue(rest: &str) -> &str {
     let left = &rest[short_run_end::<Continue>(rest.as_bytes())..];
     if begins_wide(left) {
-        eat_continue_wide(left)
+        eat_while(left, is_id_continue)
     } else {
         left
-    }
-}
-
-/// Returns the text after the characters at the front that an identifier may continue with. The next byte is not
-/// one of these in ASCII.
-#[inline(never)]
-fn eat_continue_wide(rest: &str) -> &str {
-    let mut left = rest;
-    while begins_wide(left) {
-        let next = eat_continue_in(eat_continue_in(left, 0xC0, 0xE0), 0xE0, 0xF0);
-        if begins_wide(next) {
-            let Some((c, tail)) = split_first(next) else {
-                return next;
-            };
-            if !unicode_ident::is_xid_continue(c) {
-                return next;
-            }
-            left = &tail[short_run_end::<Continue>(tail.as_bytes())..];
-        } else {
-            left = &next[short_run_end::<Continue>(next.as_bytes())..];
-        }
-    }
-    left
-}
-
-/// Returns the text after the characters at the front that an identifier may continue with and whose first bytes
-/// are in the range.
-///
-/// If the range determines how many bytes a character has, reading it takes no branch.
-#[inline(always)]
-fn eat_continue_in(rest: &str, low: u8, high: u8) -> &str {
-    let mut left = rest;
-    while begins_within(left, low, high) {
-        let Some((c, tail)) = split_first(left) else {
-            return left;
-        };
-        if !unicode_ident::is_xid_continue(c) {
-            return left;
-        }
-        left = tail;
-    }
-    left
-}
-
-/// Returns whether the next byte is in the range.
-#[inline(always)]
-fn begins_within(rest: &str, low: u8, high: u8) -> bool {
-    match rest.as_bytes().first() {
-        Some(byte) => *byte >= low && *byte < high,
-        None => false,
     }
 }
 
