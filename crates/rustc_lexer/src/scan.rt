@@ -143,7 +143,7 @@ pub(crate) fn eat_while<F: Fn(char) -> bool>(rest: &str, test: F) -> &str
 
 /// Returns whether the next character is outside ASCII.
 #[inline(always)]
-pub(crate) fn begins_wide(rest: &str) -> bool
+fn begins_wide(rest: &str) -> bool
     ensures { result ≡ Scan.next_is is_wide rest.now }
 {
     match rest.as_bytes().first() {
