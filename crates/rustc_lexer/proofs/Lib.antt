@@ -7,7 +7,6 @@ pub mod BodyChangeLemmas
 pub mod BoundLemmas
 pub mod BridgeLemmas
 pub mod BulkLemmas
-pub mod CloseLemmas
 pub mod DocumentEditLemmas
 pub mod DocumentHead
 pub mod DocumentLemmas
@@ -40,7 +39,6 @@ pub mod LineLemmas
 pub mod LiteralLemmas
 pub mod MeetingLemmas
 pub mod NumberLemmas
-pub mod OpeningLemmas
 pub mod PartEdits
 pub mod PartLemmas
 pub mod PieceLemmas
@@ -66,4 +64,3 @@ pub mod TallyWalk
 pub mod TextLemmas
 pub mod TokensLemmas
 pub mod ToldLemmas
-pub mod WideLemmas
