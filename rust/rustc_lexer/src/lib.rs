@@ -63,6 +63,8 @@ mod edit_error;
 #[allow(clippy::too_many_arguments)]
 pub mod erased;
 #[cfg(feature = "alloc")]
+mod kept_calls;
+#[cfg(feature = "alloc")]
 mod lexed_document;
 #[cfg(feature = "alloc")]
 mod lexed_text;
