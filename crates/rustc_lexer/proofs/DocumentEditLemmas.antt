@@ -2,6 +2,7 @@
 use Rattle.std.proofs.Common.{◌≡◌, ℕ, ◌+◌, ◌-◌, ◌<◌, ◌≤◌, ◌^◌, Bool, true, false, true≢false, List, [], ◌∷◌, ◌++◌, length, map, take, drop, refl, sym, ap, ap₂, ◌∙◌, subst, arith, length-drop, length-append, drop-drop, take-add, IsUtf8, IsCharBoundary, IsTrue, ◌↔◌, Option, Result, Ok, Err, OnErr, inl, inr}
 use Rattle.std.specs.List.{All, Contains}
 use Rattle.std.proofs.lemmas.Bool.{cases_lt, false_from_ne_true}
+use Rattle.std.proofs.lemmas.List.{take_rest}
 use Rattle.std.proofs.lemmas.List.Elements.{All-contains}
 use Rattle.std.proofs.Math.Seq.{drop-append_seam, drop-append-add, take-append_seam, take-append-add}
 use Rattle.rustc_lexer.specs.declared.relex.checkpoints.Checkpoints.{Checkpoints}
@@ -18,7 +19,7 @@ use Rattle.rustc_lexer.specs.Relexing.{IsMadeOf}
 use Rattle.rustc_lexer.specs.Locality.{IsGrammar}
 use Rattle.rustc_lexer.specs.Tokens.{tokens_by}
 use Rattle.rustc_lexer.specs.means.Checkpoints.{AreBounds, IsMovable, IsReplaced, end_of}
-use Rattle.rustc_lexer.specs.means.Relexing.{IsRenewed, relexed_of}
+use Rattle.rustc_lexer.specs.means.Relexing.{IsLexed, IsRenewed, relexed_of}
 use Rattle.rustc_lexer.proofs.BoundLemmas.{tokens_le_bytes}
 use Rattle.rustc_lexer.proofs.DocumentLemmas.{made_body}
 use Rattle.rustc_lexer.proofs.EditLemmas.{has_two-late, kept_front_from, kept_front_by}
@@ -63,6 +64,15 @@ body_edit heads {first} law {text} {made} {insert} {put} {reserved} {start} {sto
       inside = omega (arith, n_is, ap length all, length-append (tokens_of_head old) (tokens_by first (drop old.body text)));
       made_of = rw change_is (made_body law text insert made start stop is its edit e old.body now.body old_at now_at (drop n tokens) behind body body_is kept (λ t. (ap (λ (h : Head). h.body) (told.0 t).0, (told.0 t).1)));
     }
+
+-- the lengths are those of the tokens that are read
+pub made_read : {first : List ℕ → Token} {text : List ℕ} (tokens read : List Token) (n : ℕ) {change : Change} {insert body : List ℕ} → read ≡ tokens → IsMadeOf first text (map (λ (t : Token). t.len) (drop n tokens)) change insert body → IsMadeOf first text (map (λ (t : Token). t.len) (take (length read - n) (drop n read))) change insert body
+made_read {first} {text} tokens read n {change} {insert} {body} e is = subst (λ (ts : List Token). IsMadeOf first text (map (λ (t : Token). t.len) ts) change insert body) (ap (drop n) (sym e) ∙ sym (take_rest read n)) is
+
+-- what was lexed is put in place of the old tokens
+pub renewed_by : {first : List ℕ → Token} {text : List ℕ} {change : Change} {body : List ℕ} {lexed : List Token} {at : Relexing} (n : ℕ) (tokens : List Token) (head : Option Head) {new : List Token} → IsLexed first text change body lexed at → new ≡ head_put (take n tokens) head ++ (take at.front.number (drop n tokens) ++ (lexed ++ drop at.back.number (drop n tokens)))
+    → IsRenewedBehind first text change body n tokens head new at
+renewed_by {first} {text} {change} {body} {lexed} {at} n tokens head {new} is put = record { behind = take at.front.number (drop n tokens) ++ (lexed ++ drop at.back.number (drop n tokens)); renewed = record { lexed = lexed; lexed_is = is; now_is = refl }; now_is = put }
 
 -- nothing is kept before an edit at the front
 none_from : (text : List ℕ) (from : ℕ) (ts : List Token) → kept_front_from text 0 from ts ≡ 0

@@ -1,5 +1,5 @@
 -- What an edit of a document keeps, by the tokens of the grammar.
-use Rattle.std.proofs.Common.{Result, Ok, Err, OnErr, ◌++◌, ◌≡◌, ℕ, zero, suc, max, ◌+◌, ◌-◌, ◌≤◌, Bool, true, false, if◌then◌else◌, List, [], ◌∷◌, length, take, drop, refl, sym, subst, ap, ap₂, ◌∙◌, arith, chars, get_or, length-take-le, Option, None, Some, IsCharBoundary}
+use Rattle.std.proofs.Common.{◌++◌, ◌≡◌, ℕ, zero, suc, max, ◌+◌, ◌-◌, ◌≤◌, Bool, true, false, if◌then◌else◌, List, [], ◌∷◌, length, take, drop, refl, sym, subst, ap, ap₂, ◌∙◌, arith, chars, get_or, length-take-le, Option, None, Some, IsCharBoundary}
 use Rattle.std.proofs.Math.Nat.{le-max_left, le-max_right, max-le}
 use Rattle.std.proofs.Math.Seq.{take-append_seam}
 use Rattle.rustc_lexer.specs.{Token, E2024}
@@ -179,8 +179,3 @@ module _ (first : List ℕ → Token) (text insert : List ℕ) (start stop : ℕ
     kept = λ k. r.kept (to_page k);
     changed = λ none. let e = r.changed (λ s. none (from_page s)) in omega (arith, e, ap (λ (ts : List Token). length ts) (front_is made its));
   }
-
--- of what holds of an error, what follows from it
-pub OnErr-map : {T E : Type 0} {P Q : Type 0} (r : Result T E) → (P → Q) → OnErr r P → OnErr r Q
-OnErr-map (Ok x) f p = p
-OnErr-map (Err e) f p = f p

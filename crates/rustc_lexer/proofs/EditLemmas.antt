@@ -226,4 +226,8 @@ pub IfOk-two : {X Y : Type 0} (r : Result X Y) (P Q R : X → Type 0) → ((x : 
 IfOk-two (Ok x) P Q R f p q = f x p q
 IfOk-two (Err e) P Q R f p q = p
 
+pub OnOk-map : {X Y : Type 0} {P Q : Type 0} (r : Result X Y) → (P → Q) → OnOk r P → OnOk r Q
+OnOk-map (Ok x) f p = f p
+OnOk-map (Err e) f p = p
+
 pub ruleset edit_lemmas = (has_two-late, has_two-long)

@@ -27,6 +27,7 @@ pub mod GuardedLemmas
 pub mod HeadLemmas
 pub mod HashLemmas
 pub mod IdentLemmas
+pub mod KeptEdits
 pub mod KeptLemmas
 pub mod KernelLemmas
 pub mod KindLemmas

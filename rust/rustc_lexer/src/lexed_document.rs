@@ -2,6 +2,7 @@
 
 use crate::edit_error::{EditError, check_accepted, try_fitting};
 use crate::erased::{self, Edit, EditStop};
+use crate::kept_calls::kept_calls;
 use crate::lexed_text::checked_range;
 use crate::support::{AllocError, Global};
 use crate::{Bound, Edition, Pieces, Relexed, Stepper, Steps, Token};
@@ -66,34 +67,6 @@ impl LexedDocument {
         LexedDocument::try_new_in(text, edition).unwrap_or_else(|error| panic!("{error}"))
     }
 
-    /// Returns the document with its tokens in an edition, or why it could not be made: `TooLong` or `Memory`.
-    ///
-    /// ```
-    /// use rustc_lexer::{Edition, LexedDocument};
-    ///
-    /// let lexed = LexedDocument::try_new_in("let x;", Edition::E2021)?;
-    /// assert_eq!(lexed.tokens().len(), 4);
-    /// # Ok::<(), rustc_lexer::EditError>(())
-    /// ```
-    pub fn try_new_in(text: impl AsRef<str>, edition: Edition) -> Result<LexedDocument, EditError> {
-        let text = try_fitting(text.as_ref())?;
-        Ok(LexedDocument(erased::LexedDocument::new_in(
-            Global, text, edition,
-        )?))
-    }
-
-    /// Returns the edition of the tokens. Edits keep it.
-    ///
-    /// ```
-    /// use rustc_lexer::{Edition, LexedDocument};
-    ///
-    /// assert_eq!(LexedDocument::new("").edition(), Edition::E2024);
-    /// ```
-    #[must_use]
-    pub fn edition(&self) -> Edition {
-        self.0.edition()
-    }
-
     /// Returns where the body begins, which is all text after the head: how many tokens come before it, and its offset.
     ///
     /// ```
@@ -105,38 +78,6 @@ impl LexedDocument {
     #[must_use]
     pub fn body(&self) -> Bound {
         self.0.body()
-    }
-
-    /// Lexes the document again, in another edition.
-    ///
-    /// ```
-    /// use rustc_lexer::{Edition, LexedDocument};
-    ///
-    /// let mut lexed = LexedDocument::new("'r#a");
-    /// lexed.set_edition(Edition::E2015);
-    /// assert_eq!(lexed.tokens().len(), 3);
-    /// ```
-    ///
-    /// # Panics
-    ///
-    /// Panics if an allocation fails. Nothing changes then.
-    pub fn set_edition(&mut self, edition: Edition) {
-        self.try_set_edition(edition)
-            .unwrap_or_else(|error| panic!("{error}"));
-    }
-
-    /// Lexes the document again, in another edition. If an allocation fails, nothing changes.
-    ///
-    /// ```
-    /// use rustc_lexer::{Edition, LexedDocument};
-    ///
-    /// let mut lexed = LexedDocument::new("'r#a");
-    /// lexed.try_set_edition(Edition::E2018)?;
-    /// assert_eq!(lexed.tokens().len(), 3);
-    /// # Ok::<(), rustc_lexer::AllocError>(())
-    /// ```
-    pub fn try_set_edition(&mut self, edition: Edition) -> Result<(), AllocError> {
-        self.0.set_edition(edition)
     }
 }
 
@@ -243,19 +184,6 @@ impl<S: Stepper> LexedDocument<S> {
         self.0.pieces_of(numbers.start, numbers.end)
     }
 
-    /// Returns whether the range is in bounds and on char boundaries, and the new text has at most `u32::MAX` bytes.
-    ///
-    /// ```
-    /// use rustc_lexer::LexedDocument;
-    ///
-    /// let lexed = LexedDocument::new("é");
-    /// assert!(lexed.accepts(0..2, "e") && !lexed.accepts(1..2, "e"));
-    /// ```
-    #[must_use]
-    pub fn accepts(&self, range: Range<usize>, insert: &str) -> bool {
-        self.0.accepts(range.start, range.end, insert)
-    }
-
     /// Replaces the bytes of the range by `insert`.
     ///
     /// ```
@@ -275,64 +203,6 @@ impl<S: Stepper> LexedDocument<S> {
         self.try_edit(range.clone(), insert)
             .unwrap_or_else(|error| panic!("the edit of {range:?}: {error}"))
     }
-
-    /// Replaces the bytes of the range by `insert`, or returns why not. Text and tokens are then as they were.
-    ///
-    /// ```
-    /// use rustc_lexer::{EditError, LexedDocument};
-    ///
-    /// let mut lexed = LexedDocument::new("let é;");
-    /// assert_eq!(lexed.try_edit(4..5, "e"), Err(EditError::Range));
-    /// assert_eq!(lexed.try_edit(4..6, "e").map(|relexed| relexed.lexed), Ok(3));
-    /// assert_eq!(lexed.text(), "let e;");
-    /// ```
-    pub fn try_edit(&mut self, range: Range<usize>, insert: &str) -> Result<Relexed, EditError> {
-        check_accepted(|insert| self.accepts(range.clone(), insert), insert)?;
-        Ok(self.0.edit(range.start, range.end, insert)?)
-    }
-
-    /// Makes the edits in order, up to the first that is refused, and returns which that is, and why.
-    ///
-    /// ```
-    /// use rustc_lexer::{Edit, EditStop, LexedDocument};
-    ///
-    /// let mut lexed = LexedDocument::new("#!a");
-    /// let edits = [Edit { start: 3, stop: 3, insert: "\n+b" }, Edit { start: 9, stop: 9, insert: "" }];
-    /// assert_eq!(lexed.edit_all(&edits), Err(EditStop::Range { at: 1 }));
-    /// assert_eq!((lexed.text(), lexed.tokens().len()), ("#!a\n+b", 3));
-    /// ```
-    pub fn edit_all(&mut self, edits: &[Edit<'_>]) -> Result<(), EditStop> {
-        self.0.edit_all(edits)
-    }
-
-    /// Gives back the memory that edits have left unused, by copying what is kept. If an allocation fails, the unused
-    /// memory stays. Text, tokens and stepper do not change.
-    ///
-    /// ```
-    /// use rustc_lexer::LexedDocument;
-    ///
-    /// let mut lexed = LexedDocument::new("a ".repeat(1000));
-    /// lexed.edit(0..0, "\"");
-    /// lexed.shrink_to_fit();
-    /// assert_eq!(lexed.tokens().len(), 1);
-    /// ```
-    pub fn shrink_to_fit(&mut self) {
-        self.0.shrink_to_fit();
-    }
 }
 
-impl<S: Stepper> fmt::Debug for LexedDocument<S> {
-    fn fmt(&self, f: &mut fmt::Formatter<'_>) -> fmt::Result {
-        f.debug_struct("LexedDocument")
-            .field("text", &self.text())
-            .field("tokens", &self.tokens())
-            .finish_non_exhaustive()
-    }
-}
-
-/// The empty document.
-impl Default for LexedDocument {
-    fn default() -> LexedDocument {
-        LexedDocument::new("")
-    }
-}
+kept_calls!(LexedDocument);

@@ -64,6 +64,8 @@ mod edit_error;
 #[doc(hidden)]
 pub mod erased;
 #[cfg(feature = "alloc")]
+mod kept_calls;
+#[cfg(feature = "alloc")]
 mod lexed_document;
 #[cfg(feature = "alloc")]
 mod lexed_text;

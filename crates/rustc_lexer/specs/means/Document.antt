@@ -5,9 +5,9 @@ use Rattle.rustc_lexer.specs.declared.relex.head.Head.{Head}
 use Rattle.rustc_lexer.specs.declared.relex.relexing.{Change.Change, Relexed.Relexed, Relexing.Relexing}
 use Rattle.rustc_lexer.specs.{Token}
 use Rattle.rustc_lexer.specs.Classes.{IsText}
-use Rattle.rustc_lexer.specs.Document.{shebang_len}
+use Rattle.rustc_lexer.specs.Document.{IsCountedDocument, IsRelexedDocument, IsSteppedDocument, shebang_len}
 pub use Rattle.rustc_lexer.specs.Head.{body_change, counted, front_tokens, tokens_of_head}
-use Rattle.rustc_lexer.specs.Edits.{apply, IsRelexed}
+use Rattle.rustc_lexer.specs.Edits.{apply, IsRelexed, IsStepped}
 use Rattle.rustc_lexer.specs.Partition.{tokens_by}
 use Rattle.rustc_lexer.specs.means.Checkpoints.{AreBounds}
 use Rattle.rustc_lexer.specs.means.Frontmatter.{frontmatter, opens, spaces_len}
@@ -92,3 +92,20 @@ pub record IsRenewedBehind (first : List ℕ → Token) (body : List ℕ) (chang
   pub behind : List Token
   pub renewed : IsRenewed first body change made (drop count tokens) behind at
   pub now_is : now ≡ head_put (take count tokens) head ++ behind
+
+-- ---- a whole document or a part of one, in the words of each
+
+-- the counts of an edit
+abbrev pub IsRelexedIn : Bool → (List ℕ → Token) → List ℕ → ℕ → ℕ → List ℕ → Relexed → Type 0
+IsRelexedIn true = IsRelexedDocument
+IsRelexedIn false = IsRelexed
+
+-- how the step count grew by an edit that lexed so many tokens
+abbrev pub IsCountedIn : Bool → List ℕ → ℕ → ℕ → List ℕ → ℕ → ℕ → ℕ → Type 0
+IsCountedIn true = IsCountedDocument
+IsCountedIn false = λ text start stop insert before after lexed. after ≡ before + lexed
+
+-- how it grew by an edit
+abbrev pub IsSteppedIn : Bool → (List ℕ → Token) → List ℕ → ℕ → ℕ → List ℕ → ℕ → ℕ → Type 0
+IsSteppedIn true = IsSteppedDocument
+IsSteppedIn false = IsStepped

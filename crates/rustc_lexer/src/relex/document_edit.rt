@@ -99,11 +99,10 @@ pub(crate) fn put_tokens(
     match head {
         None => replace(tokens, from, to, lexed),
         Some(head) => {
-            let mut front = Vec::new(alloc);
-            head.push_to(&mut front)?;
-            front.extend_from_slice(&tokens.as_slice()[old_count..from])?;
-            let mut all = lexed;
-            replace(&mut all, 0, 0, front)?;
+            let mut all = Vec::new(alloc);
+            head.push_to(&mut all)?;
+            all.extend_from_slice(&tokens.as_slice()[old_count..from])?;
+            all.extend_from_slice(lexed.as_slice())?;
             replace(tokens, 0, to, all)
         }
     }

@@ -1,11 +1,13 @@
 //! Several edits, one after another.
 ghost use Rattle.std.specs.Prelude.{◌≡◌, IfErr, OnOk, Some, take};
-ghost use Rattle.rustc_lexer.specs.Tokens.{tokens_by};
-ghost use Rattle.rustc_lexer.specs.Edits.{apply_list, AreEdits, AreStepped, stop_at, stop_text, IsStepped, IsStop, IsStopStepped};
+ghost use Rattle.std.specs.String.{string_bytes};
+ghost use Rattle.rustc_lexer.specs.Edits.{apply_list, AreEdits, AreStepped, stop_at, stop_text, IsStop, IsStopStepped};
+ghost use Rattle.rustc_lexer.specs.means.Document as means;
 
 use crate::entry::stepper::Stepper;
-use crate::relex::edit::{Edit, contains_range};
-use crate::relex::lexed_text::LexedText;
+use crate::relex::edit::{Edit, accepts, contains_range};
+use crate::relex::head::Extent;
+use crate::relex::kept::Kept;
 use std::error::Error;
 use std::fmt;
 
@@ -45,37 +47,42 @@ impl fmt::Display for EditStop {
 
 impl Error for EditStop {}
 
-impl<S: Stepper> LexedText<S> {
+impl<S: Stepper, E: Extent> Kept<S, E> {
     /// Makes the edits in order, each on the text that the edits before it leave, up to the first one that is refused.
     /// `Err` says which one that is and why. The edits before it stay made.
-    pub fn edit_all(&mut self, edits: &[Edit<'_>]) -> Result<(), EditStop>
-        ensures accepted { OnOk result (AreEdits self.old.text edits.now) }
-        ensures text { OnOk result (self.new.text ≡ apply_list self.old.text edits.now) }
-        ensures from_scratch { self.new.tokens
-            ≡ tokens_by (S.grammar self.old.stepper) self.new.text }
+    pub(crate) fn edit_all(&mut self, edits: &[Edit<'_>]) -> Result<(), EditStop>
+        requires kept { means.AreKeptOf E.whole (S.grammar self.old.stepper) (string_bytes self.old.text)
+            self.old.tokens.items self.old.head self.old.checkpoints }
+        ensures kept { means.AreKeptOf E.whole (S.grammar self.new.stepper) (string_bytes self.new.text)
+            self.new.tokens.items self.new.head self.new.checkpoints }
+        ensures accepted { OnOk result (AreEdits (string_bytes self.old.text) edits.now) }
+        ensures text { OnOk result
+            (string_bytes self.new.text ≡ apply_list (string_bytes self.old.text) edits.now) }
 
         // The stepper keeps its grammar, and counts the steps of all edits.
         ensures grammar { S.grammar self.new.stepper ≡ S.grammar self.old.stepper }
         ensures number { S.number self.new.stepper ≡ S.number self.old.stepper }
         ensures count { OnOk result
-            (AreStepped (IsStepped (S.grammar self.old.stepper)) self.old.text edits.now
+            (AreStepped (means.IsSteppedIn E.whole (S.grammar self.old.stepper))
+            (string_bytes self.old.text) edits.now
             (S.count self.old.stepper) (S.count self.new.stepper)) }
 
         // If an edit is refused, the edits before it were made.
-        ensures stop { IfErr result (λ e. IsStop e self.new.text edits.now) }
+        ensures stop { IfErr result (λ e. IsStop e (string_bytes self.new.text) edits.now) }
         ensures stop_accepted { IfErr result
-            (λ e. AreEdits self.old.text (take (stop_at e) edits.now)) }
+            (λ e. AreEdits (string_bytes self.old.text) (take (stop_at e) edits.now)) }
         ensures stop_text { IfErr result
-            (λ e. self.new.text ≡ apply_list self.old.text (take (stop_at e) edits.now)) }
+            (λ e. string_bytes self.new.text
+            ≡ apply_list (string_bytes self.old.text) (take (stop_at e) edits.now)) }
         ensures stop_count { IfErr result
-            (λ e. IsStopStepped e (IsStepped (S.grammar self.old.stepper)) self.old.text edits.now
+            (λ e. IsStopStepped e (means.IsSteppedIn E.whole (S.grammar self.old.stepper))
+            (string_bytes self.old.text) edits.now
             (S.count self.old.stepper) (S.count self.new.stepper)) }
     {
-        // So the tokens are those of the text, even if there is no edit.
-        let _ = self.tokens();
         for (at, edit) in edits.iter().enumerate() {
-            if !self.accepts(edit.start, edit.stop, edit.insert) {
-                return Err(if contains_range(self.text(), edit.start, edit.stop) {
+            let text = self.text.as_str();
+            if !accepts(text, edit.start, edit.stop, edit.insert) {
+                return Err(if contains_range(text, edit.start, edit.stop) {
                     EditStop::TooLong { at }
                 } else {
                     EditStop::Range { at }

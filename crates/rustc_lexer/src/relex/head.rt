@@ -1,5 +1,5 @@
 //! The head of a document: the part before its body.
-ghost use Rattle.std.specs.Prelude.{◌≡◌, ◌++◌, OnOk, length};
+ghost use Rattle.std.specs.Prelude.{◌≡◌, ◌++◌, Bool, OnOk, false, length, true};
 ghost use Rattle.std.specs.Str.{IsCharBoundary};
 ghost use Rattle.rustc_lexer.specs.Classes.{Fits};
 ghost use Rattle.rustc_lexer.specs.Head as spec;
@@ -27,21 +27,45 @@ pub struct Head {
     pub body: usize,
 }
 
-/// The head of a part of a document, which has none.
-pub(crate) const NO_HEAD: Head = Head {
-    shebang_len: 0,
-    space_len: 0,
-    frontmatter: None,
-    body: 0,
-};
+/// How much of a file a text is: a whole document, which may have a head, or a part of one, which has none.
+pub(crate) trait Extent: Copy {
+    /// Whether it is a whole document.
+    ghost whole: { Bool };
 
-/// Finds the head of a whole document, or of a part of one, which has none.
-pub(crate) fn find_head(whole: bool, text: &str) -> Head
-    requires fits { Fits text.now }
-    ensures head { result ≡ means.head_by whole text.now }
-    ensures boundary { IsCharBoundary text.now result.body }
-{
-    if whole { Head::of(text) } else { NO_HEAD }
+    /// Finds the head of a text.
+    fn find_head(self, text: &str) -> Head
+        requires fits { Fits text.now }
+        ensures head { result ≡ means.head_by whole text.now }
+        ensures boundary { IsCharBoundary text.now result.body };
+}
+
+/// A whole document.
+#[derive(Clone, Copy)]
+pub(crate) struct Whole;
+
+impl Extent for Whole {
+    ghost whole = { true };
+
+    fn find_head(self, text: &str) -> Head {
+        Head::of(text)
+    }
+}
+
+/// A part of a document.
+#[derive(Clone, Copy)]
+pub(crate) struct Part;
+
+impl Extent for Part {
+    ghost whole = { false };
+
+    fn find_head(self, _text: &str) -> Head {
+        Head {
+            shebang_len: 0,
+            space_len: 0,
+            frontmatter: None,
+            body: 0,
+        }
+    }
 }
 
 impl Head {
@@ -52,7 +76,7 @@ impl Head {
         ensures head { spec.IsHeadOf text.now result }
         ensures boundary { IsCharBoundary text.now result.body }
     {
-        Head::of(text)
+        Whole.find_head(text)
     }
 
     /// Finds the head of a document.

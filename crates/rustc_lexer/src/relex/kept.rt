@@ -1,33 +1,32 @@
-//! The tokens of a text, kept while it is edited: what a whole document and a part of one have in common.
-ghost use Rattle.std.specs.Prelude.{◌≡◌, ◌+◌, ◌-◌, ◌^◌, ◌<◌, ◌≤◌, Bool, IfOk, IfErr, OnOk, OnErr, List, ℕ, drop, length, map, take};
-ghost use Rattle.std.specs.Str.{IsCharBoundary, IsUtf8};
-ghost use Rattle.std.specs.String.{string_bytes};
+//! A text with its tokens, kept while it is edited: what a whole document and a part of one have in common.
+ghost use Rattle.std.specs.Prelude.{◌≡◌, ◌+◌, ◌-◌, ◌^◌, ◌<◌, ◌≤◌, ◌++◌, IfOk, OnOk, OnErr, ℕ, drop, length, take};
+ghost use Rattle.std.specs.Str.{IsCharBoundary};
+ghost use Rattle.std.specs.String.{string_bytes, string_capacity, string_len};
 ghost use Rattle.rustc_lexer.specs.declared.relex.relexing.Relexed.{Relexed};
-ghost use Rattle.rustc_lexer.specs.{Token};
 ghost use Rattle.rustc_lexer.specs.Classes.{Fits};
 ghost use Rattle.rustc_lexer.specs.means.Document as means;
 ghost use Rattle.rustc_lexer.specs.Tokens.{bound, tokens_by};
-ghost use Rattle.rustc_lexer.specs.Edits.{IsEdit, apply, IsBound};
-ghost use Rattle.rustc_lexer.specs.Relexing.{IsChange, IsMadeOf, MayGoOn};
+ghost use Rattle.rustc_lexer.specs.Edits.{IsEdit, apply};
 ghost use Rattle.rustc_lexer.specs.means.Checkpoints.{AreBounds};
-ghost use Rattle.rustc_lexer.specs.means.Relexing.{relexed_of};
 
 use crate::entry::stepper::Stepper;
 use crate::relex::checkpoints::Checkpoints;
 use crate::relex::document_edit::{body_change, counted, keeps_head, new_head, put_tokens};
-use crate::relex::edit::{Edit, past_edit, put_in_place, relex};
+use crate::relex::edit::{past_edit, put_in_place, relex};
 use crate::relex::front::Bound;
-use crate::relex::head::{Head, find_head};
+use crate::relex::head::{Extent, Head};
 use crate::relex::lex::lex_all;
-use crate::relex::relexing::{Change, Relexed, Relexing};
-use crate::relex::replace::replace;
+use crate::relex::relexing::{Change, Relexed};
 use crate::token::Token;
 use std::alloc::{AllocError, Global};
 
-/// The tokens of a text, and what an edit needs of them.
+/// A text with its tokens, and what an edit needs of them.
 #[derive(Drop)]
-pub(crate) struct Kept<S: Stepper> {
+pub(crate) struct Kept<S: Stepper, E: Extent> {
     pub alloc: Global,
+    /// Whether the text is a whole document or a part of one.
+    pub extent: E,
+    pub text: String,
     pub tokens: Vec<Token>,
     pub stepper: S,
     /// The head of a whole document. A part of one has none.
@@ -36,24 +35,19 @@ pub(crate) struct Kept<S: Stepper> {
     pub checkpoints: Checkpoints,
 }
 
-impl<S: Stepper> Kept<S> {
-    /// Lexes a text: its head by itself, and what follows with the stepper. `whole` says whether the text is a whole
-    /// document, which may have a head.
+impl<S: Stepper, E: Extent> Kept<S, E> {
+    /// Copies the text and lexes it: its head by itself, and what follows with the stepper.
     pub(crate) fn with(
         alloc: Global,
         text: &str,
-        whole: bool,
+        extent: E,
         stepper: S,
-    ) -> Result<Kept<S>, AllocError>
+    ) -> Result<Kept<S, E>, AllocError>
         requires fits { Fits text.now }
-
-        // The head, and all tokens of the text.
-        ensures head { IfOk result (λ k. k.head ≡ means.head_by whole text.now) }
-        ensures head_boundary { IfOk result (λ k. IsCharBoundary text.now k.head.body) }
-        ensures from_scratch { IfOk result
-            (λ k. k.tokens.items ≡ means.document_by (means.head_by whole) (S.grammar k.stepper) text.now) }
-        ensures checkpoints { IfOk result
-            (λ k. AreBounds (drop (length (means.tokens_of_head k.head)) k.tokens.items) k.checkpoints) }
+        ensures kept { IfOk result
+            (λ k. means.AreKeptOf E.whole (S.grammar k.stepper) (string_bytes k.text)
+            k.tokens.items k.head k.checkpoints) }
+        ensures text { IfOk result (λ k. string_bytes k.text ≡ text.now) }
 
         // The stepper lexed each token but those of the head, and keeps its grammar.
         ensures count { IfOk result
@@ -63,13 +57,13 @@ impl<S: Stepper> Kept<S> {
         ensures number { IfOk result (λ k. S.number k.stepper ≡ S.number stepper) }
     {
         let mut stepper = stepper;
-        let head = find_head(whole, text);
-        let (mut tokens, checkpoints) = lex_all(alloc, &mut stepper, &text[head.body..])?;
-        let mut front = Vec::new(alloc);
-        head.push_to(&mut front)?;
-        replace(&mut tokens, 0, 0, front)?;
+        let held = String::from_str(alloc, text)?;
+        let head = extent.find_head(text);
+        let (tokens, checkpoints) = lex_behind(alloc, head, &mut stepper, text)?;
         Ok(Kept {
             alloc,
+            extent,
+            text: held,
             tokens,
             stepper,
             head,
@@ -77,68 +71,41 @@ impl<S: Stepper> Kept<S> {
         })
     }
 
-    /// Replaces the old tokens with those of the changed text, and returns where lexing met the old tokens of the
-    /// body. `old_count` is how many tokens the old head has. `head` is the new head, unless the old one stays.
-    fn renew(
-        &mut self,
-        old_count: usize,
-        head: Option<Head>,
-        near: Bound,
-        body: &str,
-        change: Change,
-    ) -> Result<Relexing, AllocError>
-        requires fits { Fits body.now }
-        requires change { IsChange body.now change }
-        requires count { old_count ≤ length self.old.tokens.items }
-
-        // What stays as it was; if it fails, the tokens too.
-        ensures grammar { S.grammar self.new.stepper ≡ S.grammar self.old.stepper }
-        ensures number { S.number self.new.stepper ≡ S.number self.old.stepper }
+    /// Lexes the text again, with another stepper. If an allocation fails, nothing changes.
+    pub(crate) fn lex_again(&mut self, stepper: S) -> Result<(), AllocError>
+        requires kept { means.AreKeptOf E.whole (S.grammar self.old.stepper) (string_bytes self.old.text)
+            self.old.tokens.items self.old.head self.old.checkpoints }
+        ensures kept { means.AreKeptOf E.whole (S.grammar self.new.stepper) (string_bytes self.new.text)
+            self.new.tokens.items self.new.head self.new.checkpoints }
+        ensures text { string_bytes self.new.text ≡ string_bytes self.old.text }
         ensures head { self.new.head ≡ self.old.head }
-        ensures checkpoints { self.new.checkpoints ≡ self.old.checkpoints }
-        ensures same { OnErr result (self.new.tokens.items ≡ self.old.tokens.items) }
-
-        // What the tokens are afterwards, and where lexing met the old ones.
-        ensures renewed { IfOk result
-            (λ at. (before insert : List ℕ)
-            → IsMadeOf (S.grammar self.old.stepper) before
-            (map (λ (t : Token). t.len) (drop old_count self.old.tokens.items)) change insert body.now
-            → IsBound (tokens_by (S.grammar self.old.stepper) before) near
-            → means.IsRenewedBehind (S.grammar self.old.stepper) before change body.now
-            old_count self.old.tokens.items head self.new.tokens.items at
-            × (S.count self.new.stepper ≡ S.count self.old.stepper + at.lexed)) }
-        ensures may_go_on { IfOk result
-            (λ at. MayGoOn body.now (length (drop old_count self.old.tokens.items)) at) }
-
-        // How many steps were taken if it fails.
-        ensures rose { S.count self.old.stepper ≤ S.count self.new.stepper }
-        ensures few { IfErr result
-            (λ _. (before insert : List ℕ)
-            → IsMadeOf (S.grammar self.old.stepper) before
-            (map (λ (t : Token). t.len) (drop old_count self.old.tokens.items)) change insert body.now
-            → IsBound (tokens_by (S.grammar self.old.stepper) before) near
-            → S.count self.new.stepper
-            ≤ S.count self.old.stepper
-            + (relexed_of (S.grammar self.old.stepper) before change.start change.old_stop insert).lexed) }
+        ensures count { OnOk result
+            (S.count self.new.stepper + length (means.tokens_of_head self.new.head)
+            ≡ S.count stepper + length self.new.tokens.items) }
+        ensures grammar { OnOk result (S.grammar self.new.stepper ≡ S.grammar stepper) }
+        ensures number { OnOk result (S.number self.new.stepper ≡ S.number stepper) }
+        ensures same { OnErr result (self.new ≡ self.old) }
     {
-        let old = &self.tokens.as_slice()[old_count..];
-        let (lexed, at) = relex(self.alloc, &mut self.stepper, old, near, body, change)?;
-        put_tokens(self.alloc, &mut self.tokens, old_count, head, at, lexed)?;
-        Ok(at)
+        let mut stepper = stepper;
+        let text = self.text.as_str();
+        let (tokens, checkpoints) = lex_behind(self.alloc, self.head, &mut stepper, text)?;
+        self.tokens = tokens;
+        self.stepper = stepper;
+        self.checkpoints = checkpoints;
+        Ok(())
     }
 
-    /// Makes the edit in the text and in what is kept of it. If an allocation fails, all of it stays as it is. `whole`
-    /// says whether the text is a whole document, which may have a head.
+    /// Replaces the bytes from `start` up to `stop` with `insert`, which is to be an edit that can be made. If an
+    /// allocation fails, text and tokens stay as they are.
     pub(crate) fn edit(
         &mut self,
-        whole: bool,
-        text: &mut String,
-        edit: Edit<'_>,
+        start: usize,
+        stop: usize,
+        insert: &str,
     ) -> Result<Relexed, AllocError>
-        requires kept { means.AreKeptOf whole (S.grammar self.old.stepper) (string_bytes text.old)
+        requires kept { means.AreKeptOf E.whole (S.grammar self.old.stepper) (string_bytes self.old.text)
             self.old.tokens.items self.old.head self.old.checkpoints }
-        requires insert { IsUtf8 edit.insert.now }
-        requires edit { IsEdit (string_bytes text.old) edit.start edit.stop edit.insert.now }
+        requires edit { IsEdit (string_bytes self.old.text) start stop insert.now }
 
         // The stepper keeps its grammar.
         ensures grammar { S.grammar self.new.stepper ≡ S.grammar self.old.stepper }
@@ -146,17 +113,16 @@ impl<S: Stepper> Kept<S> {
 
         // What the text is afterwards, and what is kept of it. If it fails, text and tokens are as before.
         ensures text { OnOk result
-            (string_bytes text.new
-            ≡ apply (string_bytes text.old) edit.entry.start edit.entry.stop edit.entry.insert.now) }
-        ensures same_text { OnErr result (string_bytes text.new ≡ string_bytes text.old) }
-        ensures kept { means.AreKeptOf whole (S.grammar self.new.stepper) (string_bytes text.new)
+            (string_bytes self.new.text ≡ apply (string_bytes self.old.text) start stop insert.now) }
+        ensures same_text { OnErr result (string_bytes self.new.text ≡ string_bytes self.old.text) }
+        ensures kept { means.AreKeptOf E.whole (S.grammar self.new.stepper) (string_bytes self.new.text)
             self.new.tokens.items self.new.head self.new.checkpoints }
         ensures same_tokens { OnErr result (self.new.tokens.items ≡ self.old.tokens.items) }
 
         // Which tokens stay, and how many were lexed.
         ensures relexed { IfOk result
-            (means.IsRelexedByHead (means.head_by whole) (S.grammar self.old.stepper) (string_bytes text.old)
-            edit.entry.start edit.entry.stop edit.entry.insert.now) }
+            (means.IsRelexedIn E.whole (S.grammar self.old.stepper) (string_bytes self.old.text)
+            start stop insert.now) }
         ensures all { IfOk result
             (λ r. r.kept_front + r.lexed + r.kept_back ≡ length self.new.tokens.items) }
         ensures front { IfOk result
@@ -167,30 +133,78 @@ impl<S: Stepper> Kept<S> {
 
         // How many steps were taken, also if it fails.
         ensures count { IfOk result
-            (λ r. means.IsCountedByHead (means.head_by whole) (string_bytes text.old)
-            edit.entry.start edit.entry.stop edit.entry.insert.now
+            (λ r. means.IsCountedIn E.whole (string_bytes self.old.text) start stop insert.now
             (S.count self.old.stepper) (S.count self.new.stepper) r.lexed) }
         ensures rose { S.count self.old.stepper ≤ S.count self.new.stepper }
         ensures few { OnErr result
+            ((most : ℕ)
+            × means.IsSteppedIn E.whole (S.grammar self.old.stepper) (string_bytes self.old.text)
+            start stop insert.now (S.count self.old.stepper) most
+            × (S.count self.new.stepper ≤ most)) }
+    {
+        let removed = String::from_str(self.alloc, &self.text[start..stop])?;
+        self.text.reserve(insert.len())?;
+        match self.put_in(start, stop, insert) {
+            Ok(counts) => Ok(counts),
+            Err(refused) => {
+                let new_stop = start + insert.len();
+                put_in_place(&mut self.text, start, new_stop, removed.as_str());
+                Err(refused)
+            }
+        }
+    }
+
+    /// Makes the edit in the text, which has room for it, and in what is kept of it. If an allocation fails, all but
+    /// the text stays as it is.
+    fn put_in(&mut self, start: usize, stop: usize, insert: &str) -> Result<Relexed, AllocError>
+        requires kept { means.AreKeptOf E.whole (S.grammar self.old.stepper) (string_bytes self.old.text)
+            self.old.tokens.items self.old.head self.old.checkpoints }
+        requires edit { IsEdit (string_bytes self.old.text) start stop insert.now }
+        requires room { string_len self.old.text + length insert.now ≤ string_capacity self.old.text }
+
+        // What stays as it was; if it fails, all but the text.
+        ensures grammar { S.grammar self.new.stepper ≡ S.grammar self.old.stepper }
+        ensures number { S.number self.new.stepper ≡ S.number self.old.stepper }
+        ensures same_tokens { OnErr result (self.new.tokens.items ≡ self.old.tokens.items) }
+        ensures same_head { OnErr result (self.new.head ≡ self.old.head) }
+        ensures same_checkpoints { OnErr result (self.new.checkpoints ≡ self.old.checkpoints) }
+
+        // What the text is afterwards, and what is kept of it.
+        ensures text { string_bytes self.new.text ≡ apply (string_bytes self.old.text) start stop insert.now }
+        ensures len { string_len self.new.text + (stop - start) ≡ string_len self.old.text + length insert.now }
+        ensures capacity { string_capacity self.old.text ≤ string_capacity self.new.text }
+        ensures kept { OnOk result
+            (means.AreKeptOf E.whole (S.grammar self.new.stepper) (string_bytes self.new.text)
+            self.new.tokens.items self.new.head self.new.checkpoints) }
+
+        // Which tokens stay, and how many were lexed.
+        ensures relexed { IfOk result
+            (means.IsRelexedByHead (means.head_by E.whole) (S.grammar self.old.stepper)
+            (string_bytes self.old.text) start stop insert.now) }
+        ensures all { IfOk result
+            (λ r. r.kept_front + r.lexed + r.kept_back ≡ length self.new.tokens.items) }
+        ensures front { IfOk result
+            (λ r. take r.kept_front self.new.tokens.items ≡ take r.kept_front self.old.tokens.items) }
+        ensures back { IfOk result
+            (λ r. drop (r.kept_front + r.lexed) self.new.tokens.items
+            ≡ drop (length self.old.tokens.items - r.kept_back) self.old.tokens.items) }
+
+        // How many steps were taken, also if it fails.
+        ensures count { IfOk result
+            (λ r. means.IsCountedByHead (means.head_by E.whole) (string_bytes self.old.text)
+            start stop insert.now (S.count self.old.stepper) (S.count self.new.stepper) r.lexed) }
+        ensures rose { S.count self.old.stepper ≤ S.count self.new.stepper }
+        ensures few { OnErr result
             ((r : Relexed) (most : ℕ)
-            → means.IsRelexedByHead (means.head_by whole) (S.grammar self.old.stepper) (string_bytes text.old)
-            edit.entry.start edit.entry.stop edit.entry.insert.now r
-            → means.IsCountedByHead (means.head_by whole) (string_bytes text.old)
-            edit.entry.start edit.entry.stop edit.entry.insert.now
-            (S.count self.old.stepper) most r.lexed
+            → means.IsRelexedByHead (means.head_by E.whole) (S.grammar self.old.stepper)
+            (string_bytes self.old.text) start stop insert.now r
+            → means.IsCountedByHead (means.head_by E.whole) (string_bytes self.old.text)
+            start stop insert.now (S.count self.old.stepper) most r.lexed
             → S.count self.new.stepper ≤ most) }
     {
-        let Edit {
-            start,
-            stop,
-            insert,
-        } = edit;
-        let removed = String::from_str(self.alloc, &text[start..stop])?;
-        text.reserve(insert.len())?;
-        put_in_place(text, start, stop, insert);
-        let new_stop = start + insert.len();
-        let made = text.as_str();
-        let now = find_head(whole, made);
+        put_in_place(&mut self.text, start, stop, insert);
+        let made = self.text.as_str();
+        let now = self.extent.find_head(made);
         let kept = keeps_head(self.head, now, start);
         let change = body_change(
             kept,
@@ -199,33 +213,27 @@ impl<S: Stepper> Kept<S> {
             Change {
                 start,
                 old_stop: stop,
-                new_stop,
+                new_stop: start + insert.len(),
             },
         );
-        let count = self.tokens.as_slice().len();
         let old_count = self.head.count();
         let near = self.checkpoints.nearest(change.start);
         let body = &made[now.body..];
+        let old = &self.tokens.as_slice()[old_count..];
+        let left = old.len();
+        let (lexed, at) = relex(self.alloc, &mut self.stepper, old, near, body, change)?;
         let new_head = new_head(kept, now);
-        match self.renew(old_count, new_head, near, body, change) {
-            Ok(at) => {
-                self.checkpoints = past_edit(&self.checkpoints, at, body.len());
-                self.head = now;
-                Ok(counted(kept, old_count, now.count(), at.counts(count - old_count)))
-            }
-            Err(refused) => {
-                put_in_place(text, start, new_stop, removed.as_str());
-                Err(refused)
-            }
-        }
+        put_tokens(self.alloc, &mut self.tokens, old_count, new_head, at, lexed)?;
+        self.checkpoints = past_edit(&self.checkpoints, at, body.len());
+        self.head = now;
+        Ok(counted(kept, old_count, now.count(), at.counts(left)))
     }
 
     /// Returns the last boundary known without a search that has at most `number` tokens before it: a remembered one,
     /// or the start or the end of the head. Its offset is in bytes from the start of the text.
     fn bound_before(&self, number: usize) -> Bound
-        requires kept { (whole : Bool) × (text : List ℕ)
-            × means.AreKeptOf whole (S.grammar self.now.stepper) text self.now.tokens.items self.now.head
-            self.now.checkpoints }
+        requires kept { means.AreKeptOf E.whole (S.grammar self.now.stepper) (string_bytes self.now.text)
+            self.now.tokens.items self.now.head self.now.checkpoints }
         requires inside { number ≤ length self.now.tokens.items }
         ensures number { result.number ≤ number }
         ensures place { result.place ≡ self.now.head.shebang_len + bound self.now.tokens.items result.number }
@@ -246,9 +254,8 @@ impl<S: Stepper> Kept<S> {
 
     /// Returns the offset of token boundary `number`, in bytes from the start of the text.
     pub(crate) fn place_of(&self, number: usize) -> u32
-        requires kept { (whole : Bool) × (text : List ℕ)
-            × means.AreKeptOf whole (S.grammar self.now.stepper) text self.now.tokens.items self.now.head
-            self.now.checkpoints }
+        requires kept { means.AreKeptOf E.whole (S.grammar self.now.stepper) (string_bytes self.now.text)
+            self.now.tokens.items self.now.head self.now.checkpoints }
         requires inside { number ≤ length self.now.tokens.items }
         ensures { result ≡ self.now.head.shebang_len + bound self.now.tokens.items number }
     {
@@ -256,6 +263,32 @@ impl<S: Stepper> Kept<S> {
         let start = near.place as u32;
         end_from(start, &self.tokens.as_slice()[near.number..number])
     }
+}
+
+/// Lexes the tokens of a text: those of its head, which is known, and those of its body with the stepper.
+fn lex_behind<S: Stepper>(
+    alloc: Global,
+    head: Head,
+    stepper: &mut S,
+    text: &str,
+) -> Result<(Vec<Token>, Checkpoints), AllocError>
+    requires fits { Fits text.now }
+    requires body { IsCharBoundary text.now head.body }
+    ensures tokens { IfOk result
+        (λ r. r.0.items ≡ means.tokens_of_head head
+        ++ tokens_by (S.grammar stepper.old) (drop head.body text.now)) }
+    ensures checkpoints { IfOk result
+        (λ r. AreBounds (drop (length (means.tokens_of_head head)) r.0.items) r.1) }
+    ensures count { IfOk result
+        (λ r. S.count stepper.new + length (means.tokens_of_head head)
+        ≡ S.count stepper.old + length r.0.items) }
+    ensures grammar { S.grammar stepper.new ≡ S.grammar stepper.old }
+    ensures number { S.number stepper.new ≡ S.number stepper.old }
+{
+    let mut tokens = Vec::new(alloc);
+    head.push_to(&mut tokens)?;
+    let checkpoints = lex_all(stepper, &text[head.body..], &mut tokens)?;
+    Ok((tokens, checkpoints))
 }
 
 /// Returns where the last of the tokens ends. The first one begins at `start`.

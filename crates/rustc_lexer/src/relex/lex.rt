@@ -1,5 +1,5 @@
 //! Lexes all tokens of a text, with a stepper.
-ghost use Rattle.std.specs.Prelude.{◌≡◌, ◌+◌, IfOk, length};
+ghost use Rattle.std.specs.Prelude.{◌≡◌, ◌+◌, ◌++◌, IfOk, OnOk, length};
 ghost use Rattle.rustc_lexer.specs.Classes.{Fits};
 ghost use Rattle.rustc_lexer.specs.Tokens.{tokens_by};
 ghost use Rattle.rustc_lexer.specs.means.Checkpoints.{AreBounds};
@@ -8,7 +8,7 @@ use crate::entry::stepper::Stepper;
 use crate::relex::checkpoints::Checkpoints;
 use crate::relex::front::Bound;
 use crate::token::{Token, TokenKind};
-use std::alloc::{AllocError, Global};
+use std::alloc::AllocError;
 
 /// How many tokens are lexed at once, and how many there are between two checkpoints.
 const BLOCK: usize = 128;
@@ -23,30 +23,32 @@ pub(crate) fn new_buffer() -> [Token; BLOCK]
     }; BLOCK]
 }
 
-/// Lexes all tokens of a text. Returns them, and checkpoints among them.
+/// Lexes all tokens of a text, and appends them to a list. Returns checkpoints among them.
 pub(crate) fn lex_all<S: Stepper>(
-    alloc: Global,
     stepper: &mut S,
     text: &str,
-) -> Result<(Vec<Token>, Checkpoints), AllocError>
+    tokens: &mut Vec<Token>,
+) -> Result<Checkpoints, AllocError>
     requires fits { Fits text.now }
-    ensures tokens { IfOk result (λ r. r.0.items ≡ tokens_by (S.grammar stepper.old) text.now) }
-    ensures checkpoints { IfOk result (λ r. AreBounds r.0.items r.1) }
-    ensures count { IfOk result
-        (λ r. S.count stepper.new ≡ S.count stepper.old + length r.0.items) }
+    ensures tokens { OnOk result
+        (tokens.new.items ≡ tokens.old.items ++ tokens_by (S.grammar stepper.old) text.now) }
+    ensures checkpoints { IfOk result (AreBounds (tokens_by (S.grammar stepper.old) text.now)) }
+    ensures count { OnOk result
+        (S.count stepper.new
+        ≡ S.count stepper.old + length (tokens_by (S.grammar stepper.old) text.now)) }
     ensures grammar { S.grammar stepper.new ≡ S.grammar stepper.old }
     ensures number { S.number stepper.new ≡ S.number stepper.old }
 {
-    let mut tokens = Vec::new(alloc);
+    let old_count = tokens.len();
     let mut checkpoints = Checkpoints::new();
     let mut buffer = new_buffer();
     let mut place = 0;
     'left: while place < text.len() {
-        let number = tokens.len();
+        let number = tokens.len() - old_count;
         checkpoints.remember(Bound { number, place }, text.len());
         let (count, bytes) = stepper.fill(&text[place..], text.len() - place, &mut buffer);
         tokens.extend_from_slice(&buffer[..count])?;
         place += bytes;
     }
-    Ok((tokens, checkpoints))
+    Ok(checkpoints)
 }

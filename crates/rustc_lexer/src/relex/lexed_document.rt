@@ -1,20 +1,21 @@
 //! A whole document that is kept with its tokens.
-ghost use Rattle.std.specs.Prelude.{◌≡◌, ◌+◌, ◌-◌, ◌<◌, ◌≤◌, ◌↔◌, IfOk, OnOk, OnErr, IsTrue, ℕ, drop, length, take};
+ghost use Rattle.std.specs.Prelude.{◌≡◌, ◌+◌, ◌-◌, ◌<◌, ◌≤◌, ◌↔◌, IfOk, IfErr, OnOk, OnErr, IsTrue, ℕ, drop, length, take};
 ghost use Rattle.rustc_lexer.specs.Classes.{Fits};
 ghost use Rattle.rustc_lexer.specs.Document as spec;
 ghost use Rattle.rustc_lexer.specs.means.Document as means;
-ghost use Rattle.rustc_lexer.specs.Edits.{IsEdit, apply};
+ghost use Rattle.rustc_lexer.specs.Edits.{AreEdits, AreStepped, IsEdit, IsStop, IsStopStepped, apply, apply_list, stop_at};
 ghost use Rattle.rustc_lexer.specs.Tokens.{bound};
 
 use crate::entry::stepper::Stepper;
 use crate::relex::edit::{Edit, accepts};
+use crate::relex::edit_list::EditStop;
+use crate::relex::head::Whole;
 use crate::relex::kept::Kept;
 use crate::relex::relexing::Relexed;
 use crate::token::Token;
 use std::alloc::{AllocError, Global};
 use std::marker::Model;
 
-mod edits;
 mod in_edition;
 
 /// A whole document that is kept with its tokens while it is edited: shebang line, frontmatter and all.
@@ -36,8 +37,7 @@ mod in_edition;
 /// ```
 #[derive(Drop)]
 pub struct LexedDocument<S: Stepper> {
-    text: String,
-    kept: Kept<S>,
+    kept: Kept<S, Whole>,
 }
 
 impl<S: Stepper> Model for LexedDocument<S> {
@@ -49,12 +49,12 @@ impl<S: Stepper> Model for LexedDocument<S> {
     ghost Value = { Held S };
 
     ghost view = { λ a. record {
-      text = string_bytes a.text;
+      text = string_bytes a.kept.text;
       tokens = a.kept.tokens.items;
       stepper = a.kept.stepper;
     } };
 
-    ghost invariant = { λ a. AreKeptOf true (S.grammar a.kept.stepper) (string_bytes a.text)
+    ghost invariant = { λ a. AreKeptOf true (S.grammar a.kept.stepper) (string_bytes a.kept.text)
         a.kept.tokens.items a.kept.head a.kept.checkpoints };
 }
 
@@ -72,9 +72,8 @@ impl<S: Stepper> LexedDocument<S> {
             (λ l. S.count l.stepper + length (spec.head_tokens text.now)
             ≡ S.count stepper + length l.tokens) }
     {
-        let held = String::from_str(alloc, text)?;
-        let kept = Kept::with(alloc, text, true, stepper)?;
-        Ok(LexedDocument { text: held, kept })
+        let kept = Kept::with(alloc, text, Whole, stepper)?;
+        Ok(LexedDocument { kept })
     }
 
     /// Returns the whole text, with its shebang line.
@@ -82,7 +81,7 @@ impl<S: Stepper> LexedDocument<S> {
         ensures text { result.now ≡ self.now.text }
         ensures fits { Fits result.now }
     {
-        self.text.as_str()
+        self.kept.text.as_str()
     }
 
     /// Returns the length of the shebang line in bytes, or 0. The first token begins there.
@@ -115,7 +114,7 @@ impl<S: Stepper> LexedDocument<S> {
     pub fn shrink_to_fit(&mut self)
         ensures { self.new ≡ self.old }
     {
-        self.text.shrink_to_fit();
+        self.kept.text.shrink_to_fit();
         self.kept.tokens.shrink_to_fit();
     }
 
@@ -132,7 +131,7 @@ impl<S: Stepper> LexedDocument<S> {
     pub fn accepts(&self, start: usize, stop: usize, insert: &str) -> bool
         ensures { IsTrue result ↔ IsEdit self.now.text start stop insert.now }
     {
-        accepts(self.text.as_str(), start, stop, insert)
+        accepts(self.kept.text.as_str(), start, stop, insert)
     }
 
     /// Replaces the bytes from `start` up to `stop` with `insert`. The edit has to be
@@ -178,11 +177,34 @@ impl<S: Stepper> LexedDocument<S> {
             (S.count self.old.stepper) most
             × (S.count self.new.stepper ≤ most)) }
     {
-        let edit = Edit {
-            start,
-            stop,
-            insert,
-        };
-        self.kept.edit(true, &mut self.text, edit)
+        self.kept.edit(start, stop, insert)
+    }
+
+    /// Makes the edits in order, each on the text that the edits before it leave, up to the first one that is
+    /// refused. `Err` says which one that is and why. The edits before it stay made.
+    pub fn edit_all(&mut self, edits: &[Edit<'_>]) -> Result<(), EditStop>
+        ensures accepted { OnOk result (AreEdits self.old.text edits.now) }
+        ensures text { OnOk result (self.new.text ≡ apply_list self.old.text edits.now) }
+        ensures from_scratch { self.new.tokens
+            ≡ spec.document_tokens_by (S.grammar self.old.stepper) self.new.text }
+
+        // The stepper keeps its grammar, and counts the steps of all edits.
+        ensures grammar { S.grammar self.new.stepper ≡ S.grammar self.old.stepper }
+        ensures number { S.number self.new.stepper ≡ S.number self.old.stepper }
+        ensures count { OnOk result
+            (AreStepped (spec.IsSteppedDocument (S.grammar self.old.stepper)) self.old.text edits.now
+            (S.count self.old.stepper) (S.count self.new.stepper)) }
+
+        // If an edit is refused, the edits before it were made.
+        ensures stop { IfErr result (λ e. IsStop e self.new.text edits.now) }
+        ensures stop_accepted { IfErr result
+            (λ e. AreEdits self.old.text (take (stop_at e) edits.now)) }
+        ensures stop_text { IfErr result
+            (λ e. self.new.text ≡ apply_list self.old.text (take (stop_at e) edits.now)) }
+        ensures stop_count { IfErr result
+            (λ e. IsStopStepped e (spec.IsSteppedDocument (S.grammar self.old.stepper)) self.old.text edits.now
+            (S.count self.old.stepper) (S.count self.new.stepper)) }
+    {
+        self.kept.edit_all(edits)
     }
 }

@@ -1,15 +1,17 @@
 //! A text that is kept with its tokens.
-ghost use Rattle.std.specs.Prelude.{◌≡◌, ◌+◌, ◌-◌, ◌<◌, ◌≤◌, ◌↔◌, IfOk, OnOk, OnErr, IsTrue, ℕ, drop, length, take};
+ghost use Rattle.std.specs.Prelude.{◌≡◌, ◌+◌, ◌-◌, ◌<◌, ◌≤◌, ◌↔◌, IfOk, IfErr, OnOk, OnErr, IsTrue, ℕ, drop, length, take};
 ghost use Rattle.rustc_lexer.specs.{E2024};
 ghost use Rattle.rustc_lexer.specs.Classes.{Fits};
 ghost use Rattle.rustc_lexer.specs.Tokens.{bound, tokens_by, tokens_of};
-ghost use Rattle.rustc_lexer.specs.Edits.{IsEdit, IsRelexed, IsStepped, apply};
+ghost use Rattle.rustc_lexer.specs.Edits.{AreEdits, AreStepped, IsEdit, IsRelexed, IsStepped, IsStop, IsStopStepped, apply, apply_list, stop_at};
 ghost use Rattle.rustc_lexer.specs.LanguageText.{part};
 ghost use Rattle.rustc_lexer.specs.Answers.{first_in};
 
 use crate::edition::Edition;
 use crate::entry::stepper::{Stepper, Steps};
 use crate::relex::edit::{Edit, accepts};
+use crate::relex::edit_list::EditStop;
+use crate::relex::head::Part;
 use crate::relex::kept::Kept;
 use crate::relex::relexing::Relexed;
 use crate::token::Token;
@@ -21,8 +23,7 @@ mod in_edition;
 /// A text that is kept with its tokens, and with the stepper that lexed them.
 #[derive(Drop)]
 pub struct LexedText<S: Stepper> {
-    text: String,
-    kept: Kept<S>,
+    kept: Kept<S, Part>,
 }
 
 impl<S: Stepper> Model for LexedText<S> {
@@ -34,12 +35,12 @@ impl<S: Stepper> Model for LexedText<S> {
     ghost Value = { Held S };
 
     ghost view = { λ a. record {
-      text = string_bytes a.text;
+      text = string_bytes a.kept.text;
       tokens = a.kept.tokens.items;
       stepper = a.kept.stepper;
     } };
 
-    ghost invariant = { λ a. AreKeptOf false (S.grammar a.kept.stepper) (string_bytes a.text)
+    ghost invariant = { λ a. AreKeptOf false (S.grammar a.kept.stepper) (string_bytes a.kept.text)
         a.kept.tokens.items a.kept.head a.kept.checkpoints };
 }
 
@@ -55,9 +56,8 @@ impl<S: Stepper> LexedText<S> {
         ensures number { IfOk result (λ l. S.number l.stepper ≡ S.number stepper) }
         ensures count { IfOk result (λ l. S.count l.stepper ≡ S.count stepper + length l.tokens) }
     {
-        let held = String::from_str(alloc, text)?;
-        let kept = Kept::with(alloc, text, false, stepper)?;
-        Ok(LexedText { text: held, kept })
+        let kept = Kept::with(alloc, text, Part, stepper)?;
+        Ok(LexedText { kept })
     }
 
     /// Returns the text.
@@ -65,7 +65,7 @@ impl<S: Stepper> LexedText<S> {
         ensures text { result.now ≡ self.now.text }
         ensures fits { Fits result.now }
     {
-        self.text.as_str()
+        self.kept.text.as_str()
     }
 
     /// Returns the tokens of the text, in order.
@@ -88,7 +88,7 @@ impl<S: Stepper> LexedText<S> {
     pub fn shrink_to_fit(&mut self)
         ensures { self.new ≡ self.old }
     {
-        self.text.shrink_to_fit();
+        self.kept.text.shrink_to_fit();
         self.kept.tokens.shrink_to_fit();
     }
 
@@ -105,7 +105,7 @@ impl<S: Stepper> LexedText<S> {
     pub fn accepts(&self, start: usize, stop: usize, insert: &str) -> bool
         ensures { IsTrue result ↔ IsEdit self.now.text start stop insert.now }
     {
-        accepts(self.text.as_str(), start, stop, insert)
+        accepts(self.kept.text.as_str(), start, stop, insert)
     }
 
     /// Replaces the bytes from `start` up to `stop` with `insert`. The edit has to be
@@ -148,12 +148,35 @@ impl<S: Stepper> LexedText<S> {
             (S.count self.old.stepper) most
             × (S.count self.new.stepper ≤ most)) }
     {
-        let edit = Edit {
-            start,
-            stop,
-            insert,
-        };
-        self.kept.edit(false, &mut self.text, edit)
+        self.kept.edit(start, stop, insert)
+    }
+
+    /// Makes the edits in order, each on the text that the edits before it leave, up to the first one that is refused.
+    /// `Err` says which one that is and why. The edits before it stay made.
+    pub fn edit_all(&mut self, edits: &[Edit<'_>]) -> Result<(), EditStop>
+        ensures accepted { OnOk result (AreEdits self.old.text edits.now) }
+        ensures text { OnOk result (self.new.text ≡ apply_list self.old.text edits.now) }
+        ensures from_scratch { self.new.tokens
+            ≡ tokens_by (S.grammar self.old.stepper) self.new.text }
+
+        // The stepper keeps its grammar, and counts the steps of all edits.
+        ensures grammar { S.grammar self.new.stepper ≡ S.grammar self.old.stepper }
+        ensures number { S.number self.new.stepper ≡ S.number self.old.stepper }
+        ensures count { OnOk result
+            (AreStepped (IsStepped (S.grammar self.old.stepper)) self.old.text edits.now
+            (S.count self.old.stepper) (S.count self.new.stepper)) }
+
+        // If an edit is refused, the edits before it were made.
+        ensures stop { IfErr result (λ e. IsStop e self.new.text edits.now) }
+        ensures stop_accepted { IfErr result
+            (λ e. AreEdits self.old.text (take (stop_at e) edits.now)) }
+        ensures stop_text { IfErr result
+            (λ e. self.new.text ≡ apply_list self.old.text (take (stop_at e) edits.now)) }
+        ensures stop_count { IfErr result
+            (λ e. IsStopStepped e (IsStepped (S.grammar self.old.stepper)) self.old.text edits.now
+            (S.count self.old.stepper) (S.count self.new.stepper)) }
+    {
+        self.kept.edit_all(edits)
     }
 }
 

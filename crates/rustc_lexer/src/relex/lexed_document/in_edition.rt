@@ -10,7 +10,6 @@ ghost use Rattle.rustc_lexer.specs.Tokens.{tokens_of};
 use crate::edition::Edition;
 use crate::entry::stepper::{Stepper, Steps};
 use crate::relex::front::Bound;
-use crate::relex::kept::Kept;
 use crate::relex::lexed_document::LexedDocument;
 use std::alloc::{AllocError, Global};
 
@@ -88,9 +87,6 @@ impl LexedDocument<Steps> {
             ≡ length self.new.tokens) }
         ensures same { OnErr result (self.new ≡ self.old) }
     {
-        let stepper = Steps::new_in(edition);
-        let kept = Kept::with(self.kept.alloc, self.text.as_str(), true, stepper)?;
-        self.kept = kept;
-        Ok(())
+        self.kept.lex_again(Steps::new_in(edition))
     }
 }

@@ -7,7 +7,6 @@ ghost use Rattle.rustc_lexer.specs.Tokens.{tokens_of};
 
 use crate::edition::Edition;
 use crate::entry::stepper::{Stepper, Steps};
-use crate::relex::kept::Kept;
 use crate::relex::lexed_text::LexedText;
 use std::alloc::{AllocError, Global};
 
@@ -50,9 +49,6 @@ impl LexedText<Steps> {
             (⟦<Steps as Stepper>⟧.count self.new.stepper ≡ length self.new.tokens) }
         ensures same { OnErr result (self.new ≡ self.old) }
     {
-        let stepper = Steps::new_in(edition);
-        let kept = Kept::with(self.kept.alloc, self.text.as_str(), false, stepper)?;
-        self.kept = kept;
-        Ok(())
+        self.kept.lex_again(Steps::new_in(edition))
     }
 }

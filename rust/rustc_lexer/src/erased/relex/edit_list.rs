@@ -1,8 +1,9 @@
 //! Several edits, one after another.
 
 use crate::erased::entry::stepper::Stepper;
-use crate::erased::relex::edit::{Edit, contains_range};
-use crate::erased::relex::lexed_text::LexedText;
+use crate::erased::relex::edit::{Edit, accepts, contains_range};
+use crate::erased::relex::head::Extent;
+use crate::erased::relex::kept::Kept;
 use core::error::Error;
 use core::fmt;
 
@@ -40,15 +41,14 @@ impl fmt::Display for EditStop {
 
 impl Error for EditStop {}
 
-impl<S: Stepper> LexedText<S> {
+impl<S: Stepper, E: Extent> Kept<S, E> {
     /// Makes the edits in order, each on the text that the edits before it leave, up to the first one that is refused.
     /// `Err` says which one that is and why. The edits before it stay made.
-    pub fn edit_all(&mut self, edits: &[Edit<'_>]) -> Result<(), EditStop> {
-        // So the tokens are those of the text, even if there is no edit.
-        let _ = self.tokens();
+    pub(crate) fn edit_all(&mut self, edits: &[Edit<'_>]) -> Result<(), EditStop> {
         for (at, edit) in edits.iter().enumerate() {
-            if !self.accepts(edit.start, edit.stop, edit.insert) {
-                return Err(if contains_range(self.text(), edit.start, edit.stop) {
+            let text = self.text.as_str();
+            if !accepts(text, edit.start, edit.stop, edit.insert) {
+                return Err(if contains_range(text, edit.start, edit.stop) {
                     EditStop::TooLong { at }
                 } else {
                     EditStop::Range { at }

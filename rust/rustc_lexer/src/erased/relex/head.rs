@@ -23,23 +23,41 @@ pub struct Head {
     pub body: usize,
 }
 
-/// The head of a part of a document, which has none.
-pub(crate) const NO_HEAD: Head = Head {
-    shebang_len: 0,
-    space_len: 0,
-    frontmatter: None,
-    body: 0,
-};
+/// How much of a file a text is: a whole document, which may have a head, or a part of one, which has none.
+pub(crate) trait Extent: Copy {
+    /// Finds the head of a text.
+    fn find_head(self, text: &str) -> Head;
+}
 
-/// Finds the head of a whole document, or of a part of one, which has none.
-pub(crate) fn find_head(whole: bool, text: &str) -> Head {
-    if whole { Head::of(text) } else { NO_HEAD }
+/// A whole document.
+#[derive(Clone, Copy)]
+pub(crate) struct Whole;
+
+impl Extent for Whole {
+    fn find_head(self, text: &str) -> Head {
+        Head::of(text)
+    }
+}
+
+/// A part of a document.
+#[derive(Clone, Copy)]
+pub(crate) struct Part;
+
+impl Extent for Part {
+    fn find_head(self, _text: &str) -> Head {
+        Head {
+            shebang_len: 0,
+            space_len: 0,
+            frontmatter: None,
+            body: 0,
+        }
+    }
 }
 
 impl Head {
     /// Returns the head of a document. The text may have at most `u32::MAX` bytes, which is not tested.
     pub fn find(text: &str) -> Head {
-        Head::of(text)
+        Whole.find_head(text)
     }
 
     /// Finds the head of a document.

@@ -1,22 +1,24 @@
-//! The tokens of a text, kept while it is edited: what a whole document and a part of one have in common.
+//! A text with its tokens, kept while it is edited: what a whole document and a part of one have in common.
 use crate::support::{String, Vec};
 
 use crate::erased::entry::stepper::Stepper;
 use crate::erased::relex::checkpoints::Checkpoints;
 use crate::erased::relex::document_edit::{body_change, counted, keeps_head, new_head, put_tokens};
-use crate::erased::relex::edit::{Edit, past_edit, put_in_place, relex};
+use crate::erased::relex::edit::{past_edit, put_in_place, relex};
 use crate::erased::relex::front::Bound;
-use crate::erased::relex::head::{Head, find_head};
+use crate::erased::relex::head::{Extent, Head};
 use crate::erased::relex::lex::lex_all;
-use crate::erased::relex::relexing::{Change, Relexed, Relexing};
-use crate::erased::relex::replace::replace;
+use crate::erased::relex::relexing::{Change, Relexed};
 use crate::erased::token::Token;
 use crate::support::{AllocError, Global};
 
-/// The tokens of a text, and what an edit needs of them.
+/// A text with its tokens, and what an edit needs of them.
 #[derive(Clone)]
-pub(crate) struct Kept<S: Stepper> {
+pub(crate) struct Kept<S: Stepper, E: Extent> {
     pub alloc: Global,
+    /// Whether the text is a whole document or a part of one.
+    pub extent: E,
+    pub text: String,
     pub tokens: Vec<Token>,
     pub stepper: S,
     /// The head of a whole document. A part of one has none.
@@ -25,23 +27,22 @@ pub(crate) struct Kept<S: Stepper> {
     pub checkpoints: Checkpoints,
 }
 
-impl<S: Stepper> Kept<S> {
-    /// Lexes a text: its head by itself, and what follows with the stepper. `whole` says whether the text is a whole
-    /// document, which may have a head.
+impl<S: Stepper, E: Extent> Kept<S, E> {
+    /// Copies the text and lexes it: its head by itself, and what follows with the stepper.
     pub(crate) fn with(
         alloc: Global,
         text: &str,
-        whole: bool,
+        extent: E,
         stepper: S,
-    ) -> Result<Kept<S>, AllocError> {
+    ) -> Result<Kept<S, E>, AllocError> {
         let mut stepper = stepper;
-        let head = find_head(whole, text);
-        let (mut tokens, checkpoints) = lex_all(alloc, &mut stepper, &text[head.body..])?;
-        let mut front = Vec::new(alloc);
-        head.push_to(&mut front)?;
-        replace(&mut tokens, 0, 0, front)?;
+        let held = String::from_str(alloc, text)?;
+        let head = extent.find_head(text);
+        let (tokens, checkpoints) = lex_behind(alloc, head, &mut stepper, text)?;
         Ok(Kept {
             alloc,
+            extent,
+            text: held,
             tokens,
             stepper,
             head,
@@ -49,41 +50,43 @@ impl<S: Stepper> Kept<S> {
         })
     }
 
-    /// Replaces the old tokens with those of the changed text, and returns where lexing met the old tokens of the
-    /// body. `old_count` is how many tokens the old head has. `head` is the new head, unless the old one stays.
-    fn renew(
-        &mut self,
-        old_count: usize,
-        head: Option<Head>,
-        near: Bound,
-        body: &str,
-        change: Change,
-    ) -> Result<Relexing, AllocError> {
-        let old = &self.tokens.as_slice()[old_count..];
-        let (lexed, at) = relex(self.alloc, &mut self.stepper, old, near, body, change)?;
-        put_tokens(self.alloc, &mut self.tokens, old_count, head, at, lexed)?;
-        Ok(at)
+    /// Lexes the text again, with another stepper. If an allocation fails, nothing changes.
+    pub(crate) fn lex_again(&mut self, stepper: S) -> Result<(), AllocError> {
+        let mut stepper = stepper;
+        let text = self.text.as_str();
+        let (tokens, checkpoints) = lex_behind(self.alloc, self.head, &mut stepper, text)?;
+        self.tokens = tokens;
+        self.stepper = stepper;
+        self.checkpoints = checkpoints;
+        Ok(())
     }
 
-    /// Makes the edit in the text and in what is kept of it. If an allocation fails, all of it stays as it is. `whole`
-    /// says whether the text is a whole document, which may have a head.
+    /// Replaces the bytes from `start` up to `stop` with `insert`, which is to be an edit that can be made. If an
+    /// allocation fails, text and tokens stay as they are.
     pub(crate) fn edit(
         &mut self,
-        whole: bool,
-        text: &mut String,
-        edit: Edit<'_>,
+        start: usize,
+        stop: usize,
+        insert: &str,
     ) -> Result<Relexed, AllocError> {
-        let Edit {
-            start,
-            stop,
-            insert,
-        } = edit;
-        let removed = String::from_str(self.alloc, &text[start..stop])?;
-        text.reserve(insert.len())?;
-        put_in_place(text, start, stop, insert);
-        let new_stop = start + insert.len();
-        let made = text.as_str();
-        let now = find_head(whole, made);
+        let removed = String::from_str(self.alloc, &self.text[start..stop])?;
+        self.text.reserve(insert.len())?;
+        match self.put_in(start, stop, insert) {
+            Ok(counts) => Ok(counts),
+            Err(refused) => {
+                let new_stop = start + insert.len();
+                put_in_place(&mut self.text, start, new_stop, removed.as_str());
+                Err(refused)
+            }
+        }
+    }
+
+    /// Makes the edit in the text, which has room for it, and in what is kept of it. If an allocation fails, all but
+    /// the text stays as it is.
+    fn put_in(&mut self, start: usize, stop: usize, insert: &str) -> Result<Relexed, AllocError> {
+        put_in_place(&mut self.text, start, stop, insert);
+        let made = self.text.as_str();
+        let now = self.extent.find_head(made);
         let kept = keeps_head(self.head, now, start);
         let change = body_change(
             kept,
@@ -92,30 +95,20 @@ impl<S: Stepper> Kept<S> {
             Change {
                 start,
                 old_stop: stop,
-                new_stop,
+                new_stop: start + insert.len(),
             },
         );
-        let count = self.tokens.as_slice().len();
         let old_count = self.head.count();
         let near = self.checkpoints.nearest(change.start);
         let body = &made[now.body..];
+        let old = &self.tokens.as_slice()[old_count..];
+        let left = old.len();
+        let (lexed, at) = relex(self.alloc, &mut self.stepper, old, near, body, change)?;
         let new_head = new_head(kept, now);
-        match self.renew(old_count, new_head, near, body, change) {
-            Ok(at) => {
-                self.checkpoints = past_edit(&self.checkpoints, at, body.len());
-                self.head = now;
-                Ok(counted(
-                    kept,
-                    old_count,
-                    now.count(),
-                    at.counts(count - old_count),
-                ))
-            }
-            Err(refused) => {
-                put_in_place(text, start, new_stop, removed.as_str());
-                Err(refused)
-            }
-        }
+        put_tokens(self.alloc, &mut self.tokens, old_count, new_head, at, lexed)?;
+        self.checkpoints = past_edit(&self.checkpoints, at, body.len());
+        self.head = now;
+        Ok(counted(kept, old_count, now.count(), at.counts(left)))
     }
 
     /// Returns the last boundary known without a search that has at most `number` tokens before it: a remembered one,
@@ -141,6 +134,19 @@ impl<S: Stepper> Kept<S> {
         let start = near.place as u32;
         end_from(start, &self.tokens.as_slice()[near.number..number])
     }
+}
+
+/// Lexes the tokens of a text: those of its head, which is known, and those of its body with the stepper.
+fn lex_behind<S: Stepper>(
+    alloc: Global,
+    head: Head,
+    stepper: &mut S,
+    text: &str,
+) -> Result<(Vec<Token>, Checkpoints), AllocError> {
+    let mut tokens = Vec::new(alloc);
+    head.push_to(&mut tokens)?;
+    let checkpoints = lex_all(stepper, &text[head.body..], &mut tokens)?;
+    Ok((tokens, checkpoints))
 }
 
 /// Returns where the last of the tokens ends. The first one begins at `start`.

@@ -5,7 +5,7 @@ use crate::erased::entry::stepper::Stepper;
 use crate::erased::relex::checkpoints::Checkpoints;
 use crate::erased::relex::front::Bound;
 use crate::erased::token::{Token, TokenKind};
-use crate::support::{AllocError, Global};
+use crate::support::AllocError;
 
 /// How many tokens are lexed at once, and how many there are between two checkpoints.
 const BLOCK: usize = 128;
@@ -18,22 +18,22 @@ pub(crate) fn new_buffer() -> [Token; BLOCK] {
     }; BLOCK]
 }
 
-/// Lexes all tokens of a text. Returns them, and checkpoints among them.
+/// Lexes all tokens of a text, and appends them to a list. Returns checkpoints among them.
 pub(crate) fn lex_all<S: Stepper>(
-    alloc: Global,
     stepper: &mut S,
     text: &str,
-) -> Result<(Vec<Token>, Checkpoints), AllocError> {
-    let mut tokens = Vec::new(alloc);
+    tokens: &mut Vec<Token>,
+) -> Result<Checkpoints, AllocError> {
+    let old_count = tokens.len();
     let mut checkpoints = Checkpoints::new();
     let mut buffer = new_buffer();
     let mut place = 0;
     while place < text.len() {
-        let number = tokens.len();
+        let number = tokens.len() - old_count;
         checkpoints.remember(Bound { number, place }, text.len());
         let (count, bytes) = stepper.fill(&text[place..], text.len() - place, &mut buffer);
         tokens.extend_from_slice(&buffer[..count])?;
         place += bytes;
     }
-    Ok((tokens, checkpoints))
+    Ok(checkpoints)
 }

@@ -1,14 +1,14 @@
 //! A whole document that is kept with its tokens.
-use crate::support::String;
 
 use crate::erased::entry::stepper::Stepper;
 use crate::erased::relex::edit::{Edit, accepts};
+use crate::erased::relex::edit_list::EditStop;
+use crate::erased::relex::head::Whole;
 use crate::erased::relex::kept::Kept;
 use crate::erased::relex::relexing::Relexed;
 use crate::erased::token::Token;
 use crate::support::{AllocError, Global};
 
-mod edits;
 mod in_edition;
 
 /// A whole document that is kept with its tokens while it is edited: shebang line, frontmatter and all.
@@ -30,22 +30,20 @@ mod in_edition;
 /// ```
 #[derive(Clone)]
 pub struct LexedDocument<S: Stepper> {
-    text: String,
-    kept: Kept<S>,
+    kept: Kept<S, Whole>,
 }
 
 impl<S: Stepper> LexedDocument<S> {
     /// Copies the text and lexes it: the head by itself, and the body with the stepper, one step for each token.
     /// The text may have at most `u32::MAX` bytes. `Err` means that an allocation failed.
     pub fn with(alloc: Global, text: &str, stepper: S) -> Result<LexedDocument<S>, AllocError> {
-        let held = String::from_str(alloc, text)?;
-        let kept = Kept::with(alloc, text, true, stepper)?;
-        Ok(LexedDocument { text: held, kept })
+        let kept = Kept::with(alloc, text, Whole, stepper)?;
+        Ok(LexedDocument { kept })
     }
 
     /// Returns the whole text, with its shebang line.
     pub fn text(&self) -> &str {
-        self.text.as_str()
+        self.kept.text.as_str()
     }
 
     /// Returns the length of the shebang line in bytes, or 0. The first token begins there.
@@ -66,7 +64,7 @@ impl<S: Stepper> LexedDocument<S> {
     /// Gives back memory that edits have left unused, as `Vec::shrink_to_fit` does. Text, tokens and stepper stay. If
     /// an allocation fails on the way, the unused memory stays too.
     pub fn shrink_to_fit(&mut self) {
-        self.text.shrink_to_fit();
+        self.kept.text.shrink_to_fit();
         self.kept.tokens.shrink_to_fit();
     }
 
@@ -78,7 +76,7 @@ impl<S: Stepper> LexedDocument<S> {
     /// Returns whether an edit can be made: whether its range is inside the text, between characters, and the new
     /// text has at most `u32::MAX` bytes.
     pub fn accepts(&self, start: usize, stop: usize, insert: &str) -> bool {
-        accepts(self.text.as_str(), start, stop, insert)
+        accepts(self.kept.text.as_str(), start, stop, insert)
     }
 
     /// Replaces the bytes from `start` up to `stop` with `insert`. The edit has to be
@@ -89,11 +87,12 @@ impl<S: Stepper> LexedDocument<S> {
     /// that the edit changes counts as lexed. `Err` means that an allocation failed, and then text and tokens are as
     /// before.
     pub fn edit(&mut self, start: usize, stop: usize, insert: &str) -> Result<Relexed, AllocError> {
-        let edit = Edit {
-            start,
-            stop,
-            insert,
-        };
-        self.kept.edit(true, &mut self.text, edit)
+        self.kept.edit(start, stop, insert)
+    }
+
+    /// Makes the edits in order, each on the text that the edits before it leave, up to the first one that is
+    /// refused. `Err` says which one that is and why. The edits before it stay made.
+    pub fn edit_all(&mut self, edits: &[Edit<'_>]) -> Result<(), EditStop> {
+        self.kept.edit_all(edits)
     }
 }

@@ -1,9 +1,10 @@
 //! A text that is kept with its tokens.
-use crate::support::String;
 
 use crate::erased::edition::Edition;
 use crate::erased::entry::stepper::{Stepper, Steps};
 use crate::erased::relex::edit::{Edit, accepts};
+use crate::erased::relex::edit_list::EditStop;
+use crate::erased::relex::head::Part;
 use crate::erased::relex::kept::Kept;
 use crate::erased::relex::relexing::Relexed;
 use crate::erased::token::Token;
@@ -14,22 +15,20 @@ mod in_edition;
 /// A text that is kept with its tokens, and with the stepper that lexed them.
 #[derive(Clone)]
 pub struct LexedText<S: Stepper> {
-    text: String,
-    kept: Kept<S>,
+    kept: Kept<S, Part>,
 }
 
 impl<S: Stepper> LexedText<S> {
     /// Copies the text and lexes it with the stepper. The text may have at most `u32::MAX` bytes. Keeps the
     /// stepper. `Err` means that an allocation failed.
     pub fn with(alloc: Global, text: &str, stepper: S) -> Result<LexedText<S>, AllocError> {
-        let held = String::from_str(alloc, text)?;
-        let kept = Kept::with(alloc, text, false, stepper)?;
-        Ok(LexedText { text: held, kept })
+        let kept = Kept::with(alloc, text, Part, stepper)?;
+        Ok(LexedText { kept })
     }
 
     /// Returns the text.
     pub fn text(&self) -> &str {
-        self.text.as_str()
+        self.kept.text.as_str()
     }
 
     /// Returns the tokens of the text, in order.
@@ -45,7 +44,7 @@ impl<S: Stepper> LexedText<S> {
     /// Gives back memory that edits have left unused, as `Vec::shrink_to_fit` does. Text, tokens and stepper stay. If
     /// an allocation fails on the way, the unused memory stays too.
     pub fn shrink_to_fit(&mut self) {
-        self.text.shrink_to_fit();
+        self.kept.text.shrink_to_fit();
         self.kept.tokens.shrink_to_fit();
     }
 
@@ -57,7 +56,7 @@ impl<S: Stepper> LexedText<S> {
     /// Returns whether an edit can be made: whether its range is inside the text, between characters, and the new
     /// text has at most `u32::MAX` bytes.
     pub fn accepts(&self, start: usize, stop: usize, insert: &str) -> bool {
-        accepts(self.text.as_str(), start, stop, insert)
+        accepts(self.kept.text.as_str(), start, stop, insert)
     }
 
     /// Replaces the bytes from `start` up to `stop` with `insert`. The edit has to be
@@ -66,12 +65,13 @@ impl<S: Stepper> LexedText<S> {
     /// Returns how many tokens it kept at the front, how many it lexed, and how many it kept at the back. `Err`
     /// means that an allocation failed, and then text and tokens are as before.
     pub fn edit(&mut self, start: usize, stop: usize, insert: &str) -> Result<Relexed, AllocError> {
-        let edit = Edit {
-            start,
-            stop,
-            insert,
-        };
-        self.kept.edit(false, &mut self.text, edit)
+        self.kept.edit(start, stop, insert)
+    }
+
+    /// Makes the edits in order, each on the text that the edits before it leave, up to the first one that is refused.
+    /// `Err` says which one that is and why. The edits before it stay made.
+    pub fn edit_all(&mut self, edits: &[Edit<'_>]) -> Result<(), EditStop> {
+        self.kept.edit_all(edits)
     }
 }
 

@@ -1,34 +1,54 @@
-use Rattle.std.proofs.Common.{◌≡◌, ◌<◌, length, length-append, take, refl, sym, ap, ◌∙◌, arith, rules}
+use Rattle.std.proofs.Common.{◌≡◌, ◌+◌, ◌-◌, ◌<◌, ◌≤◌, List, [], ◌++◌, length, length-append, length-drop, drop, take, refl, sym, ap, ◌∙◌, subst, arith, rules, append_assoc}
+use Rattle.std.proofs.lemmas.List.{append-nil, drop-append-le, drop_all}
+use Rattle.rustc_lexer.specs.{Token}
 use Rattle.rustc_lexer.specs.Tokens.{bound, tokens_by}
 use Rattle.rustc_lexer.specs.Classes.{IsText}
 use Rattle.rustc_lexer.proofs.BlockLemmas.{block_more}
-use Rattle.rustc_lexer.proofs.ProgressLemmas.{lexed_place, lexed_whole}
+use Rattle.rustc_lexer.proofs.ProgressLemmas.{IsLexedTo, lexed_place, lexed_whole}
 use Rattle.rustc_lexer.proofs.relex.lex.lex_all.Goals as goal
 
+-- a list that grew behind its old items is not shorter than these
+grown : (old now : List Token) → now ≡ old ++ drop (length old) now → length old ≤ length now
+grown old now e = omega (arith, ap (λ (ts : List Token). length ts) e, length-append old (drop (length old) now))
+
 pub left-init : goal.left-init
-left-init g c = (search rules, refl, refl, rw c.new-tokens.ensures.items (omega arith), c.new-checkpoints.ensures _)
+left-init g c =
+    let old : List Token = c.args.tokens.now.items in
+    let none : drop (length old) old ≡ [] = drop_all (length old) old (omega arith) in
+    let begun : IsLexedTo (g.S.Stepper.grammar c.args.stepper.now) c.args.text.now [] 0 = search rules in (
+      sym (ap (λ ts. old ++ ts) none ∙ append-nil old),
+      subst (λ (ts : List Token). IsLexedTo (g.S.Stepper.grammar c.args.stepper.now) c.args.text.now ts 0) (sym none) begun,
+      refl,
+      refl,
+      omega (arith, ap (λ (ts : List Token). length ts) none),
+      c.new-checkpoints.ensures _,
+    )
+
+pub overflow_sub-number : goal.overflow_sub-number
+overflow_sub-number g c = omega (arith, grown c.args.tokens.now.items c.left.tokens.items c.left.invariant.0)
 
 pub range_from-requires : goal.range_from-requires
 range_from-requires g c =
     let is : IsText c.args.text.now = record { utf8 = c.utf8.text; fits = c.requires.fits } in
-    λ some. (lexed_place (g.S.Stepper.law c.args.stepper.now) _ _ _ is c.left.invariant.0).boundary
+    λ some. (lexed_place (g.S.Stepper.law c.args.stepper.now) _ _ _ is c.left.invariant.1).boundary
 
 pub returns-clause-tokens : goal.returns-clause-tokens
 returns-clause-tokens g c =
     let is : IsText c.args.text.now = record { utf8 = c.utf8.text; fits = c.requires.fits } in
-    lexed_whole (g.S.Stepper.law c.args.stepper.now) _ _ _ is c.left.invariant.0 (omega arith)
+    c.left.invariant.0 ∙ ap (λ ts. c.args.tokens.now.items ++ ts) (lexed_whole (g.S.Stepper.law c.args.stepper.now) _ _ _ is c.left.invariant.1 (omega arith))
 
-pub returns-clause-checkpoints : goal.returns-clause-checkpoints
-returns-clause-checkpoints g c =
+pub returns-clause-count : goal.returns-clause-count
+returns-clause-count g c =
     let is : IsText c.args.text.now = record { utf8 = c.utf8.text; fits = c.requires.fits } in
-    rw (lexed_whole (g.S.Stepper.law c.args.stepper.now) _ _ _ is c.left.invariant.0 (omega arith)) c.left.invariant.4
+    omega (arith, c.left.invariant.4, ap (λ (ts : List Token). length ts) (lexed_whole (g.S.Stepper.law c.args.stepper.now) _ _ _ is c.left.invariant.1 (omega arith)))
 
 pub overflow_add-place : goal.overflow_add-place
 overflow_add-place g c =
     let is : IsText c.args.text.now = record { utf8 = c.utf8.text; fits = c.requires.fits } in
     let some_buffer : 0 < length c.left.buffer = omega arith in
-    let next = block_more (g.S.Stepper.law c.args.stepper.now) c.args.text.now c.range_from.result.now c.left.tokens.items c.left.buffer c.fill-count.new.buffer c.left.place c.fill-count.result.0 c.fill-count.result.1
-    c.left.invariant.1 is c.left.invariant.0 (omega arith) c.range_from.ensures.value some_buffer _ (omega arith) c.fill-count.ensures.filled c.fill-count.ensures.bytes in
+    let behind : List Token = drop (length c.args.tokens.now.items) c.left.tokens.items in
+    let next = block_more (g.S.Stepper.law c.args.stepper.now) c.args.text.now c.range_from.result.now behind c.left.buffer c.fill-count.new.buffer c.left.place c.fill-count.result.0 c.fill-count.result.1
+    c.left.invariant.2 is c.left.invariant.1 (omega arith) c.range_from.ensures.value some_buffer _ (omega arith) c.fill-count.ensures.filled c.fill-count.ensures.bytes in
     let few = next.few in
     omega arith
 
@@ -36,8 +56,9 @@ pub left-smaller : goal.left-smaller
 left-smaller g c =
     let is : IsText c.args.text.now = record { utf8 = c.utf8.text; fits = c.requires.fits } in
     let some_buffer : 0 < length c.left.buffer = omega arith in
-    let next = block_more (g.S.Stepper.law c.args.stepper.now) c.args.text.now c.range_from.result.now c.left.tokens.items c.left.buffer c.fill-count.new.buffer c.left.place c.fill-count.result.0 c.fill-count.result.1
-    c.left.invariant.1 is c.left.invariant.0 (omega arith) c.range_from.ensures.value some_buffer _ (omega arith) c.fill-count.ensures.filled c.fill-count.ensures.bytes in
+    let behind : List Token = drop (length c.args.tokens.now.items) c.left.tokens.items in
+    let next = block_more (g.S.Stepper.law c.args.stepper.now) c.args.text.now c.range_from.result.now behind c.left.buffer c.fill-count.new.buffer c.left.place c.fill-count.result.0 c.fill-count.result.1
+    c.left.invariant.2 is c.left.invariant.1 (omega arith) c.range_from.ensures.value some_buffer _ (omega arith) c.fill-count.ensures.filled c.fill-count.ensures.bytes in
     let few = next.few in
     let some = next.some in
     omega arith
@@ -46,12 +67,18 @@ pub left-preserved : goal.left-preserved
 left-preserved g c =
     let is : IsText c.args.text.now = record { utf8 = c.utf8.text; fits = c.requires.fits } in
     let some_buffer : 0 < length c.left.buffer = omega arith in
-    let next = block_more (g.S.Stepper.law c.args.stepper.now) c.args.text.now c.range_from.result.now c.left.tokens.items c.left.buffer c.fill-count.new.buffer c.left.place c.fill-count.result.0 c.fill-count.result.1
-    c.left.invariant.1 is c.left.invariant.0 (omega arith) c.range_from.ensures.value some_buffer _ (omega arith) c.fill-count.ensures.filled c.fill-count.ensures.bytes in
-    let number : c.len-number.result ≡ length c.left.tokens.items = search rules in (
-      rw c.in_ok-extend_from_slice.ensures.items next.more,
-      c.fill-count.ensures.grammar ∙ c.left.invariant.1,
-      c.fill-count.ensures.number ∙ c.left.invariant.2,
-      rw c.in_ok-extend_from_slice.ensures.items (omega (arith, next.number, c.fill-count.ensures.count, c.left.invariant.3, length-append c.left.tokens.items (take c.fill-count.result.0 c.fill-count.new.buffer))),
-      c.remember.ensures _ c.left.invariant.4 (omega (arith, number, c.left.invariant.0.number), c.left.invariant.0.place_is ∙ ap (bound (tokens_by (g.S.Stepper.grammar c.args.stepper.now) c.args.text.now)) (sym number)),
+    let behind : List Token = drop (length c.args.tokens.now.items) c.left.tokens.items in
+    let next = block_more (g.S.Stepper.law c.args.stepper.now) c.args.text.now c.range_from.result.now behind c.left.buffer c.fill-count.new.buffer c.left.place c.fill-count.result.0 c.fill-count.result.1
+    c.left.invariant.2 is c.left.invariant.1 (omega arith) c.range_from.ensures.value some_buffer _ (omega arith) c.fill-count.ensures.filled c.fill-count.ensures.bytes in
+    let old : List Token = c.args.tokens.now.items in
+    let written : List Token = take c.fill-count.result.0 c.fill-count.new.buffer in
+    let long : length old ≤ length c.left.tokens.items = grown c.args.tokens.now.items c.left.tokens.items c.left.invariant.0 in
+    let more : drop (length old) c.extend_from_slice.new.self.items ≡ behind ++ written = ap (drop (length old)) c.in_ok-extend_from_slice.ensures.items ∙ drop-append-le (length old) c.left.tokens.items written long in
+    let number : c.len.result - c.len-old_count.result ≡ length behind = omega (arith, length-drop (length old) c.left.tokens.items, long) in (
+      c.in_ok-extend_from_slice.ensures.items ∙ (ap (λ ts. ts ++ written) c.left.invariant.0 ∙ (append_assoc old behind written ∙ ap (λ ts. old ++ ts) (sym more))),
+      subst (λ (ts : List Token). IsLexedTo (g.S.Stepper.grammar c.args.stepper.now) c.args.text.now ts (c.left.place + c.fill-count.result.1)) (sym more) next.more,
+      c.fill-count.ensures.grammar ∙ c.left.invariant.2,
+      c.fill-count.ensures.number ∙ c.left.invariant.3,
+      omega (arith, ap (λ (ts : List Token). length ts) more, next.number, c.fill-count.ensures.count, c.left.invariant.4, length-append behind written),
+      c.remember.ensures _ c.left.invariant.5 (omega (arith, number, c.left.invariant.1.number), c.left.invariant.1.place_is ∙ ap (bound (tokens_by (g.S.Stepper.grammar c.args.stepper.now) c.args.text.now)) (sym number)),
     )

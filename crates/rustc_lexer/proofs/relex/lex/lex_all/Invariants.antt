@@ -1,14 +1,15 @@
-use Rattle.std.proofs.Common.{length, ◌-◌, ◌≡◌, ◌+◌}
+use Rattle.std.proofs.Common.{drop, length, ◌-◌, ◌≡◌, ◌+◌, ◌++◌}
 use Rattle.rustc_lexer.specs.Tokens.{tokens_by}
 use Rattle.rustc_lexer.specs.means.Checkpoints.{AreBounds}
 use Rattle.rustc_lexer.proofs.ProgressLemmas.{IsLexedTo}
 use Rattle.rustc_lexer.proofs.relex.lex.lex_all.Given as goal
 
 abbrev pub invariant-left : goal.invariant-left
-invariant-left g l = IsLexedTo (g.S.Stepper.grammar l.fn.stepper) l.text l.tokens.items l.place
+invariant-left g l = (l.tokens.items ≡ l.fn.tokens.items ++ drop (length l.fn.tokens.items) l.tokens.items)
+    × IsLexedTo (g.S.Stepper.grammar l.fn.stepper) l.text (drop (length l.fn.tokens.items) l.tokens.items) l.place
     × (g.S.Stepper.grammar l.stepper ≡ g.S.Stepper.grammar l.fn.stepper)
     × (g.S.Stepper.number l.stepper ≡ g.S.Stepper.number l.fn.stepper)
-    × (g.S.Stepper.count l.stepper ≡ g.S.Stepper.count l.fn.stepper + length l.tokens.items)
+    × (g.S.Stepper.count l.stepper ≡ g.S.Stepper.count l.fn.stepper + length (drop (length l.fn.tokens.items) l.tokens.items))
     × AreBounds (tokens_by (g.S.Stepper.grammar l.fn.stepper) l.text) l.checkpoints
 
 abbrev pub decreases-left : goal.decreases-left

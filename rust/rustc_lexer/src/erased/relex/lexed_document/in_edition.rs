@@ -3,7 +3,6 @@
 use crate::erased::edition::Edition;
 use crate::erased::entry::stepper::{Stepper, Steps};
 use crate::erased::relex::front::Bound;
-use crate::erased::relex::kept::Kept;
 use crate::erased::relex::lexed_document::LexedDocument;
 use crate::support::{AllocError, Global};
 
@@ -41,9 +40,6 @@ impl LexedDocument<Steps> {
     /// Lexes the text again, in another edition. The head stays, as it is the same in all editions. `Err` means that an
     /// allocation failed, and then nothing has changed.
     pub fn set_edition(&mut self, edition: Edition) -> Result<(), AllocError> {
-        let stepper = Steps::new_in(edition);
-        let kept = Kept::with(self.kept.alloc, self.text.as_str(), true, stepper)?;
-        self.kept = kept;
-        Ok(())
+        self.kept.lex_again(Steps::new_in(edition))
     }
 }

@@ -2,7 +2,6 @@
 
 use crate::erased::edition::Edition;
 use crate::erased::entry::stepper::{Stepper, Steps};
-use crate::erased::relex::kept::Kept;
 use crate::erased::relex::lexed_text::LexedText;
 use crate::support::{AllocError, Global};
 
@@ -24,9 +23,6 @@ impl LexedText<Steps> {
 
     /// Lexes the text again, in another edition. `Err` means that an allocation failed, and then nothing has changed.
     pub fn set_edition(&mut self, edition: Edition) -> Result<(), AllocError> {
-        let stepper = Steps::new_in(edition);
-        let kept = Kept::with(self.kept.alloc, self.text.as_str(), false, stepper)?;
-        self.kept = kept;
-        Ok(())
+        self.kept.lex_again(Steps::new_in(edition))
     }
 }

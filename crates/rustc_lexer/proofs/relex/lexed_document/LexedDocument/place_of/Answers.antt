@@ -1,4 +1,4 @@
-use Rattle.std.proofs.Common.{◌≡◌, ◌+◌, true, length, ap, ◌∙◌, subst, arith, string_bytes}
+use Rattle.std.proofs.Common.{◌≡◌, ◌+◌, length, ap, ◌∙◌, subst, arith, string_bytes}
 use Rattle.rustc_lexer.specs.declared.relex.head.Head.{Head}
 use Rattle.rustc_lexer.specs.Tokens.{bound}
 use Rattle.rustc_lexer.specs.Document.{shebang_len}
@@ -6,12 +6,12 @@ use Rattle.rustc_lexer.proofs.HeadLemmas.{head-shebang}
 use Rattle.rustc_lexer.proofs.relex.lexed_document.LexedDocument.place_of.Goals as goal
 
 pub place_of-requires-clause-kept : goal.place_of-requires-clause-kept
-place_of-requires-clause-kept g c = (true, _, c.self.invariant)
+place_of-requires-clause-kept g c = c.self.invariant
 
 pub place_of-requires-clause-inside : goal.place_of-requires-clause-inside
 place_of-requires-clause-inside g c = omega (arith, c.requires.inside, ap (λ h. length h.tokens) c.self.view_is)
 
 pub returns : goal.returns
 returns g c =
-    let start = ap (λ (h : Head). h.shebang_len) c.self.invariant.2 ∙ head-shebang (string_bytes c.self.inside.text) in
+    let start = ap (λ (h : Head). h.shebang_len) c.self.invariant.2 ∙ head-shebang (string_bytes c.self.inside.kept.text) in
     subst (λ h. c.place_of.result ≡ shebang_len h.text + bound h.tokens c.args.number) c.self.view_is (omega (arith, c.place_of.ensures, start))

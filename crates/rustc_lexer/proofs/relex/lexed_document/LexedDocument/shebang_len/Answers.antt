@@ -7,7 +7,7 @@ use Rattle.rustc_lexer.proofs.relex.lexed_document.LexedDocument.shebang_len.Goa
 
 pub returns : goal.returns
 returns g c =
-    let text : List ℕ = string_bytes c.self.inside.text in
+    let text : List ℕ = string_bytes c.self.inside.kept.text in
     let line : c.self.inside.kept.head.shebang_len ≡ shebang_len text = ap (λ (h : Head). h.shebang_len) c.self.invariant.2 ∙ head-shebang text in
     let inside : c.self.inside.kept.head.shebang_len ≤ length text = omega (arith, line, (shebang-boundary text c.self.invariant.0).0) in
     record {

@@ -1,10 +1,10 @@
-use Rattle.std.proofs.Common.{◌≡◌, false, length, ap, subst, arith}
+use Rattle.std.proofs.Common.{◌≡◌, length, ap, subst, arith}
 use Rattle.rustc_lexer.specs.declared.relex.head.Head.{Head}
 use Rattle.rustc_lexer.specs.Tokens.{bound}
 use Rattle.rustc_lexer.proofs.relex.lexed_text.LexedText.place_of.Goals as goal
 
 pub place_of-requires-clause-kept : goal.place_of-requires-clause-kept
-place_of-requires-clause-kept g c = (false, _, c.self.invariant)
+place_of-requires-clause-kept g c = c.self.invariant
 
 pub place_of-requires-clause-inside : goal.place_of-requires-clause-inside
 place_of-requires-clause-inside g c = omega (arith, c.requires.inside, ap (λ h. length h.tokens) c.self.view_is)

@@ -9,7 +9,7 @@ use Rattle.rustc_lexer.proofs.relex.lexed_document.in_edition.LexedDocument+Step
 
 pub returns-clause-number : goal.returns-clause-number
 returns-clause-number c =
-    let text : List ℕ = string_bytes c.self.inside.text in
+    let text : List ℕ = string_bytes c.self.inside.kept.text in
     let edition = c.self.inside.kept.stepper.edition in
     let is = c.self.invariant.0 in
     let tokens : c.self.inside.kept.tokens.items ≡ document_tokens edition text = c.self.invariant.1 ∙ document_law edition text is (shebang-boundary text is) in
@@ -18,5 +18,5 @@ returns-clause-number c =
 
 pub returns-clause-place : goal.returns-clause-place
 returns-clause-place c =
-    let text : List ℕ = string_bytes c.self.inside.text in
+    let text : List ℕ = string_bytes c.self.inside.kept.text in
     subst (λ l. c.self.inside.kept.head.body ≡ body_start l.text) c.self.view_is (ap (λ (h : Head). h.body) c.self.invariant.2 ∙ end_is text c.self.invariant.0)

@@ -8,6 +8,6 @@ use Rattle.rustc_lexer.proofs.relex.lexed_document.in_edition.LexedDocument+Step
 
 pub returns-clause-from_scratch : goal.returns-clause-from_scratch
 returns-clause-from_scratch c =
-    let text : List ℕ = string_bytes c.self.inside.text in
+    let text : List ℕ = string_bytes c.self.inside.kept.text in
     let is = c.self.invariant.0 in
     subst (λ h. h.tokens ≡ document_tokens c.edition.result h.text) c.self.view_is (c.self.invariant.1 ∙ (ap (λ (e : Edition). document_by head_of (first_token_in e) text) (sym c.edition.ensures) ∙ document_law c.edition.result text is (shebang-boundary text is)))

@@ -1,0 +1,12 @@
+use Rattle.std.proofs.Common.{◌≡◌, take, string_bytes}
+use Rattle.rustc_lexer.specs.Edits.{apply_list, AreEdits, AreStepped}
+use Rattle.rustc_lexer.specs.means.Document.{AreKeptOf, IsSteppedIn}
+use Rattle.rustc_lexer.proofs.relex.kept.Kept.edit_all.Given as goal
+
+abbrev pub invariant-loop-at : goal.invariant-loop-at
+invariant-loop-at g l = AreEdits (string_bytes l.fn.self.text) (take l.at l.edits)
+    × (string_bytes l.self.text ≡ apply_list (string_bytes l.fn.self.text) (take l.at l.edits))
+    × AreKeptOf g.E.Extent.whole (g.S.Stepper.grammar l.self.stepper) (string_bytes l.self.text) l.self.tokens.items l.self.head l.self.checkpoints
+    × (g.S.Stepper.grammar l.self.stepper ≡ g.S.Stepper.grammar l.fn.self.stepper)
+    × (g.S.Stepper.number l.self.stepper ≡ g.S.Stepper.number l.fn.self.stepper)
+    × AreStepped (IsSteppedIn g.E.Extent.whole (g.S.Stepper.grammar l.fn.self.stepper)) (string_bytes l.fn.self.text) (take l.at l.edits) (g.S.Stepper.count l.fn.self.stepper) (g.S.Stepper.count l.self.stepper)

@@ -1,0 +1,148 @@
+//! The calls of a kept text that are the same of a part of a file and of a whole one.
+
+/// Writes these calls for a type that wraps the erased type of its name.
+macro_rules! kept_calls {
+    ($Kept:ident) => {
+        impl $Kept {
+            /// Returns the text with its tokens in an edition, or why it could not be made: `TooLong` or `Memory`.
+            ///
+            /// ```
+            #[doc = concat!("use rustc_lexer::{Edition, ", stringify!($Kept), "};")]
+            ///
+            #[doc = concat!("let lexed = ", stringify!($Kept), "::try_new_in(\"let x;\", Edition::E2021)?;")]
+            /// assert_eq!(lexed.tokens().len(), 4);
+            /// # Ok::<(), rustc_lexer::EditError>(())
+            /// ```
+            pub fn try_new_in(text: impl AsRef<str>, edition: Edition) -> Result<$Kept, EditError> {
+                let text = try_fitting(text.as_ref())?;
+                Ok($Kept(erased::$Kept::new_in(Global, text, edition)?))
+            }
+
+            /// Returns the edition of the tokens. Edits keep it.
+            ///
+            /// ```
+            #[doc = concat!("use rustc_lexer::{Edition, ", stringify!($Kept), "};")]
+            ///
+            #[doc = concat!("assert_eq!(", stringify!($Kept), "::new(\"\").edition(), Edition::E2024);")]
+            /// ```
+            #[must_use]
+            pub fn edition(&self) -> Edition {
+                self.0.edition()
+            }
+
+            /// Lexes the text again, in another edition.
+            ///
+            /// ```
+            #[doc = concat!("use rustc_lexer::{Edition, ", stringify!($Kept), "};")]
+            ///
+            #[doc = concat!("let mut lexed = ", stringify!($Kept), "::new(\"'r#a\");")]
+            /// lexed.set_edition(Edition::E2015);
+            /// assert_eq!(lexed.tokens().len(), 3);
+            /// ```
+            ///
+            /// # Panics
+            ///
+            /// Panics if an allocation fails. Nothing changes then.
+            pub fn set_edition(&mut self, edition: Edition) {
+                self.try_set_edition(edition)
+                    .unwrap_or_else(|error| panic!("{error}"));
+            }
+
+            /// Lexes the text again, in another edition. If an allocation fails, nothing changes.
+            ///
+            /// ```
+            #[doc = concat!("use rustc_lexer::{Edition, ", stringify!($Kept), "};")]
+            ///
+            #[doc = concat!("let mut lexed = ", stringify!($Kept), "::new(\"'r#a\");")]
+            /// lexed.try_set_edition(Edition::E2018)?;
+            /// assert_eq!(lexed.tokens().len(), 3);
+            /// # Ok::<(), rustc_lexer::AllocError>(())
+            /// ```
+            pub fn try_set_edition(&mut self, edition: Edition) -> Result<(), AllocError> {
+                self.0.set_edition(edition)
+            }
+        }
+
+        impl<S: Stepper> $Kept<S> {
+            /// Returns whether the range is in bounds and on char boundaries, and the new text has at most `u32::MAX`
+            /// bytes.
+            ///
+            /// ```
+            #[doc = concat!("use rustc_lexer::", stringify!($Kept), ";")]
+            ///
+            #[doc = concat!("let lexed = ", stringify!($Kept), "::new(\"é\");")]
+            /// assert!(lexed.accepts(0..2, "e") && !lexed.accepts(1..2, "e"));
+            /// ```
+            #[must_use]
+            pub fn accepts(&self, range: Range<usize>, insert: &str) -> bool {
+                self.0.accepts(range.start, range.end, insert)
+            }
+
+            /// Replaces the bytes of the range by `insert`, or returns why not. Text and tokens are then as they were.
+            ///
+            /// ```
+            #[doc = concat!("use rustc_lexer::{EditError, ", stringify!($Kept), "};")]
+            ///
+            #[doc = concat!("let mut lexed = ", stringify!($Kept), "::new(\"let é;\");")]
+            /// assert_eq!(lexed.try_edit(4..5, "e"), Err(EditError::Range));
+            /// assert_eq!(lexed.try_edit(4..6, "e").map(|relexed| relexed.lexed), Ok(3));
+            /// assert_eq!(lexed.text(), "let e;");
+            /// ```
+            pub fn try_edit(
+                &mut self,
+                range: Range<usize>,
+                insert: &str,
+            ) -> Result<Relexed, EditError> {
+                check_accepted(|insert| self.accepts(range.clone(), insert), insert)?;
+                Ok(self.0.edit(range.start, range.end, insert)?)
+            }
+
+            /// Makes the edits in order, up to the first that is refused, and returns which that is, and why.
+            ///
+            /// ```
+            #[doc = concat!("use rustc_lexer::{Edit, EditStop, ", stringify!($Kept), "};")]
+            ///
+            #[doc = concat!("let mut lexed = ", stringify!($Kept), "::new(\"a\");")]
+            /// let edits = [Edit { start: 1, stop: 1, insert: "+b" }, Edit { start: 9, stop: 9, insert: "" }];
+            /// assert_eq!(lexed.edit_all(&edits), Err(EditStop::Range { at: 1 }));
+            /// assert_eq!(lexed.text(), "a+b");
+            /// ```
+            pub fn edit_all(&mut self, edits: &[Edit<'_>]) -> Result<(), EditStop> {
+                self.0.edit_all(edits)
+            }
+
+            /// Gives back the memory that edits have left unused, by copying what is kept. If an allocation fails, the
+            /// unused memory stays. Text, tokens and stepper do not change.
+            ///
+            /// ```
+            #[doc = concat!("use rustc_lexer::", stringify!($Kept), ";")]
+            ///
+            #[doc = concat!("let mut lexed = ", stringify!($Kept), "::new(\"a \".repeat(1000));")]
+            /// lexed.edit(0..0, "\"");
+            /// lexed.shrink_to_fit();
+            /// assert_eq!(lexed.tokens().len(), 1);
+            /// ```
+            pub fn shrink_to_fit(&mut self) {
+                self.0.shrink_to_fit();
+            }
+        }
+
+        impl<S: Stepper> fmt::Debug for $Kept<S> {
+            fn fmt(&self, f: &mut fmt::Formatter<'_>) -> fmt::Result {
+                f.debug_struct(stringify!($Kept))
+                    .field("text", &self.text())
+                    .field("tokens", &self.tokens())
+                    .finish_non_exhaustive()
+            }
+        }
+
+        /// That of the empty text.
+        impl Default for $Kept {
+            fn default() -> $Kept {
+                $Kept::new("")
+            }
+        }
+    };
+}
+
+pub(crate) use kept_calls;
