@@ -64,6 +64,7 @@ pub fn tokenize_in<'a>(text: &'a str, edition: Edition) -> EditionTokens<'a>
     requires fits { Fits text.now }
     ensures reads { ReadsAs No edition text.now result }
     ensures local { AreLocal (tokens_of (part edition)) }
+    ensures newest { tokens_of (part E2024) text.now ≡ tokens_of (mode_in No E2024) text.now }
     ensures oldest { tokens_of (part E2015) text.now ≡ tokens_of (part E2018) text.now }
 {
     tokenize_as(text, FrontmatterAllowed::No, edition)

@@ -71,11 +71,6 @@ impl Stepper for Steps {
 
     fn fill<R: Record>(&mut self, text: &str, end: usize, buffer: &mut [R]) -> (usize, usize) {
         let mut tokens = tokenize_in(text, self.edition);
-        if end == text.len() {
-            let count = tokens.fill(buffer);
-            self.tally.tick_by(count);
-            return (count, text.len() - tokens.left());
-        }
         let past_end = text.len() - end;
         let mut count = 0;
         while count < buffer.len() && tokens.left() > past_end {

@@ -1,25 +1,14 @@
-use Rattle.std.proofs.Common.{◌≡◌, ◌+◌, ◌<◌, List, ℕ, suc, drop, length, refl, ap, ◌∙◌, arith, drop-drop, length-drop}
+use Rattle.std.proofs.Common.{◌≡◌, ◌+◌, ◌-◌, ◌<◌, ◌≤◌, List, ℕ, suc, drop, length, refl, ap, ◌∙◌, arith, drop-drop, length-drop}
 use Rattle.rustc_lexer.specs.{Edition, Token}
 use Rattle.rustc_lexer.specs.Classes.{IsText}
 use Rattle.rustc_lexer.specs.LanguageText.{Mode, mode_after}
-use Rattle.rustc_lexer.specs.Locality.{IsGrammar}
-use Rattle.rustc_lexer.specs.Tokens.{IsFilledTo, bound, tokens_by}
-use Rattle.rustc_lexer.specs.means.Tokens.{IsFilled}
+use Rattle.rustc_lexer.specs.Tokens.{bound, tokens_by}
+use Rattle.rustc_lexer.specs.State.{State}
 use Rattle.rustc_lexer.specs.laws.Edition.{edition_grammar}
 use Rattle.rustc_lexer.specs.means.Edition.{first_token_in}
-use Rattle.rustc_lexer.proofs.BufferLemmas.{begun_more, next_place, next_token, one_written, stands, token_taken}
-use Rattle.rustc_lexer.proofs.BoundLemmas.{bound-last, bound_mono, rises}
+use Rattle.rustc_lexer.proofs.BufferLemmas.{begun_more, next_place, next_token, one_written, some_left, stands, token_taken, written_to}
 use Rattle.rustc_lexer.proofs.entry.stepper.StepsStepper.fill.Goals as goal
-
--- those that begin before the end of the text are all
-filled_to_end : {first : List ℕ → Token} (law : IsGrammar first) {X : Type 0} (written : Token → X) (text : List ℕ) → IsText text → (end : ℕ) → end ≡ length text → (buffer filled : List X) (count : ℕ) → IsFilled written (tokens_by first text) buffer filled count → IsFilledTo written end (tokens_by first text) buffer filled count
-filled_to_end {first} law written text is end whole buffer filled count full = record {
-  few = omega (arith, full.as_many);
-  within = omega (arith, full.as_many);
-  tokens = full.tokens;
-  begun = λ k less. omega (arith, whole, full.as_many, rises law text is k (omega (arith, full.as_many)), bound_mono (tokens_by first text) (suc k) (length (tokens_by first text)) (omega (arith, full.as_many)), bound-last law text is);
-  all = λ more. (let e : count ≡ length (tokens_by first text) = omega (arith, full.as_many) in omega (arith, whole, ap (bound (tokens_by first text)) e, bound-last law text is));
-}
+use Rattle.rustc_lexer.proofs.entry.stepper.StepsStepper.fill.Goals.{then-places-test+else-left-past_end, else-places-test, then-places-test+then-left-past_end+in_default}
 
 pub places-preserved : goal.places-preserved
 places-preserved g c =
@@ -37,7 +26,7 @@ places-preserved g c =
     let more : at < length text = omega arith in
     let past = (stands law text is count at refl).past in
     let room : c.places.count < length c.places.buffer = omega arith in
-    let token_is : token ≡ first (drop at text) = token_taken edition (drop at text) past c.places.tokens inv.mode inv.rest (omega (arith, length-drop at text)) c.next.new.tokens token takes in
+    let token_is : token ≡ first (drop at text) = token_taken edition (drop at text) past c.places.tokens inv.mode inv.rest (omega (arith, length-drop at text)) c.next.new.self token takes in
     let place = next_place law text is count at refl more in
     record {
       mode = takes.mode ∙ ap (λ (m : Mode). mode_after m token.kind) inv.mode;
@@ -46,3 +35,40 @@ places-preserved g c =
           (next_token law text is count at refl more) room c.of.result (c.of.ensures ∙ ap g.R.Record.written token_is);
       begun = begun_more (tokens_by first text) count at c.args.end refl early inv.begun;
     }
+
+pub returns-clause-filled : goal.returns-clause-filled
+returns-clause-filled g c =
+    let edition : Edition = c.args.self.now.edition in
+    let first : List ℕ → Token = first_token_in edition in
+    let text : List ℕ = c.args.text.now in
+    let is : IsText text = record { utf8 = c.utf8.text; fits = c.requires.fits } in
+    let inv = c.places.invariant in
+    let count : ℕ = c.places.count in
+    let at : ℕ = bound (tokens_by first text) count in
+    let place = stands (edition_grammar edition) text is count at refl in
+    let left : length c.places.tokens.rest ≡ length text - at = ap length inv.rest ∙ length-drop at text in
+    let done : count < length c.places.buffer → c.args.end ≤ at = elim c.places-test.branch [
+      | then-places-test+else-left-past_end w ↦ λ more. omega (arith, left, place.inside, w.left.ensures, w.if-left-past_end.false)
+      | else-places-test w ↦ λ more. absurd (omega arith)
+      | then-places-test+then-left-past_end+in_default w ↦
+          let some = some_left edition (drop at text) place.past c.places.tokens inv.mode inv.rest (omega (arith, left, length-drop at text, w.left.ensures, w.if-left-past_end.true)) in
+          let none = ap (λ (ts : List Token). length ts) w.in_default.ensures.steps.0 in
+          λ more. absurd (omega (arith, some, none))
+    ] in
+    written_to g.R.Record.written c.args.end (tokens_by first text) c.args.buffer.now c.places.buffer count at inv.written refl inv.begun done
+
+pub returns-clause-bytes : goal.returns-clause-bytes
+returns-clause-bytes g c =
+    let edition : Edition = c.args.self.now.edition in
+    let first : List ℕ → Token = first_token_in edition in
+    let text : List ℕ = c.args.text.now in
+    let is : IsText text = record { utf8 = c.utf8.text; fits = c.requires.fits } in
+    let inv = c.places.invariant in
+    let at : ℕ = bound (tokens_by first text) c.places.count in
+    let place = stands (edition_grammar edition) text is c.places.count at refl in
+    let rest : c.places-test.tokens.rest ≡ drop at text = elim c.places-test.branch [
+      | then-places-test+else-left-past_end w ↦ ap (λ (s : State). s.rest) w.tokens-is ∙ inv.rest
+      | else-places-test w ↦ ap (λ (s : State). s.rest) w.tokens-is ∙ inv.rest
+      | then-places-test+then-left-past_end+in_default w ↦ ap (λ (s : State). s.rest) w.tokens-is ∙ (ap (λ (s : State). s.rest) w.in_default.ensures.steps.1 ∙ inv.rest)
+    ] in
+    omega (arith, c.left-2.ensures, ap length rest, length-drop at text, place.inside)
