@@ -122,11 +122,11 @@ module _ (p other : ℕ → Bool) (parted : (b : ℕ) → (p b && other b) ≡ f
 
 -- ---- what the first byte tells
 
-pub classified_table : (b : ℕ) (none : Option TokenKind) → b < 256 → get_or CLASSIFIED b none ≡ classified b
+pub classified_table : (b : ℕ) (none : Option TokenKind) → b < 256 → get_or CLASSIFIED.now b none ≡ classified b
 unfolding is_emoji unicode_ident
 classified_table b none small = get_or-map-range_with_len classified 0 256 b b none small (omega arith)
 
-pub symbols_table : (b : ℕ) (none : TokenKind) → b < 128 → get_or SYMBOLS b none ≡ symbol_kind b
+pub symbols_table : (b : ℕ) (none : TokenKind) → b < 128 → get_or SYMBOLS.now b none ≡ symbol_kind b
 symbols_table b none small = get_or-map-range_with_len symbol_kind 0 128 b b none small (omega arith)
 
 is_word_family : Family → Bool

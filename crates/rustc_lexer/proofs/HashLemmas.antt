@@ -83,8 +83,8 @@ hash_alone guards text b rest is e small family none = first_by guards text _ (p
 pub hash_older : (text : List ℕ) (b : ℕ) (rest : List ℕ) → IsUtf8 text → text ≡ b ∷ rest → b < 128 → Hash ≡ family_of b → IsFirstBy false text record { kind = Pound; len = 1 }
 hash_older text b rest is e small family =
     by_either (next_is is_guarded_mark rest)
-        (λ mark. pound_by text (prefix_first text b rest is e small family mark) past)
-        (λ none. hash_alone false text b rest is e small family none)
+    (λ mark. pound_by text (prefix_first text b rest is e small family mark) past)
+    (λ none. hash_alone false text b rest is e small family none)
   where
     past : IsCharBoundary text 1
     past =

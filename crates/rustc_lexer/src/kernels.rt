@@ -4,7 +4,7 @@ ghost use Rattle.std.specs.Prelude.{◌≡◌, ◌≤◌, ◌<◌, ◌&&◌, ◌
 ghost use Rattle.std.specs.List.{prefix_len};
 ghost use Rattle.std.specs.Simd.Lanes.{mask_l};
 ghost use Rattle.std.proofs.Common.{arith};
-ghost use Rattle.rustc_lexer.specs.means.ByteRuns.{is_continue_byte, is_space_byte, is_decimal_byte, is_hexadecimal_byte, outside};
+ghost use Rattle.rustc_lexer.specs.means.ByteRuns.{is_continue_byte, is_space_byte, outside};
 ghost use Rattle.rustc_lexer.specs.means.Ends.{bit, IsEnds};
 ghost use Rattle.rustc_lexer.specs.means.Quick.{is_space_lead, turns_word};
 ghost use Rattle.rustc_lexer.specs.means.Raw.{closes};
@@ -86,61 +86,6 @@ impl ByteClass for Space {
         let v = u8x16::from_slice(bytes);
         let from_tab = v - u8x16::splat(b'\t');
         (v.simd_ne(u8x16::splat(b' ')) & from_tab.simd_ge(u8x16::splat(5))).to_bitmask()
-    }
-}
-
-/// Decimal digits and underscores.
-#[derive(Clone, Copy)]
-pub(crate) struct Decimal;
-
-impl ByteClass for Decimal {
-    const WIDTH: usize = 32;
-
-    ghost WIDTH = { 32 };
-
-    ghost width_fits = { (omega arith, omega arith) };
-
-    ghost passes = { is_decimal_byte };
-
-    #[inline(always)]
-    fn has(byte: u8) -> bool {
-        byte.is_ascii_digit() || byte == b'_'
-    }
-
-    #[inline(always)]
-    fn stops(bytes: &[u8]) -> u64 {
-        let v = u8x32::from_slice(bytes);
-        let from_0 = v - u8x32::splat(b'0');
-        (from_0.simd_ge(u8x32::splat(10)) & v.simd_ne(u8x32::splat(b'_'))).to_bitmask()
-    }
-}
-
-/// Hexadecimal digits and underscores.
-#[derive(Clone, Copy)]
-pub(crate) struct Hexadecimal;
-
-impl ByteClass for Hexadecimal {
-    const WIDTH: usize = 32;
-
-    ghost WIDTH = { 32 };
-
-    ghost width_fits = { (omega arith, omega arith) };
-
-    ghost passes = { is_hexadecimal_byte };
-
-    #[inline(always)]
-    fn has(byte: u8) -> bool {
-        byte.is_ascii_hexdigit() || byte == b'_'
-    }
-
-    #[inline(always)]
-    fn stops(bytes: &[u8]) -> u64 {
-        let v = u8x32::from_slice(bytes);
-        let from_a = (v | u8x32::splat(0x20)) - u8x32::splat(b'a');
-        let from_0 = v - u8x32::splat(b'0');
-        (from_a.simd_ge(u8x32::splat(6))
-            & from_0.simd_ge(u8x32::splat(10))
-            & v.simd_ne(u8x32::splat(b'_'))).to_bitmask()
     }
 }
 

@@ -7,14 +7,13 @@ ghost use Rattle.memchr.specs.Find.{is_byte, is_byte2};
 ghost use Rattle.rustc_lexer.specs.means.ByteRuns.{is_continue_byte, is_wide};
 ghost use Rattle.rustc_lexer.specs.Classes;
 ghost use Rattle.rustc_lexer.specs.means.Number.{or_underscore};
-ghost use Rattle.rustc_lexer.specs.means.Raw.{hash_run, is_hash, is_quote};
+ghost use Rattle.rustc_lexer.specs.means.Raw;
+ghost use Rattle.rustc_lexer.specs.means.Raw.{hash_run, is_quote};
 ghost use Rattle.rustc_lexer.specs.means.Scan;
 ghost use Rattle.rustc_lexer.specs.means.Scan.{begins, past, run_len};
 
 use crate::classes::is_whitespace;
-use crate::kernels::{
-    Continue, Decimal, Hexadecimal, Space, ends_space, find, find_either, run_end, short_run_end,
-};
+use crate::kernels::{Continue, Space, ends_space, find, find_either, run_end, short_run_end};
 
 /// Returns the first character, or U+0000 if the text is empty.
 pub(crate) fn first(rest: &str) -> char
@@ -104,14 +103,16 @@ pub(crate) fn strip_quote(rest: &str) -> Option<&str>
     }
 }
 
-/// Returns how many hashes are at the front.
+/// Returns how many bytes at the front pass the test. Mostly these are few, so it looks at one at a time.
 #[inline(always)]
-fn hash_end(bytes: &[u8]) -> usize
-    ensures value { result ≡ prefix_len is_hash bytes.now }
+fn front_end<F: Fn(u8) -> bool>(bytes: &[u8], test: F) -> usize
+    requires callable { F.IsAlwaysCallable test }
+    ensures value { (class : ℕ → Bool) → ((b : ℕ) (passes : Bool) → F.post test b passes → passes ≡ class b)
+        → result ≡ prefix_len class bytes.now }
     ensures bound { result ≤ length bytes.now }
 {
     let mut end = 0;
-    'hashes: while end < bytes.len() && bytes[end] == b'#' {
+    'front: while end < bytes.len() && test(bytes[end]) {
         end += 1;
     }
     end
@@ -119,12 +120,17 @@ fn hash_end(bytes: &[u8]) -> usize
 
 /// Returns the text after the hashes at the front.
 #[inline(always)]
-#[tactic(auto, using(crate::proofs::BridgeLemmas::may_cut_small, crate::proofs::BridgeLemmas::past_small, crate::proofs::HashLemmas::hash_lemmas, std::proofs::lemmas::Grind::common_steps))]
 pub(crate) fn eat_hashes(rest: &str) -> &str
     ensures shorter { length result.now ≤ length rest.now }
     ensures past { result.now ≡ past (hash_run (chars rest.now)) rest.now }
 {
-    &rest[hash_end(rest.as_bytes())..]
+    &rest[front_end(rest.as_bytes(), is_hash)..]
+}
+
+fn is_hash(byte: u8) -> bool
+    ensures { result ≡ Raw.is_hash byte }
+{
+    byte == b'#'
 }
 
 /// Returns the text after the characters at the front that pass the test.
@@ -282,12 +288,7 @@ pub(crate) fn eat_decimal(rest: &str) -> &str
     ensures past { result.now
         ≡ past (run_len (or_underscore is_ascii_digit) (chars rest.now)) rest.now }
 {
-    let left = &rest[run_end::<Decimal>(rest.as_bytes())..];
-    if begins_wide(left) {
-        eat_while(left, is_digit_or_underscore)
-    } else {
-        left
-    }
+    &rest[front_end(rest.as_bytes(), is_digit_or_underscore)..]
 }
 
 /// Returns the text after the hexadecimal digits and underscores at the front.
@@ -297,22 +298,17 @@ pub(crate) fn eat_hexadecimal(rest: &str) -> &str
     ensures past { result.now
         ≡ past (run_len (or_underscore is_ascii_hexdigit) (chars rest.now)) rest.now }
 {
-    let left = &rest[run_end::<Hexadecimal>(rest.as_bytes())..];
-    if begins_wide(left) {
-        eat_while(left, is_hex_digit_or_underscore)
-    } else {
-        left
-    }
+    &rest[front_end(rest.as_bytes(), is_hex_digit_or_underscore)..]
 }
 
-fn is_digit_or_underscore(c: char) -> bool
-    ensures { result ≡ or_underscore is_ascii_digit c }
+fn is_digit_or_underscore(byte: u8) -> bool
+    ensures { result ≡ or_underscore is_ascii_digit byte }
 {
-    c.is_ascii_digit() || c == '_'
+    byte.is_ascii_digit() || byte == b'_'
 }
 
-fn is_hex_digit_or_underscore(c: char) -> bool
-    ensures { result ≡ or_underscore is_ascii_hexdigit c }
+fn is_hex_digit_or_underscore(byte: u8) -> bool
+    ensures { result ≡ or_underscore is_ascii_hexdigit byte }
 {
-    c.is_ascii_hexdigit() || c == '_'
+    byte.is_ascii_hexdigit() || byte == b'_'
 }

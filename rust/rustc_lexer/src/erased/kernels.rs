@@ -59,50 +59,6 @@ impl ByteClass for Space {
     }
 }
 
-/// Decimal digits and underscores.
-#[derive(Clone, Copy)]
-pub(crate) struct Decimal;
-
-impl ByteClass for Decimal {
-    const WIDTH: usize = 32;
-
-    #[inline(always)]
-    fn has(byte: u8) -> bool {
-        byte.is_ascii_digit() || byte == b'_'
-    }
-
-    #[inline(always)]
-    fn stops(bytes: &[u8]) -> u64 {
-        let v = u8x32::from_slice(bytes);
-        let from_0 = v - u8x32::splat(b'0');
-        (from_0.simd_ge(u8x32::splat(10)) & v.simd_ne(u8x32::splat(b'_'))).to_bitmask()
-    }
-}
-
-/// Hexadecimal digits and underscores.
-#[derive(Clone, Copy)]
-pub(crate) struct Hexadecimal;
-
-impl ByteClass for Hexadecimal {
-    const WIDTH: usize = 32;
-
-    #[inline(always)]
-    fn has(byte: u8) -> bool {
-        byte.is_ascii_hexdigit() || byte == b'_'
-    }
-
-    #[inline(always)]
-    fn stops(bytes: &[u8]) -> u64 {
-        let v = u8x32::from_slice(bytes);
-        let from_a = (v | u8x32::splat(0x20)) - u8x32::splat(b'a');
-        let from_0 = v - u8x32::splat(b'0');
-        (from_a.simd_ge(u8x32::splat(6))
-            & from_0.simd_ge(u8x32::splat(10))
-            & v.simd_ne(u8x32::splat(b'_')))
-        .to_bitmask()
-    }
-}
-
 /// Returns a mask. Bit k is set if lane k belongs to a word.
 #[inline(always)]
 fn words(v: u8x64) -> u64 {

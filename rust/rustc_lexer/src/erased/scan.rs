@@ -2,7 +2,7 @@
 
 use crate::erased::classes::is_whitespace;
 use crate::erased::kernels::{
-    Continue, Decimal, Hexadecimal, Space, ends_space, find, find_either, run_end, short_run_end,
+    Continue, Space, ends_space, find, find_either, run_end, short_run_end,
 };
 
 /// Returns the first character, or U+0000 if the text is empty.
@@ -69,11 +69,11 @@ pub(crate) fn strip_quote(rest: &str) -> Option<&str> {
     }
 }
 
-/// Returns how many hashes are at the front.
+/// Returns how many bytes at the front pass the test. Mostly these are few, so it looks at one at a time.
 #[inline(always)]
-fn hash_end(bytes: &[u8]) -> usize {
+fn front_end<F: Fn(u8) -> bool>(bytes: &[u8], test: F) -> usize {
     let mut end = 0;
-    while end < bytes.len() && bytes[end] == b'#' {
+    while end < bytes.len() && test(bytes[end]) {
         end += 1;
     }
     end
@@ -82,7 +82,11 @@ fn hash_end(bytes: &[u8]) -> usize {
 /// Returns the text after the hashes at the front.
 #[inline(always)]
 pub(crate) fn eat_hashes(rest: &str) -> &str {
-    &rest[hash_end(rest.as_bytes())..]
+    &rest[front_end(rest.as_bytes(), is_hash)..]
+}
+
+fn is_hash(byte: u8) -> bool {
+    byte == b'#'
 }
 
 /// Returns the text after the characters at the front that pass the test.
@@ -200,29 +204,19 @@ pub(crate) fn eat_until_either(rest: &str, one: u8, two: u8) -> &str {
 /// Returns the text after the digits and underscores at the front.
 #[inline]
 pub(crate) fn eat_decimal(rest: &str) -> &str {
-    let left = &rest[run_end::<Decimal>(rest.as_bytes())..];
-    if begins_wide(left) {
-        eat_while(left, is_digit_or_underscore)
-    } else {
-        left
-    }
+    &rest[front_end(rest.as_bytes(), is_digit_or_underscore)..]
 }
 
 /// Returns the text after the hexadecimal digits and underscores at the front.
 #[inline]
 pub(crate) fn eat_hexadecimal(rest: &str) -> &str {
-    let left = &rest[run_end::<Hexadecimal>(rest.as_bytes())..];
-    if begins_wide(left) {
-        eat_while(left, is_hex_digit_or_underscore)
-    } else {
-        left
-    }
+    &rest[front_end(rest.as_bytes(), is_hex_digit_or_underscore)..]
 }
 
-fn is_digit_or_underscore(c: char) -> bool {
-    c.is_ascii_digit() || c == '_'
+fn is_digit_or_underscore(byte: u8) -> bool {
+    byte.is_ascii_digit() || byte == b'_'
 }
 
-fn is_hex_digit_or_underscore(c: char) -> bool {
-    c.is_ascii_hexdigit() || c == '_'
+fn is_hex_digit_or_underscore(byte: u8) -> bool {
+    byte.is_ascii_hexdigit() || byte == b'_'
 }

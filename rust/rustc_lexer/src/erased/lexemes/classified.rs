@@ -67,7 +67,7 @@ const WORD: Option<TokenKind> = Some(Ident);
 
 /// The kind of the token that begins with a byte, if the token's run and the byte past the run determine all of it. A
 /// look in a table costs less than a branch, since the next byte is hard to predict.
-static CLASSIFIED: [Option<TokenKind>; 256] = [
+const CLASSIFIED: &[Option<TokenKind>; 256] = &[
     OTHER, OTHER, OTHER, OTHER, OTHER, OTHER, OTHER, OTHER, OTHER, SPACE, SPACE, SPACE, SPACE,
     SPACE, OTHER, OTHER, OTHER, OTHER, OTHER, OTHER, OTHER, OTHER, OTHER, OTHER, OTHER, OTHER,
     OTHER, OTHER, OTHER, OTHER, OTHER, OTHER, SPACE, BANG, None, None, DOLLAR, PERCENT, AND, None,
@@ -88,7 +88,7 @@ static CLASSIFIED: [Option<TokenKind>; 256] = [
 ];
 
 /// The kind of each character in ASCII by itself.
-static SYMBOLS: [TokenKind; 128] = [
+const SYMBOLS: &[TokenKind; 128] = &[
     Unknown, Unknown, Unknown, Unknown, Unknown, Unknown, Unknown, Unknown, Unknown, Unknown,
     Unknown, Unknown, Unknown, Unknown, Unknown, Unknown, Unknown, Unknown, Unknown, Unknown,
     Unknown, Unknown, Unknown, Unknown, Unknown, Unknown, Unknown, Unknown, Unknown, Unknown,
