@@ -145,6 +145,13 @@ async function links() {
 async function follows() {
   await setText('a');
   await untilTrue(`at('differ').textContent === 'Tokens: ${YEARS.map((year) => `1 in ${year}`).join(', ')}. They are the same.'`);
+  // of a text of 100,000 bytes and more what differs is said once 0.3 seconds have passed
+  await setText('a ');
+  await untilTrue(`at('differ').textContent.startsWith('Tokens: 2 in ')`);
+  const soon = await value(`text.value = 'a '.repeat(50000); changed();
+    new Promise((done) => setTimeout(() => done(at('differ').textContent), 100))`);
+  expect(soon.startsWith('Tokens: 2 in '), `of a long text it says at once ${soon}`);
+  await untilTrue(`at('differ').textContent.startsWith('Tokens: 100000 in ')`);
   await setText('0x\n'.repeat(100));
   await value('text.scrollTop = 60 * LINE');
   await untilTrue('at("lines").firstChild.dataset.line === "61" && at("wrong").firstChild.textContent.startsWith("line 61: ")');
@@ -173,6 +180,39 @@ async function carets() {
   await untilTrue('document.querySelector("#tokens [aria-current=true]")?.firstChild.textContent === "1:151"');
   expect(await value(`(([row, list]) => row.top > list.top && row.bottom < list.bottom)([document.querySelector('#tokens [aria-current]'),
     document.querySelector('#listed .scroll')].map((part) => part.getBoundingClientRect()))`), 'the row of the token at the caret is out of sight');
+}
+
+// The cells of the rows of a table.
+const cellsOf = (table) => value(`[...document.querySelectorAll('${table} tbody tr')].map((row) => [...row.children].map((cell) => cell.textContent))`);
+
+function same(found, wanted, what) {
+  expect(JSON.stringify(found) === JSON.stringify(wanted), `${what}: ${JSON.stringify(found)}`);
+}
+
+// What is seen in line 201 of 400, of a whole document past its shebang line, of an edit in the first token, and of a fault
+// in a literal.
+async function seen() {
+  await setText(Array.from({ length: 400 }, (_, number) => `x${number}\n`).join(''));
+  await value('text.scrollTop = 200 * LINE');
+  await untilTrue(`at('lines').firstChild.dataset.line === '201' && document.querySelector('#tokens td').textContent === '201:1'`);
+  same((await cellsOf('#tokens')).slice(0, 2), [['201:1', '890', '4', 'x200', 'Ident ', ''], ['201:5', '894', '1', '\\n', 'Whitespace ', '']],
+    'the list far down');
+  await value('text.scrollTop = 0');
+  await setText('#!/é\nq#b');
+  await value('at("document").click()');
+  await untilTrue(`at('differ').textContent === 'Tokens: ${YEARS.map((year) => `4 in ${year}`).join(', ')}. They differ in 1 place.'`);
+  same(await cellsOf('#tokens'), [['1:5', '5', '1', '\\n', 'Whitespace ', ''], ['2:1', '6', '1', 'q', 'UnknownPrefix ', ''],
+    ['2:2', '7', '1', '#', 'Pound ', ''], ['2:3', '8', '1', 'b', 'Ident ', '']], 'the list of a document');
+  same(await cellsOf('#differences'), [['2:1', 'q', ...YEARS.map((year) => `${year < 2021 ? 'Ident' : 'UnknownPrefix'} q`)]], 'the table of a document');
+  await value('at("document").click()');
+  const drawn = () => value(`[...document.querySelectorAll('.code span')].map((run) => [run.textContent,
+    (({ backgroundColor, textDecorationLine }) => [backgroundColor !== 'rgba(0, 0, 0, 0)', textDecorationLine])(getComputedStyle(run))].flat())`);
+  await setText('"a\\q"');
+  same(await drawn(), [['"a', false, 'none'], ['\\q', false, 'underline'], ['"', false, 'none']], 'a fault in a literal');
+  await setText('ab cd');
+  await value('type(0, 0, "x")');
+  same(await drawn(), [['xab', true, 'none'], [' cd', false, 'none']], 'an edit in the first token');
+  same(await value(`[...document.querySelectorAll('#tokens td:nth-child(4)')].map((cell) => cell.className)`), ['fresh', '', ''], 'the list of that edit');
 }
 
 // Each class of marks has a colour of its own, a fault is underlined, and what was lexed anew has a ground. A light page and a
@@ -297,6 +337,7 @@ const tasks = {
     await help();
     await follows();
     await carets();
+    await seen();
     await colours();
     await widths();
     await open(`#edition=2021&document&text=${encodeURIComponent('#!/bin/sh\n---\na = 1\n---\nfn')}`);

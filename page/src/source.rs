@@ -44,6 +44,22 @@ impl Held {
     }
 }
 
+#[cfg(test)]
+impl Source {
+    /// A text whose tokens are those of one edition, whichever is asked for: they are wrong in others.
+    pub fn in_edition(text: &str, document: bool, edition: Edition) -> Source {
+        let mut source = Source::new();
+        source.change(text, document);
+        source.held = match source.held {
+            Held::Part(texts) => Held::Part(texts.map(|_| LexedText::new_in(text, edition))),
+            Held::Document(texts) => {
+                Held::Document(texts.map(|_| LexedDocument::new_in(text, edition)))
+            }
+        };
+        source
+    }
+}
+
 impl Source {
     /// An empty text.
     pub fn new() -> Source {

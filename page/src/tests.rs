@@ -7,7 +7,7 @@ use crate::seen::{self, piece};
 use crate::source::{EDITIONS, Source};
 use crate::value::value;
 use crate::window::{Line, lines_of};
-use rustc_lexer::{FrontmatterAllowed, tokenize};
+use rustc_lexer::{Edition, FrontmatterAllowed, tokenize};
 
 /// The number of the newest edition.
 const NEWEST: usize = EDITIONS - 1;
@@ -309,6 +309,108 @@ fn what_is_seen() {
     assert!(seen.contains(r#""at":0,"elsewhere":[{ "number":0,"start":0,"bytes":1,"place":"1:1","text":"a","kind":"Ident""#), "{seen}");
     assert!(seen.contains(r#"{ "number":2,"start":2,"bytes":2,"place":"2:1","text":"bd","kind":"Ident","fields":"","value":"","fresh":true}"#), "{seen}");
     assert!(seen.ends_with(r#""place":"1:1"}"#), "{seen}");
+}
+
+/// Line 201 of 400. Each is a word and its end: three bytes in lines 1 to 10, four up to line 100, and then five.
+#[test]
+fn what_is_seen_far_down() {
+    let text: String = (0..400).map(|number| format!("x{number}\n")).collect();
+    let seen = seen::show(&source(&text, false), 200, 1, 4, NEWEST);
+    assert!(
+        seen.starts_with(r#"{ "lines":[{ "runs":[["","x200"]],"said":[]}],"count":800,"begin":0,"#),
+        "{seen}"
+    );
+    let token = r#""kind":"Ident","fields":"","value":"","fresh":false}"#;
+    let tokens = [
+        format!(
+            r#""tokens":[{{ "number":400,"start":890,"bytes":4,"place":"201:1","text":"x200",{token}]"#
+        ),
+        format!(
+            r#""at":2,"elsewhere":[{{ "number":2,"start":3,"bytes":2,"place":"2:1","text":"x1",{token}]"#
+        ),
+    ];
+    assert!(
+        seen.ends_with(&format!(r#"{},{},"place":"2:2"}}"#, tokens[0], tokens[1])),
+        "{seen}"
+    );
+}
+
+/// Places and texts of a document begin past its shebang line, and count that.
+#[test]
+fn what_is_seen_of_a_document() {
+    let mut document = source("#!/é\nq#b", true);
+    let seen = seen::show(&document, 0, 2, 5, NEWEST);
+    let lines = r##""lines":[{ "runs":[["comment","#!/é"]],"said":[]},{ "runs":[[" wrong","q"],["","#b"]],"said":["##;
+    assert!(
+        seen.contains(lines) && seen.contains(r#""count":4,"begin":5,"#),
+        "{seen}"
+    );
+    for token in [
+        r#"{ "number":0,"start":5,"bytes":1,"place":"1:5","text":"\\n","kind":"Whitespace","#,
+        r#"{ "number":1,"start":6,"bytes":1,"place":"2:1","text":"q","kind":"UnknownPrefix","#,
+        r#"{ "number":3,"start":8,"bytes":1,"place":"2:3","text":"b","kind":"Ident","#,
+    ] {
+        assert!(seen.contains(token), "{seen}");
+    }
+    assert!(
+        seen.ends_with(r#""at":1,"elsewhere":[],"place":"2:1"}"#),
+        "{seen}"
+    );
+    let differ = editions::write(&document);
+    let wanted = r#"{ "counts":[4,4,4,4],"differ":1,"places":[{ "place":"2:1","text":"q","editions":[[["Ident","q"]],"#;
+    assert!(differ.starts_with(wanted), "{differ}");
+    document.change("#!/é\nq#bc", true);
+    let seen = seen::show(&document, 1, 1, 5, NEWEST);
+    let lines = r##""lines":[{ "runs":[[" wrong","q"],[" fresh","#bc"]],"said":["##;
+    assert!(seen.contains(lines), "{seen}");
+}
+
+/// An edit in the first token keeps none in front of it, and all others.
+#[test]
+fn an_edit_of_the_first_token() {
+    let mut source = source("ab cd", false);
+    source.change("xab cd", false);
+    let seen = seen::show(&source, 0, 1, 0, NEWEST);
+    assert!(
+        seen.contains(r#""runs":[[" fresh","xab"],[""," cd"]]"#),
+        "{seen}"
+    );
+    assert_eq!(seen.matches(r#""fresh":true"#).count(), 1, "{seen}");
+    assert!(
+        seen.contains(r#""text":"xab","kind":"Ident","fields":"","value":"","fresh":true"#),
+        "{seen}"
+    );
+}
+
+/// A fault inside a literal is marked there alone.
+#[test]
+fn faults_inside_literals() {
+    let source = source(r#""a\q\n""#, false);
+    let line = &lines(&source)[0];
+    let runs: Vec<_> = line
+        .runs
+        .iter()
+        .map(|run| (&*run.class, run.wrong, &*run.text))
+        .collect();
+    let wanted = [
+        ("text", false, "\"a"),
+        ("text", true, "\\q"),
+        ("escape", false, "\\n"),
+        ("text", false, "\""),
+    ];
+    assert_eq!((runs, line.said.len()), (wanted.to_vec(), 1));
+}
+
+/// The page's checks of itself answer where tokens are wrong, here those of an older edition: there a raw string begins in
+/// the first line, and since 2021 a string, in which the second line has a fault.
+#[test]
+fn checks_that_answer() {
+    for document in [false, true] {
+        let source = Source::in_edition("'r#r\"\n\\q\"", document, Edition::E2018);
+        assert_eq!(source.as_lexed_anew(), "2021");
+        assert_eq!(seen::parts_alike(&source, NEWEST), "2");
+        assert_eq!(seen::parts_alike(&source, 0), "");
+    }
 }
 
 /// A caret behind all tokens is at the last of them, and at none where there is none.

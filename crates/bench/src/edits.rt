@@ -1,7 +1,7 @@
 //! Edits of a text that is kept with its tokens.
 ghost use Rattle.rustc_lexer.specs.Classes.{Fits};
 
-use anyhow::{Result, bail};
+use anyhow::Result;
 use lex_vectors::steppers::Counting;
 use rustc_lexer::{LexedText, Stepper};
 use std::time::Instant;
@@ -49,32 +49,6 @@ pub(crate) fn time_edits(rt: &HostRuntime, text: &str, place: Place, times: u32)
         work.edits, work.lexed, work.sum
     )?;
     println!(rt; "one edit {one_edit} ns, lexing the whole {least_whole} ns")?;
-    Ok(())
-}
-
-/// Inserts the text into its own middle and takes it out again, so many times, and prints the least time of
-/// inserting it.
-pub(crate) fn time_pastes(rt: &HostRuntime, text: &str, times: u32) -> Result<()>
-    requires { Fits text.now }
-{
-    let mut held = LexedText::new(rt.alloc(), text)?;
-    let at = index_of(Place::Middle, text.len(), 0);
-    let past = at.wrapping_add(text.len());
-    let mut lexed = 0;
-    let mut least = u128::MAX;
-    for _ in 0..times {
-        if !held.accepts(at, at, text) {
-            bail!("the text cannot be put into its middle");
-        }
-        let start = Instant::now(rt)?;
-        lexed = held.edit(at, at, text)?.lexed;
-        least = least.min(start.elapsed(rt)?.as_nanos());
-        if held.accepts(at, past, "") {
-            held.edit(at, past, "")?;
-        }
-    }
-    println!(rt; "tokens {}, tokens lexed {lexed}", held.tokens().len())?;
-    println!(rt; "least time {least} ns")?;
     Ok(())
 }
 

@@ -1,7 +1,7 @@
 //! Lexes a text many times.
 ghost use Rattle.rustc_lexer.specs.Classes.{Fits};
 
-use anyhow::{Result, bail};
+use anyhow::Result;
 use rustc_lexer::{DocStyle, FrontmatterAllowed, LiteralKind, Token, TokenKind, tokenize};
 use std::time::Instant;
 
@@ -18,18 +18,7 @@ impl TokenSum {
     /// Each token is weighed by its place. A chain of products would take longer than the lexer does.
     #[inline(always)]
     fn and(self, token: Token) -> TokenSum {
-        self.and_number(number_of(token.kind), token.len)
-    }
-
-    /// Adds a token by its kind and length.
-    #[inline(always)]
-    fn and_kind(self, token: Token) -> TokenSum {
-        self.and_number(with_fields(token.kind.number(), 0), token.len)
-    }
-
-    #[inline(always)]
-    fn and_number(self, number: u64, len: u32) -> TokenSum {
-        let said = number.wrapping_add((len as u64) << 32);
+        let said = number_of(token.kind).wrapping_add((token.len as u64) << 32);
         let place = self.count.wrapping_mul(2).wrapping_add(1);
         TokenSum {
             count: self.count.wrapping_add(1),
@@ -38,74 +27,25 @@ impl TokenSum {
     }
 }
 
-/// How to lex a text, and what to read of its tokens.
-#[derive(Clone, Copy, PartialEq, Eq)]
-pub(crate) enum Way {
-    /// One token after another, all fields.
-    Next,
-    /// One token after another, only kinds and lengths.
-    NextKinds,
-    /// Many tokens at once, all fields.
-    Fill,
-    /// Many tokens at once, only kinds and lengths.
-    FillKinds,
-    /// Many tokens at once, without reading them.
-    FillAlone,
-}
-
-impl Way {
-    /// Returns the label of its time.
-    fn name(self) -> &'static str {
-        match self {
-            Way::FillKinds => "least time of many at once",
-            Way::FillAlone => "least time with no look at the tokens",
-            _ => "least time",
-        }
-    }
-}
-
-/// Lexes the text so many times in each way, and prints the sums, and the least time of each way.
-pub(crate) fn time_ways(rt: &HostRuntime, text: &str, times: u32, ways: &[Way]) -> Result<()>
+/// Lexes the text so many times, and prints the sum and the least time.
+pub(crate) fn time_lexing(rt: &HostRuntime, text: &str, times: u32) -> Result<()>
     requires { Fits text.now }
 {
-    let mut first = None;
-    for way in ways {
-        let mut tokens = TokenSum::default();
-        let mut least = u128::MAX;
-        for _ in 0..times {
-            let start = Instant::now(rt)?;
-            tokens = sum_by(text, *way);
-            least = least.min(start.elapsed(rt)?.as_nanos());
-        }
-        match first {
-            None => println!(rt; "tokens {}, sum {}", tokens.count, tokens.sum)?,
-            Some((count, sum)) => {
-                if count != tokens.count || (sum != tokens.sum && *way != Way::FillAlone) {
-                    bail!("two ways to lex find different tokens");
-                }
-            }
-        }
-        first = Some((tokens.count, tokens.sum));
-        println!(rt; "{} {least} ns", way.name())?;
+    let mut tokens = TokenSum::default();
+    let mut least = u128::MAX;
+    for _ in 0..times {
+        let start = Instant::now(rt)?;
+        tokens = sum_tokens(text);
+        least = least.min(start.elapsed(rt)?.as_nanos());
     }
+    println!(rt; "tokens {}, sum {}", tokens.count, tokens.sum)?;
+    println!(rt; "least time {least} ns")?;
     Ok(())
 }
 
-/// Lexes the text once.
-pub(crate) fn sum_by(text: &str, way: Way) -> TokenSum
-    requires { Fits text.now }
-{
-    match way {
-        Way::Next => sum_tokens(text),
-        Way::NextKinds => sum_kinds(text),
-        Way::Fill => sum_filled(text),
-        Way::FillKinds => sum_filled_kinds(text),
-        Way::FillAlone => count_filled(text),
-    }
-}
-
+/// Lexes the text once, one token after another.
 #[inline(never)]
-fn sum_tokens(text: &str) -> TokenSum
+pub(crate) fn sum_tokens(text: &str) -> TokenSum
     requires { Fits text.now }
 {
     let mut tokens = TokenSum::default();
@@ -113,69 +53,6 @@ fn sum_tokens(text: &str) -> TokenSum
         tokens = tokens.and(token);
     }
     tokens
-}
-
-#[inline(never)]
-fn sum_kinds(text: &str) -> TokenSum
-    requires { Fits text.now }
-{
-    let mut tokens = TokenSum::default();
-    for token in tokenize(text, FrontmatterAllowed::No) {
-        tokens = tokens.and_kind(token);
-    }
-    tokens
-}
-
-#[inline(never)]
-fn sum_filled(text: &str) -> TokenSum
-    requires { Fits text.now }
-{
-    sum_blocks(text, Way::Fill)
-}
-
-#[inline(never)]
-fn sum_filled_kinds(text: &str) -> TokenSum
-    requires { Fits text.now }
-{
-    sum_blocks(text, Way::FillKinds)
-}
-
-#[inline(never)]
-fn count_filled(text: &str) -> TokenSum
-    requires { Fits text.now }
-{
-    sum_blocks(text, Way::FillAlone)
-}
-
-/// How many tokens are lexed at once.
-const BUFFER_LEN: usize = 256;
-
-/// Lexes the text once, many tokens at a time.
-#[inline(always)]
-fn sum_blocks(text: &str, way: Way) -> TokenSum
-    requires { Fits text.now }
-{
-    let mut sum = TokenSum::default();
-    let mut buffer = [Token {
-        kind: TokenKind::Eof,
-        len: 0,
-    }; BUFFER_LEN];
-    let mut tokens = tokenize(text, FrontmatterAllowed::No);
-    'left: while !tokens.as_str().is_empty() {
-        let count = tokens.fill(&mut buffer);
-        if way == Way::FillAlone {
-            sum.count = sum.count.wrapping_add(count as u64);
-            continue;
-        }
-        for token in &buffer[..count] {
-            sum = if way == Way::Fill {
-                sum.and(*token)
-            } else {
-                sum.and_kind(*token)
-            };
-        }
-    }
-    sum
 }
 
 /// Returns a number for each kind with its fields.

@@ -1,17 +1,15 @@
 //! Measures the lexer on a text from standard input: how long it takes to lex or to edit it.
 //!
-//! `bench lex TIMES` lexes the text so many times, and `bench bulk TIMES` lexes it many tokens at once. `bench
-//! kinds TIMES` does both, and reads only kinds and lengths. `bench edit PLACE TIMES` keeps the text with its
-//! tokens and types and deletes so many letters; PLACE is `middle`, `end` or `jumping`. `bench paste TIMES`
-//! inserts the text into its own middle. `bench work PLACE TIMES` edits like `edit` and counts the work: the
-//! calls of the stepper, the bytes of the tokens that they gave, and the tokens that moved. `bench check` does a
-//! little of each and reads no clock, so that it prints the same each time.
+//! `bench lex TIMES` lexes the text so many times. `bench edit PLACE TIMES` keeps the text with its tokens and types
+//! and deletes so many letters; PLACE is `middle`, `end` or `jumping`. `bench check` lexes, edits and counts the work of
+//! edits: the calls of the stepper, the bytes of the tokens that they gave, and the tokens that moved. It reads no
+//! clock, so that it prints the same each time.
 #![tactic(auto)]
 
 ghost use Rattle.rustc_lexer.specs.Classes.{Fits};
 
-use crate::edits::{Place, edit_letters, print_work, time_edits, time_pastes};
-use crate::lexing::{Way, sum_by, time_ways};
+use crate::edits::{Place, edit_letters, print_work, time_edits};
+use crate::lexing::{sum_tokens, time_lexing};
 use anyhow::{Context, Result, bail};
 use rustc_lexer::{LexedText, fits};
 use std::env;
@@ -20,7 +18,7 @@ use std::io::Read;
 mod edits;
 mod lexing;
 
-const USAGE: &str = "give check, or lex, bulk, kinds, edit, paste or work with how many times";
+const USAGE: &str = "give check, lex TIMES or edit PLACE TIMES";
 
 fn main(rt: HostRuntime) -> Result<()> {
     let mut bytes = Vec::new(rt.alloc());
@@ -33,24 +31,19 @@ fn main(rt: HostRuntime) -> Result<()> {
     let mut words = env::args(&rt)?;
     let _program = words.next();
     let command = words.next();
-    let place = match command.as_deref() {
-        Some("edit" | "work") => read_place(words.next())?,
-        _ => Place::Middle,
-    };
-    let times = match command.as_deref() {
-        Some("check") => 1,
-        _ => words.next().context(USAGE)?.parse::<u32>()?,
-    };
     match command.as_deref() {
         Some("check") => check(&rt, text),
-        Some("lex") => time_ways(&rt, text, times, &[Way::Next]),
-        Some("bulk") => time_ways(&rt, text, times, &[Way::Fill, Way::FillAlone]),
-        Some("kinds") => time_ways(&rt, text, times, &[Way::NextKinds, Way::FillKinds]),
-        Some("edit") => time_edits(&rt, text, place, times),
-        Some("paste") => time_pastes(&rt, text, times),
-        Some("work") => print_work(&rt, text, place, times),
+        Some("lex") => time_lexing(&rt, text, read_times(words.next())?),
+        Some("edit") => {
+            let place = read_place(words.next())?;
+            time_edits(&rt, text, place, read_times(words.next())?)
+        }
         _ => bail!(USAGE),
     }
+}
+
+fn read_times(word: Option<String>) -> Result<u32> {
+    Ok(word.context(USAGE)?.parse::<u32>()?)
 }
 
 fn read_place(word: Option<String>) -> Result<Place> {
@@ -66,10 +59,8 @@ fn read_place(word: Option<String>) -> Result<Place> {
 fn check(rt: &HostRuntime, text: &str) -> Result<()>
     requires { Fits text.now }
 {
-    for (name, way) in [("", Way::Next), ("in bulk: ", Way::Fill)] {
-        let tokens = sum_by(text, way);
-        println!(rt; "{name}tokens {}, sum {}", tokens.count, tokens.sum)?;
-    }
+    let tokens = sum_tokens(text);
+    println!(rt; "tokens {}, sum {}", tokens.count, tokens.sum)?;
     for (name, place) in [
         ("middle", Place::Middle),
         ("end", Place::End),

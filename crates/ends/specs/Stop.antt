@@ -5,31 +5,27 @@ use Rattle.ends.specs.Known.{AppendsFront}
 use Rattle.ends.specs.declared.reading.ReadStop.{ReadStop}
 use Rattle.ends.specs.declared.reading.ReadStop.TheVariants.{TooLong as TooLongRead, Memory as MemoryRead, Failed as FailedRead}
 use Rattle.ends.specs.declared.stop.Stop.{Stop}
-use Rattle.ends.specs.declared.stop.Stop.TheVariants.{Arguments, Untidy, Skipped, NotUtf8, TooLong, Memory, Read, Write, ClosedPipe}
+use Rattle.ends.specs.declared.stop.Stop.TheVariants.{Arguments, NotUtf8, TooLong, Memory, Read, Write, ClosedPipe}
 use Rattle.ends.specs.declared.writing.WriteStop.{WriteStop}
 use Rattle.ends.specs.declared.writing.WriteStop.TheVariants.{Failed as FailedWrite, ClosedPipe as ClosedPipeWrite}
 
 abbrev pub status_of : Stop → ℕ
 status_of ClosedPipe = 0
-status_of Untidy = 1
 status_of Arguments = 2
-status_of Skipped = 3
 status_of NotUtf8 = 3
 status_of TooLong = 4
 status_of Memory = 6
 status_of Read = 7
 status_of Write = 7
 
--- the message of a stop. A closed pipe has none, and skipped paths have been reported already
+-- the message of a stop. A closed pipe has none
 abbrev pub stop_text : Stop → Option (List ℕ)
 stop_text Arguments = Some (codes "unknown words; --help tells what it takes")
-stop_text Untidy = Some (codes "not in order")
 stop_text NotUtf8 = Some (codes "input is not UTF-8")
 stop_text TooLong = Some (codes "input too long")
 stop_text Memory = Some (codes "no memory")
 stop_text Read = Some (codes "read failed")
 stop_text Write = Some (codes "write failed")
-stop_text Skipped = None
 stop_text ClosedPipe = None
 
 abbrev pub named_line : List ℕ → Option (List ℕ) → List ℕ

@@ -1,10 +1,8 @@
 -- The pieces of a text, one after another: what is gathered of them, and how they are written.
-use Rattle.std.proofs.Common.{◌≡◌, ℕ, ◌+◌, List, [], ◌∷◌, ◌++◌, length, take, drop, refl, sym, ap, ◌∙◌, take-add, take_all, drop-drop, append_assoc, arith}
+use Rattle.std.proofs.Common.{◌≡◌, ℕ, ◌+◌, List, ◌∷◌, ◌++◌, sym, ap, ◌∙◌, append_assoc}
 use Rattle.std.specs.Fmt.{WritesInCalls}
-use Rattle.std.specs.List.{flat_map}
 use Rattle.rustc_lexer.specs.declared.token.Token.{Token}
 use Rattle.rustc_lexer.specs.Edits.{Placed, pieces_from}
-use Rattle.rustc_lexer.specs.Tokens.{bound, Partitions}
 use Rattle.examples.specs.Repaint.{close_mark, marked, open_mark}
 
 -- what was gathered of the pieces in front of a token, and then what the token gives
@@ -13,16 +11,6 @@ pub gather : {X : Type 0} (of : List Placed → List X) (text : List ℕ) (start
 gather of text start left others token held here more all at first gives pushed =
     ap (λ xs. xs ++ of (pieces_from text (start + token.len) others)) pushed
     ∙ (append_assoc held here (of (pieces_from text (start + token.len) others)) ∙ (ap (λ xs. held ++ xs) (sym gives ∙ ap (λ ts. of (pieces_from text start ts)) (sym first)) ∙ at))
-
--- the texts of the pieces, joined, are the text as far as the tokens go
-pieces-joined : (text : List ℕ) (start : ℕ) (tokens : List Token) → flat_map (λ (piece : Placed). piece.text) (pieces_from text start tokens) ≡ take (bound tokens (length tokens)) (drop start text)
-pieces-joined text start [] = refl
-pieces-joined text start (token ∷ tokens) =
-    ap (λ bs. take token.len (drop start text) ++ bs) (pieces-joined text (start + token.len) tokens ∙ ap (take (bound tokens (length tokens))) (sym (drop-drop token.len start text)))
-    ∙ sym (take-add token.len (bound tokens (length tokens)) (drop start text))
-
-pub joined_whole : (text : List ℕ) (tokens : List Token) → Partitions text tokens → flat_map (λ (piece : Placed). piece.text) (pieces_from text 0 tokens) ≡ text
-joined_whole text tokens cut = pieces-joined text 0 tokens ∙ take_all (bound tokens (length tokens)) text (let w = cut.whole in omega arith)
 
 module _ {W : Type 0} (took : W → List ℕ → W → Type 0) where
   -- one more call before the others

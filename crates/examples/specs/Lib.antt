@@ -1,9 +1,6 @@
 pub mod Arriving
 pub mod Comments
 pub mod Joined
-pub mod Names
 pub mod RawStrings
 pub mod Repaint
 pub mod Slices
-pub mod Split
-pub mod Suffixes

@@ -3,10 +3,7 @@
 
 pub mod arriving;
 pub mod comments;
-pub mod names;
 pub mod raw_strings;
 pub mod repaint;
 pub mod same;
 pub mod slices;
-pub mod split;
-pub mod suffixes;

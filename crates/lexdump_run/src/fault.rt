@@ -86,7 +86,7 @@ impl From<Stop> for Fault {
             Stop::TooLong => Fault::TooLong,
             Stop::Memory => Fault::Memory,
             Stop::Read => Fault::Read,
-            Stop::Write | Stop::ClosedPipe | Stop::Untidy | Stop::Skipped => Fault::Write,
+            Stop::Write | Stop::ClosedPipe => Fault::Write,
         }
     }
 }

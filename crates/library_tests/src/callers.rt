@@ -1,16 +1,10 @@
 //! Each caller of `examples` on texts made by hand.
-use crate::table::rows;
-use Edition::{E2015, E2018, E2021, E2024};
 use examples::arriving::{Arriving, lex_pieces};
 use examples::comments::skip_comments;
-use examples::names::first_name;
 use examples::raw_strings::{RawFault, raw_faults};
 use examples::repaint::{edit_shown, repaint};
 use examples::slices::find_word;
-use examples::split::split_in;
-use examples::suffixes::any_suffix;
-use rustc_lexer::{Edition, LexedText, LiteralKind, RawStrError, Relexed, Token, TokenKind, fits};
-use std::alloc::{AllocError, Global};
+use rustc_lexer::{LexedText, LiteralKind, RawStrError, Relexed, Token, TokenKind, fits};
 
 /// Texts, words, and where those come in them.
 static WORDS: &[(&str, &str, Option<usize>)] = &[
@@ -28,40 +22,6 @@ fn words(rt: HostRuntime) {
             fits(text) && find_word(text, word) == *wanted,
             "at {text:?}"
         );
-    }
-}
-
-/// Texts, editions, and the first name in each.
-static NAMES: &[(&str, Edition, Option<&str>)] = &[
-    ("1 + r#fn", E2024, Some("fn")),
-    ("// a\n\"b\" é", E2015, Some("é")),
-    ("z\"a\"", E2021, None),
-    ("z\"a\"", E2018, Some("z")),
-];
-
-#[test]
-fn names(rt: HostRuntime) {
-    for (text, edition, wanted) in NAMES {
-        assert!(rt;
-            fits(text) && first_name(text, *edition) == *wanted,
-            "at {text:?}"
-        );
-    }
-}
-
-/// Texts, and whether a literal in each has a suffix.
-static SUFFIXES: &[(&str, bool)] = &[
-    ("a 1u", true),
-    ("\"a\"s", true),
-    ("1 'a' b", false),
-    ("\"as", false),
-    ("r##\"a\"#s", false),
-];
-
-#[test]
-fn suffixes(rt: HostRuntime) {
-    for (text, wanted) in SUFFIXES {
-        assert!(rt; fits(text) && any_suffix(text) == *wanted, "at {text:?}");
     }
 }
 
@@ -148,23 +108,4 @@ fn paint_after_an_edit(rt: HostRuntime) {
     let mut written = String::new(rt.alloc());
     assert!(rt; repaint(&lexed, relexed, &mut written).is_ok());
     assert_eq!(rt; written.as_str(), "cd - \x1b[32m1\x1b[0m -");
-}
-
-/// Editions, and the parts of the text below in each.
-static PARTS: &[(Edition, &[&str])] = rows! {
-    E2024 => &["r#c", " ", "k#x", " ", "z", "\"s\"", " ", "'r#a", " ", "#\"", "a", "\""];
-    E2021 => &["r#c", " ", "k#x", " ", "z", "\"s\"", " ", "'r#a", " ", "#", "\"a\""];
-    E2018 => &["r#c", " ", "k#x", " ", "z", "\"s\"", " ", "'r", "#", "a", " ", "#", "\"a\""];
-    E2015 => &["r#c", " ", "k#x", " ", "z", "\"s\"", " ", "'r", "#", "a", " ", "#", "\"a\""];
-};
-
-#[test]
-fn parts_in_each_edition(rt: HostRuntime) -> Result<(), AllocError> {
-    let text = "r#c k#x z\"s\" 'r#a #\"a\"";
-    assert!(rt; fits(text));
-    for (edition, wanted) in PARTS {
-        let parts = split_in(rt.alloc(), text, *edition)?;
-        assert!(rt; parts.as_slice() == *wanted, "in {edition:?}");
-    }
-    Ok(())
 }

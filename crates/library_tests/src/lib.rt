@@ -4,10 +4,6 @@
 #[cfg(test)]
 mod callers;
 #[cfg(test)]
-mod erased;
-#[cfg(test)]
 mod literals;
 #[cfg(test)]
 mod table;
-#[cfg(test)]
-mod texts;

@@ -2,8 +2,6 @@
 #![tactic(auto)]
 
 #[cfg(test)]
-mod count;
-#[cfg(test)]
 mod failing_ends;
 #[cfg(test)]
 mod highlight;
@@ -15,7 +13,5 @@ mod marked;
 mod program_ends;
 #[cfg(test)]
 mod runs;
-#[cfg(test)]
-mod tidy;
 #[cfg(test)]
 mod words;

@@ -1,10 +1,8 @@
 //! Each program over readers and writers that fail at one call, give more after their end, or move a part of the
 //! bytes.
-use crate::count::{NO_LINE, ONE_LINE, TABLE};
 use crate::failing_ends::{BYTES, Script, Turn, WHOLE};
-use Program::{Count, Highlight, Lexdump, Tidy};
+use Program::{Highlight, Lexdump};
 use Turn::{Fails, MovesNothing};
-use count_run::{count_stdin, put_report};
 use highlight_run::program::Start;
 use std::alloc::{AllocError, Global};
 use std::env::VarError;
@@ -16,8 +14,6 @@ use std::test::Fail;
 enum Program {
     Lexdump,
     Highlight,
-    Tidy,
-    Count,
 }
 
 /// Runs of a program over a text.
@@ -26,27 +22,22 @@ struct Row {
     text: &'static [u8],
     /// The output.
     written: &'static [u8],
-    /// The status if the input fails, and the output then.
-    unread: (u8, &'static [u8]),
 }
 
-/// Rows `program, text, output, status if the input fails;`.
+/// Rows `program, text, output;`.
 macro_rules! rows {
-    ($($program:ident, $text:literal, $written:expr, $unread:expr;)*) => {
+    ($($program:ident, $text:literal, $written:expr;)*) => {
         &[$(Row {
             program: $program,
             text: $text,
             written: $written,
-            unread: $unread,
         }),*]
     };
 }
 
 static ROWS: &[Row] = rows! {
-    Lexdump, b"ab cd", b"0 2 Ident\n2 1 Whitespace\n3 2 Ident\n", (7, b"");
-    Highlight, b"fn a", b"\x1b[35mfn\x1b[0m a", (7, b"");
-    Tidy, b"fn  ", b"fn\n", (7, b"");
-    Count, b"a // b\n", ONE_LINE, (3, NO_LINE);
+    Lexdump, b"ab cd", b"0 2 Ident\n2 1 Whitespace\n3 2 Ident\n";
+    Highlight, b"fn a", b"\x1b[35mfn\x1b[0m a";
 };
 
 /// The outcome of a run.
@@ -90,17 +81,6 @@ fn run(alloc: Global, program: Program, text: &[u8], script: Script) -> Result<C
             };
             highlight_run::program::program(alloc, start, &mut input, &mut output, &mut errors)
         }
-        Tidy => {
-            let args = Some(words);
-            tidy_run::program::program(alloc, args, &mut input, &mut output, &mut errors)
-        }
-        Count => {
-            let outcome = count_stdin(alloc, &mut input)?;
-            match put_report(alloc, TABLE, &outcome, &mut output) {
-                Ok(()) => 0,
-                Err(stop) => stop.status(),
-            }
-        }
     };
     let failed = [input.failed(), output.failed()];
     let output = output.into_inner();
@@ -121,7 +101,6 @@ fn closed_status(program: Program) -> u8 {
 #[test]
 fn failing_reads(rt: HostRuntime) -> Result<(), Fail> {
     for row in ROWS {
-        let (status, written) = row.unread;
         for call in 0..=row.text.len() {
             for kind in [ErrorKind::Interrupted, ErrorKind::BrokenPipe] {
                 let script = Script {
@@ -129,9 +108,8 @@ fn failing_reads(rt: HostRuntime) -> Result<(), Fail> {
                     ..BYTES
                 };
                 let came = run(rt.alloc(), row.program, row.text, script)?;
-                let flushes = usize::from(!written.is_empty());
-                let calls = [call.saturating_add(1), written.len(), flushes];
-                let holds = came.is(status, [true, false], written, calls);
+                let calls = [call.saturating_add(1), 0, 0];
+                let holds = came.is(7, [true, false], b"", calls);
                 assert!(rt; holds, "read {call} of {:?}", row.program);
             }
         }

@@ -3,7 +3,7 @@ use Rattle.std.proofs.Common.{◌≡◌, ℕ, suc, ◌<◌, ◌≤◌, Bool, tru
 use Rattle.std.specs.Char.{encode_utf8}
 use Rattle.std.specs.List.{prefix_len}
 use Rattle.std.specs.Str.{chars, encode_utf8_all, IsUtf8, IsCharBoundary}
-use Rattle.std.proofs.lemmas.Bool.{lt-ltb, ltb-false, ltb-true}
+use Rattle.std.proofs.lemmas.Bool.{ltb-false, ltb-true}
 use Rattle.std.proofs.lemmas.Str.{chars-nil, chars_past_char, encodes-chars, IsUtf8-past_char, encode_ascii, IsCharBoundary-from_drop}
 use Rattle.std.proofs.lemmas.List.Sums.{prefix_len-le-length}
 use Rattle.std.proofs.lemmas.Grind.{common_steps}
@@ -91,17 +91,6 @@ module _ (q p : ℕ → Bool) (part : IsPart q p) (text bytes : List ℕ) (end :
     unfolding past there e
     stops_here narrow = grind (arith, common_steps, there, stays)
 
--- past a character of the class, and such bytes after it
-pub skip_char : (q p : ℕ → Bool) → IsPart q p → (text left tail : List ℕ) (c : ℕ) → Skips q p text left → chars left ≡ c ∷ chars tail → IsUtf8 tail → p c ≡ true
-    → (bytes : List ℕ) (n : ℕ) (next : List ℕ) → bytes ≡ tail → n ≡ prefix_len q bytes → next ≡ drop n tail → Skips q p text next
-skip_char q p part text left tail c at reads is in_class bytes n next read counted f =
-    let here = left_there q p part tail bytes n is read counted next f in
-    record { utf8 = here.utf8; run = at.run ∙ (ap (past_run p) reads ∙ (past_run-in p c (chars tail) in_class ∙ here.run)); stops = here.stops }
-
--- no byte of the class stands where a byte outside ASCII does
-pub wide_stops : (q p : ℕ → Bool) → IsPart q p → (xs : List ℕ) → next_is is_wide xs ≡ true → next_is q xs ≡ false
-wide_stops q p part w3 e = grind (arith, common_steps, e, lt-ltb)
-
 -- where the run ends
 module _ (q p : ℕ → Bool) (text left : List ℕ) (at : Skips q p text left) where
   pub ends_out : (c : ℕ) (cs : List ℕ) → chars left ≡ c ∷ cs → p c ≡ false → left ≡ past (run_len p (chars text)) text
@@ -111,10 +100,6 @@ module _ (q p : ℕ → Bool) (text left : List ℕ) (at : Skips q p text left) 
   pub ends_none : chars left ≡ [] → left ≡ past (run_len p (chars text)) text
   unfolding past
   ends_none none = sym (at.run ∙ (ap (past_run p) none ∙ (ap encode_utf8_all (sym none) ∙ encodes-chars left at.utf8)))
-
-  pub ends_narrow : IsPart q p → next_is is_wide left ≡ false → left ≡ past (run_len p (chars text)) text
-  unfolding past
-  ends_narrow part narrow = sym (at.run ∙ stays q p part left at.utf8 at.stops narrow)
 
 -- a class in ASCII: its characters are its bytes
 module _ (p : ℕ → Bool) (small : (c : ℕ) → p c ≡ true → c < 128) where

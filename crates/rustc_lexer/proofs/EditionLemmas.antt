@@ -1,7 +1,6 @@
 -- What an edition has in place of some tokens.
-use Rattle.std.proofs.Common.{◌≡◌, ◌≢◌, ◌<◌, ℕ, suc, Bool, true, false, true≢false, List, [], ◌∷◌, length, nat_le, ◌⊎◌, inl, inr, refl, sym, ap, ◌∙◌, Option, Some, IsCharBoundary, arith}
+use Rattle.std.proofs.Common.{◌≡◌, ◌≢◌, ◌<◌, ℕ, suc, Bool, true, false, true≢false, List, [], ◌∷◌, length, nat_le, ◌⊎◌, inl, inr, refl, sym, ap, ◌∙◌, IsCharBoundary, arith}
 use Rattle.rustc_lexer.specs.{Edition, FrontmatterAllowed, Token, TokenKind, E2015, E2018, E2021, E2024, Yes, No, Literal, Eof, Pound, GuardedStrPrefix, RawLifetime, UnknownPrefix, UnknownPrefixLifetime}
-use Rattle.rustc_lexer.specs.LanguageCalls.{edition_of_year}
 use Rattle.rustc_lexer.specs.LanguageText.{mode_in, year}
 use Rattle.rustc_lexer.specs.laws.Choice.{by_either}
 use Rattle.rustc_lexer.specs.laws.Edition.{edition_grammar}
@@ -17,7 +16,6 @@ use Rattle.rustc_lexer.specs.means.Edition.{token, before_2024, before_2021, cha
 use Rattle.rustc_lexer.specs.Classes.{IsText}
 use Rattle.rustc_lexer.specs.means.Frontmatter.{frontmatter, opens}
 use Rattle.rustc_lexer.specs.means.Taking.{token_at}
-use Rattle.std.specs.Option.{unwrap_or}
 use Rattle.std.specs.Str.{chars}
 use Rattle.std.proofs.lemmas.Grind.{common_steps}
 
@@ -68,16 +66,6 @@ changed-at No edition text = refl
 changed-at Yes edition text = by_either (opens (chars text))
     (λ e. rw e (front-same edition text))
     (λ e. rw e refl)
-
--- no two editions have the same year
-edition-back : (edition : Edition) → edition_of_year (year edition) ≡ Some edition
-edition-back E2015 = refl
-edition-back E2018 = refl
-edition-back E2021 = refl
-edition-back E2024 = refl
-
-pub year-only : (edition other : Edition) → year edition ≡ year other → edition ≡ other
-year-only edition other e = ap (λ (o : Option Edition). unwrap_or o edition) (sym (edition-back edition) ∙ (ap edition_of_year e ∙ edition-back other))
 
 -- ---- tokens of the newest edition that another one has too
 

@@ -16,7 +16,6 @@ use Rattle.rustc_lexer.specs.{Edition, TokenKind, Ident, Whitespace}
 use Rattle.rustc_lexer.specs.declared.lexemes.classified.TheConstants.{CLASSIFIED, SYMBOLS}
 use Rattle.rustc_lexer.specs.declared.lexemes.family.Family.{Family}
 use Rattle.rustc_lexer.specs.declared.lexemes.family.Family.TheVariants.{Slash, Space, Word, Number, Quote, Str, Emoji, Hash, Symbol}
-use Rattle.rustc_lexer.specs.Tokens.{has_fields}
 use Rattle.rustc_lexer.specs.means.Edition.{changed}
 use Rattle.rustc_lexer.specs.means.Ends.{bit, goes_on, is_end, AreEndsPast, IsEnds, IsLowest, classified, classified_in, StaysWithin}
 use Rattle.rustc_lexer.specs.means.ByteRuns.{is_continue_byte, is_space_byte}
@@ -25,23 +24,13 @@ use Rattle.rustc_lexer.specs.means.Lexeme.{family_of, symbol_kind}
 use Rattle.rustc_lexer.specs.means.Quick.{is_space_lead, turns_word, IsFirstToken}
 use Rattle.rustc_lexer.specs.means.Scan.{next_is}
 use Rattle.rustc_lexer.proofs.EditionLemmas.{is_newer, older}
-use Rattle.rustc_lexer.proofs.BitLemmas.{below-high, below-low, bit-at_byte, bit-zero, high, past-first, past-later, within}
+use Rattle.rustc_lexer.proofs.BitLemmas.{bit-at_byte, bit-zero, high, past-first, past-later, within}
 use Rattle.rustc_lexer.proofs.QuickLemmas.{word_first, space_first, symbol_first}
 
 -- none is set at the front
 pub all_past : (text : List ℕ) (ends : ℕ) → IsEnds text ends → AreEndsPast text 0 ends
 all_past text ends are zero set = absurd (true≢false (sym set ∙ (are zero set).1 zero (omega arith)))
 all_past text ends are (suc j) set = (omega arith, (are (suc j) set).0, λ k more le. (are (suc j) set).1 k le)
-
--- only those before a place are kept
-pub before_place : (ends place k : ℕ) → bit (bit_and ends (2 ^ place - 1)) k ≡ true → k < place
-before_place ends place k set = grind (arith, common_steps, cases_lt, below-high)
-
-pub ends_before : (text : List ℕ) (ends place : ℕ) → IsEnds text ends → IsEnds text (bit_and ends (2 ^ place - 1))
-ends_before text ends place are j set =
-    let low = before_place ends place j set in
-    let was = are j (sym (below-low ends place j low) ∙ set) in
-    (was.0, λ k le. below-low ends place k (omega arith) ∙ was.1 k le)
 
 pub no_ends : (text : List ℕ) → IsEnds text 0
 no_ends text j set = absurd (true≢false (sym set ∙ bit-zero j))
@@ -122,11 +111,11 @@ module _ (p other : ℕ → Bool) (parted : (b : ℕ) → (p b && other b) ≡ f
 
 -- ---- what the first byte tells
 
-pub classified_table : (b : ℕ) (none : Option TokenKind) → b < 256 → get_or CLASSIFIED b none ≡ classified b
+pub classified_table : (b : ℕ) (none : Option TokenKind) → b < 256 → get_or CLASSIFIED.now b none ≡ classified b
 unfolding is_emoji unicode_ident
 classified_table b none small = get_or-map-range_with_len classified 0 256 b b none small (omega arith)
 
-pub symbols_table : (b : ℕ) (none : TokenKind) → b < 128 → get_or SYMBOLS b none ≡ symbol_kind b
+pub symbols_table : (b : ℕ) (none : TokenKind) → b < 128 → get_or SYMBOLS.now b none ≡ symbol_kind b
 symbols_table b none small = get_or-map-range_with_len symbol_kind 0 128 b b none small (omega arith)
 
 is_word_family : Family → Bool
@@ -283,16 +272,12 @@ module _ (text : List ℕ) (from ends end : ℕ) (kind : TokenKind) (at : TellsA
       let n : suc (end - from - 1) ≡ end - from = omega (arith, after) in
       subst (λ k. IsFirstToken (drop from text) record { kind = kind; len = k }) n (by_len (end - from - 1) e)
 
--- ---- what is classified has no fields, and each edition has it
+-- ---- each edition has what is classified
 
 -- whether a kind is told of which a test holds
 abbrev said : (TokenKind → Bool) → Option TokenKind → Bool
 said test None = false
 said test (Some kind) = test kind
-
-pub classified_bare : (b : ℕ) (kind : TokenKind) → classified b ≡ Some kind → has_fields kind ≡ false
-unfolding is_emoji unicode_ident
-classified_bare b kind some = sym (ap (said has_fields) some) ∙ agree_below_at (λ x. said has_fields (classified x)) (λ _. false) 128 b refl (tells b kind some).small
 
 classified_older : (b : ℕ) (kind : TokenKind) → classified b ≡ Some kind → is_newer kind ≡ false
 unfolding is_emoji unicode_ident

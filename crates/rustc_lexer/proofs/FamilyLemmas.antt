@@ -24,7 +24,7 @@ by_family f c tail read e g = e ∙ sym (scanned-same (past_first c) (read_by f 
 
 -- ---- the table of families
 
-pub table : (c : ℕ) → c < 128 → get_or FAMILIES c Slash ≡ family_of c
+pub table : (c : ℕ) → c < 128 → get_or FAMILIES.now c Slash ≡ family_of c
 unfolding is_emoji unicode_ident
 table c small = get_or-map-range_with_len family_of 0 128 c c Slash small (omega arith)
 

@@ -13,7 +13,7 @@ use Rattle.std.proofs.Math.Bool.{not-not}
 use Rattle.std.proofs.lemmas.Grind.{common_steps}
 use Rattle.memchr.specs.Find.{IsFirstByte, is_byte, is_byte2}
 use Rattle.rustc_lexer.specs.means.ByteRuns.{outside}
-use Rattle.rustc_lexer.specs.means.Scan.{past, run_len}
+use Rattle.rustc_lexer.specs.means.Scan.{begins, next_is, past, run_len}
 use Rattle.rustc_lexer.specs.laws.Choice.{by_either}
 use Rattle.rustc_lexer.proofs.BridgeLemmas.{past_run, past_run-in, past_run-out}
 use Rattle.rustc_lexer.proofs.KernelLemmas.{run_stops, run_short}
@@ -79,6 +79,10 @@ module _ (stops : ℕ → Bool) (small : (b : ℕ) → stops b ≡ true → b < 
 
 pub byte_small : (stop b : ℕ) → stop < 128 → is_byte stop b ≡ true → b < 128
 byte_small stop b l e = omega (arith, eqb-true b stop e)
+
+-- a text that begins with it
+pub begins-byte : (stop : ℕ) (s : List ℕ) → next_is (is_byte stop) s ≡ begins (stop ∷ []) s
+begins-byte w0 w1 = grind (arith, common_steps)
 
 pub byte2_small : (one two b : ℕ) → one < 128 → two < 128 → is_byte2 one two b ≡ true → b < 128
 byte2_small one two b l m e = elim (or_cases (b == one) (b == two) e) [ inl f ↦ omega (arith, eqb-true b one f) | inr f ↦ omega (arith, eqb-true b two f) ]

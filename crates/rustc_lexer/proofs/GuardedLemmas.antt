@@ -12,6 +12,7 @@ use Rattle.rustc_lexer.specs.means.Scan.{begins, bytes_of, next_is, past, scanne
 use Rattle.rustc_lexer.specs.LanguageText.{Mode}
 use Rattle.rustc_lexer.specs.State.{State}
 use Rattle.rustc_lexer.specs.laws.Past.{past-past, past-drop, chars-past, IsUtf8-past, length-past}
+use Rattle.rustc_lexer.proofs.FindLemmas.{begins-byte}
 use Rattle.rustc_lexer.proofs.RawLemmas.{hash_bytes}
 use Rattle.rustc_lexer.specs.laws.State.{state}
 
@@ -59,16 +60,13 @@ module _ (body left mid end : List ℕ) (n : ℕ) (closed : Bool) (is : IsUtf8 b
   pub closed_read : closed ≡ true → (true, end) ≡ scanned (guarded_body n) body
   closed_read t = grind (arith, common_steps, end_is)
 
-pub begins-quote : (s : List ℕ) → next_is is_quote s ≡ begins (34 ∷ []) s
-begins-quote w0 = grind (arith, common_steps)
-
 -- what follows the n hashes at the front
 module _ (rest front : List ℕ) (n : ℕ) (is : IsUtf8 rest) (count : n ≡ hash_run (chars rest)) (cut : front ≡ drop n rest) where
   front_is : front ≡ past n rest
   front_is = cut ∙ hash_cut rest is n (omega arith)
 
   quote_next : next_is is_quote (drop n (chars rest)) ≡ begins (34 ∷ []) (chars front)
-  quote_next = sym (ap (next_is is_quote) (ap chars front_is ∙ chars-past n rest is)) ∙ begins-quote (chars front)
+  quote_next = sym (ap (next_is is_quote) (ap chars front_is ∙ chars-past n rest is)) ∙ begins-byte 34 (chars front)
 
   abbrev body_read : Bool × ℕ
   body_read = guarded_body n (drop (suc n) (chars rest))

@@ -11,7 +11,7 @@ use Rattle.rustc_lexer.specs.declared.lexemes.family.Family.TheVariants.{Hash}
 use Rattle.rustc_lexer.specs.means.Hash.{is_guarded_mark, hash}
 use Rattle.rustc_lexer.specs.means.Lexeme.{family_of, past_first}
 use Rattle.rustc_lexer.specs.means.Quick.{BeginsWithNoHash, IsFirstBy, IsFirstToken}
-use Rattle.rustc_lexer.specs.means.Raw.{is_hash, is_quote}
+use Rattle.rustc_lexer.specs.means.Raw.{is_hash}
 use Rattle.rustc_lexer.specs.means.Scan.{after, gives, next_is, past, scanned}
 use Rattle.rustc_lexer.proofs.BridgeLemmas.{next_byte, IsUtf8-ascii}
 use Rattle.rustc_lexer.proofs.FamilyLemmas.{by_family}
@@ -24,9 +24,6 @@ mark-small c e = grind (arith, common_steps, or_cases, eqb-true)
 
 pub hash-small : (c : ℕ) → is_hash c ≡ true → c < 128
 hash-small c e = grind (arith, common_steps, eqb-true)
-
-pub quote-small : (c : ℕ) → is_quote c ≡ true → c < 128
-quote-small c e = grind (arith, common_steps, eqb-true)
 
 -- the next character is a mark where the next byte is one
 pub mark-byte : (text : List ℕ) → IsUtf8 text → next_is is_guarded_mark (chars text) ≡ next_is is_guarded_mark text
@@ -83,8 +80,8 @@ hash_alone guards text b rest is e small family none = first_by guards text _ (p
 pub hash_older : (text : List ℕ) (b : ℕ) (rest : List ℕ) → IsUtf8 text → text ≡ b ∷ rest → b < 128 → Hash ≡ family_of b → IsFirstBy false text record { kind = Pound; len = 1 }
 hash_older text b rest is e small family =
     by_either (next_is is_guarded_mark rest)
-        (λ mark. pound_by text (prefix_first text b rest is e small family mark) past)
-        (λ none. hash_alone false text b rest is e small family none)
+    (λ mark. pound_by text (prefix_first text b rest is e small family mark) past)
+    (λ none. hash_alone false text b rest is e small family none)
   where
     past : IsCharBoundary text 1
     past =

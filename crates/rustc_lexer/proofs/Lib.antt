@@ -6,8 +6,7 @@ pub mod BlockLemmas
 pub mod BodyChangeLemmas
 pub mod BoundLemmas
 pub mod BridgeLemmas
-pub mod BulkLemmas
-pub mod CloseLemmas
+pub mod BufferLemmas
 pub mod DocumentEditLemmas
 pub mod DocumentHead
 pub mod DocumentLemmas
@@ -41,7 +40,6 @@ pub mod LineLemmas
 pub mod LiteralLemmas
 pub mod MeetingLemmas
 pub mod NumberLemmas
-pub mod OpeningLemmas
 pub mod PartEdits
 pub mod PartLemmas
 pub mod PieceLemmas
@@ -54,7 +52,7 @@ pub mod RawLemmas
 pub mod RawReadLemmas
 pub mod ReadyLemmas
 pub mod RelexedLemmas
-pub mod RelexBlockLemmas
+pub mod RelexStepLemmas
 pub mod RelexingLemmas
 pub mod RenewedLemmas
 pub mod RunLemmas
@@ -67,4 +65,3 @@ pub mod TallyWalk
 pub mod TextLemmas
 pub mod TokensLemmas
 pub mod ToldLemmas
-pub mod WideLemmas

@@ -1,5 +1,6 @@
 -- Numbers, as the code reads them.
-use Rattle.std.proofs.Common.{◌≡◌, ◌≢◌, ℕ, ◌+◌, ◌==◌, ◌&&◌, not, Bool, true, false, if◌then◌else◌, List, [], ◌∷◌, take, drop, get_or, refl, sym, ap, ◌∙◌, zero-add, eq-eqb, arith, codes}
+use Rattle.std.proofs.Common.{◌≡◌, ◌≢◌, ◌<◌, ℕ, ◌+◌, ◌==◌, ◌&&◌, not, Bool, true, false, if◌then◌else◌, List, [], ◌∷◌, take, drop, get_or, refl, sym, ap, ◌∙◌, zero-add, eq-eqb, arith, codes}
+use Rattle.std.specs.Char.{is_ascii_digit, is_ascii_hexdigit}
 use Rattle.std.specs.List.{list_any}
 use Rattle.std.specs.Str.{chars, IsUtf8}
 use Rattle.std.proofs.lemmas.Bool.{eqb-true, ne_eqb}
@@ -11,6 +12,13 @@ use Rattle.rustc_lexer.specs.means.Number.{is_underscore, or_underscore, digits,
 use Rattle.rustc_lexer.specs.means.Scan.{after, begins, gives, next_is, past, run_len, scanned}
 use Rattle.rustc_lexer.specs.laws.Past.{IsUtf8-past, chars-past, past-past}
 use Rattle.rustc_lexer.specs.laws.Scan.{scanned-and_then, scanned-read_as, next_is-cons, next_is-nil, scanned-after, scanned-gives, scanned-same, scanned-yes, scanned-no}
+
+-- digits and underscores are in ASCII
+pub digit-small : (b : ℕ) → or_underscore is_ascii_digit b ≡ true → b < 128
+digit-small b e = grind (arith, common_steps, eqb-true)
+
+pub hexdigit-small : (b : ℕ) → or_underscore is_ascii_hexdigit b ≡ true → b < 128
+hexdigit-small b e = grind (arith, common_steps, eqb-true)
 
 -- whether the next character is in a class that U+0000 is not in, which the code sees at the end
 pub next_is-first : (p : ℕ → Bool) (s : List ℕ) → p 0 ≡ false → next_is p s ≡ p (get_or s 0 0)

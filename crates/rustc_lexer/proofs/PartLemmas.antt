@@ -1,12 +1,10 @@
 -- The ASCII parts of classes.
 use Rattle.std.proofs.Common.{◌≡◌, ℕ, ◌<◌, ◌&&◌, Bool, true, refl, nat_lt, arith}
-use Rattle.std.specs.Char.{is_ascii_digit, is_ascii_hexdigit}
 use Rattle.std.proofs.lemmas.Bool.{agree_below_at, and_parts, ltb-true, lt-ltb}
 use Rattle.std.proofs.lemmas.Grind.{common_steps}
 use Rattle.unicode_ident.proofs.IdentLemmas.{is_xid_continue-ascii}
-use Rattle.rustc_lexer.specs.means.ByteRuns.{is_continue_byte, is_space_byte, is_decimal_byte, is_hexadecimal_byte}
+use Rattle.rustc_lexer.specs.means.ByteRuns.{is_continue_byte, is_space_byte}
 use Rattle.rustc_lexer.specs.Classes.{is_id_continue, is_whitespace}
-use Rattle.rustc_lexer.specs.means.Number.{or_underscore}
 use Rattle.rustc_lexer.proofs.BridgeLemmas.{IsPart}
 
 small : (p : ℕ → Bool) (b : ℕ) → (nat_lt b 128 && p b) ≡ true → b < 128
@@ -17,9 +15,3 @@ continue_part = grind (arith, common_steps, small, lt-ltb, is_xid_continue-ascii
 
 pub space_part : IsPart is_space_byte is_whitespace
 space_part = record { small = λ b e. ltb-true b 128 (and_parts _ _ e).0; same = λ b l. agree_below_at is_space_byte is_whitespace 128 b refl l }
-
-pub decimal_part : IsPart is_decimal_byte (or_underscore is_ascii_digit)
-decimal_part = record { small = λ b e. ltb-true b 128 (and_parts _ _ e).0; same = λ b l. agree_below_at is_decimal_byte (or_underscore is_ascii_digit) 128 b refl l }
-
-pub hexadecimal_part : IsPart is_hexadecimal_byte (or_underscore is_ascii_hexdigit)
-hexadecimal_part = record { small = λ b e. ltb-true b 128 (and_parts _ _ e).0; same = λ b l. agree_below_at is_hexadecimal_byte (or_underscore is_ascii_hexdigit) 128 b refl l }

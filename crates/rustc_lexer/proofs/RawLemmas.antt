@@ -43,6 +43,11 @@ hash-no_quote c e = rw (eqb-true c 35 e) refl
 other-no_quote : (c : ℕ) → is_no_quote c ≡ true → is_quote c ≡ false
 other-no_quote c e = not-true (is_quote c) e
 
+-- a quote in front, and what follows it
+pub quote_front : (s left : List ℕ) → begins (34 ∷ []) s ≡ true → left ≡ drop 1 s → s ≡ 34 ∷ left
+quote_front [] left f g = absurd (true≢false (sym f))
+quote_front (c ∷ s) left f g = ap (λ x. x ∷ s) (eqb-true c 34 (and_parts (c == 34) true f).0) ∙ ap (λ xs. 34 ∷ xs) (sym g)
+
 -- what follows the first quote, once what follows the characters before it is known
 pub past_quote-is : {B : Type 0} (now : B → List ℕ) (rest mid : List ℕ) (o : Option B) → IsUtf8 rest → mid ≡ past (run_len is_no_quote (chars rest)) rest → length mid ≤ length rest
     → MatchOption o (begins (34 ∷ []) (chars mid) ≡ false) (λ tail. (begins (34 ∷ []) (chars mid) ≡ true) × (now tail ≡ past 1 mid) × (length (now tail) < length mid))
@@ -61,16 +66,7 @@ past_quote-is now rest mid (Some tail) is e le h =
     let reads : chars mid ≡ drop n (chars rest) = ap chars e ∙ chars-past n rest is in
     let here : now tail ≡ past (n + 1) rest = h.1 ∙ (ap (past 1) e ∙ past-past 1 n rest is) in
     let one : n + 1 ≡ suc n = omega arith in
-    (at_quote (drop n (chars rest)) (sym (ap (begins (34 ∷ [])) reads) ∙ h.0) (ap chars h.1 ∙ (chars-past 1 mid (subst IsUtf8 (sym e) (IsUtf8-past n rest is)) ∙ ap (drop 1) reads)), here ∙ ap (λ k. past k rest) one, omega arith)
-  where
-    at_quote : (s : List ℕ) → begins (34 ∷ []) s ≡ true → chars (now tail) ≡ drop 1 s → s ≡ 34 ∷ chars (now tail)
-    at_quote [] f g = absurd (true≢false (sym f))
-    at_quote (c ∷ s) f g = ap (λ x. x ∷ s) (eqb-true c 34 (and_parts (c == 34) true f).0) ∙ ap (λ xs. 34 ∷ xs) (sym g)
-
--- a quote in front has nothing before it
-pub no_run-before : (s : List ℕ) → begins (34 ∷ []) s ≡ true → run_len is_no_quote s ≡ 0
-no_run-before [] e = absurd (true≢false (sym e))
-no_run-before (c ∷ s) e = let quote : is_quote c ≡ true = (and_parts (c == 34) true e).0 in rw quote refl
+    (quote_front (drop n (chars rest)) (chars (now tail)) (sym (ap (begins (34 ∷ [])) reads) ∙ h.0) (ap chars h.1 ∙ (chars-past 1 mid (subst IsUtf8 (sym e) (IsUtf8-past n rest is)) ∙ ap (drop 1) reads)), here ∙ ap (λ k. past k rest) one, omega arith)
 
 -- past a run without quotes, a quote, and its hashes
 module _ (v w : List ℕ) (at_quote : drop (run_len is_no_quote v) v ≡ 34 ∷ w) where

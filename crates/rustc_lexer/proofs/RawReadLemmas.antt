@@ -1,7 +1,7 @@
 -- What a raw string is read as, from what its parts are.
-use Rattle.std.proofs.Common.{◌≡◌, ◌≢◌, ℕ, suc, ◌+◌, ◌-◌, ◌≤◌, ◌==◌, ◌↔◌, IsTrue, slice_index, Bool, true, false, true≢false, if◌then◌else◌, List, [], ◌∷◌, length, take, drop, sym, ap, ◌∙◌, subst, arith, length-take, length-drop, Option, Some, None, Result, Ok, Err}
+use Rattle.std.proofs.Common.{◌≡◌, ℕ, suc, ◌+◌, ◌-◌, ◌≤◌, ◌==◌, ◌↔◌, IsTrue, slice_index, Bool, true, false, true≢false, if◌then◌else◌, List, [], ◌∷◌, length, take, drop, refl, sym, ap, ◌∙◌, subst, arith, length-take, length-drop, Option, Some, None, Result, Ok, Err}
 use Rattle.std.specs.Str.{chars, encode_utf8_all, IsUtf8}
-use Rattle.std.proofs.lemmas.Bool.{ne_eqb}
+use Rattle.std.proofs.Math.Bool.{and-true}
 use Rattle.std.proofs.lemmas.Str.{length-le-encodes}
 use Rattle.std.proofs.lemmas.List.{nil_from_length}
 use Rattle.std.proofs.lemmas.Grind.{common_steps}
@@ -9,9 +9,9 @@ use Rattle.rustc_lexer.specs.declared.lexemes.raw.RawPrefix.{RawPrefix}
 use Rattle.rustc_lexer.specs.{LiteralKind, RawStrError, InvalidStarter, Literal}
 use Rattle.rustc_lexer.specs.means.Literal.{suffix_len}
 use Rattle.rustc_lexer.specs.means.Raw.{is_quote, hash_run, raw_text, raw_starter, raw_read, raw_body, accepted, is_accepted, prefix_kind, prefix_len, raw_literal, checked, check_raw, is_r, StartsRaw}
-use Rattle.rustc_lexer.specs.means.Scan.{bytes_of, gives, next_is, past, scanned}
+use Rattle.rustc_lexer.specs.means.Scan.{begins, bytes_of, gives, next_is, past, scanned}
 use Rattle.rustc_lexer.specs.laws.Past.{past-zero, past-past, chars-past, IsUtf8-past, length-past}
-use Rattle.rustc_lexer.proofs.RawLemmas.{hash_len}
+use Rattle.rustc_lexer.proofs.RawLemmas.{hash_len, quote_front}
 use Rattle.rustc_lexer.specs.laws.Scan.{scanned-after, scanned-gives, scanned-shorter, scanned-read_as}
 use Rattle.rustc_lexer.proofs.LiteralLemmas.{with-suffix, no-suffix}
 
@@ -39,18 +39,21 @@ module _ (prefix : ℕ) (text from : List ℕ) (is : IsUtf8 text) (from_is : fro
         → scanned (raw_read prefix) text ≡ scanned (λ u. if b then raw_text (hash_run (chars text)) (prefix + suc (hash_run (chars text))) u else gives (Err (InvalidStarter c)) u) body
     by_quote b e = grind (arith, common_steps, past-past, from_utf8, to_starter)
 
-    pub bad_starter : c ≢ 34 → (Err (InvalidStarter c), body) ≡ scanned (raw_read prefix) text
-    bad_starter ne = sym (by_quote false (ne_eqb c 34 ne) ∙ scanned-gives (Err (InvalidStarter c)) body body_utf8)
+    pub bad_starter : begins (34 ∷ []) (chars from) ≡ false → (Err (InvalidStarter c), body) ≡ scanned (raw_read prefix) text
+    bad_starter other =
+        let no_quote : is_quote c ≡ false = sym (and-true (is_quote c)) ∙ (sym (ap (begins (34 ∷ [])) reads) ∙ other) in
+        sym (by_quote false no_quote ∙ scanned-gives (Err (InvalidStarter c)) body body_utf8)
 
-    pub past_opening : (read : Result ℕ RawStrError) (left : List ℕ) → c ≡ 34
-        → (read, left) ≡ scanned (raw_text (length text - length from) (prefix + (length text - length from) + 1)) body → (read, left) ≡ scanned (raw_read prefix) text
-    past_opening read left e f =
-        let n : ℕ = hash_run (chars text) in
-        let count : length text - length from ≡ n = hash_len text from is from_is in
-        let before : prefix + n + 1 ≡ prefix + suc n = omega arith in
-        f
-        ∙ (ap (λ (k : ℕ). scanned (raw_text k (prefix + k + 1)) body) count
-        ∙ (ap (λ (k : ℕ). scanned (raw_text n k) body) before ∙ sym (by_quote true (ap is_quote e))))
+  pub past_opening : (body : List ℕ) → begins (34 ∷ []) (chars from) ≡ true → body ≡ past 1 from → (read : Result ℕ RawStrError) (left : List ℕ)
+      → (read, left) ≡ scanned (raw_text (length text - length from) (prefix + (length text - length from) + 1)) body → (read, left) ≡ scanned (raw_read prefix) text
+  past_opening body opens body_is read left f =
+      let n : ℕ = hash_run (chars text) in
+      let reads : chars from ≡ 34 ∷ chars body = quote_front (chars from) (chars body) opens (ap chars body_is ∙ chars-past 1 from from_utf8) in
+      let count : length text - length from ≡ n = hash_len text from is from_is in
+      let before : prefix + n + 1 ≡ prefix + suc n = omega arith in
+      f
+      ∙ (ap (λ (k : ℕ). scanned (raw_text k (prefix + k + 1)) body) count
+      ∙ (ap (λ (k : ℕ). scanned (raw_text n k) body) before ∙ sym (by_quote 34 body reads body_is true refl)))
 
 -- a literal, from what is read of it
 module _ (prefix : RawPrefix) (rest left : List ℕ) (is : IsUtf8 rest) (read : Result ℕ RawStrError) (e : (read, left) ≡ scanned (raw_read 0) rest) where

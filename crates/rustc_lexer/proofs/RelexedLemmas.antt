@@ -1,5 +1,5 @@
 -- What an edit keeps: there is one answer, and the search for the meeting finds it.
-use Rattle.std.proofs.Common.{◌≡◌, ℕ, zero, suc, ◌+◌, ◌-◌, ◌<◌, ◌≤◌, Bool, true, false, true≢false, cond, ◌&&◌, List, [], ◌∷◌, ◌++◌, length, take, drop, refl, sym, ap, ◌∙◌, subst, arith, length-take, length-take-le, length-drop, take-append-drop, drop_at, leb, ltb, leb-true, le-leb, inl, inr, eq-or-lt_of_le, IsUtf8, IsCharBoundary, length-append}
+use Rattle.std.proofs.Common.{◌≡◌, ℕ, zero, suc, ◌+◌, ◌-◌, ◌<◌, ◌≤◌, Bool, true, false, true≢false, cond, ◌&&◌, List, [], ◌∷◌, length, take, refl, sym, ap, ◌∙◌, subst, arith, length-take, leb, ltb, leb-true, le-leb, inl, inr, eq-or-lt_of_le, IsUtf8, IsCharBoundary}
 use Rattle.std.proofs.lemmas.Bool.{and_parts, cases_Bool, cases_lt}
 use Rattle.std.specs.List.{count_by}
 use Rattle.rustc_lexer.specs.declared.relex.relexing.Relexed.{Relexed}
@@ -10,8 +10,7 @@ use Rattle.rustc_lexer.specs.Locality.{IsGrammar, has_two}
 use Rattle.rustc_lexer.specs.Tokens.{bound, tokens_by}
 use Rattle.rustc_lexer.specs.means.Relexing.{least_from, meet, meets_at, relexed_of}
 use Rattle.rustc_lexer.proofs.BoundLemmas.{bound-last, bound_mono, ends_past-at, is_bound, is_bound-elim, is_bound-intro, least_from_ge, rises}
-use Rattle.rustc_lexer.proofs.EditLemmas.{IsEdited, bound-same, edited, front-none, has_two-before, kept_front_by, kept_front_from, kept_same, met_whole, start_inside}
-use Rattle.rustc_lexer.proofs.FrontLemmas.{bound-shift}
+use Rattle.rustc_lexer.proofs.EditLemmas.{IsEdited, edited, front-none, kept_front_by, kept_front_from, kept_same, start_inside}
 use Rattle.rustc_lexer.proofs.ReadyLemmas.{cuts}
 
 -- ---- the search for the first number that passes
@@ -74,12 +73,6 @@ front-two text to from (t ∷ ts) is inside = by_test (front-two text to (from +
     by_test ih false e = let none : n ≡ 0 = front-none text to (from + t.len) ts is next e in (omega arith, λ some. absurd (omega arith))
 
 -- ---- an edit
-
--- `rest` ends both lists, and begins at or past `new_stop`
-pub record IsBack (old new : List Token) (new_stop : ℕ) (old_front new_front rest : List Token) : Type 0 where
-  pub old_is : old ≡ old_front ++ rest
-  pub new_is : new ≡ new_front ++ rest
-  pub past_edit : new_stop ≤ bound new (length new_front)
 
 module _ {first : List ℕ → Token} (law : IsGrammar first) (text : List ℕ) (is : IsText text) (start stop : ℕ) (insert : List ℕ) (its : IsUtf8 insert) (edit : IsEdit text start stop insert) where
   abbrev new_text : List ℕ
@@ -217,80 +210,3 @@ module _ {first : List ℕ → Token} (law : IsGrammar first) (text : List ℕ) 
   -- so it is what the search finds
   pub relexed_found : (r : Relexed) → IsRelexed first text start stop insert r → r ≡ relexed_of first text start stop insert
   relexed_found r a = relexed_only r (relexed_of first text start stop insert) a relexed_is
-
-  -- the same by the lists alone: what is kept at the back is the longest list that ends both of them and begins at or past
-  -- the edit's end
-  end_of_front : (ts front rest : List Token) → ts ≡ front ++ rest → bound ts (length ts) ≡ bound ts (length front) + bound rest (length rest)
-  end_of_front ts front rest e =
-      let long : length ts ≡ length front + length rest = ap length e ∙ length-append front rest in
-      let left : drop (length front) ts ≡ rest = ap (drop (length front)) e ∙ drop_at front rest (length front) refl in
-      ap (bound ts) long ∙ (bound-shift ts (length front) (length rest) ∙ ap (λ (xs : List Token). bound ts (length front) + bound xs (length rest)) left)
-
-  back_number : (old_front new_front rest : List Token) → IsBack old new new_stop old_front new_front rest → length old_front + length rest ≡ length old
-  back_number old_front new_front rest back = sym (ap length back.old_is ∙ length-append old_front rest)
-
-  back_place : (old_front new_front rest : List Token) → IsBack old new new_stop old_front new_front rest → bound new (length new_front) + stop ≡ bound old (length old_front) + new_stop
-  back_place old_front new_front rest back =
-      let olds = end_of_front old old_front rest back.old_is in
-      let news = end_of_front new new_front rest back.new_is in
-      let order = edit.inside.start_le_stop in
-      let len = ed.len in
-      omega (arith, olds, news, bound-last law text is, bound-last law new_text ed.text_is)
-
-  back_meets : (old_front new_front rest : List Token) → IsBack old new new_stop old_front new_front rest → IsMeeting old new stop new_stop (length new_front) (length rest)
-  back_meets old_front new_front rest back =
-      let long : length new ≡ length new_front + length rest = ap length back.new_is ∙ length-append new_front rest in
-      record {
-        number_inside = omega arith;
-        past_edit = back.past_edit;
-        old_number = length old_front;
-        back_is = back_number old_front new_front rest back;
-        same_place = back_place old_front new_front rest back;
-      }
-
-  -- the kept front is before the edit
-  front_before : (number : ℕ) → new_stop ≤ bound new number → kept ≤ number
-  front_before number past = elim (cases_lt number kept) [
-    | inr not ↦ omega arith
-    | inl less ↦ absurd (
-        let early : bound old kept < start = has_two-before text (bound old kept) start (kept_two.1 (omega arith)) in
-        let same : bound new kept ≡ bound old kept = bound-same kept new old front_same in
-        omega (arith, bound_mono new number kept (omega arith)))
-  ]
-
-  pub back_longest : (r : Relexed) (old_front new_front rest : List Token) → IsRelexed first text start stop insert r → IsBack old new new_stop old_front new_front rest → length rest ≤ r.kept_back
-  back_longest r old_front new_front rest a back =
-      let other = back_meets old_front new_front rest back in
-      let m = a.meeting in
-      let far : r.kept_front + r.lexed ≤ length new_front = elim (cases_lt (length new_front) (r.kept_front + r.lexed)) [
-        | inl less ↦ absurd (a.none_before (length new_front) (length rest) (omega (arith, front_before (length new_front) back.past_edit, a.front)) less other)
-        | inr not ↦ omega arith
-      ] in
-      elim (cases_lt r.kept_back (length rest)) [
-        | inr not ↦ omega arith
-        | inl more ↦ absurd (
-            let here = m.back_is in
-            let there = back_number old_front new_front rest back in
-            let p = m.same_place in
-            let q = back_place old_front new_front rest back in
-            let up = bound_mono new (r.kept_front + r.lexed) (length new_front) far in
-            let less : length old_front < m.old_number = omega arith in
-            omega (arith, p, q, up, rises law text is (length old_front) (omega arith), bound_mono old (suc (length old_front)) m.old_number less))
-      ]
-
-  pub back_kept : (r : Relexed) (a : IsRelexed first text start stop insert r) → IsBack old new new_stop (take a.meeting.old_number old) (take (r.kept_front + r.lexed) new) (drop a.meeting.old_number old) × (length (drop a.meeting.old_number old) ≡ r.kept_back)
-  back_kept r a =
-      let m = a.meeting in
-      let j : ℕ = r.kept_front + r.lexed in
-      let past : new_stop ≤ bound new j = m.past_edit in
-      let place = m.same_place in
-      let many = m.back_is in
-      let there : bound old m.old_number ≡ bound new j - new_stop + stop = omega arith in
-      let long : length (take j new) ≡ j = length-take-le j new m.number_inside in (
-        record {
-          old_is = sym (take-append-drop m.old_number old);
-          new_is = sym (met_whole law text start stop insert new_text is edit ed j m.old_number past there);
-          past_edit = omega (arith, ap (bound new) long);
-        },
-        omega (arith, length-drop m.old_number old),
-      )

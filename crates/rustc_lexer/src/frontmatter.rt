@@ -242,7 +242,7 @@ fn find_lone_dashes(rest: &[u8]) -> Option<usize>
     ensures inside { IfSome result (λ place. place < length rest.now) }
 {
     let mut end = 0;
-    'places: while let Some(step) = find(&rest[end..], b"---", 0) {
+    'places: while let Some(step) = find(&rest[end..], b"---") {
         let place = end + step;
         if stands_alone(rest, end, place) {
             return Some(place);
@@ -285,23 +285,20 @@ fn line_end(rest: &[u8], place: usize) -> usize
     }
 }
 
-/// Returns the first place of the pattern. It searches for the pattern's byte number `rare`, one that texts have
-/// few of. So it does not have to make a searcher, which would allocate on the heap.
-fn find(rest: &[u8], pattern: &[u8], rare: usize) -> Option<usize>
-    requires { rare < length pattern.now }
+/// Returns the first place of the pattern. It searches for the pattern's first byte. So it does not have to make a
+/// searcher, which would allocate on the heap.
+fn find(rest: &[u8], pattern: &[u8]) -> Option<usize>
+    requires { 0 < length pattern.now }
     ensures place { result ≡ spec.first pattern.now rest.now }
     ensures inside { IfSome result (λ place. place + length pattern.now ≤ length rest.now) }
 {
-    if rest.len() < pattern.len() {
-        return None;
-    }
-    let mut from = rare;
-    'places: while let Some(step) = memchr(pattern[rare], &rest[from..]) {
-        let place = from + step - rare;
+    let mut from = 0;
+    'places: while let Some(step) = memchr(pattern[0], &rest[from..]) {
+        let place = from + step;
         if rest[place..].starts_with(pattern) {
             return Some(place);
         }
-        from += step + 1;
+        from = place + 1;
     }
     None
 }

@@ -1,13 +1,12 @@
 //! Searches over bytes that look at 16, 32 or 64 bytes at a time: where a run ends, and where a byte is.
 ghost use Rattle.memchr.specs.Find.{IsFirstByte, is_byte, is_byte2};
-ghost use Rattle.std.specs.Prelude.{◌≡◌, ◌≤◌, ◌<◌, ◌&&◌, ◌||◌, ◌==◌, ℕ, suc, Bool, IfSome, true, false, drop, length, map, not, take};
+ghost use Rattle.std.specs.Prelude.{◌≡◌, ◌≤◌, ◌<◌, ◌&&◌, ◌||◌, ◌==◌, ℕ, suc, Bool, true, false, drop, length, map, not, take};
 ghost use Rattle.std.specs.List.{prefix_len};
 ghost use Rattle.std.specs.Simd.Lanes.{mask_l};
 ghost use Rattle.std.proofs.Common.{arith};
-ghost use Rattle.rustc_lexer.specs.means.ByteRuns.{is_continue_byte, is_space_byte, is_decimal_byte, is_hexadecimal_byte, outside};
+ghost use Rattle.rustc_lexer.specs.means.ByteRuns.{is_continue_byte, is_space_byte, outside};
 ghost use Rattle.rustc_lexer.specs.means.Ends.{bit, IsEnds};
 ghost use Rattle.rustc_lexer.specs.means.Quick.{is_space_lead, turns_word};
-ghost use Rattle.rustc_lexer.specs.means.Raw.{closes};
 ghost use Rattle.rustc_lexer.specs.means.Scan;
 
 use memchr::{memchr, memchr2};
@@ -86,61 +85,6 @@ impl ByteClass for Space {
         let v = u8x16::from_slice(bytes);
         let from_tab = v - u8x16::splat(b'\t');
         (v.simd_ne(u8x16::splat(b' ')) & from_tab.simd_ge(u8x16::splat(5))).to_bitmask()
-    }
-}
-
-/// Decimal digits and underscores.
-#[derive(Clone, Copy)]
-pub(crate) struct Decimal;
-
-impl ByteClass for Decimal {
-    const WIDTH: usize = 32;
-
-    ghost WIDTH = { 32 };
-
-    ghost width_fits = { (omega arith, omega arith) };
-
-    ghost passes = { is_decimal_byte };
-
-    #[inline(always)]
-    fn has(byte: u8) -> bool {
-        byte.is_ascii_digit() || byte == b'_'
-    }
-
-    #[inline(always)]
-    fn stops(bytes: &[u8]) -> u64 {
-        let v = u8x32::from_slice(bytes);
-        let from_0 = v - u8x32::splat(b'0');
-        (from_0.simd_ge(u8x32::splat(10)) & v.simd_ne(u8x32::splat(b'_'))).to_bitmask()
-    }
-}
-
-/// Hexadecimal digits and underscores.
-#[derive(Clone, Copy)]
-pub(crate) struct Hexadecimal;
-
-impl ByteClass for Hexadecimal {
-    const WIDTH: usize = 32;
-
-    ghost WIDTH = { 32 };
-
-    ghost width_fits = { (omega arith, omega arith) };
-
-    ghost passes = { is_hexadecimal_byte };
-
-    #[inline(always)]
-    fn has(byte: u8) -> bool {
-        byte.is_ascii_hexdigit() || byte == b'_'
-    }
-
-    #[inline(always)]
-    fn stops(bytes: &[u8]) -> u64 {
-        let v = u8x32::from_slice(bytes);
-        let from_a = (v | u8x32::splat(0x20)) - u8x32::splat(b'a');
-        let from_0 = v - u8x32::splat(b'0');
-        (from_a.simd_ge(u8x32::splat(6))
-            & from_0.simd_ge(u8x32::splat(10))
-            & v.simd_ne(u8x32::splat(b'_'))).to_bitmask()
     }
 }
 
@@ -263,42 +207,6 @@ pub(crate) fn find(stop: u8, bytes: &[u8]) -> Option<usize>
         }
     }
     memchr(stop, bytes)
-}
-
-/// Returns the place of the first quote that `n_hashes` hashes follow, none or one. Returns it only if it is within
-/// the next 64 bytes and there are that many bytes.
-///
-/// There is no branch on whether it is none or one, which is hard to predict.
-#[inline(always)]
-pub(crate) fn find_close(n_hashes: u32, bytes: &[u8]) -> Option<usize>
-    requires few { n_hashes ≤ 1 }
-    ensures near { IfSome result (λ place. place < 64) }
-    ensures here { IfSome result (λ place. closes n_hashes (drop place bytes.now) ≡ true) }
-    ensures before { IfSome result
-        (λ place. (k : ℕ) → k < place → closes n_hashes (drop k bytes.now) ≡ false) }
-{
-    if bytes.len() < 64 {
-        return None;
-    }
-    let v = u8x64::from_slice(bytes);
-    let quotes = v.simd_eq(u8x64::splat(b'"')).to_bitmask();
-    let hashes = v.simd_eq(u8x64::splat(b'#')).to_bitmask();
-    let found = followed(quotes, hashes, n_hashes);
-    if found == 0 {
-        return None;
-    }
-    Some(found.trailing_zeros() as usize)
-}
-
-/// Returns a mask. Bit k is set if a quote is at k and `n_hashes` hashes follow it, none or one.
-#[inline(always)]
-#[tactic(auto, using(crate::proofs::BitLemmas::bit_lemmas, std::proofs::lemmas::Grind::common_steps))]
-fn followed(quotes: u64, hashes: u64, n_hashes: u32) -> u64
-    requires few { n_hashes ≤ 1 }
-    ensures { (k : ℕ) → k < 64
-        → bit result k ≡ (bit quotes k && (bit hashes (suc k) || (n_hashes == 0))) }
-{
-    quotes & ((hashes >> 1) | u64::from(n_hashes).wrapping_sub(1))
 }
 
 /// Returns the first place of either byte. If such bytes come together it is the first byte, and otherwise it is

@@ -5,7 +5,7 @@ ghost use Rattle.rustc_lexer.specs.Classes.{Fits};
 ghost use Rattle.rustc_lexer.specs.LanguageCalls.{StartsRaw};
 ghost use Rattle.rustc_lexer.specs.means.Scan.{past};
 
-use crate::lexemes::raw::any_raw_string;
+use crate::lexemes::raw::raw_double_quoted_string;
 use crate::scan::{first, split_first};
 use crate::token::RawStrError;
 
@@ -43,7 +43,7 @@ pub fn validate_raw_str(input: &str, prefix_len: u32) -> Result<(), RawStrError>
     ensures check { result ≡ raw_check input.now prefix_len }
 {
     let rest = past_chars(input, prefix_len);
-    let (read, _) = any_raw_string(rest, prefix_len);
+    let (read, _) = raw_double_quoted_string(rest, prefix_len);
     match read {
         Ok(_) => Ok(()),
         Err(error) => Err(error),

@@ -1,20 +1,19 @@
 //! Looks at the characters that are left of a text, and skips runs of a class at its front.
-ghost use Rattle.std.specs.Prelude.{◌≡◌, ◌<◌, ◌≤◌, ℕ, ◌∷◌, [], length, Bool, not, ◌&&◌, nat_le, nat_lt, true, false, MatchOption, slice_index};
+ghost use Rattle.std.specs.Prelude.{◌≡◌, ◌<◌, ◌≤◌, ℕ, ◌∷◌, [], length, Bool, not, ◌&&◌, true, false, MatchOption, slice_index};
 ghost use Rattle.std.specs.Char.{is_ascii_digit, is_ascii_hexdigit};
 ghost use Rattle.std.specs.List.{prefix_len};
 ghost use Rattle.std.specs.Str.{chars};
 ghost use Rattle.memchr.specs.Find.{is_byte, is_byte2};
-ghost use Rattle.rustc_lexer.specs.means.ByteRuns.{is_continue_byte, is_wide};
+ghost use Rattle.rustc_lexer.specs.means.ByteRuns.{is_wide};
 ghost use Rattle.rustc_lexer.specs.Classes;
 ghost use Rattle.rustc_lexer.specs.means.Number.{or_underscore};
-ghost use Rattle.rustc_lexer.specs.means.Raw.{hash_run, is_hash, is_quote};
+ghost use Rattle.rustc_lexer.specs.means.Raw;
+ghost use Rattle.rustc_lexer.specs.means.Raw.{hash_run};
 ghost use Rattle.rustc_lexer.specs.means.Scan;
 ghost use Rattle.rustc_lexer.specs.means.Scan.{begins, past, run_len};
 
-use crate::classes::is_whitespace;
-use crate::kernels::{
-    Continue, Decimal, Hexadecimal, Space, ends_space, find, find_either, run_end, short_run_end,
-};
+use crate::classes::{is_id_continue, is_whitespace};
+use crate::kernels::{Continue, Space, ends_space, find, find_either, run_end, short_run_end};
 
 /// Returns the first character, or U+0000 if the text is empty.
 pub(crate) fn first(rest: &str) -> char
@@ -68,50 +67,43 @@ pub(crate) fn next_is<F: Fn(char) -> bool>(rest: &str, test: F) -> bool
     }
 }
 
-/// Returns the text after the character `c`, or `None` if the text does not begin with it.
+/// Returns whether the text begins with the byte.
 #[inline(always)]
-pub(crate) fn strip(rest: &str, c: char) -> Option<&str>
-    ensures { MatchOption result (begins (c ∷ []) (chars rest.now) ≡ false)
-        (λ tail. (begins (c ∷ []) (chars rest.now) ≡ true) × (tail.now ≡ past 1 rest.now)
-        × (length tail.now < length rest.now)) }
-{
-    let (first, tail) = split_first(rest)?;
-    if first == c { Some(tail) } else { None }
-}
-
-/// Returns whether the next character is a double quote, as the next byte determines.
-#[inline(always)]
-fn begins_quote(rest: &str) -> bool
-    ensures { result ≡ Scan.next_is is_quote rest.now }
+fn begins_with(rest: &str, byte: u8) -> bool
+    ensures { result ≡ Scan.next_is (is_byte byte) rest.now }
 {
     match rest.as_bytes().first() {
-        Some(byte) => *byte == b'"',
+        Some(first) => *first == byte,
         None => false,
     }
 }
 
-/// Returns the text after the double quote at its front, or `None` if it does not begin with one.
+/// Returns the text after a character of ASCII, or `None` if the text does not begin with it, as its first byte
+/// determines.
 #[inline(always)]
-pub(crate) fn strip_quote(rest: &str) -> Option<&str>
-    ensures { MatchOption result (begins (34 ∷ []) (chars rest.now) ≡ false)
-        (λ tail. (begins (34 ∷ []) (chars rest.now) ≡ true) × (tail.now ≡ past 1 rest.now)
+pub(crate) fn strip(rest: &str, byte: u8) -> Option<&str>
+    requires ascii { byte < 128 }
+    ensures { MatchOption result (begins (byte ∷ []) (chars rest.now) ≡ false)
+        (λ tail. (begins (byte ∷ []) (chars rest.now) ≡ true) × (tail.now ≡ past 1 rest.now)
         × (length tail.now < length rest.now)) }
 {
-    if begins_quote(rest) {
+    if begins_with(rest, byte) {
         Some(&rest[1..])
     } else {
         None
     }
 }
 
-/// Returns how many hashes are at the front.
+/// Returns how many bytes at the front pass the test. Mostly these are few, so it looks at one at a time.
 #[inline(always)]
-fn hash_end(bytes: &[u8]) -> usize
-    ensures value { result ≡ prefix_len is_hash bytes.now }
+fn front_end<F: Fn(u8) -> bool>(bytes: &[u8], test: F) -> usize
+    requires callable { F.IsAlwaysCallable test }
+    ensures value { (class : ℕ → Bool) → ((b : ℕ) (passes : Bool) → F.post test b passes → passes ≡ class b)
+        → result ≡ prefix_len class bytes.now }
     ensures bound { result ≤ length bytes.now }
 {
     let mut end = 0;
-    'hashes: while end < bytes.len() && bytes[end] == b'#' {
+    'front: while end < bytes.len() && test(bytes[end]) {
         end += 1;
     }
     end
@@ -119,12 +111,17 @@ fn hash_end(bytes: &[u8]) -> usize
 
 /// Returns the text after the hashes at the front.
 #[inline(always)]
-#[tactic(auto, using(crate::proofs::BridgeLemmas::may_cut_small, crate::proofs::BridgeLemmas::past_small, crate::proofs::HashLemmas::hash_lemmas, std::proofs::lemmas::Grind::common_steps))]
 pub(crate) fn eat_hashes(rest: &str) -> &str
     ensures shorter { length result.now ≤ length rest.now }
     ensures past { result.now ≡ past (hash_run (chars rest.now)) rest.now }
 {
-    &rest[hash_end(rest.as_bytes())..]
+    &rest[front_end(rest.as_bytes(), is_hash)..]
+}
+
+fn is_hash(byte: u8) -> bool
+    ensures { result ≡ Raw.is_hash byte }
+{
+    byte == b'#'
 }
 
 /// Returns the text after the characters at the front that pass the test.
@@ -146,7 +143,7 @@ pub(crate) fn eat_while<F: Fn(char) -> bool>(rest: &str, test: F) -> &str
 
 /// Returns whether the next character is outside ASCII.
 #[inline(always)]
-pub(crate) fn begins_wide(rest: &str) -> bool
+fn begins_wide(rest: &str) -> bool
     ensures { result ≡ Scan.next_is is_wide rest.now }
 {
     match rest.as_bytes().first() {
@@ -163,71 +160,9 @@ pub(crate) fn eat_continue(rest: &str) -> &str
 {
     let left = &rest[short_run_end::<Continue>(rest.as_bytes())..];
     if begins_wide(left) {
-        eat_continue_wide(left)
+        eat_while(left, is_id_continue)
     } else {
         left
-    }
-}
-
-/// Returns the text after the characters at the front that an identifier may continue with. The next byte is not
-/// one of these in ASCII.
-#[inline(never)]
-fn eat_continue_wide(rest: &str) -> &str
-    requires stops { Scan.next_is is_continue_byte rest.now ≡ false }
-    ensures shorter { length result.now ≤ length rest.now }
-    ensures past { result.now ≡ past (run_len Classes.is_id_continue (chars rest.now)) rest.now }
-{
-    let mut left = rest;
-    'wide: while begins_wide(left) {
-        let next = eat_continue_in(eat_continue_in(left, 0xC0, 0xE0), 0xE0, 0xF0);
-        if begins_wide(next) {
-            let Some((c, tail)) = split_first(next) else {
-                return next;
-            };
-            if !unicode_ident::is_xid_continue(c) {
-                return next;
-            }
-            left = &tail[short_run_end::<Continue>(tail.as_bytes())..];
-        } else {
-            left = &next[short_run_end::<Continue>(next.as_bytes())..];
-        }
-    }
-    left
-}
-
-/// Returns the text after the characters at the front that an identifier may continue with and whose first bytes
-/// are in the range.
-///
-/// If the range determines how many bytes a character has, reading it takes no branch.
-#[inline(always)]
-#[tactic(auto, using(crate::proofs::WideLemmas::within_run, std::proofs::lemmas::Grind::common_steps))]
-fn eat_continue_in(rest: &str, low: u8, high: u8) -> &str
-    ensures shorter { length result.now ≤ length rest.now }
-    ensures same { length result.now ≡ length rest.now → result.now ≡ rest.now }
-    ensures run { past (run_len Classes.is_id_continue (chars result.now)) result.now
-        ≡ past (run_len Classes.is_id_continue (chars rest.now)) rest.now }
-{
-    let mut left = rest;
-    'within: while begins_within(left, low, high) {
-        let Some((c, tail)) = split_first(left) else {
-            return left;
-        };
-        if !unicode_ident::is_xid_continue(c) {
-            return left;
-        }
-        left = tail;
-    }
-    left
-}
-
-/// Returns whether the next byte is in the range.
-#[inline(always)]
-fn begins_within(rest: &str, low: u8, high: u8) -> bool
-    ensures { result ≡ Scan.next_is (λ b. nat_le low b && nat_lt b high) rest.now }
-{
-    match rest.as_bytes().first() {
-        Some(byte) => *byte >= low && *byte < high,
-        None => false,
     }
 }
 
@@ -282,12 +217,7 @@ pub(crate) fn eat_decimal(rest: &str) -> &str
     ensures past { result.now
         ≡ past (run_len (or_underscore is_ascii_digit) (chars rest.now)) rest.now }
 {
-    let left = &rest[run_end::<Decimal>(rest.as_bytes())..];
-    if begins_wide(left) {
-        eat_while(left, is_digit_or_underscore)
-    } else {
-        left
-    }
+    &rest[front_end(rest.as_bytes(), is_digit_or_underscore)..]
 }
 
 /// Returns the text after the hexadecimal digits and underscores at the front.
@@ -297,22 +227,17 @@ pub(crate) fn eat_hexadecimal(rest: &str) -> &str
     ensures past { result.now
         ≡ past (run_len (or_underscore is_ascii_hexdigit) (chars rest.now)) rest.now }
 {
-    let left = &rest[run_end::<Hexadecimal>(rest.as_bytes())..];
-    if begins_wide(left) {
-        eat_while(left, is_hex_digit_or_underscore)
-    } else {
-        left
-    }
+    &rest[front_end(rest.as_bytes(), is_hex_digit_or_underscore)..]
 }
 
-fn is_digit_or_underscore(c: char) -> bool
-    ensures { result ≡ or_underscore is_ascii_digit c }
+fn is_digit_or_underscore(byte: u8) -> bool
+    ensures { result ≡ or_underscore is_ascii_digit byte }
 {
-    c.is_ascii_digit() || c == '_'
+    byte.is_ascii_digit() || byte == b'_'
 }
 
-fn is_hex_digit_or_underscore(c: char) -> bool
-    ensures { result ≡ or_underscore is_ascii_hexdigit c }
+fn is_hex_digit_or_underscore(byte: u8) -> bool
+    ensures { result ≡ or_underscore is_ascii_hexdigit byte }
 {
-    c.is_ascii_hexdigit() || c == '_'
+    byte.is_ascii_hexdigit() || byte == b'_'
 }

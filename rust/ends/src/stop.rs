@@ -11,10 +11,6 @@ use rattle_std::io::Write;
 pub enum Stop {
     /// The program does not take these arguments.
     Arguments,
-    /// The text is not tidy, and the program was asked whether it is.
-    Untidy,
-    /// The program skipped a path, which it has named, and has done the rest.
-    Skipped,
     /// The input is not UTF-8.
     NotUtf8,
     /// The input has more than `u32::MAX` bytes.
@@ -34,26 +30,24 @@ impl Stop {
     pub fn status(&self) -> u8 {
         match self {
             Stop::ClosedPipe => 0,
-            Stop::Untidy => 1,
             Stop::Arguments => 2,
-            Stop::NotUtf8 | Stop::Skipped => 3,
+            Stop::NotUtf8 => 3,
             Stop::TooLong => 4,
             Stop::Memory => 6,
             Stop::Read | Stop::Write => 7,
         }
     }
 
-    /// Returns the message, if there is one. A closed pipe has none, and skipped paths are named already.
+    /// Returns the message, if there is one. A closed pipe has none.
     fn text(&self) -> Option<&'static str> {
         match self {
             Stop::Arguments => Some("unknown words; --help tells what it takes"),
-            Stop::Untidy => Some("not in order"),
             Stop::NotUtf8 => Some("input is not UTF-8"),
             Stop::TooLong => Some("input too long"),
             Stop::Memory => Some("no memory"),
             Stop::Read => Some("read failed"),
             Stop::Write => Some("write failed"),
-            Stop::Skipped | Stop::ClosedPipe => None,
+            Stop::ClosedPipe => None,
         }
     }
 }

@@ -16,19 +16,6 @@ pub trait Write {
 
     /// Passes on all bytes that it took.
     fn flush(&mut self) -> Result<()>;
-
-    /// Writes all of the bytes. A write that takes none is an error, and an interrupted one is tried again.
-    fn write_all(&mut self, mut buf: &[u8]) -> Result<()> {
-        while !buf.is_empty() {
-            match self.write(buf) {
-                Ok(0) => return Err(Error::from(ErrorKind::WriteZero)),
-                Ok(count) => buf = &buf[count..],
-                Err(error) if error.kind() == ErrorKind::Interrupted => {}
-                Err(error) => return Err(error),
-            }
-        }
-        Ok(())
-    }
 }
 
 /// A stream that may be a terminal.

@@ -3,14 +3,12 @@
 //!
 //! Lists and texts are those of `rattle_support`, which return an error if an allocation fails. If one of Rust's own
 //! fails, the process aborts. These come at the start, before any input is read: those of [`env::args`], of
-//! [`env::var`], and of the standard streams, whose buffers nothing here uses. Those of [`fs`] may come at any time.
+//! [`env::var`], and of the standard streams, whose buffers nothing here uses.
 
 #![deny(missing_docs, unsafe_code)]
 
 pub mod env;
-pub mod fs;
 pub mod io;
-pub mod path;
 pub mod rt;
 
 /// As in Rust.
@@ -35,30 +33,4 @@ pub mod process {
 pub mod prelude {
     /// A list and a text. The contracts say what their items and bytes are after each call.
     pub use rattle_support::{String, Vec};
-
-    /// The argument of `main`, and its allocator.
-    pub use crate::rt::{AllocGlobal, HostRuntime};
-
-    /// They write the texts of Rust's macros of the same names.
-    pub use crate::{eprintln, format};
-}
-
-/// Writes a line to standard error, and returns whether it was written.
-#[macro_export]
-macro_rules! eprintln {
-    ($rt:expr; $($words:tt)*) => {
-        $crate::rt::say(&mut $rt.stderr(), format_args!("{}\n", format_args!($($words)*)))
-    };
-}
-
-/// Returns a copy of the text, or the error of a failed allocation.
-#[macro_export]
-macro_rules! format {
-    (in $alloc:expr; $($words:tt)*) => {{
-        let mut text = $crate::prelude::String::new($alloc);
-        match $crate::fmt::Write::write_fmt(&mut text, format_args!($($words)*)) {
-            Ok(()) => Ok(text),
-            Err(_) => Err($crate::alloc::AllocError),
-        }
-    }};
 }

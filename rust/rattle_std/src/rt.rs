@@ -10,7 +10,6 @@
 
 use crate::alloc::Global;
 use crate::io::{Error, IsTerminal, Read, Result, Write};
-use std::fmt::{Arguments, Write as _};
 use std::fs::File;
 use std::io::ErrorKind;
 use std::sync::OnceLock;
@@ -64,25 +63,7 @@ extern "C" fn at_start() {
 static AT_START: extern "C" fn() = at_start;
 
 /// What a program may use.
-#[derive(Clone)]
 pub struct HostRuntime(());
-
-/// A type that has an allocator.
-pub trait AllocGlobal {
-    /// The allocator.
-    fn alloc(&self) -> Global;
-}
-
-impl AllocGlobal for HostRuntime {
-    fn alloc(&self) -> Global {
-        Global
-    }
-}
-
-/// A type that has access to files.
-pub trait Files {}
-
-impl Files for HostRuntime {}
 
 /// The argument of `main` in Rattle.
 pub fn start() -> HostRuntime {
@@ -141,24 +122,5 @@ impl IsTerminal for Stream {
         self.0
             .as_ref()
             .is_some_and(std::io::IsTerminal::is_terminal)
-    }
-}
-
-/// Writes a text in pieces, up to the first that cannot be written.
-#[doc(hidden)]
-pub fn say(stream: &mut Stream, words: Arguments<'_>) -> Result<()> {
-    Pieces(stream)
-        .write_fmt(words)
-        .map_err(|_| Error::from(ErrorKind::Other))
-}
-
-/// A stream as a writer of text.
-struct Pieces<'a>(&'a mut Stream);
-
-impl std::fmt::Write for Pieces<'_> {
-    fn write_str(&mut self, piece: &str) -> std::fmt::Result {
-        self.0
-            .write_all(piece.as_bytes())
-            .map_err(|_| std::fmt::Error)
     }
 }

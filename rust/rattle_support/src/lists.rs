@@ -52,31 +52,6 @@ impl<T> Vec<T> {
     }
 }
 
-/// What only programs take.
-impl<T> Vec<T> {
-    /// Takes the last item. `None` if there is none.
-    pub fn pop(&mut self) -> Option<T> {
-        self.0.pop()
-    }
-
-    /// Keeps the first of equal items in a row.
-    pub fn dedup(&mut self)
-    where
-        T: PartialEq,
-    {
-        self.0.dedup();
-    }
-}
-
-impl Vec<String> {
-    /// Sorts the texts by their bytes, in place: Rust's stable sort ends the program if an allocation fails, and equal
-    /// texts need no order.
-    pub fn sort(&mut self) -> Result<(), AllocError> {
-        self.0.sort_unstable();
-        Ok(())
-    }
-}
-
 impl<T> IntoIterator for Vec<T> {
     type Item = T;
     type IntoIter = alloc::vec::IntoIter<T>;
@@ -126,7 +101,7 @@ impl<T> DerefMut for Vec<T> {
 }
 
 /// A text. Its contracts are those of `std::string::String` in Rattle, which say what its bytes are after each call.
-#[derive(Clone, Debug, PartialEq, Eq, PartialOrd, Ord)]
+#[derive(Clone, Debug, PartialEq, Eq)]
 pub struct String(alloc::string::String);
 
 impl String {
@@ -192,22 +167,12 @@ impl String {
         }
     }
 
-    /// Its bytes.
-    pub fn into_bytes(self) -> Vec<u8> {
-        Vec(self.0.into_bytes())
-    }
-
     /// Appends a text.
     #[inline]
     pub fn push_str(&mut self, text: &str) -> Result<(), AllocError> {
         self.0.try_reserve(text.len())?;
         self.0.push_str(text);
         Ok(())
-    }
-
-    /// Appends the arguments of `write!`. In Rattle its error is that of the writer.
-    pub fn write_fmt(&mut self, words: core::fmt::Arguments<'_>) -> Result<(), AllocError> {
-        core::fmt::Write::write_fmt(self, words).map_err(|_| AllocError)
     }
 }
 

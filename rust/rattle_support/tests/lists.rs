@@ -14,13 +14,9 @@ fn text(text: &str) -> String {
 type OnText = fn(&mut String) -> Result<(), AllocError>;
 
 /// Calls on `aéb`, and what each makes of it where memory is given.
-const ON_TEXTS: [(OnText, &str); 9] = [
+const ON_TEXTS: [(OnText, &str); 8] = [
     (|text| text.push('é'), "aébé"),
     (|text| text.push_str("a longer text"), "aéba longer text"),
-    (
-        |text| text.write_fmt(format_args!("{}{}", 12, "cd")),
-        "aéb12cd",
-    ),
     (
         |text| Write::write_str(text, "xyz").map_err(|_| AllocError),
         "aébxyz",
@@ -43,7 +39,7 @@ fn texts() {
         assert_eq!(held.as_str(), wanted, "call {number}");
         // The room is full, so each that appends has to ask for more.
         let mut held = text("aéb");
-        let takes_none = number >= 7;
+        let takes_none = number >= 6;
         let answer = given(0, || call(&mut held));
         assert_eq!(answer.is_ok(), takes_none, "call {number}");
         let stays = if takes_none { wanted } else { "aéb" };
@@ -63,10 +59,9 @@ fn texts() {
     // A width counts characters, as of each text in Rust.
     assert_eq!(std::format!("{held:>4}|{held:-<3}"), "  aé|aé-");
     assert_eq!(std::string::String::from(held), "aé");
-    let held = text("aé");
-    let held = given(0, || held.into_bytes());
-    assert_eq!(&*held, "aé".as_bytes());
-    let held = given(0, || String::from_utf8(held));
+    let mut bytes = Vec::new(Global);
+    bytes.extend_from_slice("aé".as_bytes()).unwrap();
+    let held = given(0, || String::from_utf8(bytes));
     assert_eq!(held.unwrap().as_str(), "aé");
     let mut bytes = Vec::new(Global);
     bytes.extend_from_slice(b"a\xff").unwrap();
@@ -117,15 +112,8 @@ fn lists() {
     }
     let mut held = list();
     held.as_mut_slice()[0] = 7;
-    assert_eq!((held.pop(), held.as_slice()), (Some(2), &[7, 2][..]));
-    held.push(2).unwrap();
-    held.push(7).unwrap();
-    held.dedup();
-    assert_eq!(held.as_slice(), [7, 2, 7], "in a row");
     held.truncate(2);
     assert!((&held).into_iter().copied().eq([7, 2]) && held.clone().into_iter().eq([7, 2]));
-    held.truncate(0);
-    assert_eq!((held.pop(), held.len()), (None, 0));
     let mut full = Vec::new(Global);
     assert_eq!(given(0, || full.resize(1, 0u8)), Err(AllocError));
     assert_eq!(full.len(), 0);
@@ -139,8 +127,7 @@ fn room_for_a_part() {
             let mut held = text(&["aéb", &"x".repeat(left)].concat());
             held.truncate(4);
             let is_ok = given(0, || call(&mut held)).is_ok();
-            // What is formatted comes in pieces, of which the first may have room.
-            let stays = held.as_str() == "aéb" || number == 2;
+            let stays = held.as_str() == "aéb";
             let made = held.as_str() == wanted;
             assert!(if is_ok { made } else { stays }, "call {number}, {left}");
         }
@@ -153,24 +140,6 @@ fn room_for_a_part() {
             assert_eq!(held.as_slice(), stands, "call {number}, {left}");
         }
     }
-}
-
-/// Texts are in the order of their bytes: capitals stand before small letters, and those before what is not in ASCII.
-#[test]
-fn sorted_texts() {
-    let mut texts = Vec::new(Global);
-    for name in ["b", "é", "a.rs", "B", "", "A.RS", "a", "Z", "a/b"] {
-        texts.push(text(name)).unwrap();
-    }
-    texts.sort().unwrap();
-    let names: std::vec::Vec<&str> = texts.iter().map(|text| text.as_str()).collect();
-    assert_eq!(names, ["", "A.RS", "B", "Z", "a", "a.rs", "a/b", "b", "é"]);
-    // Many take no memory either.
-    for number in 0..1000 {
-        texts.push(text(&(number % 7).to_string())).unwrap();
-    }
-    assert_eq!(given(0, || texts.sort()), Ok(()));
-    assert!(texts.is_sorted());
 }
 
 #[test]
@@ -195,13 +164,12 @@ fn room_that_was_made() {
 #[test]
 fn room_that_grows() {
     type Call = fn(&mut String, &mut Vec<u8>) -> Result<(), AllocError>;
-    let calls: [Call; 9] = [
+    let calls: [Call; 8] = [
         |text, _| text.push('a'),
         |text, _| text.reserve(1).and_then(|()| text.push('a')),
         |text, _| text.push_str("a"),
         |text, _| text.replace_range(0..0, "a"),
         |text, _| Write::write_str(text, "a").map_err(|_| AllocError),
-        |text, _| text.write_fmt(format_args!("{}", 1)),
         |_, list| list.push(1),
         |_, list| list.extend_from_slice(&[1]),
         |_, list| list.resize(list.len() + 1, 1),

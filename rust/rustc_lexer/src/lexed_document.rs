@@ -13,7 +13,8 @@ use core::ops::Range;
 /// after a shebang line, and a frontmatter is one token.
 ///
 /// It has the calls of a [`LexedText`](crate::LexedText), which is for a part of a file. An edit after the head, which
-/// is the shebang line and the frontmatter, keeps as many tokens as it does there.
+/// is the shebang line and the frontmatter, keeps of the tokens there what it would keep of them alone, unless it changes
+/// the head.
 ///
 /// ```
 /// use rustc_lexer::{LexedDocument, TokenKind};

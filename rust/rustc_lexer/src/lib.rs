@@ -24,7 +24,7 @@
 //!
 //! # What is proved
 //!
-//! The modules below [`erased`] are generated from a source in Rattle, which is Rust with contracts, by deleting the
+//! The modules below `erased` are generated from a source in Rattle, which is Rust with contracts, by deleting the
 //! contracts. It is proved of that source that, for every text under 4 GiB, its tokens are the only ones that a grammar
 //! of the language allows. The rest of this crate is written by hand: the calls of the original, of [`LexedText`] and
 //! of [`LexedDocument`] test what the contracts require of a caller. [`Relexing`], a [`Head`] and a [`Stepper`] test
@@ -61,6 +61,7 @@ mod edit_error;
 #[allow(clippy::collapsible_if)]
 #[allow(clippy::len_without_is_empty, clippy::new_without_default)]
 #[allow(clippy::too_many_arguments)]
+#[doc(hidden)]
 pub mod erased;
 #[cfg(feature = "alloc")]
 mod kept_calls;
@@ -123,10 +124,6 @@ pub use erased::LiteralKind;
 /// impl Record for Kind {
 ///     fn of(token: Token) -> Kind {
 ///         Kind(token.kind)
-///     }
-///
-///     fn bare(kind: TokenKind, _: u32) -> Kind {
-///         Kind(kind)
 ///     }
 /// }
 ///

@@ -410,6 +410,19 @@ fn more_tokens_than_a_batch() {
     let tokens: Vec<Token> = tokenize(&text, FrontmatterAllowed::No).collect();
     assert_eq!(tokens.len(), 2000);
     assert!(tokens.iter().all(|token| token.len == 1));
+    let mut buffer = vec![tokens[1]; 2001];
+    let count = tokenize(&text, FrontmatterAllowed::No).fill(&mut buffer);
+    assert_eq!((count, &buffer[..count]), (2000, &*tokens));
+}
+
+#[test]
+fn tokens_that_are_skipped() {
+    let mut tokens = tokenize("a + bc d", FrontmatterAllowed::No);
+    assert_eq!(tokens.nth(2).map(|token| token.kind), Some(TokenKind::Plus));
+    assert_eq!(tokens.as_str(), " bc d");
+    assert_eq!(tokens.nth(1).map(|token| token.len), Some(2));
+    assert_eq!(tokens.as_str(), " d");
+    assert_eq!((tokens.nth(2), tokens.as_str()), (None, ""));
 }
 
 #[test]

@@ -383,4 +383,28 @@ fn what_is_written_of_texts() {
     pieces.next();
     assert_eq!(format!("{pieces:?}"), "Pieces { left: 2, .. }");
     assert_eq!(format!("{pieces:#?}"), "Pieces {\n    left: 2,\n    ..\n}");
+    assert_eq!(pieces.by_ref().count(), 2);
+    assert_eq!(format!("{pieces:?}"), "Pieces { left: 0, .. }");
+}
+
+/// A kept text has each byte: a byte order mark, which is no white space and begins no word, at its front and at that of
+/// what is put in, and U+0000 at the end of that.
+#[test]
+fn marks_at_the_ends_of_a_text() {
+    macro_rules! keeps_them {
+        ($lexed:ident) => {
+            let mut lexed = $lexed::new("\u{feff}a");
+            assert_eq!(lexed.text(), "\u{feff}a");
+            lexed.edit(4..4, "\u{feff}b\0");
+            assert_eq!(lexed.text(), "\u{feff}a\u{feff}b\0");
+            let (none, word) = (TokenKind::Unknown, TokenKind::Ident);
+            let tokens: Vec<_> = lexed.tokens().iter().map(|it| (it.kind, it.len)).collect();
+            assert_eq!(
+                tokens,
+                [(none, 3), (word, 1), (none, 3), (word, 1), (none, 1)]
+            );
+        };
+    }
+    keeps_them!(LexedText);
+    keeps_them!(LexedDocument);
 }

@@ -37,6 +37,7 @@ extern crate std;
 #[allow(missing_docs, unused_imports, unused_variables, dead_code)]
 #[allow(clippy::assign_op_pattern, clippy::collapsible_if)]
 #[allow(clippy::question_mark)]
+#[doc(hidden)]
 pub mod erased;
 mod unit;
 #[cfg(feature = "alloc")]

@@ -1,28 +1,22 @@
 -- How far a token of each kind looks can be read off the conditions of the language on what follows.
-use Rattle.std.proofs.Common.{◌≡◌, ℕ, zero, suc, ◌-◌, ◌<◌, ◌==◌, ◌&&◌, if◌then◌else◌, not, Bool, true, false, true≢false, List, [], ◌∷◌, ◌++◌, length, take, drop, codes, refl, sym, ap, ◌∙◌, subst, arith, Option, Some, None, bytes_eq}
-use lib.Utf8.{encode}
-use Rattle.std.proofs.lemmas.Bool.{and_parts, or_parts, or_from, eqb-true, not-true}
+use Rattle.std.proofs.Common.{◌≡◌, ℕ, zero, suc, ◌<◌, ◌==◌, ◌&&◌, if◌then◌else◌, not, Bool, true, false, true≢false, List, [], ◌∷◌, ◌++◌, length, take, drop, codes, refl, sym, ap, ◌∙◌, subst, arith, Option, None, bytes_eq}
+use Rattle.std.proofs.lemmas.Bool.{and_parts, or_parts, or_from, eqb-true}
 use Rattle.std.proofs.lemmas.List.{append-nil}
 use Rattle.std.specs.List.{list_all, list_any}
-use Rattle.std.specs.Option.{is_some}
 use Rattle.std.proofs.Math.Bool.{and-false, and-true}
 use Rattle.std.proofs.lemmas.Grind.{common_steps}
-use Rattle.rustc_lexer.specs.Classes.{is_among, is_ident, Chars, AreAll, NextIs, NextIsNot, is_word_continue, is_name_start, begins_ident_after, ends_prefix}
+use Rattle.rustc_lexer.specs.Classes.{is_among, is_ident, AreAll, NextIs, NextIsNot, is_word_continue, is_name_start, begins_ident_after, ends_prefix}
 use Rattle.unicode_ident.proofs.Computing.{unicode_ident}
-use Rattle.rustc_lexer.specs.{Base, LiteralKind, TokenKind, Decimal, Int, Float, Char, Byte, Str, ByteStr, CStr, RawStr, RawByteStr, RawCStr, LineComment, BlockComment, Whitespace, Ident, InvalidIdent, RawIdent, ForcedKeywordIdent, RawLifetime, Lifetime, Slash, Pound, Eof, Literal, UnknownPrefix, UnknownPrefixLifetime}
+use Rattle.rustc_lexer.specs.{Base, LiteralKind, TokenKind, Int, Char, Byte, RawStr, RawByteStr, RawCStr, Literal, UnknownPrefix}
 use Rattle.rustc_lexer.specs.Language as the
 use Rattle.rustc_lexer.specs.LiteralGrammar as lit
 use Rattle.rustc_lexer.specs.LiteralGrammar.{IsDoubleQuoted, SingleTo, IsSingleQuoted, IsRaw, IsLiteralBefore, IsSuffixBefore}
 use Rattle.rustc_lexer.specs.Language.{known_prefixes, begins_prefixed, IsTokenBefore}
 use Rattle.rustc_lexer.specs.GrammarLaws.{reach}
-use Rattle.rustc_lexer.specs.means.Lexeme.{past_first, lexeme}
-use Rattle.rustc_lexer.specs.Tables.{is_emoji, emoji_ranges, symbols}
-use Rattle.rustc_lexer.specs.means.Number.{number_kind, fraction}
 use Rattle.rustc_lexer.specs.NumberGrammar as number
-use Rattle.rustc_lexer.specs.NumberGrammar.{or_underscore, IsExponent, IsTailBefore, HasNumberForm, IsNumberBefore}
+use Rattle.rustc_lexer.specs.NumberGrammar.{IsExponent, IsTailBefore, HasNumberForm, IsNumberBefore}
 use Rattle.rustc_lexer.specs.means.Scan.{begins, next_is}
 use Rattle.rustc_lexer.specs.laws.Language.{language}
-use Rattle.rustc_lexer.specs.laws.Choice.{by_symbol}
 use Rattle.rustc_lexer.specs.laws.LanguageLiterals.{HasDigit, number-digit}
 use Rattle.rustc_lexer.specs.laws.LanguageRuns.{either-way, word-no_mark}
 use Rattle.rustc_lexer.specs.laws.LanguageLifetimes.{end-stops}
@@ -260,125 +254,5 @@ token-alike {next} (the.pound stop) other e = the.pound (stops _ next other e st
 token-alike {next} (the.guarded_prefix is) other e = the.guarded_prefix is
 token-alike {next} (the.symbol is) other e = the.symbol is
 
--- ---- what is refused, with an end of its own
-
-raw-stands : {c : ℕ} {next : List ℕ} {o : Option ℕ} {w : List ℕ} → IsRaw (c ∷ next) o w → o ≡ None → (other : List ℕ) → IsRaw other o w
-raw-stands (lit.closed n w le lacks) e other = absurd (cc e)
-raw-stands (lit.too_many n w lt lacks) e other = lit.too_many n w lt lacks
-raw-stands {c} {next} (lit.unclosed n w none lacks) e other = absurd (let no : suc (length next) ≡ 0 = ap length none in omega (arith, no))
-raw-stands (lit.no_quote n c out) e other = lit.no_quote n c out
-raw-stands {c} {next} (lit.no_more n none) e other = absurd (let no : suc (length next) ≡ 0 = ap length none in omega (arith, no))
-
-none-raw : (kind : Option ℕ → LiteralKind) (n : Option ℕ) → ((k : ℕ) → is_refused (kind (Some k)) ≡ false) → is_refused (kind n) ≡ true → n ≡ None
-none-raw kind None stands e = refl
-none-raw kind (Some k) stands e = absurd (either-way (is_refused (kind (Some k))) e (stands k))
-
-literal-takes : {next : List ℕ} {kind : LiteralKind} {takes : Bool} {w : List ℕ} → IsLiteralBefore next kind takes w → is_refused kind ≡ true → takes ≡ false
-literal-takes (lit.number is) e = absurd (either-way _ e (number-kind is.form []).1)
-literal-takes (lit.char_of_name w start all) e = refl
-literal-takes (lit.raw_str {n} q free) e = ap is_some (none-raw RawStr n (λ k. refl) e)
-literal-takes (lit.raw_byte_str {n} q) e = ap is_some (none-raw RawByteStr n (λ k. refl) e)
-literal-takes (lit.raw_c_str {n} q) e = ap is_some (none-raw RawCStr n (λ k. refl) e)
-literal-takes other e = absurd (true≢false (sym e))
-
-literal-stands : {c : ℕ} {next : List ℕ} {kind : LiteralKind} {takes : Bool} {w : List ℕ} → IsLiteralBefore (c ∷ next) kind takes w → is_refused kind ≡ true → (other : List ℕ) → IsLiteralBefore other kind takes w
-literal-stands (lit.number is) e other = absurd (either-way _ e (number-kind is.form []).1)
-literal-stands (lit.char_of_name w start all) e other = lit.char_of_name w start all
-literal-stands (lit.raw_str {n} q free) e other = lit.raw_str (raw-stands q (none-raw RawStr n (λ k. refl) e) other) free
-literal-stands (lit.raw_byte_str {n} q) e other = lit.raw_byte_str (raw-stands q (none-raw RawByteStr n (λ k. refl) e) other)
-literal-stands (lit.raw_c_str {n} q) e other = lit.raw_c_str (raw-stands q (none-raw RawCStr n (λ k. refl) e) other)
-literal-stands others e other = absurd (true≢false (sym e))
-
-abbrev is_refused_token : TokenKind → Bool
-is_refused_token (Literal kind suffix_start) = is_refused kind
-is_refused_token kind = false
-
-token-stands : {c : ℕ} {next : List ℕ} {kind : TokenKind} {w : List ℕ} → IsTokenBefore (c ∷ next) kind w → is_refused_token kind ≡ true → (other : List ℕ) → IsTokenBefore other kind w
-token-stands (the.literal is) e other = the.literal (literal-stands is e other)
-token-stands (the.literal_with is suffix_is) e other = absurd (true≢false (literal-takes is e))
-token-stands (the.symbol {c} is) e other = absurd (either-way _ e (not-true _ (by_symbol (λ kind. not (is_refused_token kind)) symbols c refl refl)))
-token-stands others e other = absurd (true≢false (sym e))
-
--- a raw string that is refused and is not at the end of the text looks at nothing
-pub refused_stands : (c suffix_start : ℕ) (next other w : List ℕ) (kind : LiteralKind) → is_refused kind ≡ true → IsTokenBefore (c ∷ next) (Literal kind suffix_start) w → IsTokenBefore other (Literal kind suffix_start) w
-refused_stands c n next other w kind refused p = token-stands p refused other
-
 pub looks_no_further : (next other w : List ℕ) (kind : TokenKind) → IsTokenBefore next kind w → take (reach kind w) other ≡ take (reach kind w) next → IsTokenBefore other kind w
 looks_no_further next other w kind p e = token-alike p other e
-
--- ---- and no less is enough
-
--- two texts that one character less does not tell apart: the token stands before the first alone
-pub record Needs (kind : TokenKind) (w : Chars) : Type 0 where
-  pub next : Chars
-  pub other : Chars
-  pub some : 0 < reach kind w
-  pub stands : IsTokenBefore next kind w
-  pub alike : take (reach kind w - 1) other ≡ take (reach kind w - 1) next
-  pub fails : IsTokenBefore other kind w → ⊥
-
--- so it is with one text of each kind that looks at something, or with one for each of its numbers. Of the other texts
--- of a kind this says nothing: `1u8` and `0x` look at one character
-abbrev pub NoneLooksLess : Type 0
-NoneLooksLess =
-    Needs Eof [] × Needs Whitespace (codes " ") × Needs (LineComment None) (codes "//")
-    × Needs (BlockComment None false) (codes "/*") × Needs Ident (codes "a") × Needs InvalidIdent (0x1F600 ∷ [])
-    × Needs RawIdent (codes "r#a") × Needs ForcedKeywordIdent (codes "k#a") × Needs UnknownPrefix (codes "a")
-    × Needs UnknownPrefix (codes "k") × Needs (Lifetime false) (codes "'a") × Needs UnknownPrefixLifetime (codes "'a")
-    × Needs UnknownPrefixLifetime (codes "'r") × Needs RawLifetime (codes "'r#a")
-    × Needs (Literal (Int Decimal false) 1) (codes "1") × Needs (Literal (Float Decimal false) 3) (codes "1.5")
-    × Needs (Literal (Float Decimal true) 2) (codes "1e") × Needs (Literal (Char true) 3) (codes "'a'")
-    × Needs (Literal (Char true) 2) (codes "''") × Needs (Literal (Char false) 1) (codes "'")
-    × Needs (Literal (Byte true) 4) (codes "b'a'") × Needs (Literal (Byte false) 2) (codes "b'")
-    × Needs (Literal (Str true) 2) (codes "\"\"") × Needs (Literal (Str false) 1) (codes "\"")
-    × Needs (Literal (ByteStr true) 3) (codes "b\"\"") × Needs (Literal (ByteStr false) 2) (codes "b\"")
-    × Needs (Literal (CStr true) 3) (codes "c\"\"") × Needs (Literal (CStr false) 2) (codes "c\"")
-    × Needs (Literal (RawStr (Some 0)) 3) (codes "r\"\"") × Needs (Literal (RawStr None) 2) (codes "r\"")
-    × Needs (Literal (RawByteStr (Some 0)) 4) (codes "br\"\"") × Needs (Literal (RawByteStr None) 3) (codes "br\"")
-    × Needs (Literal (RawCStr (Some 0)) 4) (codes "cr\"\"") × Needs (Literal (RawCStr None) 3) (codes "cr\"")
-    × Needs Slash (codes "/") × Needs Pound (codes "#")
-
--- by what is read before one and before the other
-needs : (kind : TokenKind) (w next other : List ℕ) (n : ℕ) → 0 < reach kind w → lexeme (w ++ next) ≡ (kind, length w) → take (reach kind w - 1) other ≡ take (reach kind w - 1) next → (lexeme (w ++ other)).1 ≡ n → length w < n → Needs kind w
-needs kind w next other n some read alike longer lt = grind (arith, common_steps, language, same)
-
-pub none_looks_less : NoneLooksLess
-unfolding unicode_ident is_emoji emoji_ranges past_first encode number_kind fraction
-none_looks_less = (
-  needs Eof [] [] (codes " ") 1 (omega arith) refl refl refl (omega arith),
-  needs Whitespace (codes " ") (codes "a") (codes " ") 2 (omega arith) refl refl refl (omega arith),
-  needs (LineComment None) (codes "//") (codes "\n") (codes "a") 3 (omega arith) refl refl refl (omega arith),
-  needs (BlockComment None false) (codes "/*") [] (codes "a") 3 (omega arith) refl refl refl (omega arith),
-  needs Ident (codes "a") (codes " ") (codes "b") 2 (omega arith) refl refl refl (omega arith),
-  needs InvalidIdent (0x1F600 ∷ []) (codes " ") (codes "b") 2 (omega arith) refl refl refl (omega arith),
-  needs RawIdent (codes "r#a") (codes " ") (codes "b") 4 (omega arith) refl refl refl (omega arith),
-  needs ForcedKeywordIdent (codes "k#a") (codes " ") (codes "b") 4 (omega arith) refl refl refl (omega arith),
-  needs UnknownPrefix (codes "a") (codes "#") (codes "b") 2 (omega arith) refl refl refl (omega arith),
-  needs UnknownPrefix (codes "k") (codes "#1") (codes "#a") 3 (omega arith) refl refl refl (omega arith),
-  needs (Lifetime false) (codes "'a") (codes " ") (codes "b") 3 (omega arith) refl refl refl (omega arith),
-  needs UnknownPrefixLifetime (codes "'a") (codes "#") (codes "b") 3 (omega arith) refl refl refl (omega arith),
-  needs UnknownPrefixLifetime (codes "'r") (codes "#1") (codes "#a") 4 (omega arith) refl refl refl (omega arith),
-  needs RawLifetime (codes "'r#a") (codes " ") (codes "b") 5 (omega arith) refl refl refl (omega arith),
-  needs (Literal (Int Decimal false) 1) (codes "1") (codes "..") (codes ".5") 3 (omega arith) refl refl refl (omega arith),
-  needs (Literal (Float Decimal false) 3) (codes "1.5") (codes " ") (codes "5") 4 (omega arith) refl refl refl (omega arith),
-  needs (Literal (Float Decimal true) 2) (codes "1e") (codes " ") (codes "+") 3 (omega arith) refl refl refl (omega arith),
-  needs (Literal (Char true) 3) (codes "'a'") (codes " ") (codes "b") 4 (omega arith) refl refl refl (omega arith),
-  needs (Literal (Char true) 2) (codes "''") (codes " ") (codes "'") 3 (omega arith) refl refl refl (omega arith),
-  needs (Literal (Char false) 1) (codes "'") (codes "\nx") (codes "\n'") 3 (omega arith) refl refl refl (omega arith),
-  needs (Literal (Byte true) 4) (codes "b'a'") (codes " ") (codes "b") 5 (omega arith) refl refl refl (omega arith),
-  needs (Literal (Byte false) 2) (codes "b'") (codes "\nx") (codes "\n'") 4 (omega arith) refl refl refl (omega arith),
-  needs (Literal (Str true) 2) (codes "\"\"") (codes " ") (codes "b") 3 (omega arith) refl refl refl (omega arith),
-  needs (Literal (Str false) 1) (codes "\"") [] (codes "b") 2 (omega arith) refl refl refl (omega arith),
-  needs (Literal (ByteStr true) 3) (codes "b\"\"") (codes " ") (codes "b") 4 (omega arith) refl refl refl (omega arith),
-  needs (Literal (ByteStr false) 2) (codes "b\"") [] (codes "b") 3 (omega arith) refl refl refl (omega arith),
-  needs (Literal (CStr true) 3) (codes "c\"\"") (codes " ") (codes "b") 4 (omega arith) refl refl refl (omega arith),
-  needs (Literal (CStr false) 2) (codes "c\"") [] (codes "b") 3 (omega arith) refl refl refl (omega arith),
-  needs (Literal (RawStr (Some 0)) 3) (codes "r\"\"") (codes " ") (codes "b") 4 (omega arith) refl refl refl (omega arith),
-  needs (Literal (RawStr None) 2) (codes "r\"") [] (codes "b") 3 (omega arith) refl refl refl (omega arith),
-  needs (Literal (RawByteStr (Some 0)) 4) (codes "br\"\"") (codes " ") (codes "b") 5 (omega arith) refl refl refl (omega arith),
-  needs (Literal (RawByteStr None) 3) (codes "br\"") [] (codes "b") 4 (omega arith) refl refl refl (omega arith),
-  needs (Literal (RawCStr (Some 0)) 4) (codes "cr\"\"") (codes " ") (codes "b") 5 (omega arith) refl refl refl (omega arith),
-  needs (Literal (RawCStr None) 3) (codes "cr\"") [] (codes "b") 4 (omega arith) refl refl refl (omega arith),
-  needs Slash (codes "/") (codes " ") (codes "/") 2 (omega arith) refl refl refl (omega arith),
-  needs Pound (codes "#") (codes " ") (codes "#") 2 (omega arith) refl refl refl (omega arith),
-)

@@ -1,6 +1,6 @@
 -- Means, by how it is read: runs of bytes in the ASCII part of a class.
 use Rattle.std.specs.Prelude.{ℕ, Bool, not, ◌||◌, ◌&&◌, ◌==◌, nat_lt, nat_le}
-use Rattle.std.specs.Char.{is_ascii_alphanumeric, is_ascii_digit, is_ascii_hexdigit}
+use Rattle.std.specs.Char.{is_ascii_alphanumeric}
 
 -- what an identifier goes on with
 abbrev pub is_continue_byte : ℕ → Bool
@@ -9,13 +9,6 @@ is_continue_byte b = nat_lt b 128 && (is_ascii_alphanumeric b || (b == 95))
 -- white space
 abbrev pub is_space_byte : ℕ → Bool
 is_space_byte b = nat_lt b 128 && ((b == 32) || (nat_le 9 b && nat_le b 13))
-
--- digits and underscores of a decimal number, and of a hexadecimal one
-abbrev pub is_decimal_byte : ℕ → Bool
-is_decimal_byte b = nat_lt b 128 && (is_ascii_digit b || (b == 95))
-
-abbrev pub is_hexadecimal_byte : ℕ → Bool
-is_hexadecimal_byte b = nat_lt b 128 && (is_ascii_hexdigit b || (b == 95))
 
 -- where a run stops
 abbrev pub outside : (ℕ → Bool) → ℕ → Bool

@@ -1,12 +1,12 @@
 -- Means, by how it is read: raw strings, and the check of one.
-use Rattle.std.specs.Prelude.{◌≡◌, ◌≤◌, ℕ, zero, suc, ◌+◌, ◌<◌, ◌==◌, nat_le, max, Bool, true, false, ◌&&◌, not, if◌then◌else◌, List, [], ◌∷◌, length, drop, Option, Some, None, Result, Ok, Err}
+use Rattle.std.specs.Prelude.{ℕ, zero, suc, ◌+◌, ◌<◌, ◌==◌, nat_le, max, Bool, true, false, ◌&&◌, not, if◌then◌else◌, List, [], ◌∷◌, length, drop, Option, Some, None, Result, Ok, Err}
 use Rattle.std.specs.Str.{byte, chars}
 use Rattle.rustc_lexer.specs.declared.lexemes.raw.RawPrefix.{RawPrefix}
 use Rattle.rustc_lexer.specs.declared.lexemes.raw.RawPrefix.TheVariants.{R, Br, Cr}
 use Rattle.rustc_lexer.specs.{LiteralKind, RawStrError, TokenKind, RawStr, RawByteStr, RawCStr, InvalidStarter, NoTerminator, TooManyDelimiters}
 use Rattle.rustc_lexer.specs.means.Least.{least}
 use Rattle.rustc_lexer.specs.means.Literal.{Body, literal_past}
-use Rattle.rustc_lexer.specs.means.Scan.{IsLocalAt, after, bytes_of, gives, next_is, past, run_len}
+use Rattle.rustc_lexer.specs.means.Scan.{IsLocalAt, after, bytes_of, gives, next_is, run_len}
 pub use Rattle.rustc_lexer.specs.LanguageCalls.{StartsRaw}
 
 -- the least offset from which on the text passes a test
@@ -83,14 +83,6 @@ raw_text n before u = raw_closed n before u (close n u)
 -- the text after the character that should be a quote
 abbrev pub past_starter : ℕ → ℕ → ℕ → List ℕ → Result ℕ RawStrError × ℕ
 past_starter prefix n c u = if is_quote c then raw_text n (prefix + suc n) u else gives (Err (InvalidStarter c)) u
-
--- the text begins with n hashes, none or one, and a quote, and `body` is the text after it
-pub record OpensShort (text : List ℕ) (n : ℕ) (body : List ℕ) : Type 0 where
-  pub few : n ≤ 1
-  pub hashes : n ≡ hash_run (chars text)
-  pub quote : next_is is_quote (drop n (chars text)) ≡ true
-  pub behind : body ≡ past (suc n) text
-  pub shorter : suc n + length body ≡ length text
 
 -- the text after n hashes. The end of the text counts as U+0000
 abbrev pub raw_starter : ℕ → ℕ → List ℕ → Result ℕ RawStrError × ℕ

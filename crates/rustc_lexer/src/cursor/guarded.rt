@@ -9,7 +9,7 @@ ghost use Rattle.rustc_lexer.specs.means.Scan.{past, scanned};
 use crate::cursor::Cursor;
 use crate::lexemes::literal::eat_literal_suffix;
 use crate::lexemes::quoted::double_quoted_string;
-use crate::scan::{self, strip_quote};
+use crate::scan::{self, strip};
 use crate::token::GuardedStr;
 
 impl<'a> Cursor<'a> {
@@ -67,7 +67,7 @@ fn string_past(rest: &str, n_hashes: usize) -> Option<(bool, usize)>
     ensures read { result ≡ spec.string_past n_hashes (chars rest.now) }
     ensures boundary { IfSome result (λ string. IsCharBoundary rest.now string.1) }
 {
-    let body = strip_quote(&rest[n_hashes..])?;
+    let body = strip(&rest[n_hashes..], b'"')?;
     let (terminated, left) = guarded_body(body, n_hashes);
     Some((terminated, rest.len() - left.len()))
 }

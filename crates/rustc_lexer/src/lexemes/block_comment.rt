@@ -55,7 +55,7 @@ fn past_comment(body: &str) -> (bool, &str)
             return (false, stop);
         };
         if c == '*' {
-            if let Some(past_mark) = strip(tail, '/') {
+            if let Some(past_mark) = strip(tail, b'/') {
                 depth -= 1;
                 if depth == 0 {
                     return (true, past_mark);
@@ -64,7 +64,7 @@ fn past_comment(body: &str) -> (bool, &str)
             } else {
                 rest = tail;
             }
-        } else if let Some(past_mark) = strip(tail, '*') {
+        } else if let Some(past_mark) = strip(tail, b'*') {
             depth += 1;
             rest = past_mark;
         } else {

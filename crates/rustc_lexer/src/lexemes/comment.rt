@@ -14,9 +14,9 @@ use crate::token::{DocStyle, TokenKind};
 pub(crate) fn slash(rest: &str) -> (TokenKind, &str)
     ensures { (result.0, result.1.now) ≡ scanned spec.slash rest.now }
 {
-    if let Some(body) = strip(rest, '/') {
+    if let Some(body) = strip(rest, b'/') {
         line_comment(body)
-    } else if let Some(body) = strip(rest, '*') {
+    } else if let Some(body) = strip(rest, b'*') {
         block_comment(body)
     } else {
         (TokenKind::Slash, rest)

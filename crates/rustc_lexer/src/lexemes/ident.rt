@@ -47,7 +47,7 @@ pub(crate) fn eat_marked(tail: &str) -> Option<&str>
         × (rest.now ≡ past (2 + run_len Classes.is_id_continue (drop 2 (chars tail.now)))
         tail.now)) }
 {
-    let (first, word) = split_first(strip(tail, '#')?)?;
+    let (first, word) = split_first(strip(tail, b'#')?)?;
     if !is_id_start(first) {
         return None;
     }

@@ -65,7 +65,7 @@ fn past_short_char(tail: &str) -> Option<&str>
 fn is_character(first: char, rest: &str) -> bool
     ensures { result ≡ spec.is_character first (chars rest.now) }
 {
-    strip(rest, '\'').is_some() || !is_name_start(first)
+    strip(rest, b'\'').is_some() || !is_name_start(first)
 }
 
 /// Returns whether the name of a lifetime may begin with the character. Digits and emoji pass the test.
@@ -99,7 +99,7 @@ fn plain_lifetime(first: char, rest: &str) -> (TokenKind, &str)
 {
     let past_plain = eat_continue(rest);
     let past_name = eat_while(past_plain, is_word_continue);
-    if let Some(left) = strip(past_name, '\'') {
+    if let Some(left) = strip(past_name, b'\'') {
         let name_len = first.len_utf8() + (rest.len() - past_name.len());
         let kind = LiteralKind::Char { terminated: true };
         let suffix_start = 2 + name_len as u32;
@@ -116,7 +116,7 @@ fn lifetime_kind(first: char, holds_emoji: bool, rest: &str) -> TokenKind
         then UnknownPrefixLifetime
         else Lifetime (is_ascii_digit first || is_emoji first || holds_emoji)) }
 {
-    if strip(rest, '#').is_some() && !first.is_ascii_digit() {
+    if strip(rest, b'#').is_some() && !first.is_ascii_digit() {
         TokenKind::UnknownPrefixLifetime
     } else {
         TokenKind::Lifetime {

@@ -65,7 +65,7 @@ fn strip_lone(body: &str) -> Option<&str>
     if first == '\\' {
         return None;
     }
-    strip(tail, '\'')
+    strip(tail, b'\'')
 }
 
 /// Returns whether `c`, which is not a quote, stops a single-quoted text before `tail`.
@@ -73,7 +73,7 @@ fn stops_open(c: char, tail: &str) -> bool
     requires { ¬ (c ≡ 39) }
     ensures { result ≡ spec.at_single_stop (c ∷ chars tail.now) }
 {
-    c == '/' || (c == '\n' && strip(tail, '\'').is_none())
+    c == '/' || (c == '\n' && strip(tail, b'\'').is_none())
 }
 
 /// The characters with which a literal in quotes begins.

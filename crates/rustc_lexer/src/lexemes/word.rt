@@ -1,13 +1,14 @@
 //! Tokens that begin with a letter: identifiers, and literals with a letter in front.
 ghost use Rattle.std.specs.Prelude.{◌≡◌, ◌+◌, ◌<◌, ◌^◌, length};
+ghost use Rattle.std.specs.Str.{chars};
 ghost use Rattle.rustc_lexer.specs.means.Lexeme as spec;
 ghost use Rattle.rustc_lexer.specs.means.Raw.{prefix_len};
-ghost use Rattle.rustc_lexer.specs.means.Scan.{scanned};
+ghost use Rattle.rustc_lexer.specs.means.Scan.{next_is, scanned};
 
 use crate::lexemes::ident::{eat_marked, ident_or_unknown_prefix};
 use crate::lexemes::quoted::{QuotedPrefix, quoted_literal};
-use crate::lexemes::raw::{RawPrefix, raw_literal, short_opening};
-use crate::scan::{next_is, strip};
+use crate::lexemes::raw::{RawPrefix, raw_literal};
+use crate::scan::strip;
 use crate::token::TokenKind;
 
 /// Lexes a token that begins with `first`. Returns its kind, and the text after it. `tail` is the text after
@@ -32,24 +33,22 @@ fn letter_r(tail: &str) -> (TokenKind, &str)
     requires fits { length tail.now + 1 < 2 ^ 32 }
     ensures { (result.0, result.1.now) ≡ scanned spec.letter_r tail.now }
 {
-    if let Some(opening) = short_opening(tail) {
-        return raw_literal(RawPrefix::R, tail, Some(opening));
-    }
     if let Some(rest) = eat_marked(tail) {
         return (TokenKind::RawIdent, rest);
     }
-    if next_is(tail, is_raw_mark) {
-        raw_literal(RawPrefix::R, tail, None)
+    if begins_raw(tail) {
+        raw_literal(RawPrefix::R, tail)
     } else {
         ident_or_unknown_prefix(tail)
     }
 }
 
-/// Returns whether a raw string continues with the character after its prefix.
-fn is_raw_mark(c: char) -> bool
-    ensures { result ≡ spec.is_raw_mark c }
+/// Returns whether a raw string continues with the text after its prefix.
+#[inline(always)]
+fn begins_raw(rest: &str) -> bool
+    ensures { result ≡ next_is spec.is_raw_mark (chars rest.now) }
 {
-    matches!(c, '#' | '"')
+    strip(rest, b'"').is_some() || strip(rest, b'#').is_some()
 }
 
 /// Lexes a token that begins with `k`: a forced keyword, or an identifier.
@@ -69,9 +68,9 @@ fn letter_b(tail: &str) -> (TokenKind, &str)
     requires fits { length tail.now + 1 < 2 ^ 32 }
     ensures { (result.0, result.1.now) ≡ scanned spec.letter_b tail.now }
 {
-    if strip(tail, '\'').is_some() {
+    if strip(tail, b'\'').is_some() {
         quoted_literal(QuotedPrefix::BSingle, tail)
-    } else if strip(tail, '"').is_some() {
+    } else if strip(tail, b'"').is_some() {
         quoted_literal(QuotedPrefix::BDouble, tail)
     } else {
         raw_or_ident(RawPrefix::Br, tail)
@@ -84,7 +83,7 @@ fn letter_c(tail: &str) -> (TokenKind, &str)
     requires fits { length tail.now + 1 < 2 ^ 32 }
     ensures { (result.0, result.1.now) ≡ scanned spec.letter_c tail.now }
 {
-    if strip(tail, '"').is_some() {
+    if strip(tail, b'"').is_some() {
         quoted_literal(QuotedPrefix::CDouble, tail)
     } else {
         raw_or_ident(RawPrefix::Cr, tail)
@@ -98,11 +97,11 @@ fn raw_or_ident(prefix: RawPrefix, tail: &str) -> (TokenKind, &str)
     requires fits { length tail.now + 1 < 2 ^ 32 }
     ensures { (result.0, result.1.now) ≡ scanned (spec.raw_past_or_ident prefix) tail.now }
 {
-    let Some(rest) = strip(tail, 'r') else {
+    let Some(rest) = strip(tail, b'r') else {
         return ident_or_unknown_prefix(tail);
     };
-    if next_is(rest, is_raw_mark) {
-        raw_literal(prefix, rest, short_opening(rest))
+    if begins_raw(rest) {
+        raw_literal(prefix, rest)
     } else {
         ident_or_unknown_prefix(tail)
     }

@@ -44,9 +44,6 @@ pub(crate) const FIRST: Bound = Bound {
     place: 0,
 };
 
-/// At how many bytes before an edit a boundary counts as far from it.
-const FAR: usize = 256;
-
 /// Returns whether there are at least two characters between the two offsets.
 #[inline(always)]
 #[tactic(auto, using(crate::proofs::EditLemmas::edit_lemmas, std::proofs::lemmas::Grind::common_steps))]
@@ -107,48 +104,6 @@ fn walk_back<T: Measured>(text: &str, tokens: &[T], start: usize, from: Bound) -
     FIRST
 }
 
-/// Returns the first boundary from `from` on that is not before `start`, or the last boundary.
-fn past_start<T: Measured>(tokens: &[T], from: Bound, start: usize) -> Bound
-    requires number { from.number ≤ length tokens.now }
-    requires small { start < 2 ^ 63 }
-    ensures bound { (ts : List Token) → HasLengths ts (map T.bytes tokens.now) → IsBound ts from → IsBound ts result }
-{
-    let mut at = from;
-    while at.number < tokens.len() && at.place < start {
-        at = Bound {
-            number: at.number + 1,
-            place: at.place + tokens[at.number].len() as usize,
-        };
-    }
-    at
-}
-
-/// Returns a boundary with few tokens between it and `start`. If `from` is far before `start`, it reads only lengths on
-/// the way.
-fn walk_ahead<T: Measured>(text: &str, tokens: &[T], start: usize, from: Bound) -> Bound
-    requires boundary { IsCharBoundary text.now start }
-    requires number { from.number ≤ length tokens.now }
-    requires from_boundary { IsCharBoundary text.now from.place }
-    requires before { from.place ≤ start }
-
-    // It is between characters, and not past `start`.
-    ensures number { result.number ≤ length tokens.now }
-    ensures boundary { IsCharBoundary text.now result.place }
-    ensures before { result.place ≤ start }
-
-    // If these are the tokens of the old text, it is one of their boundaries.
-    ensures bound { (old : List ℕ) (ts : List Token)
-        → IsFront old ts (map T.bytes tokens.now) text.now start → IsBound ts from
-        → (0 < from.number → has_two old from.place start ≡ true)
-        → IsBound ts result × (0 < result.number → has_two old result.place start ≡ true) }
-{
-    if start - from.place < FAR {
-        return from;
-    }
-    let past = past_start(tokens, from, start);
-    walk_back(text, tokens, start, past)
-}
-
 /// Returns how many of the tokens end at least two characters before `start`. The search begins at `near`, which may be
 /// any boundary.
 pub(crate) fn kept_front<T: Measured>(text: &str, tokens: &[T], start: usize, near: Bound) -> Bound
@@ -162,8 +117,7 @@ pub(crate) fn kept_front<T: Measured>(text: &str, tokens: &[T], start: usize, ne
         × IsBound ts result
         × (0 < result.number → has_two old result.place start ≡ true) }
 {
-    let back = walk_back(text, tokens, start, near);
-    let mut at = walk_ahead(text, tokens, start, back);
+    let mut at = walk_back(text, tokens, start, near);
     while at.number < tokens.len() {
         let next = Bound {
             number: at.number + 1,

@@ -21,8 +21,9 @@ mod in_edition;
 /// A whole document that is kept with its tokens while it is edited: shebang line, frontmatter and all.
 ///
 /// After each edit its tokens are the same as if the present text was lexed from scratch, past the shebang line and
-/// with or without a frontmatter in front. An edit lexes only what it changes. Each edit also looks for a
-/// frontmatter, so it sees one that appears, disappears or ends elsewhere.
+/// with or without a frontmatter in front. An edit that keeps both lexes from the first token that ends less than two
+/// characters before it to where old and new tokens meet; any other lexes all in front of it, too. Each edit also looks
+/// for a frontmatter, so it sees one that appears, disappears or ends elsewhere.
 ///
 /// For a part of a document, where no frontmatter is allowed, use [`LexedText`](crate::LexedText).
 ///

@@ -175,7 +175,7 @@ fn run_end(rest: &[u8], from: usize, byte: u8) -> usize {
 /// Returns the first place of three dashes with only blanks before them, on their line and past the dashes before.
 fn find_lone_dashes(rest: &[u8]) -> Option<usize> {
     let mut end = 0;
-    while let Some(step) = find(&rest[end..], b"---", 0) {
+    while let Some(step) = find(&rest[end..], b"---") {
         let place = end + step;
         if stands_alone(rest, end, place) {
             return Some(place);
@@ -207,19 +207,16 @@ fn line_end(rest: &[u8], place: usize) -> usize {
     }
 }
 
-/// Returns the first place of the pattern. It searches for the pattern's byte number `rare`, one that texts have
-/// few of. So it does not have to make a searcher, which would allocate on the heap.
-fn find(rest: &[u8], pattern: &[u8], rare: usize) -> Option<usize> {
-    if rest.len() < pattern.len() {
-        return None;
-    }
-    let mut from = rare;
-    while let Some(step) = memchr(pattern[rare], &rest[from..]) {
-        let place = from + step - rare;
+/// Returns the first place of the pattern. It searches for the pattern's first byte. So it does not have to make a
+/// searcher, which would allocate on the heap.
+fn find(rest: &[u8], pattern: &[u8]) -> Option<usize> {
+    let mut from = 0;
+    while let Some(step) = memchr(pattern[0], &rest[from..]) {
+        let place = from + step;
         if rest[place..].starts_with(pattern) {
             return Some(place);
         }
-        from += step + 1;
+        from = place + 1;
     }
     None
 }

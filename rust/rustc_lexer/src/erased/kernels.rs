@@ -59,50 +59,6 @@ impl ByteClass for Space {
     }
 }
 
-/// Decimal digits and underscores.
-#[derive(Clone, Copy)]
-pub(crate) struct Decimal;
-
-impl ByteClass for Decimal {
-    const WIDTH: usize = 32;
-
-    #[inline(always)]
-    fn has(byte: u8) -> bool {
-        byte.is_ascii_digit() || byte == b'_'
-    }
-
-    #[inline(always)]
-    fn stops(bytes: &[u8]) -> u64 {
-        let v = u8x32::from_slice(bytes);
-        let from_0 = v - u8x32::splat(b'0');
-        (from_0.simd_ge(u8x32::splat(10)) & v.simd_ne(u8x32::splat(b'_'))).to_bitmask()
-    }
-}
-
-/// Hexadecimal digits and underscores.
-#[derive(Clone, Copy)]
-pub(crate) struct Hexadecimal;
-
-impl ByteClass for Hexadecimal {
-    const WIDTH: usize = 32;
-
-    #[inline(always)]
-    fn has(byte: u8) -> bool {
-        byte.is_ascii_hexdigit() || byte == b'_'
-    }
-
-    #[inline(always)]
-    fn stops(bytes: &[u8]) -> u64 {
-        let v = u8x32::from_slice(bytes);
-        let from_a = (v | u8x32::splat(0x20)) - u8x32::splat(b'a');
-        let from_0 = v - u8x32::splat(b'0');
-        (from_a.simd_ge(u8x32::splat(6))
-            & from_0.simd_ge(u8x32::splat(10))
-            & v.simd_ne(u8x32::splat(b'_')))
-        .to_bitmask()
-    }
-}
-
 /// Returns a mask. Bit k is set if lane k belongs to a word.
 #[inline(always)]
 fn words(v: u8x64) -> u64 {
@@ -197,31 +153,6 @@ pub(crate) fn find(stop: u8, bytes: &[u8]) -> Option<usize> {
         }
     }
     memchr(stop, bytes)
-}
-
-/// Returns the place of the first quote that `n_hashes` hashes follow, none or one. Returns it only if it is within
-/// the next 64 bytes and there are that many bytes.
-///
-/// There is no branch on whether it is none or one, which is hard to predict.
-#[inline(always)]
-pub(crate) fn find_close(n_hashes: u32, bytes: &[u8]) -> Option<usize> {
-    if bytes.len() < 64 {
-        return None;
-    }
-    let v = u8x64::from_slice(bytes);
-    let quotes = v.simd_eq(u8x64::splat(b'"')).to_bitmask();
-    let hashes = v.simd_eq(u8x64::splat(b'#')).to_bitmask();
-    let found = followed(quotes, hashes, n_hashes);
-    if found == 0 {
-        return None;
-    }
-    Some(found.trailing_zeros() as usize)
-}
-
-/// Returns a mask. Bit k is set if a quote is at k and `n_hashes` hashes follow it, none or one.
-#[inline(always)]
-fn followed(quotes: u64, hashes: u64, n_hashes: u32) -> u64 {
-    quotes & ((hashes >> 1) | u64::from(n_hashes).wrapping_sub(1))
 }
 
 /// Returns the first place of either byte. If such bytes come together it is the first byte, and otherwise it is

@@ -1,6 +1,6 @@
 //! The check of a raw string.
 
-use crate::erased::lexemes::raw::any_raw_string;
+use crate::erased::lexemes::raw::raw_double_quoted_string;
 use crate::erased::scan::{first, split_first};
 use crate::erased::token::RawStrError;
 
@@ -30,7 +30,7 @@ pub fn starts_raw(input: &str, prefix_len: u32) -> bool {
 #[inline]
 pub fn validate_raw_str(input: &str, prefix_len: u32) -> Result<(), RawStrError> {
     let rest = past_chars(input, prefix_len);
-    let (read, _) = any_raw_string(rest, prefix_len);
+    let (read, _) = raw_double_quoted_string(rest, prefix_len);
     match read {
         Ok(_) => Ok(()),
         Err(error) => Err(error),

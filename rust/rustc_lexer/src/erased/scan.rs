@@ -1,8 +1,8 @@
 //! Looks at the characters that are left of a text, and skips runs of a class at its front.
 
-use crate::erased::classes::is_whitespace;
+use crate::erased::classes::{is_id_continue, is_whitespace};
 use crate::erased::kernels::{
-    Continue, Decimal, Hexadecimal, Space, ends_space, find, find_either, run_end, short_run_end,
+    Continue, Space, ends_space, find, find_either, run_end, short_run_end,
 };
 
 /// Returns the first character, or U+0000 if the text is empty.
@@ -43,37 +43,31 @@ pub(crate) fn next_is<F: Fn(char) -> bool>(rest: &str, test: F) -> bool {
     }
 }
 
-/// Returns the text after the character `c`, or `None` if the text does not begin with it.
+/// Returns whether the text begins with the byte.
 #[inline(always)]
-pub(crate) fn strip(rest: &str, c: char) -> Option<&str> {
-    let (first, tail) = split_first(rest)?;
-    if first == c { Some(tail) } else { None }
-}
-
-/// Returns whether the next character is a double quote, as the next byte determines.
-#[inline(always)]
-fn begins_quote(rest: &str) -> bool {
+fn begins_with(rest: &str, byte: u8) -> bool {
     match rest.as_bytes().first() {
-        Some(byte) => *byte == b'"',
+        Some(first) => *first == byte,
         None => false,
     }
 }
 
-/// Returns the text after the double quote at its front, or `None` if it does not begin with one.
+/// Returns the text after a character of ASCII, or `None` if the text does not begin with it, as its first byte
+/// determines.
 #[inline(always)]
-pub(crate) fn strip_quote(rest: &str) -> Option<&str> {
-    if begins_quote(rest) {
+pub(crate) fn strip(rest: &str, byte: u8) -> Option<&str> {
+    if begins_with(rest, byte) {
         Some(&rest[1..])
     } else {
         None
     }
 }
 
-/// Returns how many hashes are at the front.
+/// Returns how many bytes at the front pass the test. Mostly these are few, so it looks at one at a time.
 #[inline(always)]
-fn hash_end(bytes: &[u8]) -> usize {
+fn front_end<F: Fn(u8) -> bool>(bytes: &[u8], test: F) -> usize {
     let mut end = 0;
-    while end < bytes.len() && bytes[end] == b'#' {
+    while end < bytes.len() && test(bytes[end]) {
         end += 1;
     }
     end
@@ -82,7 +76,11 @@ fn hash_end(bytes: &[u8]) -> usize {
 /// Returns the text after the hashes at the front.
 #[inline(always)]
 pub(crate) fn eat_hashes(rest: &str) -> &str {
-    &rest[hash_end(rest.as_bytes())..]
+    &rest[front_end(rest.as_bytes(), is_hash)..]
+}
+
+fn is_hash(byte: u8) -> bool {
+    byte == b'#'
 }
 
 /// Returns the text after the characters at the front that pass the test.
@@ -99,7 +97,7 @@ pub(crate) fn eat_while<F: Fn(char) -> bool>(rest: &str, test: F) -> &str {
 
 /// Returns whether the next character is outside ASCII.
 #[inline(always)]
-pub(crate) fn begins_wide(rest: &str) -> bool {
+fn begins_wide(rest: &str) -> bool {
     match rest.as_bytes().first() {
         Some(byte) => *byte >= 128,
         None => false,
@@ -111,59 +109,9 @@ pub(crate) fn begins_wide(rest: &str) -> bool {
 pub(crate) fn eat_continue(rest: &str) -> &str {
     let left = &rest[short_run_end::<Continue>(rest.as_bytes())..];
     if begins_wide(left) {
-        eat_continue_wide(left)
+        eat_while(left, is_id_continue)
     } else {
         left
-    }
-}
-
-/// Returns the text after the characters at the front that an identifier may continue with. The next byte is not
-/// one of these in ASCII.
-#[inline(never)]
-fn eat_continue_wide(rest: &str) -> &str {
-    let mut left = rest;
-    while begins_wide(left) {
-        let next = eat_continue_in(eat_continue_in(left, 0xC0, 0xE0), 0xE0, 0xF0);
-        if begins_wide(next) {
-            let Some((c, tail)) = split_first(next) else {
-                return next;
-            };
-            if !unicode_ident::is_xid_continue(c) {
-                return next;
-            }
-            left = &tail[short_run_end::<Continue>(tail.as_bytes())..];
-        } else {
-            left = &next[short_run_end::<Continue>(next.as_bytes())..];
-        }
-    }
-    left
-}
-
-/// Returns the text after the characters at the front that an identifier may continue with and whose first bytes
-/// are in the range.
-///
-/// If the range determines how many bytes a character has, reading it takes no branch.
-#[inline(always)]
-fn eat_continue_in(rest: &str, low: u8, high: u8) -> &str {
-    let mut left = rest;
-    while begins_within(left, low, high) {
-        let Some((c, tail)) = split_first(left) else {
-            return left;
-        };
-        if !unicode_ident::is_xid_continue(c) {
-            return left;
-        }
-        left = tail;
-    }
-    left
-}
-
-/// Returns whether the next byte is in the range.
-#[inline(always)]
-fn begins_within(rest: &str, low: u8, high: u8) -> bool {
-    match rest.as_bytes().first() {
-        Some(byte) => *byte >= low && *byte < high,
-        None => false,
     }
 }
 
@@ -200,29 +148,19 @@ pub(crate) fn eat_until_either(rest: &str, one: u8, two: u8) -> &str {
 /// Returns the text after the digits and underscores at the front.
 #[inline]
 pub(crate) fn eat_decimal(rest: &str) -> &str {
-    let left = &rest[run_end::<Decimal>(rest.as_bytes())..];
-    if begins_wide(left) {
-        eat_while(left, is_digit_or_underscore)
-    } else {
-        left
-    }
+    &rest[front_end(rest.as_bytes(), is_digit_or_underscore)..]
 }
 
 /// Returns the text after the hexadecimal digits and underscores at the front.
 #[inline]
 pub(crate) fn eat_hexadecimal(rest: &str) -> &str {
-    let left = &rest[run_end::<Hexadecimal>(rest.as_bytes())..];
-    if begins_wide(left) {
-        eat_while(left, is_hex_digit_or_underscore)
-    } else {
-        left
-    }
+    &rest[front_end(rest.as_bytes(), is_hex_digit_or_underscore)..]
 }
 
-fn is_digit_or_underscore(c: char) -> bool {
-    c.is_ascii_digit() || c == '_'
+fn is_digit_or_underscore(byte: u8) -> bool {
+    byte.is_ascii_digit() || byte == b'_'
 }
 
-fn is_hex_digit_or_underscore(c: char) -> bool {
-    c.is_ascii_hexdigit() || c == '_'
+fn is_hex_digit_or_underscore(byte: u8) -> bool {
+    byte.is_ascii_hexdigit() || byte == b'_'
 }

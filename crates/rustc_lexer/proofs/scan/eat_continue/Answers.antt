@@ -10,7 +10,7 @@ range_from-left-requires c = λ some. may_cut is_continue_byte is_id_continue co
 
 pub returns-then-begins_wide-clause-past : goal.returns-then-begins_wide-clause-past
 returns-then-begins_wide-clause-past c =
-    goes_on is_continue_byte is_id_continue continue_part _ _ _ c.utf8.rest c.as_bytes.ensures.value c.short_run_end.ensures.value _ c.range_from-left.ensures.value _ c.eat_continue_wide.ensures.past
+    goes_on is_continue_byte is_id_continue continue_part _ _ _ c.utf8.rest c.as_bytes.ensures.value c.short_run_end.ensures.value _ c.range_from-left.ensures.value _ (c.eat_while.ensures.past is_id_continue (λ d b e. e))
 
 pub returns-else-begins_wide-clause-past : goal.returns-else-begins_wide-clause-past
 returns-else-begins_wide-clause-past c =

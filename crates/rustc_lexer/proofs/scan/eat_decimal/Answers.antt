@@ -1,18 +1,11 @@
-use Rattle.std.proofs.Common.{sym}
-use Rattle.rustc_lexer.specs.means.ByteRuns.{is_decimal_byte}
 use Rattle.std.specs.Char.{is_ascii_digit}
 use Rattle.rustc_lexer.specs.means.Number.{or_underscore}
-use Rattle.rustc_lexer.proofs.BridgeLemmas.{may_cut, goes_on, stops_here}
-use Rattle.rustc_lexer.proofs.PartLemmas.{decimal_part}
+use Rattle.rustc_lexer.proofs.BridgeLemmas.{may_cut_small, past_small}
+use Rattle.rustc_lexer.proofs.NumberLemmas.{digit-small}
 use Rattle.rustc_lexer.proofs.scan.eat_decimal.Goals as goal
 
-pub range_from-left-requires : goal.range_from-left-requires
-range_from-left-requires c = λ some. may_cut is_decimal_byte (or_underscore is_ascii_digit) decimal_part _ _ _ c.utf8.rest c.as_bytes.ensures.value c.run_end.ensures.value
+pub range_from-requires : goal.range_from-requires
+range_from-requires c = λ some. may_cut_small (or_underscore is_ascii_digit) digit-small _ _ _ c.utf8.rest c.as_bytes.ensures.value (c.front_end.ensures.value (or_underscore is_ascii_digit) (λ b passes e. e))
 
-pub returns-then-begins_wide-clause-past : goal.returns-then-begins_wide-clause-past
-returns-then-begins_wide-clause-past c =
-    goes_on is_decimal_byte (or_underscore is_ascii_digit) decimal_part _ _ _ c.utf8.rest c.as_bytes.ensures.value c.run_end.ensures.value _ c.range_from-left.ensures.value _ (c.eat_while.ensures.past (or_underscore is_ascii_digit) (λ d b e. e))
-
-pub returns-else-begins_wide-clause-past : goal.returns-else-begins_wide-clause-past
-returns-else-begins_wide-clause-past c =
-    stops_here is_decimal_byte (or_underscore is_ascii_digit) decimal_part _ _ _ c.utf8.rest c.as_bytes.ensures.value c.run_end.ensures.value _ c.range_from-left.ensures.value (sym c.if-begins_wide.ensures)
+pub returns-clause-past : goal.returns-clause-past
+returns-clause-past c = past_small (or_underscore is_ascii_digit) digit-small _ _ _ c.utf8.rest c.as_bytes.ensures.value (c.front_end.ensures.value (or_underscore is_ascii_digit) (λ b passes e. e)) _ c.range_from.ensures.value

@@ -3,7 +3,7 @@
 use crate::erased::cursor::Cursor;
 use crate::erased::lexemes::literal::eat_literal_suffix;
 use crate::erased::lexemes::quoted::double_quoted_string;
-use crate::erased::scan::{self, strip_quote};
+use crate::erased::scan::{self, strip};
 use crate::erased::token::GuardedStr;
 
 impl<'a> Cursor<'a> {
@@ -50,7 +50,7 @@ fn count_hashes(rest: &str) -> usize {
 /// hashes and the string; or `None` if no string follows the hashes.
 #[inline]
 fn string_past(rest: &str, n_hashes: usize) -> Option<(bool, usize)> {
-    let body = strip_quote(&rest[n_hashes..])?;
+    let body = strip(&rest[n_hashes..], b'"')?;
     let (terminated, left) = guarded_body(body, n_hashes);
     Some((terminated, rest.len() - left.len()))
 }

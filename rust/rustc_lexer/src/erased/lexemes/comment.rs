@@ -8,9 +8,9 @@ use crate::erased::token::{DocStyle, TokenKind};
 /// slash.
 #[inline(always)]
 pub(crate) fn slash(rest: &str) -> (TokenKind, &str) {
-    if let Some(body) = strip(rest, '/') {
+    if let Some(body) = strip(rest, b'/') {
         line_comment(body)
-    } else if let Some(body) = strip(rest, '*') {
+    } else if let Some(body) = strip(rest, b'*') {
         block_comment(body)
     } else {
         (TokenKind::Slash, rest)

@@ -30,7 +30,7 @@ pub(crate) enum Family {
 }
 
 /// The families of the characters in ASCII.
-static FAMILIES: [Family; 128] = [
+const FAMILIES: &[Family; 128] = &[
     Symbol, Symbol, Symbol, Symbol, Symbol, Symbol, Symbol, Symbol, Symbol, Space, Space, Space,
     Space, Space, Symbol, Symbol, Symbol, Symbol, Symbol, Symbol, Symbol, Symbol, Symbol, Symbol,
     Symbol, Symbol, Symbol, Symbol, Symbol, Symbol, Symbol, Symbol, Space, Symbol, Str, Hash,

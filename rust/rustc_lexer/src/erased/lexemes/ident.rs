@@ -33,7 +33,7 @@ pub(crate) fn invalid_ident(tail: &str) -> (TokenKind, &str) {
 /// Returns the text after a hash and an identifier, or `None` if the text does not begin with these.
 #[inline(always)]
 pub(crate) fn eat_marked(tail: &str) -> Option<&str> {
-    let (first, word) = split_first(strip(tail, '#')?)?;
+    let (first, word) = split_first(strip(tail, b'#')?)?;
     if !is_id_start(first) {
         return None;
     }

@@ -46,7 +46,7 @@ fn past_short_char(tail: &str) -> Option<&str> {
 
 /// Returns whether a quote, `first` and `rest` begin a character literal, not a lifetime.
 fn is_character(first: char, rest: &str) -> bool {
-    strip(rest, '\'').is_some() || !is_name_start(first)
+    strip(rest, b'\'').is_some() || !is_name_start(first)
 }
 
 /// Returns whether the name of a lifetime may begin with the character. Digits and emoji pass the test.
@@ -72,7 +72,7 @@ fn lifetime(first: char, rest: &str) -> (TokenKind, &str) {
 fn plain_lifetime(first: char, rest: &str) -> (TokenKind, &str) {
     let past_plain = eat_continue(rest);
     let past_name = eat_while(past_plain, is_word_continue);
-    if let Some(left) = strip(past_name, '\'') {
+    if let Some(left) = strip(past_name, b'\'') {
         let name_len = first.len_utf8() + (rest.len() - past_name.len());
         let kind = LiteralKind::Char { terminated: true };
         let suffix_start = 2 + name_len as u32;
@@ -85,7 +85,7 @@ fn plain_lifetime(first: char, rest: &str) -> (TokenKind, &str) {
 /// Returns the kind of a name that no quote follows. It begins with `first`, and `rest` is the text after the name.
 #[inline(always)]
 fn lifetime_kind(first: char, holds_emoji: bool, rest: &str) -> TokenKind {
-    if strip(rest, '#').is_some() && !first.is_ascii_digit() {
+    if strip(rest, b'#').is_some() && !first.is_ascii_digit() {
         TokenKind::UnknownPrefixLifetime
     } else {
         TokenKind::Lifetime {

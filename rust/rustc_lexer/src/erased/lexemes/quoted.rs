@@ -52,12 +52,12 @@ fn strip_lone(body: &str) -> Option<&str> {
     if first == '\\' {
         return None;
     }
-    strip(tail, '\'')
+    strip(tail, b'\'')
 }
 
 /// Returns whether `c`, which is not a quote, stops a single-quoted text before `tail`.
 fn stops_open(c: char, tail: &str) -> bool {
-    c == '/' || (c == '\n' && strip(tail, '\'').is_none())
+    c == '/' || (c == '\n' && strip(tail, b'\'').is_none())
 }
 
 /// The characters with which a literal in quotes begins.

@@ -1,8 +1,7 @@
 //! Raw strings.
 
-use crate::erased::kernels::find_close;
 use crate::erased::lexemes::literal::eat_literal_suffix;
-use crate::erased::scan::{eat_hashes, eat_until, split_first, strip_quote};
+use crate::erased::scan::{eat_hashes, eat_until, split_first, strip};
 use crate::erased::token::{LiteralKind, RawStrError, TokenKind};
 
 /// The prefix of a raw string that is a token.
@@ -16,15 +15,10 @@ pub(crate) enum RawPrefix {
     Cr,
 }
 
-/// Lexes a raw string. Returns its kind, and the text after it. `rest` is the text after its prefix, and `opening`
-/// is the [`short_opening`] of `rest`.
+/// Lexes a raw string. Returns its kind, and the text after it. `rest` is the text after its prefix.
 #[inline(always)]
-pub(crate) fn raw_literal<'a>(
-    prefix: RawPrefix,
-    rest: &'a str,
-    opening: Option<(u32, &'a str)>,
-) -> (TokenKind, &'a str) {
-    let (read, left) = raw_double_quoted_string(rest, opening, 0);
+pub(crate) fn raw_literal(prefix: RawPrefix, rest: &str) -> (TokenKind, &str) {
+    let (read, left) = raw_double_quoted_string(rest, 0);
     let suffix_start = prefix_len(prefix) + (rest.len() - left.len()) as u32;
     match read {
         Ok(n_hashes) => {
@@ -62,77 +56,23 @@ fn literal_kind(prefix: RawPrefix, n_hashes: Option<u8>) -> LiteralKind {
 
 /// Returns the number of hashes on each side of a raw string, or why it is refused; and the text after it. `rest`
 /// is the text after its prefix. An offset is in bytes, and counts `prefix_len` for the prefix.
-///
-/// `opening` is the [`short_opening`] of `rest`, which the caller may have read already.
 #[inline(always)]
-pub(crate) fn raw_double_quoted_string<'a>(
-    rest: &'a str,
-    opening: Option<(u32, &'a str)>,
+pub(crate) fn raw_double_quoted_string(
+    rest: &str,
     prefix_len: u32,
-) -> (Result<u8, RawStrError>, &'a str) {
-    if let Some((n_hashes, text)) = opening {
-        if let Some(left) = past_close(text, n_hashes) {
-            return (Ok(n_hashes as u8), left);
-        }
-        return text_by_call(text, n_hashes, prefix_len + n_hashes + 1);
-    }
-    any_by_call(rest, prefix_len)
-}
-
-/// Does what [`any_raw_string`] does, and stays a call: in a text few raw strings have more than one hash.
-#[inline(never)]
-fn any_by_call(rest: &str, prefix_len: u32) -> (Result<u8, RawStrError>, &str) {
-    any_raw_string(rest, prefix_len)
-}
-
-/// Returns what [`raw_double_quoted_string`] returns, for any opening.
-#[inline(always)]
-pub(crate) fn any_raw_string(rest: &str, prefix_len: u32) -> (Result<u8, RawStrError>, &str) {
+) -> (Result<u8, RawStrError>, &str) {
     let from_starter = eat_hashes(rest);
     let n_hashes = (rest.len() - from_starter.len()) as u32;
-    let Some((starter, text)) = split_first(from_starter) else {
-        return (
+    if let Some(text) = strip(from_starter, b'"') {
+        return raw_text(text, n_hashes, prefix_len + n_hashes + 1);
+    }
+    match split_first(from_starter) {
+        Some((bad_char, text)) => (Err(RawStrError::InvalidStarter { bad_char }), text),
+        None => (
             Err(RawStrError::InvalidStarter { bad_char: '\0' }),
             from_starter,
-        );
-    };
-    if starter != '"' {
-        return (Err(RawStrError::InvalidStarter { bad_char: starter }), text);
+        ),
     }
-    raw_text(text, n_hashes, prefix_len + n_hashes + 1)
-}
-
-/// Returns how many hashes come before the opening quote, and the text after the quote. Returns `None` unless it is
-/// no hash or one.
-///
-/// There is no branch on which of the two it is, which is hard to predict.
-#[inline(always)]
-pub(crate) fn short_opening(rest: &str) -> Option<(u32, &str)> {
-    let bytes = rest.as_bytes();
-    if bytes.len() < 2 {
-        return None;
-    }
-    let n_hashes = u32::from(bytes[0] == b'#');
-    let place = n_hashes as usize;
-    if bytes[place] == b'"' {
-        Some((n_hashes, &rest[place + 1..]))
-    } else {
-        None
-    }
-}
-
-/// Returns the text after the raw string if it closes within 64 bytes. Before its opening quote come `n_hashes`
-/// hashes, none or one, and `text` is the text after that quote.
-#[inline(always)]
-fn past_close(text: &str, n_hashes: u32) -> Option<&str> {
-    let place = find_close(n_hashes, text.as_bytes())?;
-    Some(&text[place + 1 + n_hashes as usize..])
-}
-
-/// Does what [`raw_text`] does, and stays a call: most raw strings close within 64 bytes.
-#[inline(never)]
-fn text_by_call(text: &str, n_hashes: u32, before: u32) -> (Result<u8, RawStrError>, &str) {
-    raw_text(text, n_hashes, before)
 }
 
 /// Reads a raw string from its opening quote on, before which there are `n_hashes` hashes. Returns the number of
@@ -163,13 +103,10 @@ fn raw_text(text: &str, n_hashes: u32, before: u32) -> (Result<u8, RawStrError>,
     (Err(error), "")
 }
 
-/// Returns the text after its first quote. A quote at the very front needs no search.
+/// Returns the text after its first quote.
 #[inline(always)]
 fn past_quote(rest: &str) -> Option<&str> {
-    if let Some(tail) = strip_quote(rest) {
-        return Some(tail);
-    }
-    strip_quote(eat_until(rest, b'"'))
+    strip(eat_until(rest, b'"'), b'"')
 }
 
 /// Returns the number of hashes, or the error that there are too many.

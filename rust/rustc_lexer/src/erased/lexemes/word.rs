@@ -2,8 +2,8 @@
 
 use crate::erased::lexemes::ident::{eat_marked, ident_or_unknown_prefix};
 use crate::erased::lexemes::quoted::{QuotedPrefix, quoted_literal};
-use crate::erased::lexemes::raw::{RawPrefix, raw_literal, short_opening};
-use crate::erased::scan::{next_is, strip};
+use crate::erased::lexemes::raw::{RawPrefix, raw_literal};
+use crate::erased::scan::strip;
 use crate::erased::token::TokenKind;
 
 /// Lexes a token that begins with `first`. Returns its kind, and the text after it. `tail` is the text after
@@ -22,22 +22,20 @@ pub(crate) fn word(first: char, tail: &str) -> (TokenKind, &str) {
 /// Lexes a token that begins with `r`: a raw identifier, a raw string, or an identifier.
 #[inline(always)]
 fn letter_r(tail: &str) -> (TokenKind, &str) {
-    if let Some(opening) = short_opening(tail) {
-        return raw_literal(RawPrefix::R, tail, Some(opening));
-    }
     if let Some(rest) = eat_marked(tail) {
         return (TokenKind::RawIdent, rest);
     }
-    if next_is(tail, is_raw_mark) {
-        raw_literal(RawPrefix::R, tail, None)
+    if begins_raw(tail) {
+        raw_literal(RawPrefix::R, tail)
     } else {
         ident_or_unknown_prefix(tail)
     }
 }
 
-/// Returns whether a raw string continues with the character after its prefix.
-fn is_raw_mark(c: char) -> bool {
-    matches!(c, '#' | '"')
+/// Returns whether a raw string continues with the text after its prefix.
+#[inline(always)]
+fn begins_raw(rest: &str) -> bool {
+    strip(rest, b'"').is_some() || strip(rest, b'#').is_some()
 }
 
 /// Lexes a token that begins with `k`: a forced keyword, or an identifier.
@@ -52,9 +50,9 @@ fn letter_k(tail: &str) -> (TokenKind, &str) {
 /// Lexes a token that begins with `b`: a byte, a byte string, or an identifier.
 #[inline(always)]
 fn letter_b(tail: &str) -> (TokenKind, &str) {
-    if strip(tail, '\'').is_some() {
+    if strip(tail, b'\'').is_some() {
         quoted_literal(QuotedPrefix::BSingle, tail)
-    } else if strip(tail, '"').is_some() {
+    } else if strip(tail, b'"').is_some() {
         quoted_literal(QuotedPrefix::BDouble, tail)
     } else {
         raw_or_ident(RawPrefix::Br, tail)
@@ -64,7 +62,7 @@ fn letter_b(tail: &str) -> (TokenKind, &str) {
 /// Lexes a token that begins with `c`: a C string, or an identifier.
 #[inline(always)]
 fn letter_c(tail: &str) -> (TokenKind, &str) {
-    if strip(tail, '"').is_some() {
+    if strip(tail, b'"').is_some() {
         quoted_literal(QuotedPrefix::CDouble, tail)
     } else {
         raw_or_ident(RawPrefix::Cr, tail)
@@ -74,11 +72,11 @@ fn letter_c(tail: &str) -> (TokenKind, &str) {
 /// Lexes a raw string whose prefix of two letters ends with the `r` at the front of `tail`, or an identifier.
 #[inline(always)]
 fn raw_or_ident(prefix: RawPrefix, tail: &str) -> (TokenKind, &str) {
-    let Some(rest) = strip(tail, 'r') else {
+    let Some(rest) = strip(tail, b'r') else {
         return ident_or_unknown_prefix(tail);
     };
-    if next_is(rest, is_raw_mark) {
-        raw_literal(prefix, rest, short_opening(rest))
+    if begins_raw(rest) {
+        raw_literal(prefix, rest)
     } else {
         ident_or_unknown_prefix(tail)
     }

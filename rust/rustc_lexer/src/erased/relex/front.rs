@@ -32,9 +32,6 @@ pub(crate) const FIRST: Bound = Bound {
     place: 0,
 };
 
-/// At how many bytes before an edit a boundary counts as far from it.
-const FAR: usize = 256;
-
 /// Returns whether there are at least two characters between the two offsets.
 #[inline(always)]
 pub(crate) fn two_stand(text: &str, from: usize, to: usize) -> bool {
@@ -76,28 +73,6 @@ fn walk_back<T: Measured>(text: &str, tokens: &[T], start: usize, from: Bound) -
     FIRST
 }
 
-/// Returns the first boundary from `from` on that is not before `start`, or the last boundary.
-fn past_start<T: Measured>(tokens: &[T], from: Bound, start: usize) -> Bound {
-    let mut at = from;
-    while at.number < tokens.len() && at.place < start {
-        at = Bound {
-            number: at.number + 1,
-            place: at.place + tokens[at.number].len() as usize,
-        };
-    }
-    at
-}
-
-/// Returns a boundary with few tokens between it and `start`. If `from` is far before `start`, it reads only lengths on
-/// the way.
-fn walk_ahead<T: Measured>(text: &str, tokens: &[T], start: usize, from: Bound) -> Bound {
-    if start - from.place < FAR {
-        return from;
-    }
-    let past = past_start(tokens, from, start);
-    walk_back(text, tokens, start, past)
-}
-
 /// Returns how many of the tokens end at least two characters before `start`. The search begins at `near`, which may be
 /// any boundary.
 pub(crate) fn kept_front<T: Measured>(
@@ -106,8 +81,7 @@ pub(crate) fn kept_front<T: Measured>(
     start: usize,
     near: Bound,
 ) -> Bound {
-    let back = walk_back(text, tokens, start, near);
-    let mut at = walk_ahead(text, tokens, start, back);
+    let mut at = walk_back(text, tokens, start, near);
     while at.number < tokens.len() {
         let next = Bound {
             number: at.number + 1,

@@ -9,6 +9,7 @@
 //! one of N characters is in texts, and the classes of all are compared.
 
 mod documents;
+mod editions;
 mod lexers;
 mod literals;
 mod texts;
@@ -163,6 +164,7 @@ fn differences() -> Result<u64, String> {
     let mut counts = Counts::default();
     for (path, text) in &files {
         counts.compare(lexers::ANSWERS, &path.to_string_lossy(), text);
+        counts.compare(editions::ANSWERS, &path.to_string_lossy(), text);
     }
     differences += counts.print("files");
     println!("files with such a character: {}", all - files.len());
@@ -171,7 +173,9 @@ fn differences() -> Result<u64, String> {
     let mut random = Random::new(seed, &unsettled);
     for number in 0..texts {
         let text = random.text(&files);
-        counts.compare(lexers::ANSWERS, &format!("random text {number}"), &text);
+        let name = format!("random text {number}");
+        counts.compare(lexers::ANSWERS, &name, &text);
+        counts.compare(editions::ANSWERS, &name, &text);
     }
     differences += counts.print("random texts");
 

@@ -1,10 +1,11 @@
-use Rattle.std.proofs.Common.{◌+◌, IfSome, subst}
-use Rattle.rustc_lexer.specs.means.Raw.{OpensShort}
-use Rattle.rustc_lexer.proofs.OpeningLemmas.{opened}
+use Rattle.rustc_lexer.proofs.RawReadLemmas.{no_starter, bad_starter, past_opening}
 use Rattle.rustc_lexer.proofs.lexemes.raw.raw_double_quoted_string.Goals as goal
 
-pub returns-in-Some-past_close : goal.returns-in-Some-past_close
-returns-in-Some-past_close c = opened c.args.prefix_len _ _ _ _ _ c.utf8.rest (subst (λ o. IfSome o (λ p. OpensShort c.args.rest.now p.0 p.1.now)) c.in-Some.is c.requires.opens) (c.in-Some-past_close.ensures (c.args.prefix_len + c.in-Some.n_hashes + 1))
-
 pub returns-in-Some : goal.returns-in-Some
-returns-in-Some c = opened c.args.prefix_len _ _ _ _ _ c.utf8.rest (subst (λ o. IfSome o (λ p. OpensShort c.args.rest.now p.0 p.1.now)) c.in-Some.is c.requires.opens) c.text_by_call.ensures
+returns-in-Some c = past_opening _ _ _ c.utf8.rest c.eat_hashes-from_starter.ensures.past _ c.in-Some.ensures.0 c.in-Some.ensures.1 _ _ c.raw_text.ensures
+
+pub returns-in-Some-split_first : goal.returns-in-Some-split_first
+returns-in-Some-split_first c = bad_starter _ _ _ c.utf8.rest c.eat_hashes-from_starter.ensures.past _ _ c.in-Some-split_first.ensures.0 c.in-Some-split_first.ensures.1 c.in_default.ensures
+
+pub returns-in-None : goal.returns-in-None
+returns-in-None c = no_starter _ _ _ c.utf8.rest c.eat_hashes-from_starter.ensures.past c.in-None.ensures

@@ -12,12 +12,12 @@ use Rattle.rustc_lexer.proofs.lexemes.word.raw_or_ident.Goals as goal
 raw-is : (tail rest : List ℕ) (b : Bool) → IsUtf8 tail → begins (codes "r") (chars tail) ≡ true → rest ≡ past 1 tail → b ≡ next_is is_raw_mark (chars rest) → begins_raw (chars tail) ≡ b
 raw-is tail rest b is r e f = ap (λ (x : Bool). x && next_is is_raw_mark (drop 1 (chars tail))) r ∙ (ap (next_is is_raw_mark) (sym (ap chars e ∙ chars-past 1 tail is)) ∙ sym f)
 
-pub returns-then-next_is : goal.returns-then-next_is
-returns-then-next_is c =
-    let marked : begins_raw (chars c.args.tail.now) ≡ true = raw-is _ _ true c.utf8.tail c.in-Some.ensures.0 c.in-Some.ensures.1 (c.if-next_is.ensures is_raw_mark (λ d b e. e)) in
+pub returns-then-begins_raw : goal.returns-then-begins_raw
+returns-then-begins_raw c =
+    let marked : begins_raw (chars c.args.tail.now) ≡ true = raw-is _ _ true c.utf8.tail c.in-Some.ensures.0 c.in-Some.ensures.1 c.if-begins_raw.ensures in
     c.raw_literal.ensures ∙ sym (scanned-yes begins_raw (after 1 (raw_literal c.args.prefix)) ident_or_unknown_prefix _ marked ∙ scanned-after 1 (raw_literal c.args.prefix) _ _ c.utf8.tail c.in-Some.ensures.1)
 
-pub returns-else-next_is : goal.returns-else-next_is
-returns-else-next_is c =
-    let other : begins_raw (chars c.args.tail.now) ≡ false = raw-is _ _ false c.utf8.tail c.in-Some.ensures.0 c.in-Some.ensures.1 (c.if-next_is.ensures is_raw_mark (λ d b e. e)) in
-    c.ident_or_unknown_prefix-else-next_is.ensures ∙ sym (scanned-no begins_raw (after 1 (raw_literal c.args.prefix)) ident_or_unknown_prefix _ other)
+pub returns-else-begins_raw : goal.returns-else-begins_raw
+returns-else-begins_raw c =
+    let other : begins_raw (chars c.args.tail.now) ≡ false = raw-is _ _ false c.utf8.tail c.in-Some.ensures.0 c.in-Some.ensures.1 c.if-begins_raw.ensures in
+    c.ident_or_unknown_prefix-else-begins_raw.ensures ∙ sym (scanned-no begins_raw (after 1 (raw_literal c.args.prefix)) ident_or_unknown_prefix _ other)

@@ -6,13 +6,12 @@ use Rattle.rustc_lexer.proofs.relex.front.kept_front.Goals as goal
 
 pub loop-at-init : goal.loop-at-init
 loop-at-init g c = (
-  c.walk_ahead-at.ensures.number,
-  c.walk_ahead-at.ensures.boundary,
-  c.walk_ahead-at.ensures.before,
+  c.walk_back-at.ensures.number,
+  c.walk_back-at.ensures.boundary,
+  c.walk_back-at.ensures.before,
   λ old ts is near.
-      let back = c.walk_back-back.ensures.bound old ts is near in
-      let from = c.walk_ahead-at.ensures.bound old ts is back.0 back.1 in
-      kept_from old ts c.args.start c.walk_ahead-at.result.number c.walk_ahead-at.result.place is.utf8 is.cuts from.0.0 from.0.1 from.1,
+      let from = c.walk_back-at.ensures.bound old ts is near in
+      kept_from old ts c.args.start c.walk_back-at.result.number c.walk_back-at.result.place is.utf8 is.cuts from.0.0 from.0.1 from.1,
 )
 
 pub loop-at-preserved : goal.loop-at-preserved

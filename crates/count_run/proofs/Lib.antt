@@ -1,4 +1,0 @@
-pub mod JsonLemmas
-pub mod LineLemmas
-pub mod OutcomeLemmas
-pub mod TableLemmas

@@ -1,9 +1,0 @@
-pub mod Counter
-pub mod Job
-pub mod Json
-pub mod Lines
-pub mod Outcome
-pub mod Printed
-pub mod Program
-pub mod Report
-pub mod Table

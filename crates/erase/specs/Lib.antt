@@ -1,4 +1,0 @@
-pub mod Fault
-pub mod Job
-pub mod Outcome
-pub mod Told

@@ -1,5 +1,0 @@
-pub mod BracketLemmas
-pub mod CauseLemmas
-pub mod KindLemmas
-pub mod LabelLemmas
-pub mod WriteLemmas

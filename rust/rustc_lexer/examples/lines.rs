@@ -1,0 +1,57 @@
+//! Counts the lines of files with code, with comments alone, and with neither: `cargo run --example lines -- FILE..`.
+//!
+//! It goes by tokens: `//` in a string is code, and so is each line of the string. An empty line in a comment is a comment.
+//! A shebang line and a frontmatter are code.
+use rustc_lexer::{Edition, TokenKind, tokenize_document};
+use std::error::Error;
+use std::{env, fs};
+
+/// What is on a line. If there are several things, the last of these counts.
+#[derive(Clone, Copy, PartialEq, Eq, PartialOrd, Ord)]
+enum Line {
+    Blank,
+    Comment,
+    Code,
+}
+
+fn count(text: &str) -> [usize; 3] {
+    let tokens = tokenize_document(text, Edition::E2024);
+    let mut rest = tokens.as_str();
+    let (mut counts, mut line) = ([0; 3], Line::Blank);
+    // The shebang line is not a token.
+    if rest.len() < text.len() {
+        line = Line::Code;
+    }
+    for token in tokens {
+        let (piece, after) = rest.split_at(token.len as usize);
+        rest = after;
+        let kind = match token.kind {
+            TokenKind::Whitespace => Line::Blank,
+            TokenKind::LineComment { .. } | TokenKind::BlockComment { .. } => Line::Comment,
+            _ => Line::Code,
+        };
+        line = line.max(kind);
+        for _ in piece.matches('\n') {
+            counts[line as usize] += 1;
+            line = kind;
+        }
+    }
+    if !text.is_empty() && !text.ends_with('\n') {
+        counts[line as usize] += 1;
+    }
+    counts
+}
+
+fn main() -> Result<(), Box<dyn Error>> {
+    let mut total = [0; 3];
+    println!("    code  comment    blank");
+    for path in env::args().skip(1) {
+        let text = fs::read_to_string(&path).map_err(|error| format!("{path}: {error}"))?;
+        let [blank, comment, code] = count(&text);
+        println!("{code:8} {comment:8} {blank:8}  {path}");
+        total = [total[0] + blank, total[1] + comment, total[2] + code];
+    }
+    let [blank, comment, code] = total;
+    println!("{code:8} {comment:8} {blank:8}  total");
+    Ok(())
+}

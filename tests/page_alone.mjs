@@ -1,0 +1,83 @@
+// What page.js draws of an answer, and when, with no browser: plain objects stand in for the page and for its lexer.
+// tests/programs_by_cargo calls it; tests/page has the page itself.
+//
+// usage: node tests/page_alone.mjs
+import { deepStrictEqual as same } from 'node:assert';
+import { readFileSync } from 'node:fs';
+import { runInNewContext } from 'node:vm';
+
+class Element {
+  children = [];
+  words = {};
+  style = { setProperty: () => {} };
+  scrollTop = 0;
+  clientHeight = 40;
+  append(...parts) { this.children.push(...parts); }
+  setAttribute(name, value) { this.words[name] = String(value); }
+  get textContent() { return this.children.map((part) => part.textContent ?? String(part)).join(''); }
+  set textContent(words) { this.children = [words]; }
+}
+
+const parts = {};
+const part = (name) => parts[name] ??= new Element();
+part('bar').append(new Element(), new Element(), new Element());
+const calls = [];
+const delays = [];
+let answers;
+const page = runInNewContext(`${readFileSync(new URL('../page/page.js', import.meta.url), 'utf8')}
+  years = [2015, 2024]; lexer = fake; ({ changed, LINE });`, {
+  fake: new Proxy({ memory: { buffer: new ArrayBuffer(1 << 20) }, answer: () => 0, room: () => 0 }, {
+    get: (own, name) => own[name] ?? ((...words) => {
+      calls.push([name, ...words]);
+      return new TextEncoder().encodeInto(JSON.stringify(answers[name]), new Uint8Array(own.memory.buffer)).written;
+    }),
+  }),
+  document: {
+    getElementById: part,
+    createElement: () => new Element(),
+    querySelector: (name) => (name === '[name=edition]:checked' ? { value: '2024' } : name === '#tokens [aria-current]' ? null : part(name)),
+  },
+  WebAssembly: { instantiate: () => new Promise(() => {}) },
+  TextEncoder, TextDecoder, LEXER: '', atob,
+  setTimeout: (call, delay) => delays.push([call, delay]),
+  clearTimeout: () => delays.pop(),
+});
+
+// A text of so many bytes, in which one edit kept two tokens in front and three at the back.
+function changed(bytes) {
+  parts.text.value = 'a';
+  Object.assign(parts.text, { selectionStart: 1, scrollTop: 200 * page.LINE });
+  answers.change = { bytes, lines: 7, kept: [2, 1, 3] };
+  calls.length = 0;
+  page.changed();
+  return calls.map(([name]) => name).join(' ');
+}
+
+const token = { number: 4, start: 890, bytes: 4, place: '201:1', text: 'x200', kind: 'Literal', fields: 'kind=Str', value: '1 character: "a"', fresh: true };
+answers = {
+  show: { lines: [{ runs: [['', '"'], ['text wrong fresh', '\\q']], said: ['no'] }], count: 6, begin: 0, tokens: [token], at: 4, elsewhere: [], place: '201:2' },
+  editions: { counts: [6, 5], differ: 60, places: [{ place: '2:1', text: 'q', editions: [[['Ident', 'q'], ['Pound', '#']], [['UnknownPrefix', 'q']]] }] },
+};
+const textsOf = (name) => part(name).children.map((row) => row.children.map((cell) => cell.textContent));
+
+// what is typed is drawn at once, from the line that is seen; what differs is asked later, of a long text after 0.3 seconds
+same(changed(99_999), 'change show');
+same(calls[1], ['show', 200, 3, 1, 1]);
+same(delays.map(([, delay]) => delay), [0]);
+same(changed(100_000), 'change show');
+same(delays.map(([, delay]) => delay), [300]);
+same(part('kept').textContent, 'The last edit kept 2 tokens in front, lexed 1, and kept 3 at the back: 6 tokens, 100000 bytes, 7 lines.');
+same(part('place').textContent, 'Caret at 201:2. Literal at 201:1, 4 bytes, kind=Str; stands for 1 character: "a"');
+same(part('wrong').textContent, 'line 201: no');
+same(textsOf('#tokens tbody'), [['201:1', '890', '4', 'x200', 'Literal kind=Str', '1 character: "a"']]);
+const [row] = part('#tokens tbody').children;
+same([row.words, row.children[3].words], [{ 'aria-current': 'true' }, { class: 'fresh' }]);
+const [line] = part('lines').children;
+same(line.words, { 'data-line': '201' });
+same(line.children[0].children.map((run) => [run.words.class, run.textContent]), [['', '"'], ['text wrong fresh', '\\q']]);
+same(line.children[1].children.map((said) => said.words['data-said']), ['no']);
+
+delays[0][0]();
+same(part('differ').textContent, 'Tokens: 6 in 2015, 5 in 2024. They differ in 60 places; the first 1 are here.');
+same(textsOf('#differences tbody'), [['2:1', 'q', 'Ident q\nPound #', 'UnknownPrefix q']]);
+console.log('page: with no browser it draws what its lexer answers');
