@@ -3,14 +3,14 @@ ghost use Rattle.std.specs.Prelude.{◌≡◌, ◌+◌, ◌-◌, ◌<◌, ◌≤
 ghost use Rattle.rustc_lexer.specs.Classes.{Fits};
 ghost use Rattle.rustc_lexer.specs.Document as spec;
 ghost use Rattle.rustc_lexer.specs.means.Document as means;
-ghost use Rattle.rustc_lexer.specs.Edits.{AreEdits, AreStepped, IsEdit, IsStop, IsStopStepped, apply, apply_list, stop_at};
-ghost use Rattle.rustc_lexer.specs.Tokens.{bound};
+ghost use Rattle.rustc_lexer.specs.Edits.{AreEdits, AreStepped, IsEdit, IsStop, IsStopStepped, apply, apply_list, pieces_from, stop_at};
 
 use crate::entry::stepper::Stepper;
 use crate::relex::edit::{Edit, accepts};
 use crate::relex::edit_list::EditStop;
 use crate::relex::head::Whole;
 use crate::relex::kept::Kept;
+use crate::relex::pieces::Pieces;
 use crate::relex::relexing::Relexed;
 use crate::token::Token;
 use std::alloc::{AllocError, Global};
@@ -118,12 +118,36 @@ impl<S: Stepper> LexedDocument<S> {
         self.kept.tokens.shrink_to_fit();
     }
 
-    /// Returns where the bound with this number is, in bytes from the start of the text.
-    pub(crate) fn place_of(&self, number: usize) -> u32
-        requires inside { number ≤ length self.now.tokens }
-        ensures { result ≡ spec.shebang_len self.now.text + bound self.now.tokens number }
+    /// Returns an iterator over the pieces of the text, one for each token, in order. The shebang line is not a
+    /// piece: the first piece begins where it ends.
+    pub fn pieces(&self) -> Pieces<'_>
+        ensures pieces { result
+            ≡ pieces_from self.now.text (spec.shebang_len self.now.text) self.now.tokens }
+        ensures number { length result ≡ length self.now.tokens }
     {
-        self.kept.place_of(number)
+        self.kept.pieces()
+    }
+
+    /// Returns an iterator over the pieces of the tokens from number `from` up to number `to`, like those that an
+    /// edit lexed. It reads few of the tokens before them.
+    ///
+    /// An editor can paint what an edit changed like this:
+    ///
+    /// ```ignore
+    /// let counts = held.edit(start, stop, insert)?;
+    /// for piece in held.pieces_of(counts.kept_front, counts.kept_front + counts.lexed) {
+    ///     paint(piece.start, piece.token.kind, piece.text);
+    /// }
+    /// ```
+    pub fn pieces_of(&self, from: usize, to: usize) -> Pieces<'_>
+        requires from_le_to { from ≤ to }
+        requires to_inside { to ≤ length self.now.tokens }
+        ensures pieces { result
+            ≡ take (to - from)
+            (drop from (pieces_from self.now.text (spec.shebang_len self.now.text) self.now.tokens)) }
+        ensures number { length result ≡ to - from }
+    {
+        self.kept.pieces_of(from, to)
     }
 
     /// Returns whether an edit can be made: whether its range is inside the text, between characters, and the new

@@ -2,8 +2,8 @@
 ghost use Rattle.std.specs.Prelude.{◌≡◌, ◌+◌, ◌-◌, ◌<◌, ◌≤◌, ◌↔◌, IfOk, IfErr, OnOk, OnErr, IsTrue, ℕ, drop, length, take};
 ghost use Rattle.rustc_lexer.specs.{E2024};
 ghost use Rattle.rustc_lexer.specs.Classes.{Fits};
-ghost use Rattle.rustc_lexer.specs.Tokens.{bound, tokens_by, tokens_of};
-ghost use Rattle.rustc_lexer.specs.Edits.{AreEdits, AreStepped, IsEdit, IsRelexed, IsStepped, IsStop, IsStopStepped, apply, apply_list, stop_at};
+ghost use Rattle.rustc_lexer.specs.Tokens.{tokens_by, tokens_of};
+ghost use Rattle.rustc_lexer.specs.Edits.{AreEdits, AreStepped, IsEdit, IsRelexed, IsStepped, IsStop, IsStopStepped, apply, apply_list, pieces_from, stop_at};
 ghost use Rattle.rustc_lexer.specs.LanguageText.{part};
 ghost use Rattle.rustc_lexer.specs.Answers.{first_in};
 
@@ -13,6 +13,7 @@ use crate::relex::edit::{Edit, accepts};
 use crate::relex::edit_list::EditStop;
 use crate::relex::head::Part;
 use crate::relex::kept::Kept;
+use crate::relex::pieces::Pieces;
 use crate::relex::relexing::Relexed;
 use crate::token::Token;
 use std::alloc::{AllocError, Global};
@@ -92,12 +93,24 @@ impl<S: Stepper> LexedText<S> {
         self.kept.tokens.shrink_to_fit();
     }
 
-    /// Returns where the bound with this number is, in bytes from the start of the text.
-    pub(crate) fn place_of(&self, number: usize) -> u32
-        requires inside { number ≤ length self.now.tokens }
-        ensures { result ≡ bound self.now.tokens number }
+    /// Returns an iterator over the pieces of the text, one for each token, in order.
+    pub fn pieces(&self) -> Pieces<'_>
+        ensures pieces { result ≡ pieces_from self.now.text 0 self.now.tokens }
+        ensures number { length result ≡ length self.now.tokens }
     {
-        self.kept.place_of(number)
+        self.kept.pieces()
+    }
+
+    /// Returns an iterator over the pieces of the tokens from number `from` up to number `to`, like those that an
+    /// edit lexed. It reads few of the tokens before them.
+    pub fn pieces_of(&self, from: usize, to: usize) -> Pieces<'_>
+        requires from_le_to { from ≤ to }
+        requires to_inside { to ≤ length self.now.tokens }
+        ensures pieces { result
+            ≡ take (to - from) (drop from (pieces_from self.now.text 0 self.now.tokens)) }
+        ensures number { length result ≡ to - from }
+    {
+        self.kept.pieces_of(from, to)
     }
 
     /// Returns whether an edit can be made: whether its range is inside the text, between characters, and the new
