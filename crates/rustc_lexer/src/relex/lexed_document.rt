@@ -1,14 +1,15 @@
 //! A whole document that is kept with its tokens.
-ghost use Rattle.std.specs.Prelude.{◌≡◌, ◌+◌, ◌-◌, ◌<◌, ◌≤◌, ◌↔◌, IfOk, IfErr, OnOk, OnErr, IsTrue, ℕ, drop, length, take};
+ghost use Rattle.std.specs.Prelude.{◌≡◌, ◌+◌, ◌-◌, ◌<◌, ◌≤◌, ◌↔◌, IfOk, IfErr, IfSome, IsSome, OnOk, OnErr, IsTrue, ℕ, drop, length, take};
 ghost use Rattle.rustc_lexer.specs.Classes.{Fits};
 ghost use Rattle.rustc_lexer.specs.Document as spec;
 ghost use Rattle.rustc_lexer.specs.means.Document as means;
-ghost use Rattle.rustc_lexer.specs.Edits.{AreEdits, AreStepped, IsEdit, IsStop, IsStopStepped, apply, apply_list, stop_at};
+ghost use Rattle.rustc_lexer.specs.Edits.{AreEdits, AreStepped, AreTouched, ContainsByte, IsEdit, IsStop, IsStopStepped, apply, apply_list, stop_at};
 ghost use Rattle.rustc_lexer.specs.Tokens.{bound};
 
 use crate::entry::stepper::Stepper;
 use crate::relex::edit::{Edit, accepts};
 use crate::relex::edit_list::EditStop;
+use crate::relex::front::Bound;
 use crate::relex::head::Whole;
 use crate::relex::kept::Kept;
 use crate::relex::relexing::Relexed;
@@ -124,6 +125,22 @@ impl<S: Stepper> LexedDocument<S> {
         ensures { result ≡ spec.shebang_len self.now.text + bound self.now.tokens number }
     {
         self.kept.place_of(number)
+    }
+
+    /// Returns the token that contains the byte at `offset`: its number, and where it begins. `None` in the shebang line, and at and past the end of the text.
+    /// It reads few of the tokens.
+    pub fn token_at(&self, offset: usize) -> Option<Bound>
+        ensures token { IfSome result (ContainsByte (spec.shebang_len self.now.text) self.now.tokens offset) }
+        ensures some { IsSome result ↔ (spec.shebang_len self.now.text ≤ offset) × (offset < length self.now.text) }
+    {
+        self.kept.token_at(offset)
+    }
+
+    /// Returns the numbers of the tokens that contain a byte of the range: the first one, and the one past the last.
+    pub(crate) fn numbers_in(&self, start: usize, stop: usize) -> (usize, usize)
+        ensures { AreTouched (spec.shebang_len self.now.text) self.now.tokens start stop result.0 result.1 }
+    {
+        self.kept.numbers_in(start, stop)
     }
 
     /// Returns whether an edit can be made: whether its range is inside the text, between characters, and the new

@@ -1,9 +1,9 @@
 //! The pieces of a text that is kept with its tokens.
-ghost use Rattle.std.specs.Prelude.{◌≡◌, ◌-◌, ◌≤◌, IfSome, Some, drop, length, take};
+ghost use Rattle.std.specs.Prelude.{◌≡◌, ◌-◌, ◌≤◌, IfSome, Some, ℕ, drop, length, take};
 ghost use Rattle.std.specs.Iterator.{UpTo, at_most};
 ghost use Rattle.std.specs.Iterator.SizeHint.{IsWithinCount};
 ghost use Rattle.rustc_lexer.specs.Document.{shebang_len};
-ghost use Rattle.rustc_lexer.specs.Edits.{pieces_from, YieldsPiece};
+ghost use Rattle.rustc_lexer.specs.Edits.{AreTouched, pieces_from, YieldsPiece};
 
 use crate::entry::stepper::Stepper;
 use crate::relex::lexed_document::LexedDocument;
@@ -116,6 +116,18 @@ impl<S: Stepper> LexedText<S> {
             tokens: &self.tokens()[from..to],
         }
     }
+
+    /// Returns an iterator over the pieces of the tokens that contain a byte of the range from `start` up to `stop`,
+    /// like those of the lines in view. The range may end anywhere, also past the text. An empty range has no piece.
+    pub fn pieces_in(&self, start: usize, stop: usize) -> Pieces<'_>
+        ensures { (from to : ℕ)
+            × AreTouched 0 self.now.tokens start stop from to
+            × (result
+            ≡ take (to - from) (drop from (pieces_from self.now.text 0 self.now.tokens))) }
+    {
+        let (from, to) = self.numbers_in(start, stop);
+        self.pieces_of(from, to)
+    }
 }
 
 impl<S: Stepper> LexedDocument<S> {
@@ -159,5 +171,17 @@ impl<S: Stepper> LexedDocument<S> {
             start,
             tokens,
         }
+    }
+
+    /// Returns an iterator over the pieces of the tokens that contain a byte of the range from `start` up to `stop`,
+    /// like those of the lines in view. The range may end anywhere, also past the text. An empty range has no piece.
+    pub fn pieces_in(&self, start: usize, stop: usize) -> Pieces<'_>
+        ensures { (from to : ℕ)
+            × AreTouched (shebang_len self.now.text) self.now.tokens start stop from to
+            × (result
+            ≡ take (to - from) (drop from (pieces_from self.now.text (shebang_len self.now.text) self.now.tokens))) }
+    {
+        let (from, to) = self.numbers_in(start, stop);
+        self.pieces_of(from, to)
     }
 }

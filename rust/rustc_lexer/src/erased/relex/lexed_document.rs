@@ -3,6 +3,7 @@
 use crate::erased::entry::stepper::Stepper;
 use crate::erased::relex::edit::{Edit, accepts};
 use crate::erased::relex::edit_list::EditStop;
+use crate::erased::relex::front::Bound;
 use crate::erased::relex::head::Whole;
 use crate::erased::relex::kept::Kept;
 use crate::erased::relex::relexing::Relexed;
@@ -71,6 +72,17 @@ impl<S: Stepper> LexedDocument<S> {
     /// Returns where the bound with this number is, in bytes from the start of the text.
     pub(crate) fn place_of(&self, number: usize) -> u32 {
         self.kept.place_of(number)
+    }
+
+    /// Returns the token that contains the byte at `offset`: its number, and where it begins. `None` in the shebang line, and at and past the end of the text.
+    /// It reads few of the tokens.
+    pub fn token_at(&self, offset: usize) -> Option<Bound> {
+        self.kept.token_at(offset)
+    }
+
+    /// Returns the numbers of the tokens that contain a byte of the range: the first one, and the one past the last.
+    pub(crate) fn numbers_in(&self, start: usize, stop: usize) -> (usize, usize) {
+        self.kept.numbers_in(start, stop)
     }
 
     /// Returns whether an edit can be made: whether its range is inside the text, between characters, and the new

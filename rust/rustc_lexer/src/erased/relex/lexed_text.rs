@@ -4,6 +4,7 @@ use crate::erased::edition::Edition;
 use crate::erased::entry::stepper::{Stepper, Steps};
 use crate::erased::relex::edit::{Edit, accepts};
 use crate::erased::relex::edit_list::EditStop;
+use crate::erased::relex::front::Bound;
 use crate::erased::relex::head::Part;
 use crate::erased::relex::kept::Kept;
 use crate::erased::relex::relexing::Relexed;
@@ -51,6 +52,17 @@ impl<S: Stepper> LexedText<S> {
     /// Returns where the bound with this number is, in bytes from the start of the text.
     pub(crate) fn place_of(&self, number: usize) -> u32 {
         self.kept.place_of(number)
+    }
+
+    /// Returns the token that contains the byte at `offset`: its number, and where it begins. `None` at and past the end of the text.
+    /// It reads few of the tokens.
+    pub fn token_at(&self, offset: usize) -> Option<Bound> {
+        self.kept.token_at(offset)
+    }
+
+    /// Returns the numbers of the tokens that contain a byte of the range: the first one, and the one past the last.
+    pub(crate) fn numbers_in(&self, start: usize, stop: usize) -> (usize, usize) {
+        self.kept.numbers_in(start, stop)
     }
 
     /// Returns whether an edit can be made: whether its range is inside the text, between characters, and the new

@@ -79,6 +79,13 @@ impl<S: Stepper> LexedText<S> {
             tokens: &self.tokens()[from..to],
         }
     }
+
+    /// Returns an iterator over the pieces of the tokens that contain a byte of the range from `start` up to `stop`,
+    /// like those of the lines in view. The range may end anywhere, also past the text. An empty range has no piece.
+    pub fn pieces_in(&self, start: usize, stop: usize) -> Pieces<'_> {
+        let (from, to) = self.numbers_in(start, stop);
+        self.pieces_of(from, to)
+    }
 }
 
 impl<S: Stepper> LexedDocument<S> {
@@ -111,5 +118,12 @@ impl<S: Stepper> LexedDocument<S> {
             start,
             tokens,
         }
+    }
+
+    /// Returns an iterator over the pieces of the tokens that contain a byte of the range from `start` up to `stop`,
+    /// like those of the lines in view. The range may end anywhere, also past the text. An empty range has no piece.
+    pub fn pieces_in(&self, start: usize, stop: usize) -> Pieces<'_> {
+        let (from, to) = self.numbers_in(start, stop);
+        self.pieces_of(from, to)
     }
 }
