@@ -1,9 +1,8 @@
 -- One bit of a word, through each operation on it.
 use Rattle.std.proofs.Common.{◌≡◌, ℕ, zero, suc, ◌+◌, ◌-◌, ◌*◌, ◌/◌, ◌%◌, ◌^◌, ◌<◌, ◌≤◌, min, max, Bool, true, false, true≢false, not, ◌&&◌, ◌||◌, ◌==◌, List, length, map, get_or, refl, sym, ap, ap₂, ◌∙◌, subst, arith, w64, bit_and, bit_or, inl, inr}
 use Rattle.std.specs.Int.{bit_at}
-use Rattle.std.specs.Int.Bits.{mask_lt}
 use Rattle.std.proofs.lemmas.Bool.{agree_below_at, and_left, and_right, cases_lt, eqb-true}
-use Rattle.std.proofs.lemmas.Nat.{and_le_l, and_le_r, and_mask, or_lt, shl-shr, shr-shr, shr_le}
+use Rattle.std.proofs.lemmas.Nat.{and_le_l, and_le_r, or_lt, shl-shr, shr-shr, shr_le}
 use Rattle.std.proofs.lemmas.Nat.Bits.{bit_at_and, bit_at_or, bit_at_not, bit_at_lowest, bit_at-lt, bit_at-suc, bit_at-zero, bit_at_above, bit_at_mask_below, bit_at_mask_inside, bit_at-trailing_zeros, ones_shl}
 use Rattle.std.proofs.lemmas.List.{get_or-map}
 use Rattle.std.proofs.lemmas.Simd.{bit_mask_l, length-chunk, get_or-chunk}
@@ -41,19 +40,6 @@ bit-mod n i h =
     let m = 63 - i in
     let e : m + 1 + i ≡ 64 = omega arith in
     ap (λ x. x == 1) (subst (λ w. bit_at (n % 2 ^ w) i ≡ bit_at n i) e (ap (λ x. x % 2) (field n (m + 1) i) ∙ mod-mod-pow (n / 2 ^ i) m 1))
-
--- the bits below a place, of a number that is cut to them
-pub below-low : (x n k : ℕ) → k < n → bit (bit_and x (2 ^ n - 1)) k ≡ bit x k
-unfolding bit
-below-low x n k h =
-    let m = n - 1 - k in
-    let e : m + 1 + k ≡ n = omega arith in
-    ap (λ y. bit_at y k == 1) (and_mask x n)
-    ∙ ap (λ y. y == 1) (subst (λ w. bit_at (x % 2 ^ w) k ≡ bit_at x k) e (ap (λ y. y % 2) (field x (m + 1) k) ∙ mod-mod-pow (x / 2 ^ k) m 1))
-
-pub below-high : (x n k : ℕ) → n ≤ k → bit (bit_and x (2 ^ n - 1)) k ≡ false
-unfolding bit
-below-high x n k far = ap (λ y. y == 1) (bit_at_above (bit_and x (2 ^ n - 1)) n k (mask_lt x n) far)
 
 bit-shl_one : (k y : ℕ) → suc k < 64 → bit (y * 2 % 2 ^ 64) (suc k) ≡ bit y k
 unfolding bit

@@ -11,7 +11,7 @@ use Rattle.rustc_lexer.specs.means.Tokens.{IsFilled}
 use Rattle.rustc_lexer.specs.Classes.{IsText}
 use Rattle.rustc_lexer.specs.Locality.{IsGrammar}
 use Rattle.rustc_lexer.proofs.BoundLemmas.{bound_mono, rises}
-use Rattle.rustc_lexer.proofs.BulkLemmas.{filled_all}
+use Rattle.rustc_lexer.proofs.BufferLemmas.{filled_all}
 use Rattle.rustc_lexer.specs.laws.Cuts.{at_bound, tokens-cons}
 use Rattle.rustc_lexer.proofs.FrontLemmas.{bound-shift}
 use Rattle.rustc_lexer.proofs.ProgressLemmas.{IsLexedTo, IsPlace, lexed_place}

@@ -16,7 +16,6 @@ use Rattle.rustc_lexer.specs.{Edition, TokenKind, Ident, Whitespace}
 use Rattle.rustc_lexer.specs.declared.lexemes.classified.TheConstants.{CLASSIFIED, SYMBOLS}
 use Rattle.rustc_lexer.specs.declared.lexemes.family.Family.{Family}
 use Rattle.rustc_lexer.specs.declared.lexemes.family.Family.TheVariants.{Slash, Space, Word, Number, Quote, Str, Emoji, Hash, Symbol}
-use Rattle.rustc_lexer.specs.Tokens.{has_fields}
 use Rattle.rustc_lexer.specs.means.Edition.{changed}
 use Rattle.rustc_lexer.specs.means.Ends.{bit, goes_on, is_end, AreEndsPast, IsEnds, IsLowest, classified, classified_in, StaysWithin}
 use Rattle.rustc_lexer.specs.means.ByteRuns.{is_continue_byte, is_space_byte}
@@ -25,23 +24,13 @@ use Rattle.rustc_lexer.specs.means.Lexeme.{family_of, symbol_kind}
 use Rattle.rustc_lexer.specs.means.Quick.{is_space_lead, turns_word, IsFirstToken}
 use Rattle.rustc_lexer.specs.means.Scan.{next_is}
 use Rattle.rustc_lexer.proofs.EditionLemmas.{is_newer, older}
-use Rattle.rustc_lexer.proofs.BitLemmas.{below-high, below-low, bit-at_byte, bit-zero, high, past-first, past-later, within}
+use Rattle.rustc_lexer.proofs.BitLemmas.{bit-at_byte, bit-zero, high, past-first, past-later, within}
 use Rattle.rustc_lexer.proofs.QuickLemmas.{word_first, space_first, symbol_first}
 
 -- none is set at the front
 pub all_past : (text : List ℕ) (ends : ℕ) → IsEnds text ends → AreEndsPast text 0 ends
 all_past text ends are zero set = absurd (true≢false (sym set ∙ (are zero set).1 zero (omega arith)))
 all_past text ends are (suc j) set = (omega arith, (are (suc j) set).0, λ k more le. (are (suc j) set).1 k le)
-
--- only those before a place are kept
-pub before_place : (ends place k : ℕ) → bit (bit_and ends (2 ^ place - 1)) k ≡ true → k < place
-before_place ends place k set = grind (arith, common_steps, cases_lt, below-high)
-
-pub ends_before : (text : List ℕ) (ends place : ℕ) → IsEnds text ends → IsEnds text (bit_and ends (2 ^ place - 1))
-ends_before text ends place are j set =
-    let low = before_place ends place j set in
-    let was = are j (sym (below-low ends place j low) ∙ set) in
-    (was.0, λ k le. below-low ends place k (omega arith) ∙ was.1 k le)
 
 pub no_ends : (text : List ℕ) → IsEnds text 0
 no_ends text j set = absurd (true≢false (sym set ∙ bit-zero j))
@@ -283,16 +272,12 @@ module _ (text : List ℕ) (from ends end : ℕ) (kind : TokenKind) (at : TellsA
       let n : suc (end - from - 1) ≡ end - from = omega (arith, after) in
       subst (λ k. IsFirstToken (drop from text) record { kind = kind; len = k }) n (by_len (end - from - 1) e)
 
--- ---- what is classified has no fields, and each edition has it
+-- ---- each edition has what is classified
 
 -- whether a kind is told of which a test holds
 abbrev said : (TokenKind → Bool) → Option TokenKind → Bool
 said test None = false
 said test (Some kind) = test kind
-
-pub classified_bare : (b : ℕ) (kind : TokenKind) → classified b ≡ Some kind → has_fields kind ≡ false
-unfolding is_emoji unicode_ident
-classified_bare b kind some = sym (ap (said has_fields) some) ∙ agree_below_at (λ x. said has_fields (classified x)) (λ _. false) 128 b refl (tells b kind some).small
 
 classified_older : (b : ℕ) (kind : TokenKind) → classified b ≡ Some kind → is_newer kind ≡ false
 unfolding is_emoji unicode_ident

@@ -12,7 +12,7 @@ use Rattle.rustc_lexer.specs.Tokens.{advance, bound, state_past, tokens_left, to
 use Rattle.rustc_lexer.specs.means.Taking.{token_at}
 use Rattle.rustc_lexer.specs.laws.State.{past_token}
 use Rattle.rustc_lexer.specs.laws.Tokens.{partitions, tokens-nil}
-use Rattle.rustc_lexer.proofs.BulkLemmas.{edition-stays, left_more, none_more, part-left, rest_more, shorter_left}
+use Rattle.rustc_lexer.proofs.BufferLemmas.{edition-stays, left_more, none_more, part-left, rest_more, shorter_left}
 use Rattle.rustc_lexer.proofs.TokensLemmas.{takes_first}
 
 record IsPast (s t : State) (count : ℕ) : Type 0 where

@@ -6,7 +6,7 @@ pub mod BlockLemmas
 pub mod BodyChangeLemmas
 pub mod BoundLemmas
 pub mod BridgeLemmas
-pub mod BulkLemmas
+pub mod BufferLemmas
 pub mod DocumentEditLemmas
 pub mod DocumentHead
 pub mod DocumentLemmas
@@ -53,7 +53,7 @@ pub mod RawLemmas
 pub mod RawReadLemmas
 pub mod ReadyLemmas
 pub mod RelexedLemmas
-pub mod RelexBlockLemmas
+pub mod RelexStepLemmas
 pub mod RelexingLemmas
 pub mod RenewedLemmas
 pub mod RunLemmas

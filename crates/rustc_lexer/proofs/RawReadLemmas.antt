@@ -1,5 +1,5 @@
 -- What a raw string is read as, from what its parts are.
-use Rattle.std.proofs.Common.{◌≡◌, ℕ, suc, ◌+◌, ◌-◌, ◌≤◌, ◌==◌, ◌↔◌, IsTrue, slice_index, Bool, true, false, true≢false, if◌then◌else◌, List, [], ◌∷◌, length, take, drop, sym, ap, ◌∙◌, subst, arith, length-take, length-drop, Option, Some, None, Result, Ok, Err}
+use Rattle.std.proofs.Common.{◌≡◌, ℕ, suc, ◌+◌, ◌-◌, ◌≤◌, ◌==◌, ◌↔◌, IsTrue, slice_index, Bool, true, false, true≢false, if◌then◌else◌, List, [], ◌∷◌, length, take, drop, refl, sym, ap, ◌∙◌, subst, arith, length-take, length-drop, Option, Some, None, Result, Ok, Err}
 use Rattle.std.specs.Str.{chars, encode_utf8_all, IsUtf8}
 use Rattle.std.proofs.Math.Bool.{and-true}
 use Rattle.std.proofs.lemmas.Str.{length-le-encodes}

@@ -1,6 +1,6 @@
 -- The tokens of a text, and what the calls that return them do.
 use Rattle.std.specs.Prelude.{ℕ, ◌≡◌, ◌↔◌, ◌<◌, ◌≤◌, List, [], ◌∷◌, length, take, drop, chars, codes, IsCharBoundary, Option, is_some, IsSome, Some, None, Ok, zero, suc, Bool, true, false, not, ◌++◌, map, All}
-use Rattle.rustc_lexer.specs.{Edition, FrontmatterAllowed, LiteralKind, Token, TokenKind, Char, Byte, Str, ByteStr, CStr, RawStr, RawByteStr, RawCStr, Literal, Eof, Ident, RawIdent, LineComment, BlockComment, Frontmatter, Lifetime}
+use Rattle.rustc_lexer.specs.{Edition, FrontmatterAllowed, LiteralKind, Token, TokenKind, Char, Byte, Str, ByteStr, CStr, RawStr, RawByteStr, RawCStr, Literal, Eof, Ident, RawIdent}
 pub use Rattle.rustc_lexer.specs.Answers.{advance, raw_check, tokens_of}
 use Rattle.rustc_lexer.specs.Classes.{is_ident}
 use Rattle.rustc_lexer.specs.LanguageCalls.{StartsRaw}
@@ -94,15 +94,6 @@ pub record ReadsAs (allowed : FrontmatterAllowed) (edition : Edition) (text : Li
   pub restarts : RestartsAtBounds edition text
   pub suffixes : All HasSuffix (tokens_of (mode_in allowed edition) text)
   pub texts : HaveTexts text (tokens_of (mode_in allowed edition) text)
-
--- whether two tokens of the kind may differ in more than their length
-abbrev pub has_fields : TokenKind → Bool
-has_fields (LineComment doc_style) = true
-has_fields (BlockComment doc_style terminated) = true
-has_fields (Frontmatter has_invalid_preceding_whitespace invalid_infostring) = true
-has_fields (Literal kind suffix_start) = true
-has_fields (Lifetime starts_with_number) = true
-has_fields kind = false
 
 -- the start of the buffer holds the first `count` of the tokens that are left, each as it is written, and the rest of
 -- the buffer is unchanged. They are the tokens that begin before the offset `end`: each of them does, and if there is

@@ -17,11 +17,12 @@ use std::marker::Model;
 
 mod ahead;
 mod document;
-mod fill;
+pub(crate) mod fill;
 pub(crate) mod stepper;
 mod tally;
 
 pub use document::tokenize_document;
+pub use fill::Record;
 pub use stepper::{Stepper, Steps};
 
 /// Returns an iterator over the tokens of a text, which may have at most `u32::MAX` bytes.
@@ -63,6 +64,7 @@ pub fn tokenize_in<'a>(text: &'a str, edition: Edition) -> EditionTokens<'a>
     requires fits { Fits text.now }
     ensures reads { ReadsAs No edition text.now result }
     ensures local { AreLocal (tokens_of (part edition)) }
+    ensures newest { tokens_of (part E2024) text.now ≡ tokens_of (mode_in No E2024) text.now }
     ensures oldest { tokens_of (part E2015) text.now ≡ tokens_of (part E2018) text.now }
 {
     tokenize_as(text, FrontmatterAllowed::No, edition)
@@ -143,11 +145,32 @@ impl<'a> Tokens<'a> {
     /// A caller that stops can go on later: it passes [`as_str`](Tokens::as_str), this answer and the edition to
     /// [`tokenize_as`].
     #[inline(always)]
-    #[tactic(auto, using(crate::proofs::BulkLemmas::bulk_lemmas, std::proofs::lemmas::Grind::common_steps))]
+    #[tactic(auto, using(crate::proofs::BufferLemmas::mode_held, std::proofs::lemmas::Grind::common_steps))]
     pub fn frontmatter_allowed(&self) -> FrontmatterAllowed
         ensures { self.now.mode ≡ mode_in result (mode_edition self.now.mode) }
     {
         self.frontmatter_allowed
+    }
+
+    /// Returns how many bytes are left.
+    #[inline(always)]
+    fn left(&self) -> usize
+        ensures { result ≡ length self.now.rest }
+    {
+        self.text.len() - self.ahead.at
+    }
+
+    /// Returns an iterator that is at the same place.
+    #[inline(always)]
+    fn copy(&self) -> Tokens<'a>
+        ensures { result ≡ self.now }
+    {
+        Tokens {
+            text: self.text,
+            ahead: self.ahead,
+            frontmatter_allowed: self.frontmatter_allowed,
+            edition: self.edition,
+        }
     }
 
     /// Moves on by this many bytes, whatever tokens they belong to.

@@ -37,11 +37,6 @@ impl Record for CToken {
     fn of(token: Token) -> CToken {
         token_numbers(token)
     }
-
-    #[inline(always)]
-    fn bare(kind: TokenKind, len: u32) -> CToken {
-        bare(kind, len)
-    }
 }
 
 /// Returns the token as numbers.

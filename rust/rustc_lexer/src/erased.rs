@@ -4,7 +4,6 @@
 //! closes, shows in a field of its token or in the token's kind. Lexing allocates no memory. Only a [`LexedText`]
 //! and a [`LexedDocument`] allocate: they keep a text with its tokens while it is edited.
 
-mod bulk;
 mod classes;
 mod cursor;
 mod edition;
@@ -18,14 +17,14 @@ mod scan;
 mod shebang;
 mod token;
 
-pub use bulk::Record;
 pub use classes::{
     UNICODE_VERSION, fits, is_horizontal_whitespace, is_id_continue, is_id_start, is_whitespace,
 };
 pub use cursor::Cursor;
 pub use edition::{Edition, UnknownEdition};
 pub use entry::{
-    EditionTokens, Stepper, Steps, Tokens, tokenize, tokenize_as, tokenize_document, tokenize_in,
+    EditionTokens, Record, Stepper, Steps, Tokens, tokenize, tokenize_as, tokenize_document,
+    tokenize_in,
 };
 pub use lexemes::ident::is_ident;
 pub use raw_check::{starts_raw, validate_raw_str};

@@ -125,10 +125,6 @@ pub use erased::LiteralKind;
 ///     fn of(token: Token) -> Kind {
 ///         Kind(token.kind)
 ///     }
-///
-///     fn bare(kind: TokenKind, _: u32) -> Kind {
-///         Kind(kind)
-///     }
 /// }
 ///
 /// let mut kinds = [Kind(TokenKind::Eof); 4];

@@ -57,13 +57,6 @@ pub record Stands (first : List ℕ → Token) (old : List ℕ) (change : Change
   pub reached : change.new_stop ≤ at.at → at.back.number < length (tokens_by first old)
       → at.at - change.new_stop + change.old_stop ≤ at.back.place
 
--- up to this many bytes after the present offset, the new tokens cannot have met the old ones: these bytes are inside
--- the insertion, or after it and not beyond `back`, moved by the edit
-pub record IsApart (text : List ℕ) (change : Change) (at : Relexing) (bytes : ℕ) : Type 0 where
-  pub inside : at.at + bytes ≤ length text
-  pub early : at.at < change.new_stop → at.at + bytes ≤ change.new_stop
-  pub late : change.new_stop ≤ at.at → 0 < bytes → at.at - change.new_stop + change.old_stop + bytes ≤ at.back.place
-
 -- ---- the parts
 
 -- each boundary of the tokens is inside the text, between characters

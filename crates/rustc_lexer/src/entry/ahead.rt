@@ -7,7 +7,7 @@ use crate::lexemes::classified::{classified_by, ends_after, past_lowest, turns};
 use crate::token::{Token, TokenKind};
 
 /// How many bytes are searched at once for the ends of runs. For fewer bytes the search costs more than it saves.
-pub(crate) const BLOCK: usize = 64;
+const BLOCK: usize = 64;
 
 /// An offset in a text, and what is known about the bytes after it.
 #[derive(Clone, Copy)]

@@ -1,23 +1,37 @@
 //! Writes many tokens of a text at once.
-ghost use Rattle.std.specs.Prelude.{◌≡◌, ◌++◌, drop, length, map, min, take, IsCharBoundary, IsTrue};
-ghost use Rattle.rustc_lexer.specs.Tokens.{IsFilledTo, state_past, bound, tokens_left, tokens_of};
-ghost use Rattle.rustc_lexer.specs.Classes.{Fits};
-ghost use Rattle.rustc_lexer.specs.LanguageText.{mode_edition, part};
-ghost use Rattle.rustc_lexer.specs.means.Tokens.{IsFilled};
+ghost use Rattle.std.specs.Prelude.{◌≡◌, ◌++◌, drop, length, map, min, take};
+ghost use Rattle.rustc_lexer.specs.{Token};
+ghost use Rattle.rustc_lexer.specs.Tokens.{state_past, tokens_left};
 
-use crate::bulk::{self, Record};
-use crate::edition::Edition;
 use crate::entry::Tokens;
-use crate::entry::ahead::BLOCK;
-use crate::token::FrontmatterAllowed;
+use crate::token::Token;
 use std::iter::Iterator;
+
+/// A form of a token, in which `fill` writes it.
+pub trait Record: Copy {
+    /// The form of each token.
+    ghost written: { Token → Self };
+
+    /// Returns the form of a token.
+    fn of(token: Token) -> Self
+        ensures { result ≡ written token };
+}
+
+/// A token in its own form.
+impl Record for Token {
+    ghost written = { λ token. token };
+
+    #[inline(always)]
+    fn of(token: Token) -> Token {
+        token
+    }
+}
 
 impl<'a> Tokens<'a> {
     /// Writes the next tokens into the buffer, as many as are left or as there is room for, and returns how many.
     /// The number is less than the length of the buffer only if no token is left.
     ///
-    /// They are the tokens that as many calls of `next` return. Most of them are found 64 bytes at a time. They are
-    /// found one by one if a frontmatter may still come, or if fewer than 64 bytes are left.
+    /// They are the tokens that as many calls of `next` return.
     ///
     /// ```ignore
     /// let mut buffer = [Token { kind: TokenKind::Eof, len: 0 }; 256];
@@ -35,49 +49,17 @@ impl<'a> Tokens<'a> {
             ≡ map R.written (take result (tokens_left self.old)) ++ drop result buffer.old }
         ensures state { self.new ≡ state_past result self.old }
     {
-        let rest = self.as_str();
-        if self.is_part() && rest.len() >= BLOCK {
-            let (count, bytes) = fill_part(rest, self.edition, buffer);
-            self.pass(bytes);
-            return count;
-        }
-        self.fill_singly(buffer)
-    }
-
-    /// Returns whether no frontmatter may come in the text that is left.
-    #[inline(always)]
-    fn is_part(&self) -> bool
-        ensures { IsTrue result → self.now.mode ≡ part (mode_edition self.now.mode) }
-    {
-        matches!(self.frontmatter_allowed, FrontmatterAllowed::No)
-    }
-
-    /// Writes the next tokens into the buffer like `fill`, one after another.
-    fn fill_singly<R: Record>(&mut self, buffer: &mut [R]) -> usize
-        ensures filled { IsFilled R.written (tokens_left self.old) buffer.old buffer.new result }
-        ensures state { self.new ≡ state_past result self.old }
-    {
+        // The loop takes from a copy, which stays in registers.
+        let mut tokens = self.copy();
         let mut count = 0;
         'places: while count < buffer.len() {
-            let Some(token) = self.next() else {
+            let Some(token) = tokens.next() else {
                 break;
             };
             buffer[count] = R::of(token);
             count += 1;
         }
+        *self = tokens;
         count
     }
-}
-
-/// Writes the first tokens of a text in an edition into the buffer. Returns how many tokens it wrote, and how many
-/// bytes they take.
-#[inline(always)]
-fn fill_part<R: Record>(text: &str, edition: Edition, buffer: &mut [R]) -> (usize, usize)
-    requires fits { Fits text.now }
-    ensures filled { IsFilledTo R.written (length text.now) (tokens_of (part edition) text.now)
-        buffer.old buffer.new result.0 }
-    ensures bytes { result.1 ≡ bound (tokens_of (part edition) text.now) result.0 }
-    ensures boundary { IsCharBoundary text.now result.1 }
-{
-    bulk::fill(text, text.len(), edition, buffer)
 }

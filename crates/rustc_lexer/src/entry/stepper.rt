@@ -7,10 +7,12 @@ ghost use Rattle.rustc_lexer.specs.Answers.{first_in};
 ghost use Rattle.rustc_lexer.specs.LanguageText.{year};
 ghost use Rattle.rustc_lexer.specs.Locality.{IsGrammar};
 
-use crate::bulk::{self, Record};
 use crate::edition::{Edition, token_in};
+use crate::entry::fill::Record;
 use crate::entry::tally::Tally;
+use crate::entry::tokenize_in;
 use crate::token::Token;
+use std::iter::Iterator;
 
 /// A lexer for one grammar: it returns the first token of any text.
 ///
@@ -124,8 +126,17 @@ impl Stepper for Steps {
     }
 
     fn fill<R: Record>(&mut self, text: &str, end: usize, buffer: &mut [R]) -> (usize, usize) {
-        let (count, bytes) = bulk::fill(text, end, self.edition, buffer);
+        let mut tokens = tokenize_in(text, self.edition);
+        let past_end = text.len() - end;
+        let mut count = 0;
+        'places: while count < buffer.len() && tokens.left() > past_end {
+            let Some(token) = tokens.next() else {
+                break;
+            };
+            buffer[count] = R::of(token);
+            count += 1;
+        }
         self.tally.tick_by(count);
-        (count, bytes)
+        (count, text.len() - tokens.left())
     }
 }

@@ -1,11 +1,10 @@
 //! The most common tokens, classified by their first byte and the ends of runs.
-ghost use Rattle.std.specs.Prelude.{◌≡◌, ◌≢◌, ◌≤◌, ◌<◌, ◌+◌, suc, ℕ, List, false, drop, true, IsFalse};
+ghost use Rattle.std.specs.Prelude.{◌≡◌, ◌≢◌, ◌≤◌, ◌<◌, ℕ, false, true, IsFalse};
 ghost use Rattle.rustc_lexer.specs.means.Ends as spec;
-ghost use Rattle.rustc_lexer.specs.means.Ends.{bit, AreEndsPast, IsEnds, IsLowest, StaysWithin};
+ghost use Rattle.rustc_lexer.specs.means.Ends.{bit, IsLowest, StaysWithin};
 ghost use Rattle.rustc_lexer.specs.means.Lexeme;
 ghost use Rattle.rustc_lexer.specs.means.Quick.{turns_word};
 
-use crate::kernels::ends_of_runs;
 use crate::token::TokenKind;
 use crate::token::TokenKind::{
     And, At, Bang, Caret, CloseBrace, CloseBracket as ShutSquare, CloseParen, Colon, Comma, Dollar,
@@ -126,32 +125,6 @@ pub(crate) fn symbol_kind(c: char) -> TokenKind
     if code < 128 { SYMBOLS[code] } else { Unknown }
 }
 
-/// Returns the ends of runs that are known, or else those of the first 64 bytes.
-#[inline(always)]
-pub(crate) fn ends_for(text: &str, ends: u64) -> u64
-    requires { IsEnds text.now ends }
-    ensures { IsEnds text.now result }
-{
-    if ends != 0 {
-        ends
-    } else {
-        ends_of_runs(text.as_bytes())
-    }
-}
-
-/// Returns the known ends of runs before a place.
-#[inline(always)]
-pub(crate) fn ends_before(ends: u64, place: usize) -> u64
-    ensures known { (text : List ℕ) → IsEnds text ends → IsEnds text result }
-    ensures before { (k : ℕ) → bit result k ≡ true → k < place }
-{
-    if place < 64 {
-        ends & ((1 << place) - 1)
-    } else {
-        ends
-    }
-}
-
 /// Returns the known ends of runs past a place.
 #[inline(always)]
 pub(crate) fn ends_after(ends: u64, place: usize) -> u64
@@ -170,26 +143,6 @@ pub(crate) fn past_lowest(ends: u64) -> u64
     ensures others { (low k : ℕ) → IsLowest ends low → low < k → bit result k ≡ bit ends k }
 {
     ends & (ends - 1)
-}
-
-/// Returns the known ends of runs past the next `len` bytes.
-#[inline(always)]
-pub(crate) fn ends_left(ends: u64, len: u32) -> u64
-    ensures { (text : List ℕ) (from : ℕ) → from ≤ len → AreEndsPast text from ends
-        → IsEnds (drop len text) result }
-{
-    if len < 64 { ends_past(ends, len) } else { 0 }
-}
-
-/// Returns the ends of runs past the next `len` bytes.
-#[inline(always)]
-#[tactic(auto, using(crate::proofs::BitLemmas::bit_lemmas, std::proofs::lemmas::Grind::common_steps))]
-fn ends_past(ends: u64, len: u32) -> u64
-    requires { len < 64 }
-    ensures first { bit result 0 ≡ false }
-    ensures later { (k : ℕ) → bit result (suc k) ≡ bit ends (len + suc k) }
-{
-    (ends >> len) & !1
 }
 
 /// Returns whether the byte `next` after the run may change the token of that kind, or continue it.

@@ -1,5 +1,5 @@
 //! One edit: the text that it makes, and the tokens that it lexes.
-ghost use Rattle.std.specs.Prelude.{◌≡◌, ◌+◌, ◌-◌, ◌^◌, ◌<◌, ◌≤◌, ◌++◌, ◌↔◌, IsTrue, IfOk, IfErr, OnOk, List, ℕ, drop, length, map};
+ghost use Rattle.std.specs.Prelude.{◌≡◌, ◌+◌, ◌-◌, ◌^◌, ◌<◌, ◌≤◌, ◌↔◌, IsTrue, IfOk, IfErr, List, ℕ, length, map};
 ghost use Rattle.std.specs.List.{All};
 ghost use Rattle.std.specs.String.{string_bytes, string_capacity, string_len};
 ghost use Rattle.rustc_lexer.specs.{Token};
@@ -8,13 +8,12 @@ ghost use Rattle.rustc_lexer.specs.Tokens.{tokens_by};
 ghost use Rattle.rustc_lexer.specs.Edits.{IsEdit, IsInside, apply, IsBound, known};
 ghost use Rattle.rustc_lexer.specs.Relexing.{IsChange, IsMadeOf, MayGoOn};
 ghost use Rattle.rustc_lexer.specs.means.Checkpoints.{AreBounds, IsMovable, IsReplaced, end_of};
-ghost use Rattle.rustc_lexer.specs.means.Relexing.{IsLexed, relexed_of, Stands};
+ghost use Rattle.rustc_lexer.specs.means.Relexing.{IsLexed, relexed_of};
 
 use crate::entry::stepper::Stepper;
 use crate::relex::checkpoints::Checkpoints;
 use crate::relex::front::Bound;
-use crate::relex::lex::new_buffer;
-use crate::relex::relexing::{Change, LONG, Relexing};
+use crate::relex::relexing::{Change, Relexing};
 use crate::token::Token;
 use std::alloc::{AllocError, Global};
 
@@ -105,64 +104,8 @@ pub(crate) fn relex<S: Stepper>(
     let mut at = Relexing::begin(text, old, change, near);
     while let Some(token) = at.next(stepper, text, old, change) {
         tokens.push(token)?;
-        let far = at.apart(text, change);
-        if far >= LONG {
-            relex_far(stepper, old, text, change, &mut at, &mut tokens)?;
-        }
     }
     Ok((tokens, at))
-}
-
-/// Lexes many tokens at once, as long as the old tokens are far.
-///
-/// It is not inlined, so that a short edit needs no room for the buffer.
-#[inline(never)]
-fn relex_far<S: Stepper>(
-    stepper: &mut S,
-    old: &[Token],
-    text: &str,
-    change: Change,
-    at: &mut Relexing,
-    tokens: &mut Vec<Token>,
-) -> Result<(), AllocError>
-    requires fits { Fits text.now }
-    requires change { IsChange text.now change }
-    requires may_go_on { MayGoOn text.now (length old.now) at.old }
-
-    // The stepper keeps its grammar.
-    ensures grammar { S.grammar stepper.new ≡ S.grammar stepper.old }
-    ensures number { S.number stepper.new ≡ S.number stepper.old }
-
-    // How far it came.
-    ensures may_go_on { MayGoOn text.now (length old.now) at.new }
-    ensures ahead { at.old.at ≤ at.new.at }
-    ensures front { at.new.front ≡ at.old.front }
-
-    // How many tokens were lexed, and how many were added.
-    ensures count { S.count stepper.new + at.old.lexed ≡ S.count stepper.old + at.new.lexed }
-    ensures rose { S.count stepper.old ≤ S.count stepper.new }
-    ensures lexed { OnOk result
-        (length tokens.new.items + at.old.lexed ≡ length tokens.old.items + at.new.lexed) }
-
-    // If the old tokens are those of an old text, the added ones are the next tokens of the present one.
-    ensures stands { (before insert : List ℕ)
-        → IsMadeOf (S.grammar stepper.old) before (map (λ (t : Token). t.len) old.now)
-        change insert text.now
-        → Stands (S.grammar stepper.old) before change text.now at.old
-        → Stands (S.grammar stepper.old) before change text.now at.new
-        × ((all : List Token)
-        → all ≡ tokens.old.items ++ drop (known at.old) (tokens_by (S.grammar stepper.old) text.now)
-        → OnOk result (all
-        ≡ tokens.new.items ++ drop (known at.new) (tokens_by (S.grammar stepper.old) text.now))) }
-{
-    let mut buffer = new_buffer();
-    let mut far = at.apart(text, change);
-    'far: while far >= LONG {
-        let count = at.fill_far(stepper, text, old, change, far, &mut buffer);
-        tokens.extend_from_slice(&buffer[..count])?;
-        far = at.apart(text, change);
-    }
-    Ok(())
 }
 
 /// Returns the checkpoints after an edit that was relexed up to `at`, in a text of `len` bytes. The kept front is

@@ -13,16 +13,6 @@ use std::alloc::AllocError;
 /// How many tokens are lexed at once, and how many there are between two checkpoints.
 const BLOCK: usize = 128;
 
-/// Creates a buffer without a written token.
-pub(crate) fn new_buffer() -> [Token; BLOCK]
-    ensures { length result ≡ 128 }
-{
-    [Token {
-        kind: TokenKind::Eof,
-        len: 0,
-    }; BLOCK]
-}
-
 /// Lexes all tokens of a text, and appends them to a list. Returns checkpoints among them.
 pub(crate) fn lex_all<S: Stepper>(
     stepper: &mut S,
@@ -41,7 +31,10 @@ pub(crate) fn lex_all<S: Stepper>(
 {
     let old_count = tokens.len();
     let mut checkpoints = Checkpoints::new();
-    let mut buffer = new_buffer();
+    let mut buffer = [Token {
+        kind: TokenKind::Eof,
+        len: 0,
+    }; BLOCK];
     let mut place = 0;
     'left: while place < text.len() {
         let number = tokens.len() - old_count;

@@ -6,20 +6,16 @@ ghost use Rattle.rustc_lexer.specs.Edits.{IsBound, IsRelexed, known};
 ghost use Rattle.rustc_lexer.specs.Classes.{Fits};
 ghost use Rattle.rustc_lexer.specs.Tokens.{tokens_by};
 ghost use Rattle.rustc_lexer.specs.Relexing.{GoesOn, IsChange, IsMadeOf, IsUnderWay, IsWhole, MayGoOn, TakesSteps, is_over};
-ghost use Rattle.rustc_lexer.specs.means.Relexing.{IsApart, damage_of};
+ghost use Rattle.rustc_lexer.specs.means.Relexing.{damage_of};
 ghost use Rattle.rustc_lexer.specs.Locality.{IsGrammar};
 
-use crate::bulk::Record;
+use crate::entry::fill::Record;
 use crate::entry::stepper::Stepper;
 use crate::relex::front::{Bound, Damage, Measured, follow, kept_front};
 use crate::token::Token;
 
 /// The greatest offset that a token boundary may have. No text is longer, even if a `usize` has 32 bits.
 const MOST: usize = usize::MAX / 2;
-
-/// From how many bytes on they are lexed many tokens at once, if lexing cannot meet the old tokens before. For fewer
-/// bytes that costs more than it saves.
-pub(crate) const LONG: usize = 256;
 
 /// An edit that was made, by its offsets in bytes. It replaced the bytes from `start` up to `old_stop` of the old text
 /// with those from `start` up to `new_stop` of the present text.
@@ -199,8 +195,7 @@ impl Relexing {
     /// Returns how many. The number is less than the length of the buffer only if `is_over` is true. `text`, `old` and
     /// `change` are those that were passed to `begin`.
     ///
-    /// They are the tokens that as many calls of `next` return. If the old tokens are far, as in a long insertion or in
-    /// place of a long old token, many tokens are lexed at once.
+    /// They are the tokens that as many calls of `next` return.
     pub fn fill<S: Stepper, T: Measured, R: Record>(
         &mut self,
         stepper: &mut S,
@@ -236,10 +231,6 @@ impl Relexing {
             self.old self.new }
     {
         let mut count = 0;
-        let far = self.apart(text, change);
-        if far >= LONG && !self.is_over(text) && !buffer.is_empty() {
-            count = self.fill_far(stepper, text, old, change, far, buffer);
-        }
         'places: while count < buffer.len() {
             let Some(token) = self.next(stepper, text, old, change) else {
                 break;
@@ -247,78 +238,6 @@ impl Relexing {
             buffer[count] = R::of(token);
             count += 1;
         }
-        count
-    }
-
-    /// Returns for how many bytes lexing cannot meet the old tokens: up to the end of the insertion, or after it up to
-    /// the next boundary of the old tokens.
-    pub(crate) fn apart(&self, text: &str, change: Change) -> usize
-        requires fits { Fits text.now }
-        requires change { IsChange text.now change }
-        requires inside { self.now.at ≤ length text.now }
-        requires small { self.now.back.place < 2 ^ 63 }
-        ensures { IsApart text.now change self.now result }
-    {
-        if self.at < change.new_stop {
-            return change.new_stop - self.at;
-        }
-        let old_place = self.at - change.new_stop + change.old_stop;
-        self.back
-            .place
-            .saturating_sub(old_place)
-            .min(text.len() - self.at)
-    }
-
-    /// Writes the next tokens into the buffer: those that begin in the next `far` bytes, or as many as there is room
-    /// for. Returns how many. `far` is at most what [`apart`](Relexing::apart) returns, so none of them can meet the
-    /// old tokens before the last one ends.
-    pub(crate) fn fill_far<S: Stepper, T: Measured, R: Record>(
-        &mut self,
-        stepper: &mut S,
-        text: &str,
-        old: &[T],
-        change: Change,
-        far: usize,
-        buffer: &mut [R],
-    ) -> usize
-        requires fits { Fits text.now }
-        requires change { IsChange text.now change }
-        requires may_go_on { MayGoOn text.now (length old.now) self.old }
-
-        // There is something to lex, and room for it.
-        requires far { IsApart text.now change self.old far }
-        requires some { 0 < far }
-        requires places { 0 < length buffer.old }
-
-        // It may go on, by the same grammar.
-        ensures may_go_on { MayGoOn text.now (length old.now) self.new }
-        ensures grammar { S.grammar stepper.new ≡ S.grammar stepper.old }
-        ensures number { S.number stepper.new ≡ S.number stepper.old }
-
-        // How many tokens were lexed, and which ones the buffer has.
-        ensures count { S.count stepper.new ≡ S.count stepper.old + result }
-        ensures progress { self.old.at < self.new.at }
-        ensures buffer { (result ≤ length buffer.old) × (length buffer.new ≡ length buffer.old) }
-        ensures steps { TakesSteps (S.grammar stepper.old) text.now change.new_stop
-            self.old result self.new }
-        ensures tokens { buffer.new
-            ≡ map R.written (take result (tokens_by (S.grammar stepper.old) (drop self.old.at text.now)))
-            ++ drop result buffer.old }
-
-        // If the old tokens are those of an old text, these are the next tokens of the present one.
-        ensures stands { GoesOn (S.grammar stepper.old) (map T.bytes old.now) text.now change
-            self.old self.new }
-    {
-        let (count, bytes) = stepper.fill(&text[self.at..], far, buffer);
-        let at = self.at + bytes;
-        let to = follow(old, self.back, at, change.damage(text));
-        *self = Relexing {
-            front: self.front,
-            lexed: self.lexed + count,
-            back: to.at,
-            at,
-            met: to.met,
-        };
         count
     }
 

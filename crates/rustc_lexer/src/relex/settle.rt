@@ -3,7 +3,7 @@ ghost use Rattle.rustc_lexer.specs.{E2024};
 ghost use Rattle.rustc_lexer.specs.Classes.{Fits};
 ghost use Rattle.rustc_lexer.specs.Tokens.{tokens_by, tokens_of};
 ghost use Rattle.rustc_lexer.specs.LanguageText.{part};
-ghost use Rattle.rustc_lexer.specs.Locality.{IsSettled, StaysUpTo};
+ghost use Rattle.rustc_lexer.specs.Locality.{AreLocal, IsSettled, StaysUpTo};
 
 use crate::entry::stepper::{Stepper, Steps};
 use crate::relex::front::two_stand;
@@ -16,6 +16,7 @@ pub fn settled(text: &str) -> usize
     requires fits { Fits text.now }
     ensures settled { IsSettled text.now (tokens_of (part E2024) text.now) result }
     ensures stays { StaysUpTo result text.now (tokens_of (part E2024)) }
+    ensures local { AreLocal (tokens_of (part E2024)) }
 {
     settled_by(&mut Steps::new(), text)
 }

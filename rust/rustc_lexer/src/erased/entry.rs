@@ -8,11 +8,12 @@ use core::iter::Iterator;
 
 mod ahead;
 mod document;
-mod fill;
+pub(crate) mod fill;
 pub(crate) mod stepper;
 mod tally;
 
 pub use document::tokenize_document;
+pub use fill::Record;
 pub use stepper::{Stepper, Steps};
 
 /// Returns an iterator over the tokens of a text, which may have at most `u32::MAX` bytes.
@@ -102,6 +103,23 @@ impl<'a> Tokens<'a> {
     #[inline(always)]
     pub fn frontmatter_allowed(&self) -> FrontmatterAllowed {
         self.frontmatter_allowed
+    }
+
+    /// Returns how many bytes are left.
+    #[inline(always)]
+    fn left(&self) -> usize {
+        self.text.len() - self.ahead.at
+    }
+
+    /// Returns an iterator that is at the same place.
+    #[inline(always)]
+    fn copy(&self) -> Tokens<'a> {
+        Tokens {
+            text: self.text,
+            ahead: self.ahead,
+            frontmatter_allowed: self.frontmatter_allowed,
+            edition: self.edition,
+        }
     }
 
     /// Moves on by this many bytes, whatever tokens they belong to.

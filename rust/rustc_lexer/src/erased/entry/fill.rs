@@ -1,18 +1,28 @@
 //! Writes many tokens of a text at once.
 
-use crate::erased::bulk::{self, Record};
-use crate::erased::edition::Edition;
 use crate::erased::entry::Tokens;
-use crate::erased::entry::ahead::BLOCK;
-use crate::erased::token::FrontmatterAllowed;
+use crate::erased::token::Token;
 use core::iter::Iterator;
+
+/// A form of a token, in which `fill` writes it.
+pub trait Record: Copy {
+    /// Returns the form of a token.
+    fn of(token: Token) -> Self;
+}
+
+/// A token in its own form.
+impl Record for Token {
+    #[inline(always)]
+    fn of(token: Token) -> Token {
+        token
+    }
+}
 
 impl<'a> Tokens<'a> {
     /// Writes the next tokens into the buffer, as many as are left or as there is room for, and returns how many.
     /// The number is less than the length of the buffer only if no token is left.
     ///
-    /// They are the tokens that as many calls of `next` return. Most of them are found 64 bytes at a time. They are
-    /// found one by one if a frontmatter may still come, or if fewer than 64 bytes are left.
+    /// They are the tokens that as many calls of `next` return.
     ///
     /// ```ignore
     /// let mut buffer = [Token { kind: TokenKind::Eof, len: 0 }; 256];
@@ -25,38 +35,17 @@ impl<'a> Tokens<'a> {
     /// }
     /// ```
     pub fn fill<R: Record>(&mut self, buffer: &mut [R]) -> usize {
-        let rest = self.as_str();
-        if self.is_part() && rest.len() >= BLOCK {
-            let (count, bytes) = fill_part(rest, self.edition, buffer);
-            self.pass(bytes);
-            return count;
-        }
-        self.fill_singly(buffer)
-    }
-
-    /// Returns whether no frontmatter may come in the text that is left.
-    #[inline(always)]
-    fn is_part(&self) -> bool {
-        matches!(self.frontmatter_allowed, FrontmatterAllowed::No)
-    }
-
-    /// Writes the next tokens into the buffer like `fill`, one after another.
-    fn fill_singly<R: Record>(&mut self, buffer: &mut [R]) -> usize {
+        // The loop takes from a copy, which stays in registers.
+        let mut tokens = self.copy();
         let mut count = 0;
         while count < buffer.len() {
-            let Some(token) = self.next() else {
+            let Some(token) = tokens.next() else {
                 break;
             };
             buffer[count] = R::of(token);
             count += 1;
         }
+        *self = tokens;
         count
     }
-}
-
-/// Writes the first tokens of a text in an edition into the buffer. Returns how many tokens it wrote, and how many
-/// bytes they take.
-#[inline(always)]
-fn fill_part<R: Record>(text: &str, edition: Edition, buffer: &mut [R]) -> (usize, usize) {
-    bulk::fill(text, text.len(), edition, buffer)
 }

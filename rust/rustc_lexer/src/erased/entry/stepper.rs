@@ -1,9 +1,11 @@
 //! Steppers: they lex by a grammar, one token at a time or many at once.
 
-use crate::erased::bulk::{self, Record};
 use crate::erased::edition::{Edition, token_in};
+use crate::erased::entry::fill::Record;
 use crate::erased::entry::tally::Tally;
+use crate::erased::entry::tokenize_in;
 use crate::erased::token::Token;
+use core::iter::Iterator;
 
 /// A lexer for one grammar: it returns the first token of any text.
 ///
@@ -68,8 +70,17 @@ impl Stepper for Steps {
     }
 
     fn fill<R: Record>(&mut self, text: &str, end: usize, buffer: &mut [R]) -> (usize, usize) {
-        let (count, bytes) = bulk::fill(text, end, self.edition, buffer);
+        let mut tokens = tokenize_in(text, self.edition);
+        let past_end = text.len() - end;
+        let mut count = 0;
+        while count < buffer.len() && tokens.left() > past_end {
+            let Some(token) = tokens.next() else {
+                break;
+            };
+            buffer[count] = R::of(token);
+            count += 1;
+        }
         self.tally.tick_by(count);
-        (count, bytes)
+        (count, text.len() - tokens.left())
     }
 }

@@ -1,6 +1,5 @@
 //! The most common tokens, classified by their first byte and the ends of runs.
 
-use crate::erased::kernels::ends_of_runs;
 use crate::erased::token::TokenKind;
 use crate::erased::token::TokenKind::{
     And, At, Bang, Caret, CloseBrace, CloseBracket as ShutSquare, CloseParen, Colon, Comma, Dollar,
@@ -117,26 +116,6 @@ pub(crate) fn symbol_kind(c: char) -> TokenKind {
     if code < 128 { SYMBOLS[code] } else { Unknown }
 }
 
-/// Returns the ends of runs that are known, or else those of the first 64 bytes.
-#[inline(always)]
-pub(crate) fn ends_for(text: &str, ends: u64) -> u64 {
-    if ends != 0 {
-        ends
-    } else {
-        ends_of_runs(text.as_bytes())
-    }
-}
-
-/// Returns the known ends of runs before a place.
-#[inline(always)]
-pub(crate) fn ends_before(ends: u64, place: usize) -> u64 {
-    if place < 64 {
-        ends & ((1 << place) - 1)
-    } else {
-        ends
-    }
-}
-
 /// Returns the known ends of runs past a place.
 #[inline(always)]
 pub(crate) fn ends_after(ends: u64, place: usize) -> u64 {
@@ -147,18 +126,6 @@ pub(crate) fn ends_after(ends: u64, place: usize) -> u64 {
 #[inline(always)]
 pub(crate) fn past_lowest(ends: u64) -> u64 {
     ends & (ends - 1)
-}
-
-/// Returns the known ends of runs past the next `len` bytes.
-#[inline(always)]
-pub(crate) fn ends_left(ends: u64, len: u32) -> u64 {
-    if len < 64 { ends_past(ends, len) } else { 0 }
-}
-
-/// Returns the ends of runs past the next `len` bytes.
-#[inline(always)]
-fn ends_past(ends: u64, len: u32) -> u64 {
-    (ends >> len) & !1
 }
 
 /// Returns whether the byte `next` after the run may change the token of that kind, or continue it.

@@ -4,8 +4,7 @@ use crate::support::{String, Vec};
 use crate::erased::entry::stepper::Stepper;
 use crate::erased::relex::checkpoints::Checkpoints;
 use crate::erased::relex::front::Bound;
-use crate::erased::relex::lex::new_buffer;
-use crate::erased::relex::relexing::{Change, LONG, Relexing};
+use crate::erased::relex::relexing::{Change, Relexing};
 use crate::erased::token::Token;
 use crate::support::{AllocError, Global};
 
@@ -56,34 +55,8 @@ pub(crate) fn relex<S: Stepper>(
     let mut at = Relexing::begin(text, old, change, near);
     while let Some(token) = at.next(stepper, text, old, change) {
         tokens.push(token)?;
-        let far = at.apart(text, change);
-        if far >= LONG {
-            relex_far(stepper, old, text, change, &mut at, &mut tokens)?;
-        }
     }
     Ok((tokens, at))
-}
-
-/// Lexes many tokens at once, as long as the old tokens are far.
-///
-/// It is not inlined, so that a short edit needs no room for the buffer.
-#[inline(never)]
-fn relex_far<S: Stepper>(
-    stepper: &mut S,
-    old: &[Token],
-    text: &str,
-    change: Change,
-    at: &mut Relexing,
-    tokens: &mut Vec<Token>,
-) -> Result<(), AllocError> {
-    let mut buffer = new_buffer();
-    let mut far = at.apart(text, change);
-    while far >= LONG {
-        let count = at.fill_far(stepper, text, old, change, far, &mut buffer);
-        tokens.extend_from_slice(&buffer[..count])?;
-        far = at.apart(text, change);
-    }
-    Ok(())
 }
 
 /// Returns the checkpoints after an edit that was relexed up to `at`, in a text of `len` bytes. The kept front is

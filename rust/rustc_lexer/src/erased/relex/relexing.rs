@@ -1,16 +1,12 @@
 //! Lexes again what an edit changed, on lists that the caller holds.
 
-use crate::erased::bulk::Record;
+use crate::erased::entry::fill::Record;
 use crate::erased::entry::stepper::Stepper;
 use crate::erased::relex::front::{Bound, Damage, Measured, follow, kept_front};
 use crate::erased::token::Token;
 
 /// The greatest offset that a token boundary may have. No text is longer, even if a `usize` has 32 bits.
 const MOST: usize = usize::MAX / 2;
-
-/// From how many bytes on they are lexed many tokens at once, if lexing cannot meet the old tokens before. For fewer
-/// bytes that costs more than it saves.
-pub(crate) const LONG: usize = 256;
 
 /// An edit that was made, by its offsets in bytes. It replaced the bytes from `start` up to `old_stop` of the old text
 /// with those from `start` up to `new_stop` of the present text.
@@ -140,8 +136,7 @@ impl Relexing {
     /// Returns how many. The number is less than the length of the buffer only if `is_over` is true. `text`, `old` and
     /// `change` are those that were passed to `begin`.
     ///
-    /// They are the tokens that as many calls of `next` return. If the old tokens are far, as in a long insertion or in
-    /// place of a long old token, many tokens are lexed at once.
+    /// They are the tokens that as many calls of `next` return.
     pub fn fill<S: Stepper, T: Measured, R: Record>(
         &mut self,
         stepper: &mut S,
@@ -151,10 +146,6 @@ impl Relexing {
         buffer: &mut [R],
     ) -> usize {
         let mut count = 0;
-        let far = self.apart(text, change);
-        if far >= LONG && !self.is_over(text) && !buffer.is_empty() {
-            count = self.fill_far(stepper, text, old, change, far, buffer);
-        }
         while count < buffer.len() {
             let Some(token) = self.next(stepper, text, old, change) else {
                 break;
@@ -162,44 +153,6 @@ impl Relexing {
             buffer[count] = R::of(token);
             count += 1;
         }
-        count
-    }
-
-    /// Returns for how many bytes lexing cannot meet the old tokens: up to the end of the insertion, or after it up to
-    /// the next boundary of the old tokens.
-    pub(crate) fn apart(&self, text: &str, change: Change) -> usize {
-        if self.at < change.new_stop {
-            return change.new_stop - self.at;
-        }
-        let old_place = self.at - change.new_stop + change.old_stop;
-        self.back
-            .place
-            .saturating_sub(old_place)
-            .min(text.len() - self.at)
-    }
-
-    /// Writes the next tokens into the buffer: those that begin in the next `far` bytes, or as many as there is room
-    /// for. Returns how many. `far` is at most what [`apart`](Relexing::apart) returns, so none of them can meet the
-    /// old tokens before the last one ends.
-    pub(crate) fn fill_far<S: Stepper, T: Measured, R: Record>(
-        &mut self,
-        stepper: &mut S,
-        text: &str,
-        old: &[T],
-        change: Change,
-        far: usize,
-        buffer: &mut [R],
-    ) -> usize {
-        let (count, bytes) = stepper.fill(&text[self.at..], far, buffer);
-        let at = self.at + bytes;
-        let to = follow(old, self.back, at, change.damage(text));
-        *self = Relexing {
-            front: self.front,
-            lexed: self.lexed + count,
-            back: to.at,
-            at,
-            met: to.met,
-        };
         count
     }
 

@@ -2,7 +2,7 @@
 
 use std::fmt::{Debug, Write};
 
-use rustc_lexer::{Edition, FrontmatterAllowed, Steps, Stepper, Token, TokenKind, tokenize_as};
+use rustc_lexer::{Edition, FrontmatterAllowed, Stepper, Steps, Token, TokenKind, tokenize_as};
 
 /// The first token of a text by the original, as an edition has it. What the newest edition alone has is cut off and read
 /// alone: of a guarded string's prefix the hash, of a raw lifetime the letter, of other prefixes all but the hash behind.

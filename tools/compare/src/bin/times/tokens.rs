@@ -2,7 +2,7 @@
 
 use crate::Sum;
 use ours::Consumer;
-use rustc_lexer::{FrontmatterAllowed, Token, TokenKind, tokenize};
+use rustc_lexer::{Edition, FrontmatterAllowed, Token, TokenKind, tokenize, tokenize_in};
 
 /// What consumers do with tokens: they read all fields, have a `match` with an arm for each kind, read the lengths of those
 /// that are not `Eof`, or keep all in a `Vec`.
@@ -253,6 +253,24 @@ fn by_fill<const CONSUMER: usize>(text: &str) -> Sum {
     consumer.sum()
 }
 
+/// The tokens of an edition, which ours alone has.
+#[inline(always)]
+fn by_for_in<const CONSUMER: usize>(text: &str, edition: Edition) -> Sum {
+    let mut consumer = Consumer::<CONSUMER>::new();
+    for token in tokenize_in(text, edition) {
+        consumer.take(token);
+    }
+    consumer.sum()
+}
+
+fn by_for_2015<const CONSUMER: usize>(text: &str) -> Sum {
+    by_for_in::<CONSUMER>(text, Edition::E2015)
+}
+
+fn by_for_2021<const CONSUMER: usize>(text: &str) -> Sum {
+    by_for_in::<CONSUMER>(text, Edition::E2021)
+}
+
 fn into_vec(text: &str) -> Sum {
     let tokens = tokenize(text, FrontmatterAllowed::No).into_vec();
     Sum {
@@ -270,7 +288,13 @@ pub fn ways() -> Vec<(&'static str, Pairs)> {
     for (ours, theirs) in ours::WAYS.into_iter().zip(theirs::WAYS) {
         ways.push(pairs(ours, theirs.1));
     }
-    ways.push(pairs(way!("`Tokens::fill`", by_fill), theirs::WAYS[0].1));
+    for ours in [
+        way!("`for` in 2021", by_for_2021),
+        way!("`for` in 2015", by_for_2015),
+        way!("`Tokens::fill`", by_fill),
+    ] {
+        ways.push(pairs(ours, theirs::WAYS[0].1));
+    }
     ways.push((
         "`collect` of `tokenize`",
         vec![[theirs::collected, ours::collected]],

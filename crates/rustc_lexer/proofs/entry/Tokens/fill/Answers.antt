@@ -1,26 +1,32 @@
-use Rattle.std.proofs.Common.{drop, refl, ap, ◌∙◌}
-use Rattle.rustc_lexer.specs.State.{State}
-use Rattle.rustc_lexer.specs.Classes.{IsText}
-use Rattle.rustc_lexer.specs.laws.Edition.{edition_grammar}
-use Rattle.rustc_lexer.proofs.BulkLemmas.{edition-held, filled_all, fills}
-use Rattle.rustc_lexer.specs.laws.State.{state}
+use Rattle.std.proofs.Common.{◌<◌, length, sym, ◌∙◌, arith}
+use Rattle.rustc_lexer.specs.Tokens.{tokens_left}
+use Rattle.rustc_lexer.proofs.BufferLemmas.{all_written, none_more, one_written, next_is, past_more, left_more, rest_more, whole_buffer}
 use Rattle.rustc_lexer.proofs.entry.Tokens.fill.Goals as goal
 
-pub returns-then-rest-ge-BLOCK : goal.returns-then-rest-ge-BLOCK
-returns-then-rest-ge-BLOCK g c =
-    let s : State = c.args.self.now in
-    let edition = c.self.inside.edition in
-    let text = c.as_str-rest.result.now in
-    let bytes = c.fill_part-count.result.1 in
-    let is : IsText text = record { utf8 = c.as_str-rest.utf8; fits = c.as_str-rest.ensures.fits } in
-    let all = fills g.R.Record.written edition s c.pass.new.self text is c.as_str-rest.ensures.rest c.as_str-rest.ensures.pending
-    (edition-held c.self.inside.frontmatter_allowed edition s.mode (ap (λ (x : State). x.mode) c.self.view_is) (c.is_part.ensures c.if-is_part.true))
-    c.args.buffer.now c.fill_part-count.new.buffer c.fill_part-count.result.0 bytes
-    (filled_all (edition_grammar edition) g.R.Record.written text is _ refl c.args.buffer.now c.fill_part-count.new.buffer c.fill_part-count.result.0 c.fill_part-count.ensures.filled)
-    c.fill_part-count.ensures.bytes
-    (c.pass.ensures ∙ ap (λ n. state n (drop bytes s.rest) s.mode) c.as_str-rest.ensures.pending) in
+pub places-preserved : goal.places-preserved
+places-preserved g c =
+    let inv = c.places.invariant in
+    let s = c.args.self.now in
+    let at = c.places.tokens in
+    let past = c.next.new.self in
+    let token = c.in-Some.token in
+    let takes = c.in-Some.ensures.steps in
+    let fits : c.places.count < length c.places.buffer = omega arith in
     record {
-      count = all.holds.as_many;
-      tokens = all.holds.tokens;
-      state = all.state_is;
+      past = past_more s at past c.places.count token inv.past inv.left inv.rest takes;
+      left = left_more s at past c.places.count token inv.past inv.left inv.rest takes;
+      rest = rest_more s at past c.places.count token inv.past inv.left inv.rest takes;
+      written = one_written g.R.Record.written (tokens_left s) (tokens_left past) c.args.buffer.now c.places.buffer c.places.count token inv.written
+          (next_is s at past c.places.count token inv.past inv.left inv.rest takes) fits c.of.result c.of.ensures;
     }
+
+pub returns-in_default-clause-count : goal.returns-in_default-clause-count
+returns-in_default-clause-count g c =
+    let left = tokens_left c.args.self.now in
+    (all_written g.R.Record.written left c.args.buffer.now c.places.buffer c.places.count c.places.invariant.written (none_more left c.places.count (sym c.places.invariant.left ∙ c.in_default.ensures.steps.0))).as_many
+
+pub returns-in_default-clause-tokens : goal.returns-in_default-clause-tokens
+returns-in_default-clause-tokens g c = whole_buffer g.R.Record.written (tokens_left c.args.self.now) c.args.buffer.now c.places.buffer c.places.count c.places.invariant.written
+
+pub returns-after-places-clause-tokens : goal.returns-after-places-clause-tokens
+returns-after-places-clause-tokens g c = whole_buffer g.R.Record.written (tokens_left c.args.self.now) c.args.buffer.now c.places.buffer c.places.count c.places.invariant.written

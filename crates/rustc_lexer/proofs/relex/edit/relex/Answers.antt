@@ -1,11 +1,9 @@
-use Rattle.std.proofs.Common.{◌≡◌, ◌+◌, ◌∷◌, List, ℕ, length, map, drop, refl, ap, ◌∙◌, subst, arith, length-append, [], ◌++◌}
-use Rattle.rustc_lexer.specs.declared.relex.front.Bound.{Bound}
+use Rattle.std.proofs.Common.{◌≡◌, ◌+◌, ◌∷◌, List, ℕ, length, map, drop, refl, ap, ◌∙◌, subst, arith, length-append, []}
 use Rattle.rustc_lexer.specs.{Token}
 use Rattle.rustc_lexer.specs.Tokens.{tokens_by}
 use Rattle.rustc_lexer.specs.Edits.{known}
 use Rattle.rustc_lexer.specs.Relexing.{IsMadeOf, IsUnderWay}
-use Rattle.rustc_lexer.specs.means.Relexing.{Stands}
-use Rattle.rustc_lexer.proofs.RelexBlockLemmas.{step_of}
+use Rattle.rustc_lexer.proofs.RelexStepLemmas.{step_of}
 use Rattle.rustc_lexer.proofs.EditLemmas.{IfErr-always}
 use Rattle.rustc_lexer.proofs.RelexingLemmas.{few_lexed, all_lexed, one_lexed}
 use Rattle.rustc_lexer.proofs.relex.edit.relex.Goals as goal
@@ -34,14 +32,6 @@ loop-token-smaller g c =
     let place = step.place in
     omega arith
 
-pub loop-token-smaller-in-Continue-branch-2 : goal.loop-token-smaller-in-Continue-branch-2
-loop-token-smaller-in-Continue-branch-2 g c =
-    let step = step_of (g.S.Stepper.law c.loop-token.stepper) c.args.text.now record { utf8 = c.utf8.text; fits = c.requires.fits } c.args.change.new_stop _ c.loop-token.at c.in-Some.token _ c.next.new.self c.loop-token.invariant.0.boundary c.in-Some.ensures.step in
-    let inside = step.inside in
-    let some = step.not_empty in
-    let place = step.place in
-    omega (arith, c.in_ok-relex_far.ensures.ahead)
-
 pub loop-token-preserved : goal.loop-token-preserved
 loop-token-preserved g c =
     let first = g.S.Stepper.grammar c.args.stepper.now in
@@ -69,56 +59,6 @@ loop-token-preserved g c =
           let pushed = one_lexed new at past c.loop-token.tokens.items c.push.new.self.items token step.front so.1 next.1 more in
           (next.0.stands, pushed),
     )
-
-pub loop-token-preserved-in-Continue-branch-2 : goal.loop-token-preserved-in-Continue-branch-2
-loop-token-preserved-in-Continue-branch-2 g c =
-    let first = g.S.Stepper.grammar c.args.stepper.now in
-    let text = c.args.text.now in
-    let at = c.loop-token.at in
-    let past = c.next.new.self in
-    let token = c.in-Some.token in
-    let inv = c.loop-token.invariant in
-    let step = step_of (g.S.Stepper.law c.loop-token.stepper) c.args.text.now record { utf8 = c.utf8.text; fits = c.requires.fits } c.args.change.new_stop _ c.loop-token.at c.in-Some.token _ c.next.new.self c.loop-token.invariant.0.boundary c.in-Some.ensures.step in
-    let lexed = step.lexed in
-    let more = c.in_ok-push.ensures.items in
-    let count : length c.push.new.self.items ≡ length c.loop-token.tokens.items + 1 = rw more (omega (arith, length-append c.loop-token.tokens.items (token ∷ []))) in
-    let grammar = c.in-Some.ensures.grammar ∙ inv.1 in
-    let number = c.in-Some.ensures.number ∙ inv.2 in
-    let new = tokens_by first text in
-    let Next : (before insert : List ℕ) → (List ℕ → Token) → Type 0 = λ before insert f. IsMadeOf f before (map (λ (t : Token). t.len) c.args.old.now) c.args.change insert text → IsUnderWay f before c.args.change text at → IsUnderWay f before c.args.change text past × (drop (known at) (tokens_by f text) ≡ token ∷ drop (known past) (tokens_by f text)) in
-    let far = c.in_ok-relex_far.ensures in
-    let on = c.relex_far.new.at in
-    let tokens = c.relex_far.new.tokens in (
-      far.may_go_on,
-      far.grammar ∙ grammar,
-      far.number ∙ number,
-      omega (arith, far.count, far.lexed, c.in-Some.ensures.step.2, lexed, count, inv.3, inv.4),
-      omega (arith, far.lexed, lexed, count, inv.4),
-      λ before insert is near.
-          let so = inv.5 before insert is near in
-          let next = subst (Next before insert) inv.1 (c.in-Some.ensures.stands before insert) is (record { stands = so.0 }) in
-          let pushed = one_lexed new at past c.loop-token.tokens.items c.push.new.self.items token step.front so.1 next.1 more in
-          let Far : (List ℕ → Token) → Type 0 = λ f. IsMadeOf f before (map (λ (t : Token). t.len) c.args.old.now) c.args.change insert text → Stands f before c.args.change text past → Stands f before c.args.change text on × ((all : List Token) → all ≡ c.push.new.self.items ++ drop (known past) (tokens_by f text) → all ≡ tokens.items ++ drop (known on) (tokens_by f text)) in
-          let later = subst Far grammar (far.stands before insert) is next.0.stands in
-          (later.0, ap (λ (b : Bound). drop b.number new) far.front ∙ later.1 _ pushed),
-    )
-
-pub returns-in_err-relex_far-clause-few : goal.returns-in_err-relex_far-clause-few
-returns-in_err-relex_far-clause-few g c =
-    let at = c.loop-token.at in
-    let past = c.next.new.self in
-    let on = c.relex_far.new.at in
-    let inv = c.loop-token.invariant in
-    let text = c.args.text.now in
-    let step = step_of (g.S.Stepper.law c.loop-token.stepper) text record { utf8 = c.utf8.text; fits = c.requires.fits } c.args.change.new_stop _ at c.in-Some.token _ past inv.0.boundary c.in-Some.ensures.step in
-    let lexed = step.lexed in
-    let far = c.in_err-relex_far.ensures in
-    IfErr-always c.from_residual-in_err-relex_far.result (λ before insert is near.
-    let so = inv.5 before insert is near in
-    let next = subst (λ (f : List ℕ → Token). IsMadeOf f before (map (λ (t : Token). t.len) c.args.old.now) c.args.change insert text → IsUnderWay f before c.args.change text at → IsUnderWay f before c.args.change text past × (drop (known at) (tokens_by f text) ≡ c.in-Some.token ∷ drop (known past) (tokens_by f text))) inv.1 (c.in-Some.ensures.stands before insert) is (record { stands = so.0 }) in
-    let Far : (List ℕ → Token) → Type 0 = λ f. IsMadeOf f before (map (λ (t : Token). t.len) c.args.old.now) c.args.change insert text → Stands f before c.args.change text past → Stands f before c.args.change text on in
-    let there = subst Far (c.in-Some.ensures.grammar ∙ inv.1) (λ made stands. (far.stands before insert made stands).0) is next.0.stands in
-    omega (arith, far.count, c.in-Some.ensures.step.2, lexed, inv.3, inv.4, few_lexed (g.S.Stepper.law c.args.stepper.now) before _ insert _ c.args.change is on there))
 
 pub returns-in_err-push-clause-few : goal.returns-in_err-push-clause-few
 returns-in_err-push-clause-few g c =

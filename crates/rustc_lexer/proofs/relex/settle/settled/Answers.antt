@@ -3,7 +3,7 @@ use Rattle.rustc_lexer.specs.{Token}
 use Rattle.rustc_lexer.specs.Locality.{IsSettled}
 use Rattle.rustc_lexer.specs.Tokens.{tokens_by}
 use Rattle.rustc_lexer.specs.laws.Edition.{first_token_grammar}
-use Rattle.rustc_lexer.proofs.SettledLemmas.{stays}
+use Rattle.rustc_lexer.proofs.SettledLemmas.{local, stays}
 use Rattle.rustc_lexer.proofs.relex.settle.settled.Goals as goal
 
 pub returns-clause-settled : goal.returns-clause-settled
@@ -11,3 +11,6 @@ returns-clause-settled c = subst (λ (tokens : List Token). IsSettled c.args.tex
 
 pub returns-clause-stays : goal.returns-clause-stays
 returns-clause-stays c = stays first_token_grammar _ record { utf8 = c.utf8.text; fits = c.requires.fits } _ (returns-clause-settled c)
+
+pub returns-clause-local : goal.returns-clause-local
+returns-clause-local c = local first_token_grammar

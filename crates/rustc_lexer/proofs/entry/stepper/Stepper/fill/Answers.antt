@@ -2,7 +2,7 @@ use Rattle.std.proofs.Common.{◌≡◌, ◌+◌, ◌<◌, List, ℕ, length, dr
 use Rattle.rustc_lexer.specs.{Token}
 use Rattle.rustc_lexer.specs.Classes.{IsText}
 use Rattle.rustc_lexer.specs.Tokens.{tokens_by}
-use Rattle.rustc_lexer.proofs.BulkLemmas.{begun_more, one_written, stands, next_token, next_place, written_to}
+use Rattle.rustc_lexer.proofs.BufferLemmas.{begun_more, one_written, stands, next_token, next_place, written_to}
 use Rattle.rustc_lexer.proofs.ProgressLemmas.{stepped}
 use Rattle.rustc_lexer.proofs.entry.stepper.Stepper.fill.Goals as goal
 

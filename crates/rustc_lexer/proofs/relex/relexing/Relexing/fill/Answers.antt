@@ -4,37 +4,21 @@ use Rattle.rustc_lexer.specs.{Token}
 use Rattle.rustc_lexer.specs.Classes.{IsText}
 use Rattle.rustc_lexer.specs.Relexing.{IsMadeOf, IsUnderWay, is_over}
 use Rattle.rustc_lexer.specs.Tokens.{tokens_by}
-use Rattle.rustc_lexer.proofs.BulkLemmas.{is_written, none_written, one_written}
-use Rattle.rustc_lexer.proofs.RelexBlockLemmas.{IsStepTo, step_of, left_at, next_left, no_step, step_more}
+use Rattle.rustc_lexer.proofs.BufferLemmas.{none_written, one_written}
+use Rattle.rustc_lexer.proofs.RelexStepLemmas.{IsStepTo, step_of, left_at, next_left, no_step, step_more}
 use Rattle.rustc_lexer.proofs.relex.relexing.Relexing.fill.Goals as goal
-use Rattle.rustc_lexer.proofs.relex.relexing.Relexing.fill.Goals.{then-far-ge-LONG+then-not-is_over+then-not-is_empty, else-far-ge-LONG}
 
 pub places-init : goal.places-init
-places-init g c = elim c.if-far-ge-LONG.branch [
-  | then-far-ge-LONG+then-not-is_over+then-not-is_empty w ↦
-      let fill = w.fill_far-count.ensures in
-      rw (w.self-is, w.stepper-is, w.buffer-is, w.count-is) record {
-        may_go_on = fill.may_go_on;
-        grammar = fill.grammar;
-        number = fill.number;
-        count = fill.count;
-        steps = fill.steps;
-        written = is_written g.R.Record.written _ c.args.buffer.now w.fill_far-count.new.buffer w.fill_far-count.result fill.steps.inside (omega (arith, fill.buffer.0, fill.buffer.1)) fill.tokens;
-        begins = λ _. sym w.is_over.ensures.over ∙ w.if-not-is_over.true;
-        stands = λ before insert made begun. (fill.stands before insert made begun).0;
-      }
-  | else-far-ge-LONG w ↦
-      rw (w.self-is, w.stepper-is, w.buffer-is, w.count-is) record {
-        may_go_on = c.requires.may_go_on;
-        grammar = refl;
-        number = refl;
-        count = omega arith;
-        steps = no_step (g.S.Stepper.grammar c.args.stepper.now) c.args.text.now c.args.change.new_stop c.args.self.now;
-        written = none_written g.R.Record.written _ c.args.buffer.now;
-        begins = λ some. absurd (omega arith);
-        stands = λ before insert made begun. begun;
-      }
-]
+places-init g c = record {
+  may_go_on = c.requires.may_go_on;
+  grammar = refl;
+  number = refl;
+  count = omega arith;
+  steps = no_step (g.S.Stepper.grammar c.args.stepper.now) c.args.text.now c.args.change.new_stop c.args.self.now;
+  written = none_written g.R.Record.written _ c.args.buffer.now;
+  begins = λ some. absurd (omega arith);
+  stands = λ before insert made begun. begun;
+}
 
 pub places-preserved : goal.places-preserved
 places-preserved g c =

@@ -3,7 +3,7 @@ use Rattle.rustc_lexer.specs.declared.relex.front.Damage.{Damage}
 use Rattle.rustc_lexer.specs.Tokens.{tokens_by}
 use Rattle.rustc_lexer.specs.means.Relexing.{IsFollowed, old_stop_of}
 use Rattle.rustc_lexer.specs.Classes.{IsText}
-use Rattle.rustc_lexer.proofs.RelexBlockLemmas.{one_step}
+use Rattle.rustc_lexer.proofs.RelexStepLemmas.{one_step}
 use Rattle.rustc_lexer.proofs.RelexingLemmas.{damage_stop, end_last, stands_next, gives_next, below_later, not_over, step_place}
 use Rattle.rustc_lexer.proofs.relex.relexing.Relexing.next.Goals as goal
 

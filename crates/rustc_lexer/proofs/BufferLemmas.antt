@@ -1,7 +1,7 @@
 -- A buffer that is filled from the front with the tokens of a text.
-use Rattle.std.proofs.Common.{All, ◌≡◌, ℕ, zero, suc, ◌+◌, ◌<◌, ◌≤◌, List, [], ◌∷◌, ◌++◌, length, map, take, drop, min, false, ◌==◌, inl, inr, refl, sym, ap, subst, ◌∙◌, arith, slice_set, length-append, length-drop, length-take-le}
-use Rattle.std.proofs.lemmas.Bool.{cases_lt, ne_eqb}
-use Rattle.std.proofs.lemmas.List.{take-append-drop, take_at, take_more_set, drop-set-lt, drop-drop, drop_all, drop_at, length-map, length-set, map-append}
+use Rattle.std.proofs.Common.{All, get_or, ◌≡◌, ℕ, zero, suc, ◌+◌, ◌<◌, ◌≤◌, List, [], ◌∷◌, ◌++◌, length, map, take, drop, min, inl, inr, refl, sym, ap, ◌∙◌, arith, slice_set, length-drop}
+use Rattle.std.proofs.lemmas.Bool.{cases_lt}
+use Rattle.std.proofs.lemmas.List.{take-append-drop, take_more_set, drop-set-lt, drop-drop, drop_all, length-set, map-append}
 use Rattle.std.proofs.lemmas.List.Elements.{All-head, All-tail}
 use Rattle.std.proofs.lemmas.Str.{IsCharBoundary-from_drop}
 use Rattle.std.proofs.Math.Nat.{min-eq_left, min-eq_right, min-le_right}
@@ -18,7 +18,7 @@ use Rattle.rustc_lexer.specs.means.Taking.{token_at, advance_by, take_next}
 use Rattle.rustc_lexer.specs.laws.Edition.{edition_grammar}
 use Rattle.rustc_lexer.specs.laws.Cuts.{IsCutAt, at_bound, tokens-cons, tokens-nil}
 use Rattle.rustc_lexer.proofs.ProgressLemmas.{IsPlace, next-from_drop}
-use Rattle.rustc_lexer.specs.laws.State.{state, past_token, edition-after, advance-some}
+use Rattle.rustc_lexer.specs.laws.State.{state, edition-after}
 
 -- the first `count` tokens are written, and the rest of the buffer is as it was
 pub record IsWritten {X : Type 0} (written : Token → X) (tokens : List Token) (buffer filled : List X) (count : ℕ) : Type 0 where
@@ -38,10 +38,6 @@ module _ {X : Type 0} (written : Token → X) (tokens left : List Token) (buffer
 
 pub whole_buffer : {X : Type 0} (written : Token → X) (tokens : List Token) (buffer filled : List X) (count : ℕ) → IsWritten written tokens buffer filled count → filled ≡ map written (take count tokens) ++ drop count buffer
 whole_buffer written tokens buffer filled count is = sym (take-append-drop count filled) ∙ (ap (λ l. l ++ drop count filled) is.front ∙ ap (λ l. map written (take count tokens) ++ l) is.back)
-
-pub is_written : {X : Type 0} (written : Token → X) (tokens : List Token) (buffer filled : List X) (count : ℕ) → count ≤ length tokens → count ≤ length buffer → filled ≡ map written (take count tokens) ++ drop count buffer → IsWritten written tokens buffer filled count
-is_written written tokens buffer filled count few within is =
-    grind (arith, common_steps, length-map, length-take-le, take_at, drop_at, length-append, length-drop)
 
 -- either no token is left, or no room
 pub all_written : {X : Type 0} (written : Token → X) (tokens : List Token) (buffer filled : List X) (count : ℕ) → IsWritten written tokens buffer filled count → length tokens ≤ count → IsFilled written tokens buffer filled count
@@ -74,9 +70,6 @@ module _ {first : List ℕ → Token} (law : IsGrammar first) (text : List ℕ) 
       let e : count + 1 ≡ suc count = omega arith in
       sym (ap (bound (tokens_by first text)) e ∙ (step.end ∙ ap (λ n. n + (first (drop at text)).len) (sym place)))
 
-  pub next_some : at < length text → 0 < (first (drop at text)).len
-  next_some more = law.not_empty (drop at text) stands.past (omega (arith, length-drop at text))
-
   pub over : length text ≤ at → length (tokens_by first text) ≤ count
   over all =
       let none : drop (bound (tokens_by first text) count) text ≡ [] = drop_all _ text (omega (arith, place)) in
@@ -102,31 +95,7 @@ filled_all {first} law written text is end whole buffer filled count to = record
   tokens = to.tokens;
 }
 
--- ---- the state past some tokens, where no frontmatter is allowed
-
-pub plain_state : (edition : Edition) (s : State) (text : List ℕ) → s.pending ≡ 0 → s.rest ≡ text → s.mode ≡ part edition → s ≡ state 0 text (part edition)
-plain_state edition s text p r a = ap (λ n. state n s.rest s.mode) p ∙ (ap (λ xs. state 0 xs s.mode) r ∙ ap (state 0 text) a)
-
-pub state_past-no : (edition : Edition) (text : List ℕ) → IsText text → (s : State) → s ≡ state 0 text (part edition) → (count : ℕ) → count ≤ length (tokens_of (part edition) text) → state_past count s ≡ state 0 (drop (bound (tokens_of (part edition) text) count) text) (part edition)
-state_past-no edition text is s e zero few = e
-state_past-no edition text is s e (suc count) few =
-    let first : List ℕ → Token = first_token_in edition in
-    let all : List Token = tokens_of (part edition) text in
-    let at : ℕ = bound all count in
-    let rest : List ℕ = drop at text in
-    let more : at < length text = some_left text is count at refl (omega arith) in
-    let some : (length rest == 0) ≡ false = ne_eqb (length rest) 0 (λ none. omega (arith, length-drop at text)) in
-    let ih : state_past count s ≡ state 0 rest (part edition) = state_past-no edition text is s e count (omega arith) in
-    let taken : (take_next (state 0 rest (part edition))).1 ≡ past_token rest (part edition) (first rest) = ap (λ (r : Token × State). r.1) (advance-some 0 rest (part edition) (state 0 rest (part edition)) refl some) in
-    let one : count + 1 ≡ suc count = omega arith in
-    let far : at + (first rest).len ≡ bound all (suc count) = next_place (edition_grammar edition) text is count at refl more ∙ ap (bound all) one in
-    ap (λ (x : State). (take_next x).1) ih ∙ (taken ∙ ap (λ xs. state 0 xs (part edition)) (drop-drop (first rest).len at text ∙ ap (λ n. drop n text) far))
-  where
-    some_left : (text : List ℕ) → IsText text → (count at : ℕ) → at ≡ bound (tokens_by (first_token_in edition) text) count → count < length (tokens_by (first_token_in edition) text) → at < length text
-    some_left text is count at place few = elim (cases_lt at (length text)) [
-      | inl near ↦ near
-      | inr far ↦ absurd (let o = over (edition_grammar edition) text is count at place far in omega arith)
-    ]
+-- ---- the state past some tokens
 
 -- the edition stays, and past a part a part is left
 edition-advanced : (rest : List ℕ) (s : State) → mode_edition (advance_by rest s).1.mode ≡ mode_edition s.mode
@@ -154,14 +123,9 @@ pub part-left : (s t : State) (count : ℕ) (rest : List ℕ) → s.pending ≡ 
 part-left s t count rest none past cut is = grind (arith, common_steps, part-stays)
 
 -- how an iterator reads is told by the flag and the edition that it holds
-pub mode-held : (allowed : FrontmatterAllowed) (edition : Edition) (mode : Mode) → mode_in allowed edition ≡ mode → mode ≡ mode_in allowed (mode_edition mode)
-mode-held Yes edition mode e = sym e ∙ ap document (ap mode_edition e)
-mode-held No edition mode e = sym e ∙ ap part (ap mode_edition e)
-
--- and a part is one of the edition that it holds
-pub edition-held : (allowed : FrontmatterAllowed) (edition : Edition) (mode : Mode) → mode_in allowed edition ≡ mode → mode ≡ part (mode_edition mode) → mode ≡ part edition
-edition-held Yes edition mode e is = is ∙ ap (λ (m : Mode). part (mode_edition m)) (sym e)
-edition-held No edition mode e is = sym e
+pub mode_held : (allowed : FrontmatterAllowed) (edition : Edition) (mode : Mode) → mode_in allowed edition ≡ mode → mode ≡ mode_in allowed (mode_edition mode)
+mode_held Yes edition mode e = sym e ∙ ap document (ap mode_edition e)
+mode_held No edition mode e = sym e ∙ ap part (ap mode_edition e)
 
 -- each token has a byte at least
 pub count_bound : (tokens : List Token) → All (λ t. 0 < t.len) tokens → (count : ℕ) → count ≤ length tokens → count ≤ bound tokens count
@@ -172,27 +136,6 @@ count_bound (t ∷ ts) some (suc count) few = let ih = count_bound ts (All-tail 
 pub shorter_left : (text left : List ℕ) (tokens : List Token) → Partitions text tokens → (buffer count : ℕ) → count ≡ min buffer (length tokens) → left ≡ drop (bound tokens count) text → 0 < buffer → 0 < length text → length left < length text
 shorter_left text left tokens parts buffer count e cut some_buffer some_text =
     grind (arith, common_steps, cases_lt, min-eq_left, min-eq_right, min-le_right, length-drop, count_bound)
-
--- ---- what a call of `fill` leaves
-
-pub record Fills {X : Type 0} (written : Token → X) (s t : State) (buffer filled : List X) (count : ℕ) : Type 0 where
-  pub holds : IsFilled written (tokens_left s) buffer filled count
-  pub state_is : t ≡ state_past count s
-
-pub fills : {X : Type 0} (written : Token → X) (edition : Edition) (s t : State) (text : List ℕ) → IsText text → text ≡ s.rest → s.pending ≡ 0 → s.mode ≡ part edition → (buffer filled : List X) (count bytes : ℕ)
-    → IsFilled written (tokens_of (part edition) text) buffer filled count → bytes ≡ bound (tokens_of (part edition) text) count → t ≡ state 0 (drop bytes s.rest) s.mode → Fills written s t buffer filled count
-fills written edition s t text is e pending none buffer filled count bytes filling at after =
-    let all : tokens_of (part edition) text ≡ tokens_left s = ap (tokens_of (part edition)) e ∙ ap (λ (a : Mode). tokens_of a s.rest) (sym none) in
-    let whole : IsText s.rest = subst IsText e is in
-    let here : IsFilled written (tokens_left s) buffer filled count = subst (λ (ts : List Token). IsFilled written ts buffer filled count) all filling in
-    let no : tokens_left s ≡ tokens_of (part edition) s.rest = ap (λ (a : Mode). tokens_of a s.rest) none in
-    let few : count ≤ length (tokens_of (part edition) s.rest) = omega (arith, here.as_many, min-le_right (length buffer) (length (tokens_left s)), ap length no) in
-    let end : bytes ≡ bound (tokens_of (part edition) s.rest) count = at ∙ ap (λ (ts : List Token). bound ts count) (all ∙ no) in
-    let past : t ≡ state 0 (drop (bound (tokens_of (part edition) s.rest) count) s.rest) (part edition) = after ∙ (ap (λ n. state 0 (drop n s.rest) s.mode) end ∙ ap (λ (a : Mode). state 0 (drop (bound (tokens_of (part edition) s.rest) count) s.rest) a) none) in
-    record {
-      holds = here;
-      state_is = past ∙ sym (state_past-no edition s.rest whole s (plain_state edition s s.rest pending refl none) count few);
-    }
 
 -- ---- one token after another
 
@@ -215,4 +158,14 @@ module _ (s at past : State) (count : ℕ) (token : Token) (there : at ≡ state
   pub rest_more : past.rest ≡ drop (bound (tokens_left s) (count + 1)) s.rest
   rest_more = grind (arith, common_steps, next-from_drop, drop-drop, more_is)
 
-pub ruleset bulk_lemmas = (mode-held)
+-- ---- one token of a part after another
+
+module _ (edition : Edition) (text : List ℕ) (is : IsText text) (s : State) (mode : s.mode ≡ part edition) (rest : s.rest ≡ text) (some : 0 < length text) where
+  left_is : tokens_left s ≡ first_token_in edition text ∷ tokens_by (first_token_in edition) (drop (first_token_in edition text).len text)
+  left_is = ap (λ (m : Mode). tokens_of m s.rest) mode ∙ (ap (tokens_of (part edition)) rest ∙ tokens-cons (edition_grammar edition) text is some)
+
+  pub token_taken : (t : State) (token : Token) → TakesToken s token t → token ≡ first_token_in edition text
+  token_taken t token takes = ap (λ (ts : List Token). get_or ts 0 token) (sym takes.first ∙ left_is)
+
+  pub some_left : 0 < length (tokens_left s)
+  some_left = let long = ap (λ (ts : List Token). length ts) left_is in omega (arith, long)

@@ -1,13 +1,13 @@
 use Rattle.std.proofs.Common.{◌≡◌, ◌-◌, drop, length}
 use Rattle.rustc_lexer.specs.Tokens.{state_past, bound, tokens_left}
-use Rattle.rustc_lexer.proofs.BulkLemmas.{IsWritten}
-use Rattle.rustc_lexer.proofs.entry.Tokens.fill_singly.Given as goal
+use Rattle.rustc_lexer.proofs.BufferLemmas.{IsWritten}
+use Rattle.rustc_lexer.proofs.entry.Tokens.fill.Given as goal
 
 abbrev pub invariant-places : goal.invariant-places
 invariant-places g l = record {
-  past : l.self ≡ state_past l.count l.fn.self;
-  left : tokens_left l.self ≡ drop l.count (tokens_left l.fn.self);
-  rest : l.self.rest ≡ drop (bound (tokens_left l.fn.self) l.count) l.fn.self.rest;
+  past : l.tokens ≡ state_past l.count l.fn.self;
+  left : tokens_left l.tokens ≡ drop l.count (tokens_left l.fn.self);
+  rest : l.tokens.rest ≡ drop (bound (tokens_left l.fn.self) l.count) l.fn.self.rest;
   written : IsWritten g.R.Record.written (tokens_left l.fn.self) l.fn.buffer l.buffer l.count;
 }
 
