@@ -139,7 +139,9 @@ impl Source {
             Held::Part(texts) => texts[edition].token_at(byte),
             Held::Document(texts) => texts[edition].token_at(byte),
         };
-        found.map_or((self.tokens(edition).len(), self.text().len()), |at| (at.number, at.place))
+        found.map_or((self.tokens(edition).len(), self.text().len()), |at| {
+            (at.number, at.place)
+        })
     }
 
     /// Whether no shebang line and no frontmatter can stand where the token of this number begins, so that what is from
