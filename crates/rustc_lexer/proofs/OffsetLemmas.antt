@@ -1,5 +1,5 @@
 -- From an offset to a token: steps from a bound, and which tokens contain a byte of a range.
-use Rattle.std.proofs.Common.{◌≡◌, ℕ, zero, suc, ◌+◌, ◌-◌, ◌<◌, ◌≤◌, ◌↔◌, true≢false, List, length, get_or, refl, sym, ap, arith, inl, inr, Option, Some, None, IfSome, IsSome, IsNone}
+use Rattle.std.proofs.Common.{◌≡◌, ℕ, zero, suc, ◌+◌, ◌-◌, ◌^◌, ◌<◌, ◌≤◌, ◌↔◌, true≢false, List, length, get_or, refl, sym, ap, arith, inl, inr, Option, Some, None, IfSome, IsSome, IsNone}
 use Rattle.std.proofs.lemmas.Bool.{cases_lt}
 use Rattle.rustc_lexer.specs.declared.relex.front.Bound.{Bound}
 use Rattle.rustc_lexer.specs.{Token}
@@ -14,20 +14,27 @@ some_before tokens first zero place offset is le past = absurd (omega arith)
 some_before tokens first (suc n) place offset is le past = omega arith
 
 -- one token back
-pub back_from : (tokens : List Token) (first n place : ℕ) (x : Token) → x ≡ get_or tokens (n - 1) x → place ≡ first + bound tokens n → 0 < n → n ≤ length tokens → (x.len ≤ place) × (place - x.len ≡ first + bound tokens (n - 1))
-back_from tokens first n place x at is some few =
-    let one : n - 1 + 1 ≡ n = omega arith in
-    let end = ap (bound tokens) one in
-    let len = ap (λ (t : Token). t.len) at in
-    let next = bound-next tokens (n - 1) x (omega arith) in
-    (omega (arith, is, end, next, len), omega (arith, is, end, next, len))
+module _ (tokens : List Token) (first n place : ℕ) (d : Token) (is : place ≡ first + bound tokens n) (some : 0 < n) (few : n ≤ length tokens) where
+  pub back_is : place - (get_or tokens (n - 1) d).len ≡ first + bound tokens (n - 1)
+  back_is =
+      let one : n - 1 + 1 ≡ n = omega arith in
+      omega (arith, is, ap (bound tokens) one, bound-next tokens (n - 1) d (omega arith))
+
+  pub back_le : (get_or tokens (n - 1) d).len ≤ place
+  back_le =
+      let one : n - 1 + 1 ≡ n = omega arith in
+      omega (arith, is, ap (bound tokens) one, bound-next tokens (n - 1) d (omega arith))
 
 -- one token ahead
-pub ahead_from : (tokens : List Token) (first n place : ℕ) (x : Token) → x ≡ get_or tokens n x → place ≡ first + bound tokens n → n < length tokens → (place + x.len ≡ first + bound tokens (n + 1)) × (place + x.len ≤ first + bound tokens (length tokens))
-ahead_from tokens first n place x at is few =
-    let len = ap (λ (t : Token). t.len) at in
-    let next = bound-next tokens n x few in
-    (omega (arith, is, next, len), omega (arith, is, next, len, bound_mono tokens (n + 1) (length tokens) (omega arith)))
+module _ (tokens : List Token) (first n place : ℕ) (d : Token) (is : place ≡ first + bound tokens n) (few : n < length tokens) where
+  pub ahead_is : place + (get_or tokens n d).len ≡ first + bound tokens (n + 1)
+  ahead_is = omega (arith, is, bound-next tokens n d few)
+
+  pub ahead_fits : first + bound tokens (length tokens) < 2 ^ 32 → place + (get_or tokens n d).len < 2 ^ 64
+  ahead_fits fits = omega (arith, ahead_is, fits, bound_mono tokens (n + 1) (length tokens) (omega arith))
+
+  pub ends_past : (offset : ℕ) → offset < place + (get_or tokens n d).len → offset < first + bound tokens (n + 1)
+  ends_past offset past = omega (arith, ahead_is, past)
 
 module _ (first : ℕ) (tokens : List Token) (offset : ℕ) (at : Bound) (has : ContainsByte first tokens offset at) where
   -- the tokens before the one at the offset end there or before it, and it and those after it do not

@@ -1,4 +1,4 @@
-use Rattle.std.proofs.Common.{◌≡◌, ℕ, ap, ◌∙◌, subst, string_bytes}
+use Rattle.std.proofs.Common.{ℕ, ap, ◌∙◌, subst, string_bytes}
 use Rattle.rustc_lexer.specs.declared.relex.head.Head.{Head}
 use Rattle.rustc_lexer.specs.Document.{shebang_len}
 use Rattle.rustc_lexer.specs.Edits.{AreTouched}
