@@ -13,7 +13,7 @@ use Rattle.std.proofs.lemmas.Grind.{common_steps}
 use lib.Lanes.{chunk, mask_l}
 use Rattle.unicode_ident.proofs.Computing.{unicode_ident}
 use Rattle.rustc_lexer.specs.{Edition, TokenKind, Ident, Whitespace}
-use Rattle.rustc_lexer.specs.declared.lexemes.classified.TheConstants.{CLASSIFIED, SYMBOLS}
+use Rattle.rustc_lexer.specs.declared.lexemes.classified.TheConstants.{CLASSIFIED}
 use Rattle.rustc_lexer.specs.declared.lexemes.family.Family.{Family}
 use Rattle.rustc_lexer.specs.declared.lexemes.family.Family.TheVariants.{Slash, Space, Word, Number, Quote, Str, Emoji, Hash, Symbol}
 use Rattle.rustc_lexer.specs.means.Edition.{changed}
@@ -115,8 +115,8 @@ pub classified_table : (b : ℕ) (none : Option TokenKind) → b < 256 → get_o
 unfolding is_emoji unicode_ident
 classified_table b none small = get_or-map-range_with_len classified 0 256 b b none small (omega arith)
 
-pub symbols_table : (b : ℕ) (none : TokenKind) → b < 128 → get_or SYMBOLS.now b none ≡ symbol_kind b
-symbols_table b none small = get_or-map-range_with_len symbol_kind 0 128 b b none small (omega arith)
+pub symbol_classified : (b : ℕ) (none : Option TokenKind) → b < 128 → family_of b ≡ Symbol → get_or CLASSIFIED.now b none ≡ Some (symbol_kind b)
+symbol_classified b none small family = classified_table b none (omega arith) ∙ rw (lt-ltb b 128 small, family) refl
 
 is_word_family : Family → Bool
 is_word_family Word = true

@@ -10,11 +10,14 @@ use Rattle.rustc_lexer.specs.Classes.{IsText}
 use Rattle.rustc_lexer.specs.Edits.{IsBound, IsBoundFrom}
 use Rattle.rustc_lexer.specs.Locality.{IsGrammar}
 use Rattle.rustc_lexer.specs.Tokens.{bound, tokens_by}
-use Rattle.rustc_lexer.specs.means.Document.{AreKeptOf, head_by, tokens_of_head}
+use Rattle.rustc_lexer.specs.means.Document.{AreKeptOf, document_by, head_by, start_in, tokens_of_head}
+use Rattle.rustc_lexer.specs.means.Pieces.{AreBoundariesFrom}
 use Rattle.rustc_lexer.proofs.BoundLemmas.{bound-last, bound_mono}
 use Rattle.rustc_lexer.proofs.DocumentHead.{bound-append, front_of}
+use Rattle.rustc_lexer.proofs.DocumentPieces.{document_cuts}
 use Rattle.rustc_lexer.proofs.FrontLemmas.{bound-shift}
 use Rattle.rustc_lexer.proofs.HeadLemmas.{head-shebang}
+use Rattle.rustc_lexer.proofs.PieceLemmas.{cuts_whole}
 
 -- a head ends where its tokens do
 abbrev Ends : Head → Type 0
@@ -23,6 +26,11 @@ Ends head = head.body ≡ head.shebang_len + bound (tokens_of_head head) (length
 head_ends : (whole : Bool) (text : List ℕ) → Ends (head_by whole text)
 head_ends true text = (front_of text).ends ∙ ap (λ n. n + bound (tokens_of_head (head_by true text)) (length (tokens_of_head (head_by true text)))) (sym (head-shebang text))
 head_ends false text = refl
+
+-- the tokens begin where the shebang line ends
+pub start_is : (whole : Bool) (text : List ℕ) (head : Head) → head ≡ head_by whole text → head.shebang_len ≡ start_in whole text
+start_is true text head e = ap (λ (h : Head). h.shebang_len) e ∙ head-shebang text
+start_is false text head e = ap (λ (h : Head). h.shebang_len) e
 
 module _ {first : List ℕ → Token} (law : IsGrammar first) (whole : Bool) (text : List ℕ) (tokens : List Token) (head : Head) (checkpoints : Checkpoints) (are : AreKeptOf whole first text tokens head checkpoints) where
   abbrev fronts : List Token
@@ -63,3 +71,11 @@ module _ {first : List ℕ → Token} (law : IsGrammar first) (whole : Bool) (te
 
   pub place_fits : (k : ℕ) → k ≤ length tokens → head.shebang_len + bound tokens k < 2 ^ 32
   place_fits k few = let fits = are.0.fits in omega (arith, bound_mono tokens k (length tokens) few, end_is)
+
+  -- the tokens that are read are cut between characters
+  pub kept_cuts : (read : List ℕ) (slice : List Token) → read ≡ text → slice ≡ tokens → (length read < 2 ^ 32) × AreBoundariesFrom read head.shebang_len slice
+  kept_cuts read slice e f = rw (e, f) (are.0.fits, subst (λ n. AreBoundariesFrom text n tokens) (sym (start_is whole text head are.2)) (by_extent whole are.1))
+    where
+      by_extent : (w : Bool) → tokens ≡ document_by (head_by w) first text → AreBoundariesFrom text (start_in w text) tokens
+      by_extent true e = document_cuts law text tokens are.0 e
+      by_extent false e = cuts_whole law text tokens are.0 e

@@ -64,15 +64,13 @@ fn is_attribute(tail: &str) -> bool
 fn is_passed(kind: TokenKind) -> bool
     ensures { result ≡ spec.is_passed kind }
 {
-    matches!(
-        kind,
-        TokenKind::Whitespace
-            | TokenKind::LineComment { doc_style: None }
-            | TokenKind::BlockComment {
-                doc_style: None,
-                ..
-            }
-    )
+    match kind {
+        TokenKind::Whitespace => true,
+        TokenKind::LineComment { doc_style } | TokenKind::BlockComment { doc_style, .. } => {
+            doc_style.is_none()
+        }
+        _ => false,
+    }
 }
 
 /// Returns the length of the first line in bytes, without its end.

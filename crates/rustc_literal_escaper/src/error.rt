@@ -67,7 +67,7 @@ impl EscapeError {
     {
         !matches!(
             self,
-            EscapeError::UnskippedWhitespaceWarning | EscapeError::MultipleSkippedLinesWarning
+            EscapeError::MultipleSkippedLinesWarning | EscapeError::UnskippedWhitespaceWarning
         )
     }
 }

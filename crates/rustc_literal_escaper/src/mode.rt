@@ -39,9 +39,9 @@ impl Mode {
         ensures { result.now ≡ prefix_of self }
     {
         match self {
-            Mode::Char | Mode::Str | Mode::RawStr => "",
-            Mode::Byte | Mode::ByteStr | Mode::RawByteStr => "b",
             Mode::CStr | Mode::RawCStr => "c",
+            Mode::RawByteStr | Mode::ByteStr | Mode::Byte => "b",
+            Mode::RawStr | Mode::Str | Mode::Char => "",
         }
     }
 }

@@ -95,6 +95,11 @@ pub record IsRenewedBehind (first : List ℕ → Token) (body : List ℕ) (chang
 
 -- ---- a whole document or a part of one, in the words of each
 
+-- where the tokens begin
+abbrev pub start_in : Bool → List ℕ → ℕ
+start_in true = shebang_len
+start_in false = λ text. 0
+
 -- the counts of an edit
 abbrev pub IsRelexedIn : Bool → (List ℕ → Token) → List ℕ → ℕ → ℕ → List ℕ → Relexed → Type 0
 IsRelexedIn true = IsRelexedDocument

@@ -3,8 +3,7 @@ ghost use Rattle.std.specs.Prelude.{◌≡◌, ◌+◌, ◌-◌, ◌<◌, ◌≤
 ghost use Rattle.rustc_lexer.specs.Classes.{Fits};
 ghost use Rattle.rustc_lexer.specs.Document as spec;
 ghost use Rattle.rustc_lexer.specs.means.Document as means;
-ghost use Rattle.rustc_lexer.specs.Edits.{AreEdits, AreStepped, AreTouched, ContainsByte, IsEdit, IsStop, IsStopStepped, apply, apply_list, stop_at};
-ghost use Rattle.rustc_lexer.specs.Tokens.{bound};
+ghost use Rattle.rustc_lexer.specs.Edits.{AreEdits, AreStepped, AreTouched, ContainsByte, IsEdit, IsStop, IsStopStepped, apply, apply_list, pieces_from, stop_at};
 
 use crate::entry::stepper::Stepper;
 use crate::relex::edit::{Edit, accepts};
@@ -12,6 +11,7 @@ use crate::relex::edit_list::EditStop;
 use crate::relex::front::Bound;
 use crate::relex::head::Whole;
 use crate::relex::kept::Kept;
+use crate::relex::pieces::Pieces;
 use crate::relex::relexing::Relexed;
 use crate::token::Token;
 use std::alloc::{AllocError, Global};
@@ -119,16 +119,40 @@ impl<S: Stepper> LexedDocument<S> {
         self.kept.tokens.shrink_to_fit();
     }
 
-    /// Returns where the bound with this number is, in bytes from the start of the text.
-    pub(crate) fn place_of(&self, number: usize) -> u32
-        requires inside { number ≤ length self.now.tokens }
-        ensures { result ≡ spec.shebang_len self.now.text + bound self.now.tokens number }
+    /// Returns an iterator over the pieces of the text, one for each token, in order. The shebang line is not a
+    /// piece: the first piece begins where it ends.
+    pub fn pieces(&self) -> Pieces<'_>
+        ensures pieces { result
+            ≡ pieces_from self.now.text (spec.shebang_len self.now.text) self.now.tokens }
+        ensures number { length result ≡ length self.now.tokens }
     {
-        self.kept.place_of(number)
+        self.kept.pieces()
     }
 
-    /// Returns the token that contains the byte at `offset`: its number, and where it begins. `None` in the shebang line, and at and past the end of the text.
-    /// It reads few of the tokens.
+    /// Returns an iterator over the pieces of the tokens from number `from` up to number `to`, like those that an
+    /// edit lexed. It reads few of the tokens before them.
+    ///
+    /// An editor can paint what an edit changed like this:
+    ///
+    /// ```ignore
+    /// let counts = held.edit(start, stop, insert)?;
+    /// for piece in held.pieces_of(counts.kept_front, counts.kept_front + counts.lexed) {
+    ///     paint(piece.start, piece.token.kind, piece.text);
+    /// }
+    /// ```
+    pub fn pieces_of(&self, from: usize, to: usize) -> Pieces<'_>
+        requires from_le_to { from ≤ to }
+        requires to_inside { to ≤ length self.now.tokens }
+        ensures pieces { result
+            ≡ take (to - from)
+            (drop from (pieces_from self.now.text (spec.shebang_len self.now.text) self.now.tokens)) }
+        ensures number { length result ≡ to - from }
+    {
+        self.kept.pieces_of(from, to)
+    }
+
+    /// Returns the token that contains the byte at `offset`: its number, and where it begins. `None` in the shebang line,
+    /// and at and past the end of the text. It reads few of the tokens.
     pub fn token_at(&self, offset: usize) -> Option<Bound>
         ensures token { IfSome result (ContainsByte (spec.shebang_len self.now.text) self.now.tokens offset) }
         ensures some { IsSome result ↔ (spec.shebang_len self.now.text ≤ offset) × (offset < length self.now.text) }
@@ -137,10 +161,22 @@ impl<S: Stepper> LexedDocument<S> {
     }
 
     /// Returns the numbers of the tokens that contain a byte of the range: the first one, and the one past the last.
-    pub(crate) fn numbers_in(&self, start: usize, stop: usize) -> (usize, usize)
+    fn numbers_in(&self, start: usize, stop: usize) -> (usize, usize)
         ensures { AreTouched (spec.shebang_len self.now.text) self.now.tokens start stop result.0 result.1 }
     {
         self.kept.numbers_in(start, stop)
+    }
+
+    /// Returns an iterator over the pieces of the tokens that contain a byte of the range from `start` up to `stop`,
+    /// like those of the lines in view. The range may end anywhere, also past the text. An empty range has no piece.
+    pub fn pieces_in(&self, start: usize, stop: usize) -> Pieces<'_>
+        ensures { (from to : ℕ)
+            × AreTouched (spec.shebang_len self.now.text) self.now.tokens start stop from to
+            × (result
+            ≡ take (to - from) (drop from (pieces_from self.now.text (spec.shebang_len self.now.text) self.now.tokens))) }
+    {
+        let (from, to) = self.numbers_in(start, stop);
+        self.pieces_of(from, to)
     }
 
     /// Returns whether an edit can be made: whether its range is inside the text, between characters, and the new

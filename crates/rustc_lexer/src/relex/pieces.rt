@@ -1,13 +1,14 @@
 //! The pieces of a text that is kept with its tokens.
-ghost use Rattle.std.specs.Prelude.{◌≡◌, ◌-◌, ◌≤◌, IfSome, Some, ℕ, drop, length, take};
+ghost use Rattle.std.specs.Prelude.{◌≡◌, ◌-◌, ◌≤◌, IfSome, Some, drop, length, take};
 ghost use Rattle.std.specs.Iterator.{UpTo, at_most};
 ghost use Rattle.std.specs.Iterator.SizeHint.{IsWithinCount};
-ghost use Rattle.rustc_lexer.specs.Document.{shebang_len};
-ghost use Rattle.rustc_lexer.specs.Edits.{AreTouched, pieces_from, YieldsPiece};
+ghost use Rattle.std.specs.String.{string_bytes};
+ghost use Rattle.rustc_lexer.specs.Edits.{pieces_from, YieldsPiece};
+ghost use Rattle.rustc_lexer.specs.means.Document as means;
 
 use crate::entry::stepper::Stepper;
-use crate::relex::lexed_document::LexedDocument;
-use crate::relex::lexed_text::LexedText;
+use crate::relex::head::Extent;
+use crate::relex::kept::Kept;
 use crate::token::Token;
 use std::iter::{ExactSizeIterator, Iterator};
 use std::marker::Model;
@@ -88,100 +89,43 @@ impl<'a> ExactSizeIterator for Pieces<'a> {
     }
 }
 
-impl<S: Stepper> LexedText<S> {
+impl<S: Stepper, E: Extent> Kept<S, E> {
     /// Returns an iterator over the pieces of the text, one for each token, in order.
-    pub fn pieces(&self) -> Pieces<'_>
-        ensures pieces { result ≡ pieces_from self.now.text 0 self.now.tokens }
-        ensures number { length result ≡ length self.now.tokens }
-    {
-        Pieces {
-            text: self.text(),
-            start: 0,
-            tokens: self.tokens(),
-        }
-    }
-
-    /// Returns an iterator over the pieces of the tokens from number `from` up to number `to`, like those that an
-    /// edit lexed. It reads few of the tokens before them.
-    pub fn pieces_of(&self, from: usize, to: usize) -> Pieces<'_>
-        requires from_le_to { from ≤ to }
-        requires to_inside { to ≤ length self.now.tokens }
+    pub(crate) fn pieces(&self) -> Pieces<'_>
+        requires kept { means.AreKeptOf E.whole (S.grammar self.now.stepper) (string_bytes self.now.text)
+            self.now.tokens.items self.now.head self.now.checkpoints }
         ensures pieces { result
-            ≡ take (to - from) (drop from (pieces_from self.now.text 0 self.now.tokens)) }
-        ensures number { length result ≡ to - from }
+            ≡ pieces_from (string_bytes self.now.text)
+            (means.start_in E.whole (string_bytes self.now.text)) self.now.tokens.items }
+        ensures number { length result ≡ length self.now.tokens.items }
     {
+        let start = self.head.shebang_len as u32;
         Pieces {
-            text: self.text(),
-            start: self.place_of(from),
-            tokens: &self.tokens()[from..to],
+            text: self.text.as_str(),
+            start,
+            tokens: self.tokens.as_slice(),
         }
     }
 
-    /// Returns an iterator over the pieces of the tokens that contain a byte of the range from `start` up to `stop`,
-    /// like those of the lines in view. The range may end anywhere, also past the text. An empty range has no piece.
-    pub fn pieces_in(&self, start: usize, stop: usize) -> Pieces<'_>
-        ensures { (from to : ℕ)
-            × AreTouched 0 self.now.tokens start stop from to
-            × (result
-            ≡ take (to - from) (drop from (pieces_from self.now.text 0 self.now.tokens))) }
-    {
-        let (from, to) = self.numbers_in(start, stop);
-        self.pieces_of(from, to)
-    }
-}
-
-impl<S: Stepper> LexedDocument<S> {
-    /// Returns an iterator over the pieces of the text, one for each token, in order. The shebang line is not a
-    /// piece: the first piece begins where it ends.
-    pub fn pieces(&self) -> Pieces<'_>
-        ensures pieces { result
-            ≡ pieces_from self.now.text (shebang_len self.now.text) self.now.tokens }
-        ensures number { length result ≡ length self.now.tokens }
-    {
-        Pieces {
-            text: self.text(),
-            start: self.shebang_len() as u32,
-            tokens: self.tokens(),
-        }
-    }
-
-    /// Returns an iterator over the pieces of the tokens from number `from` up to number `to`, like those that an
-    /// edit lexed. It reads few of the tokens before them.
-    ///
-    /// An editor can paint what an edit changed like this:
-    ///
-    /// ```ignore
-    /// let counts = held.edit(start, stop, insert)?;
-    /// for piece in held.pieces_of(counts.kept_front, counts.kept_front + counts.lexed) {
-    ///     paint(piece.start, piece.token.kind, piece.text);
-    /// }
-    /// ```
-    pub fn pieces_of(&self, from: usize, to: usize) -> Pieces<'_>
+    /// Returns an iterator over the pieces of the tokens from number `from` up to number `to`. It reads few of the
+    /// tokens before them.
+    pub(crate) fn pieces_of(&self, from: usize, to: usize) -> Pieces<'_>
+        requires kept { means.AreKeptOf E.whole (S.grammar self.now.stepper) (string_bytes self.now.text)
+            self.now.tokens.items self.now.head self.now.checkpoints }
         requires from_le_to { from ≤ to }
-        requires to_inside { to ≤ length self.now.tokens }
+        requires to_inside { to ≤ length self.now.tokens.items }
         ensures pieces { result
             ≡ take (to - from)
-            (drop from (pieces_from self.now.text (shebang_len self.now.text) self.now.tokens)) }
+            (drop from (pieces_from (string_bytes self.now.text)
+            (means.start_in E.whole (string_bytes self.now.text)) self.now.tokens.items)) }
         ensures number { length result ≡ to - from }
     {
         let start = self.place_of(from);
-        let tokens = &self.tokens()[from..to];
+        let tokens = &self.tokens.as_slice()[from..to];
         Pieces {
-            text: self.text(),
+            text: self.text.as_str(),
             start,
             tokens,
         }
-    }
-
-    /// Returns an iterator over the pieces of the tokens that contain a byte of the range from `start` up to `stop`,
-    /// like those of the lines in view. The range may end anywhere, also past the text. An empty range has no piece.
-    pub fn pieces_in(&self, start: usize, stop: usize) -> Pieces<'_>
-        ensures { (from to : ℕ)
-            × AreTouched (shebang_len self.now.text) self.now.tokens start stop from to
-            × (result
-            ≡ take (to - from) (drop from (pieces_from self.now.text (shebang_len self.now.text) self.now.tokens))) }
-    {
-        let (from, to) = self.numbers_in(start, stop);
-        self.pieces_of(from, to)
     }
 }

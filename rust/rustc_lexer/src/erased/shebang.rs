@@ -40,15 +40,13 @@ fn is_attribute(tail: &str) -> bool {
 
 /// Returns whether a token of this kind may come between `#!` and the bracket of an attribute.
 fn is_passed(kind: TokenKind) -> bool {
-    matches!(
-        kind,
-        TokenKind::Whitespace
-            | TokenKind::LineComment { doc_style: None }
-            | TokenKind::BlockComment {
-                doc_style: None,
-                ..
-            }
-    )
+    match kind {
+        TokenKind::Whitespace => true,
+        TokenKind::LineComment { doc_style } | TokenKind::BlockComment { doc_style, .. } => {
+            doc_style.is_none()
+        }
+        _ => false,
+    }
 }
 
 /// Returns the length of the first line in bytes, without its end.

@@ -63,7 +63,7 @@ impl EscapeError {
     pub fn is_fatal(&self) -> bool {
         !matches!(
             self,
-            EscapeError::UnskippedWhitespaceWarning | EscapeError::MultipleSkippedLinesWarning
+            EscapeError::MultipleSkippedLinesWarning | EscapeError::UnskippedWhitespaceWarning
         )
     }
 }

@@ -32,9 +32,9 @@ impl Mode {
     /// Returns the prefix of such a literal, without the `r` of a raw one: `""`, `"b"` or `"c"`.
     pub fn prefix_noraw(self) -> &'static str {
         match self {
-            Mode::Char | Mode::Str | Mode::RawStr => "",
-            Mode::Byte | Mode::ByteStr | Mode::RawByteStr => "b",
             Mode::CStr | Mode::RawCStr => "c",
+            Mode::RawByteStr | Mode::ByteStr | Mode::Byte => "b",
+            Mode::RawStr | Mode::Str | Mode::Char => "",
         }
     }
 }

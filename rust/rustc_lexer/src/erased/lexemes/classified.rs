@@ -86,34 +86,21 @@ const CLASSIFIED: &[Option<TokenKind>; 256] = &[
     None, None, None, None, None, None, None, None, None, None, None, None, None, None,
 ];
 
-/// The kind of each character in ASCII by itself.
-const SYMBOLS: &[TokenKind; 128] = &[
-    Unknown, Unknown, Unknown, Unknown, Unknown, Unknown, Unknown, Unknown, Unknown, Unknown,
-    Unknown, Unknown, Unknown, Unknown, Unknown, Unknown, Unknown, Unknown, Unknown, Unknown,
-    Unknown, Unknown, Unknown, Unknown, Unknown, Unknown, Unknown, Unknown, Unknown, Unknown,
-    Unknown, Unknown, Unknown, Bang, Unknown, Unknown, Dollar, Percent, And, Unknown, OpenParen,
-    CloseParen, Star, Plus, Comma, Minus, Dot, Unknown, Unknown, Unknown, Unknown, Unknown,
-    Unknown, Unknown, Unknown, Unknown, Unknown, Unknown, Colon, Semi, Lt, Eq, Gt, Question, At,
-    Unknown, Unknown, Unknown, Unknown, Unknown, Unknown, Unknown, Unknown, Unknown, Unknown,
-    Unknown, Unknown, Unknown, Unknown, Unknown, Unknown, Unknown, Unknown, Unknown, Unknown,
-    Unknown, Unknown, Unknown, Unknown, Unknown, Unknown, OpenSquare, Unknown, ShutSquare, Caret,
-    Unknown, Unknown, Unknown, Unknown, Unknown, Unknown, Unknown, Unknown, Unknown, Unknown,
-    Unknown, Unknown, Unknown, Unknown, Unknown, Unknown, Unknown, Unknown, Unknown, Unknown,
-    Unknown, Unknown, Unknown, Unknown, Unknown, Unknown, Unknown, Unknown, OpenBrace, Or,
-    CloseBrace, Tilde, Unknown,
-];
-
 /// Returns the kind of the token that begins with the byte, if its run and the byte past the run determine all of it.
 #[inline(always)]
 pub(crate) fn classified_by(first: u8) -> Option<TokenKind> {
     CLASSIFIED[first as usize]
 }
 
-/// Returns the kind of a character by itself, which is `Unknown` unless it is a symbol.
+/// Returns the kind of a token of one character, which is `Unknown` unless it is a symbol.
 #[inline(always)]
 pub(crate) fn symbol_kind(c: char) -> TokenKind {
     let code = c as usize;
-    if code < 128 { SYMBOLS[code] } else { Unknown }
+    if code < 128 {
+        CLASSIFIED[code].unwrap_or(Unknown)
+    } else {
+        Unknown
+    }
 }
 
 /// Returns the known ends of runs past a place.

@@ -6,6 +6,7 @@ use crate::erased::relex::edit_list::EditStop;
 use crate::erased::relex::front::Bound;
 use crate::erased::relex::head::Whole;
 use crate::erased::relex::kept::Kept;
+use crate::erased::relex::pieces::Pieces;
 use crate::erased::relex::relexing::Relexed;
 use crate::erased::token::Token;
 use crate::support::{AllocError, Global};
@@ -69,9 +70,25 @@ impl<S: Stepper> LexedDocument<S> {
         self.kept.tokens.shrink_to_fit();
     }
 
-    /// Returns where the bound with this number is, in bytes from the start of the text.
-    pub(crate) fn place_of(&self, number: usize) -> u32 {
-        self.kept.place_of(number)
+    /// Returns an iterator over the pieces of the text, one for each token, in order. The shebang line is not a
+    /// piece: the first piece begins where it ends.
+    pub fn pieces(&self) -> Pieces<'_> {
+        self.kept.pieces()
+    }
+
+    /// Returns an iterator over the pieces of the tokens from number `from` up to number `to`, like those that an
+    /// edit lexed. It reads few of the tokens before them.
+    ///
+    /// An editor can paint what an edit changed like this:
+    ///
+    /// ```ignore
+    /// let counts = held.edit(start, stop, insert)?;
+    /// for piece in held.pieces_of(counts.kept_front, counts.kept_front + counts.lexed) {
+    ///     paint(piece.start, piece.token.kind, piece.text);
+    /// }
+    /// ```
+    pub fn pieces_of(&self, from: usize, to: usize) -> Pieces<'_> {
+        self.kept.pieces_of(from, to)
     }
 
     /// Returns the token that contains the byte at `offset`: its number, and where it begins. `None` in the shebang line, and at and past the end of the text.

@@ -7,6 +7,7 @@ use crate::erased::relex::edit_list::EditStop;
 use crate::erased::relex::front::Bound;
 use crate::erased::relex::head::Part;
 use crate::erased::relex::kept::Kept;
+use crate::erased::relex::pieces::Pieces;
 use crate::erased::relex::relexing::Relexed;
 use crate::erased::token::Token;
 use crate::support::{AllocError, Global};
@@ -49,9 +50,15 @@ impl<S: Stepper> LexedText<S> {
         self.kept.tokens.shrink_to_fit();
     }
 
-    /// Returns where the bound with this number is, in bytes from the start of the text.
-    pub(crate) fn place_of(&self, number: usize) -> u32 {
-        self.kept.place_of(number)
+    /// Returns an iterator over the pieces of the text, one for each token, in order.
+    pub fn pieces(&self) -> Pieces<'_> {
+        self.kept.pieces()
+    }
+
+    /// Returns an iterator over the pieces of the tokens from number `from` up to number `to`, like those that an
+    /// edit lexed. It reads few of the tokens before them.
+    pub fn pieces_of(&self, from: usize, to: usize) -> Pieces<'_> {
+        self.kept.pieces_of(from, to)
     }
 
     /// Returns the token that contains the byte at `offset`: its number, and where it begins. `None` at and past the end of the text.

@@ -1,8 +1,8 @@
 //! The pieces of a text that is kept with its tokens.
 
 use crate::erased::entry::stepper::Stepper;
-use crate::erased::relex::lexed_document::LexedDocument;
-use crate::erased::relex::lexed_text::LexedText;
+use crate::erased::relex::head::Extent;
+use crate::erased::relex::kept::Kept;
 use crate::erased::token::Token;
 use core::iter::{ExactSizeIterator, Iterator};
 
@@ -60,70 +60,26 @@ impl<'a> ExactSizeIterator for Pieces<'a> {
     }
 }
 
-impl<S: Stepper> LexedText<S> {
+impl<S: Stepper, E: Extent> Kept<S, E> {
     /// Returns an iterator over the pieces of the text, one for each token, in order.
-    pub fn pieces(&self) -> Pieces<'_> {
+    pub(crate) fn pieces(&self) -> Pieces<'_> {
+        let start = self.head.shebang_len as u32;
         Pieces {
-            text: self.text(),
-            start: 0,
-            tokens: self.tokens(),
+            text: self.text.as_str(),
+            start,
+            tokens: self.tokens.as_slice(),
         }
     }
 
-    /// Returns an iterator over the pieces of the tokens from number `from` up to number `to`, like those that an
-    /// edit lexed. It reads few of the tokens before them.
-    pub fn pieces_of(&self, from: usize, to: usize) -> Pieces<'_> {
-        Pieces {
-            text: self.text(),
-            start: self.place_of(from),
-            tokens: &self.tokens()[from..to],
-        }
-    }
-
-    /// Returns an iterator over the pieces of the tokens that contain a byte of the range from `start` up to `stop`,
-    /// like those of the lines in view. The range may end anywhere, also past the text. An empty range has no piece.
-    pub fn pieces_in(&self, start: usize, stop: usize) -> Pieces<'_> {
-        let (from, to) = self.numbers_in(start, stop);
-        self.pieces_of(from, to)
-    }
-}
-
-impl<S: Stepper> LexedDocument<S> {
-    /// Returns an iterator over the pieces of the text, one for each token, in order. The shebang line is not a
-    /// piece: the first piece begins where it ends.
-    pub fn pieces(&self) -> Pieces<'_> {
-        Pieces {
-            text: self.text(),
-            start: self.shebang_len() as u32,
-            tokens: self.tokens(),
-        }
-    }
-
-    /// Returns an iterator over the pieces of the tokens from number `from` up to number `to`, like those that an
-    /// edit lexed. It reads few of the tokens before them.
-    ///
-    /// An editor can paint what an edit changed like this:
-    ///
-    /// ```ignore
-    /// let counts = held.edit(start, stop, insert)?;
-    /// for piece in held.pieces_of(counts.kept_front, counts.kept_front + counts.lexed) {
-    ///     paint(piece.start, piece.token.kind, piece.text);
-    /// }
-    /// ```
-    pub fn pieces_of(&self, from: usize, to: usize) -> Pieces<'_> {
+    /// Returns an iterator over the pieces of the tokens from number `from` up to number `to`. It reads few of the
+    /// tokens before them.
+    pub(crate) fn pieces_of(&self, from: usize, to: usize) -> Pieces<'_> {
         let start = self.place_of(from);
-        let tokens = &self.tokens()[from..to];
+        let tokens = &self.tokens.as_slice()[from..to];
         Pieces {
-            text: self.text(),
+            text: self.text.as_str(),
             start,
             tokens,
         }
-    }
-
-    /// Returns an iterator over the pieces of the tokens that contain a byte of the range from `start` up to `stop`,
-    /// like those of the lines in view. The range may end anywhere, also past the text. An empty range has no piece.
-    pub fn pieces_in(&self, start: usize, stop: usize) -> Pieces<'_> {
-        let (from, to) = self.numbers_in(start, stop);
-        self.pieces_of(from, to)
     }
 }
