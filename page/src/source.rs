@@ -134,14 +134,14 @@ impl Source {
 
     /// The number and the start of the first token that ends past the byte.
     pub fn token_at(&self, edition: usize, byte: usize) -> (usize, usize) {
-        let mut start = self.begin();
-        for (number, token) in self.tokens(edition).iter().enumerate() {
-            if start + token.len as usize > byte {
-                return (number, start);
-            }
-            start += token.len as usize;
-        }
-        (self.tokens(edition).len(), start)
+        let byte = byte.max(self.begin());
+        let found = match &self.held {
+            Held::Part(texts) => texts[edition].token_at(byte),
+            Held::Document(texts) => texts[edition].token_at(byte),
+        };
+        found.map_or((self.tokens(edition).len(), self.text().len()), |at| {
+            (at.number, at.place)
+        })
     }
 
     /// Whether no shebang line and no frontmatter can stand where the token of this number begins, so that what is from

@@ -122,6 +122,10 @@ fn pieces_of_a_document(rt: HostRuntime) -> Result<(), AllocError> {
     assert!(rt; has_pieces(&held, 1, 3, &[(4, "---\nb\n---"), (13, "\n")]));
     assert!(rt; has_pieces(&held, 3, 4, &[(14, "fn")]));
     assert!(rt; has_pieces(&held, 4, 4, &[]));
+    assert!(rt; are_pieces(held.pieces_in(0, 5), &[(3, "\n"), (4, "---\nb\n---")]));
+    assert!(rt; are_pieces(held.pieces_in(14, 99), &[(14, "fn")]));
+    assert!(rt; held.token_at(2).is_none());
+    assert!(rt; held.token_at(3).is_some());
     Ok(())
 }
 

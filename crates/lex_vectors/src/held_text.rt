@@ -35,6 +35,29 @@ fn pieces_of_a_text(rt: HostRuntime) -> Result<(), AllocError> {
     Ok(())
 }
 
+/// Returns whether the token at the offset has this number and this start.
+fn is_at<S: Stepper>(lexed: &LexedText<S>, offset: usize, number: usize, place: usize) -> bool {
+    match lexed.token_at(offset) {
+        Some(at) => at.number == number && at.place == place,
+        None => false,
+    }
+}
+
+#[test]
+fn tokens_at_offsets(rt: HostRuntime) -> Result<(), AllocError> {
+    let lexed = LexedText::new(rt.alloc(), "a 😀 é")?;
+    assert!(rt; is_at(&lexed, 0, 0, 0));
+    assert!(rt; is_at(&lexed, 1, 1, 1));
+    assert!(rt; is_at(&lexed, 5, 2, 2));
+    assert!(rt; is_at(&lexed, 6, 3, 6));
+    assert!(rt; is_at(&lexed, 8, 4, 7));
+    assert!(rt; lexed.token_at(9).is_none());
+    assert!(rt; are_pieces(lexed.pieces_in(1, 3), &[(1, " "), (2, "😀")]));
+    assert!(rt; are_pieces(lexed.pieces_in(6, 99), &[(6, " "), (7, "é")]));
+    assert!(rt; are_pieces(lexed.pieces_in(2, 2), &[]));
+    Ok(())
+}
+
 /// Returns whether there are tokens from number `from` up to `to`, and these are their pieces.
 fn has_pieces<S: Stepper>(
     lexed: &LexedText<S>,

@@ -7,7 +7,7 @@ use Rattle.rustc_lexer.specs.declared.relex.front.Bound.{Bound}
 use Rattle.rustc_lexer.specs.declared.relex.head.Head.{Head}
 use Rattle.rustc_lexer.specs.{Token}
 use Rattle.rustc_lexer.specs.Classes.{IsText}
-use Rattle.rustc_lexer.specs.Edits.{IsBound}
+use Rattle.rustc_lexer.specs.Edits.{IsBound, IsBoundFrom}
 use Rattle.rustc_lexer.specs.Locality.{IsGrammar}
 use Rattle.rustc_lexer.specs.Tokens.{bound, tokens_by}
 use Rattle.rustc_lexer.specs.means.Document.{AreKeptOf, document_by, head_by, start_in, tokens_of_head}
@@ -52,15 +52,25 @@ module _ {first : List ℕ → Token} (law : IsGrammar first) (whole : Bool) (te
   pub near_at : (near : Bound) (n : ℕ) → n ≡ length fronts → IsBound (drop (length fronts) tokens) near → head.body + near.place ≡ head.shebang_len + bound tokens (n + near.number)
   near_at near n e at = omega (arith, at.1, body_at near.number, ap (λ m. bound tokens (m + near.number)) e)
 
-  pub place_fits : (k : ℕ) → k ≤ length tokens → head.shebang_len + bound tokens k < 2 ^ 32
-  place_fits k few =
+  -- the same, with its offset in the text
+  pub near_from : (near : Bound) (n : ℕ) → n ≡ length fronts → IsBound (drop (length fronts) tokens) near → IsBoundFrom head.shebang_len tokens (record { number = n + near.number; place = head.body + near.place })
+  near_from near n e at =
+      let all : length tokens ≡ length fronts + length (tokens_by first body) = ap length all_are ∙ length-append fronts (tokens_by first body) in
+      (omega (arith, at.0, e, all, length-drop (length fronts) tokens), near_at near n e at)
+
+  -- the last bound is the text's end
+  pub end_is : head.shebang_len + bound tokens (length tokens) ≡ length text
+  end_is =
       let n : ℕ = length (tokens_by first body) in
       let fits = are.0.fits in
       let is : IsText body = record { utf8 = IsUtf8-drop text head.body are.0.utf8 are.3; fits = omega (arith, length-drop head.body text) } in
       let behind : drop (length fronts) tokens ≡ tokens_by first body = ap (drop (length fronts)) all_are ∙ drop-append_seam fronts (tokens_by first body) in
       let last : bound (drop (length fronts) tokens) n ≡ length body = ap (λ ts. bound ts n) behind ∙ bound-last law body is in
-      let most : bound tokens k ≤ bound tokens (length fronts + n) = bound_mono tokens k (length fronts + n) (omega (arith, ap length all_are, length-append fronts (tokens_by first body))) in
-      omega (arith, most, body_at n, last, length-drop head.body text, are.3.0)
+      let all : length tokens ≡ length fronts + n = ap length all_are ∙ length-append fronts (tokens_by first body) in
+      omega (arith, ap (bound tokens) all, body_at n, last, length-drop head.body text, are.3.0)
+
+  pub place_fits : (k : ℕ) → k ≤ length tokens → head.shebang_len + bound tokens k < 2 ^ 32
+  place_fits k few = let fits = are.0.fits in omega (arith, bound_mono tokens k (length tokens) few, end_is)
 
   -- the tokens that are read are cut between characters
   pub kept_cuts : (read : List ℕ) (slice : List Token) → read ≡ text → slice ≡ tokens → (length read < 2 ^ 32) × AreBoundariesFrom read head.shebang_len slice

@@ -40,6 +40,7 @@ pub mod LineLemmas
 pub mod LiteralLemmas
 pub mod MeetingLemmas
 pub mod NumberLemmas
+pub mod OffsetLemmas
 pub mod PartEdits
 pub mod PartLemmas
 pub mod PieceLemmas

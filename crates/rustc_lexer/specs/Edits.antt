@@ -1,5 +1,5 @@
 -- What edits make of a text, which of its tokens they keep, and a text that is kept with its tokens.
-use Rattle.std.specs.Prelude.{ℕ, ◌+◌, ◌-◌, ◌<◌, ◌≤◌, ◌^◌, List, [], ◌∷◌, ◌++◌, length, take, drop, IsCharBoundary, ◌≡◌, slice_get, IfSome, Option, Some, None, codes, decimal, count_by}
+use Rattle.std.specs.Prelude.{ℕ, ◌+◌, ◌-◌, ◌<◌, ◌≤◌, ◌^◌, List, [], ◌∷◌, ◌++◌, length, take, drop, IsCharBoundary, ◌≡◌, ◌↔◌, slice_get, IfSome, Option, Some, None, codes, decimal, count_by}
 use Rattle.rustc_lexer.specs.declared.relex.{edit.Edit.Edit, edit_list.EditStop.EditStop, front.Bound.Bound, pieces.Piece.Piece, relexing.Relexed.Relexed, relexing.Relexing.Relexing}
 use Rattle.rustc_lexer.specs.declared.relex.edit_list.EditStop.TheVariants.{Range, TooLong, Memory}
 use Rattle.rustc_lexer.specs.{Token}
@@ -136,6 +136,27 @@ abbrev pub YieldsPiece : List Placed → Option Piece → List Placed → Type 0
 YieldsPiece s None t = (s ≡ []) × (t ≡ s)
 YieldsPiece s (Some piece) t =
     (s ≡ placed piece ∷ t) × (length piece.text.now ≡ piece.token.len) × (piece.start + piece.token.len < 2 ^ 32)
+
+-- ---- from an offset to a token
+
+-- a boundary of the tokens, by its number and its offset, if the first of them begins at `first`
+abbrev pub IsBoundFrom : ℕ → List Token → Bound → Type 0
+IsBoundFrom first tokens at = (at.number ≤ length tokens) × (at.place ≡ first + bound tokens at.number)
+
+-- the token with this number and this start contains the byte at `offset`, if the first token begins at `first`
+pub record ContainsByte (first : ℕ) (tokens : List Token) (offset : ℕ) (at : Bound) : Type 0 where
+  pub number : at.number < length tokens
+  pub place : at.place ≡ first + bound tokens at.number
+  pub begins : at.place ≤ offset
+  pub ends : offset < first + bound tokens (at.number + 1)
+
+-- the tokens from number `from` up to number `to` are those that contain a byte of the range from `start` up to `stop`:
+-- that begin before its end, and end past its start. An empty range has no byte
+pub record AreTouched (first : ℕ) (tokens : List Token) (start stop from to : ℕ) : Type 0 where
+  pub order : from ≤ to
+  pub inside : to ≤ length tokens
+  pub touched : (k : ℕ) → k < length tokens
+      → ((from ≤ k) × (k < to)) ↔ ((start < stop) × (first + bound tokens k < stop) × (start < first + bound tokens (k + 1)))
 
 -- ---- how far a text is lexed again
 

@@ -64,6 +64,37 @@ macro_rules! kept_calls {
         }
 
         impl<S: Stepper> $Kept<S> {
+            /// Returns the token that contains the byte at `offset`: its number, and where it begins. `None` at and past the
+            /// end of the text, and in a shebang line, which is no token.
+            ///
+            /// It reads few of the tokens, most of all near the last edit.
+            ///
+            /// ```
+            #[doc = concat!("use rustc_lexer::{Bound, ", stringify!($Kept), "};")]
+            ///
+            #[doc = concat!("let lexed = ", stringify!($Kept), "::new(\"let abc;\");")]
+            /// assert_eq!(lexed.token_at(6), Some(Bound { number: 2, place: 4 }));
+            /// assert_eq!(lexed.token_at(8), None);
+            /// ```
+            #[must_use]
+            pub fn token_at(&self, offset: usize) -> Option<Bound> {
+                self.0.token_at(offset)
+            }
+
+            /// Returns the pieces of the tokens that contain a byte of the range, like those of the lines in view. The
+            /// range may end anywhere, also past the text. An empty range has no piece.
+            ///
+            /// ```
+            #[doc = concat!("use rustc_lexer::", stringify!($Kept), ";")]
+            ///
+            #[doc = concat!("let lexed = ", stringify!($Kept), "::new(\"let abc = 1;\");")]
+            /// let seen: Vec<&str> = lexed.pieces_in(5..9).map(|piece| piece.text).collect();
+            /// assert_eq!(seen, ["abc", " ", "="]);
+            /// ```
+            pub fn pieces_in(&self, range: Range<usize>) -> Pieces<'_> {
+                self.0.pieces_in(range.start, range.end)
+            }
+
             /// Returns whether the range is in bounds and on char boundaries, and the new text has at most `u32::MAX`
             /// bytes.
             ///

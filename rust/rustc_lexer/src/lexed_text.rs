@@ -4,7 +4,7 @@ use crate::edit_error::{EditError, check_accepted, try_fitting};
 use crate::erased::{self, Edit, EditStop};
 use crate::kept_calls::kept_calls;
 use crate::support::{AllocError, Global};
-use crate::{Edition, Pieces, Relexed, Stepper, Steps, Token};
+use crate::{Bound, Edition, Pieces, Relexed, Stepper, Steps, Token};
 use core::fmt;
 use core::iter::FusedIterator;
 use core::ops::Range;

@@ -1,12 +1,12 @@
 //! A text with its tokens, kept while it is edited: what a whole document and a part of one have in common.
-ghost use Rattle.std.specs.Prelude.{◌≡◌, ◌+◌, ◌-◌, ◌^◌, ◌<◌, ◌≤◌, ◌++◌, IfOk, OnOk, OnErr, ℕ, drop, length, take};
+ghost use Rattle.std.specs.Prelude.{◌≡◌, ◌+◌, ◌-◌, ◌^◌, ◌<◌, ◌≤◌, ◌++◌, IfOk, IfSome, IsNone, OnOk, OnErr, ℕ, drop, length, take};
 ghost use Rattle.std.specs.Str.{IsCharBoundary};
 ghost use Rattle.std.specs.String.{string_bytes, string_capacity, string_len};
 ghost use Rattle.rustc_lexer.specs.declared.relex.relexing.Relexed.{Relexed};
 ghost use Rattle.rustc_lexer.specs.Classes.{Fits};
 ghost use Rattle.rustc_lexer.specs.means.Document as means;
 ghost use Rattle.rustc_lexer.specs.Tokens.{bound, tokens_by};
-ghost use Rattle.rustc_lexer.specs.Edits.{IsEdit, apply};
+ghost use Rattle.rustc_lexer.specs.Edits.{AreTouched, ContainsByte, IsBoundFrom, IsEdit, apply};
 ghost use Rattle.rustc_lexer.specs.means.Checkpoints.{AreBounds};
 
 use crate::entry::stepper::Stepper;
@@ -263,6 +263,89 @@ impl<S: Stepper, E: Extent> Kept<S, E> {
         let start = near.place as u32;
         end_from(start, &self.tokens.as_slice()[near.number..number])
     }
+
+    /// Returns a boundary near the offset that is known without a search: the nearest remembered one, or the first one
+    /// for an offset in the head.
+    fn bound_near(&self, offset: usize) -> Bound
+        requires kept { means.AreKeptOf E.whole (S.grammar self.now.stepper) (string_bytes self.now.text)
+            self.now.tokens.items self.now.head self.now.checkpoints }
+        ensures { IsBoundFrom self.now.head.shebang_len self.now.tokens.items result }
+    {
+        if offset < self.head.body {
+            return Bound {
+                number: 0,
+                place: self.head.shebang_len,
+            };
+        }
+        let near = self.checkpoints.nearest(offset - self.head.body);
+        Bound {
+            number: self.head.count() + near.number,
+            place: self.head.body + near.place,
+        }
+    }
+
+    /// Returns the token that contains the byte at `offset`, by its number and its start.
+    pub(crate) fn token_at(&self, offset: usize) -> Option<Bound>
+        requires kept { means.AreKeptOf E.whole (S.grammar self.now.stepper) (string_bytes self.now.text)
+            self.now.tokens.items self.now.head self.now.checkpoints }
+        ensures token { IfSome result
+            (ContainsByte self.now.head.shebang_len self.now.tokens.items offset) }
+        ensures none { IsNone result → self.now.head.shebang_len ≤ offset
+            → length (string_bytes self.now.text) ≤ offset }
+    {
+        let near = self.bound_near(offset);
+        token_around(self.tokens.as_slice(), self.head.shebang_len, near, offset)
+    }
+
+    /// Returns how many tokens end at or before the offset.
+    fn ended_at(&self, offset: usize) -> usize
+        requires kept { means.AreKeptOf E.whole (S.grammar self.now.stepper) (string_bytes self.now.text)
+            self.now.tokens.items self.now.head self.now.checkpoints }
+        ensures inside { result ≤ length self.now.tokens.items }
+        ensures ended { (k : ℕ) → k < result
+            → self.now.head.shebang_len + bound self.now.tokens.items (k + 1) ≤ offset }
+        ensures others { (k : ℕ) → result ≤ k → k < length self.now.tokens.items
+            → offset < self.now.head.shebang_len + bound self.now.tokens.items (k + 1) }
+    {
+        if offset < self.head.shebang_len {
+            return 0;
+        }
+        match self.token_at(offset) {
+            Some(at) => at.number,
+            None => self.tokens.len(),
+        }
+    }
+
+    /// Returns how many tokens begin before the offset.
+    fn begun_before(&self, offset: usize) -> usize
+        requires kept { means.AreKeptOf E.whole (S.grammar self.now.stepper) (string_bytes self.now.text)
+            self.now.tokens.items self.now.head self.now.checkpoints }
+        ensures inside { result ≤ length self.now.tokens.items }
+        ensures begun { (k : ℕ) → k < result
+            → self.now.head.shebang_len + bound self.now.tokens.items k < offset }
+        ensures others { (k : ℕ) → result ≤ k → k < length self.now.tokens.items
+            → offset ≤ self.now.head.shebang_len + bound self.now.tokens.items k }
+    {
+        if offset <= self.head.shebang_len {
+            return 0;
+        }
+        match self.token_at(offset - 1) {
+            Some(at) => at.number + 1,
+            None => self.tokens.len(),
+        }
+    }
+
+    /// Returns the numbers of the tokens that contain a byte of the range: the first one, and the one past the last.
+    pub(crate) fn numbers_in(&self, start: usize, stop: usize) -> (usize, usize)
+        requires kept { means.AreKeptOf E.whole (S.grammar self.now.stepper) (string_bytes self.now.text)
+            self.now.tokens.items self.now.head self.now.checkpoints }
+        ensures { AreTouched self.now.head.shebang_len self.now.tokens.items start stop result.0 result.1 }
+    {
+        if start >= stop {
+            return (0, 0);
+        }
+        (self.ended_at(start), self.begun_before(stop))
+    }
 }
 
 /// Lexes the tokens of a text: those of its head, which is known, and those of its body with the stepper.
@@ -301,4 +384,38 @@ pub(crate) fn end_from(start: u32, tokens: &[Token]) -> u32
         end += token.len;
     }
     end
+}
+
+/// Returns the token that contains the byte at `offset`, by its number and its start. The first token begins at `first`,
+/// and the search at `near`.
+fn token_around(tokens: &[Token], first: usize, near: Bound, offset: usize) -> Option<Bound>
+    requires near { IsBoundFrom first tokens.now near }
+    requires fits { first + bound tokens.now (length tokens.now) < 2 ^ 32 }
+    ensures token { IfSome result (ContainsByte first tokens.now offset) }
+    ensures none { IsNone result → first ≤ offset
+        → first + bound tokens.now (length tokens.now) ≤ offset }
+{
+    if offset < first {
+        return None;
+    }
+    let mut back = near;
+    while offset < back.place {
+        let number = back.number - 1;
+        back = Bound {
+            number,
+            place: back.place - tokens[number].len as usize,
+        };
+    }
+    let mut at = back;
+    while at.number < tokens.len() {
+        let end = at.place + tokens[at.number].len as usize;
+        if offset < end {
+            return Some(at);
+        }
+        at = Bound {
+            number: at.number + 1,
+            place: end,
+        };
+    }
+    None
 }

@@ -1,13 +1,14 @@
 //! A whole document that is kept with its tokens.
-ghost use Rattle.std.specs.Prelude.{◌≡◌, ◌+◌, ◌-◌, ◌<◌, ◌≤◌, ◌↔◌, IfOk, IfErr, OnOk, OnErr, IsTrue, ℕ, drop, length, take};
+ghost use Rattle.std.specs.Prelude.{◌≡◌, ◌+◌, ◌-◌, ◌<◌, ◌≤◌, ◌↔◌, IfOk, IfErr, IfSome, IsSome, OnOk, OnErr, IsTrue, ℕ, drop, length, take};
 ghost use Rattle.rustc_lexer.specs.Classes.{Fits};
 ghost use Rattle.rustc_lexer.specs.Document as spec;
 ghost use Rattle.rustc_lexer.specs.means.Document as means;
-ghost use Rattle.rustc_lexer.specs.Edits.{AreEdits, AreStepped, IsEdit, IsStop, IsStopStepped, apply, apply_list, pieces_from, stop_at};
+ghost use Rattle.rustc_lexer.specs.Edits.{AreEdits, AreStepped, AreTouched, ContainsByte, IsEdit, IsStop, IsStopStepped, apply, apply_list, pieces_from, stop_at};
 
 use crate::entry::stepper::Stepper;
 use crate::relex::edit::{Edit, accepts};
 use crate::relex::edit_list::EditStop;
+use crate::relex::front::Bound;
 use crate::relex::head::Whole;
 use crate::relex::kept::Kept;
 use crate::relex::pieces::Pieces;
@@ -148,6 +149,34 @@ impl<S: Stepper> LexedDocument<S> {
         ensures number { length result ≡ to - from }
     {
         self.kept.pieces_of(from, to)
+    }
+
+    /// Returns the token that contains the byte at `offset`: its number, and where it begins. `None` in the shebang line,
+    /// and at and past the end of the text. It reads few of the tokens.
+    pub fn token_at(&self, offset: usize) -> Option<Bound>
+        ensures token { IfSome result (ContainsByte (spec.shebang_len self.now.text) self.now.tokens offset) }
+        ensures some { IsSome result ↔ (spec.shebang_len self.now.text ≤ offset) × (offset < length self.now.text) }
+    {
+        self.kept.token_at(offset)
+    }
+
+    /// Returns the numbers of the tokens that contain a byte of the range: the first one, and the one past the last.
+    fn numbers_in(&self, start: usize, stop: usize) -> (usize, usize)
+        ensures { AreTouched (spec.shebang_len self.now.text) self.now.tokens start stop result.0 result.1 }
+    {
+        self.kept.numbers_in(start, stop)
+    }
+
+    /// Returns an iterator over the pieces of the tokens that contain a byte of the range from `start` up to `stop`,
+    /// like those of the lines in view. The range may end anywhere, also past the text. An empty range has no piece.
+    pub fn pieces_in(&self, start: usize, stop: usize) -> Pieces<'_>
+        ensures { (from to : ℕ)
+            × AreTouched (spec.shebang_len self.now.text) self.now.tokens start stop from to
+            × (result
+            ≡ take (to - from) (drop from (pieces_from self.now.text (spec.shebang_len self.now.text) self.now.tokens))) }
+    {
+        let (from, to) = self.numbers_in(start, stop);
+        self.pieces_of(from, to)
     }
 
     /// Returns whether an edit can be made: whether its range is inside the text, between characters, and the new

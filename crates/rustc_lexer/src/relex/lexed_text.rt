@@ -1,9 +1,9 @@
 //! A text that is kept with its tokens.
-ghost use Rattle.std.specs.Prelude.{◌≡◌, ◌+◌, ◌-◌, ◌<◌, ◌≤◌, ◌↔◌, IfOk, IfErr, OnOk, OnErr, IsTrue, ℕ, drop, length, take};
+ghost use Rattle.std.specs.Prelude.{◌≡◌, ◌+◌, ◌-◌, ◌<◌, ◌≤◌, ◌↔◌, IfOk, IfErr, IfSome, IsSome, OnOk, OnErr, IsTrue, ℕ, drop, length, take};
 ghost use Rattle.rustc_lexer.specs.{E2024};
 ghost use Rattle.rustc_lexer.specs.Classes.{Fits};
 ghost use Rattle.rustc_lexer.specs.Tokens.{tokens_by, tokens_of};
-ghost use Rattle.rustc_lexer.specs.Edits.{AreEdits, AreStepped, IsEdit, IsRelexed, IsStepped, IsStop, IsStopStepped, apply, apply_list, pieces_from, stop_at};
+ghost use Rattle.rustc_lexer.specs.Edits.{AreEdits, AreStepped, AreTouched, ContainsByte, IsEdit, IsRelexed, IsStepped, IsStop, IsStopStepped, apply, apply_list, pieces_from, stop_at};
 ghost use Rattle.rustc_lexer.specs.LanguageText.{part};
 ghost use Rattle.rustc_lexer.specs.Answers.{first_in};
 
@@ -11,6 +11,7 @@ use crate::edition::Edition;
 use crate::entry::stepper::{Stepper, Steps};
 use crate::relex::edit::{Edit, accepts};
 use crate::relex::edit_list::EditStop;
+use crate::relex::front::Bound;
 use crate::relex::head::Part;
 use crate::relex::kept::Kept;
 use crate::relex::pieces::Pieces;
@@ -111,6 +112,34 @@ impl<S: Stepper> LexedText<S> {
         ensures number { length result ≡ to - from }
     {
         self.kept.pieces_of(from, to)
+    }
+
+    /// Returns the token that contains the byte at `offset`: its number, and where it begins. `None` at and past the
+    /// end of the text. It reads few of the tokens.
+    pub fn token_at(&self, offset: usize) -> Option<Bound>
+        ensures token { IfSome result (ContainsByte 0 self.now.tokens offset) }
+        ensures some { IsSome result ↔ offset < length self.now.text }
+    {
+        self.kept.token_at(offset)
+    }
+
+    /// Returns the numbers of the tokens that contain a byte of the range: the first one, and the one past the last.
+    fn numbers_in(&self, start: usize, stop: usize) -> (usize, usize)
+        ensures { AreTouched 0 self.now.tokens start stop result.0 result.1 }
+    {
+        self.kept.numbers_in(start, stop)
+    }
+
+    /// Returns an iterator over the pieces of the tokens that contain a byte of the range from `start` up to `stop`,
+    /// like those of the lines in view. The range may end anywhere, also past the text. An empty range has no piece.
+    pub fn pieces_in(&self, start: usize, stop: usize) -> Pieces<'_>
+        ensures { (from to : ℕ)
+            × AreTouched 0 self.now.tokens start stop from to
+            × (result
+            ≡ take (to - from) (drop from (pieces_from self.now.text 0 self.now.tokens))) }
+    {
+        let (from, to) = self.numbers_in(start, stop);
+        self.pieces_of(from, to)
     }
 
     /// Returns whether an edit can be made: whether its range is inside the text, between characters, and the new

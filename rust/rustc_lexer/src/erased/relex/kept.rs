@@ -134,6 +134,58 @@ impl<S: Stepper, E: Extent> Kept<S, E> {
         let start = near.place as u32;
         end_from(start, &self.tokens.as_slice()[near.number..number])
     }
+
+    /// Returns a boundary near the offset that is known without a search: the nearest remembered one, or the first one
+    /// for an offset in the head.
+    fn bound_near(&self, offset: usize) -> Bound {
+        if offset < self.head.body {
+            return Bound {
+                number: 0,
+                place: self.head.shebang_len,
+            };
+        }
+        let near = self.checkpoints.nearest(offset - self.head.body);
+        Bound {
+            number: self.head.count() + near.number,
+            place: self.head.body + near.place,
+        }
+    }
+
+    /// Returns the token that contains the byte at `offset`, by its number and its start.
+    pub(crate) fn token_at(&self, offset: usize) -> Option<Bound> {
+        let near = self.bound_near(offset);
+        token_around(self.tokens.as_slice(), self.head.shebang_len, near, offset)
+    }
+
+    /// Returns how many tokens end at or before the offset.
+    fn ended_at(&self, offset: usize) -> usize {
+        if offset < self.head.shebang_len {
+            return 0;
+        }
+        match self.token_at(offset) {
+            Some(at) => at.number,
+            None => self.tokens.len(),
+        }
+    }
+
+    /// Returns how many tokens begin before the offset.
+    fn begun_before(&self, offset: usize) -> usize {
+        if offset <= self.head.shebang_len {
+            return 0;
+        }
+        match self.token_at(offset - 1) {
+            Some(at) => at.number + 1,
+            None => self.tokens.len(),
+        }
+    }
+
+    /// Returns the numbers of the tokens that contain a byte of the range: the first one, and the one past the last.
+    pub(crate) fn numbers_in(&self, start: usize, stop: usize) -> (usize, usize) {
+        if start >= stop {
+            return (0, 0);
+        }
+        (self.ended_at(start), self.begun_before(stop))
+    }
 }
 
 /// Lexes the tokens of a text: those of its head, which is known, and those of its body with the stepper.
@@ -156,4 +208,32 @@ pub(crate) fn end_from(start: u32, tokens: &[Token]) -> u32 {
         end += token.len;
     }
     end
+}
+
+/// Returns the token that contains the byte at `offset`, by its number and its start. The first token begins at `first`,
+/// and the search at `near`.
+fn token_around(tokens: &[Token], first: usize, near: Bound, offset: usize) -> Option<Bound> {
+    if offset < first {
+        return None;
+    }
+    let mut back = near;
+    while offset < back.place {
+        let number = back.number - 1;
+        back = Bound {
+            number,
+            place: back.place - tokens[number].len as usize,
+        };
+    }
+    let mut at = back;
+    while at.number < tokens.len() {
+        let end = at.place + tokens[at.number].len as usize;
+        if offset < end {
+            return Some(at);
+        }
+        at = Bound {
+            number: at.number + 1,
+            place: end,
+        };
+    }
+    None
 }

@@ -4,6 +4,7 @@ use crate::erased::edition::Edition;
 use crate::erased::entry::stepper::{Stepper, Steps};
 use crate::erased::relex::edit::{Edit, accepts};
 use crate::erased::relex::edit_list::EditStop;
+use crate::erased::relex::front::Bound;
 use crate::erased::relex::head::Part;
 use crate::erased::relex::kept::Kept;
 use crate::erased::relex::pieces::Pieces;
@@ -58,6 +59,24 @@ impl<S: Stepper> LexedText<S> {
     /// edit lexed. It reads few of the tokens before them.
     pub fn pieces_of(&self, from: usize, to: usize) -> Pieces<'_> {
         self.kept.pieces_of(from, to)
+    }
+
+    /// Returns the token that contains the byte at `offset`: its number, and where it begins. `None` at and past the
+    /// end of the text. It reads few of the tokens.
+    pub fn token_at(&self, offset: usize) -> Option<Bound> {
+        self.kept.token_at(offset)
+    }
+
+    /// Returns the numbers of the tokens that contain a byte of the range: the first one, and the one past the last.
+    fn numbers_in(&self, start: usize, stop: usize) -> (usize, usize) {
+        self.kept.numbers_in(start, stop)
+    }
+
+    /// Returns an iterator over the pieces of the tokens that contain a byte of the range from `start` up to `stop`,
+    /// like those of the lines in view. The range may end anywhere, also past the text. An empty range has no piece.
+    pub fn pieces_in(&self, start: usize, stop: usize) -> Pieces<'_> {
+        let (from, to) = self.numbers_in(start, stop);
+        self.pieces_of(from, to)
     }
 
     /// Returns whether an edit can be made: whether its range is inside the text, between characters, and the new

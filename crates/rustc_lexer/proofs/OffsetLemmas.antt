@@ -1,0 +1,77 @@
+-- From an offset to a token: steps from a bound, and which tokens contain a byte of a range.
+use Rattle.std.proofs.Common.{◌≡◌, ℕ, zero, suc, ◌+◌, ◌-◌, ◌^◌, ◌<◌, ◌≤◌, ◌↔◌, true≢false, List, length, get_or, refl, sym, ap, arith, inl, inr, Option, Some, None, IfSome, IsSome, IsNone}
+use Rattle.std.proofs.lemmas.Bool.{cases_lt}
+use Rattle.rustc_lexer.specs.declared.relex.front.Bound.{Bound}
+use Rattle.rustc_lexer.specs.{Token}
+use Rattle.rustc_lexer.specs.Edits.{AreTouched, ContainsByte}
+use Rattle.rustc_lexer.specs.Tokens.{bound}
+use Rattle.rustc_lexer.proofs.BoundLemmas.{bound_mono}
+use Rattle.rustc_lexer.proofs.FrontLemmas.{bound-next}
+
+-- a bound that is past the first one has a token before it
+pub some_before : (tokens : List Token) (first n place offset : ℕ) → place ≡ first + bound tokens n → first ≤ offset → offset < place → 0 < n
+some_before tokens first zero place offset is le past = absurd (omega arith)
+some_before tokens first (suc n) place offset is le past = omega arith
+
+-- one token back
+module _ (tokens : List Token) (first n place : ℕ) (d : Token) (is : place ≡ first + bound tokens n) (some : 0 < n) (few : n ≤ length tokens) where
+  pub back_is : place - (get_or tokens (n - 1) d).len ≡ first + bound tokens (n - 1)
+  back_is =
+      let one : n - 1 + 1 ≡ n = omega arith in
+      omega (arith, is, ap (bound tokens) one, bound-next tokens (n - 1) d (omega arith))
+
+  pub back_le : (get_or tokens (n - 1) d).len ≤ place
+  back_le =
+      let one : n - 1 + 1 ≡ n = omega arith in
+      omega (arith, is, ap (bound tokens) one, bound-next tokens (n - 1) d (omega arith))
+
+-- one token ahead
+module _ (tokens : List Token) (first n place : ℕ) (d : Token) (is : place ≡ first + bound tokens n) (few : n < length tokens) where
+  pub ahead_is : place + (get_or tokens n d).len ≡ first + bound tokens (n + 1)
+  ahead_is = omega (arith, is, bound-next tokens n d few)
+
+  pub ahead_fits : first + bound tokens (length tokens) < 2 ^ 32 → place + (get_or tokens n d).len < 2 ^ 64
+  ahead_fits fits = omega (arith, ahead_is, fits, bound_mono tokens (n + 1) (length tokens) (omega arith))
+
+  pub ends_past : (offset : ℕ) → offset < place + (get_or tokens n d).len → offset < first + bound tokens (n + 1)
+  ends_past offset past = omega (arith, ahead_is, past)
+
+module _ (first : ℕ) (tokens : List Token) (offset : ℕ) (at : Bound) (has : ContainsByte first tokens offset at) where
+  -- the tokens before the one at the offset end there or before it, and it and those after it do not
+  pub ended : (k : ℕ) → k < at.number → first + bound tokens (k + 1) ≤ offset
+  ended k less = omega (arith, has.place, has.begins, bound_mono tokens (k + 1) at.number (omega arith))
+
+  pub not_ended : (k : ℕ) → at.number ≤ k → offset < first + bound tokens (k + 1)
+  not_ended k le = omega (arith, has.ends, bound_mono tokens (at.number + 1) (k + 1) (omega arith))
+
+  -- those up to it begin before the next offset, and those after it do not
+  pub begun : (k : ℕ) → k < at.number + 1 → first + bound tokens k ≤ offset
+  begun k less = omega (arith, has.place, has.begins, bound_mono tokens k at.number (omega arith))
+
+  pub not_begun : (k : ℕ) → at.number + 1 ≤ k → offset < first + bound tokens k
+  not_begun k le = omega (arith, has.ends, bound_mono tokens (at.number + 1) k le)
+
+-- the tokens that have not ended at the start, and have begun before the end
+pub touched_from : (first : ℕ) (tokens : List Token) (start stop from to : ℕ) → start < stop → from ≤ length tokens → to ≤ length tokens → ((k : ℕ) → k < from → first + bound tokens (k + 1) ≤ start) → ((k : ℕ) → from ≤ k → k < length tokens → start < first + bound tokens (k + 1)) → ((k : ℕ) → k < to → first + bound tokens k < stop) → ((k : ℕ) → to ≤ k → k < length tokens → stop ≤ first + bound tokens k) → AreTouched first tokens start stop from to
+touched_from first tokens start stop from to some few inside ended later begun after = record {
+  order = elim (cases_lt to from) [
+    | inl late ↦ absurd (omega (arith, some, ended to late, after to (omega arith) (omega arith), bound_mono tokens to (to + 1) (omega arith)))
+    | inr le ↦ le
+  ];
+  inside = inside;
+  touched = λ k less. (
+    λ among. (some, begun k among.1, later k among.0 less),
+    λ touches. (
+      elim (cases_lt k from) [ inl early ↦ absurd (omega (arith, ended k early, touches.2)) | inr le ↦ le ],
+      elim (cases_lt k to) [ inl before ↦ before | inr le ↦ absurd (omega (arith, after k le less, touches.1)) ],
+    ),
+  );
+}
+
+-- there is an answer exactly where the tokens are
+pub answered : (result : Option Bound) (first : ℕ) (tokens : List Token) (offset len : ℕ) → first + bound tokens (length tokens) ≡ len → IfSome result (ContainsByte first tokens offset) → (IsNone result → first ≤ offset → len ≤ offset) → IsSome result ↔ ((first ≤ offset) × (offset < len))
+answered None first tokens offset len end has none = (λ some. absurd (true≢false (sym some)), λ inside. absurd (omega (arith, none refl inside.0, inside.1)))
+answered (Some at) first tokens offset len end has none = (
+  λ some. (omega (arith, has.place, has.begins), omega (arith, has.ends, end, bound_mono tokens (at.number + 1) (length tokens) (omega (arith, has.number)))),
+  λ inside. refl,
+)

@@ -1,0 +1,17 @@
+use Rattle.std.proofs.Common.{◌+◌, length, refl, arith, string_bytes}
+use Rattle.rustc_lexer.proofs.BoundLemmas.{bound_mono}
+use Rattle.rustc_lexer.proofs.KeptLemmas.{end_is}
+use Rattle.rustc_lexer.proofs.OffsetLemmas.{ended, not_ended}
+use Rattle.rustc_lexer.proofs.relex.kept.Kept.ended_at.Goals as goal
+
+pub returns-in-Some-clause-ended : goal.returns-in-Some-clause-ended
+returns-in-Some-clause-ended g c = ended c.args.self.now.head.shebang_len c.args.self.now.tokens.items c.args.offset c.in-Some.at c.in-Some.ensures.token
+
+pub returns-in-Some-clause-others : goal.returns-in-Some-clause-others
+returns-in-Some-clause-others g c = λ k from few. not_ended c.args.self.now.head.shebang_len c.args.self.now.tokens.items c.args.offset c.in-Some.at c.in-Some.ensures.token k from
+
+pub returns-in-None-clause-ended : goal.returns-in-None-clause-ended
+returns-in-None-clause-ended g c = λ k less.
+    let past = c.in-None.ensures.none refl (omega (arith, c.if-offset-self.false)) in
+    let most = bound_mono c.args.self.now.tokens.items (k + 1) (length c.args.self.now.tokens.items) (omega (arith, less, c.len.ensures)) in
+    omega (arith, past, most, end_is (g.S.Stepper.law c.args.self.now.stepper) g.E.Extent.whole (string_bytes c.args.self.now.text) c.args.self.now.tokens.items c.args.self.now.head c.args.self.now.checkpoints c.requires.kept)

@@ -1,0 +1,184 @@
+//! From an offset to a token, worked out by hand, and against adding up the lengths of the tokens.
+
+mod random;
+
+use random::Random;
+use rustc_lexer::{Bound, LexedDocument, LexedText, Token};
+use std::ops::Range;
+
+/// What edits are made of: pieces that join with what stands around them, and heads of documents.
+#[rustfmt::skip]
+const BITS: &[&str] = &[
+    "a", "bc", "r#", "1", "0x", ".", " ", "\n", "é", "😀", "\"", "'", "#", "/", "//", "/*", "*/", "let x = 1;",
+    "fn f() {}\n", "#!", "#!a\n", "---\n", "\n---\n",
+];
+
+/// The numbers and the starts of tokens, of which the first begins at `start`, and where the last one ends.
+fn starts(tokens: &[Token], mut start: usize) -> Vec<usize> {
+    let mut starts = vec![start];
+    for token in tokens {
+        start += token.len as usize;
+        starts.push(start);
+    }
+    starts
+}
+
+/// The token at the offset, by looking at each.
+fn found(starts: &[usize], offset: usize) -> Option<Bound> {
+    let at = starts
+        .windows(2)
+        .position(|ends| (ends[0]..ends[1]).contains(&offset))?;
+    Some(Bound {
+        number: at,
+        place: starts[at],
+    })
+}
+
+/// The numbers of the tokens that contain a byte of the range, by looking at each.
+fn touched(starts: &[usize], range: &Range<usize>) -> Vec<usize> {
+    let touches = |ends: &[usize]| ends[0].max(range.start) < ends[1].min(range.end);
+    (0..starts.len() - 1)
+        .filter(|&number| touches(&starts[number..number + 2]))
+        .collect()
+}
+
+/// Checks offsets and ranges of a text that is kept: those near `place`, and some anywhere.
+macro_rules! check {
+    ($lexed:expr, $starts:expr, $random:expr, $place:expr) => {{
+        let (lexed, starts) = (&$lexed, $starts);
+        let end = lexed.text().len() + 3;
+        let first = $place - $place.min(3);
+        let offsets = (first..first + 6).chain((0..6).map(|_| $random.below(end)));
+        for offset in offsets.chain([usize::MAX]) {
+            assert_eq!(
+                lexed.token_at(offset),
+                found(&starts, offset),
+                "{offset} in {lexed:?}"
+            );
+        }
+        for _ in 0..4 {
+            let range = $random.below(end)..$random.below(end);
+            let pieces: Vec<_> = lexed.pieces_in(range.clone()).collect();
+            let numbers = touched(&starts, &range);
+            let wanted = numbers
+                .first()
+                .map_or(0..0, |from| *from..from + numbers.len());
+            let wanted: Vec<_> = lexed.pieces_of(wanted).collect();
+            assert_eq!(pieces, wanted, "{range:?} in {lexed:?}");
+        }
+    }};
+}
+
+/// Thirteen offsets and four ranges after each of five hundred edits of a text and a document, or as many as the variable
+/// EDITS says.
+#[test]
+fn offsets_under_edits() {
+    let asked = std::env::var("EDITS").map(|count| count.parse());
+    let count: usize = asked.map_or(500, |count| count.expect("EDITS is a number"));
+    let mut random = Random(7, BITS);
+    let mut text = LexedText::new(random.text(200));
+    let mut document = LexedDocument::new(text.text());
+    for _ in 0..count {
+        let range = random.range_in(text.text(), text.text().len(), 8);
+        let most = if text.text().len() < 400 { 20 } else { 2 };
+        let insert = random.text(most);
+        text.edit(range.clone(), &insert);
+        document.edit(range.clone(), &insert);
+        check!(text, starts(text.tokens(), 0), random, range.start);
+        let begin = document.shebang_len();
+        check!(
+            document,
+            starts(document.tokens(), begin),
+            random,
+            range.start
+        );
+    }
+}
+
+#[test]
+fn a_long_text() {
+    let mut random = Random(8, BITS);
+    let mut text = LexedText::new("fn add(left: u32) -> u32 { left } // é\n".repeat(2000));
+    for _ in 0..20 {
+        let range = random.range_in(text.text(), text.text().len(), 8);
+        text.edit(range.clone(), "x + /* */");
+        check!(text, starts(text.tokens(), 0), random, range.start);
+    }
+    let all = text.pieces_in(0..usize::MAX);
+    assert!(all.eq(text.pieces()));
+}
+
+/// Where a token begins, the answer is that token.
+#[test]
+fn offsets_of_a_text() {
+    let text = LexedText::new("let é = 1;");
+    let rows = [
+        (0, Some((0, 0))),
+        (2, Some((0, 0))),
+        (3, Some((1, 3))),
+        (4, Some((2, 4))),
+        (5, Some((2, 4))),
+        (6, Some((3, 6))),
+        (10, Some((7, 10))),
+        (11, None),
+        (usize::MAX, None),
+    ];
+    for (offset, wanted) in rows {
+        let found = text.token_at(offset).map(|at| (at.number, at.place));
+        assert_eq!(found, wanted, "{offset}");
+    }
+    assert_eq!(LexedText::new("").token_at(0), None);
+}
+
+#[test]
+fn offsets_of_a_document() {
+    let document = LexedDocument::new("#!/bin/sh\n---\na\n---\nfn");
+    let rows = [
+        (0, None),
+        (8, None),
+        (9, Some((0, 9))),
+        (10, Some((1, 10))),
+        (18, Some((1, 10))),
+        (19, Some((2, 19))),
+        (21, Some((3, 20))),
+        (22, None),
+    ];
+    for (offset, wanted) in rows {
+        let found = document.token_at(offset).map(|at| (at.number, at.place));
+        assert_eq!(found, wanted, "{offset}");
+    }
+    assert_eq!(LexedDocument::new("#!a").token_at(1), None);
+}
+
+#[test]
+#[allow(clippy::reversed_empty_ranges)]
+fn pieces_in_a_range() {
+    let text = LexedText::new("ab + cd;");
+    let document = LexedDocument::new("#!a\nb c");
+    let rows: [(Range<usize>, &[&str]); 9] = [
+        (0..0, &[]),
+        (1..1, &[]),
+        (0..1, &["ab"]),
+        (0..2, &["ab"]),
+        (1..3, &["ab", " "]),
+        (3..6, &["+", " ", "cd"]),
+        (6..99, &["cd", ";"]),
+        (8..9, &[]),
+        (6..2, &[]),
+    ];
+    for (range, wanted) in rows {
+        let pieces = text.pieces_in(range.clone()).map(|piece| piece.text);
+        assert!(pieces.eq(wanted.iter().copied()), "{range:?}");
+    }
+    for (range, wanted) in [
+        (0..3, vec![]),
+        (0..4, vec![(3, "\n")]),
+        (2..5, vec![(3, "\n"), (4, "b")]),
+        (6..usize::MAX, vec![(6, "c")]),
+        (7..8, vec![]),
+    ] {
+        let pieces = document.pieces_in(range.clone());
+        let pieces: Vec<_> = pieces.map(|piece| (piece.start, piece.text)).collect();
+        assert_eq!(pieces, wanted, "{range:?}");
+    }
+}
