@@ -9,6 +9,7 @@ use rustc_lexer::{
     tokenize_document,
 };
 use std::ops::Range;
+use std::panic::{AssertUnwindSafe, catch_unwind};
 
 /// A document with all that may stand in front, and where its body begins.
 const SCRIPT: &str = "#!/bin/sh\n---\na\n---\nb'c'";
@@ -251,6 +252,38 @@ impl Stepper for Characters {
     }
 }
 
+/// A stepper that breaks its rules: each token has two bytes, whatever is left, and there is none at `!`.
+#[derive(Clone)]
+struct Pairs;
+
+impl Stepper for Pairs {
+    fn step(&mut self, rest: &str) -> Token {
+        assert!(!rest.starts_with('!'), "no token");
+        Token {
+            kind: TokenKind::Unknown,
+            len: 2,
+        }
+    }
+}
+
+/// What docs/ERASED.md says of such a stepper.
+#[test]
+fn a_stepper_that_breaks_its_rules() {
+    macro_rules! calls {
+        ($Kept:ident) => {
+            let past = $Kept::try_with("abc", Pairs).unwrap();
+            let pieces = AssertUnwindSafe(|| past.pieces().count());
+            assert!(catch_unwind(pieces).is_err());
+            let mut lexed = $Kept::try_with("abcd", Pairs).unwrap();
+            let edit = AssertUnwindSafe(|| lexed.edit(0..0, "!!"));
+            assert!(catch_unwind(edit).is_err());
+            assert_eq!((lexed.text(), lexed.tokens().len()), ("!!abcd", 2));
+        };
+    }
+    calls!(LexedText);
+    calls!(LexedDocument);
+}
+
 /// A stepper that has no `fill` of its own, and one that has: the tokens that begin before the end, as many as fit.
 #[test]
 fn steppers_fill_up_to_an_end() {
@@ -327,6 +360,7 @@ fn calls_with_a_stepper() {
                 insert: "bc",
             };
             assert_eq!(lexed.edit_all(&[edit]), Ok(()));
+            assert_eq!(lexed.edit_each(&[]).map(|counts| counts.kept_front), Ok(3));
             lexed.shrink_to_fit();
             assert_eq!((lexed.text(), lexed.tokens().len()), ("bcé", 3));
             let counts = (lexed.pieces().len(), lexed.pieces_of(1..2).len());

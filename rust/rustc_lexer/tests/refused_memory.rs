@@ -98,6 +98,8 @@ fn texts_and_another_edition() {
     let stop = Err(EditStop::Memory { at: 0 });
     assert_eq!(given(0, || lexed.edit_all(&edits)), stop);
     assert_eq!(given(0, || document.edit_all(&edits)), stop);
+    assert_eq!(given(0, || lexed.edit_each(&edits)).map(drop), stop);
+    assert_eq!(given(0, || document.edit_each(&edits)).map(drop), stop);
     let insert = edits[0].insert;
     assert_eq!(
         given(0, || document.try_edit(0..0, insert)),
