@@ -223,6 +223,29 @@ fn a_list_of_edits() {
     check(&lexed, Edition::E2024, "a list of edits");
 }
 
+/// What lists of edits keep: behind the head, and where one of them changes it.
+#[test]
+fn what_a_list_keeps() {
+    for (edits, kept) in [
+        ([(24, 24, "d"), (20, 20, "fn ")], (2, 4, 0)),
+        ([(20, 20, "fn "), (14, 15, "bc")], (0, 5, 1)),
+    ] {
+        let mut lexed = LexedDocument::new(SCRIPT);
+        let edits = edits.map(|(start, stop, insert)| Edit {
+            start,
+            stop,
+            insert,
+        });
+        let relexed = lexed.edit_each(&edits).unwrap();
+        assert_eq!(
+            (relexed.kept_front, relexed.lexed, relexed.kept_back),
+            kept,
+            "{edits:?}"
+        );
+        check(&lexed, Edition::E2024, "a list of edits");
+    }
+}
+
 #[test]
 fn what_is_not_accepted() {
     let lexed = LexedDocument::new("#!é");
