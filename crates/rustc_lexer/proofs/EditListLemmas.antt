@@ -1,9 +1,11 @@
 -- A list of edits, one edit at a time.
-use Rattle.std.proofs.Common.{◌≡◌, ℕ, zero, suc, ◌+◌, ◌<◌, List, [], ◌∷◌, length, take, get_or, refl, subst, arith}
+use Rattle.std.proofs.Common.{◌≡◌, ℕ, zero, suc, ◌+◌, ◌-◌, ◌<◌, ◌≤◌, min, List, [], ◌∷◌, length, take, drop, get_or, refl, sym, ap, ◌∙◌, subst, arith, length-drop, length-take-le, take-take, drop-drop}
+use Rattle.std.proofs.lemmas.List.{length-take}
 use Rattle.std.proofs.lemmas.Grind.{common_steps}
 use Rattle.rustc_lexer.specs.{Token}
 use Rattle.rustc_lexer.specs.declared.relex.edit.Edit.{Edit}
-use Rattle.rustc_lexer.specs.Edits.{IsEdit, applied, apply_list, AreEdits, AreStepped}
+use Rattle.rustc_lexer.specs.declared.relex.relexing.Relexed.{Relexed}
+use Rattle.rustc_lexer.specs.Edits.{IsEdit, applied, apply_list, AreEdits, AreLeast, AreStepped}
 
 pub apply-next : (text : List ℕ) (es : List Edit) (n : ℕ) (d : Edit) → n < length es → apply_list text (take (suc n) es) ≡ applied (apply_list text (take n es)) (get_or es n d)
 apply-next text [] n d few = absurd (omega arith)
@@ -35,6 +37,24 @@ module _ (Steps : (List ℕ → Token) → List ℕ → ℕ → ℕ → List ℕ
       let here : IsSteppedBy (apply_list text (take n es)) e between after = subst (λ f. Steps f (apply_list text (take n es)) e.start e.stop e.insert.now between after) same (subst (λ xs. Steps then xs e.start e.stop e.insert.now between after) is one) in
       subst (λ k. AreStepped (Steps first) text (take k es) before after) more (stepped-next text es n none before between after few are here)
 
+-- one more edit keeps no more
+module _ (Counts : (List ℕ → Token) → List ℕ → ℕ → ℕ → List ℕ → Relexed → Type 0) (first : List ℕ → Token) (r : Relexed) where
+  least-next : (text : List ℕ) (es : List Edit) (n : ℕ) (d : Edit) (f b front back next_front next_back : ℕ) → n < length es → next_front ≡ min front r.kept_front → next_back ≡ min back r.kept_back → AreLeast (Counts first) text (take n es) f b front back
+      → Counts first (apply_list text (take n es)) (get_or es n d).start (get_or es n d).stop (get_or es n d).insert.now r → AreLeast (Counts first) text (take (suc n) es) f b next_front next_back
+  least-next text [] n d f b front back next_front next_back few front_is back_is are is = absurd (omega arith)
+  least-next text (e ∷ es) zero d f b front back next_front next_back few front_is back_is are is =
+      (r, is, (front_is ∙ ap (λ k. min k r.kept_front) are.0, back_is ∙ ap (λ k. min k r.kept_back) are.1))
+  least-next text (e ∷ es) (suc n) d f b front back next_front next_back few front_is back_is are is =
+      (are.0, are.1, least-next (applied text e) es n d (min f are.0.kept_front) (min b are.0.kept_back) front back next_front next_back (omega arith) front_is back_is are.2 is)
+
+  pub least-more : (then : List ℕ → Token) (text now : List ℕ) (es : List Edit) (n f b front back next_front next_back : ℕ) → n < length es → now ≡ apply_list text (take n es) → then ≡ first → next_front ≡ min front r.kept_front → next_back ≡ min back r.kept_back → AreLeast (Counts first) text (take n es) f b front back
+      → Counts then now (get_or es n none).start (get_or es n none).stop (get_or es n none).insert.now r → AreLeast (Counts first) text (take (n + 1) es) f b next_front next_back
+  least-more then text now es n f b front back next_front next_back few is same front_is back_is are one =
+      let e : Edit = get_or es n none in
+      let more : suc n ≡ n + 1 = omega arith in
+      let here : Counts first (apply_list text (take n es)) e.start e.stop e.insert.now r = subst (λ g. Counts g (apply_list text (take n es)) e.start e.stop e.insert.now r) same (subst (λ xs. Counts then xs e.start e.stop e.insert.now r) is one) in
+      subst (λ k. AreLeast (Counts first) text (take k es) f b next_front next_back) more (least-next text es n none f b front back next_front next_back few front_is back_is are here)
+
 edits-next : (text : List ℕ) (es : List Edit) (n : ℕ) (d : Edit) → n < length es → AreEdits text (take n es) → IsEdit (apply_list text (take n es)) (get_or es n d).start (get_or es n d).stop (get_or es n d).insert.now → AreEdits text (take (suc n) es)
 edits-next text [] n d few are is = absurd (omega arith)
 edits-next text (e ∷ es) zero d few are is = (is, tt)
@@ -42,3 +62,67 @@ edits-next text (e ∷ es) (suc n) d few are is = (are.0, edits-next (applied te
 
 pub edits-more : (text now : List ℕ) (es : List Edit) (n : ℕ) → n < length es → now ≡ apply_list text (take n es) → AreEdits text (take n es) → IsEdit now (get_or es n none).start (get_or es n none).stop (get_or es n none).insert.now → AreEdits text (take (n + 1) es)
 edits-more text now es n few same are is = grind (arith, common_steps, edits-next)
+
+-- so many of the tokens stay at the front, and so many at the back
+pub record StayAtEnds (old new : List Token) (front back : ℕ) : Type 0 where
+  pub front_inside : front ≤ length old
+  pub front_within : front ≤ length new
+  pub same_front : take front new ≡ take front old
+  pub back_inside : back ≤ length old
+  pub back_within : back ≤ length new
+  pub same_back : drop (length new - back) new ≡ drop (length old - back) old
+
+-- fewer of them stay too
+fewer_front : (n front : ℕ) (old new : List Token) → n ≤ front → take front new ≡ take front old → take n new ≡ take n old
+fewer_front n front old new few same = sym (take-take n front new few) ∙ (ap (take n) same ∙ take-take n front old few)
+
+fewer_back : (n back : ℕ) (old new : List Token) → n ≤ back → back ≤ length old → back ≤ length new → drop (length new - back) new ≡ drop (length old - back) old → drop (length new - n) new ≡ drop (length old - n) old
+fewer_back n back old new few old_has new_has same =
+    let before : length new - back + (back - n) ≡ length new - n = omega arith in
+    let after : length old - back + (back - n) ≡ length old - n = omega arith in
+    sym (drop-drop (back - n) (length new - back) new ∙ ap (λ k. drop k new) before) ∙ (ap (drop (back - n)) same ∙ (drop-drop (back - n) (length old - back) old ∙ ap (λ k. drop k old) after))
+
+fewer_stay : {old new : List Token} {front back : ℕ} (n m : ℕ) → n ≤ front → m ≤ back → StayAtEnds old new front back → StayAtEnds old new n m
+fewer_stay {old} {new} {front} {back} n m few_front few_back stay = record {
+  front_inside = omega (arith, stay.front_inside);
+  front_within = omega (arith, stay.front_within);
+  same_front = fewer_front n front old new few_front stay.same_front;
+  back_inside = omega (arith, stay.back_inside);
+  back_within = omega (arith, stay.back_within);
+  same_back = fewer_back m back old new few_back stay.back_inside stay.back_within stay.same_back;
+}
+
+-- what the counts of one edit say
+pub counts_stay : (old new : List Token) (front lexed back : ℕ) → front + lexed + back ≡ length new → take front new ≡ take front old → drop (front + lexed) new ≡ drop (length old - back) old → StayAtEnds old new front back
+counts_stay old new front lexed back all same_front same_back =
+    let from : front + lexed ≡ length new - back = omega arith in
+    let back_short : length new - (front + lexed) ≡ length old - (length old - back) = sym (length-drop (front + lexed) new) ∙ (ap (λ (ts : List Token). length ts) same_back ∙ length-drop (length old - back) old) in
+    let front_short : front ≡ length (take front old) = sym (length-take-le front new (omega arith)) ∙ ap (λ (ts : List Token). length ts) same_front in
+    record {
+      front_inside = omega (arith, front_short, length-take front old);
+      front_within = omega arith;
+      same_front = same_front;
+      back_inside = omega (arith, back_short);
+      back_within = omega arith;
+      same_back = ap (λ k. drop k new) (sym from) ∙ same_back;
+    }
+
+-- one more edit
+pub stay-more : {old between new : List Token} {front back n m : ℕ} (next_front next_back : ℕ) → next_front ≡ min front n → next_back ≡ min back m → StayAtEnds old between front back → StayAtEnds between new n m → StayAtEnds old new next_front next_back
+stay-more next_front next_back front_is back_is before then =
+    let one = fewer_stay next_front next_back (omega arith) (omega arith) before in
+    let two = fewer_stay next_front next_back (omega arith) (omega arith) then in
+    record {
+      front_inside = one.front_inside;
+      front_within = two.front_within;
+      same_front = two.same_front ∙ one.same_front;
+      back_inside = one.back_inside;
+      back_within = two.back_within;
+      same_back = two.same_back ∙ one.same_back;
+    }
+
+-- the counts of all edits together
+pub counts_back : {old new : List Token} {front back : ℕ} (len kept_back : ℕ) → len ≡ length new → kept_back ≡ min back (min (length new) (length old) - front) → StayAtEnds old new front back → drop (front + (len - front - kept_back)) new ≡ drop (length old - kept_back) old
+counts_back {old} {new} {front} {back} len kept_back len_is fewer stay =
+    let from : front + (len - front - kept_back) ≡ length new - kept_back = omega (arith, stay.front_within, stay.front_inside) in
+    ap (λ k. drop k new) from ∙ (fewer_stay front kept_back (omega arith) (omega arith) stay).same_back

@@ -1,5 +1,5 @@
 -- What edits make of a text, which of its tokens they keep, and a text that is kept with its tokens.
-use Rattle.std.specs.Prelude.{ℕ, ◌+◌, ◌-◌, ◌<◌, ◌≤◌, ◌^◌, List, [], ◌∷◌, ◌++◌, length, take, drop, IsCharBoundary, ◌≡◌, ◌↔◌, slice_get, IfSome, Option, Some, None, codes, decimal, count_by}
+use Rattle.std.specs.Prelude.{ℕ, ◌+◌, ◌-◌, ◌<◌, ◌≤◌, ◌^◌, List, [], ◌∷◌, ◌++◌, length, take, drop, min, IsCharBoundary, ◌≡◌, ◌↔◌, slice_get, IfSome, Option, Some, None, codes, decimal, count_by}
 use Rattle.rustc_lexer.specs.declared.relex.{edit.Edit.Edit, edit_list.EditStop.EditStop, front.Bound.Bound, pieces.Piece.Piece, relexing.Relexed.Relexed, relexing.Relexing.Relexing}
 use Rattle.rustc_lexer.specs.declared.relex.edit_list.EditStop.TheVariants.{Range, TooLong, Memory}
 use Rattle.rustc_lexer.specs.{Token}
@@ -77,6 +77,19 @@ abbrev pub AreStepped : (List ℕ → ℕ → ℕ → List ℕ → ℕ → ℕ �
 AreStepped Steps text [] before after = after ≡ before
 AreStepped Steps text (e ∷ es) before after =
     (between : ℕ) × Steps text e.start e.stop e.insert.now before between × AreStepped Steps (applied text e) es between after
+
+-- `front` is the least that each of the edits keeps there, or so many as before them, and so is `back`. `Counts` says
+-- what one edit keeps: IsRelexed or IsRelexedDocument
+abbrev pub AreLeast : (List ℕ → ℕ → ℕ → List ℕ → Relexed → Type 0) → List ℕ → List Edit → ℕ → ℕ → ℕ → ℕ → Type 0
+AreLeast Counts text [] front_before back_before front back = (front ≡ front_before) × (back ≡ back_before)
+AreLeast Counts text (e ∷ es) front_before back_before front back =
+    (r : Relexed) × Counts text e.start e.stop e.insert.now r × AreLeast Counts (applied text e) es (min front_before r.kept_front) (min back_before r.kept_back) front back
+
+-- the counts of a list of edits: of the tokens that the list found, as many as `old`, it keeps those that each edit keeps,
+-- at the back so many as are then left. With no edit that is all of them in front
+abbrev pub IsRelexedList : (List ℕ → ℕ → ℕ → List ℕ → Relexed → Type 0) → List ℕ → List Edit → ℕ → ℕ → Relexed → Type 0
+IsRelexedList Counts text edits old new r =
+    (back : ℕ) × AreLeast Counts text edits old old r.kept_front back × (r.kept_back ≡ min back (min new old - r.kept_front))
 
 -- the index of the edit that was refused
 abbrev pub stop_at : EditStop → ℕ

@@ -142,6 +142,22 @@ macro_rules! kept_calls {
                 self.0.edit_all(edits)
             }
 
+            /// Makes the edits as `edit_all` does, and returns which tokens all of them kept: what to repaint is between.
+            ///
+            /// ```
+            #[doc = concat!("use rustc_lexer::{Edit, ", stringify!($Kept), ", Relexed};")]
+            ///
+            #[doc = concat!("let mut lexed = ", stringify!($Kept), "::new(\"a b c d e f g\");")]
+            /// let edits = [Edit { start: 8, stop: 9, insert: "+" }, Edit { start: 4, stop: 5, insert: "-" }];
+            /// let relexed = lexed.edit_each(&edits)?;
+            /// assert_eq!(relexed, Relexed { kept_front: 2, lexed: 7, kept_back: 4 });
+            /// assert_eq!(lexed.text(), "a b - d + f g");
+            /// # Ok::<(), rustc_lexer::EditStop>(())
+            /// ```
+            pub fn edit_each(&mut self, edits: &[Edit<'_>]) -> Result<Relexed, EditStop> {
+                self.0.edit_each(edits)
+            }
+
             /// Gives back the memory that edits have left unused, by copying what is kept. If an allocation fails, the
             /// unused memory stays. Text, tokens and stepper do not change.
             ///

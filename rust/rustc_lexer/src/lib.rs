@@ -174,6 +174,11 @@ pub use erased::Relexing;
 ///
 /// assert_eq!(Characters.step("é+").len, 2);
 /// ```
+///
+/// Nothing tests its tokens. While you write a stepper, let `step` end with
+/// `assert!(token.len > 0 && rest.is_char_boundary(token.len as usize));`. Without that, tokens of no length fill memory
+/// until an allocation fails, and a token that ends past the text lets `pieces` panic later. A panic of `step` inside an
+/// edit leaves the new text with the old tokens: drop them then.
 #[doc(inline)]
 pub use erased::Stepper;
 /// ```

@@ -9,6 +9,7 @@ use rustc_lexer::{
     tokenize_document,
 };
 use std::ops::Range;
+use std::panic::{AssertUnwindSafe, catch_unwind};
 
 /// A document with all that may stand in front, and where its body begins.
 const SCRIPT: &str = "#!/bin/sh\n---\na\n---\nb'c'";
@@ -222,6 +223,29 @@ fn a_list_of_edits() {
     check(&lexed, Edition::E2024, "a list of edits");
 }
 
+/// What lists of edits keep: behind the head, and where one of them changes it.
+#[test]
+fn what_a_list_keeps() {
+    for (edits, kept) in [
+        ([(24, 24, "d"), (20, 20, "fn ")], (2, 4, 0)),
+        ([(20, 20, "fn "), (14, 15, "bc")], (0, 5, 1)),
+    ] {
+        let mut lexed = LexedDocument::new(SCRIPT);
+        let edits = edits.map(|(start, stop, insert)| Edit {
+            start,
+            stop,
+            insert,
+        });
+        let relexed = lexed.edit_each(&edits).unwrap();
+        assert_eq!(
+            (relexed.kept_front, relexed.lexed, relexed.kept_back),
+            kept,
+            "{edits:?}"
+        );
+        check(&lexed, Edition::E2024, "a list of edits");
+    }
+}
+
 #[test]
 fn what_is_not_accepted() {
     let lexed = LexedDocument::new("#!é");
@@ -249,6 +273,38 @@ impl Stepper for Characters {
             len: rest.chars().next().map_or(0, char::len_utf8) as u32,
         }
     }
+}
+
+/// A stepper that breaks its rules: each token has two bytes, whatever is left, and there is none at `!`.
+#[derive(Clone)]
+struct Pairs;
+
+impl Stepper for Pairs {
+    fn step(&mut self, rest: &str) -> Token {
+        assert!(!rest.starts_with('!'), "no token");
+        Token {
+            kind: TokenKind::Unknown,
+            len: 2,
+        }
+    }
+}
+
+/// What docs/ERASED.md says of such a stepper.
+#[test]
+fn a_stepper_that_breaks_its_rules() {
+    macro_rules! calls {
+        ($Kept:ident) => {
+            let past = $Kept::try_with("abc", Pairs).unwrap();
+            let pieces = AssertUnwindSafe(|| past.pieces().count());
+            assert!(catch_unwind(pieces).is_err());
+            let mut lexed = $Kept::try_with("abcd", Pairs).unwrap();
+            let edit = AssertUnwindSafe(|| lexed.edit(0..0, "!!"));
+            assert!(catch_unwind(edit).is_err());
+            assert_eq!((lexed.text(), lexed.tokens().len()), ("!!abcd", 2));
+        };
+    }
+    calls!(LexedText);
+    calls!(LexedDocument);
 }
 
 /// A stepper that has no `fill` of its own, and one that has: the tokens that begin before the end, as many as fit.
@@ -327,6 +383,7 @@ fn calls_with_a_stepper() {
                 insert: "bc",
             };
             assert_eq!(lexed.edit_all(&[edit]), Ok(()));
+            assert_eq!(lexed.edit_each(&[]).map(|counts| counts.kept_front), Ok(3));
             lexed.shrink_to_fit();
             assert_eq!((lexed.text(), lexed.tokens().len()), ("bcé", 3));
             let counts = (lexed.pieces().len(), lexed.pieces_of(1..2).len());

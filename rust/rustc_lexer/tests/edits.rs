@@ -306,6 +306,105 @@ fn a_list_of_edits() {
     assert_eq!(lexed.text(), "cd efz");
 }
 
+/// What all edits of a list keep, worked by hand. The tokens have one byte each.
+#[test]
+fn what_a_list_keeps() {
+    let at = |start, stop, insert| Edit {
+        start,
+        stop,
+        insert,
+    };
+    for (edits, kept) in [
+        // None: all stay at the front.
+        (&[][..], (13, 0, 0)),
+        // One: what `edit` returns.
+        (&[at(8, 9, "+")][..], (6, 3, 4)),
+        // The front of the later edit and the back of the earlier one, and the other way round.
+        (&[at(8, 9, "+"), at(4, 5, "-")], (2, 7, 4)),
+        (&[at(4, 5, "-"), at(8, 9, "+")], (2, 7, 4)),
+        // One that makes three tokens of two, and one that takes them out again: what was lexed is not old.
+        (&[at(8, 9, "+ 1"), at(8, 11, "e")], (6, 3, 4)),
+        // The first opens a comment to the end, the second closes it.
+        (&[at(6, 6, "/*"), at(9, 9, "*/")], (4, 9, 0)),
+        // All of the text is taken out.
+        (&[at(0, 13, "")], (0, 0, 0)),
+    ] {
+        let mut text = LexedText::new("a b c d e f g");
+        let mut document = LexedDocument::new("a b c d e f g");
+        let relexed = text.edit_each(edits).unwrap();
+        assert_eq!(
+            (relexed.kept_front, relexed.lexed, relexed.kept_back),
+            kept,
+            "{edits:?}"
+        );
+        assert_eq!(document.edit_each(edits), Ok(relexed), "{edits:?}");
+        check(&text, "a list of edits");
+    }
+}
+
+/// A list keeps what each of its edits keeps, and there its tokens are the old ones.
+#[test]
+fn random_lists_of_edits() {
+    macro_rules! lists {
+        ($Kept:ident) => {
+            let mut random = Random(3, BITS);
+            for round in 0..2000 {
+                let text = random.text(60);
+                let mut lexed = $Kept::new_in(&text, Edition::ALL[round % Edition::ALL.len()]);
+                let (mut made, old) = (lexed.clone(), lexed.tokens().to_vec());
+                let (mut front, mut back) = (old.len(), old.len());
+                let (mut ranges, mut inserts) = (vec![], vec![]);
+                for _ in 0..1 + random.below(4) {
+                    let (range, insert) = (random.range(made.text()), random.text(3));
+                    let relexed = made.edit(range.clone(), &insert);
+                    front = front.min(relexed.kept_front);
+                    back = back.min(relexed.kept_back);
+                    ranges.push(range);
+                    inserts.push(insert);
+                }
+                let edits: Vec<_> = ranges
+                    .iter()
+                    .zip(&inserts)
+                    .map(|(range, insert)| Edit {
+                        start: range.start,
+                        stop: range.end,
+                        insert,
+                    })
+                    .collect();
+                let relexed = lexed.edit_each(&edits).unwrap();
+                let new = lexed.tokens();
+                assert_eq!((lexed.text(), new), (made.text(), made.tokens()));
+                assert_eq!((relexed.kept_front, relexed.kept_back), (front, back));
+                assert_eq!(front + relexed.lexed + back, new.len());
+                assert!(front + back <= old.len(), "{text:?}: {edits:?}");
+                assert_eq!(new[..front], old[..front], "{text:?}: {edits:?}");
+                assert_eq!(
+                    new[new.len() - back..],
+                    old[old.len() - back..],
+                    "{text:?}: {edits:?}"
+                );
+            }
+        };
+    }
+    lists!(LexedText);
+    lists!(LexedDocument);
+}
+
+/// What was made before an edit that is refused stays.
+#[test]
+fn a_list_of_edits_that_stops() {
+    let edits = [(0, 1, "b"), (2, 3, "")].map(|(start, stop, insert)| Edit {
+        start,
+        stop,
+        insert,
+    });
+    let mut text = LexedText::new("a");
+    let mut document = LexedDocument::new("a");
+    assert_eq!(text.edit_each(&edits), Err(EditStop::Range { at: 1 }));
+    assert_eq!(document.edit_each(&edits), Err(EditStop::Range { at: 1 }));
+    assert_eq!((text.text(), document.text()), ("b", "b"));
+}
+
 /// A clone is edited by itself, and what is made of nothing is in the newest edition.
 #[test]
 fn clones_and_defaults() {

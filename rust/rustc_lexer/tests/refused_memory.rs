@@ -5,7 +5,8 @@ mod refusing;
 
 use refusing::{given, refused_once, requests};
 use rustc_lexer::{
-    AllocError, Edit, EditError, EditStop, Edition, LexedDocument, LexedText, Steps,
+    AllocError, Edit, EditError, EditStop, Edition, LexedDocument, LexedText, Stepper, Steps,
+    Token, TokenKind,
 };
 use std::panic::{AssertUnwindSafe, catch_unwind};
 
@@ -58,6 +59,32 @@ fn heads_of_documents() {
     assert!((1..99).contains(&refused), "{refused} refusals");
 }
 
+/// A stepper that breaks its rules: its tokens have no length.
+struct Nothing;
+
+impl Stepper for Nothing {
+    fn step(&mut self, _: &str) -> Token {
+        Token {
+            kind: TokenKind::Unknown,
+            len: 0,
+        }
+    }
+}
+
+/// What docs/ERASED.md says of such a stepper: its tokens take memory until there is none.
+#[test]
+fn tokens_of_no_length() {
+    let memory = Some(EditError::Memory);
+    let (text, document) = given(9, || {
+        let text = LexedText::try_with("a", Nothing).err();
+        (text, LexedDocument::try_with("a", Nothing).err())
+    });
+    assert_eq!((text, document), (memory, memory));
+    let mut lexed = LexedText::try_with("", Nothing).unwrap();
+    assert_eq!(given(9, || lexed.try_edit(0..0, "a")).err(), memory);
+    assert_eq!((lexed.text(), lexed.tokens().len()), ("", 0));
+}
+
 /// What each call answers to whom nothing is given, and what stands then.
 #[test]
 fn texts_and_another_edition() {
@@ -98,6 +125,8 @@ fn texts_and_another_edition() {
     let stop = Err(EditStop::Memory { at: 0 });
     assert_eq!(given(0, || lexed.edit_all(&edits)), stop);
     assert_eq!(given(0, || document.edit_all(&edits)), stop);
+    assert_eq!(given(0, || lexed.edit_each(&edits)).map(drop), stop);
+    assert_eq!(given(0, || document.edit_each(&edits)).map(drop), stop);
     let insert = edits[0].insert;
     assert_eq!(
         given(0, || document.try_edit(0..0, insert)),

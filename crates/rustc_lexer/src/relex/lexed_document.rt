@@ -3,7 +3,7 @@ ghost use Rattle.std.specs.Prelude.{◌≡◌, ◌+◌, ◌-◌, ◌<◌, ◌≤
 ghost use Rattle.rustc_lexer.specs.Classes.{Fits};
 ghost use Rattle.rustc_lexer.specs.Document as spec;
 ghost use Rattle.rustc_lexer.specs.means.Document as means;
-ghost use Rattle.rustc_lexer.specs.Edits.{AreEdits, AreStepped, AreTouched, ContainsByte, IsEdit, IsStop, IsStopStepped, apply, apply_list, pieces_from, stop_at};
+ghost use Rattle.rustc_lexer.specs.Edits.{AreEdits, AreStepped, AreTouched, ContainsByte, IsEdit, IsRelexedList, IsStop, IsStopStepped, apply, apply_list, pieces_from, stop_at};
 
 use crate::entry::stepper::Stepper;
 use crate::relex::edit::{Edit, accepts};
@@ -258,6 +258,48 @@ impl<S: Stepper> LexedDocument<S> {
             (λ e. IsStopStepped e (spec.IsSteppedDocument (S.grammar self.old.stepper)) self.old.text edits.now
             (S.count self.old.stepper) (S.count self.new.stepper)) }
     {
-        self.kept.edit_all(edits)
+        self.edit_each(edits)?;
+        Ok(())
+    }
+
+    /// Makes the edits as [`edit_all`](LexedDocument::edit_all) does. Returns how many tokens all of them kept at the
+    /// front and at the back, and how many are now between these. An empty list keeps all at the front.
+    pub fn edit_each(&mut self, edits: &[Edit<'_>]) -> Result<Relexed, EditStop>
+        ensures accepted { OnOk result (AreEdits self.old.text edits.now) }
+        ensures text { OnOk result (self.new.text ≡ apply_list self.old.text edits.now) }
+        ensures from_scratch { self.new.tokens
+            ≡ spec.document_tokens_by (S.grammar self.old.stepper) self.new.text }
+
+        // Which tokens stay through all of the edits.
+        ensures least { IfOk result
+            (IsRelexedList (spec.IsRelexedDocument (S.grammar self.old.stepper)) self.old.text edits.now
+            (length self.old.tokens) (length self.new.tokens)) }
+        ensures all { IfOk result
+            (λ r. r.kept_front + r.lexed + r.kept_back ≡ length self.new.tokens) }
+        ensures apart { IfOk result (λ r. r.kept_front + r.kept_back ≤ length self.old.tokens) }
+        ensures front { IfOk result
+            (λ r. take r.kept_front self.new.tokens ≡ take r.kept_front self.old.tokens) }
+        ensures back { IfOk result
+            (λ r. drop (r.kept_front + r.lexed) self.new.tokens
+            ≡ drop (length self.old.tokens - r.kept_back) self.old.tokens) }
+
+        // The stepper keeps its grammar, and counts the steps of all edits.
+        ensures grammar { S.grammar self.new.stepper ≡ S.grammar self.old.stepper }
+        ensures number { S.number self.new.stepper ≡ S.number self.old.stepper }
+        ensures count { OnOk result
+            (AreStepped (spec.IsSteppedDocument (S.grammar self.old.stepper)) self.old.text edits.now
+            (S.count self.old.stepper) (S.count self.new.stepper)) }
+
+        // If an edit is refused, the edits before it were made.
+        ensures stop { IfErr result (λ e. IsStop e self.new.text edits.now) }
+        ensures stop_accepted { IfErr result
+            (λ e. AreEdits self.old.text (take (stop_at e) edits.now)) }
+        ensures stop_text { IfErr result
+            (λ e. self.new.text ≡ apply_list self.old.text (take (stop_at e) edits.now)) }
+        ensures stop_count { IfErr result
+            (λ e. IsStopStepped e (spec.IsSteppedDocument (S.grammar self.old.stepper)) self.old.text edits.now
+            (S.count self.old.stepper) (S.count self.new.stepper)) }
+    {
+        self.kept.edit_each(edits)
     }
 }

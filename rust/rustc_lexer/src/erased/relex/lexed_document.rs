@@ -129,6 +129,13 @@ impl<S: Stepper> LexedDocument<S> {
     /// Makes the edits in order, each on the text that the edits before it leave, up to the first one that is
     /// refused. `Err` says which one that is and why. The edits before it stay made.
     pub fn edit_all(&mut self, edits: &[Edit<'_>]) -> Result<(), EditStop> {
-        self.kept.edit_all(edits)
+        self.edit_each(edits)?;
+        Ok(())
+    }
+
+    /// Makes the edits as [`edit_all`](LexedDocument::edit_all) does. Returns how many tokens all of them kept at the
+    /// front and at the back, and how many are now between these. An empty list keeps all at the front.
+    pub fn edit_each(&mut self, edits: &[Edit<'_>]) -> Result<Relexed, EditStop> {
+        self.kept.edit_each(edits)
     }
 }

@@ -1,7 +1,8 @@
-use Rattle.std.proofs.Common.{◌≡◌, take, string_bytes}
-use Rattle.rustc_lexer.specs.Edits.{apply_list, AreEdits, AreStepped}
-use Rattle.rustc_lexer.specs.means.Document.{AreKeptOf, IsSteppedIn}
-use Rattle.rustc_lexer.proofs.relex.kept.Kept.edit_all.Given as goal
+use Rattle.std.proofs.Common.{◌≡◌, length, take, string_bytes}
+use Rattle.rustc_lexer.specs.Edits.{apply_list, AreEdits, AreLeast, AreStepped}
+use Rattle.rustc_lexer.specs.means.Document.{AreKeptOf, IsRelexedIn, IsSteppedIn}
+use Rattle.rustc_lexer.proofs.EditListLemmas.{StayAtEnds}
+use Rattle.rustc_lexer.proofs.relex.kept.Kept.edit_each.Given as goal
 
 abbrev pub invariant-loop-at : goal.invariant-loop-at
 invariant-loop-at g l = AreEdits (string_bytes l.fn.self.text) (take l.at l.edits)
@@ -10,3 +11,5 @@ invariant-loop-at g l = AreEdits (string_bytes l.fn.self.text) (take l.at l.edit
     × (g.S.Stepper.grammar l.self.stepper ≡ g.S.Stepper.grammar l.fn.self.stepper)
     × (g.S.Stepper.number l.self.stepper ≡ g.S.Stepper.number l.fn.self.stepper)
     × AreStepped (IsSteppedIn g.E.Extent.whole (g.S.Stepper.grammar l.fn.self.stepper)) (string_bytes l.fn.self.text) (take l.at l.edits) (g.S.Stepper.count l.fn.self.stepper) (g.S.Stepper.count l.self.stepper)
+    × StayAtEnds l.fn.self.tokens.items l.self.tokens.items l.front l.back
+    × AreLeast (IsRelexedIn g.E.Extent.whole (g.S.Stepper.grammar l.fn.self.stepper)) (string_bytes l.fn.self.text) (take l.at l.edits) (length l.fn.self.tokens.items) (length l.fn.self.tokens.items) l.front l.back
