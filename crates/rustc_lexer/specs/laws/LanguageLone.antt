@@ -114,9 +114,6 @@ fewer zero s e = refl
 fewer (suc n) [] e = e
 fewer (suc n) (c ∷ s) e = let parts = and_parts (c == 45) (begins (fence (suc n)) s) e in rw (parts.0, fewer n s parts.1) refl
 
-first-dash : (s : List ℕ) → begins (fence 3) s ≡ true → begins (fence 1) s ≡ true
-first-dash s e = fewer 1 s (fewer 2 s e)
-
 -- over a character that begins no three dashes
 over : (blank : Bool) (c : ℕ) (r s : List ℕ) → begins (fence 3) (c ∷ s) ≡ false → IsAt blank r (c ∷ s) → IsAt (blank_past blank c) (c ∷ r) s
 over blank c r s none at = record {

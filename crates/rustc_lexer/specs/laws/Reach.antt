@@ -204,9 +204,6 @@ module _ (end : List ℕ → Option ℕ) where
   found_at k s n e le same = grind (arith, common_steps)
 
   module _ (k : ℕ) (is : IsFound k end) (s : List ℕ) (n : ℕ) (e : end s ≡ Some n) where
-    pub found-inside : n ≤ length s
-    found-inside = let len : (or_all end s).1 ≡ n = ap (λ (o : Option ℕ). (or_all_at o s).1) e in let at = is s n e in omega (arith, at.inside)
-
     pub found-same : (u : List ℕ) → take (n + k) u ≡ take (n + k) s → end u ≡ Some n
     found-same u a = grind (arith, common_steps)
 

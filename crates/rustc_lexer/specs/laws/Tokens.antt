@@ -77,12 +77,6 @@ pub tokens-cons : (mode : Mode) (text : List ℕ) → IsText text → 0 < length
 unfolding tokens_of_document
 tokens-cons w0 text is some = grind (arith, common_steps, part-cons, edition_grammar, token_at-cuts, shorter, cut-all)
 
--- where a byte is left a token is, whatever the bytes are
-pub tokens-some : (mode : Mode) (b : ℕ) (bs : List ℕ) → (token : Token) × (tokens : List Token) × (read_tokens mode (b ∷ bs) ≡ token ∷ tokens)
-unfolding tokens_of_document tokens_by
-tokens-some (part edition) b bs = (_, _, refl)
-tokens-some (document edition) b bs = (_, _, refl)
-
 -- what holds of a text whose first tokens were cut off holds of the text
 module _ (P : List ℕ → Mode → Type 0) (at_end : (mode : Mode) → P [] mode)
     (step : (text : List ℕ) (mode : Mode) → IsText text → 0 < length text → P (drop (token_at mode text).len text) (mode_after mode (token_at mode text).kind) → P text mode) where
