@@ -32,6 +32,10 @@ impl<S: Stepper> Keeps for LexedDocument<S> {
     fn try_edits(&mut self, edits: &[Edit<'_>]) -> Result<(), EditStop> {
         self.edit_all(edits)
     }
+
+    fn try_each(&mut self, edits: &[Edit<'_>]) -> Result<Relexed, EditStop> {
+        self.edit_each(edits)
+    }
 }
 
 /// Returns whether the row holds for a document in its edition, one edit after another and as a list. The

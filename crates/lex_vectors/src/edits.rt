@@ -20,6 +20,8 @@ pub(crate) trait Keeps {
     ) -> Result<Option<Relexed>, AllocError>;
 
     fn try_edits(&mut self, edits: &[Edit<'_>]) -> Result<(), EditStop>;
+
+    fn try_each(&mut self, edits: &[Edit<'_>]) -> Result<Relexed, EditStop>;
 }
 
 impl<S: Stepper> Keeps for LexedText<S> {
@@ -45,6 +47,10 @@ impl<S: Stepper> Keeps for LexedText<S> {
 
     fn try_edits(&mut self, edits: &[Edit<'_>]) -> Result<(), EditStop> {
         self.edit_all(edits)
+    }
+
+    fn try_each(&mut self, edits: &[Edit<'_>]) -> Result<Relexed, EditStop> {
+        self.edit_each(edits)
     }
 }
 
@@ -97,10 +103,16 @@ pub(crate) fn is_listed<K: Keeps>(
         None => Ok(()),
     };
     let made = Made::of(alloc, row.made)?;
+    let all_kept = Relexed {
+        kept_front: made.tokens.len(),
+        lexed: 0,
+        kept_back: 0,
+    };
     Ok(
         lexed.try_edits(edits.as_slice()) == end
             && is_left(lexed, &made)
             && lexed.try_edits(&[]) == Ok(())
+            && lexed.try_each(&[]) == Ok(all_kept)
             && is_left(lexed, &made),
     )
 }
