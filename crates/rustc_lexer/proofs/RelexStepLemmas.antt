@@ -1,5 +1,5 @@
 -- Relexing by one step, and by several.
-use Rattle.std.proofs.Common.{◌≡◌, ℕ, ◌+◌, ◌-◌, ◌<◌, false, List, ◌∷◌, length, drop, inl, inr, refl, sym, ap, ◌∙◌, subst, arith, drop-drop, length-drop, IsCharBoundary}
+use Rattle.std.proofs.Common.{◌≡◌, ℕ, ◌+◌, ◌<◌, false, List, ◌∷◌, length, drop, inl, inr, refl, sym, ap, ◌∙◌, subst, arith, drop-drop, length-drop, IsCharBoundary}
 use Rattle.std.proofs.lemmas.Bool.{cases_lt}
 use Rattle.std.proofs.lemmas.Str.{IsUtf8-drop}
 use Rattle.rustc_lexer.specs.means.Relexing.{Stands}

@@ -16,7 +16,6 @@ use Rattle.rustc_lexer.specs.GrammarLaws.{reach}
 use Rattle.rustc_lexer.specs.NumberGrammar as number
 use Rattle.rustc_lexer.specs.NumberGrammar.{IsExponent, IsTailBefore, HasNumberForm, IsNumberBefore}
 use Rattle.rustc_lexer.specs.means.Scan.{begins, next_is}
-use Rattle.rustc_lexer.specs.laws.Language.{language}
 use Rattle.rustc_lexer.specs.laws.LanguageLiterals.{HasDigit, number-digit}
 use Rattle.rustc_lexer.specs.laws.LanguageRuns.{either-way, word-no_mark}
 use Rattle.rustc_lexer.specs.laws.LanguageLifetimes.{end-stops}

@@ -8,7 +8,7 @@ use Rattle.std.proofs.lemmas.Grind.{common_steps}
 use Rattle.rustc_lexer.specs.laws.Choice.{by_test}
 use Rattle.rustc_lexer.specs.laws.Least.{one_more-none}
 use Rattle.rustc_lexer.specs.means.Least.{one_more, least}
-use Rattle.rustc_lexer.specs.means.Scan.{IsLocalAt, IsLocal, IsFound, or_all, or_all_at, then_by, and_then, gives, after, read_as, begins, next_is, run_len, run, run_as}
+use Rattle.rustc_lexer.specs.means.Scan.{IsLocalAt, IsLocal, IsFound, or_all, then_by, and_then, gives, after, read_as, begins, next_is, run_len, run, run_as}
 
 -- ---- texts that begin alike
 

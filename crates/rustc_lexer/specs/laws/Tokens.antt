@@ -5,7 +5,7 @@ use Rattle.std.proofs.lemmas.Str.{IsUtf8-append, IsUtf8-drop, IsUtf8-nil, IsUtf8
 use Rattle.std.proofs.lemmas.List.Elements.{All-nil, All-cons}
 use Rattle.std.proofs.lemmas.Grind.{common_steps}
 use Rattle.rustc_lexer.specs.{Token}
-use Rattle.rustc_lexer.specs.Partition.{tokens_by, bound, Partitions}
+use Rattle.rustc_lexer.specs.Partition.{bound, Partitions}
 use Rattle.rustc_lexer.specs.means.Tokens.{cut, tokens_of_document, read_tokens}
 use Rattle.rustc_lexer.specs.LanguageText.{Mode, document, part, mode_after}
 use Rattle.rustc_lexer.specs.laws.Edition.{edition_grammar}
