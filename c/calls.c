@@ -3,7 +3,7 @@
  * marked tokens. Exits with 1 at the first check that fails, and says which. */
 #include "checks.h"
 
-static int check_bad_texts(void) {
+static void check_bad_texts(void) {
     static const char *const bad[] = {"\xff", "a\xc3", "\xed\xa0\x80"};
     struct rustc_lexer_place place = {0, 1};
     size_t count;
@@ -33,10 +33,9 @@ static int check_bad_texts(void) {
         CHECK(rustc_lexer_body_edit(text, len, &edit, &head, &edit, &is) == RUSTC_LEXER_NOT_UTF8);
         CHECK(head.body == 8 && edit.new_stop == len && is == 0);
     }
-    return 0;
 }
 
-static int check_empty_text(batch_call *tokens) {
+static void check_empty_text(batch_call *tokens) {
     struct rustc_lexer_place place = {0, 1};
     size_t count, end = 99;
     uint32_t is = 9;
@@ -46,11 +45,10 @@ static int check_empty_text(batch_call *tokens) {
     end = 99;
     CHECK(rustc_lexer_settled((const uint8_t *)"", 0, &end) == RUSTC_LEXER_OK && end == 0);
     CHECK(rustc_lexer_is_ident((const uint8_t *)"", 0, &is) == RUSTC_LEXER_OK && is == 0);
-    return 0;
 }
 
 /* A pointer may be null where its length is 0. */
-static int check_null(void) {
+static void check_null(void) {
     struct rustc_lexer_place place = {0, 1};
     struct rustc_lexer_raw_str_error error;
     struct rustc_lexer_guarded_str string;
@@ -83,11 +81,10 @@ static int check_null(void) {
     CHECK(rustc_lexer_guarded_str_unchecked(NULL, 0, &string) == RUSTC_LEXER_OK && string.is_some == 0);
     CHECK(rustc_lexer_is_ident(NULL, 0, &is) == RUSTC_LEXER_OK && is == 0);
     CHECK(!rustc_lexer_is_ident_unchecked(NULL, 0));
-    return 0;
 }
 
 /* The bytes of records, of which none is left as it was. */
-static int check_records(void) {
+static void check_records(void) {
     static const struct {
         const char *text;
         uint8_t bytes[4];
@@ -123,10 +120,9 @@ static int check_records(void) {
     CHECK(rustc_lexer_first_token_unchecked(document, 11, 0).kind == RUSTC_LEXER_WHITESPACE);
     CHECK(strcmp(rustc_lexer_kind_name(RUSTC_LEXER_EOF), "Eof") == 0 && *rustc_lexer_kind_name(0) == 0);
     CHECK(*rustc_lexer_kind_name(255) == 0 && *rustc_lexer_literal_kind_name(0) == 0);
-    return 0;
 }
 
-static int check_buffer(batch_call *tokens) {
+static void check_buffer(batch_call *tokens) {
     struct rustc_lexer_place place = {0, 0};
     size_t count;
     CHECK(call(tokens, "ab cd", 5, &place, 0, &count) == RUSTC_LEXER_OK);
@@ -138,10 +134,9 @@ static int check_buffer(batch_call *tokens) {
     CHECK(is_token(1, RUSTC_LEXER_IDENT, 2) && is_marked(2));
     CHECK(call(tokens, "ab cd", 5, &place, BUFFER_LEN, &count) == RUSTC_LEXER_OK);
     CHECK(count == 0 && place.at == 5 && is_marked(0));
-    return 0;
 }
 
-static int check_frontmatter(batch_call *tokens) {
+static void check_frontmatter(batch_call *tokens) {
     static const char *const text = "\n---\na\n---\nb";
     struct rustc_lexer_place place = {0, 7};
     size_t count;
@@ -153,10 +148,9 @@ static int check_frontmatter(batch_call *tokens) {
     place.at = 1;
     CHECK(call(tokens, text, 12, &place, 1, &count) == RUSTC_LEXER_OK);
     CHECK(count == 1 && is_token(0, RUSTC_LEXER_MINUS, 1) && place.at == 2);
-    return 0;
 }
 
-static int check_places(batch_call *tokens) {
+static void check_places(batch_call *tokens) {
     static const char *const text = "a\xc3\xa9";
     size_t count;
     for (uint32_t at = 0; at < 6; at++) {
@@ -168,10 +162,9 @@ static int check_places(batch_call *tokens) {
     }
     struct rustc_lexer_place last = {UINT32_MAX, 0};
     CHECK(call(tokens, text, 3, &last, BUFFER_LEN, &count) == RUSTC_LEXER_BAD_PLACE);
-    return 0;
 }
 
-static int check_others(void) {
+static void check_others(void) {
     struct rustc_lexer_raw_str_error error;
     struct rustc_lexer_guarded_str string;
     size_t end;
@@ -202,19 +195,17 @@ static int check_others(void) {
     CHECK(rustc_lexer_is_id_start('_') && !rustc_lexer_is_id_start('0') && rustc_lexer_is_id_continue('0'));
     CHECK(!rustc_lexer_is_id_start(0x110000) && rustc_lexer_is_horizontal_whitespace('\t'));
     CHECK(rustc_lexer_abi_1() == RUSTC_LEXER_ABI);
-    return 0;
 }
 
 /* Symbols have the numbers from 15 to 41. */
-static int check_symbols(batch_call *tokens) {
+static void check_symbols(batch_call *tokens) {
     CHECK(is_lexed(tokens, ";,.(){}[]@#~?:$=!<>-&|+*/^%", 27, 0, 27));
     for (size_t i = 0; i < 27; i++)
         CHECK(whole[i].kind == 15 + i && whole[i].len == 1);
-    return 0;
 }
 
 /* Literals have the numbers from 1 to 10. */
-static int check_literals(batch_call *tokens) {
+static void check_literals(batch_call *tokens) {
     static const char text[] = "1 2.5 'a' b'a' \"a\" b\"a\" c\"a\" r\"a\" br\"a\" cr\"a\"";
     uint8_t number = 0;
     CHECK(is_lexed(tokens, text, sizeof text - 1, 0, 19));
@@ -222,7 +213,6 @@ static int check_literals(batch_call *tokens) {
         if (whole[i].kind == 13)
             CHECK(whole[i].literal_kind == ++number);
     CHECK(number == 10);
-    return 0;
 }
 
 /* Whether the bytes behind the kind of a token of `whole` are these. */
@@ -231,14 +221,13 @@ static bool has_fields(size_t number, const uint8_t fields[3]) {
 }
 
 /* Tokens with fields among others that have none. */
-static int check_fields(batch_call *tokens) {
+static void check_fields(batch_call *tokens) {
     static const uint8_t fields[][3] = {{0, 1, 0}, {1, 16, 1}, {0, 0, 0}, {2, 10, 1},
                                         {0, 0, 0}, {8, 1, 0},  {1, 0, 0}, {0, 0, 0}};
     CHECK(is_lexed(tokens, "/**/0x 1e r\"\"'1 ", 16, 0, 8));
     for (size_t i = 0; i < 8; i++)
         CHECK(has_fields(i, fields[i]));
     CHECK(is_lexed(tokens, " ---", 4, 1, 1) && has_fields(0, (const uint8_t[]){1, 1, 0}));
-    return 0;
 }
 
 typedef uint32_t unescape_call(const uint8_t *, size_t, uint32_t, size_t, struct rustc_lexer_unit *, size_t, size_t *);
@@ -250,7 +239,7 @@ static bool is_unit(struct rustc_lexer_unit unit, size_t start, size_t end, uint
 /* A line end that is skipped with two warnings, and what follows it. */
 static const uint8_t warned[] = "\\\n\n\xc2\xa0x";
 
-static int check_units(unescape_call *unescape) {
+static void check_units(unescape_call *unescape) {
     static const uint8_t text[] = "a\\q\\xff\\\n\n b";
     struct rustc_lexer_unit units[16];
     size_t len = sizeof text - 1, count = 99;
@@ -284,10 +273,9 @@ static int check_units(unescape_call *unescape) {
         CHECK(passed > 2 || is_unit(units[2 - passed], 3, 5, RUSTC_LEXER_UNIT_CHAR, 0xa0));
         CHECK(is_unit(units[3 - passed], 5, 6, RUSTC_LEXER_UNIT_CHAR, 'x'));
     }
-    return 0;
 }
 
-static int check_errors(unescape_call *errors) {
+static void check_errors(unescape_call *errors) {
     static const uint8_t text[] = "a\\q\\xff\\\n\n b";
     struct rustc_lexer_unit units[16];
     size_t len = sizeof text - 1, count = 99;
@@ -307,7 +295,6 @@ static int check_errors(unescape_call *errors) {
     CHECK(errors(text, 1, RUSTC_LEXER_BYTE, 0, units, 1, &count) == RUSTC_LEXER_OK && count == 0);
     CHECK(errors(NULL, 0, RUSTC_LEXER_BYTE, 0, NULL, 0, &count) == RUSTC_LEXER_OK && count == 0);
     CHECK(errors(text, len, 11, 0, units, 16, &count) == RUSTC_LEXER_BAD_MODE && count == 0);
-    return 0;
 }
 
 /* What is marked of a text, with so much room. Behind what is written the buffer keeps its marks. */
@@ -321,7 +308,7 @@ static bool is_marked_as(const char *text, uint32_t style, uint32_t edition, siz
     return written == len && memcmp(bytes, wanted, len) == 0 && bytes[len] == 0xAA;
 }
 
-static int check_marks(void) {
+static void check_marks(void) {
     static const uint8_t text[] = "a<";
     uint8_t bytes[8];
     size_t written = 99;
@@ -365,24 +352,29 @@ static int check_marks(void) {
                                 &written) == refused[i].status);
         CHECK(written == 0 && memcmp(bytes, "\xaa\xaa\xaa\xaa\xaa\xaa\xaa\xaa", 8) == 0);
     }
-    return 0;
 }
 
 int main(void) {
     batch_call *const calls[] = {rustc_lexer_tokens, rustc_lexer_tokens_unchecked};
     CHECK(sizeof(struct rustc_lexer_token) == 12 && sizeof(struct rustc_lexer_relexing) == 7 * sizeof(size_t));
     CHECK(sizeof(struct rustc_lexer_unit) == 2 * sizeof(size_t) + 8 && sizeof(struct rustc_lexer_head) == 36);
-    for (int i = 0; i < 2; i++)
-        if (check_empty_text(calls[i]) || check_buffer(calls[i]) || check_frontmatter(calls[i]) ||
-            check_places(calls[i]) || check_symbols(calls[i]) || check_literals(calls[i]) || check_fields(calls[i]))
-            return 1;
-    unescape_call *const unescapes[] = {rustc_lexer_unescape, rustc_lexer_unescape_unchecked};
-    for (int i = 0; i < 2; i++)
-        if (check_units(unescapes[i]))
-            return 1;
-    unescape_call *const literal_errors[] = {rustc_lexer_literal_errors, rustc_lexer_literal_errors_unchecked};
-    for (int i = 0; i < 2; i++)
-        if (check_errors(literal_errors[i]))
-            return 1;
-    return check_bad_texts() || check_null() || check_records() || check_others() || check_marks();
+    for (int i = 0; i < 2; i++) {
+        check_empty_text(calls[i]);
+        check_buffer(calls[i]);
+        check_frontmatter(calls[i]);
+        check_places(calls[i]);
+        check_symbols(calls[i]);
+        check_literals(calls[i]);
+        check_fields(calls[i]);
+    }
+    check_units(rustc_lexer_unescape);
+    check_units(rustc_lexer_unescape_unchecked);
+    check_errors(rustc_lexer_literal_errors);
+    check_errors(rustc_lexer_literal_errors_unchecked);
+    check_bad_texts();
+    check_null();
+    check_records();
+    check_others();
+    check_marks();
+    return 0;
 }

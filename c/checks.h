@@ -1,8 +1,10 @@
-/* What calls.c and edits.c share: a check that names what failed, and a buffer of tokens with a mark in each byte. */
+/* What the tests share: a check that names what failed and ends the program, and a buffer of tokens with a mark in each
+ * byte. */
 #ifndef CHECKS_H
 #define CHECKS_H
 
 #include <stdio.h>
+#include <stdlib.h>
 #include <string.h>
 
 #include "rustc_lexer.h"
@@ -11,7 +13,7 @@
     do { \
         if (!(so)) { \
             printf("%s:%d: %s\n", __FILE__, __LINE__, #so); \
-            return 1; \
+            exit(1); \
         } \
     } while (0)
 

@@ -63,7 +63,7 @@ static bool is_from_scratch(const struct held *held) {
     return count == held->count;
 }
 
-static int check_edits(relex_call *relex) {
+static void check_edits(relex_call *relex) {
     struct held held;
     for (size_t buffer_len = 1; buffer_len <= BUFFER_LEN; buffer_len++) {
         memset(&held, 0, sizeof held);
@@ -81,12 +81,11 @@ static int check_edits(relex_call *relex) {
         CHECK(edit_held(relex, &held, 1, 1, "\xc3\xa9", 2024, buffer_len) == RUSTC_LEXER_OK && is_from_scratch(&held));
         CHECK(edit_held(relex, &held, 0, held.len, "", 2024, buffer_len) == RUSTC_LEXER_OK && held.count == 0);
     }
-    return 0;
 }
 
 /* 300 symbols are put in between two, by buffers of so many tokens. What stands less than two characters before them is
  * lexed again. A call past the last token writes none. */
-static int check_long_edit(relex_call *relex) {
+static void check_long_edit(relex_call *relex) {
     static const size_t lens[] = {40, 64, 300, 301, 400};
     static const struct rustc_lexer_edit edit = {1, 1, 301};
     static struct rustc_lexer_token old[2], lexed[PLACES], part[PLACES];
@@ -111,10 +110,9 @@ static int check_long_edit(relex_call *relex) {
         CHECK(relexing.front_place == 0 && relexing.back_place == 1 && relexing.at == 301);
         CHECK(relexing.stage == RUSTC_LEXER_STAGE_DONE);
     }
-    return 0;
 }
 
-static int check_editions(relex_call *relex) {
+static void check_editions(relex_call *relex) {
     struct held held;
     for (uint32_t year = 2000; year < 2100; year++) {
         memset(&held, 0, sizeof held);
@@ -131,13 +129,14 @@ static int check_editions(relex_call *relex) {
     memset(&held, 0, sizeof held);
     CHECK(edit_held(relex, &held, 0, 0, "a", 2022, BUFFER_LEN) == RUSTC_LEXER_BAD_EDITION);
     CHECK(held.relexing.stage == RUSTC_LEXER_STAGE_BEGIN && held.relexing.at == 0);
-    return 0;
 }
 
+/* Edits that cannot have made a text of five bytes of which the second and the third are one character. */
+static const struct rustc_lexer_edit bad[] = {{3, 2, 3}, {3, 3, 1}, {2, 3, 3}, {1, 1, 2}, {0, 0, 6}, {9, 9, 9}};
+
 /* Edits that cannot be, numbers that no call left, and old tokens that are not those of any text. */
-static int check_bad_edits(relex_call *relex) {
+static void check_bad_edits(relex_call *relex) {
     static const uint8_t text[] = "a\xc3\xa9 b";
-    static const struct rustc_lexer_edit bad[] = {{3, 2, 3}, {3, 3, 1}, {2, 3, 3}, {1, 1, 2}, {0, 0, 6}, {9, 9, 9}};
     static const uint32_t lens[] = {0, 1, 2, 3, 5, 0x7fffffff, UINT32_MAX};
     struct rustc_lexer_token old[5];
     size_t count = 99;
@@ -175,7 +174,6 @@ static int check_bad_edits(relex_call *relex) {
             CHECK(relexing.stage == RUSTC_LEXER_STAGE_DONE);
         }
     }
-    return 0;
 }
 
 /* Numbers that look as if drawn by chance, below a bound. */
@@ -225,7 +223,7 @@ static bool has_counts(const struct held *old, const struct held *held, size_t s
 }
 
 /* 10,000 edits of one text, each compared with lexing the text anew. */
-static int check_random_edits(relex_call *relex, uint32_t edition) {
+static void check_random_edits(relex_call *relex, uint32_t edition) {
     static const char *const bits[] = {
         "a",    "r",  "br", "c",  "1",   "0x", "e",  ".",      "_",   " ",   "\n",       "\xc3\xa9",
         "\"",   "'",  "#",  "##", "r#",  "\\", "/",  "//",     "/*",  "*/",  "k#",       "\xf0\x9f\x98\x80",
@@ -250,7 +248,6 @@ static int check_random_edits(relex_call *relex, uint32_t edition) {
         CHECK(anew.count == held.count && memcmp(anew.tokens, held.tokens, held.count * sizeof buffer[0]) == 0);
         CHECK(has_counts(&old, &held, start, stop, strlen(insert)));
     }
-    return 0;
 }
 
 typedef uint32_t body_edit_call(const uint8_t *, size_t, const struct rustc_lexer_edit *, struct rustc_lexer_head *,
@@ -288,8 +285,8 @@ static bool is_document(const struct document *document) {
 }
 
 /* Puts `insert` in place of the bytes from `start` up to `stop`, and makes the edit of the body that this is. */
-static int edit_document(body_edit_call *body_edit, struct document *document, size_t start, size_t stop,
-                         const char *insert) {
+static void edit_document(body_edit_call *body_edit, struct document *document, size_t start, size_t stop,
+                          const char *insert) {
     struct rustc_lexer_edit edit = {(uint32_t)start, (uint32_t)stop, (uint32_t)(start + strlen(insert))}, made;
     struct rustc_lexer_head old = document->head;
     struct held *body = &document->body;
@@ -306,33 +303,28 @@ static int edit_document(body_edit_call *body_edit, struct document *document, s
     CHECK(edit_held(rustc_lexer_relex, body, made.start, made.old_stop, put, 2024, BUFFER_LEN) == RUSTC_LEXER_OK);
     CHECK(body->len == document->len - document->head.body && memcmp(body->text, present, body->len) == 0);
     CHECK(is_document(document));
-    return 0;
 }
 
 /* A head that stays, one that an edit after it changes, and a shebang line that a `[` after it undoes. */
-static int check_heads(body_edit_call *body_edit) {
+static void check_heads(body_edit_call *body_edit) {
     static struct document document;
     memset(&document, 0, sizeof document);
-    if (edit_document(body_edit, &document, 0, 0, "#!/bin/sh\n---\na\n---\nb - c"))
-        return 1;
+    edit_document(body_edit, &document, 0, 0, "#!/bin/sh\n---\na\n---\nb - c");
     CHECK(document.head.shebang_len == 9 && document.head.count == 2 && document.head.body == 19);
     CHECK(document.head.tokens[0].kind == RUSTC_LEXER_WHITESPACE && document.head.tokens[0].len == 1);
     CHECK(document.head.tokens[1].kind == RUSTC_LEXER_FRONTMATTER && document.head_kept == 0);
-    if (edit_document(body_edit, &document, 22, 23, "+"))
-        return 1;
+    edit_document(body_edit, &document, 22, 23, "+");
     CHECK(document.head_kept == 1 && document.body.relexing.kept_front == 1 && document.body.relexing.lexed == 3);
-    if (edit_document(body_edit, &document, 18, 18, "b") || edit_document(body_edit, &document, 26, 26, "\n---\n"))
-        return 1;
+    edit_document(body_edit, &document, 18, 18, "b");
+    edit_document(body_edit, &document, 26, 26, "\n---\n");
     CHECK(document.head.count == 2 && document.head.body > 19 && document.head_kept == 0);
-    if (edit_document(body_edit, &document, 0, document.len, "#!\na = b") ||
-        edit_document(body_edit, &document, 3, 3, "["))
-        return 1;
+    edit_document(body_edit, &document, 0, document.len, "#!\na = b");
+    edit_document(body_edit, &document, 3, 3, "[");
     CHECK(document.head.shebang_len == 0 && document.head.body == 0 && document.head_kept == 0);
-    return edit_document(body_edit, &document, 0, document.len, "");
+    edit_document(body_edit, &document, 0, document.len, "");
 }
 
-static int check_bad_heads(body_edit_call *body_edit) {
-    static const struct rustc_lexer_edit bad[] = {{3, 2, 3}, {3, 3, 1}, {2, 3, 3}, {1, 1, 2}, {0, 0, 6}, {9, 9, 9}};
+static void check_bad_heads(body_edit_call *body_edit) {
     const uint8_t *text = (const uint8_t *)"a\xc3\xa9+b";
     uint64_t random = 1;
     for (size_t i = 0; i < sizeof bad / sizeof bad[0]; i++) {
@@ -359,11 +351,10 @@ static int check_bad_heads(body_edit_call *body_edit) {
             CHECK(rustc_lexer_relex(text + head.body, 5 - head.body, NULL, 0, &made, 2024, &relexing, buffer,
                                     BUFFER_LEN, &count) == RUSTC_LEXER_OK);
     }
-    return 0;
 }
 
 /* 10,000 edits of a document, each compared with lexing it anew. */
-static int check_random_documents(body_edit_call *body_edit) {
+static void check_random_documents(body_edit_call *body_edit) {
     static const char *const bits[] = {
         "#!", "[", "/", "-", "--", "---", "\n---\n", "\n", " ", "cargo", "use ", "//!", "#![", "\"", "\xc3\xa9", "/*",
     };
@@ -378,25 +369,24 @@ static int check_random_documents(body_edit_call *body_edit) {
         memcpy(at.text, document.text, document.len);
         size_t start = place_from(&random, &at, 0, below(&random, 2) ? 12 : MOST);
         size_t stop = place_from(&random, &at, start, document.len > MOST - 40 ? MOST : 4);
-        if (document.len - (stop - start) + strlen(insert) <= MOST &&
-            edit_document(body_edit, &document, start, stop, insert))
-            return 1;
+        if (document.len - (stop - start) + strlen(insert) <= MOST)
+            edit_document(body_edit, &document, start, stop, insert);
     }
-    return 0;
 }
 
 int main(void) {
     relex_call *const relexes[] = {rustc_lexer_relex, rustc_lexer_relex_unchecked};
-    for (int i = 0; i < 2; i++)
-        if (check_edits(relexes[i]) || check_long_edit(relexes[i]) || check_editions(relexes[i]) ||
-            check_bad_edits(relexes[i]))
-            return 1;
     body_edit_call *const body_edits[] = {rustc_lexer_body_edit, rustc_lexer_body_edit_unchecked};
-    for (int i = 0; i < 2; i++)
-        if (check_heads(body_edits[i]) || check_bad_heads(body_edits[i]) || check_random_documents(body_edits[i]))
-            return 1;
+    for (int i = 0; i < 2; i++) {
+        check_edits(relexes[i]);
+        check_long_edit(relexes[i]);
+        check_editions(relexes[i]);
+        check_bad_edits(relexes[i]);
+        check_heads(body_edits[i]);
+        check_bad_heads(body_edits[i]);
+        check_random_documents(body_edits[i]);
+    }
     for (uint32_t edition = 2015; edition <= 2024; edition += 3)
-        if (check_random_edits(relexes[edition % 2], edition))
-            return 1;
+        check_random_edits(relexes[edition % 2], edition);
     return 0;
 }

@@ -7,21 +7,10 @@
  *
  * Each round takes random parts of the files. */
 #define _DEFAULT_SOURCE
-#include <stdio.h>
-#include <stdlib.h>
-#include <string.h>
 #include <sys/mman.h>
 #include <unistd.h>
 
-#include "rustc_lexer.h"
-
-#define CHECK(so) \
-    do { \
-        if (!(so)) { \
-            printf("odd_places.c:%d: %s\n", __LINE__, #so); \
-            exit(1); \
-        } \
-    } while (0)
+#include "checks.h"
 
 /* The longest text, and so the most tokens. */
 #define MOST 400

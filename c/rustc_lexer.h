@@ -142,69 +142,22 @@ struct rustc_lexer_token {
 
 /* The name of a kind of token, or "" for another number. */
 static inline const char *rustc_lexer_kind_name(uint8_t kind) {
-    switch (kind) {
-    case RUSTC_LEXER_LINE_COMMENT: return "LineComment";
-    case RUSTC_LEXER_BLOCK_COMMENT: return "BlockComment";
-    case RUSTC_LEXER_WHITESPACE: return "Whitespace";
-    case RUSTC_LEXER_FRONTMATTER: return "Frontmatter";
-    case RUSTC_LEXER_IDENT: return "Ident";
-    case RUSTC_LEXER_INVALID_IDENT: return "InvalidIdent";
-    case RUSTC_LEXER_RAW_IDENT: return "RawIdent";
-    case RUSTC_LEXER_FORCED_KEYWORD_IDENT: return "ForcedKeywordIdent";
-    case RUSTC_LEXER_UNKNOWN_PREFIX: return "UnknownPrefix";
-    case RUSTC_LEXER_UNKNOWN_PREFIX_LIFETIME: return "UnknownPrefixLifetime";
-    case RUSTC_LEXER_RAW_LIFETIME: return "RawLifetime";
-    case RUSTC_LEXER_GUARDED_STR_PREFIX: return "GuardedStrPrefix";
-    case RUSTC_LEXER_LITERAL: return "Literal";
-    case RUSTC_LEXER_LIFETIME: return "Lifetime";
-    case RUSTC_LEXER_SEMI: return "Semi";
-    case RUSTC_LEXER_COMMA: return "Comma";
-    case RUSTC_LEXER_DOT: return "Dot";
-    case RUSTC_LEXER_OPEN_PAREN: return "OpenParen";
-    case RUSTC_LEXER_CLOSE_PAREN: return "CloseParen";
-    case RUSTC_LEXER_OPEN_BRACE: return "OpenBrace";
-    case RUSTC_LEXER_CLOSE_BRACE: return "CloseBrace";
-    case RUSTC_LEXER_OPEN_BRACKET: return "OpenBracket";
-    case RUSTC_LEXER_CLOSE_BRACKET: return "CloseBracket";
-    case RUSTC_LEXER_AT: return "At";
-    case RUSTC_LEXER_POUND: return "Pound";
-    case RUSTC_LEXER_TILDE: return "Tilde";
-    case RUSTC_LEXER_QUESTION: return "Question";
-    case RUSTC_LEXER_COLON: return "Colon";
-    case RUSTC_LEXER_DOLLAR: return "Dollar";
-    case RUSTC_LEXER_EQ: return "Eq";
-    case RUSTC_LEXER_BANG: return "Bang";
-    case RUSTC_LEXER_LT: return "Lt";
-    case RUSTC_LEXER_GT: return "Gt";
-    case RUSTC_LEXER_MINUS: return "Minus";
-    case RUSTC_LEXER_AND: return "And";
-    case RUSTC_LEXER_OR: return "Or";
-    case RUSTC_LEXER_PLUS: return "Plus";
-    case RUSTC_LEXER_STAR: return "Star";
-    case RUSTC_LEXER_SLASH: return "Slash";
-    case RUSTC_LEXER_CARET: return "Caret";
-    case RUSTC_LEXER_PERCENT: return "Percent";
-    case RUSTC_LEXER_UNKNOWN: return "Unknown";
-    case RUSTC_LEXER_EOF: return "Eof";
-    default: return "";
-    }
+    static const char *const names[] = {
+        "", "LineComment", "BlockComment", "Whitespace", "Frontmatter", "Ident", "InvalidIdent", "RawIdent",
+        "ForcedKeywordIdent", "UnknownPrefix", "UnknownPrefixLifetime", "RawLifetime", "GuardedStrPrefix",
+        "Literal", "Lifetime", "Semi", "Comma", "Dot", "OpenParen", "CloseParen", "OpenBrace", "CloseBrace",
+        "OpenBracket", "CloseBracket", "At", "Pound", "Tilde", "Question", "Colon", "Dollar", "Eq", "Bang",
+        "Lt", "Gt", "Minus", "And", "Or", "Plus", "Star", "Slash", "Caret", "Percent", "Unknown", "Eof"
+    };
+    return kind < sizeof names / sizeof *names ? names[kind] : "";
 }
 
 /* The name of a kind of literal, or "" for another number. */
 static inline const char *rustc_lexer_literal_kind_name(uint8_t literal_kind) {
-    switch (literal_kind) {
-    case RUSTC_LEXER_INT: return "Int";
-    case RUSTC_LEXER_FLOAT: return "Float";
-    case RUSTC_LEXER_CHAR: return "Char";
-    case RUSTC_LEXER_BYTE: return "Byte";
-    case RUSTC_LEXER_STR: return "Str";
-    case RUSTC_LEXER_BYTE_STR: return "ByteStr";
-    case RUSTC_LEXER_C_STR: return "CStr";
-    case RUSTC_LEXER_RAW_STR: return "RawStr";
-    case RUSTC_LEXER_RAW_BYTE_STR: return "RawByteStr";
-    case RUSTC_LEXER_RAW_C_STR: return "RawCStr";
-    default: return "";
-    }
+    static const char *const names[] = {
+        "", "Int", "Float", "Char", "Byte", "Str", "ByteStr", "CStr", "RawStr", "RawByteStr", "RawCStr"
+    };
+    return literal_kind < sizeof names / sizeof *names ? names[literal_kind] : "";
 }
 
 /* A place in a text. A part of a file begins at {0, 0}, and a whole file at {line_len, 1}: after its shebang line,

@@ -430,13 +430,10 @@ const tasks = {
     };
     // the caret in front of some words
     const caret = (words) => value(`text.focus(); text.setSelectionRange(...Array(2).fill(text.value.indexOf(${JSON.stringify(words)}))); show()`);
-    for (const [name, width, height, scheme] of [['page-light.png', 1180, 960, 'light'], ['page-dark.png', 1180, 960, 'dark'],
-      ['page-narrow.png', 480, 960, 'light']]) {
-      await size(width, height, scheme);
-      await open();
-      await caret('bytes');
-      await shoot(name, width, height);
-    }
+    await size(1180, 960, 'light');
+    await open();
+    await caret('bytes');
+    await shoot('page.png', 1180, 960);
     await size(640, 900, 'light');
     await open();
     await caret(' = 0b');

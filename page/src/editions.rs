@@ -1,7 +1,7 @@
 //! The years of the editions, and where their tokens differ.
 
-use crate::json::{push_list, push_name, push_text};
-use crate::seen::piece;
+use crate::json::{push_list, push_name, push_number, push_text, push_word};
+use crate::seen::{piece, push_place};
 use crate::source::{EDITIONS, Source};
 use rustc_lexer::{Edition, Token};
 use std::array::from_fn;
@@ -41,9 +41,8 @@ fn differences(source: &Source) -> Vec<Difference> {
     while let Some(first) = walks[0].tokens.get(walks[0].number) {
         let start = walks[0].end;
         let from = walks.each_ref().map(|walk| walk.number);
-        let alike = walks
-            .iter()
-            .all(|walk| walk.tokens.get(walk.number) == Some(first));
+        let is_first = |walk: &Walk| walk.tokens.get(walk.number) == Some(first);
+        let alike = walks.iter().all(is_first);
         walks.iter_mut().for_each(Walk::step);
         while let Some(least) = behind(&mut walks) {
             least.step();
@@ -82,28 +81,22 @@ pub fn write(source: &Source) -> String {
     push_list(&mut out, 0..EDITIONS, |out, edition| {
         *out += &source.tokens(edition).len().to_string()
     });
-    push_name(&mut out, "differ");
-    out += &found.len().to_string();
+    push_number(&mut out, "differ", found.len());
     push_name(&mut out, "places");
     push_list(&mut out, found.iter().take(MOST), |out, difference| {
-        let (line, column) = source.place(difference.bytes.start);
         out.push('{');
-        push_name(out, "place");
-        push_text(out, &format!("{line}:{column}"));
-        push_name(out, "text");
-        push_text(out, &piece(source, difference.bytes.clone()));
+        push_place(out, source, difference.bytes.start);
+        push_word(
+            out,
+            "text",
+            &piece(&source.text()[difference.bytes.clone()]),
+        );
         push_name(out, "editions");
         push_list(out, 0..EDITIONS, |out, edition| {
-            let mut end = difference.bytes.start;
-            push_list(out, difference.numbers[edition].clone(), |out, number| {
-                let token = source.tokens(edition)[number];
-                let start = end;
-                end += token.len as usize;
-                push_list(
-                    out,
-                    [token.kind.name(), &piece(source, start..end)],
-                    push_text,
-                );
+            let tokens = source.pieces_of(edition, difference.numbers[edition].clone());
+            push_list(out, tokens, |out, token| {
+                let words = [token.token.kind.name(), &piece(token.text)];
+                push_list(out, words, push_text);
             });
         });
         out.push('}');

@@ -33,11 +33,20 @@ pub fn push_list<T>(
 
 /// Appends the name of a field of an object.
 pub fn push_name(out: &mut String, name: &str) {
-    out.push(if out.ends_with('{') || out.is_empty() {
-        ' '
-    } else {
-        ','
-    });
+    let is_first = out.ends_with('{') || out.is_empty();
+    out.push(if is_first { ' ' } else { ',' });
     push_text(out, name);
     out.push(':');
+}
+
+/// Appends a text with its name.
+pub fn push_word(out: &mut String, name: &str, text: &str) {
+    push_name(out, name);
+    push_text(out, text);
+}
+
+/// Appends a number with its name.
+pub fn push_number(out: &mut String, name: &str, number: usize) {
+    push_name(out, name);
+    *out += &number.to_string();
 }

@@ -1,11 +1,10 @@
 //! What the page shows: lines with their marks, tokens, and what an edit kept.
 
-use crate::json::{push_list, push_name, push_text};
+use crate::json::{push_list, push_name, push_number, push_text, push_word};
 use crate::listing;
 use crate::source::Source;
 use crate::value::value;
 use crate::window::{Line, lines_of};
-use rustc_lexer::Token;
 use std::ops::Range;
 
 /// How many tokens are listed at once.
@@ -14,8 +13,7 @@ const MOST_TOKENS: usize = 300;
 const MOST_SHOWN: usize = 40;
 
 /// A piece of the text in one line: characters of control are written as escapes, and a long piece is cut.
-pub fn piece(source: &Source, range: Range<usize>) -> String {
-    let text = &source.text()[range];
+pub fn piece(text: &str) -> String {
     let mut shown = String::new();
     for c in text.chars().take(MOST_SHOWN) {
         if c.is_control() {
@@ -30,32 +28,17 @@ pub fn piece(source: &Source, range: Range<usize>) -> String {
     shown
 }
 
-/// How many bytes tokens have.
-fn bytes_of(tokens: &[Token]) -> usize {
-    tokens.iter().map(|token| token.len as usize).sum()
-}
-
-/// Pushes a number with its name.
-fn push_number(out: &mut String, name: &str, number: usize) {
-    push_name(out, name);
-    *out += &number.to_string();
-}
-
 /// How long the text is, and how many tokens the last edit kept in front, lexed, and kept at the back.
 pub fn kept(source: &Source, edition: usize) -> String {
     let mut out = "{".to_string();
     push_number(&mut out, "bytes", source.text().len());
     push_number(&mut out, "lines", source.line_count());
     push_name(&mut out, "kept");
-    match source.last(edition) {
-        None => out += "null",
-        Some(last) => push_list(
-            &mut out,
-            [last.kept_front, last.lexed, last.kept_back],
-            |out, count| {
-                *out += &count.to_string();
-            },
-        ),
+    if let Some(last) = source.last(edition) {
+        let counts = [last.kept_front, last.lexed, last.kept_back];
+        push_list(&mut out, counts, |out, count| *out += &count.to_string());
+    } else {
+        out += "null";
     }
     out + "}"
 }
@@ -68,9 +51,12 @@ fn fresh(source: &Source, edition: usize) -> Range<usize> {
     else {
         return 0..0;
     };
-    let tokens = source.tokens(edition);
-    let front = source.begin() + bytes_of(&tokens[..last.kept_front]);
-    front..front + bytes_of(&tokens[last.range()])
+    let mut lexed = source.pieces_of(edition, last.range());
+    let Some(first) = lexed.next() else {
+        return 0..0;
+    };
+    let end = lexed.last().unwrap_or(first);
+    first.start as usize..end.start as usize + end.text.len()
 }
 
 /// The bytes of some lines, without the end of the last.
@@ -101,16 +87,17 @@ pub fn show(source: &Source, first: usize, count: usize, caret: usize, edition: 
     push_tokens(&mut out, source, listed.clone(), &fresh, edition);
     push_number(&mut out, "at", at);
     push_name(&mut out, "elsewhere");
-    let elsewhere = if listed.contains(&at) {
-        at..at
-    } else {
-        at..there.min(at + 1)
-    };
+    let is_elsewhere = at < there && !listed.contains(&at);
+    let elsewhere = at..at + usize::from(is_elsewhere);
     push_tokens(&mut out, source, elsewhere, &fresh, edition);
-    push_name(&mut out, "place");
-    let (line, column) = source.place(caret);
-    push_text(&mut out, &format!("{line}:{column}"));
+    push_place(&mut out, source, caret);
     out + "}"
+}
+
+/// Pushes the line and the column of a byte, with their name.
+pub fn push_place(out: &mut String, source: &Source, at: usize) {
+    let (line, column) = source.place(at);
+    push_word(out, "place", &format!("{line}:{column}"));
 }
 
 fn push_line(out: &mut String, line: &Line) {
@@ -119,11 +106,8 @@ fn push_line(out: &mut String, line: &Line) {
     push_list(out, &line.runs, |out, run| {
         let wrong = if run.wrong { " wrong" } else { "" };
         let fresh = if run.fresh { " fresh" } else { "" };
-        push_list(
-            out,
-            [&format!("{}{wrong}{fresh}", run.class), &run.text],
-            |out, text| push_text(out, text),
-        );
+        let class = format!("{}{wrong}{fresh}", run.class);
+        push_list(out, [&*class, &run.text], push_text);
     });
     push_name(out, "said");
     push_list(out, &line.said, |out, said| push_text(out, said));
@@ -138,40 +122,24 @@ fn push_tokens(
     fresh: &Range<usize>,
     edition: usize,
 ) {
-    let tokens = source.tokens(edition);
-    if numbers.is_empty() {
-        return out.push_str("[]");
-    }
-    let mut end = source.begin() + bytes_of(&tokens[..numbers.start]);
     let lines = listing::write(source, numbers.clone(), edition);
-    push_list(out, numbers.zip(lines.lines()), |out, (number, line)| {
-        let start = end;
-        end += tokens[number].len as usize;
-        let (row, column) = source.place(start);
+    let tokens = source.pieces_of(edition, numbers.clone());
+    let rows = numbers.zip(tokens).zip(lines.lines());
+    push_list(out, rows, |out, ((number, token), line)| {
+        let start = token.start as usize;
         let mut words = line.splitn(4, ' ').skip(2);
         out.push('{');
         push_number(out, "number", number);
         push_number(out, "start", start);
-        push_number(out, "bytes", end - start);
-        push_name(out, "place");
-        push_text(out, &format!("{row}:{column}"));
-        push_name(out, "text");
-        push_text(out, &piece(source, start..end));
-        push_name(out, "kind");
-        push_text(out, words.next().unwrap_or(""));
-        push_name(out, "fields");
-        push_text(out, words.next().unwrap_or(""));
-        push_name(out, "value");
-        push_text(
-            out,
-            &value(tokens[number].kind, &source.text()[start..end]).unwrap_or_default(),
-        );
+        push_number(out, "bytes", token.text.len());
+        push_place(out, source, start);
+        push_word(out, "text", &piece(token.text));
+        push_word(out, "kind", words.next().unwrap_or(""));
+        push_word(out, "fields", words.next().unwrap_or(""));
+        let value = value(token.token.kind, token.text);
+        push_word(out, "value", &value.unwrap_or_default());
         push_name(out, "fresh");
-        *out += if fresh.contains(&start) {
-            "true"
-        } else {
-            "false"
-        };
+        *out += &fresh.contains(&start).to_string();
         out.push('}');
     });
 }
@@ -180,21 +148,12 @@ fn push_tokens(
 /// there is none.
 pub fn parts_alike(source: &Source, edition: usize) -> String {
     let fresh = fresh(source, edition);
+    let lines = |first, count| {
+        let range = bytes_of_lines(source, first, count);
+        lines_of(source, range, fresh.clone(), edition)
+    };
     let count = source.line_count();
-    let all = lines_of(
-        source,
-        bytes_of_lines(source, 0, count),
-        fresh.clone(),
-        edition,
-    );
-    let differs = (0..count).find(|line| {
-        let alone = lines_of(
-            source,
-            bytes_of_lines(source, *line, 1),
-            fresh.clone(),
-            edition,
-        );
-        alone[..] != all[*line..*line + 1]
-    });
+    let all = lines(0, count);
+    let differs = (0..count).find(|line| lines(*line, 1)[..] != all[*line..*line + 1]);
     differs.map_or(String::new(), |line| (line + 1).to_string())
 }

@@ -1,8 +1,8 @@
 //! The text of the page, with its tokens in each edition.
 
 use rustc_lexer::{
-    Edition, FrontmatterAllowed, LexedDocument, LexedText, Relexed, Token, TokenKind, tokenize,
-    tokenize_document, tokenize_in,
+    Edition, FrontmatterAllowed, LexedDocument, LexedText, Pieces, Relexed, Token, TokenKind,
+    tokenize, tokenize_document, tokenize_in,
 };
 use std::ops::Range;
 
@@ -33,13 +33,10 @@ impl Held {
     }
 
     fn edit(&mut self, range: Range<usize>, insert: &str) -> [Relexed; EDITIONS] {
+        let range = || range.clone();
         match self {
-            Held::Part(texts) => texts
-                .each_mut()
-                .map(|text| text.edit(range.clone(), insert)),
-            Held::Document(texts) => texts
-                .each_mut()
-                .map(|text| text.edit(range.clone(), insert)),
+            Held::Part(texts) => texts.each_mut().map(|it| it.edit(range(), insert)),
+            Held::Document(texts) => texts.each_mut().map(|it| it.edit(range(), insert)),
         }
     }
 }
@@ -61,7 +58,6 @@ impl Source {
 }
 
 impl Source {
-    /// An empty text.
     pub fn new() -> Source {
         Source {
             held: Held::new("", false),
@@ -70,7 +66,6 @@ impl Source {
         }
     }
 
-    /// The text.
     pub fn text(&self) -> &str {
         match &self.held {
             Held::Part(texts) => texts[0].text(),
@@ -83,6 +78,14 @@ impl Source {
         match &self.held {
             Held::Part(texts) => texts[edition].tokens(),
             Held::Document(texts) => texts[edition].tokens(),
+        }
+    }
+
+    /// The tokens of these numbers, with their places and texts.
+    pub fn pieces_of(&self, edition: usize, numbers: Range<usize>) -> Pieces<'_> {
+        match &self.held {
+            Held::Part(texts) => texts[edition].pieces_of(numbers),
+            Held::Document(texts) => texts[edition].pieces_of(numbers),
         }
     }
 
@@ -104,7 +107,6 @@ impl Source {
         self.last.map(|last| last[edition])
     }
 
-    /// The number of lines.
     pub fn line_count(&self) -> usize {
         self.lines.len()
     }
@@ -165,9 +167,8 @@ impl Source {
             self.last = Some(self.held.edit(range, insert));
         }
         let ends = new.bytes().enumerate().filter(|(_, byte)| *byte == b'\n');
-        self.lines = std::iter::once(0)
-            .chain(ends.map(|(at, _)| at + 1))
-            .collect();
+        let starts = ends.map(|(at, _)| at + 1);
+        self.lines = std::iter::once(0).chain(starts).collect();
     }
 
     /// `yes`, or the first year whose tokens are not those of lexing the text anew.
@@ -192,11 +193,8 @@ impl Source {
 
 /// How many bytes both texts have in front, in whole characters.
 fn shared_front(old: &str, new: &str) -> usize {
-    let mut front = old
-        .bytes()
-        .zip(new.bytes())
-        .take_while(|(a, b)| a == b)
-        .count();
+    let pairs = old.bytes().zip(new.bytes());
+    let mut front = pairs.take_while(|(a, b)| a == b).count();
     while !old.is_char_boundary(front) || !new.is_char_boundary(front) {
         front -= 1;
     }

@@ -23,6 +23,18 @@ fn lines(source: &Source) -> Vec<Line> {
     lines_of(source, 0..source.text().len(), 0..0, NEWEST)
 }
 
+/// The answer has this part.
+#[track_caller]
+fn has(answer: &str, part: &str) {
+    assert!(answer.contains(part), "no {part} in {answer}");
+}
+
+/// The answer ends so.
+#[track_caller]
+fn ends(answer: &str, part: &str) {
+    assert!(answer.ends_with(part), "no {part} at the end of {answer}");
+}
+
 /// The classes and the texts of a line.
 fn runs(line: &Line) -> Vec<(&str, &str)> {
     let runs = line.runs.iter();
@@ -125,10 +137,7 @@ fn changes() {
         "ê",
     ] {
         source.change(text, true);
-        assert_eq!(
-            (source.text(), source.as_lexed_anew()),
-            (text, "yes".to_string())
-        );
+        assert_eq!((source.text(), &*source.as_lexed_anew()), (text, "yes"));
         assert_eq!(source.line_count(), text.split('\n').count());
     }
     source.change("ab cd ef gh", false);
@@ -148,17 +157,10 @@ fn marks_of_lines() {
     let lines = lines(&source);
     assert_eq!(lines.len(), 4);
     assert_eq!(runs(&lines[0]), [("keyword", "fn"), ("", " f() {")]);
-    let second = [
-        ("", "  "),
-        ("text", "\"<&é>\""),
-        ("", " "),
-        ("comment", "// x"),
-    ];
-    assert_eq!(runs(&lines[1]), second);
-    assert_eq!(
-        (runs(&lines[2]), runs(&lines[3])),
-        (vec![("", "}")], vec![])
-    );
+    let (string, comment) = (("text", "\"<&é>\""), ("comment", "// x"));
+    assert_eq!(runs(&lines[1]), [("", "  "), string, ("", " "), comment]);
+    assert_eq!(runs(&lines[2]), [("", "}")]);
+    assert_eq!(runs(&lines[3]), []);
     assert_eq!(seen::parts_alike(&source, NEWEST), "");
 }
 
@@ -167,17 +169,12 @@ fn marks_of_lines() {
 fn marks_of_a_document() {
     let text = "#!/a\n---\nb\n---\nfn\n---";
     let (whole, part) = (source(text, true), source(text, false));
-    let classes = |source| {
-        lines(source)
-            .iter()
-            .map(|line| line.runs[0].class.clone())
-            .collect::<Vec<_>>()
-    };
-    assert_eq!(
-        classes(&whole),
-        ["comment", "doc", "doc", "doc", "keyword", ""]
-    );
-    assert_eq!(classes(&part), ["", "", "", "", "keyword", ""]);
+    let of_whole = ["comment", "doc", "doc", "doc", "keyword", ""];
+    for (source, wanted) in [(&whole, of_whole), (&part, ["", "", "", "", "keyword", ""])] {
+        let lines = lines(source);
+        let classes: Vec<&str> = lines.iter().map(|line| &*line.runs[0].class).collect();
+        assert_eq!(classes, wanted);
+    }
     assert_eq!(seen::parts_alike(&whole, NEWEST), "");
 }
 
@@ -186,31 +183,22 @@ fn marks_of_a_document() {
 fn limits() {
     for rest in ["a".repeat(4100), "é".repeat(2050)] {
         let long = source(&format!("//{rest}"), false);
-        let lens: Vec<_> = lines(&long)[0]
-            .runs
-            .iter()
-            .map(|run| run.text.len())
-            .collect();
-        assert_eq!(lens, [4000, 102]);
+        let runs = &lines(&long)[0].runs;
+        assert!(runs.iter().map(|run| run.text.len()).eq([4000, 102]));
     }
     let twice = format!("//{0}\n//{0}", "a".repeat(3000));
-    assert!(
-        lines(&source(&twice, false))
-            .iter()
-            .all(|line| line.runs.len() == 1)
-    );
+    let lines_of_twice = lines(&source(&twice, false));
+    assert!(lines_of_twice.iter().all(|line| line.runs.len() == 1));
     let wrong = source(&"0x ".repeat(11), false);
     assert_eq!(lines(&wrong)[0].said.len(), 10);
     assert!(lines(&wrong)[0].runs[0].wrong);
     let (forty, more) = ("b".repeat(40), "b".repeat(41));
-    assert_eq!(piece(&source(&forty, false), 0..40), forty);
+    assert_eq!(piece(&forty), forty);
     let wide = "é".repeat(40);
-    assert_eq!(piece(&source(&wide, false), 0..80), wide);
-    assert_eq!(
-        piece(&source(&more, false), 0..41),
-        forty.clone() + "\u{2026}"
-    );
-    assert_eq!(piece(&source("\t\u{7f}é", false), 0..4), "\\t\\u{7f}é");
+    assert_eq!(piece(&wide), wide);
+    let cut = format!("{forty}\u{2026}");
+    assert_eq!(piece(&more), cut);
+    assert_eq!(piece("\t\u{7f}é"), "\\t\\u{7f}é");
     let many = seen::show(&source(&";".repeat(301), false), 0, 1, 0, NEWEST);
     assert_eq!(many.matches("\"number\":").count(), 300);
     let differ = editions::write(&source(&"q#a ".repeat(60), false));
@@ -263,22 +251,20 @@ fn calls_of_the_page() {
     unsafe { crate::room(9).copy_from(b"a\xff+cdefgh".as_ptr(), 9) };
     let kept = r#"{ "bytes":5,"lines":1,"kept":[0,3,0]}"#;
     assert_eq!(answered(crate::change(3, false, NEWEST)), kept);
-    assert_eq!(
-        answered(crate::listing(NEWEST)),
-        "0 1 Ident\n1 3 Unknown\n4 1 Plus\n"
-    );
+    let listed = answered(crate::listing(NEWEST));
+    assert_eq!(listed, "0 1 Ident\n1 3 Unknown\n4 1 Plus\n");
     assert_eq!(answered(crate::as_lexed_anew()), "yes");
     assert_eq!(answered(crate::parts_alike(NEWEST)), "");
     assert_eq!(answered(crate::years()), "[2015,2018,2021,2024]");
     let shown = answered(crate::show(0, 1, 2, NEWEST));
-    assert!(shown.ends_with(r#""place":"1:3"}"#), "{shown}");
+    ends(&shown, r#""place":"1:3"}"#);
     // Nothing was kept, so nothing stands out as lexed.
-    assert!(
-        !shown.contains(r#""fresh":true"#) && !shown.contains(" fresh"),
-        "{shown}"
+    let is_fresh = shown.contains(r#""fresh":true"#) || shown.contains(" fresh");
+    assert!(!is_fresh, "{shown}");
+    has(
+        &shown,
+        r#"{ "number":0,"start":0,"bytes":1,"place":"1:1","text":"a","#,
     );
-    let first = r#"{ "number":0,"start":0,"bytes":1,"place":"1:1","text":"a","#;
-    assert!(shown.contains(first), "the first line has it: {shown}");
     assert!(answered(crate::editions()).starts_with(r#"{ "counts":[3,3,3,3],"differ":0,"#));
     // Each call that takes an edition answers of that.
     for (edition, count) in [3, 3, 1, 1].into_iter().enumerate() {
@@ -289,7 +275,7 @@ fn calls_of_the_page() {
         let listed = answered(crate::listing(edition));
         assert_eq!(listed.lines().count(), count);
         let shown = answered(crate::show(0, 1, 0, edition));
-        assert!(shown.contains(&format!(r#""count":{count},"#)), "{shown}");
+        has(&shown, &format!(r#""count":{count},"#));
         assert_eq!(answered(crate::parts_alike(edition)), "");
         assert_eq!(answered(crate::as_lexed_anew()), "yes");
     }
@@ -301,14 +287,17 @@ fn what_is_seen() {
     let mut source = source("a\nb\nc", false);
     source.change("a\nbd\nc", false);
     let seen = seen::show(&source, 1, 1, 0, NEWEST);
-    assert!(
-        seen.contains(r#""lines":[{ "runs":[[" fresh","bd"]],"said":[]}]"#),
-        "{seen}"
+    has(&seen, r#""lines":[{ "runs":[[" fresh","bd"]],"said":[]}]"#);
+    has(&seen, r#""count":5,"begin":0,"#);
+    has(
+        &seen,
+        r#""at":0,"elsewhere":[{ "number":0,"start":0,"bytes":1,"place":"1:1","text":"a","kind":"Ident""#,
     );
-    assert!(seen.contains(r#""count":5,"begin":0,"#), "{seen}");
-    assert!(seen.contains(r#""at":0,"elsewhere":[{ "number":0,"start":0,"bytes":1,"place":"1:1","text":"a","kind":"Ident""#), "{seen}");
-    assert!(seen.contains(r#"{ "number":2,"start":2,"bytes":2,"place":"2:1","text":"bd","kind":"Ident","fields":"","value":"","fresh":true}"#), "{seen}");
-    assert!(seen.ends_with(r#""place":"1:1"}"#), "{seen}");
+    has(
+        &seen,
+        r#"{ "number":2,"start":2,"bytes":2,"place":"2:1","text":"bd","kind":"Ident","fields":"","value":"","fresh":true}"#,
+    );
+    ends(&seen, r#""place":"1:1"}"#);
 }
 
 /// Line 201 of 400. Each is a word and its end: three bytes in lines 1 to 10, four up to line 100, and then five.
@@ -316,23 +305,13 @@ fn what_is_seen() {
 fn what_is_seen_far_down() {
     let text: String = (0..400).map(|number| format!("x{number}\n")).collect();
     let seen = seen::show(&source(&text, false), 200, 1, 4, NEWEST);
-    assert!(
-        seen.starts_with(r#"{ "lines":[{ "runs":[["","x200"]],"said":[]}],"count":800,"begin":0,"#),
-        "{seen}"
-    );
+    let lines = r#"{ "lines":[{ "runs":[["","x200"]],"said":[]}],"count":800,"begin":0,"#;
     let token = r#""kind":"Ident","fields":"","value":"","fresh":false}"#;
-    let tokens = [
-        format!(
-            r#""tokens":[{{ "number":400,"start":890,"bytes":4,"place":"201:1","text":"x200",{token}]"#
-        ),
-        format!(
-            r#""at":2,"elsewhere":[{{ "number":2,"start":3,"bytes":2,"place":"2:1","text":"x1",{token}]"#
-        ),
-    ];
-    assert!(
-        seen.ends_with(&format!(r#"{},{},"place":"2:2"}}"#, tokens[0], tokens[1])),
-        "{seen}"
-    );
+    let tokens = r#""tokens":[{ "number":400,"start":890,"bytes":4,"place":"201:1","text":"x200","#;
+    let other =
+        r#""at":2,"elsewhere":[{ "number":2,"start":3,"bytes":2,"place":"2:1","text":"x1","#;
+    let wanted = format!(r#"{lines}{tokens}{token}],{other}{token}],"place":"2:2"}}"#);
+    assert_eq!(seen, wanted);
 }
 
 /// Places and texts of a document begin past its shebang line, and count that.
@@ -341,28 +320,23 @@ fn what_is_seen_of_a_document() {
     let mut document = source("#!/é\nq#b", true);
     let seen = seen::show(&document, 0, 2, 5, NEWEST);
     let lines = r##""lines":[{ "runs":[["comment","#!/é"]],"said":[]},{ "runs":[[" wrong","q"],["","#b"]],"said":["##;
-    assert!(
-        seen.contains(lines) && seen.contains(r#""count":4,"begin":5,"#),
-        "{seen}"
-    );
+    has(&seen, lines);
+    has(&seen, r#""count":4,"begin":5,"#);
     for token in [
         r#"{ "number":0,"start":5,"bytes":1,"place":"1:5","text":"\\n","kind":"Whitespace","#,
         r#"{ "number":1,"start":6,"bytes":1,"place":"2:1","text":"q","kind":"UnknownPrefix","#,
         r#"{ "number":3,"start":8,"bytes":1,"place":"2:3","text":"b","kind":"Ident","#,
     ] {
-        assert!(seen.contains(token), "{seen}");
+        has(&seen, token);
     }
-    assert!(
-        seen.ends_with(r#""at":1,"elsewhere":[],"place":"2:1"}"#),
-        "{seen}"
-    );
+    ends(&seen, r#""at":1,"elsewhere":[],"place":"2:1"}"#);
     let differ = editions::write(&document);
     let wanted = r#"{ "counts":[4,4,4,4],"differ":1,"places":[{ "place":"2:1","text":"q","editions":[[["Ident","q"]],"#;
     assert!(differ.starts_with(wanted), "{differ}");
     document.change("#!/é\nq#bc", true);
     let seen = seen::show(&document, 1, 1, 5, NEWEST);
     let lines = r##""lines":[{ "runs":[[" wrong","q"],[" fresh","#bc"]],"said":["##;
-    assert!(seen.contains(lines), "{seen}");
+    has(&seen, lines);
 }
 
 /// An edit in the first token keeps none in front of it, and all others.
@@ -371,14 +345,11 @@ fn an_edit_of_the_first_token() {
     let mut source = source("ab cd", false);
     source.change("xab cd", false);
     let seen = seen::show(&source, 0, 1, 0, NEWEST);
-    assert!(
-        seen.contains(r#""runs":[[" fresh","xab"],[""," cd"]]"#),
-        "{seen}"
-    );
+    has(&seen, r#""runs":[[" fresh","xab"],[""," cd"]]"#);
     assert_eq!(seen.matches(r#""fresh":true"#).count(), 1, "{seen}");
-    assert!(
-        seen.contains(r#""text":"xab","kind":"Ident","fields":"","value":"","fresh":true"#),
-        "{seen}"
+    has(
+        &seen,
+        r#""text":"xab","kind":"Ident","fields":"","value":"","fresh":true"#,
     );
 }
 
@@ -417,8 +388,7 @@ fn checks_that_answer() {
 #[test]
 fn a_caret_at_the_end() {
     let seen = seen::show(&source("a+", false), 0, 1, 2, NEWEST);
-    let wanted = r#""at":1,"elsewhere":[],"place":"1:3"}"#;
-    assert!(seen.ends_with(wanted), "{seen}");
+    ends(&seen, r#""at":1,"elsewhere":[],"place":"1:3"}"#);
     let empty = r#"{ "lines":[{ "runs":[],"said":[]}],"count":0,"begin":0,"tokens":[],"at":0,"elsewhere":[],"place":"1:1"}"#;
     assert_eq!(seen::show(&source("", false), 0, 1, 0, NEWEST), empty);
 }

@@ -12,43 +12,20 @@ use rustc_literal_escaper::{
 pub fn value(kind: TokenKind, text: &str) -> Option<String> {
     let (mode, inside) = inside(kind, text)?;
     let mut read = Read::default();
-    let unit = match mode {
-        Mode::Char => {
-            read.char(unescape_char(inside));
-            "character"
-        }
-        Mode::Byte => {
-            read.byte(unescape_byte(inside));
-            "byte"
-        }
-        Mode::Str => {
-            unescape_str(inside, |_, c| read.char(c));
-            "character"
-        }
-        Mode::RawStr => {
-            check_raw_str(inside, |_, c| read.char(c));
-            "character"
-        }
-        Mode::ByteStr => {
-            unescape_byte_str(inside, |_, byte| read.byte(byte));
-            "byte"
-        }
-        Mode::RawByteStr => {
-            check_raw_byte_str(inside, |_, byte| read.byte(byte));
-            "byte"
-        }
-        Mode::CStr => {
-            unescape_c_str(inside, |_, unit| read.unit(unit));
-            read.byte(Ok(0));
-            "byte"
-        }
-        Mode::RawCStr => {
-            check_raw_c_str(inside, |_, c| read.unit(c.map(MixedUnit::Char)));
-            read.byte(Ok(0));
-            "byte"
-        }
-    };
-    Some(read.sentence(unit))
+    match mode {
+        Mode::Char => read.char(unescape_char(inside)),
+        Mode::Byte => read.byte(unescape_byte(inside)),
+        Mode::Str => unescape_str(inside, |_, c| read.char(c)),
+        Mode::RawStr => check_raw_str(inside, |_, c| read.char(c)),
+        Mode::ByteStr => unescape_byte_str(inside, |_, byte| read.byte(byte)),
+        Mode::RawByteStr => check_raw_byte_str(inside, |_, byte| read.byte(byte)),
+        Mode::CStr => unescape_c_str(inside, |_, unit| read.unit(unit)),
+        Mode::RawCStr => check_raw_c_str(inside, |_, c| read.unit(c.map(MixedUnit::Char))),
+    }
+    if matches!(mode, Mode::CStr | Mode::RawCStr) {
+        read.byte(Ok(0));
+    }
+    Some(read.sentence(matches!(mode, Mode::Char | Mode::Str | Mode::RawStr)))
 }
 
 /// What was read of a literal.
@@ -82,18 +59,18 @@ impl Read {
         }
     }
 
-    /// The count, and what is there between quotes.
-    fn sentence(&self, unit: &str) -> String {
+    /// The count, of characters or bytes, and what is there between quotes.
+    fn sentence(&self, of_characters: bool) -> String {
         if self.is_wrong {
             return "nothing: it is wrong".to_string();
         }
         let mut shown = String::new();
-        let (count, done) = match unit {
-            "character" => (
-                self.text.chars().count(),
-                escape_str(&self.text, &mut shown),
-            ),
-            _ => (self.bytes.len(), escape_byte_str(&self.bytes, &mut shown)),
+        let (count, unit, done) = if of_characters {
+            let done = escape_str(&self.text, &mut shown);
+            (self.text.chars().count(), "character", done)
+        } else {
+            let done = escape_byte_str(&self.bytes, &mut shown);
+            (self.bytes.len(), "byte", done)
         };
         done.expect("memory allocation failed");
         let end = if count == 1 { "" } else { "s" };

@@ -19,7 +19,6 @@ pub struct Run {
     pub wrong: bool,
     /// Whether the last edit lexed it.
     pub fresh: bool,
-    /// The characters.
     pub text: String,
 }
 
@@ -28,7 +27,6 @@ pub struct Run {
 pub struct Line {
     /// The runs, without the end of the line.
     pub runs: Vec<Run>,
-    /// The sentences.
     pub said: Vec<String>,
 }
 
@@ -50,14 +48,11 @@ pub fn lines_of(
     let year = Edition::ALL[edition];
     // the window stops the writing where it ends
     let _ = if source.is_part(edition, number) {
-        let count = source.tokens(edition).len() - number;
-        write_first_tokens(
-            Style::Html,
-            year,
-            count,
+        let (count, rest) = (
+            source.tokens(edition).len() - number,
             &source.text()[start..],
-            &mut window,
-        )
+        );
+        write_first_tokens(Style::Html, year, count, rest, &mut window)
     } else {
         window.at = 0;
         write_marked(Style::Html, year, source.text(), &mut window)
@@ -119,9 +114,7 @@ impl Window {
     }
 
     fn line(&mut self) -> &mut Line {
-        self.lines
-            .last_mut()
-            .expect("there is a line from the start")
+        self.lines.last_mut().expect("there is one from the start")
     }
 
     /// An entity has ended.

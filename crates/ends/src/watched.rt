@@ -56,14 +56,7 @@ impl<T> Watched<T> {
     pub fn into_inner(self) -> T
         ensures { result ≡ self.inner }
     {
-        let Watched {
-            inner,
-            failed: _,
-            faulty: _,
-            closed: _,
-            flushed: _,
-        } = self;
-        inner
+        self.inner
     }
 
     /// Records whether a call failed, whether it found a closed pipe, and whether it was a flush that succeeded.

@@ -23,8 +23,5 @@ pub fn past_name(alloc: Global, mut args: Args) -> Result<Vec<String>, AllocErro
 pub fn given_words(alloc: Global, args: Option<Args>) -> Result<Vec<String>, AllocError>
     ensures { IfOk result (λ words. words_of args ≡ Some (map string_bytes words.items)) }
 {
-    match args {
-        Some(args) => past_name(alloc, args),
-        None => Err(AllocError),
-    }
+    past_name(alloc, args.ok_or(AllocError)?)
 }

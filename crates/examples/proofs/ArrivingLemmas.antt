@@ -1,8 +1,8 @@
 -- The tokens of a text that arrives in pieces.
 use Rattle.std.proofs.Common.{◌≡◌, ℕ, zero, suc, ◌+◌, ◌<◌, ◌≤◌, List, [], ◌∷◌, ◌++◌, length, take, drop, refl, sym, ap, subst, ◌∙◌, arith, append_assoc, length-append, take_at, take-append-drop, length-drop, get_or, Bor, ◌^◌, IsCharBoundary, IsUtf8}
 use Rattle.std.proofs.Math.Seq.{drop-append_seam}
+use Rattle.std.proofs.lemmas.Grind.{common_steps}
 use Rattle.std.proofs.lemmas.List.{append-nil, drop-append-le, take_more}
-use Rattle.std.proofs.lemmas.List.Concat.{flat_map-append}
 use Rattle.std.proofs.lemmas.Str.{IsCharBoundary-from_take, IsUtf8-append, IsUtf8-drop}
 use Rattle.rustc_lexer.specs.declared.edition.Edition.TheVariants.{E2024}
 use Rattle.rustc_lexer.specs.declared.token.Token.{Token}
@@ -104,10 +104,7 @@ gives_more taken piece rest past given more at first sure =
 
 -- nothing more comes
 pub all_given : (whole rest : List ℕ) (given : List Token) → HasGiven whole given rest → length whole < 2 ^ 32 → given ++ tokens_of (part E2024) rest ≡ tokens_of (part E2024) whole
-all_given whole rest given at fits =
-    let is : IsText whole = record { utf8 = at.text; fits = fits } in
-    sym (ap (tokens_of (part E2024)) (sym (append-nil whole)) ∙ (at.first [] (subst IsText (sym (append-nil whole)) is) ∙ ap (λ bs. given ++ tokens_of (part E2024) bs) (append-nil rest)))
+all_given whole rest given at fits = grind (arith, common_steps)
 
 pub joined_more : (pieces : List (Bor (List ℕ))) (i : ℕ) (d : Bor (List ℕ)) → i < length pieces → joined (take (i + 1) pieces) ≡ joined (take i pieces) ++ (get_or pieces i d).now
-joined_more pieces i d less =
-    ap joined (take_more pieces i d less) ∙ (flat_map-append (λ (p : Bor (List ℕ)). p.now) (take i pieces) (get_or pieces i d ∷ []) ∙ ap (λ bs. joined (take i pieces) ++ bs) (append-nil (get_or pieces i d).now))
+joined_more pieces i d less = grind (arith, common_steps, take_more)

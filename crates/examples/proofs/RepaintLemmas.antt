@@ -1,13 +1,16 @@
 -- What is shown of a text after an edit.
 use Rattle.std.proofs.Common.{◌≡◌, ℕ, zero, suc, ◌+◌, ◌-◌, ◌<◌, ◌≤◌, true, List, [], ◌∷◌, ◌++◌, length, map, take, drop, refl, sym, ap, subst, ◌∙◌, arith, drop-drop, take-take, take-append-drop, length-take-le, IsUtf8, Result, Ok, Err, IfOk, OnOk}
+use Rattle.std.proofs.lemmas.Grind.{common_steps}
 use Rattle.std.proofs.lemmas.List.{drop-take}
 use Rattle.rustc_lexer.specs.declared.relex.relexing.Relexed.{Relexed}
 use Rattle.rustc_lexer.specs.declared.token.Token.{Token}
 use Rattle.rustc_lexer.specs.Tokens.{bound, tokens_by}
-use Rattle.rustc_lexer.specs.Edits.{IsEdit, IsMeeting, IsRelexed, apply, kept_front, Placed, pieces_from}
+use Rattle.rustc_lexer.specs.Edits.{IsEdit, IsRelexed, apply, part_by, Placed, pieces_from}
+use Rattle.rustc_lexer.specs.means.Relexing.{IsBodyMeeting, kept_front}
 use Rattle.rustc_lexer.specs.Locality.{has_two, IsGrammar}
 use Rattle.rustc_lexer.specs.Classes.{IsText}
 use Rattle.rustc_lexer.proofs.EditLemmas.{IsEdited, edited, has_two-before, bound-take, met_rest, same_rest}
+use Rattle.rustc_lexer.proofs.LayoutLemmas.{body_by_part}
 use Rattle.rustc_lexer.proofs.PieceLemmas.{drop-pieces, length-pieces, take-pieces}
 use Rattle.rustc_lexer.proofs.RelexedLemmas.{front_same, kept_two}
 use Rattle.examples.specs.Repaint.{changed, moved, shown_after}
@@ -74,7 +77,7 @@ module _ {first : List ℕ → Token} (law : IsGrammar first) (text : List ℕ) 
       ∙ (sym (pieces-within new_text start 0 (take kept old) (omega (arith, end))) ∙ (ap (λ xs. pieces_from xs 0 (take kept old)) ed.front
       ∙ (pieces-within text start 0 (take kept old) (omega (arith, end)) ∙ sym (take-pieces text 0 kept old)))))
 
-  back_shown : (met back : ℕ) (at : IsMeeting old new stop (start + length insert) met back) → drop met to_show ≡ map (moved (length insert) (stop - start)) (drop at.old_number shown)
+  back_shown : (met back : ℕ) (at : IsBodyMeeting old new stop (start + length insert) met back) → drop met to_show ≡ map (moved (length insert) (stop - start)) (drop at.old_number shown)
   back_shown met back at =
       let i : ℕ = at.old_number in
       let order = edit.inside.start_le_stop in
@@ -91,8 +94,9 @@ module _ {first : List ℕ → Token} (law : IsGrammar first) (text : List ℕ) 
       ∙ ap (map (moved (length insert) (stop - start))) (sym (drop-pieces text 0 i old))))
 
   -- with what is painted, what was shown is what is to be shown
-  pub enough : (r : Relexed) → IsRelexed first text start stop insert r → to_show ≡ shown_after r (length insert) (stop - start) shown (changed r to_show)
-  enough r counts =
+  pub enough : (r : Relexed) → IsRelexed (part_by first) text start stop insert r → to_show ≡ shown_after r (length insert) (stop - start) shown (changed r to_show)
+  enough r is =
+      let counts = body_by_part first text start stop insert r is in
       let at = counts.meeting in
       let back = at.back_is in
       let number : length shown - r.kept_back ≡ at.old_number = omega (arith, length-pieces text 0 old) in
@@ -103,9 +107,7 @@ module _ {first : List ℕ → Token} (law : IsGrammar first) (text : List ℕ) 
       ∙ ap (λ n. take r.kept_front shown ++ (changed r to_show ++ map (moved (length insert) (stop - start)) (drop n shown))) (sym number)))
 
   pub enough_for : {E : Type 0} (result : Result Relexed E) (bytes : List ℕ) (tokens held : List Token) → held ≡ tokens_by first text → tokens ≡ tokens_by first bytes
-      → OnOk result (bytes ≡ apply text start stop insert) → IfOk result (IsRelexed first text start stop insert)
+      → OnOk result (bytes ≡ apply text start stop insert) → IfOk result (IsRelexed (part_by first) text start stop insert)
       → IfOk result (λ r. pieces_from bytes 0 tokens ≡ shown_after r (length insert) (stop - start) (pieces_from text 0 held) (changed r (pieces_from bytes 0 tokens)))
   enough_for (Err e) bytes tokens held h t b r = tt
-  enough_for (Ok x) bytes tokens held h t b r =
-      let t' : tokens ≡ tokens_by first new_text = t ∙ ap (tokens_by first) b in
-      rw (h, t', b) (enough x r)
+  enough_for (Ok x) bytes tokens held h t b r = grind (arith, common_steps, enough)

@@ -166,6 +166,16 @@ fn room_is_given_back(rt: HostRuntime) -> Result<(), AllocError> {
     Ok(())
 }
 
+/// The text is given back as an edit left it, with its head.
+#[test]
+fn text_is_given_back(rt: HostRuntime) -> Result<(), AllocError> {
+    let mut held = LexedDocument::new(rt.alloc(), "#!a\nfn")?;
+    assert!(rt; held.accepts(4, 6, "b"));
+    held.edit(4, 6, "b")?;
+    assert!(rt; held.into_string().as_str() == "#!a\nb");
+    Ok(())
+}
+
 /// Each edition has its own tokens after the same head.
 #[test]
 fn another_edition(rt: HostRuntime) -> Result<(), AllocError> {

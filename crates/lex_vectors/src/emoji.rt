@@ -6,14 +6,16 @@ use crate::tables::kinds::BAD_LIFETIME;
 use rustc_lexer::{FrontmatterAllowed, TokenKind, fits, is_id_start, tokenize};
 use std::alloc::{AllocError, Global};
 
-/// The one character of a range, or both its ends.
+/// The ends of each range. A range of one character is written as that character.
 macro_rules! ranges {
+    (@last $low:literal) => { $low };
+    (@last $low:literal $high:literal) => { $high };
     ($($low:literal $(..=$high:literal)?),* $(,)?) => {
-        [$(&[$low $(, $high)?]),*]
+        [$(($low, ranges!(@last $low $($high)?))),*]
     };
 }
 
-static RANGES: [&[u32]; 148] = ranges! {
+static RANGES: [(u32, u32); 148] = ranges! {
     0xA9, 0xAE, 0x203C, 0x2049, 0x2122, 0x2139, 0x2194..=0x2199, 0x21A9..=0x21AA, 0x231A..=0x231B, 0x2328, 0x23CF,
     0x23E9..=0x23F3, 0x23F8..=0x23FA, 0x24C2, 0x25AA..=0x25AB, 0x25B6, 0x25C0, 0x25FB..=0x25FE, 0x2600..=0x2604,
     0x260E, 0x2611, 0x2614..=0x2615, 0x2618, 0x261D, 0x2620, 0x2622..=0x2623, 0x2626, 0x262A, 0x262E..=0x262F,
@@ -59,13 +61,10 @@ fn is_shown(alloc: Global, code: u32, emoji: bool) -> Result<bool, AllocError> {
 }
 
 /// Returns whether the ends of the range are emoji, and its neighbours are not.
-fn is_range(alloc: Global, ends: &[u32]) -> Result<bool, AllocError> {
-    let (Some(low), Some(high)) = (ends.first(), ends.last()) else {
-        return Ok(false);
-    };
+fn is_range(alloc: Global, low: u32, high: u32) -> Result<bool, AllocError> {
     Ok(
-        is_shown(alloc, *low, true)?
-            && is_shown(alloc, *high, true)?
+        is_shown(alloc, low, true)?
+            && is_shown(alloc, high, true)?
             && is_shown(alloc, low.wrapping_sub(1), false)?
             && is_shown(alloc, high.wrapping_add(1), false)?,
     )
@@ -73,8 +72,8 @@ fn is_range(alloc: Global, ends: &[u32]) -> Result<bool, AllocError> {
 
 #[test]
 fn ends_of_ranges(rt: HostRuntime) -> Result<(), AllocError> {
-    for ends in RANGES {
-        assert!(rt; is_range(rt.alloc(), ends)?, "at {ends:?}");
+    for (low, high) in RANGES {
+        assert!(rt; is_range(rt.alloc(), low, high)?, "at {low:#x}..={high:#x}");
     }
     Ok(())
 }

@@ -124,3 +124,13 @@ fn room_is_given_back(rt: HostRuntime) -> Result<(), AllocError> {
     assert!(rt; is_held(&lexed, Edition::E2018, &older));
     Ok(())
 }
+
+/// The text is given back as an edit left it.
+#[test]
+fn text_is_given_back(rt: HostRuntime) -> Result<(), AllocError> {
+    let mut lexed = LexedText::new(rt.alloc(), "let x;")?;
+    assert!(rt; lexed.accepts(4, 5, "é"));
+    lexed.edit(4, 5, "é")?;
+    assert!(rt; lexed.into_string().as_str() == "let é;");
+    Ok(())
+}

@@ -18,10 +18,8 @@ static WORDS: &[(&str, &str, Option<usize>)] = &[
 #[test]
 fn words(rt: HostRuntime) {
     for (text, word, wanted) in WORDS {
-        assert!(rt;
-            fits(text) && find_word(text, word) == *wanted,
-            "at {text:?}"
-        );
+        assert!(rt; fits(text));
+        assert_eq!(rt; find_word(text, word), *wanted, "at {text:?}");
     }
 }
 

@@ -7,9 +7,10 @@ use Rattle.std.proofs.lemmas.List.Concat.{flat_map-append}
 use Rattle.std.proofs.lemmas.List.Elements.{All-head, All-tail}
 use Rattle.std.proofs.lemmas.Str.{IsCharBoundary-from_rest}
 use Rattle.std.proofs.lemmas.Grind.{common_steps}
-use Rattle.rustc_literal_escaper.specs.Elements.{Item, items_of}
-use Rattle.rustc_literal_escaper.specs.Errors.{is_raw}
-use Rattle.rustc_literal_escaper.specs.Places.{ArePlaced, IsPlaced}
+use Rattle.rustc_literal_escaper.specs.Grammar.{Item}
+use Rattle.rustc_literal_escaper.specs.Answers.{items_of}
+use Rattle.rustc_literal_escaper.specs.Meaning.{is_raw}
+use Rattle.rustc_literal_escaper.specs.Items.{ArePlaced, IsPlaced}
 use Rattle.rustc_literal_escaper.specs.declared.mode.Mode.{Mode}
 use Rattle.marks.specs.declared.class.Class.TheVariants.{Text}
 use Rattle.marks.specs.declared.literal.Look.{Look}

@@ -1,5 +1,5 @@
 -- What a marked text says, and the calls that write it.
-use Rattle.std.proofs.Common.{◌≡◌, ℕ, List, [], ◌∷◌, ◌++◌, length, take, drop, refl, sym, ap, ◌∙◌, arith, take-add, take_all, Option, take-append-drop, append-nil}
+use Rattle.std.proofs.Common.{◌≡◌, ℕ, List, [], ◌∷◌, ◌++◌, length, take, drop, refl, sym, ap, ◌∙◌, arith, take-add, Option, append-nil}
 use Rattle.std.specs.Fmt.{WritesInCalls}
 use Rattle.std.proofs.lemmas.List.Concat.{flat_map-append}
 use Rattle.std.proofs.lemmas.Grind.{common_steps}
@@ -38,10 +38,7 @@ without_marks-parts text (token ∷ tokens) =
 -- without the marks, a text is as it was, and so it is on a page
 module _ (edition : Edition) (text : List ℕ) (cut : Partitions (drop (shebang_len text) text) (document_tokens edition text)) where
   pub text_is : without_marks (text_parts edition text) ≡ text
-  text_is =
-      let n : ℕ = shebang_len text in
-      let tokens : List Token = document_tokens edition text in
-      ap (λ xs. take n text ++ xs) (without_marks-parts (drop n text) tokens ∙ take_all (bound tokens (length tokens)) (drop n text) (omega (arith, cut.whole))) ∙ take-append-drop n text
+  text_is = grind (arith, common_steps, without_marks-parts)
 
   pub page_is : unescaped (untagged (marked Html edition text)) ≡ text
   page_is = ap unescaped (shows (text_parts edition text)) ∙ (unescaped_escaped (without_marks (text_parts edition text)) ∙ text_is)

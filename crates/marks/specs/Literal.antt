@@ -14,9 +14,9 @@ use Rattle.rustc_literal_escaper.specs.declared.element.Element.TheVariants.{Pla
 use Rattle.rustc_literal_escaper.specs.declared.error.EscapeError.{EscapeError}
 use Rattle.rustc_literal_escaper.specs.declared.mode.Mode.{Mode}
 use Rattle.rustc_literal_escaper.specs.declared.mode.Mode.TheVariants.{Char, Byte, Str, RawStr, ByteStr, RawByteStr, CStr, RawCStr}
-use Rattle.rustc_literal_escaper.specs.Elements.{Item, items_of}
-use Rattle.rustc_literal_escaper.specs.Errors.{error_of, is_raw, is_single}
-use Rattle.rustc_literal_escaper.specs.Single.{byte_literal, char_literal}
+use Rattle.rustc_literal_escaper.specs.Grammar.{Item}
+use Rattle.rustc_literal_escaper.specs.Answers.{byte_literal, char_literal, items_of}
+use Rattle.rustc_literal_escaper.specs.Meaning.{error_of, is_raw, is_single}
 use Rattle.marks.specs.declared.class.Class.TheVariants.{Text, Escape as EscapeClass}
 use Rattle.marks.specs.declared.fault.Fault.TheVariants.{InLiteral}
 use Rattle.marks.specs.declared.literal.Look.{Look}

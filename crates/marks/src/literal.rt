@@ -4,9 +4,9 @@ ghost use Rattle.std.specs.Option.{option_map};
 ghost use Rattle.std.specs.Fmt.{WritesInCalls};
 ghost use Rattle.std.specs.Str.{IsCharBoundary};
 ghost use Rattle.rustc_lexer.specs.Classes.{Fits};
-ghost use Rattle.rustc_literal_escaper.specs.Elements.{items_of};
-ghost use Rattle.rustc_literal_escaper.specs.Errors.{is_raw, is_single};
-ghost use Rattle.rustc_literal_escaper.specs.Places.{ArePlaced};
+ghost use Rattle.rustc_literal_escaper.specs.Answers.{items_of};
+ghost use Rattle.rustc_literal_escaper.specs.Meaning.{is_raw, is_single};
+ghost use Rattle.rustc_literal_escaper.specs.Items.{ArePlaced};
 ghost use Rattle.marks.specs.Literal as spec;
 ghost use Rattle.marks.specs.Part.{with_marks};
 
@@ -120,10 +120,7 @@ fn first_place(byte: u8, text: &str) -> usize
     ensures value { result ≡ spec.first_place byte text.now }
     ensures past { result < length text.now → IsCharBoundary text.now (result + 1) }
 {
-    match memchr(byte, text.as_bytes()) {
-        Some(place) => place,
-        None => text.len(),
-    }
+    memchr(byte, text.as_bytes()).unwrap_or(text.len())
 }
 
 /// Returns the place of the last byte of this value, or 0.
@@ -133,10 +130,7 @@ fn last_place(byte: u8, text: &str) -> usize
     ensures value { result ≡ spec.last_place byte text.now }
     ensures place { IsCharBoundary text.now result }
 {
-    match memrchr(byte, text.as_bytes()) {
-        Some(place) => place,
-        None => 0,
-    }
+    memrchr(byte, text.as_bytes()).unwrap_or(0)
 }
 
 /// Writes a literal between single quotes. The text between them goes from the place `begin` to `close`.

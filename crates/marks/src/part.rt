@@ -37,10 +37,7 @@ fn first_line(text: &str) -> usize
     ensures value { result ≡ first_line text.now }
     ensures bounded { IsCharBoundary text.now result }
 {
-    match memchr2(b'\n', b'\r', text.as_bytes()) {
-        Some(at) => at,
-        None => text.len(),
-    }
+    memchr2(b'\n', b'\r', text.as_bytes()).unwrap_or(text.len())
 }
 
 /// Writes a part of the text between the marks of its class. Writes nothing if the part is empty.

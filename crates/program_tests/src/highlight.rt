@@ -131,10 +131,8 @@ static COLOURED: &[(Process, bool)] = rows! {
 fn colours(rt: HostRuntime) -> Result<(), Fail> {
     for (row, (process, coloured)) in COLOURED.iter().enumerate() {
         let written = if *coloured { "\x1b[35mfn\x1b[0m" } else { "fn" };
-        assert!(rt;
-            comes_to(&rt, process, b"fn", (0, written, ""))?,
-            "row {row}"
-        );
+        let holds = comes_to(&rt, process, b"fn", (0, written, ""))?;
+        assert!(rt; holds, "row {row}");
     }
     Ok(())
 }
@@ -151,10 +149,8 @@ static STOPPED: &[((Process, &[u8]), (u8, &str))] = rows! {
 #[test]
 fn stops(rt: HostRuntime) -> Result<(), Fail> {
     for (row, ((process, text), (status, line))) in STOPPED.iter().enumerate() {
-        assert!(rt;
-            comes_to(&rt, process, text, (*status, "", line))?,
-            "row {row}"
-        );
+        let holds = comes_to(&rt, process, text, (*status, "", line))?;
+        assert!(rt; holds, "row {row}");
     }
     Ok(())
 }

@@ -177,16 +177,8 @@ fn listings(rt: HostRuntime) -> Result<(), Fail> {
 
 #[test]
 fn listing_of_some_tokens(rt: HostRuntime) {
-    let tokens = [
-        Token {
-            kind: TokenKind::Semi,
-            len: 1,
-        },
-        Token {
-            kind: TokenKind::Ident,
-            len: 20,
-        },
-    ];
+    let token = |kind, len| Token { kind, len };
+    let tokens = [token(TokenKind::Semi, 1), token(TokenKind::Ident, 20)];
     let mut output = WHOLE.writer(rt.alloc());
     assert!(rt; write_listing(&mut output, 10, &tokens) == Ok(()));
     let output = output.into_inner();
@@ -322,24 +314,19 @@ fn statuses_and_lines(rt: HostRuntime) -> Result<(), Fail> {
 
 /// Arguments, which begin with the program's name, if there are any; the output for `ab`, the line on standard
 /// error, and the status.
-static PROGRAMS: &[(Option<&str>, &str, &str, u8)] = &[
-    (Some("lexdump"), "0 2 Ident\n", "", 0),
-    (Some("lexdump|shebang"), "none\n", "", 0),
-    (Some(""), "0 2 Ident\n", "", 0),
-    (Some("front|edit|0|1|"), "0 1 Ident\n", "", 0),
-    (Some("lexdump|lexdump"), "", "lexdump: bad arguments\n", 2),
-    (
-        Some("lexdump|edit|2|3|"),
-        "",
-        "lexdump: edit 0: bad range\n",
-        5,
-    ),
-    (None, "", "lexdump: no memory\n", 6),
-];
+static PROGRAMS: &[(Option<&str>, (&str, &str, u8))] = rows! {
+    Some("lexdump") => ("0 2 Ident\n", "", 0);
+    Some("lexdump|shebang") => ("none\n", "", 0);
+    Some("") => ("0 2 Ident\n", "", 0);
+    Some("front|edit|0|1|") => ("0 1 Ident\n", "", 0);
+    Some("lexdump|lexdump") => ("", "lexdump: bad arguments\n", 2);
+    Some("lexdump|edit|2|3|") => ("", "lexdump: edit 0: bad range\n", 5);
+    None => ("", "lexdump: no memory\n", 6);
+};
 
 #[test]
 fn programs(rt: HostRuntime) -> Result<(), Fail> {
-    for (line, listing, told, want) in PROGRAMS {
+    for (line, (listing, told, want)) in PROGRAMS {
         let args = match line {
             Some(line) => Some(words_of(rt.alloc(), line)?.into_iter()),
             None => None,

@@ -17,7 +17,7 @@ macro_rules! rows {
 static ROWS: &[Row<'static>] = rows! {
     // Each fault.
     NoColours E2024: "a /* b" => "a /* b [<- nothing closes this comment]";
-    NoColours E2024: " ---\n---\n" => " --- [<- white space stands before this frontmatter]\n---\n";
+    NoColours E2024: " ---\n---\n" => " --- [<- white space comes before this frontmatter, which begins its line]\n---\n";
     NoColours E2024: "---a b\n---\n" =>
         "---a b [<- the first line of this frontmatter holds more than a name]\n---\n";
     NoColours E2024: "a🙂 b" => "a🙂 [<- this name holds an emoji] b";
@@ -33,31 +33,31 @@ static ROWS: &[Row<'static>] = rows! {
     NoColours E2024: "\"a" => "\"a [<- nothing closes this string]";
     NoColours E2024: "b\"a" => "b\"a [<- nothing closes this string]";
     NoColours E2024: "c\"a" => "c\"a [<- nothing closes this string]";
-    NoColours E2024: "r#~" => "r#~ [<- a raw string begins with hashes and a quote]";
+    NoColours E2024: "r#~" => "r#~ [<- no quote follows: a raw string begins with hashes and a quote]";
     NoColours E2024: "br#\"a" => "br#\"a [<- nothing closes this raw string: a quote and 1 # would]";
     NoColours E2024: "r##\"abc\"#" =>
         "r##\"abc\"# [<- a quote and 2 # would close this raw string; at byte 8 it has 1]";
     // Faults in literals.
-    NoColours E2024: "''" => "' [<- nothing stands between these quotes]'";
-    NoColours E2024: "'ab'" => "'ab [<- more than one character stands between these quotes]'";
-    NoColours E2024: "b'\\q';" => "b'\\q [<- no escape is written like this]';";
-    NoColours E2024: "\"a\\qb\"" => "\"a\\q [<- no escape is written like this]b\"";
+    NoColours E2024: "''" => "' [<- nothing is between these quotes: one character goes there]'";
+    NoColours E2024: "'ab'" => "'ab [<- more than one character is between these quotes]'";
+    NoColours E2024: "b'\\q';" => "b'\\q [<- there is no such escape: a backslash itself is written twice]';";
+    NoColours E2024: "\"a\\qb\"" => "\"a\\q [<- there is no such escape: a backslash itself is written twice]b\"";
     NoColours E2024: "\"é\\q\\w\"" =>
-        "\"é\\q [<- no escape is written like this]\\w [<- no escape is written like this]\"";
-    NoColours E2024: "\"\\x8z\"" => "\"\\x8z [<- this escape has hexadecimal digits alone]\"";
-    NoColours E2024: "\"\\x80\"" => "\"\\x80 [<- this escape goes up to 7f here]\"";
+        "\"é\\q [<- there is no such escape: a backslash itself is written twice]\\w [<- there is no such escape: a backslash itself is written twice]\"";
+    NoColours E2024: "\"\\x8z\"" => "\"\\x8z [<- this is no hexadecimal digit: \\x takes two of them]\"";
+    NoColours E2024: "\"\\x80\"" => "\"\\x80 [<- this escape is out of range: here \\x goes up to 7f]\"";
     NoColours E2024: "b\"\\x80\"" => "b\"\\x80\"";
-    NoColours E2024: "b\"\\u{41}\"" => "b\"\\u{41} [<- no byte is written like this]\"";
+    NoColours E2024: "b\"\\u{41}\"" => "b\"\\u{41} [<- no byte is written like this: \\x writes one]\"";
     NoColours E2024: "b\"aé\"" => "b\"aé [<- this character is not in ASCII, and so is no byte]\"";
-    NoColours E2024: "c\"a\\0\"" => "c\"a\\0 [<- no NUL stands in a C string]\"";
+    NoColours E2024: "c\"a\\0\"" => "c\"a\\0 [<- a C string cannot hold a NUL, which ends it]\"";
     NoColours E2024: "\"\\u{D800}\"u8" =>
         "\"\\u{D800} [<- this is the number of a surrogate, which is no character]\"u8";
     NoColours E2024: "r#\"\\q \"é\"#" => "r#\"\\q \"é\"#";
     NoColours E2024: "br\"é\"" => "br\"é [<- this character is not in ASCII, and so is no byte]\"";
-    NoColours E2024: "r\"a\rb\"" => "r\"a [<- a raw string has no carriage return]\rb\"";
+    NoColours E2024: "r\"a\rb\"" => "r\"a [<- a raw string cannot hold a carriage return]\rb\"";
     NoColours E2024: "\"a\\\n\n b\"" => "\"a\\ [<- more than one line end is skipped here]\n\n b\"";
     NoColours E2024: "\"a\\\n\u{a0}b\"" =>
-        "\"a\\ [<- the white space behind this line end is not all skipped]\n\u{a0}b\"";
+        "\"a\\ [<- not all white space after this line end is skipped: spaces, tabs and line ends are]\n\u{a0}b\"";
     NoColours E2024: "\"\\q" => "\"\\q [<- nothing closes this string]";
     // Colours.
     Colours E2024: "" => "";
@@ -72,7 +72,7 @@ static ROWS: &[Row<'static>] = rows! {
     Colours E2024: "\"a\\\n  b\\\n\"" =>
         "\x1b[32m\"a\x1b[0m\x1b[96m\\\n  \x1b[0m\x1b[32mb\x1b[0m\x1b[96m\\\n\x1b[0m\x1b[32m\"\x1b[0m";
     Colours E2024: "\"\\q\"" =>
-        "\x1b[32m\"\x1b[0m\x1b[4;31m\x1b[32m\\q\x1b[0m\x1b[0;31m [<- no escape is written like this]\x1b[0m\x1b[32m\"\x1b[0m";
+        "\x1b[32m\"\x1b[0m\x1b[4;31m\x1b[32m\\q\x1b[0m\x1b[0;31m [<- there is no such escape: a backslash itself is written twice]\x1b[0m\x1b[32m\"\x1b[0m";
     Colours E2024: "r\"\\n\"" => "\x1b[32mr\"\\n\"\x1b[0m";
     Colours E2024: "\"\"" => "\x1b[32m\"\"\x1b[0m";
     Html E2024: "\"<\\n\"" =>
@@ -123,7 +123,7 @@ static ROWS: &[Row<'static>] = rows! {
     NoColours E2021: "z\"a\"" => "z [<- no literal has this prefix]\"a\"";
     NoColours E2018: "z\"a\"" => "z\"a\"";
     NoColours E2015: "z\"a\"" => "z\"a\"";
-    NoColours E2021: "#\"\\q\"" => "#\"\\q [<- no escape is written like this]\"";
+    NoColours E2021: "#\"\\q\"" => "#\"\\q [<- there is no such escape: a backslash itself is written twice]\"";
     Colours E2024: "---\n---" => "\x1b[36m---\n---\x1b[0m";
     Colours E2021: "---\n---\n#\"a\"" => "\x1b[36m---\n---\x1b[0m\n#\x1b[32m\"a\"\x1b[0m";
     Colours E2015: "\n---\n---" => "\n\x1b[36m---\n---\x1b[0m";

@@ -31,9 +31,8 @@ fn answers_are_handed_on(rt: HostRuntime) {
 #[test]
 fn all_that_is_read_and_written(rt: HostRuntime) -> Result<(), Fail> {
     let mut input = BYTES.reader(b"ab");
-    assert!(rt;
-        read_all(rt.alloc(), &mut input)?.as_slice() == b"ab".as_slice() && !input.failed()
-    );
+    let read = read_all(rt.alloc(), &mut input)?;
+    assert!(rt; read.as_slice() == b"ab".as_slice() && !input.failed());
     let mut output = WHOLE.writer(rt.alloc());
     assert!(rt; write_bytes(&mut output, b"ab") == Ok(()) && !output.failed());
     let output = output.into_inner();

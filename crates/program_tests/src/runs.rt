@@ -16,29 +16,11 @@ enum Program {
     Highlight,
 }
 
-/// Runs of a program over a text.
-struct Row {
-    program: Program,
-    text: &'static [u8],
-    /// The output.
-    written: &'static [u8],
-}
-
-/// Rows `program, text, output;`.
-macro_rules! rows {
-    ($($program:ident, $text:literal, $written:expr;)*) => {
-        &[$(Row {
-            program: $program,
-            text: $text,
-            written: $written,
-        }),*]
-    };
-}
-
-static ROWS: &[Row] = rows! {
-    Lexdump, b"ab cd", b"0 2 Ident\n2 1 Whitespace\n3 2 Ident\n";
-    Highlight, b"fn a", b"\x1b[35mfn\x1b[0m a";
-};
+/// Programs, each with a text and the output of that.
+static ROWS: &[(Program, &[u8], &[u8])] = &[
+    (Lexdump, b"ab cd", b"0 2 Ident\n2 1 Whitespace\n3 2 Ident\n"),
+    (Highlight, b"fn a", b"\x1b[35mfn\x1b[0m a"),
+];
 
 /// The outcome of a run.
 #[derive(Drop)]
@@ -100,17 +82,17 @@ fn closed_status(program: Program) -> u8 {
 /// A run stops wherever a read of a byte fails, and ignores what it read.
 #[test]
 fn failing_reads(rt: HostRuntime) -> Result<(), Fail> {
-    for row in ROWS {
-        for call in 0..=row.text.len() {
+    for (program, text, _) in ROWS {
+        for call in 0..=text.len() {
             for kind in [ErrorKind::Interrupted, ErrorKind::BrokenPipe] {
                 let script = Script {
                     read: Some((call, Fails(kind))),
                     ..BYTES
                 };
-                let came = run(rt.alloc(), row.program, row.text, script)?;
+                let came = run(rt.alloc(), *program, text, script)?;
                 let calls = [call.saturating_add(1), 0, 0];
                 let holds = came.is(7, [true, false], b"", calls);
-                assert!(rt; holds, "read {call} of {:?}", row.program);
+                assert!(rt; holds, "read {call} of {program:?}");
             }
         }
     }
@@ -120,23 +102,23 @@ fn failing_reads(rt: HostRuntime) -> Result<(), Fail> {
 /// A run stops with what is written so far, and no flush, wherever a write of a byte fails.
 #[test]
 fn failing_writes(rt: HostRuntime) -> Result<(), Fail> {
-    for row in ROWS {
-        let reads = row.text.len().saturating_add(1);
-        for call in 0..row.written.len() {
+    for (program, text, written) in ROWS {
+        let reads = text.len().saturating_add(1);
+        for call in 0..written.len() {
             for (turn, status) in [
                 (Fails(ErrorKind::Other), 7),
                 (Fails(ErrorKind::OutOfMemory), 7),
-                (Fails(ErrorKind::BrokenPipe), closed_status(row.program)),
+                (Fails(ErrorKind::BrokenPipe), closed_status(*program)),
                 (MovesNothing, 7),
             ] {
                 let script = Script {
                     write: Some((call, turn)),
                     ..BYTES
                 };
-                let came = run(rt.alloc(), row.program, row.text, script)?;
+                let came = run(rt.alloc(), *program, text, script)?;
                 let calls = [reads, call.saturating_add(1), 0];
-                let holds = came.is(status, [false, true], &row.written[..call], calls);
-                assert!(rt; holds, "write {call} of {:?}", row.program);
+                let holds = came.is(status, [false, true], &written[..call], calls);
+                assert!(rt; holds, "write {call} of {program:?}");
             }
         }
     }
@@ -146,19 +128,19 @@ fn failing_writes(rt: HostRuntime) -> Result<(), Fail> {
 /// A flush that fails stops a run, and all of it is written.
 #[test]
 fn failing_flushes(rt: HostRuntime) -> Result<(), Fail> {
-    for row in ROWS {
+    for (program, text, written) in ROWS {
         for (kind, status) in [
             (ErrorKind::Other, 7),
-            (ErrorKind::BrokenPipe, closed_status(row.program)),
+            (ErrorKind::BrokenPipe, closed_status(*program)),
         ] {
             let script = Script {
                 flush: Some(kind),
                 ..BYTES
             };
-            let came = run(rt.alloc(), row.program, row.text, script)?;
-            let calls = [row.text.len().saturating_add(1), row.written.len(), 1];
-            let holds = came.is(status, [false, true], row.written, calls);
-            assert!(rt; holds, "a flush of {:?}", row.program);
+            let came = run(rt.alloc(), *program, text, script)?;
+            let calls = [text.len().saturating_add(1), written.len(), 1];
+            let holds = came.is(status, [false, true], written, calls);
+            assert!(rt; holds, "a flush of {program:?}");
         }
     }
     Ok(())
@@ -168,11 +150,11 @@ fn failing_flushes(rt: HostRuntime) -> Result<(), Fail> {
 /// not text: it is read once at its end, and not again.
 #[test]
 fn pieces(rt: HostRuntime) -> Result<(), Fail> {
-    for row in ROWS {
+    for (program, text, written) in ROWS {
         for piece in [1, 2, 7, usize::MAX] {
-            let reads = row.text.len().div_ceil(piece.max(1));
+            let reads = text.len().div_ceil(piece.max(1));
             let mut bytes = Vec::new(rt.alloc());
-            bytes.extend_from_slice(row.text)?;
+            bytes.extend_from_slice(text)?;
             if piece == 1 {
                 bytes.push(0xff)?;
             }
@@ -181,11 +163,11 @@ fn pieces(rt: HostRuntime) -> Result<(), Fail> {
                 read: Some((reads, MovesNothing)),
                 ..WHOLE
             };
-            let came = run(rt.alloc(), row.program, bytes.as_slice(), script)?;
-            let writes = row.written.len().div_ceil(piece.max(1));
+            let came = run(rt.alloc(), *program, bytes.as_slice(), script)?;
+            let writes = written.len().div_ceil(piece.max(1));
             let calls = [reads.saturating_add(1), writes, 1];
-            let holds = came.is(0, [false, false], row.written, calls);
-            assert!(rt; holds, "{:?} by {piece}", row.program);
+            let holds = came.is(0, [false, false], written, calls);
+            assert!(rt; holds, "{program:?} by {piece}");
         }
     }
     Ok(())

@@ -97,11 +97,11 @@ module _ (w s : ℕ) (fits : w < 2 ^ 64) (fits_too : s < 2 ^ 64) where
   abbrev together : ℕ
   together = bit_or (bit_and (w * 2 % 2 ^ 64) w) (bit_and (s * 2 % 2 ^ 64) s)
 
-  pub apart-first : bit (bit_and (flip together) high) 0 ≡ false
-  apart-first = low-off (flip together)
+  pub run_edges-first : bit (bit_and (flip together) high) 0 ≡ false
+  run_edges-first = low-off (flip together)
 
-  pub apart-later : (k : ℕ) → suc k < 64 → bit (bit_and (flip together) high) (suc k) ≡ not ((bit w k && bit w (suc k)) || (bit s k && bit s (suc k)))
-  apart-later k h =
+  pub run_edges-later : (k : ℕ) → suc k < 64 → bit (bit_and (flip together) high) (suc k) ≡ not ((bit w k && bit w (suc k)) || (bit s k && bit s (suc k)))
+  run_edges-later k h =
       let small : together < 2 ^ 64 = or_lt 64 (bit_and (w * 2 % 2 ^ 64) w) (bit_and (s * 2 % 2 ^ 64) s) (omega (arith, and_le_r (w * 2 % 2 ^ 64) w)) (omega (arith, and_le_r (s * 2 % 2 ^ 64) s)) in
       high-stays (flip together) k h ∙ (bit-flip together (suc k) small h ∙ ap not (bit-or _ _ (suc k) ∙ ap₂ (λ a b. a || b) (both w) (both s)))
     where
@@ -201,4 +201,4 @@ module _ (x low : ℕ) (some : 0 < x) (lowest : IsLowest x low) where
   unfolding bit
   past_lowest-others k l = bit-and x (x - 1) k ∙ (ap (λ b. bit x k && b) (ap (λ n. n == 1) (above_pred low k x some set_at least_at l)) ∙ and_self (bit x k))
 
-pub ruleset bit_lemmas = (apart-first, apart-later, followed-at, past-first, past-later, past_lowest-gone, past_lowest-others)
+pub ruleset bit_lemmas = (run_edges-first, run_edges-later, followed-at, past-first, past-later, past_lowest-gone, past_lowest-others)

@@ -1,21 +1,23 @@
 -- What an edit of a document is to its body, by the tokens of the grammar.
-use Rattle.std.proofs.Common.{◌≡◌, ℕ, ◌+◌, ◌≤◌, Bool, true, List, length, map, drop, refl, sym, ap, ap₂, ◌∙◌, subst, arith, IsCharBoundary, IsUtf8, IsTrue, ◌↔◌}
-use Rattle.std.proofs.lemmas.Bool.{false_from_ne_true}
+use Rattle.std.proofs.Common.{◌≡◌, ℕ, ◌+◌, ◌≤◌, Bool, true, true≢false, List, length, map, drop, refl, sym, ap, ap₂, ◌∙◌, subst, arith, IsCharBoundary, IsUtf8, IsTrue, ◌↔◌}
 use Rattle.rustc_lexer.specs.{Token}
 use Rattle.rustc_lexer.specs.declared.relex.head.Head.{Head}
 use Rattle.rustc_lexer.specs.declared.relex.relexing.{Change.Change, Relexed.Relexed}
 use Rattle.rustc_lexer.specs.Classes.{IsText}
-use Rattle.rustc_lexer.specs.Document.{body_start, head_tokens, IsRelexedDocument}
-use Rattle.rustc_lexer.specs.Edits.{apply, IsEdit, IsRelexed}
+use Rattle.rustc_lexer.specs.Document.{body_start, head_tokens, whole_by}
+use Rattle.rustc_lexer.specs.Edits.{apply, IsEdit, IsRelexed, KeepsHead, part_by}
 use Rattle.rustc_lexer.specs.Head.{body_change, counted, IsBodyChange, IsHeadOf}
 use Rattle.rustc_lexer.specs.Locality.{IsGrammar}
 use Rattle.rustc_lexer.specs.Relexing.{IsEditOf, IsMadeOf}
 use Rattle.rustc_lexer.specs.Tokens.{tokens_by}
-use Rattle.rustc_lexer.specs.means.Document.{body_insert, head_of, HeadStays, IsRelexedWith}
+use Rattle.rustc_lexer.specs.means.Document.{body_insert, head_of, HeadStays}
+use Rattle.rustc_lexer.specs.means.Relexing.{IsBodyRelexed}
 use Rattle.rustc_lexer.proofs.DocumentLemmas.{made_body}
-use Rattle.rustc_lexer.proofs.DocumentPage.{ahead, by_head, end_is, from_page, front_is, relexed_page, same-parts, to_page}
+use Rattle.rustc_lexer.proofs.DocumentPage.{ahead, end_is, from_page, front_is, same-parts, to_page}
 use Rattle.rustc_lexer.proofs.EditLemmas.{edited}
 use Rattle.rustc_lexer.proofs.HeadLemmas.{head-shebang}
+use Rattle.rustc_lexer.proofs.LayoutLemmas.{body_by_part}
+use Rattle.rustc_lexer.proofs.WholeEdits.{relexed_as}
 
 module _ (text : List ℕ) (is : IsText text) where
   pub is_head : IsHeadOf text (head_of text)
@@ -68,20 +70,18 @@ module _ {first : List ℕ → Token} (law : IsGrammar first) (text insert : Lis
         subst (λ (ch : Change). IsMadeOf first body (map (λ (t : Token). t.len) (tokens_by first body)) ch (body_insert kept ch insert new_body) new_body) (sym here)
         (made_body law text insert made edit.start edit.old_stop is its fine refl (body_start text) (body_start made) old_at now_at (tokens_by first body) refl new_body refl kept ends_at)
 
-    counts_here : (r : Relexed) → IsRelexed first body change.start change.old_stop (body_insert kept change insert new_body) r
-        → IsRelexedDocument first text edit.start edit.old_stop insert (counted kept (length (head_tokens text)) (length (head_tokens made)) r)
+    keeps_here : IsTrue kept ↔ KeepsHead (whole_by first text) (whole_by first made) edit.start
+    keeps_here = (λ k. to_page first text insert edit.start edit.old_stop is now_is (stays k), λ s. stayed (from_page first text insert edit.start edit.old_stop is now_is s))
+
+    counts_here : (r : Relexed) → IsRelexed (part_by first) body change.start change.old_stop (body_insert kept change insert new_body) r
+        → IsRelexed (whole_by first) text edit.start edit.old_stop insert (counted kept (length (head_tokens text)) (length (head_tokens made)) r)
     counts_here r x =
-        let all : Relexed = counted kept (length (head_tokens text)) (length (head_tokens made)) r in
-        let there = subst (λ (ch : Change). IsRelexed first body ch.start ch.old_stop (body_insert kept ch insert new_body) r) here x in
-        let with : IsRelexedWith head_of kept first text edit.start edit.old_stop insert all = by_head first text insert edit.start edit.old_stop is now_is kept all (r, there, refl) in
-        relexed_page first text insert edit.start edit.old_stop is now_is record {
-          kept = λ k. subst (λ (t : Bool). IsRelexedWith head_of t first text edit.start edit.old_stop insert all) (stayed k) with;
-          changed = λ none. subst (λ (t : Bool). IsRelexedWith head_of t first text edit.start edit.old_stop insert all) (false_from_ne_true kept (λ e. none (stays e))) with;
-        }
+        let there = subst (λ (ch : Change). IsBodyRelexed first body ch.start ch.old_stop (body_insert kept ch insert new_body) r) here (body_by_part first body change.start change.old_stop _ r x) in
+        relexed_as law text insert edit.start edit.old_stop is its fine kept keeps_here.0 (λ e k. true≢false (sym (keeps_here.1 k) ∙ e)) _ (r, there, refl)
 
     body_here : IsBodyChange first text edit insert made kept change
     body_here = record {
-      keeps = (λ k. to_page first text insert edit.start edit.old_stop is now_is (stays k), λ s. stayed (from_page first text insert edit.start edit.old_stop is now_is s));
+      keeps = keeps_here;
       put = body_insert kept change insert new_body;
       made_of = made_here;
       counts = counts_here;

@@ -42,9 +42,7 @@ among_ends from (t ∷ ts) p e = by_either (eqb p (from + t.len))
     (λ here. let same = eqb-true p (from + t.len) here in (1, omega arith, omega arith))
     (λ other.
     let at = among_ends (from + t.len) ts p (sym (ap (λ b. b || list_any (eqb p) (ends_from (from + t.len) ts)) other) ∙ e) in
-    let few = at.1 in
-    let there = at.2 in
-    (suc at.0, omega arith, omega arith))
+    (suc at.0, omega (arith, at.1), omega (arith, at.2)))
 
 among-bound : (from : ℕ) (ts : List Token) (p : ℕ) → list_any (eqb p) (from ∷ ends_from from ts) ≡ true → (i : ℕ) × (i ≤ length ts) × (from + bound ts i ≡ p)
 among-bound from ts p e = by_either (eqb p from)
@@ -77,9 +75,7 @@ number_le_bound ts zero few up = omega arith
 number_le_bound ts (suc k) few up = omega (arith, up k (omega arith), number_le_bound ts k (omega arith) up)
 
 pub count-cons : {X : Type 0} (test : X → Bool) (x : X) (xs : List X) → count_by test (x ∷ xs) ≡ cond (test x) 1 0 + count_by test xs
-count-cons test x xs =
-    let e : 0 + cond (test x) 1 0 ≡ cond (test x) 1 0 = omega arith in
-    sum_by_from (λ y. cond (test y) 1 0) (0 + cond (test x) 1 0) xs ∙ ap (λ n. n + count_by test xs) e
+count-cons test x xs = grind (arith, common_steps, sum_by_from)
 
 -- how many of the tokens end past the place: all that begin past it, and all behind the bound that it is
 ends_past-all : (from : ℕ) (ts : List Token) (p : ℕ) → p < from → count_by (ltb p) (ends_from from ts) ≡ length ts

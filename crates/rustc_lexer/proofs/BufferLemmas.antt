@@ -65,10 +65,7 @@ module _ {first : List ℕ → Token} (law : IsGrammar first) (text : List ℕ) 
       cut.rest ∙ (ap (λ p. tokens_by first (drop p text)) (sym place) ∙ tokens-cons law (drop at text) stands.past some)
 
   pub next_place : at < length text → at + (first (drop at text)).len ≡ bound (tokens_by first text) (count + 1)
-  next_place more =
-      let step = next-from_drop _ count _ _ (next_token more) in
-      let e : count + 1 ≡ suc count = omega arith in
-      sym (ap (bound (tokens_by first text)) e ∙ (step.end ∙ ap (λ n. n + (first (drop at text)).len) (sym place)))
+  next_place more = grind (arith, common_steps, next_token, next-from_drop _ count _ _ (next_token more))
 
   pub over : length text ≤ at → length (tokens_by first text) ≤ count
   over all =

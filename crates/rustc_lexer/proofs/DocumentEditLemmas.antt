@@ -5,6 +5,7 @@ use Rattle.std.proofs.lemmas.Bool.{cases_lt, false_from_ne_true}
 use Rattle.std.proofs.lemmas.List.{take_rest}
 use Rattle.std.proofs.lemmas.List.Elements.{All-contains}
 use Rattle.std.proofs.Math.Seq.{drop-append_seam, drop-append-add, take-append_seam, take-append-add}
+use Rattle.std.proofs.lemmas.Grind.{common_steps}
 use Rattle.rustc_lexer.specs.declared.relex.checkpoints.Checkpoints.{Checkpoints}
 use Rattle.rustc_lexer.specs.declared.relex.front.Bound.{Bound}
 use Rattle.rustc_lexer.specs.declared.relex.head.Head.{Head}
@@ -14,12 +15,12 @@ use Rattle.rustc_lexer.specs.declared.relex.relexing.Relexing.{Relexing}
 use Rattle.rustc_lexer.specs.{Token}
 use Rattle.rustc_lexer.specs.Classes.{IsText}
 use Rattle.rustc_lexer.specs.means.Document.{body_change, body_insert, counted, document_by, head_put, head_unless, HeadStays, IsCountedByHead, IsRelexedAs, IsRelexedByHead, IsRelexedWith, IsRenewedBehind, tokens_of_head}
-use Rattle.rustc_lexer.specs.Edits.{apply, kept_front, IsBound, IsEdit, IsRelexed}
+use Rattle.rustc_lexer.specs.Edits.{apply, IsBound, IsEdit}
 use Rattle.rustc_lexer.specs.Relexing.{IsMadeOf}
 use Rattle.rustc_lexer.specs.Locality.{IsGrammar}
 use Rattle.rustc_lexer.specs.Tokens.{tokens_by}
 use Rattle.rustc_lexer.specs.means.Checkpoints.{AreBounds, IsMovable, IsReplaced, end_of}
-use Rattle.rustc_lexer.specs.means.Relexing.{IsLexed, IsRenewed, relexed_of}
+use Rattle.rustc_lexer.specs.means.Relexing.{IsBodyRelexed, IsLexed, IsRenewed, kept_front, relexed_of}
 use Rattle.rustc_lexer.proofs.BoundLemmas.{tokens_le_bytes}
 use Rattle.rustc_lexer.proofs.DocumentLemmas.{made_body}
 use Rattle.rustc_lexer.proofs.EditLemmas.{has_two-late, kept_front_from, kept_front_by}
@@ -82,7 +83,7 @@ none_from text from (t ∷ ts) = rw (has_two-late text (from + t.len) 0 (omega a
 kept_none : (text : List ℕ) (ts : List Token) → kept_front text ts 0 ≡ 0
 kept_none text ts = kept_front_by text 0 0 ts ∙ none_from text 0 ts
 
-pub relexed-front : {first : List ℕ → Token} {text : List ℕ} {stop : ℕ} {insert : List ℕ} {r : Relexed} → IsRelexed first text 0 stop insert r → r.kept_front ≡ 0
+pub relexed-front : {first : List ℕ → Token} {text : List ℕ} {stop : ℕ} {insert : List ℕ} {r : Relexed} → IsBodyRelexed first text 0 stop insert r → r.kept_front ≡ 0
 relexed-front {first} {text} is = is.front ∙ kept_none text (tokens_by first text)
 
 -- whether the head stays
@@ -98,7 +99,7 @@ module _ {heads : List ℕ → Head} {first : List ℕ → Token} {text made ins
 
   -- the counts of the body's edit, which is known by equations, and those of the texts alone
   abbrev pub IsRelexedAt : Change → List ℕ → Relexed → Type 0
-  IsRelexedAt ch bytes r = (x : Relexed) × IsRelexed first (drop old.body text) ch.start ch.old_stop (body_insert kept ch insert bytes) x
+  IsRelexedAt ch bytes r = (x : Relexed) × IsBodyRelexed first (drop old.body text) ch.start ch.old_stop (body_insert kept ch insert bytes) x
       × (r ≡ counted kept (length (tokens_of_head old)) (length (tokens_of_head now)) x)
 
   abbrev As : Head → Head → List ℕ → Relexed → Type 0
@@ -123,9 +124,7 @@ module _ {heads : List ℕ → Head} {first : List ℕ → Token} {text made ins
       subst (λ xs. IsRelexedAt change xs r) (sym b.body_is) one
 
 pub near_behind : (tokens : List Token) {all : List Token} {near : Bound} {n m : ℕ} (checkpoints : Checkpoints) → n ≡ m → drop n tokens ≡ all → AreBounds (drop m tokens) checkpoints → Contains checkpoints.bounds near → IsBound all near
-near_behind tokens {all} {near} {n} {m} checkpoints same e are is =
-    let turned : drop m tokens ≡ all = ap (λ k. drop k tokens) (sym same) ∙ e in
-    rw (sym turned) (All-contains (IsBound (drop m tokens)) checkpoints.bounds near are is)
+near_behind tokens {all} {near} {n} {m} checkpoints same e are is = grind (arith, common_steps, All-contains)
 
 module _ {heads : List ℕ → Head} {first : List ℕ → Token} (law : IsGrammar first) {text made insert : List ℕ} {start stop : ℕ} {old now : Head} {kept : Bool} {n : ℕ} {tokens : List Token} {body : List ℕ} {change : Change} (b : IsBodyEdit heads first text made insert start stop old now kept n tokens body change)
     {head : Option Head} {new : List Token} {at : Relexing} (head_is : head ≡ head_unless kept now) (r : IsRenewedBehind first (drop old.body text) change body n tokens head new at) where
@@ -174,9 +173,7 @@ module _ {heads : List ℕ → Head} {first : List ℕ → Token} (law : IsGramm
   module _ (counts : Relexed) {m c : ℕ} (m_is : m ≡ length (tokens_of_head now)) (c_is : c ≡ length tokens - n) (counts_are : counts ≡ record { kept_front = at.front.number; lexed = at.lexed; kept_back = c - at.back.number }) where
     sizes : (at.front.number + at.lexed + (c - at.back.number) ≡ length r.behind) × (length new ≡ m + length r.behind) × (c ≡ length (drop n tokens))
     sizes =
-        let size : c ≡ length (drop n tokens) = omega (arith, c_is, length-drop n tokens) in
-        let all = renewed_all law b.old_body whole_made whole_renewed in
-        (omega (arith, all, size), omega (arith, ap length new_is, length-append (tokens_of_head now) r.behind, m_is), size)
+        grind (arith, common_steps, length-drop, whole_made, whole_renewed, new_is, length-append, renewed_all law b.old_body whole_made whole_renewed)
 
     same_count : kept ≡ true → n ≡ m
     same_count e = b.n_is ∙ (ap (λ (h : Head). length (tokens_of_head h)) (b.told.0 e).0 ∙ sym m_is)
@@ -210,7 +207,7 @@ module _ {heads : List ℕ → Head} {first : List ℕ → Token} (law : IsGramm
         by_kept true e = back_with _ (omega (arith, same_count e, m_is))
         by_kept false e = back_with _ (omega (arith, m_is))
 
-    module _ (exact : IsRelexed first (drop old.body text) change.start change.old_stop put counts) where
+    module _ (exact : IsBodyRelexed first (drop old.body text) change.start change.old_stop put counts) where
       by_texts : IsRelexedWith heads kept first text start stop insert (counted kept n m counts)
       by_texts = to_texts b (counted kept n m counts) (counts, exact, ap₂ (λ i j. counted kept i j counts) b.n_is m_is)
 
@@ -230,11 +227,7 @@ module _ {heads : List ℕ → Head} {first : List ℕ → Token} (law : IsGramm
     }
 
     pub counted_few : IsText text → counts.kept_front < 2 ^ 33
-    counted_few is =
-        let front = ap (λ (x : Relexed). x.kept_front) counts_are in
-        let many = tokens_le_bytes law (drop old.body text) b.made_of.edit_of.is_text in
-        let short = b.made_of.edit_of.is_text.fits in
-        omega (arith, front, many, short, r.renewed.lexed_is.stands.front_bound.0)
+    counted_few is = grind (arith, common_steps, counts_are, tokens_le_bytes, b.made_of.edit_of.is_text.fits)
 
 -- ---- an edit that is refused
 

@@ -1,5 +1,5 @@
 -- The head of a document by its tokens: those up to the frontmatter.
-use Rattle.std.proofs.Common.{◌≡◌, ℕ, zero, suc, ◌+◌, ◌-◌, Bool, not, true, false, true≢false, List, [], ◌∷◌, ◌++◌, length, length-drop, drop, refl, sym, ap, ap₂, ◌∙◌, arith, chars, Option, None, Some, IsCharBoundary}
+use Rattle.std.proofs.Common.{◌≡◌, ℕ, zero, suc, ◌+◌, ◌-◌, Bool, not, true, false, true≢false, List, [], ◌∷◌, ◌++◌, length, length-drop, drop, refl, sym, ap, ◌∙◌, arith, chars, Option, None, Some, IsCharBoundary}
 use Rattle.std.proofs.lemmas.Bool.{not-true}
 use Rattle.rustc_lexer.specs.{Edition, Token, TokenKind}
 use Rattle.rustc_lexer.specs.declared.relex.head.Head.{Head}
@@ -20,6 +20,7 @@ use Rattle.rustc_lexer.specs.means.Scan.{past}
 use Rattle.rustc_lexer.specs.means.Tokens.{read_tokens}
 use Rattle.rustc_lexer.proofs.DocumentTokens.{document_law, shebang-boundary}
 use Rattle.std.proofs.lemmas.Str.{IsUtf8-drop}
+use Rattle.std.proofs.lemmas.Grind.{common_steps}
 
 -- ---- no token of a part is a frontmatter
 
@@ -100,6 +101,4 @@ module _ (edition : Edition) (text : List ℕ) (is : IsText text) (at : IsCharBo
 
   -- where they end the body begins
   pub head_end : (head_of text).body ≡ shebang_len text + bound (document_tokens edition text) (head_count (document_tokens edition text))
-  head_end =
-      let front = front_of text in
-      front.ends ∙ ap (λ n. shebang_len text + n) (sym (ap₂ bound head_whole head_count-tokens ∙ bound-append (tokens_of_head (head_of text)) _))
+  head_end = grind (arith, common_steps, head_whole, head_count-tokens, bound-append, front_of text)

@@ -4,6 +4,7 @@ use Rattle.std.proofs.Math.Nat.{le-max_left, le-max_right, max-le}
 use Rattle.std.proofs.lemmas.Bool.{cases_lt}
 use Rattle.std.proofs.lemmas.List.{drop-take, drop-append-le}
 use Rattle.std.proofs.lemmas.Str.{IsUtf8-drop, IsUtf8-take, IsCharBoundary-from_drop}
+use Rattle.std.proofs.lemmas.Grind.{common_steps}
 use Rattle.rustc_lexer.specs.declared.relex.head.Head.{Head}
 use Rattle.rustc_lexer.specs.declared.relex.relexing.Change.{Change}
 use Rattle.rustc_lexer.specs.{Token}
@@ -18,16 +19,11 @@ use Rattle.rustc_lexer.proofs.EditLemmas.{IsEdited, edited, same_rest}
 -- a place past another is between characters of what follows that one
 pub boundary-past : (xs : List ℕ) (from p : ℕ) → IsUtf8 xs → from ≤ p → IsCharBoundary xs p → IsCharBoundary (drop from xs) (p - from)
 boundary-past xs from p is le at =
-    let here : from + (p - from) ≡ p = omega arith in
-    let same : drop (p - from) (drop from xs) ≡ drop p xs = drop-drop (p - from) from xs ∙ ap (λ n. drop n xs) here in
-    let its : IsUtf8 (drop (p - from) (drop from xs)) = rw same (IsUtf8-drop xs p is at) in
-    IsCharBoundary-from_drop (drop from xs) (p - from) (omega (arith, at.0, length-drop from xs)) its
+    grind (arith, common_steps, drop-drop, IsUtf8-drop, IsCharBoundary-from_drop, length-drop)
 
 -- what is past the first of two places past the second
 drop-past : (xs : List ℕ) (from p : ℕ) → from ≤ p → drop p xs ≡ drop (p - from) (drop from xs)
-drop-past xs from p le =
-    let here : p ≡ from + (p - from) = omega arith in
-    ap (λ n. drop n xs) here ∙ sym (drop-drop (p - from) from xs)
+drop-past xs from p le = grind (arith, common_steps, drop-drop)
 
 by_max : (P : ℕ → Type 0) (a b : ℕ) → P a → P b → P (max a b)
 by_max P a b pa pb = elim (cases_lt a b) [
@@ -114,16 +110,7 @@ module _ {first : List ℕ → Token} (law : IsGrammar first) (text insert made 
 
     ends_inside : (from ≤ old_end) × (to ≤ new_end) × (old_end ≤ length text) × (new_end ≤ length made)
     unfolding ed
-    ends_inside =
-        let l = le-max_left (from - stop) (to - (start + length insert)) in
-        let r = le-max_right (from - stop) (to - (start + length insert)) in
-        let a = edit.inside.start_le_stop in
-        let b = edit.inside.stop_inside in
-        let n = ed.len in
-        let o = old_at.0 in
-        let w = now_at.0 in
-        let most : max (from - stop) (to - (start + length insert)) ≤ length text - stop = max-le (omega arith) (omega arith) in
-        (omega arith, omega arith, omega arith, omega arith)
+    ends_inside = grind (arith, common_steps, max-le, le-max_left, le-max_right, edit.inside.start_le_stop, edit.inside.stop_inside, ed.len, old_at.0, now_at.0)
 
     back_utf8 : IsUtf8 (drop old_end text)
     unfolding ed

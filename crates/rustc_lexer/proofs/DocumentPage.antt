@@ -1,21 +1,21 @@
 -- What an edit of a document keeps, by the tokens of the grammar.
-use Rattle.std.proofs.Common.{◌++◌, ◌≡◌, ℕ, zero, suc, max, ◌+◌, ◌-◌, ◌≤◌, Bool, true, false, if◌then◌else◌, List, [], ◌∷◌, length, take, drop, refl, sym, subst, ap, ap₂, ◌∙◌, arith, chars, get_or, length-take-le, Option, None, Some, IsCharBoundary}
-use Rattle.std.proofs.Math.Nat.{le-max_left, le-max_right, max-le}
+use Rattle.std.proofs.Common.{◌++◌, ◌≡◌, ℕ, zero, suc, ◌+◌, ◌-◌, ◌≤◌, Bool, true, false, if◌then◌else◌, List, [], ◌∷◌, length, take, drop, refl, sym, subst, ap, ap₂, ◌∙◌, arith, chars, get_or, length-take-le, Option, None, Some, IsCharBoundary}
 use Rattle.std.proofs.Math.Seq.{take-append_seam}
+use Rattle.std.proofs.lemmas.Grind.{common_steps}
 use Rattle.rustc_lexer.specs.{Token, E2024}
 use Rattle.rustc_lexer.specs.declared.relex.head.Head.{Head}
 use Rattle.rustc_lexer.specs.declared.relex.relexing.Change.{Change}
 use Rattle.rustc_lexer.specs.declared.relex.relexing.Relexed.{Relexed}
 use Rattle.rustc_lexer.specs.Classes.{IsText}
-use Rattle.rustc_lexer.specs.Document.{body_start, document_tokens_by, IsCountedDocument, head_tokens, is_frontmatter, more_unless_zero, head_count, shebang_len, document_tokens, IsFirstInBoth, IsRelexedAnew, IsRelexedDocument, KeepsHead}
-use Rattle.rustc_lexer.specs.means.Document.{body_change, body_insert, counted, document_by, front_tokens, head_of, HeadStays, IsCountedByHead, IsRelexedByHead, IsRelexedWith, tokens_of_head}
-use Rattle.rustc_lexer.specs.Edits.{apply, IsRelexed}
+use Rattle.rustc_lexer.specs.Document.{body_start, document_tokens_by, head_tokens, is_frontmatter, more_unless_zero, head_count, shebang_len, whole_by}
+use Rattle.rustc_lexer.specs.means.Document.{body_change, body_insert, counted, document_by, front_tokens, head_of, HeadStays, IsRelexedWith, tokens_of_head}
+use Rattle.rustc_lexer.specs.Edits.{apply, body_in, KeepsHead}
 use Rattle.rustc_lexer.specs.Tokens.{bound, tokens_by}
 use Rattle.rustc_lexer.proofs.EditLemmas.{bound-take}
 use Rattle.rustc_lexer.specs.means.Frontmatter.{frontmatter, opens, spaces_len}
+use Rattle.rustc_lexer.specs.means.Relexing.{IsBodyRelexed}
 use Rattle.rustc_lexer.specs.means.Scan.{past}
-use Rattle.rustc_lexer.proofs.DocumentHead.{head_count-tokens, head_end, head_whole}
-use Rattle.rustc_lexer.proofs.DocumentEditLemmas.{relexed-front}
+use Rattle.rustc_lexer.proofs.DocumentHead.{bound-append, head_count-tokens, head_end, head_whole}
 use Rattle.rustc_lexer.proofs.DocumentTokens.{shebang-boundary}
 use Rattle.rustc_lexer.proofs.HeadLemmas.{front-boundary, spaced-boundary, head-shebang}
 
@@ -71,11 +71,12 @@ up_few (t ∷ ts) = by_test (is_frontmatter t.kind) (head_count ts) (up_few ts)
     by_test false zero le = omega arith
     by_test false (suc n) le = omega arith
 
-body_by : (text : List ℕ) → body_start text ≡ shebang_len text + bound (head_tokens text) (length (head_tokens text))
-body_by text =
-    let ts : List Token = document_tokens E2024 text in
-    let size : length (take (head_count ts) ts) ≡ head_count ts = length-take-le (head_count ts) ts (up_few ts) in
-    ap (λ n. shebang_len text + n) (sym (bound-take (head_count ts) ts) ∙ ap (bound (take (head_count ts) ts)) (sym size))
+pub body_by : (text : List ℕ) → body_start text ≡ shebang_len text + bound (head_tokens text) (length (head_tokens text))
+body_by text = grind (arith, common_steps, length-take-le, up_few, bound-take)
+
+-- the body begins where the tokens of the head end
+pub body_at : (first : List ℕ → Token) (text : List ℕ) → body_in (whole_by first text) ≡ body_start text
+body_at first text = ap (λ n. shebang_len text + n) (bound-append (head_tokens text) (tokens_by first (drop (body_start text) text))) ∙ sym (body_by text)
 
 module _ (text made : List ℕ) (is : IsText text) (its : IsText made) where
   same_head : shebang_len text ≡ shebang_len made → head_tokens text ≡ head_tokens made → head_of text ≡ head_of made
@@ -93,24 +94,24 @@ module _ (first : List ℕ → Token) (text insert : List ℕ) (start stop : ℕ
   abbrev made : List ℕ
   made = apply text start stop insert
 
-  pub to_page : HeadStays head_of text start stop insert → KeepsHead text start stop insert
+  pub to_page : HeadStays head_of text start stop insert → KeepsHead (whole_by first text) (whole_by first made) start
   to_page k = (
+    (let e = k.1 in omega (arith, e, end_is text is, body_at first text)),
     sym (head-shebang text) ∙ (ap (λ (h : Head). h.shebang_len) k.0 ∙ head-shebang made),
     sym (front_is text is) ∙ (ap tokens_of_head k.0 ∙ front_is made its),
-    (let e = k.1 in omega (arith, e, end_is text is)),
   )
 
-  pub from_page : KeepsHead text start stop insert → HeadStays head_of text start stop insert
-  from_page s = (same_head text made is its s.0 s.1, (let e = s.2 in omega (arith, e, end_is text is)))
+  pub from_page : KeepsHead (whole_by first text) (whole_by first made) start → HeadStays head_of text start stop insert
+  from_page s = (same_head text made is its s.1 s.2, (let e = s.0 in omega (arith, e, end_is text is, body_at first text)))
 
   -- the same, by the head of the text and by the tokens of the grammar
-  abbrev At : Bool → ℕ → ℕ → List Token → List Token → Relexed → Type 0
+  abbrev pub At : Bool → ℕ → ℕ → List Token → List Token → Relexed → Type 0
   At kept from to old now r =
       let change : Change = body_change kept from to (record { start = start; old_stop = stop; new_stop = start + length insert }) in
-      (x : Relexed) × IsRelexed first (drop from text) change.start change.old_stop (body_insert kept change insert (drop to made)) x
+      (x : Relexed) × IsBodyRelexed first (drop from text) change.start change.old_stop (body_insert kept change insert (drop to made)) x
       × (r ≡ counted kept (length old) (length now) x)
 
-  by_page : (kept : Bool) (r : Relexed) → IsRelexedWith head_of kept first text start stop insert r → At kept (body_start text) (body_start made) (head_tokens text) (head_tokens made) r
+  pub by_page : (kept : Bool) (r : Relexed) → IsRelexedWith head_of kept first text start stop insert r → At kept (body_start text) (body_start made) (head_tokens text) (head_tokens made) r
   unfolding IsRelexedWith
   by_page kept r x =
       let one : At kept (body_start text) (head_of made).body (tokens_of_head (head_of text)) (tokens_of_head (head_of made)) r = subst (λ from. At kept from (head_of made).body (tokens_of_head (head_of text)) (tokens_of_head (head_of made)) r) (end_is text is) x in
@@ -125,57 +126,3 @@ module _ (first : List ℕ → Token) (text insert : List ℕ) (start stop : ℕ
       let two : At kept (body_start text) (body_start made) (tokens_of_head (head_of text)) (tokens_of_head (head_of made)) r = subst (λ ts. At kept (body_start text) (body_start made) ts (tokens_of_head (head_of made)) r) (sym (front_is text is)) three in
       let one : At kept (body_start text) (head_of made).body (tokens_of_head (head_of text)) (tokens_of_head (head_of made)) r = subst (λ to. At kept (body_start text) to (tokens_of_head (head_of text)) (tokens_of_head (head_of made)) r) (sym (end_is made its)) two in
       subst (λ from. At kept from (head_of made).body (tokens_of_head (head_of text)) (tokens_of_head (head_of made)) r) (sym (end_is text is)) one
-
-  -- nothing is kept before the edit of a body at its begin
-  abbrev anew : ℕ → Relexed → Relexed
-  anew front x = record { kept_front = front; lexed = length (head_tokens made) + x.lexed; kept_back = x.kept_back }
-
-  -- up to where it changes: the greater of two differences
-  abbrev more : ℕ
-  more = max (body_start text - stop) (body_start made - (start + length insert))
-
-  more_in_both : IsFirstInBoth (body_start text) stop (body_start made) (start + length insert) more
-  more_in_both = record {
-    old_begun = omega (arith, le-max_left (body_start text - stop) (body_start made - (start + length insert)));
-    new_begun = omega (arith, le-max_right (body_start text - stop) (body_start made - (start + length insert)));
-    first = λ other old_begun new_begun. max-le (omega (arith, old_begun)) (omega (arith, new_begun));
-  }
-
-  more_is : (other : ℕ) → IsFirstInBoth (body_start text) stop (body_start made) (start + length insert) other → other ≡ more
-  more_is other is = omega (arith, is.first more more_in_both.old_begun more_in_both.new_begun, more_in_both.first other is.old_begun is.new_begun)
-
-  -- with a change of the body up to there
-  abbrev Anew : Relexed → ℕ → Type 0
-  Anew r m =
-      (x : Relexed) × IsRelexed first (drop (body_start text) text) 0 (stop + m - body_start text) (take (start + length insert + m - body_start made) (drop (body_start made) made)) x
-      × (r ≡ anew 0 x)
-
-  to_anew : (r : Relexed) → At false (body_start text) (body_start made) (head_tokens text) (head_tokens made) r → IsRelexedAnew first text start stop insert r
-  to_anew r x = (more, more_in_both, x.0, x.1, x.2 ∙ ap (λ front. anew front x.0) (relexed-front x.1))
-
-  of_anew : (r : Relexed) → IsRelexedAnew first text start stop insert r → At false (body_start text) (body_start made) (head_tokens text) (head_tokens made) r
-  of_anew r x = let y : Anew r more = subst (Anew r) (more_is x.0 x.1) (x.2, x.3, x.4) in (y.0, y.1, y.2 ∙ ap (λ front. anew front y.0) (sym (relexed-front y.1)))
-
-  pub relexed_page : {r : Relexed} → IsRelexedByHead head_of first text start stop insert r → IsRelexedDocument first text start stop insert r
-  relexed_page {r} is_head = record {
-    kept = λ s. by_page true r (is_head.kept (from_page s));
-    changed = λ none. to_anew r (by_page false r (is_head.changed (λ k. none (to_page k))));
-  }
-
-  pub stepped_page : {before after lexed : ℕ} → IsCountedByHead head_of text start stop insert before after lexed → IsCountedDocument text start stop insert before after lexed
-  stepped_page r = record {
-    kept = λ s. r.kept (from_page s);
-    changed = λ none. let e = r.changed (λ k. none (to_page k)) in omega (arith, e, ap (λ (ts : List Token). length ts) (front_is made its));
-  }
-
-  pub page_relexed : {r : Relexed} → IsRelexedDocument first text start stop insert r → IsRelexedByHead head_of first text start stop insert r
-  page_relexed {r} is_page = record {
-    kept = λ k. by_head true r (is_page.kept (to_page k));
-    changed = λ none. by_head false r (of_anew r (is_page.changed (λ s. none (from_page s))));
-  }
-
-  pub page_stepped : {before after lexed : ℕ} → IsCountedDocument text start stop insert before after lexed → IsCountedByHead head_of text start stop insert before after lexed
-  page_stepped r = record {
-    kept = λ k. r.kept (to_page k);
-    changed = λ none. let e = r.changed (λ s. none (from_page s)) in omega (arith, e, ap (λ (ts : List Token). length ts) (front_is made its));
-  }

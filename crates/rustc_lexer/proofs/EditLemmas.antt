@@ -30,7 +30,6 @@ unfolding apply
 edited text start stop insert is its edit =
     let a : start ≤ stop = edit.inside.start_le_stop in
     let b : stop ≤ length text = edit.inside.stop_inside in
-    let s = edit.short in
     let first : length (take start text) ≡ start = length-take-le start text (omega arith) in
     let long : length (take start text ++ (insert ++ drop stop text)) ≡ start + (length insert + (length text - stop)) = omega (arith, length-append (take start text) (insert ++ drop stop text), length-append insert (drop stop text), length-drop stop text, first) in
     record {
@@ -39,7 +38,7 @@ edited text start stop insert is its edit =
       back = sym (drop-drop (length insert) start (take start text ++ (insert ++ drop stop text))) ∙ (ap (drop (length insert)) (drop_at (take start text) (insert ++ drop stop text) start first) ∙ drop_at insert (drop stop text) (length insert) refl);
       text_is = record {
         utf8 = IsUtf8-append _ _ (IsUtf8-take text start is.utf8 edit.inside.start_boundary) (IsUtf8-append _ _ its (IsUtf8-drop text stop is.utf8 edit.inside.stop_boundary));
-        fits = omega (arith, long);
+        fits = omega (arith, long, edit.short);
       };
     }
 

@@ -5,7 +5,7 @@ use Rattle.std.proofs.lemmas.Grind.{common_steps}
 use Rattle.rustc_lexer.specs.{Token}
 use Rattle.rustc_lexer.specs.declared.relex.edit.Edit.{Edit}
 use Rattle.rustc_lexer.specs.declared.relex.relexing.Relexed.{Relexed}
-use Rattle.rustc_lexer.specs.Edits.{IsEdit, applied, apply_list, AreEdits, AreLeast, AreStepped}
+use Rattle.rustc_lexer.specs.Edits.{IsEdit, IsRelexed, IsStepped, Layout, applied, apply_list, AreEdits, AreLeast, AreStepped}
 
 pub apply-next : (text : List ℕ) (es : List Edit) (n : ℕ) (d : Edit) → n < length es → apply_list text (take (suc n) es) ≡ applied (apply_list text (take n es)) (get_or es n d)
 apply-next text [] n d few = absurd (omega arith)
@@ -20,40 +20,40 @@ pub text-more : (text now after : List ℕ) (es : List Edit) (n : ℕ) → n < l
 text-more text now after es n few is made = grind (arith, common_steps, apply-next)
 
 -- one more edit takes its steps more
-module _ (Steps : (List ℕ → Token) → List ℕ → ℕ → ℕ → List ℕ → ℕ → ℕ → Type 0) (first : List ℕ → Token) where
+module _ (layout : (List ℕ → Token) → List ℕ → Layout) (first : List ℕ → Token) where
   abbrev IsSteppedBy : List ℕ → Edit → ℕ → ℕ → Type 0
-  IsSteppedBy text e before after = Steps first text e.start e.stop e.insert.now before after
+  IsSteppedBy text e before after = IsStepped (layout first) text e.start e.stop e.insert.now before after
 
-  stepped-next : (text : List ℕ) (es : List Edit) (n : ℕ) (d : Edit) (before between after : ℕ) → n < length es → AreStepped (Steps first) text (take n es) before between → IsSteppedBy (apply_list text (take n es)) (get_or es n d) between after → AreStepped (Steps first) text (take (suc n) es) before after
+  stepped-next : (text : List ℕ) (es : List Edit) (n : ℕ) (d : Edit) (before between after : ℕ) → n < length es → AreStepped (layout first) text (take n es) before between → IsSteppedBy (apply_list text (take n es)) (get_or es n d) between after → AreStepped (layout first) text (take (suc n) es) before after
   stepped-next text [] n d before between after few are is = absurd (omega arith)
   stepped-next text (e ∷ es) zero d before between after few are is = (after, subst (λ (k : ℕ). IsSteppedBy text e k after) are is, refl)
   stepped-next text (e ∷ es) (suc n) d before between after few are is = (are.0, are.1, stepped-next (applied text e) es n d are.0 between after (omega arith) are.2 is)
 
-  pub stepped-more : (then : List ℕ → Token) (text now : List ℕ) (es : List Edit) (n before between after : ℕ) → n < length es → now ≡ apply_list text (take n es) → then ≡ first → AreStepped (Steps first) text (take n es) before between
-      → Steps then now (get_or es n none).start (get_or es n none).stop (get_or es n none).insert.now between after → AreStepped (Steps first) text (take (n + 1) es) before after
+  pub stepped-more : (then : List ℕ → Token) (text now : List ℕ) (es : List Edit) (n before between after : ℕ) → n < length es → now ≡ apply_list text (take n es) → then ≡ first → AreStepped (layout first) text (take n es) before between
+      → IsStepped (layout then) now (get_or es n none).start (get_or es n none).stop (get_or es n none).insert.now between after → AreStepped (layout first) text (take (n + 1) es) before after
   stepped-more then text now es n before between after few is same are one =
       let e : Edit = get_or es n none in
       let more : suc n ≡ n + 1 = omega arith in
-      let here : IsSteppedBy (apply_list text (take n es)) e between after = subst (λ f. Steps f (apply_list text (take n es)) e.start e.stop e.insert.now between after) same (subst (λ xs. Steps then xs e.start e.stop e.insert.now between after) is one) in
-      subst (λ k. AreStepped (Steps first) text (take k es) before after) more (stepped-next text es n none before between after few are here)
+      let here : IsSteppedBy (apply_list text (take n es)) e between after = subst (λ f. IsStepped (layout f) (apply_list text (take n es)) e.start e.stop e.insert.now between after) same (subst (λ xs. IsStepped (layout then) xs e.start e.stop e.insert.now between after) is one) in
+      subst (λ k. AreStepped (layout first) text (take k es) before after) more (stepped-next text es n none before between after few are here)
 
 -- one more edit keeps no more
-module _ (Counts : (List ℕ → Token) → List ℕ → ℕ → ℕ → List ℕ → Relexed → Type 0) (first : List ℕ → Token) (r : Relexed) where
-  least-next : (text : List ℕ) (es : List Edit) (n : ℕ) (d : Edit) (f b front back next_front next_back : ℕ) → n < length es → next_front ≡ min front r.kept_front → next_back ≡ min back r.kept_back → AreLeast (Counts first) text (take n es) f b front back
-      → Counts first (apply_list text (take n es)) (get_or es n d).start (get_or es n d).stop (get_or es n d).insert.now r → AreLeast (Counts first) text (take (suc n) es) f b next_front next_back
+module _ (layout : (List ℕ → Token) → List ℕ → Layout) (first : List ℕ → Token) (r : Relexed) where
+  least-next : (text : List ℕ) (es : List Edit) (n : ℕ) (d : Edit) (f b front back next_front next_back : ℕ) → n < length es → next_front ≡ min front r.kept_front → next_back ≡ min back r.kept_back → AreLeast (layout first) text (take n es) f b front back
+      → IsRelexed (layout first) (apply_list text (take n es)) (get_or es n d).start (get_or es n d).stop (get_or es n d).insert.now r → AreLeast (layout first) text (take (suc n) es) f b next_front next_back
   least-next text [] n d f b front back next_front next_back few front_is back_is are is = absurd (omega arith)
   least-next text (e ∷ es) zero d f b front back next_front next_back few front_is back_is are is =
       (r, is, (front_is ∙ ap (λ k. min k r.kept_front) are.0, back_is ∙ ap (λ k. min k r.kept_back) are.1))
   least-next text (e ∷ es) (suc n) d f b front back next_front next_back few front_is back_is are is =
       (are.0, are.1, least-next (applied text e) es n d (min f are.0.kept_front) (min b are.0.kept_back) front back next_front next_back (omega arith) front_is back_is are.2 is)
 
-  pub least-more : (then : List ℕ → Token) (text now : List ℕ) (es : List Edit) (n f b front back next_front next_back : ℕ) → n < length es → now ≡ apply_list text (take n es) → then ≡ first → next_front ≡ min front r.kept_front → next_back ≡ min back r.kept_back → AreLeast (Counts first) text (take n es) f b front back
-      → Counts then now (get_or es n none).start (get_or es n none).stop (get_or es n none).insert.now r → AreLeast (Counts first) text (take (n + 1) es) f b next_front next_back
+  pub least-more : (then : List ℕ → Token) (text now : List ℕ) (es : List Edit) (n f b front back next_front next_back : ℕ) → n < length es → now ≡ apply_list text (take n es) → then ≡ first → next_front ≡ min front r.kept_front → next_back ≡ min back r.kept_back → AreLeast (layout first) text (take n es) f b front back
+      → IsRelexed (layout then) now (get_or es n none).start (get_or es n none).stop (get_or es n none).insert.now r → AreLeast (layout first) text (take (n + 1) es) f b next_front next_back
   least-more then text now es n f b front back next_front next_back few is same front_is back_is are one =
       let e : Edit = get_or es n none in
       let more : suc n ≡ n + 1 = omega arith in
-      let here : Counts first (apply_list text (take n es)) e.start e.stop e.insert.now r = subst (λ g. Counts g (apply_list text (take n es)) e.start e.stop e.insert.now r) same (subst (λ xs. Counts then xs e.start e.stop e.insert.now r) is one) in
-      subst (λ k. AreLeast (Counts first) text (take k es) f b next_front next_back) more (least-next text es n none f b front back next_front next_back few front_is back_is are here)
+      let here : IsRelexed (layout first) (apply_list text (take n es)) e.start e.stop e.insert.now r = subst (λ g. IsRelexed (layout g) (apply_list text (take n es)) e.start e.stop e.insert.now r) same (subst (λ xs. IsRelexed (layout then) xs e.start e.stop e.insert.now r) is one) in
+      subst (λ k. AreLeast (layout first) text (take k es) f b next_front next_back) more (least-next text es n none f b front back next_front next_back few front_is back_is are here)
 
 edits-next : (text : List ℕ) (es : List Edit) (n : ℕ) (d : Edit) → n < length es → AreEdits text (take n es) → IsEdit (apply_list text (take n es)) (get_or es n d).start (get_or es n d).stop (get_or es n d).insert.now → AreEdits text (take (suc n) es)
 edits-next text [] n d few are is = absurd (omega arith)
@@ -123,6 +123,4 @@ stay-more next_front next_back front_is back_is before then =
 
 -- the counts of all edits together
 pub counts_back : {old new : List Token} {front back : ℕ} (len kept_back : ℕ) → len ≡ length new → kept_back ≡ min back (min (length new) (length old) - front) → StayAtEnds old new front back → drop (front + (len - front - kept_back)) new ≡ drop (length old - kept_back) old
-counts_back {old} {new} {front} {back} len kept_back len_is fewer stay =
-    let from : front + (len - front - kept_back) ≡ length new - kept_back = omega (arith, stay.front_within, stay.front_inside) in
-    ap (λ k. drop k new) from ∙ (fewer_stay front kept_back (omega arith) (omega arith) stay).same_back
+counts_back {old} {new} {front} {back} len kept_back len_is fewer stay = grind (arith, common_steps, fewer_stay)

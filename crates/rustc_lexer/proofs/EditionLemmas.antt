@@ -1,6 +1,6 @@
 -- What an edition has in place of some tokens.
 use Rattle.std.proofs.Common.{◌≡◌, ◌≢◌, ◌<◌, ℕ, suc, Bool, true, false, true≢false, List, [], ◌∷◌, length, nat_le, ◌⊎◌, inl, inr, refl, sym, ap, ◌∙◌, IsCharBoundary, arith}
-use Rattle.rustc_lexer.specs.{Edition, FrontmatterAllowed, Token, TokenKind, E2015, E2018, E2021, E2024, Yes, No, Literal, Eof, Pound, GuardedStrPrefix, RawLifetime, UnknownPrefix, UnknownPrefixLifetime}
+use Rattle.rustc_lexer.specs.{Edition, FrontmatterAllowed, Token, TokenKind, E2015, E2018, E2021, E2024, Yes, No, Pound, GuardedStrPrefix, RawLifetime, UnknownPrefix, UnknownPrefixLifetime}
 use Rattle.rustc_lexer.specs.LanguageText.{mode_in, year}
 use Rattle.rustc_lexer.specs.laws.Choice.{by_either}
 use Rattle.rustc_lexer.specs.laws.Edition.{edition_grammar}
@@ -18,20 +18,6 @@ use Rattle.rustc_lexer.specs.means.Frontmatter.{frontmatter, opens}
 use Rattle.rustc_lexer.specs.means.Taking.{token_at}
 use Rattle.std.specs.Str.{chars}
 use Rattle.std.proofs.lemmas.Grind.{common_steps}
-
--- kinds that say nothing of the text of their token
-abbrev pub is_silent : TokenKind → Bool
-is_silent (Literal kind suffix_start) = false
-is_silent Eof = false
-is_silent kind = true
-
--- what holds of a token, and of each whose kind says nothing of its text, holds of what an edition has in its place
-module _ (P : Token → Type 0) (silent : (kind : TokenKind) (len : ℕ) → is_silent kind ≡ true → P (token kind len)) where
-  in_2018 : (cs : List ℕ) (kind : TokenKind) (len : ℕ) → P (token kind len) → P (before_2021 cs kind len)
-  in_2018 cs kind len p = grind (arith, common_steps)
-
-  pub changed-either : (edition : Edition) (cs : List ℕ) (t : Token) → P t → P (changed edition cs t)
-  changed-either edition cs t p = grind (arith, common_steps, in_2018)
 
 -- whether an older edition has another token in place of one of this kind
 abbrev pub is_newer : TokenKind → Bool

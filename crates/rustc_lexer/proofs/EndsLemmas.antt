@@ -15,7 +15,7 @@ use Rattle.unicode_ident.proofs.Computing.{unicode_ident}
 use Rattle.rustc_lexer.specs.{Edition, TokenKind, Ident, Whitespace}
 use Rattle.rustc_lexer.specs.declared.lexemes.classified.TheConstants.{CLASSIFIED}
 use Rattle.rustc_lexer.specs.declared.lexemes.family.Family.{Family}
-use Rattle.rustc_lexer.specs.declared.lexemes.family.Family.TheVariants.{Slash, Space, Word, Number, Quote, Str, Emoji, Hash, Symbol}
+use Rattle.rustc_lexer.specs.declared.lexemes.family.Family.TheVariants.{Space, Word, Symbol}
 use Rattle.rustc_lexer.specs.means.Edition.{changed}
 use Rattle.rustc_lexer.specs.means.Ends.{bit, goes_on, is_end, AreEndsPast, IsEnds, IsLowest, classified, classified_in, StaysWithin}
 use Rattle.rustc_lexer.specs.means.ByteRuns.{is_continue_byte, is_space_byte}
@@ -61,8 +61,7 @@ pub ends_past : (text : List ℕ) (m from n late : ℕ) → from ≤ n → AreEn
 ends_past text m from n late near are first later zero set = absurd (true≢false (sym set ∙ first))
 ends_past text m from n late near are first later (suc j) set =
     let there = are (n + suc j) (sym (later j) ∙ set) in
-    let room = there.1 in
-    (omega (arith, length-drop n text), at)
+    (omega (arith, there.1, length-drop n text), at)
   where
     at : (k : ℕ) → k ≤ suc j → bit late k ≡ is_end (drop n text) k
     at zero le = first
@@ -73,8 +72,8 @@ past_end text m from low less are lowest gone others j set = grind (arith, commo
 
 -- ---- where a run ends
 
-apart : (b : ℕ) → (is_continue_byte b && is_space_byte b) ≡ false
-apart b = elim (cases_lt b 128) [ inl small ↦ agree_below_at (λ x. is_continue_byte x && is_space_byte x) (λ _. false) 128 b refl small | inr wide ↦ rw (le-ltb b 128 wide) refl ]
+never_both : (b : ℕ) → (is_continue_byte b && is_space_byte b) ≡ false
+never_both b = elim (cases_lt b 128) [ inl small ↦ agree_below_at (λ x. is_continue_byte x && is_space_byte x) (λ _. false) 128 b refl small | inr wide ↦ rw (le-ltb b 128 wide) refl ]
 
 -- the bytes that go on with one another up to an end
 pub record RunsTo (text : List ℕ) (n : ℕ) : Type 0 where
@@ -159,12 +158,7 @@ tells b kind some = elim (cases_lt b 128) [
     by_family Word e is = inl (same_Some kind Ident is, sym e)
     by_family Space e is = inr (inl (same_Some kind Whitespace is, sym e))
     by_family Symbol e is = inr (inr (same_Some kind (symbol_kind b) is, sym e))
-    by_family Slash e is = absurd (none-some kind (sym is))
-    by_family Number e is = absurd (none-some kind (sym is))
-    by_family Quote e is = absurd (none-some kind (sym is))
-    by_family Str e is = absurd (none-some kind (sym is))
-    by_family Emoji e is = absurd (none-some kind (sym is))
-    by_family Hash e is = absurd (none-some kind (sym is))
+    by_family f e is = absurd (none-some kind (sym is))
 
 -- ---- a token by its run and the byte past that
 
@@ -181,13 +175,13 @@ module _ (text : List ℕ) (is : IsUtf8 text) (b : ℕ) (rest : List ℕ) (e : t
   as_word : b < 128 → Word ≡ family_of b → turns_word next ≡ false → IsFirstToken text record { kind = Ident; len = 1 + n }
   as_word small family stays =
       let in_class = word_continues b small family in
-      let all : prefix_len is_continue_byte text ≡ suc n = run_is is_continue_byte is_space_byte apart text n run.room run.on run.end (ap is_continue_byte front ∙ in_class) in
+      let all : prefix_len is_continue_byte text ≡ suc n = run_is is_continue_byte is_space_byte never_both text n run.room run.on run.end (ap is_continue_byte front ∙ in_class) in
       word_first text b rest n is e small family (counted is_continue_byte in_class all) (ap not (ap (next_is turns_word) left ∙ stays))
 
   as_space : b < 128 → Space ≡ family_of b → is_space_lead next ≡ false → IsFirstToken text record { kind = Whitespace; len = 1 + n }
   as_space small family stays =
       let in_class = space_continues b small family in
-      let all : prefix_len is_space_byte text ≡ suc n = run_is is_space_byte is_continue_byte (λ x. and_comm (is_space_byte x) (is_continue_byte x) ∙ apart x) text n run.room (λ k l. swapped (get_or text k 0) (get_or text (suc k) 0) ∙ run.on k l) (swapped (get_or text n 0) (get_or text (suc n) 0) ∙ run.end) (ap is_space_byte front ∙ in_class) in
+      let all : prefix_len is_space_byte text ≡ suc n = run_is is_space_byte is_continue_byte (λ x. and_comm (is_space_byte x) (is_continue_byte x) ∙ never_both x) text n run.room (λ k l. swapped (get_or text k 0) (get_or text (suc k) 0) ∙ run.on k l) (swapped (get_or text n 0) (get_or text (suc n) 0) ∙ run.end) (ap is_space_byte front ∙ in_class) in
       space_first text b rest n is e small family (counted is_space_byte in_class all) (ap not (ap (next_is is_space_lead) left ∙ stays))
     where
       swapped : (x y : ℕ) → ((is_space_byte x && is_space_byte y) || (is_continue_byte x && is_continue_byte y)) ≡ goes_on x y

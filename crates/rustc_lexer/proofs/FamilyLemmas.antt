@@ -18,9 +18,9 @@ use Rattle.rustc_lexer.specs.means.Scan.{scanned}
 use Rattle.rustc_lexer.specs.laws.Scan.{scanned-same}
 
 -- what the family of the first character reads
-pub by_family : (f : Family) (c : ℕ) (tail : List ℕ) (read : TokenKind × List ℕ) → read ≡ scanned (read_by f c) tail → f ≡ family_of c → read ≡ scanned (past_first c) tail
+pub by_family : (f : Family) (c : ℕ) (tail : List ℕ) (read : TokenKind × List ℕ) → f ≡ family_of c → read ≡ scanned (read_by f c) tail → read ≡ scanned (past_first c) tail
 unfolding past_first
-by_family f c tail read e g = e ∙ sym (scanned-same (past_first c) (read_by f c) tail (ap (λ h. read_by h c (chars tail)) (sym g)))
+by_family f c tail read g e = e ∙ sym (scanned-same (past_first c) (read_by f c) tail (ap (λ h. read_by h c (chars tail)) (sym g)))
 
 -- ---- the table of families
 

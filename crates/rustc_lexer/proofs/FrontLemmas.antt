@@ -2,10 +2,9 @@
 use Rattle.std.proofs.Common.{◌≡◌, ℕ, zero, suc, ◌+◌, ◌-◌, ◌<◌, ◌≤◌, true, false, cond, List, [], ◌∷◌, length, get_or, drop, sym, ap, ◌∙◌, subst, arith, IsUtf8, IsCharBoundary, drop-cons, length-drop}
 use Rattle.std.proofs.lemmas.List.{drop_all}
 use Rattle.std.proofs.lemmas.Grind.{common_steps}
-use Rattle.rustc_lexer.specs.means.Relexing.{AreBoundaries}
+use Rattle.rustc_lexer.specs.means.Relexing.{AreBoundaries, kept_front}
 use Rattle.rustc_lexer.specs.{Token}
 use Rattle.rustc_lexer.specs.Tokens.{bound}
-use Rattle.rustc_lexer.specs.Edits.{kept_front}
 use Rattle.rustc_lexer.specs.Locality.{has_two}
 use Rattle.rustc_lexer.proofs.EditLemmas.{front-none, has_two-mono, kept_front_by, kept_front_from}
 use Rattle.rustc_lexer.proofs.ProgressLemmas.{IsNext, next-from_drop}

@@ -52,10 +52,7 @@ module _ (body left mid end : List ℕ) (n : ℕ) (closed : Bool) (is : IsUtf8 b
   mid_chars = ap chars mid_is ∙ (chars-past (q + m) body is ∙ sym (drop-drop m q (chars body)))
 
   end_is : end ≡ past (q + closing_len n ahead) body
-  end_is =
-      let k : ℕ = suffix_len (drop m ahead) in
-      let sum : (q + m) + k ≡ q + (m + k) = omega arith in
-      suffix ∙ (ap (λ (s : List ℕ). past (suffix_len s) mid) mid_chars ∙ (ap (past k) mid_is ∙ (past-past k (q + m) body is ∙ ap (λ (j : ℕ). past j body) sum)))
+  end_is = grind (arith, common_steps, mid_chars, mid_is, past-past)
 
   pub closed_read : closed ≡ true → (true, end) ≡ scanned (guarded_body n) body
   closed_read t = grind (arith, common_steps, end_is)

@@ -65,13 +65,13 @@ prefix_first text b (d ∷ ds) is e small family mark = first text b (d ∷ ds) 
     told : IsUtf8 (d ∷ ds) → (GuardedStrPrefix, ds) ≡ scanned (past_first b) (d ∷ ds)
     told inner =
         let cut : ds ≡ past 1 (d ∷ ds) = sym (past-one (d ∷ ds) ds d inner (ap (λ (xs : List ℕ). xs ++ ds) (sym (encode_ascii d (mark-small d mark))))) in
-        by_family Hash b (d ∷ ds) _ (prefix_read (d ∷ ds) inner ds (mark-byte (d ∷ ds) inner ∙ mark) cut) family
+        by_family Hash b (d ∷ ds) _ family (prefix_read (d ∷ ds) inner ds (mark-byte (d ∷ ds) inner ∙ mark) cut)
 
 pub pound_first : (text : List ℕ) (b : ℕ) (rest : List ℕ) → IsUtf8 text → text ≡ b ∷ rest → b < 128 → Hash ≡ family_of b → next_is is_guarded_mark rest ≡ false → IsFirstToken text record { kind = Pound; len = 1 }
 pound_first text b rest is e small family none = first text b rest Pound 0 is e small (omega arith) told
   where
     told : IsUtf8 rest → (Pound, rest) ≡ scanned (past_first b) rest
-    told inner = by_family Hash b rest _ (pound_read rest inner (mark-byte rest inner ∙ none)) family
+    told inner = by_family Hash b rest _ family (pound_read rest inner (mark-byte rest inner ∙ none))
 
 -- the same in each edition
 pub hash_alone : (guards : Bool) (text : List ℕ) (b : ℕ) (rest : List ℕ) → IsUtf8 text → text ≡ b ∷ rest → b < 128 → Hash ≡ family_of b → next_is is_guarded_mark rest ≡ false → IsFirstBy guards text record { kind = Pound; len = 1 }
@@ -88,5 +88,3 @@ hash_older text b rest is e small family =
         let inner : IsUtf8 rest = IsUtf8-ascii b rest (subst IsUtf8 e is) small in
         let left : rest ≡ drop 1 text = ap (drop 1) (sym e) in
         IsCharBoundary-from_drop text 1 (omega (arith, ap length e)) (subst IsUtf8 left inner)
-
-pub ruleset hash_lemmas = (hash-small)

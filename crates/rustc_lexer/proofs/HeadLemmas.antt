@@ -1,6 +1,7 @@
 -- The head of a document: where it ends.
 use Rattle.std.proofs.Common.{◌≡◌, ℕ, ◌+◌, ◌-◌, true, false, List, length, drop, refl, sym, ap, ◌∙◌, subst, arith, drop-drop, IsUtf8, IsCharBoundary, chars, length-drop, Some, None, Bool}
 use Rattle.std.proofs.lemmas.Str.{IsUtf8-drop, IsCharBoundary-from_rest}
+use Rattle.std.proofs.lemmas.Grind.{common_steps}
 use Rattle.rustc_lexer.specs.{Token}
 use Rattle.rustc_lexer.specs.Document.{shebang_len}
 use Rattle.rustc_lexer.specs.means.Document.{head_of}
@@ -33,9 +34,7 @@ module _ (text rest : List ℕ) (n : ℕ) (is : IsUtf8 text) (at : IsCharBoundar
 
   pub front-boundary : (front : Token) → opens (chars rest) ≡ true → front ≡ frontmatter rest → IsCharBoundary text (n + front.len)
   front-boundary front o is_frontmatter =
-      let cut = frontmatter-cut rest rest-utf8 o in
-      let there : IsCharBoundary (drop n text) front.len = rw (is_frontmatter, ← f) cut.boundary in
-      IsCharBoundary-from_rest text n front.len at.0 there
+      grind (arith, common_steps, rest-utf8, IsCharBoundary-from_rest, frontmatter-cut rest rest-utf8 o)
 
   pub spaced-boundary : (tail : List ℕ) → tail ≡ past (spaces_len (chars rest)) rest → (front : Token) → opens (chars tail) ≡ true → front ≡ frontmatter tail → IsCharBoundary text (n + (length rest - length tail) + front.len)
   spaced-boundary tail g front o is_frontmatter =

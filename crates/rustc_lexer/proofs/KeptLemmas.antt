@@ -2,6 +2,7 @@
 use Rattle.std.proofs.Common.{◌≡◌, ℕ, ◌+◌, ◌^◌, ◌<◌, ◌≤◌, Bool, true, false, List, ◌++◌, length, drop, refl, sym, ap, ◌∙◌, subst, arith, length-append, length-drop}
 use Rattle.std.proofs.Math.Seq.{drop-append_seam}
 use Rattle.std.proofs.lemmas.Str.{IsUtf8-drop}
+use Rattle.std.proofs.lemmas.Grind.{common_steps}
 use Rattle.rustc_lexer.specs.declared.relex.checkpoints.Checkpoints.{Checkpoints}
 use Rattle.rustc_lexer.specs.declared.relex.front.Bound.{Bound}
 use Rattle.rustc_lexer.specs.declared.relex.head.Head.{Head}
@@ -54,9 +55,7 @@ module _ {first : List ℕ → Token} (law : IsGrammar first) (whole : Bool) (te
 
   -- the same, with its offset in the text
   pub near_from : (near : Bound) (n : ℕ) → n ≡ length fronts → IsBound (drop (length fronts) tokens) near → IsBoundFrom head.shebang_len tokens (record { number = n + near.number; place = head.body + near.place })
-  near_from near n e at =
-      let all : length tokens ≡ length fronts + length (tokens_by first body) = ap length all_are ∙ length-append fronts (tokens_by first body) in
-      (omega (arith, at.0, e, all, length-drop (length fronts) tokens), near_at near n e at)
+  near_from near n e at = grind (arith, common_steps, all_are, length-append, length-drop, near_at)
 
   -- the last bound is the text's end
   pub end_is : head.shebang_len + bound tokens (length tokens) ≡ length text

@@ -1,37 +1,55 @@
--- What the grammar says of the text of a token by its kind, and of the suffix of a faulty literal.
-use Rattle.std.proofs.Common.{◌≡◌, not, Bool, true, false, true≢false, List, ℕ, [], ◌∷◌, ◌++◌, codes, drop, take, refl, sym, ap, ap₂, arith, ◌∙◌, chars}
+-- What the grammar says of the text of a token by its kind, and of the suffix of a literal.
+use Rattle.std.proofs.Common.{◌≡◌, ◌↔◌, ◌≤◌, not, Bool, true, false, true≢false, List, ℕ, [], ◌∷◌, ◌++◌, codes, drop, take, length, refl, sym, ap, ap₂, arith, ◌∙◌, subst, chars, Ok, Option, Result, Some, None, is_some, IsSome}
+use Rattle.std.proofs.lemmas.List.{append-nil}
 use Rattle.std.proofs.lemmas.Str.{chars-append, chars-encodes, encode_ascii, encodes-append}
+use Rattle.std.proofs.lemmas.Grind.{common_steps}
 use Rattle.std.specs.Str.{encode_utf8_all}
-use Rattle.rustc_lexer.specs.{Base, Edition, LiteralKind, Token, TokenKind, Ident, RawIdent, UnknownPrefix, Literal}
+use Rattle.rustc_lexer.specs.{Base, Edition, LiteralKind, RawStrError, Token, TokenKind, Ident, RawIdent, UnknownPrefix, Literal, Eof}
+use Rattle.rustc_lexer.specs.Answers.{raw_check}
 use Rattle.rustc_lexer.specs.Classes.{bytes, is_ident, Chars, IsText, Utf8}
 use Rattle.rustc_lexer.specs.Language as the
 use Rattle.rustc_lexer.specs.Language.{IsTokenBefore}
+use Rattle.rustc_lexer.specs.LanguageCalls as call
+use Rattle.rustc_lexer.specs.LanguageCalls.{IsRawAnswer}
 use Rattle.rustc_lexer.specs.LanguageText as grammar
 use Rattle.rustc_lexer.specs.LanguageText.{AreTokens, IsTokenIn, Mode}
 use Rattle.rustc_lexer.specs.LiteralGrammar as lit
-use Rattle.rustc_lexer.specs.LiteralGrammar.{IsLiteralBefore}
+use Rattle.rustc_lexer.specs.LiteralGrammar.{IsLiteralBefore, IsRaw}
 use Rattle.rustc_lexer.specs.NumberGrammar as number
 use Rattle.rustc_lexer.specs.NumberGrammar.{IsExponent, HasNumberForm, IsTailBefore}
+use Rattle.rustc_lexer.specs.State.{HasSuffixWithin}
 use Rattle.rustc_lexer.specs.Tables.{symbol_kind, symbols}
-use Rattle.rustc_lexer.specs.Tokens.{is_faulty, EndsFaulty}
+use Rattle.rustc_lexer.specs.Tokens.{is_faulty, HasSuffix, HasText}
 use Rattle.rustc_lexer.specs.laws.Choice.{by_symbol}
 use Rattle.rustc_lexer.specs.laws.LanguageFront.{split}
+use Rattle.rustc_lexer.specs.laws.LanguageLiterals.{bytes-append}
+use Rattle.rustc_lexer.specs.laws.LanguageRaw.{raw-read, raw_seen}
+use Rattle.rustc_lexer.specs.laws.Language.{lexeme-sound}
+use Rattle.rustc_lexer.specs.laws.TheAnswers.{the_raw}
+use Rattle.rustc_lexer.specs.means.Lexeme.{first_token}
+use Rattle.rustc_lexer.specs.means.Raw.{is_r}
+use Rattle.rustc_lexer.specs.means.Scan.{next_is}
 
--- ---- a literal that may have a suffix is not faulty
+-- ---- literals
 
-exponent-good : {base : Base} {kind : LiteralKind} {w : Chars} → IsExponent base kind w → is_faulty kind ≡ false
-exponent-good (number.signed letter sign are) = refl
-exponent-good (number.unsigned letter are) = refl
+-- a number is not faulty, and its kind says nothing of its text
+abbrev IsQuietLiteral : LiteralKind → Type 0
+IsQuietLiteral kind = (is_faulty kind ≡ false) × ((n : ℕ) (text : Utf8) → HasText (Literal kind n) text)
 
-tail-good : {next w : Chars} {base : Base} {kind : LiteralKind} → IsTailBefore next base kind w → is_faulty kind ≡ false
-tail-good (number.of_exponent none p) = exponent-good p
-tail-good (number.of_both ds one are p) = exponent-good p
-tail-good p = refl
+exponent-quiet : {base : Base} {kind : LiteralKind} {w : Chars} → IsExponent base kind w → IsQuietLiteral kind
+exponent-quiet (number.signed letter sign are) = (refl, λ n text. tt)
+exponent-quiet (number.unsigned letter are) = (refl, λ n text. tt)
 
-number-good : {next w : Chars} {kind : LiteralKind} → HasNumberForm next kind w → is_faulty kind ≡ false
-number-good (number.of_prefix whole) = refl
-number-good (number.of_parts whole tail) = tail-good tail
+tail-quiet : {next w : Chars} {base : Base} {kind : LiteralKind} → IsTailBefore next base kind w → IsQuietLiteral kind
+tail-quiet (number.of_exponent none p) = exponent-quiet p
+tail-quiet (number.of_both ds one are p) = exponent-quiet p
+tail-quiet p = (refl, λ n text. tt)
 
+number-quiet : {next w : Chars} {kind : LiteralKind} → HasNumberForm next kind w → IsQuietLiteral kind
+number-quiet (number.of_prefix whole) = (refl, λ n text. tt)
+number-quiet (number.of_parts whole tail) = tail-quiet tail
+
+-- a literal that may have a suffix is not faulty
 suffixed : {next w : Chars} {kind : LiteralKind} {may : Bool} → IsLiteralBefore next kind may w → may ≡ true → is_faulty kind ≡ false
 suffixed (lit.char p start) e = ap not e
 suffixed (lit.byte_char p) e = ap not e
@@ -41,16 +59,56 @@ suffixed (lit.c_str p) e = ap not e
 suffixed (lit.raw_str p start) e = ap not e
 suffixed (lit.raw_byte_str p) e = ap not e
 suffixed (lit.raw_c_str p) e = ap not e
-suffixed (lit.number p) e = number-good p.form
+suffixed (lit.number p) e = (number-quiet p.form).0
 suffixed p e = refl
 
+-- a raw string that is not refused is one whatever follows it
+raw-before : {next : Chars} {o : Option ℕ} {w : Chars} → IsRaw next o w → (rest : Chars) → (o ≡ None → rest ≡ []) → IsRaw rest o w
+raw-before (lit.closed n w le lacks) rest end = lit.closed n w le lacks
+raw-before (lit.too_many n w lt lacks) rest end = lit.too_many n w lt lacks
+raw-before (lit.unclosed n w none lacks) rest end = lit.unclosed n w (end refl) lacks
+raw-before (lit.no_quote n c out) rest end = lit.no_quote n c out
+raw-before (lit.no_more n none) rest end = lit.no_more n (end refl)
+
+-- and is what the check of raw strings accepts
+accepted : {rest cs w : Chars} {o : Option ℕ} {p : ℕ} {r : Result Unit RawStrError} → IsRaw rest o w → IsRawAnswer p cs r → r ≡ Ok tt → cs ≡ w ++ rest → IsSome o
+accepted is (call.good {n = n} q) e f =
+    let same : Some n ≡ _ = sym (ap (λ (r : Option ℕ × ℕ). r.0) (raw-read q)) ∙ (ap (λ (s : Chars). (raw_seen s).0) f ∙ ap (λ (r : Option ℕ × ℕ). r.0) (raw-read is)) in
+    subst IsSome same refl
+accepted is other e f = absurd (cc)
+
+accepts : {rest w : Chars} (p : ℕ) (o : Option ℕ) → IsRaw rest o w → IsSome o → IsRawAnswer p (w ++ rest) (Ok tt)
+accepts p (Some n) is some = call.good is
+accepts p None is some = absurd (true≢false (sym some))
+
+checked : {next rest w : Chars} {o : Option ℕ} → IsRaw next o w → (o ≡ None → rest ≡ []) → (p : ℕ) (text : Utf8) → drop p (chars text) ≡ w ++ rest → (raw_check text p ≡ Ok tt) ↔ IsSome o
+checked {rest = rest} {o = o} is end p text e =
+    let answers = (the_raw text p).only tt (Ok tt) in
+    let here = raw-before is rest end in
+    (λ f. accepted here (answers.1 (sym f)) refl e, λ some. sym (answers.0 (subst (λ (cs : Chars). IsRawAnswer p cs (Ok tt)) (sym e) (accepts p o here some))))
+
+-- the text of a literal is as its kind says
+literal-text : {next w : Chars} {kind : LiteralKind} {may : Bool} → IsLiteralBefore next kind may w → (rest : Chars) → (may ≡ false → rest ≡ []) → (n : ℕ) (text : Utf8) → chars text ≡ w ++ rest → HasText (Literal kind n) text
+literal-text (lit.raw_str p start) rest end n text e = ((omega arith, ap (next_is is_r) e), checked p (λ none. end (ap is_some none)) 1 text (ap (drop 1) e))
+literal-text (lit.raw_byte_str p) rest end n text e = ((omega arith, ap (λ (cs : Chars). next_is is_r (drop 1 cs)) e), checked p (λ none. end (ap is_some none)) 2 text (ap (drop 2) e))
+literal-text (lit.raw_c_str p) rest end n text e = ((omega arith, ap (λ (cs : Chars). next_is is_r (drop 1 cs)) e), checked p (λ none. end (ap is_some none)) 2 text (ap (drop 2) e))
+literal-text (lit.number p) rest end n text e = (number-quiet p.form).1 n text
+literal-text p rest end n text e = tt
+
 -- ---- one token
+
+-- what the grammar says of a literal whose suffix begins at this offset
+record IsTold (kind : LiteralKind) (suffix_start : ℕ) (w : Chars) : Type 0 where
+  within : suffix_start ≤ bytes w
+  ends : is_faulty kind ≡ true → suffix_start ≡ bytes w
+  text : (text : Utf8) → chars text ≡ w → HasText (Literal kind suffix_start) text
 
 abbrev Says : TokenKind → Chars → Type 0
 Says Ident w = is_ident w ≡ true
 Says UnknownPrefix w = is_ident w ≡ true
 Says RawIdent w = (word : Chars) × (w ≡ codes "r#" ++ word) × (is_ident word ≡ true)
-Says (Literal kind suffix_start) w = is_faulty kind ≡ true → suffix_start ≡ bytes w
+Says (Literal kind suffix_start) w = IsTold kind suffix_start w
+Says Eof w = w ≡ []
 Says kind w = Unit {0}
 
 abbrev is_quiet : TokenKind → Bool
@@ -58,21 +116,23 @@ is_quiet Ident = false
 is_quiet UnknownPrefix = false
 is_quiet RawIdent = false
 is_quiet (Literal kind suffix_start) = false
+is_quiet Eof = false
 is_quiet kind = true
 
 quiet : (kind : TokenKind) (w : Chars) → is_quiet kind ≡ true → Says kind w
-quiet Ident w e = absurd (true≢false (sym e))
-quiet UnknownPrefix w e = absurd (true≢false (sym e))
-quiet RawIdent w e = absurd (true≢false (sym e))
-quiet (Literal kind suffix_start) w e = absurd (true≢false (sym e))
-quiet kind w e = tt
+quiet kind w e = grind (arith, common_steps)
 
 says : {next w : Chars} {kind : TokenKind} → IsTokenBefore next kind w → Says kind w
+says (the.end none) = refl
 says (the.ident is stop mark) = is
 says (the.unknown_prefix is mark new) = is
 says (the.raw_ident {w} is stop) = (w, refl, is)
-says (the.literal is) = λ bad. refl
-says (the.literal_with is suffix) = λ bad. absurd (true≢false (sym bad ∙ suffixed is refl))
+says (the.literal {w = w} is) = record { within = omega arith; ends = λ bad. refl; text = λ text e. literal-text is [] (λ f. refl) (bytes w) text (e ∙ sym (append-nil w)) }
+says (the.literal_with {w = w} {suffix = suffix} is suffix_is) = record {
+  within = omega (arith, bytes-append w suffix);
+  ends = λ bad. absurd (true≢false (sym bad ∙ suffixed is refl));
+  text = λ text e. literal-text is suffix (λ f. absurd (true≢false f)) (bytes w) text e;
+}
 says (the.symbol {c} is) = quiet (symbol_kind c) (c ∷ []) (by_symbol is_quiet symbols c refl refl)
 says p = tt
 
@@ -81,16 +141,16 @@ says-in (grammar.kept since p) = says p
 says-in (grammar.ident older p) = says p
 says-in p = tt
 
-ends : (kind : TokenKind) (w : Chars) → Says kind w → EndsFaulty kind (bytes w)
-ends (Literal kind suffix_start) w said = said
-ends kind w said = tt
+suffix : (kind : TokenKind) (w : Chars) → Says kind w → HasSuffix record { kind = kind; len = bytes w }
+suffix (Literal kind suffix_start) w said = (said.within, said.ends)
+suffix kind w said = (omega arith, tt)
+
+-- the suffix of the first token of any text
+pub first_token-suffix : (text : List ℕ) → HasSuffixWithin (first_token text)
+unfolding first_token
+first_token-suffix text = (suffix _ _ (says (lexeme-sound (chars text)))).0
 
 -- ---- the first token of a text
-
-abbrev pub HasName : TokenKind → Utf8 → Type 0
-HasName Ident text = is_ident (chars text) ≡ true
-HasName RawIdent text = (word : Utf8) × (text ≡ codes "r#" ++ word) × (is_ident (chars word) ≡ true)
-HasName kind text = Unit {0}
 
 hash_r : encode_utf8_all (codes "r#") ≡ codes "r#"
 hash_r = ap₂ (λ a b. a ++ (b ++ [])) (encode_ascii 114 (omega arith)) (encode_ascii 35 (omega arith))
@@ -98,22 +158,24 @@ hash_r = ap₂ (λ a b. a ++ (b ++ [])) (encode_ascii 114 (omega arith)) (encode
 chars_r : chars (codes "r#") ≡ codes "r#"
 chars_r = ap chars (sym hash_r) ∙ chars-encodes (codes "r#") refl
 
-has_name : (kind : TokenKind) (w : Chars) (text : Utf8) → Says kind w → text ≡ encode_utf8_all w → chars text ≡ w → HasName kind text
-has_name Ident w text said e f = rw f said
-has_name RawIdent w text (word, is_raw, is) e f =
+has_text : (kind : TokenKind) (w : Chars) (text : Utf8) → Says kind w → text ≡ encode_utf8_all w → chars text ≡ w → HasText kind text
+has_text Ident w text said e f = rw f said
+has_text RawIdent w text (word, is_raw, is) e f =
     let cut : text ≡ codes "r#" ++ encode_utf8_all word = e ∙ (ap encode_utf8_all is_raw ∙ (encodes-append (codes "r#") word ∙ ap (λ bs. bs ++ encode_utf8_all word) hash_r)) in
     let own : chars (encode_utf8_all word) ≡ word =
     ap (drop 2) (ap (λ cs. cs ++ chars (encode_utf8_all word)) (sym chars_r) ∙ (sym (chars-append (codes "r#") (encode_utf8_all word) (codes "r#", (refl, hash_r))) ∙ (ap chars (sym cut) ∙ (f ∙ is_raw)))) in
     (encode_utf8_all word, cut, ap is_ident own ∙ is)
-has_name kind w text said e f = tt
+has_text (Literal kind suffix_start) w text said e f = said.text text f
+has_text Eof w text said e f = ap length (e ∙ ap encode_utf8_all said)
+has_text kind w text said e f = tt
 
--- the text of the token is as its kind says, and its suffix begins where that says
-pub record IsSaid (text : List ℕ) (token : Token) : Type 0 where
-  pub name : HasName token.kind (take token.len text)
-  pub ends : EndsFaulty token.kind token.len
+-- the text of the token is as its kind says, and so is its suffix
+pub record IsSaid (whole : List ℕ) (token : Token) : Type 0 where
+  pub text : HasText token.kind (take token.len whole)
+  pub suffix : HasSuffix token
 
 pub first-said : {mode : Mode} {cs : Chars} {token : Token} {tokens : List Token} → AreTokens mode cs (token ∷ tokens) → (text : List ℕ) → IsText text → chars text ≡ cs → IsSaid text token
 first-said (grammar.something {mode} {kind} {c} {w} {next} p free rest) text is e =
     let parts = split text (c ∷ w) next is e in
-    record { name = has_name kind (c ∷ w) _ (says-in p) parts.front (ap chars parts.front ∙ parts.again_front); ends = ends kind (c ∷ w) (says-in p) }
-first-said (grammar.frontmatter_first body is_opening is_end rest) text is e = record { name = tt; ends = tt }
+    record { text = has_text kind (c ∷ w) _ (says-in p) parts.front (ap chars parts.front ∙ parts.again_front); suffix = suffix kind (c ∷ w) (says-in p) }
+first-said (grammar.frontmatter_first body is_opening is_end rest) text is e = record { text = tt; suffix = (omega arith, tt) }

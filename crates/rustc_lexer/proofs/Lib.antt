@@ -12,7 +12,6 @@ pub mod DocumentHead
 pub mod DocumentLemmas
 pub mod DocumentPage
 pub mod DocumentPieces
-pub mod DocumentSteps
 pub mod DocumentTokens
 pub mod EditLemmas
 pub mod EditListLemmas
@@ -33,6 +32,7 @@ pub mod KernelLemmas
 pub mod KindLemmas
 pub mod CheckpointLemmas
 pub mod LaneLemmas
+pub mod LayoutLemmas
 pub mod LengthLemmas
 pub mod LexemeLemmas
 pub mod LifetimeLemmas
@@ -66,3 +66,5 @@ pub mod TallyWalk
 pub mod TextLemmas
 pub mod TokensLemmas
 pub mod ToldLemmas
+pub mod UnderWayLemmas
+pub mod WholeEdits

@@ -1,29 +1,12 @@
 -- Literals: what is read of one, and where its suffix begins.
-use Rattle.std.proofs.Common.{◌≡◌, ℕ, suc, ◌+◌, ◌-◌, ◌≤◌, Bool, true, false, sym, List, ◌∷◌, length, take, drop, ap, ◌∙◌, arith, length-append, take-add}
-use Rattle.std.specs.Str.{chars, encode_utf8_all, IsUtf8}
-use Rattle.std.proofs.lemmas.Str.{encodes-append, length-encode, len_utf8_bounds}
+use Rattle.std.proofs.Common.{◌≡◌, ℕ, ◌+◌, ◌-◌, Bool, true, false, sym, List, length, ap, ◌∙◌, arith}
+use Rattle.std.specs.Str.{chars, IsUtf8}
 use Rattle.std.proofs.lemmas.Grind.{common_steps}
 use Rattle.rustc_lexer.specs.{TokenKind, LiteralKind, Literal}
 use Rattle.rustc_lexer.specs.means.Literal.{Body, suffix_len, suffixed, literal_past}
 use Rattle.rustc_lexer.specs.means.Scan.{bytes_of, past, scanned}
-use Rattle.rustc_lexer.specs.State.{suffix_start_of}
-use Rattle.rustc_lexer.specs.laws.CharSteps.{bytes_of-suc}
 use Rattle.rustc_lexer.specs.laws.Past.{past-zero, past-past, chars-past, IsUtf8-past, length-past}
-
--- more characters take more bytes
-pub bytes-add : (n m : ℕ) (s : List ℕ) → bytes_of (n + m) s ≡ bytes_of n s + bytes_of m (drop n s)
-bytes-add n m s =
-    ap length (ap encode_utf8_all (take-add n m s) ∙ encodes-append (take n s) (take m (drop n s))) ∙ length-append (encode_utf8_all (take n s)) (encode_utf8_all (take m (drop n s)))
-
--- where the suffix of a literal with a prefix of p bytes begins
-module _ (p : ℕ) (body : Body × ℕ) (s : List ℕ) where
-  -- within the token
-  pub suffix_within : suffix_start_of (literal_past p body s).0 ≤ p + bytes_of (literal_past p body s).1 s
-  suffix_within = omega (arith, bytes-add body.1 (suffixed body.0.takes_suffix (drop body.1 s)) s)
-
--- within the whole token
-pub suffix-first : (kind : TokenKind) (n c : ℕ) (s : List ℕ) → suffix_start_of kind ≤ 1 + bytes_of n s → suffix_start_of kind ≤ bytes_of (suc n) (c ∷ s)
-suffix-first kind n c s le = omega (arith, bytes_of-suc n c s, length-encode c, len_utf8_bounds c)
+use Rattle.rustc_lexer.specs.laws.Scan.{next_is-cons, next_is-nil, suffix-yes, suffix-no}
 
 -- past a prefix of p bytes the body of a literal was read, and what it left
 module _ (p : ℕ) (body : List ℕ → Body × ℕ) (tail rest : List ℕ) (kind : LiteralKind) (takes : Bool) (is : IsUtf8 tail) (read : (record { kind = kind; takes_suffix = takes }, rest) ≡ scanned body tail) where
@@ -46,3 +29,5 @@ module _ (p : ℕ) (body : List ℕ → Body × ℕ) (tail rest : List ℕ) (kin
 
   pub no-suffix : (token : TokenKind) → token ≡ Literal kind (p + (length tail - length rest)) → takes ≡ false → (token, rest) ≡ scanned (λ s. literal_past p (body s) s) tail
   no-suffix token e t = literal-read token rest e (sym (past-zero rest (rw left-is (IsUtf8-past n tail is))) ∙ ap (λ (b : Bool). past (suffixed b (chars rest)) rest) (sym t))
+
+pub ruleset suffix_lemmas = (next_is-cons, next_is-nil, suffix-yes, suffix-no)

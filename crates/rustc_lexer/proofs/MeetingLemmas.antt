@@ -1,6 +1,7 @@
 -- Lexing on from the kept front until the new tokens meet the old ones.
 use Rattle.std.proofs.Common.{◌≡◌, ℕ, suc, ◌+◌, ◌-◌, ◌<◌, ◌≤◌, max, Bool, true, false, List, [], ◌∷◌, ◌++◌, length, take, drop, refl, sym, ap, ◌∙◌, arith, eqb, eqb-true, leb, le-leb, length-append, eq-or-lt_of_le, inl, inr, true≢false}
 use Rattle.std.proofs.lemmas.Bool.{and_parts, leb-true}
+use Rattle.std.proofs.lemmas.Grind.{common_steps}
 use Rattle.rustc_lexer.specs.{Token}
 use Rattle.rustc_lexer.specs.Classes.{IsText}
 use Rattle.rustc_lexer.specs.Locality.{IsGrammar}
@@ -47,11 +48,7 @@ module _ (first : List ℕ → Token) (old : List Token) (text : List ℕ) (old_
 
   -- one more token keeps the search
   pub search_more : (items more : List Token) (place next : ℕ) (met : Bool) → IsLexedTo first text items place → IsLexedTo first text more next → length more ≡ suc (length items) → met ≡ meets_at old old_stop new_stop place → met ≡ false → least_from test (length (tokens_by first text) - length items) (length items) ≡ least_from test (length (tokens_by first text) - length more) (length more)
-  search_more items more place next met at to long met_is out =
-      let n : ℕ = length (tokens_by first text) in
-      let few : length more ≤ n = to.number in
-      let here : test (length items) ≡ false = ap (λ p. meets_at old old_stop new_stop p) (sym at.place_is) ∙ (sym met_is ∙ out) in
-      least_from-more test (n - length items) (n - length more) (length items) (omega arith) here ∙ ap (least_from test (n - length more)) (sym long)
+  search_more items more place next met at to long met_is out = grind (arith, common_steps, least_from-more)
 
   pub going_met : (items : List Token) (place number at_place : ℕ) (met : Bool) → IsGoing items place number at_place met → met ≡ true → IsMet first old text old_stop new_stop kept items number
   going_met items place number at_place met at hit =

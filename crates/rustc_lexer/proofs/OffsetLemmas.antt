@@ -1,6 +1,7 @@
 -- From an offset to a token: steps from a bound, and which tokens contain a byte of a range.
-use Rattle.std.proofs.Common.{◌≡◌, ℕ, zero, suc, ◌+◌, ◌-◌, ◌^◌, ◌<◌, ◌≤◌, ◌↔◌, true≢false, List, length, get_or, refl, sym, ap, arith, inl, inr, Option, Some, None, IfSome, IsSome, IsNone}
+use Rattle.std.proofs.Common.{◌≡◌, ℕ, zero, suc, ◌+◌, ◌-◌, ◌^◌, ◌<◌, ◌≤◌, ◌↔◌, true≢false, List, length, get_or, refl, sym, arith, inl, inr, Option, Some, None, IfSome, IsSome, IsNone}
 use Rattle.std.proofs.lemmas.Bool.{cases_lt}
+use Rattle.std.proofs.lemmas.Grind.{common_steps}
 use Rattle.rustc_lexer.specs.declared.relex.front.Bound.{Bound}
 use Rattle.rustc_lexer.specs.{Token}
 use Rattle.rustc_lexer.specs.Edits.{AreTouched, ContainsByte}
@@ -16,14 +17,10 @@ some_before tokens first (suc n) place offset is le past = omega arith
 -- one token back
 module _ (tokens : List Token) (first n place : ℕ) (d : Token) (is : place ≡ first + bound tokens n) (some : 0 < n) (few : n ≤ length tokens) where
   pub back_is : place - (get_or tokens (n - 1) d).len ≡ first + bound tokens (n - 1)
-  back_is =
-      let one : n - 1 + 1 ≡ n = omega arith in
-      omega (arith, is, ap (bound tokens) one, bound-next tokens (n - 1) d (omega arith))
+  back_is = grind (arith, common_steps, bound-next)
 
   pub back_le : (get_or tokens (n - 1) d).len ≤ place
-  back_le =
-      let one : n - 1 + 1 ≡ n = omega arith in
-      omega (arith, is, ap (bound tokens) one, bound-next tokens (n - 1) d (omega arith))
+  back_le = grind (arith, common_steps, bound-next)
 
 -- one token ahead
 module _ (tokens : List Token) (first n place : ℕ) (d : Token) (is : place ≡ first + bound tokens n) (few : n < length tokens) where

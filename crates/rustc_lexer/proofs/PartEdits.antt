@@ -2,7 +2,7 @@
 use Rattle.std.proofs.Common.{◌≡◌, ℕ, ◌+◌, ◌-◌, true, false, List, refl, sym, ◌∙◌, subst, arith}
 use Rattle.rustc_lexer.specs.{Token}
 use Rattle.rustc_lexer.specs.declared.relex.relexing.Relexed.{Relexed}
-use Rattle.rustc_lexer.specs.Edits.{IsRelexed}
+use Rattle.rustc_lexer.specs.means.Relexing.{IsBodyRelexed}
 use Rattle.rustc_lexer.specs.means.Document.{counted, head_by, IsCountedByHead, IsRelexedByHead, IsRelexedWith}
 
 nothing_less : (n : ℕ) → n - 0 ≡ n
@@ -12,18 +12,18 @@ nothing_more : (r : Relexed) → counted true 0 0 r ≡ r
 nothing_more r = let e : 0 + r.kept_front ≡ r.kept_front = omega arith in λ i. record { kept_front = e i; lexed = r.lexed; kept_back = r.kept_back }
 
 module _ (first : List ℕ → Token) (text : List ℕ) (start stop : ℕ) (insert : List ℕ) (r : Relexed) where
-  pub part_relexed : IsRelexedByHead (head_by false) first text start stop insert r → IsRelexed first text start stop insert r
+  pub part_relexed : IsRelexedByHead (head_by false) first text start stop insert r → IsBodyRelexed first text start stop insert r
   unfolding IsRelexedWith
   part_relexed is =
       let x = is.kept (refl, omega arith) in
       let same : x.0 ≡ r = sym (nothing_more x.0) ∙ sym x.2 in
-      let body : IsRelexed first text (start - 0) (stop - 0) insert r = subst (λ (y : Relexed). IsRelexed first text (start - 0) (stop - 0) insert y) same x.1 in
-      subst (λ n. IsRelexed first text n stop insert r) (nothing_less start) (subst (λ n. IsRelexed first text (start - 0) n insert r) (nothing_less stop) body)
+      let body : IsBodyRelexed first text (start - 0) (stop - 0) insert r = subst (λ (y : Relexed). IsBodyRelexed first text (start - 0) (stop - 0) insert y) same x.1 in
+      subst (λ n. IsBodyRelexed first text n stop insert r) (nothing_less start) (subst (λ n. IsBodyRelexed first text (start - 0) n insert r) (nothing_less stop) body)
 
-  pub relexed_part : IsRelexed first text start stop insert r → IsRelexedByHead (head_by false) first text start stop insert r
+  pub relexed_part : IsBodyRelexed first text start stop insert r → IsRelexedByHead (head_by false) first text start stop insert r
   unfolding IsRelexedWith
   relexed_part is =
-      let body : IsRelexed first text (start - 0) (stop - 0) insert r = subst (λ n. IsRelexed first text (start - 0) n insert r) (sym (nothing_less stop)) (subst (λ n. IsRelexed first text n stop insert r) (sym (nothing_less start)) is) in
+      let body : IsBodyRelexed first text (start - 0) (stop - 0) insert r = subst (λ n. IsBodyRelexed first text (start - 0) n insert r) (sym (nothing_less stop)) (subst (λ n. IsBodyRelexed first text n stop insert r) (sym (nothing_less start)) is) in
       record {
         kept = λ k. (r, body, sym (nothing_more r));
         changed = λ none. absurd (none (refl, omega arith));

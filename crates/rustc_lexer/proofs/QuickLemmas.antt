@@ -13,7 +13,7 @@ use Rattle.rustc_lexer.specs.Classes.{is_id_continue, ends_prefix}
 use Rattle.rustc_lexer.specs.Tables.{is_emoji}
 use Rattle.rustc_lexer.specs.means.Ident.{ident_or_unknown_prefix, marks_ident}
 use Rattle.rustc_lexer.specs.laws.Choice.{by_symbol}
-use Rattle.rustc_lexer.specs.laws.Family.{by_letter}
+use Rattle.rustc_lexer.specs.laws.LanguageWords.{by_letter}
 use Rattle.rustc_lexer.proofs.EditionLemmas.{first_by, is_newer}
 use Rattle.rustc_lexer.specs.means.Lexeme.{family_of, word, symbols, symbol_kind, past_first, is_raw_mark, begins_raw}
 use Rattle.rustc_lexer.specs.means.Quick.{is_space_lead, turns_word, IsFirstBy, IsFirstToken}
@@ -71,9 +71,7 @@ is_plain (c ∷ cs) h =
         rw e (no_raw cs (no_mark cs (subst (λ n. next_is ends_prefix (drop n (c ∷ cs)) ≡ false) more h)))
 
 word-plain : (b : ℕ) (s : List ℕ) → next_is ends_prefix (drop (run_len is_id_continue s) s) ≡ false → word b s ≡ ident_or_unknown_prefix s
-word-plain b s h =
-    let p = is_plain s h in
-    by_letter (λ c scan. scan s ≡ ident_or_unknown_prefix s) b (rw (p.no_ident, p.no_hash) refl) (rw p.no_ident refl) (rw (p.no_char, p.no_string, p.no_letter) refl) (rw (p.no_string, p.no_letter) refl) (λ r k c d. refl)
+word-plain b s h = grind (arith, common_steps, by_letter, is_plain s h)
 
 -- ---- the next character, by the next byte
 
@@ -111,20 +109,20 @@ word_first text b rest end is e small family counted ends = first text b rest Id
         let place : left ≡ past (run_len is_id_continue (chars rest)) rest = stops_here is_continue_byte is_id_continue continue_part rest rest end inner refl counted left refl next.1.1 in
         let unmarked : next_is ends_prefix (drop (run_len is_id_continue (chars rest)) (chars rest)) ≡ false =
         sym (ap (next_is ends_prefix) (ap chars place ∙ chars-past (run_len is_id_continue (chars rest)) rest inner)) ∙ next.1.0 in
-        by_family Word b rest _ (ap (λ (t : Bool). let k : TokenKind = if t then UnknownPrefix else Ident in (k, left)) (sym next.1.0) ∙ (ident_or_unknown_prefix-valid rest left inner place next.0 ∙ sym (scanned-same (word b) ident_or_unknown_prefix rest (word-plain b (chars rest) unmarked)))) family
+        by_family Word b rest _ family (ap (λ (t : Bool). let k : TokenKind = if t then UnknownPrefix else Ident in (k, left)) (sym next.1.0) ∙ (ident_or_unknown_prefix-valid rest left inner place next.0 ∙ sym (scanned-same (word b) ident_or_unknown_prefix rest (word-plain b (chars rest) unmarked))))
 
 pub space_first : (text : List ℕ) (b : ℕ) (rest : List ℕ) (end : ℕ) → IsUtf8 text → text ≡ b ∷ rest → b < 128 → Space ≡ family_of b → end ≡ prefix_len is_space_byte rest → not (next_is is_space_lead (drop end rest)) ≡ true
     → IsFirstToken text record { kind = Whitespace; len = 1 + end }
 space_first text b rest end is e small family counted ends = first text b rest Whitespace end is e small (omega (arith, prefix_len-le-length is_space_byte rest)) told
   where
     told : IsUtf8 rest → (Whitespace, drop end rest) ≡ scanned (past_first b) rest
-    told inner = by_family Space b rest _ (ap (λ xs. (Whitespace, xs)) (space_stops_here rest rest end inner refl counted (drop end rest) refl (not-true _ ends))) family
+    told inner = by_family Space b rest _ family (ap (λ xs. (Whitespace, xs)) (space_stops_here rest rest end inner refl counted (drop end rest) refl (not-true _ ends)))
 
 pub symbol_first : (text : List ℕ) (b : ℕ) (rest : List ℕ) (kind : TokenKind) → IsUtf8 text → text ≡ b ∷ rest → b < 128 → Symbol ≡ family_of b → kind ≡ symbol_kind b → IsFirstToken text record { kind = kind; len = 1 }
 symbol_first text b rest kind is e small family same = first text b rest kind 0 is e small (omega arith) told
   where
     told : IsUtf8 rest → (kind, rest) ≡ scanned (past_first b) rest
-    told inner = by_family Symbol b rest _ (ap (λ (k : TokenKind). (k, rest)) same ∙ sym (scanned-gives (symbol_kind b) rest inner)) family
+    told inner = by_family Symbol b rest _ family (ap (λ (k : TokenKind). (k, rest)) same ∙ sym (scanned-gives (symbol_kind b) rest inner))
 
 -- no edition has another token in place of a symbol
 symbol-kept : (b : ℕ) → is_newer (symbol_kind b) ≡ false

@@ -1,12 +1,11 @@
 -- The loop over a quoted text.
-use Rattle.std.proofs.Common.{◌≡◌, ◌≢◌, ℕ, suc, ◌+◌, ◌==◌, ◌&&◌, not, Bool, true, false, if◌then◌else◌, List, [], ◌∷◌, length, drop, refl, sym, ap, ◌∙◌, arith, ◌<◌, subst, eq-eqb, Option, Some, None, MatchOption, Bor}
+use Rattle.std.proofs.Common.{◌≡◌, ◌≢◌, ℕ, suc, ◌+◌, ◌==◌, ◌&&◌, not, Bool, true, false, if◌then◌else◌, List, [], ◌∷◌, length, drop, refl, sym, ap, ◌∙◌, arith, ◌<◌, subst, Option, Some, None, MatchOption, Bor}
 use Rattle.std.specs.Str.{chars, IsUtf8}
 use Rattle.std.proofs.lemmas.Bool.{ne_eqb}
 use Rattle.std.proofs.lemmas.Grind.{common_steps}
 use Rattle.rustc_lexer.specs.means.Scan.{begins, past, run_len, scanned}
-use Rattle.rustc_lexer.specs.means.Quoted.{is_backslash, seek, stopped, quoted, at_single_stop, is_lone, single_quoted_string}
+use Rattle.rustc_lexer.specs.means.Quoted.{is_backslash, one_past, quoted_from, quoted, at_single_stop, is_lone, single_quoted_string}
 use Rattle.rustc_lexer.specs.laws.Choice.{by_either}
-use Rattle.rustc_lexer.specs.laws.Seek.{stopped-more}
 use Rattle.rustc_lexer.specs.laws.Scan.{run_len-stop}
 use Rattle.rustc_lexer.specs.laws.Past.{past-zero, past-past, past-two, chars-past, IsUtf8-past}
 
@@ -15,14 +14,10 @@ pub run_fails : (p : ℕ → Bool) (text left s : List ℕ) (c : ℕ) → IsUtf8
 run_fails p text left s c is e reads = run_len-stop p (chars text) c s (sym (ap chars e ∙ chars-past (run_len p (chars text)) text is) ∙ reads)
 
 module _ (quote : ℕ) (test : List ℕ → Bool) where
-  -- where the place of the stop is known: whether the text is closed, and what is left of it
-  abbrev pub leaves : Option ℕ → List ℕ → Bool × List ℕ
-  leaves o text = ((stopped quote o (chars text)).0, past (stopped quote o (chars text)).1 text)
-
   -- the rest of a text is read as the whole of it is
   pub record Seeking (text rest : List ℕ) (escaped : Bool) : Type 0 where
     pub utf8 : IsUtf8 rest
-    pub same : leaves (seek test (chars rest) escaped) rest ≡ scanned (quoted quote test) text
+    pub same : scanned (quoted_from quote test escaped) rest ≡ scanned (quoted quote test) text
 
   pub seek-start : (text : List ℕ) → IsUtf8 text → Seeking text text false
   seek-start text is = record { utf8 = is; same = refl }
@@ -31,23 +26,23 @@ module _ (quote : ℕ) (test : List ℕ → Bool) where
     tail-is : (n : ℕ) → past (suc n) rest ≡ past n tail
     tail-is n = let one : 1 + n ≡ suc n = omega arith in ap (λ m. past m rest) (sym one) ∙ (sym (past-past n 1 rest at.utf8) ∙ ap (past n) (sym cut))
 
-    tail-utf8 : IsUtf8 tail
-    tail-utf8 = rw cut (IsUtf8-past 1 rest at.utf8)
-
-    leaves-is : (o : Option ℕ) → seek test (c ∷ chars tail) escaped ≡ o → ((stopped quote o (c ∷ chars tail)).0, past (stopped quote o (c ∷ chars tail)).1 rest) ≡ scanned (quoted quote test) text
-    leaves-is o e = grind (arith, common_steps)
+    -- what is read, by what the character does
+    read-is : (r : Bool × ℕ) → quoted_from quote test escaped (c ∷ chars tail) ≡ r → (r.0, past r.1 rest) ≡ scanned (quoted quote test) text
+    read-is r e = ap (λ (q : Bool × ℕ). (q.0, past q.1 rest)) (sym e ∙ ap (quoted_from quote test escaped) (sym reads)) ∙ at.same
 
     -- a character that does not stop it
     pub seek-on : (to : Bool) → (not escaped && test (c ∷ chars tail)) ≡ false → (if escaped then false else is_backslash c) ≡ to → Seeking text tail to
-    seek-on to t next = grind (arith, common_steps, stopped-more, tail-utf8, tail-is, leaves-is)
+    seek-on to t next =
+        let r : Bool × ℕ = quoted_from quote test to (chars tail) in
+        record { utf8 = rw cut (IsUtf8-past 1 rest at.utf8); same = ap (λ xs. (r.0, xs)) (sym (tail-is r.1)) ∙ read-is (one_past r) (rw (t, next) refl) }
 
     -- the quote closes it
-    pub seek-closed : (not escaped && test (c ∷ chars tail)) ≡ true → begins (quote ∷ []) (c ∷ chars tail) ≡ true → (true, tail) ≡ scanned (quoted quote test) text
-    seek-closed t q = grind (arith, common_steps, leaves-is)
+    pub seek-closed : (not escaped && test (c ∷ chars tail)) ≡ true → (c == quote) ≡ true → (true, tail) ≡ scanned (quoted quote test) text
+    seek-closed t q = ap (λ xs. (true, xs)) cut ∙ read-is (true, 1) (rw (t, q) refl)
 
     -- another stop leaves it open
-    pub seek-open : (not escaped && test (c ∷ chars tail)) ≡ true → begins (quote ∷ []) (c ∷ chars tail) ≡ false → (false, rest) ≡ scanned (quoted quote test) text
-    seek-open t q = grind (arith, common_steps, past-zero, leaves-is)
+    pub seek-open : (not escaped && test (c ∷ chars tail)) ≡ true → (c == quote) ≡ false → (false, rest) ≡ scanned (quoted quote test) text
+    seek-open t q = ap (λ xs. (false, xs)) (sym (past-zero rest at.utf8)) ∙ read-is (false, 0) (rw (t, q) refl)
 
   -- characters that neither stop it nor are backslashes
   pub seek-run : (plain : ℕ → Bool) → ((c : ℕ) (s : List ℕ) → plain c ≡ true → test (c ∷ s) ≡ false) → ((c : ℕ) → plain c ≡ true → is_backslash c ≡ false)
@@ -79,12 +74,6 @@ to-plain escaped c e = rw e refl
 
 pub to-next : (escaped : Bool) (c : ℕ) → escaped ≡ false → (if escaped then false else is_backslash c) ≡ (c == 92)
 to-next escaped c e = rw e refl
-
-pub is-it : (quote c : ℕ) (s : List ℕ) → c ≡ quote → begins (quote ∷ []) (c ∷ s) ≡ true
-is-it quote c s e = rw (eq-eqb c quote e) refl
-
-pub is-other : (quote c : ℕ) (s : List ℕ) → c ≢ quote → begins (quote ∷ []) (c ∷ s) ≡ false
-is-other quote c s ne = rw (ne_eqb c quote ne) refl
 
 pub single-closed : (c : ℕ) (s : List ℕ) → c ≡ 39 → at_single_stop (c ∷ s) ≡ true
 single-closed c s e = rw e refl

@@ -1,18 +1,18 @@
 -- An edit: what lexing from the kept front asks, and what it leaves.
-use Rattle.std.proofs.Common.{◌≡◌, ℕ, ◌+◌, ◌-◌, ◌<◌, ◌≤◌, ◌^◌, true, List, ◌++◌, length, take, drop, refl, sym, ap, ◌∙◌, subst, arith, length-take, append_assoc, IsUtf8, ltb}
-use Rattle.std.specs.List.{count_by}
-use Rattle.rustc_lexer.specs.means.Relexing.{AreBoundaries, meet, relexed_of}
+use Rattle.std.proofs.Common.{◌≡◌, ℕ, ◌+◌, ◌-◌, ◌<◌, ◌≤◌, ◌^◌, true, List, ◌++◌, length, take, drop, refl, sym, ap, ◌∙◌, subst, arith, length-take, append_assoc, IsUtf8}
+use Rattle.rustc_lexer.specs.means.Relexing.{AreBoundaries, kept_front, meet, relexed_of}
 use Rattle.rustc_lexer.specs.declared.relex.front.Bound.{Bound}
 use Rattle.rustc_lexer.specs.{Token}
 use Rattle.rustc_lexer.specs.Classes.{IsText}
 use Rattle.rustc_lexer.specs.Locality.{IsGrammar, has_two}
 use Rattle.rustc_lexer.specs.Tokens.{bound, tokens_by}
-use Rattle.rustc_lexer.specs.Edits.{apply, ends_from, IsEdit, kept_front}
+use Rattle.rustc_lexer.specs.Edits.{apply, IsEdit}
 use Rattle.rustc_lexer.specs.laws.Cuts.{at_bound}
 use Rattle.rustc_lexer.proofs.BoundLemmas.{bound_mono, rises, ends_past-at}
 use Rattle.rustc_lexer.proofs.EditLemmas.{IsEdited, edited, kept_same, met_whole, has_two-before}
 use Rattle.rustc_lexer.proofs.MeetingLemmas.{IsMet}
 use Rattle.std.proofs.lemmas.Str.{IsCharBoundary-from_drop}
+use Rattle.std.proofs.lemmas.Grind.{common_steps}
 
 -- the new text has the tokens of the kept front, which are before the edit
 pub record IsReady (first : List ℕ → Token) (old : List Token) (text : List ℕ) (kept : Bound) (start : ℕ) : Type 0 where
@@ -33,10 +33,6 @@ module _ {first : List ℕ → Token} (law : IsGrammar first) (text : List ℕ) 
         let two_past : 0 < kept.number → has_two text (bound (tokens_by first text) kept.number) start ≡ true = λ some. subst (λ p. has_two text p start ≡ true) at (two some) in
         let same : take kept.number (tokens_by first new) ≡ take kept.number (tokens_by first text) = kept_same law text start stop insert new is edit ed kept.number few two_past in
         let long : length (take kept.number (tokens_by first new)) ≡ length (take kept.number (tokens_by first text)) = ap length same in
-        let a = edit.inside.start_le_stop in
-        let b = edit.inside.stop_inside in
-        let f = is.fits in
-        let l = ed.len in
         record {
           kept_same = sym same;
           kept_new = omega (arith, length-take kept.number (tokens_by first new), length-take kept.number (tokens_by first text));
@@ -45,18 +41,12 @@ module _ {first : List ℕ → Token} (law : IsGrammar first) (text : List ℕ) 
 
     -- what it leaves: the new tokens are whole, and the counts are those of the edit
     pub whole : (items : List Token) (number kept : ℕ) → IsMet first (tokens_by first text) new stop (start + length insert) kept items number → items ++ drop number (tokens_by first text) ≡ tokens_by first new
-    whole items number kept met =
-        ap (λ ts. ts ++ drop number (tokens_by first text)) met.items_are ∙
-        met_whole law text start stop insert new is edit ed (length items) number met.past_edit met.same_place
+    whole items number kept met = grind (arith, common_steps, met_whole)
 
 pub counts : {first : List ℕ → Token} (law : IsGrammar first) (text : List ℕ) (is : IsText text) (start stop : ℕ) (insert : List ℕ) (items : List Token) (number kept : ℕ) → kept ≡ kept_front text (tokens_by first text) start → IsMet first (tokens_by first text) (apply text start stop insert) stop (start + length insert) kept items number → relexed_of first text start stop insert ≡ record { kept_front = kept; lexed = length items - kept; kept_back = length (tokens_by first text) - number }
 unfolding relexed_of
 counts {first} law text is start stop insert items number kept kept_is met =
-    let old : List Token = tokens_by first text in
-    let new : List Token = tokens_by first (apply text start stop insert) in
-    let least : meet old new stop (start + length insert) (kept_front text old start) ≡ length items = ap (meet old new stop (start + length insert)) (sym kept_is) ∙ sym met.least in
-    let back : count_by (ltb (bound new (length items) - (start + length insert) + stop)) (ends_from 0 old) ≡ length old - number = ap (λ p. count_by (ltb p) (ends_from 0 old)) (sym met.same_place) ∙ ends_past-at old number met.number_bound (rises law text is) in
-    rw (least, ← kept_is, back) refl
+    grind (arith, common_steps, ends_past-at, rises)
 
 -- the same, for a list and a text that are known by equations
 module _ {first : List ℕ → Token} (law : IsGrammar first) (text : List ℕ) (is : IsText text) (start stop : ℕ) (insert : List ℕ) (its : IsUtf8 insert) (edit : IsEdit text start stop insert) where
@@ -67,15 +57,10 @@ module _ {first : List ℕ → Token} (law : IsGrammar first) (text : List ℕ) 
       rw (e, f) (ready law text is start stop insert (apply text start stop insert) edit (edited text start stop insert is its edit) kept few' at' two)
 
   pub whole_for : (old : List Token) (new : List ℕ) (items : List Token) (number kept : ℕ) → old ≡ tokens_by first text → new ≡ apply text start stop insert → IsMet first old new stop (start + length insert) kept items number → items ++ drop number old ≡ tokens_by first (apply text start stop insert)
-  whole_for old new items number kept e f met =
-      let met' : IsMet first (tokens_by first text) (apply text start stop insert) stop (start + length insert) kept items number = rw (e, f) at met in
-      rw e (whole law text is start stop insert (apply text start stop insert) edit (edited text start stop insert is its edit) items number kept met')
+  whole_for old new items number kept e f met = grind (arith, common_steps, IsMet, whole, edited)
 
   pub counts_for : (old : List Token) (new : List ℕ) (items : List Token) (number kept : ℕ) → old ≡ tokens_by first text → new ≡ apply text start stop insert → kept ≡ kept_front text old start → IsMet first old new stop (start + length insert) kept items number → relexed_of first text start stop insert ≡ record { kept_front = kept; lexed = length items - kept; kept_back = length old - number }
-  counts_for old new items number kept e f k met =
-      let met' : IsMet first (tokens_by first text) (apply text start stop insert) stop (start + length insert) kept items number = rw (e, f) at met in
-      let k' : kept ≡ kept_front text (tokens_by first text) start = k ∙ ap (λ ts. kept_front text ts start) e in
-      rw e (counts law text is start stop insert items number kept k' met')
+  counts_for old new items number kept e f k met = grind (arith, common_steps, IsMet, counts)
 
   pub lexed_for : (old : List Token) (new : List ℕ) (kept : ℕ) → old ≡ tokens_by first text → new ≡ apply text start stop insert → kept ≡ kept_front text old start → (relexed_of first text start stop insert).lexed ≡ meet old (tokens_by first new) stop (start + length insert) kept - kept
   unfolding relexed_of

@@ -1,16 +1,18 @@
 -- What an edit keeps: there is one answer, and the search for the meeting finds it.
 use Rattle.std.proofs.Common.{◌≡◌, ℕ, zero, suc, ◌+◌, ◌-◌, ◌<◌, ◌≤◌, Bool, true, false, true≢false, cond, ◌&&◌, List, [], ◌∷◌, length, take, refl, sym, ap, ◌∙◌, subst, arith, length-take, leb, ltb, leb-true, le-leb, inl, inr, eq-or-lt_of_le, IsUtf8, IsCharBoundary}
-use Rattle.std.proofs.lemmas.Bool.{and_parts, cases_Bool, cases_lt}
+use Rattle.std.proofs.lemmas.Bool.{and_parts, cases_Bool}
 use Rattle.std.specs.List.{count_by}
+use Rattle.std.proofs.lemmas.Grind.{common_steps}
 use Rattle.rustc_lexer.specs.declared.relex.relexing.Relexed.{Relexed}
 use Rattle.rustc_lexer.specs.{Token}
 use Rattle.rustc_lexer.specs.Classes.{IsText}
-use Rattle.rustc_lexer.specs.Edits.{IsEdit, IsMeeting, IsRelexed, apply, ends_from, kept_front}
+use Rattle.rustc_lexer.specs.Edits.{IsEdit, apply, ends_from, part_by}
 use Rattle.rustc_lexer.specs.Locality.{IsGrammar, has_two}
 use Rattle.rustc_lexer.specs.Tokens.{bound, tokens_by}
-use Rattle.rustc_lexer.specs.means.Relexing.{least_from, meet, meets_at, relexed_of}
-use Rattle.rustc_lexer.proofs.BoundLemmas.{bound-last, bound_mono, ends_past-at, is_bound, is_bound-elim, is_bound-intro, least_from_ge, rises}
+use Rattle.rustc_lexer.specs.means.Relexing.{IsBodyMeeting, IsBodyRelexed, kept_front, least_from, meet, meets_at, relexed_of}
+use Rattle.rustc_lexer.proofs.BoundLemmas.{bound-last, ends_past-at, is_bound, is_bound-elim, is_bound-intro, least_from_ge, rises}
 use Rattle.rustc_lexer.proofs.EditLemmas.{IsEdited, edited, front-none, kept_front_by, kept_front_from, kept_same, start_inside}
+use Rattle.rustc_lexer.proofs.LayoutLemmas.{one_relexed, part_by_body}
 use Rattle.rustc_lexer.proofs.ReadyLemmas.{cuts}
 
 -- ---- the search for the first number that passes
@@ -43,6 +45,31 @@ least_from-le test (suc n) k = by_test (least_from-le test n (suc k)) (test k)
     by_test ih true = omega arith
     by_test ih false = omega arith
 
+-- it passes, if it is not past the last
+pub least_from-hit : (test : ℕ → Bool) (n k : ℕ) → least_from test n k < k + n → test (least_from test n k) ≡ true
+least_from-hit test zero k less = absurd (omega arith)
+least_from-hit test (suc n) k less = by_test (least_from-hit test n (suc k)) (test k) refl less
+  where
+    by_test : (least_from test n (suc k) < suc k + n → test (least_from test n (suc k)) ≡ true) → (b : Bool) → test k ≡ b → cond b k (least_from test n (suc k)) < k + suc n → test (cond b k (least_from test n (suc k))) ≡ true
+    by_test ih true e less = e
+    by_test ih false e less = ih (omega arith)
+
+-- ---- a meeting passes the test of the search, and what passes it is one
+
+module _ (old new : List Token) (stop new_stop number : ℕ) where
+  pub meeting-passes : {back : ℕ} → IsBodyMeeting old new stop new_stop number back → meets_at old stop new_stop (bound new number) ≡ true
+  meeting-passes m = grind (arith, common_steps, is_bound, le-leb, is_bound-intro, m.past_edit)
+
+  pub passes-meeting : number ≤ length new → meets_at old stop new_stop (bound new number) ≡ true
+      → (i : ℕ) × (bound old i ≡ bound new number - new_stop + stop) × (i ≤ length old) × IsBodyMeeting old new stop new_stop number (length old - i)
+  passes-meeting few hit =
+      let both = and_parts (leb new_stop (bound new number)) (is_bound old (bound new number - new_stop + stop)) hit in
+      let at = is_bound-elim old (bound new number - new_stop + stop) both.1 in
+      let past = leb-true new_stop (bound new number) both.0 in
+      let inside = at.1 in
+      let there = at.2 in
+      (at.0, there, inside, record { number_inside = few; past_edit = past; old_number = at.0; back_is = omega arith; same_place = omega arith })
+
 -- ---- the kept front
 
 -- two characters follow it
@@ -67,9 +94,8 @@ front-two text to from (t ∷ ts) is inside = by_test (front-two text to (from +
     by_test : (n ≤ length ts) × (0 < n → has_two text (from + t.len + bound ts n) to ≡ true) → (b : Bool) → has_two text (from + t.len) to ≡ b
         → (cond b 1 0 + n ≤ suc (length ts)) × (0 < cond b 1 0 + n → has_two text (from + bound (t ∷ ts) (cond b 1 0 + n)) to ≡ true)
     by_test ih true e =
-        let less = ih.0 in
         let one : suc n ≡ 1 + n = omega arith in
-        (omega arith, λ some. subst (λ m. has_two text (from + bound (t ∷ ts) m) to ≡ true) one (later n refl e ih.1))
+        (omega (arith, ih.0), λ some. subst (λ m. has_two text (from + bound (t ∷ ts) m) to ≡ true) one (later n refl e ih.1))
     by_test ih false e = let none : n ≡ 0 = front-none text to (from + t.len) ts is next e in (omega arith, λ some. absurd (omega arith))
 
 -- ---- an edit
@@ -114,99 +140,35 @@ module _ {first : List ℕ → Token} (law : IsGrammar first) (text : List ℕ) 
   -- both ends meet
   end_passes : test (kept + (length new - kept)) ≡ true
   end_passes =
-      let few = kept_new in
-      let order = edit.inside.start_le_stop in
-      let within = edit.inside.stop_inside in
-      let all : kept + (length new - kept) ≡ length new = omega arith in
+      let all : kept + (length new - kept) ≡ length new = omega (arith, kept_new) in
       let last : bound new (length new) ≡ length new_text = bound-last law new_text ed.text_is in
-      let inside = start_inside law text start stop insert new_text is edit ed in
-      let past : new_stop ≤ bound new (length new) = omega arith in
-      let len = ed.len in
-      let there : bound old (length old) ≡ bound new (length new) - new_stop + stop = omega (arith, bound-last law text is) in
+      let past : new_stop ≤ bound new (length new) = omega (arith, start_inside law text start stop insert new_text is edit ed) in
+      let there : bound old (length old) ≡ bound new (length new) - new_stop + stop = omega (arith, ed.len, edit.inside.start_le_stop, edit.inside.stop_inside, bound-last law text is) in
       subst (λ m. test m ≡ true) (sym all) (
       ap (λ (b : Bool). b && is_bound old (bound new (length new) - new_stop + stop)) (le-leb new_stop (bound new (length new)) past)
       ∙ is_bound-intro old (length old) (bound new (length new) - new_stop + stop) there)
 
-  -- a meeting passes the test
-  pub meeting-passes : (number back : ℕ) → IsMeeting old new stop new_stop number back → test number ≡ true
-  meeting-passes number back m =
-      let past = m.past_edit in
-      let same = m.same_place in
-      let there : bound old m.old_number ≡ bound new number - new_stop + stop = omega arith in
-      ap (λ (b : Bool). b && is_bound old (bound new number - new_stop + stop)) (le-leb new_stop (bound new number) past)
-      ∙ is_bound-intro old m.old_number (bound new number - new_stop + stop) there
-
-  -- and what passes it is one
-  pub passes-meeting : (number : ℕ) → number ≤ length new → test number ≡ true
-      → (i : ℕ) × (i ≤ length old) × (new_stop ≤ bound new number) × (bound old i ≡ bound new number - new_stop + stop)
-  passes-meeting number few hit =
-      let both = and_parts (leb new_stop (bound new number)) (is_bound old (bound new number - new_stop + stop)) hit in
-      let at = is_bound-elim old (bound new number - new_stop + stop) both.1 in
-      (at.0, at.1, leb-true new_stop (bound new number) both.0, at.2)
-
   -- what the search finds is what an edit keeps
-  pub relexed_is : IsRelexed first text start stop insert (relexed_of first text start stop insert)
+  pub relexed_is : IsBodyRelexed first text start stop insert (relexed_of first text start stop insert)
   unfolding relexed_of meet
   relexed_is =
       let j : ℕ = least_from test (length new - kept) kept in
       let few : j ≤ length new = (let le = least_from-le test (length new - kept) kept in omega (arith, kept_new)) in
       let more : kept ≤ j = least_from_ge test (length new - kept) kept in
       let here : kept + (j - kept) ≡ j = omega arith in
-      let at = passes-meeting j few (least_from-passes test (length new - kept) kept end_passes) in
-      let past = at.2 in
-      let there = at.3 in
-      let back : count_by (ltb (bound new j - new_stop + stop)) (ends_from 0 old) ≡ length old - at.0 = ap (λ p. count_by (ltb p) (ends_from 0 old)) (sym there) ∙ ends_past-at old at.0 at.1 (rises law text is) in
-      let meets : IsMeeting old new stop new_stop j (count_by (ltb (bound new j - new_stop + stop)) (ends_from 0 old)) = record {
-        number_inside = few;
-        past_edit = past;
-        old_number = at.0;
-        back_is = (let i = at.1 in omega (arith, back));
-        same_place = omega arith;
-      } in
+      let at = passes-meeting old new stop new_stop j few (least_from-passes test (length new - kept) kept end_passes) in
+      let back : count_by (ltb (bound new j - new_stop + stop)) (ends_from 0 old) ≡ length old - at.0 = ap (λ p. count_by (ltb p) (ends_from 0 old)) (sym at.1) ∙ ends_past-at old at.0 at.2 (rises law text is) in
+      let meets : IsBodyMeeting old new stop new_stop j (count_by (ltb (bound new j - new_stop + stop)) (ends_from 0 old)) = subst (IsBodyMeeting old new stop new_stop j) (sym back) at.3 in
       record {
         front = refl;
-        meeting = subst (λ n. IsMeeting old new stop new_stop n (count_by (ltb (bound new j - new_stop + stop)) (ends_from 0 old))) (sym here) meets;
-        none_before = λ number back le less m. true≢false (sym (meeting-passes number back m) ∙ least_from-none test (length new - kept) kept number le (omega arith));
+        meeting = subst (λ n. IsBodyMeeting old new stop new_stop n (count_by (ltb (bound new j - new_stop + stop)) (ends_from 0 old))) (sym here) meets;
+        none_before = λ number back le less m. true≢false (sym (meeting-passes old new stop new_stop number m) ∙ least_from-none test (length new - kept) kept number le (omega arith));
       }
 
-  -- bounds of the old text that stand at one place are one
-  same_bound : (i i' : ℕ) → i ≤ length old → i' ≤ length old → bound old i ≡ bound old i' → i ≡ i'
-  same_bound i i' few few' e = elim (cases_lt i i') [
-    | inl less ↦ absurd (omega (arith, rises law text is i (omega arith), bound_mono old (suc i) i' (omega arith), e))
-    | inr not ↦ elim (cases_lt i' i) [
-      | inl less ↦ absurd (omega (arith, rises law text is i' (omega arith), bound_mono old (suc i') i (omega arith), e))
-      | inr none ↦ omega arith
-    ]
-  ]
-
   -- there is one answer
-  pub relexed_only : (r r' : Relexed) → IsRelexed first text start stop insert r → IsRelexed first text start stop insert r' → r ≡ r'
-  relexed_only r r' a b = λ i. record { kept_front = fronts i; lexed = lexed i; kept_back = backs i }
-    where
-      fronts : r.kept_front ≡ r'.kept_front
-      fronts = a.front ∙ sym b.front
-
-      lexed : r.lexed ≡ r'.lexed
-      lexed = elim (cases_lt r.lexed r'.lexed) [
-        | inl less ↦ absurd (b.none_before (r.kept_front + r.lexed) r.kept_back (omega (arith, fronts)) (omega (arith, fronts)) a.meeting)
-        | inr not ↦ elim (cases_lt r'.lexed r.lexed) [
-          | inl less ↦ absurd (a.none_before (r'.kept_front + r'.lexed) r'.kept_back (omega (arith, fronts)) (omega (arith, fronts)) b.meeting)
-          | inr none ↦ omega arith
-        ]
-      ]
-
-      place : bound new (r.kept_front + r.lexed) ≡ bound new (r'.kept_front + r'.lexed)
-      place = let e : r.kept_front + r.lexed ≡ r'.kept_front + r'.lexed = omega (arith, fronts, lexed) in ap (bound new) e
-
-      numbers : a.meeting.old_number ≡ b.meeting.old_number
-      numbers =
-          let p = a.meeting.same_place in
-          let q = b.meeting.same_place in
-          same_bound a.meeting.old_number b.meeting.old_number (omega (arith, a.meeting.back_is)) (omega (arith, b.meeting.back_is)) (omega (arith, place))
-
-      backs : r.kept_back ≡ r'.kept_back
-      backs = omega (arith, a.meeting.back_is, b.meeting.back_is, numbers)
+  pub relexed_only : (r r' : Relexed) → IsBodyRelexed first text start stop insert r → IsBodyRelexed first text start stop insert r' → r ≡ r'
+  relexed_only r r' a b = one_relexed (part_by first) text start stop insert (rises law text is) r r' (part_by_body first text start stop insert r a) (part_by_body first text start stop insert r' b)
 
   -- so it is what the search finds
-  pub relexed_found : (r : Relexed) → IsRelexed first text start stop insert r → r ≡ relexed_of first text start stop insert
+  pub relexed_found : (r : Relexed) → IsBodyRelexed first text start stop insert r → r ≡ relexed_of first text start stop insert
   relexed_found r a = relexed_only r (relexed_of first text start stop insert) a relexed_is

@@ -11,9 +11,9 @@ use Rattle.rustc_lexer.specs.declared.relex.relexing.Change.{Change}
 use Rattle.rustc_lexer.specs.declared.relex.relexing.Relexing.{Relexing}
 use Rattle.rustc_lexer.specs.{Token}
 use Rattle.rustc_lexer.specs.Tokens.{bound, tokens_by}
-use Rattle.rustc_lexer.specs.Edits.{apply, kept_front, IsEdit, IsBound, known}
+use Rattle.rustc_lexer.specs.Edits.{apply, IsEdit, IsBound, known}
 use Rattle.rustc_lexer.specs.Relexing.{IsChange, IsMadeOf, IsWhole}
-use Rattle.rustc_lexer.specs.means.Relexing.{IsFollowed, IsFront, IsLast, damage_of, old_stop_of, least_from, meet, meets_at, relexed_of, Stands}
+use Rattle.rustc_lexer.specs.means.Relexing.{IsFollowed, IsFront, IsLast, kept_front, damage_of, old_stop_of, least_from, meet, meets_at, relexed_of, Stands}
 use Rattle.rustc_lexer.specs.Locality.{has_two, IsGrammar}
 use Rattle.rustc_lexer.specs.Classes.{IsText}
 use Rattle.rustc_lexer.proofs.BoundLemmas.{least_from_ge, bound-last, bound_mono, rises}
@@ -105,13 +105,7 @@ module _ {first : List ℕ → Token} (law : IsGrammar first) (before lengths in
   -- both texts end alike behind the edit
   text_end : (bound old (length old) + change.new_stop ≡ length text + change.old_stop) × (change.new_stop ≤ length text)
   text_end =
-      let l = ed.len in
-      let e = is.edit_of.is_edit.inside.start_le_stop in
-      let f = is.edit_of.is_edit.inside.stop_inside in
-      let m : length text ≡ length (apply before change.start change.old_stop insert) = ap (λ (t : List ℕ). length t) is.edit_of.made in
-      let n = is.edit_of.new_stop in
-      let s : change.start + length insert ≤ length (apply before change.start change.old_stop insert) = start_inside law before change.start change.old_stop insert _ is.edit_of.is_text is.edit_of.is_edit ed in
-      (omega (arith, bound-last law before is.edit_of.is_text), omega arith)
+      grind (arith, common_steps, start_inside, bound-last, ed.len, is.edit_of.is_edit.inside.start_le_stop, is.edit_of.is_edit.inside.stop_inside, is.edit_of.new_stop)
 
   -- the end of the text, moved back, is the end of the old tokens
   pub end_last : (place : ℕ) → place ≡ length text → IsLast old (place - change.new_stop + old_stop_of (damage_of text change))
@@ -127,10 +121,7 @@ module _ {first : List ℕ → Token} (law : IsGrammar first) (before lengths in
   -- each bound before the kept front is before the edit
   pub front_below : (kept : Bound) → IsBound old kept → (0 < kept.number → has_two before kept.place change.start ≡ true) → (k : ℕ) → k < kept.number → bound old k + change.new_stop < max change.new_stop kept.place + change.old_stop
   front_below kept at two k less =
-      let b = (ready kept at two).kept_before k less in
-      let a = is.edit_of.is_edit.inside.start_le_stop in
-      let m = le-max_left change.new_stop kept.place in
-      omega arith
+      omega (arith, le-max_left change.new_stop kept.place, is.edit_of.is_edit.inside.start_le_stop, (ready kept at two).kept_before k less)
 
   pub stands_first : (kept : Bound) (to : Meeting) → kept.number ≡ kept_front before old change.start → IsBound old kept → (0 < kept.number → has_two before kept.place change.start ≡ true) → IsFollowed old change.old_stop change.new_stop kept.place to.at to.met → (kept.place < change.new_stop → to.at ≡ kept) → Stands first before change text record { front = kept; lexed = 0; back = to.at; at = kept.place; met = to.met }
   stands_first kept to number at two followed stays =
@@ -184,10 +175,7 @@ module _ {first : List ℕ → Token} (law : IsGrammar first) (before lengths in
 
     -- each bound that was passed is before a later place too
     pub below_later : (later : ℕ) → at.at ≤ later → (k : ℕ) → k < at.back.number → bound old k + change.new_stop < max change.new_stop later + change.old_stop
-    below_later later le k less =
-        let b = stands.below k less in
-        let m : max change.new_stop at.at ≤ max change.new_stop later = max-le (le-max_left change.new_stop later) (omega (arith, le-max_right change.new_stop later)) in
-        omega arith
+    below_later later le k less = grind (arith, common_steps, max-le, le-max_left, le-max_right, stands.below k less)
 
     pub is_met : at.met ≡ true → IsMet first old text change.old_stop change.new_stop at.front.number items at.back.number
     is_met hit = going_met first old text change.old_stop change.new_stop at.front.number items at.at at.back.number at.back.place at.met going hit
@@ -253,8 +241,7 @@ module _ {first : List ℕ → Token} (law : IsGrammar first) (before lengths in
           let left : List ℕ = drop at.at text in
           let here : drop (known at) new ≡ tokens_by first left = cut.rest ∙ ap (λ p. tokens_by first (drop p text)) (sym stands.place) in
           let past : IsText left = subst (λ p. IsText (drop p text)) (sym stands.place) cut.past in
-          let more = stands_inside out in
-          let some : 0 < length left = omega (arith, length-drop at.at text) in
+          let some : 0 < length left = omega (arith, stands_inside out, length-drop at.at text) in
           let cons : drop (known at) new ≡ token ∷ tokens_by first (drop (first left).len left) = here ∙ (tokens-cons law left past some ∙ ap (λ (t : Token). t ∷ tokens_by first (drop (first left).len left)) (sym token_is)) in
           let count : known at + 1 ≡ known past_token = omega arith in
           cons ∙ ap (λ (ts : List Token). token ∷ ts) (ap (drop 1) (sym cons) ∙ (drop-drop 1 (known at) new ∙ ap (λ n. drop n new) count))
@@ -276,9 +263,7 @@ all_lexed new at items none zero_lexed = grind (arith, common_steps)
 
 -- and where one token more was lexed, those that are left are the ones behind it
 pub one_lexed : (new : List Token) (at past : Relexing) (items more : List Token) (token : Token) → past.front ≡ at.front → drop at.front.number new ≡ items ++ drop (known at) new → drop (known at) new ≡ token ∷ drop (known past) new → more ≡ items ++ token ∷ [] → drop past.front.number new ≡ more ++ drop (known past) new
-one_lexed new at past items more token front so next more_is =
-    ap (λ (b : Bound). drop b.number new) front
-    ∙ (so ∙ (ap (λ ts. items ++ ts) next ∙ (sym (append_assoc items (token ∷ []) (drop (known past) new)) ∙ ap (λ ts. ts ++ drop (known past) new) (sym more_is))))
+one_lexed new at past items more token front so next more_is = grind (arith, common_steps, append_assoc)
 
 -- where relexing is not over, more text is left
 pub not_over : (met : Bool) (at end : ℕ) → at ≤ end → (met || eqb at end) ≡ false → (met ≡ false) × (at < end)

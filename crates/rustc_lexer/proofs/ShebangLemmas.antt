@@ -89,3 +89,5 @@ module _ (text : List ℕ) where
 
     pub at_front : k ≡ 0 → k ≡ line_len text
     at_front e = sym (line_is ∙ ap (λ (b : Bool). if b then k - 1 else k) (front e))
+
+pub ruleset shebang_lemmas = (no_shebang, attribute_here, line_here)

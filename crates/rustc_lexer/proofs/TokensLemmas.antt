@@ -1,11 +1,12 @@
 -- Taking the tokens of a whole text, one by one.
-use Rattle.std.proofs.Common.{◌≡◌, ℕ, ◌<◌, ◌==◌, true, false, subst, List, [], length, length-drop, drop, arith, refl, sym, ap, ◌∙◌, ◌^◌, Some, rules, pos_of_ne-zero}
+use Rattle.std.proofs.Common.{◌≡◌, ℕ, ◌<◌, ◌==◌, true, false, subst, List, [], length, length-drop, drop, arith, refl, sym, ap, ◌∙◌, ◌^◌, Some, pos_of_ne-zero}
 use Rattle.std.specs.Prelude.{⊤}
 use Rattle.std.specs.Iterator.{at_most, MakesProgress}
 use Rattle.std.specs.Str.{IsUtf8}
 use Rattle.std.proofs.lemmas.Bool.{eqb-true, eqb-false}
 use Rattle.std.proofs.lemmas.Str.{IsCharBoundary-from_take}
 use Rattle.std.proofs.lemmas.List.{nil_from_length}
+use Rattle.std.proofs.lemmas.Grind.{common_steps}
 use Rattle.rustc_lexer.specs.{Edition, FrontmatterAllowed, Token, No}
 use Rattle.rustc_lexer.specs.Tokens.{tokens_of, tokens_left, RestartsAtBounds, TakesToken}
 use Rattle.rustc_lexer.specs.laws.Tokens.{CutsOff, token_at-cuts, tokens-cons, tokens-nil}
@@ -68,6 +69,4 @@ takes_part allowed edition inside text s never view rest left token is fits some
 
 -- an iterator that took a token is nearer its end
 pub goes : (s t : State) (token : Token) → TakesToken s token t → MakesProgress (λ (x : State). ⊤) (λ s. at_most (length s.rest)) s (Some token) t
-goes s t token takes =
-    let less : length t.rest < length s.rest = omega (arith, ap length takes.rest, length-drop token.len s.rest, takes.boundary.0, takes.not_empty) in
-    search rules
+goes s t token takes = grind (arith, common_steps, length-drop)

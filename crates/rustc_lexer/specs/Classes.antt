@@ -111,10 +111,6 @@ NextIs p s = next_is p s ≡ true
 abbrev pub NextIsNot : (ℕ → Bool) → Chars → Type 0
 NextIsNot p s = next_is p s ≡ false
 
--- the same for the text of a token: it does not begin with such a character
-abbrev pub BeginsNot : (ℕ → Bool) → Chars → Type 0
-BeginsNot p w = NextIsNot p w
-
 -- the next character is one of these; then its negation: it is none of them, or the text ends
 abbrev pub NextIn : Chars → Chars → Type 0
 NextIn cs s = NextIs (is_among cs) s

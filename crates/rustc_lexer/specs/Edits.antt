@@ -29,27 +29,50 @@ abbrev pub ends_from : ℕ → List Token → List ℕ
 ends_from from [] = []
 ends_from from (t ∷ ts) = (from + t.len) ∷ ends_from (from + t.len) ts
 
--- how many of the tokens end at least two characters before `to`
-abbrev pub kept_front : List ℕ → List Token → ℕ → ℕ
-kept_front text tokens to = count_by (λ end. has_two text end to) (ends_from 0 tokens)
+-- the tokens of a text: those of its head, which a whole document may have and a part of one has not, and those of its
+-- body, which is the rest. The first of them begins at `start`
+pub record Layout : Type 0 where
+  pub start : ℕ
+  pub head : List Token
+  pub body : List Token
 
--- token boundary `number` of the new tokens matches an old one, and `back` old tokens follow that. The new boundary is
--- not before `new_stop`, the end of the inserted text, and is as far past it as the old one is past `old_stop`, the end
--- of the removed text
-pub record IsMeeting (old new : List Token) (old_stop new_stop number back : ℕ) : Type 0 where
-  pub number_inside : number ≤ length new
-  pub past_edit : new_stop ≤ bound new number
+-- the tokens of a part of a document, lexed by a grammar
+abbrev pub part_by : (List ℕ → Token) → List ℕ → Layout
+part_by first text = record { start = 0; head = []; body = tokens_by first text }
+
+-- the offset of token boundary k, where the tokens of the head count too, and that of the start of the body
+abbrev pub place_in : Layout → ℕ → ℕ
+place_in of k = of.start + bound (of.head ++ of.body) k
+
+abbrev pub body_in : Layout → ℕ
+body_in of = place_in of (length of.head)
+
+-- an edit that begins at `start` keeps the head: it begins in the body, and the head is the same before and after it
+abbrev pub KeepsHead : Layout → Layout → ℕ → Type 0
+KeepsHead old new start = (body_in old ≤ start) × (old.start ≡ new.start) × (old.head ≡ new.head)
+
+-- token boundary `number` of the new tokens matches an old one, and `back` old tokens follow that. Neither is in a head.
+-- The new boundary is not before `new_stop`, the end of the inserted text, and is as far past it as the old one is past
+-- `old_stop`, the end of the removed text
+pub record IsMeeting (old new : Layout) (old_stop new_stop number back : ℕ) : Type 0 where
+  pub number_inside : number ≤ length (new.head ++ new.body)
+  pub past_edit : new_stop ≤ place_in new number
+  pub past_head : length new.head ≤ number
   pub old_number : ℕ
-  pub back_is : old_number + back ≡ length old
-  pub same_place : bound new number + old_stop ≡ bound old old_number + new_stop
+  pub past_old_head : length old.head ≤ old_number
+  pub back_is : old_number + back ≡ length (old.head ++ old.body)
+  pub same_place : place_in new number + old_stop ≡ place_in old old_number + new_stop
 
--- the counts of an edit. It keeps the tokens that end at least two characters before it. From there on, tokens are
--- lexed up to the first boundary that matches one of the old tokens, and the old tokens after that are kept
-pub record IsRelexed (first : List ℕ → Token) (text : List ℕ) (start stop : ℕ) (insert : List ℕ) (r : Relexed) : Type 0 where
-  pub front : r.kept_front ≡ kept_front text (tokens_by first text) start
-  pub meeting : IsMeeting (tokens_by first text) (tokens_by first (apply text start stop insert)) stop (start + length insert) (r.kept_front + r.lexed) r.kept_back
+-- the counts of an edit. It keeps the tokens of the head, and of the body those that end at least two characters before
+-- it; but if it does not keep the head, it keeps none in front. From there on, tokens are new up to the first boundary
+-- that matches one of the old tokens, and the old tokens after that are kept
+pub record IsRelexed (layout : List ℕ → Layout) (text : List ℕ) (start stop : ℕ) (insert : List ℕ) (r : Relexed) : Type 0 where
+  pub kept : KeepsHead (layout text) (layout (apply text start stop insert)) start
+      → r.kept_front ≡ length (layout text).head + count_by (λ end. has_two text end start) (ends_from (body_in (layout text)) (layout text).body)
+  pub changed : (KeepsHead (layout text) (layout (apply text start stop insert)) start → ⊥) → r.kept_front ≡ 0
+  pub meeting : IsMeeting (layout text) (layout (apply text start stop insert)) stop (start + length insert) (r.kept_front + r.lexed) r.kept_back
   pub none_before : (number back : ℕ) → r.kept_front ≤ number → number < r.kept_front + r.lexed
-      → IsMeeting (tokens_by first text) (tokens_by first (apply text start stop insert)) stop (start + length insert) number back → ⊥
+      → IsMeeting (layout text) (layout (apply text start stop insert)) stop (start + length insert) number back → ⊥
 
 -- ---- lists of edits
 
@@ -66,30 +89,29 @@ abbrev pub AreEdits : List ℕ → List Edit → Type 0
 AreEdits text [] = Unit {0}
 AreEdits text (e ∷ es) = IsEdit text e.start e.stop e.insert.now × AreEdits (applied text e) es
 
--- the step count grew by the number of tokens that an edit lexes
-abbrev pub IsStepped : (List ℕ → Token) → List ℕ → ℕ → ℕ → List ℕ → ℕ → ℕ → Type 0
-IsStepped first text start stop insert before after =
-    (r : Relexed) × IsRelexed first text start stop insert r × (after ≡ before + r.lexed)
+-- the step count grew by the number of tokens that an edit lexes. Those of a new head take no step
+abbrev pub IsStepped : (List ℕ → Layout) → List ℕ → ℕ → ℕ → List ℕ → ℕ → ℕ → Type 0
+IsStepped layout text start stop insert before after =
+    (r : Relexed) × IsRelexed layout text start stop insert r
+    × (after + (length (layout (apply text start stop insert)).head - r.kept_front) ≡ before + r.lexed)
 
--- the step count grew by what the edits lex, one after another. `Steps` says this of one edit: IsStepped or
--- IsSteppedDocument
-abbrev pub AreStepped : (List ℕ → ℕ → ℕ → List ℕ → ℕ → ℕ → Type 0) → List ℕ → List Edit → ℕ → ℕ → Type 0
-AreStepped Steps text [] before after = after ≡ before
-AreStepped Steps text (e ∷ es) before after =
-    (between : ℕ) × Steps text e.start e.stop e.insert.now before between × AreStepped Steps (applied text e) es between after
+-- the step count grew by what the edits lex, one after another
+abbrev pub AreStepped : (List ℕ → Layout) → List ℕ → List Edit → ℕ → ℕ → Type 0
+AreStepped layout text [] before after = after ≡ before
+AreStepped layout text (e ∷ es) before after =
+    (between : ℕ) × IsStepped layout text e.start e.stop e.insert.now before between × AreStepped layout (applied text e) es between after
 
--- `front` is the least that each of the edits keeps there, or so many as before them, and so is `back`. `Counts` says
--- what one edit keeps: IsRelexed or IsRelexedDocument
-abbrev pub AreLeast : (List ℕ → ℕ → ℕ → List ℕ → Relexed → Type 0) → List ℕ → List Edit → ℕ → ℕ → ℕ → ℕ → Type 0
-AreLeast Counts text [] front_before back_before front back = (front ≡ front_before) × (back ≡ back_before)
-AreLeast Counts text (e ∷ es) front_before back_before front back =
-    (r : Relexed) × Counts text e.start e.stop e.insert.now r × AreLeast Counts (applied text e) es (min front_before r.kept_front) (min back_before r.kept_back) front back
+-- `front` is the least that each of the edits keeps there, or so many as before them, and so is `back`
+abbrev pub AreLeast : (List ℕ → Layout) → List ℕ → List Edit → ℕ → ℕ → ℕ → ℕ → Type 0
+AreLeast layout text [] front_before back_before front back = (front ≡ front_before) × (back ≡ back_before)
+AreLeast layout text (e ∷ es) front_before back_before front back =
+    (r : Relexed) × IsRelexed layout text e.start e.stop e.insert.now r × AreLeast layout (applied text e) es (min front_before r.kept_front) (min back_before r.kept_back) front back
 
 -- the counts of a list of edits: of the tokens that the list found, as many as `old`, it keeps those that each edit keeps,
 -- at the back so many as are then left. With no edit that is all of them in front
-abbrev pub IsRelexedList : (List ℕ → ℕ → ℕ → List ℕ → Relexed → Type 0) → List ℕ → List Edit → ℕ → ℕ → Relexed → Type 0
-IsRelexedList Counts text edits old new r =
-    (back : ℕ) × AreLeast Counts text edits old old r.kept_front back × (r.kept_back ≡ min back (min new old - r.kept_front))
+abbrev pub IsRelexedList : (List ℕ → Layout) → List ℕ → List Edit → ℕ → ℕ → Relexed → Type 0
+IsRelexedList layout text edits old new r =
+    (back : ℕ) × AreLeast layout text edits old old r.kept_front back × (r.kept_back ≡ min back (min new old - r.kept_front))
 
 -- the index of the edit that was refused
 abbrev pub stop_at : EditStop → ℕ
@@ -115,11 +137,11 @@ IsStop s text edits = (stop_at s < length edits) × IfSome (slice_get edits (sto
 
 -- the step count grew by what the edits before the refused one lex. If an allocation failed, it may have grown by more,
 -- but at most by what the refused edit lexes
-abbrev pub IsStopStepped : EditStop → (List ℕ → ℕ → ℕ → List ℕ → ℕ → ℕ → Type 0) → List ℕ → List Edit → ℕ → ℕ → Type 0
-IsStopStepped (Memory at) Steps text edits before after =
-    (least most : ℕ) × AreStepped Steps text (take at edits) before least × AreStepped Steps text (take (at + 1) edits) before most
-    × (least ≤ after) × (after ≤ most)
-IsStopStepped s Steps text edits before after = AreStepped Steps text (take (stop_at s) edits) before after
+abbrev pub IsStopStepped : EditStop → (List ℕ → Layout) → List ℕ → List Edit → ℕ → ℕ → Type 0
+IsStopStepped (Memory at) layout text edits before after =
+    (least most : ℕ) × AreStepped layout text (take at edits) before least × (least ≤ after)
+    × AreStepped layout text (take (at + 1) edits) before most × (after ≤ most)
+IsStopStepped s layout text edits before after = AreStepped layout text (take (stop_at s) edits) before after
 
 -- ---- a text that is kept with its tokens, and its pieces
 

@@ -3,8 +3,8 @@
 use Rattle.std.specs.Prelude.{ℕ, zero, suc, ◌+◌, ◌-◌, ◌≡◌, ◌↔◌, IsTrue, List, [], ◌∷◌, length, map, drop, max, Option, Some, None, Bool, true, false}
 use Rattle.rustc_lexer.specs.declared.relex.{head.Head.Head, relexing.Change.Change, relexing.Relexed.Relexed}
 use Rattle.rustc_lexer.specs.{Token, Whitespace}
-use Rattle.rustc_lexer.specs.Document.{body_start, head_tokens, shebang_len, IsRelexedDocument, KeepsHead}
-use Rattle.rustc_lexer.specs.Edits.{IsRelexed}
+use Rattle.rustc_lexer.specs.Document.{body_start, head_tokens, shebang_len, whole_by}
+use Rattle.rustc_lexer.specs.Edits.{IsRelexed, KeepsHead, part_by}
 use Rattle.rustc_lexer.specs.Partition.{tokens_by}
 use Rattle.rustc_lexer.specs.Relexing.{IsMadeOf}
 
@@ -42,10 +42,10 @@ counted false old new r = record { kept_front = r.kept_front; lexed = new + r.le
 -- the change is what the edit means for the body: it made the present body of the old one. `kept` says whether the edit
 -- keeps the head; with it, the counts of the body give those of the document
 pub record IsBodyChange (first : List ℕ → Token) (before : List ℕ) (edit : Change) (insert text : List ℕ) (kept : Bool) (change : Change) : Type 0 where
-  pub keeps : IsTrue kept ↔ KeepsHead before edit.start edit.old_stop insert
+  pub keeps : IsTrue kept ↔ KeepsHead (whole_by first before) (whole_by first text) edit.start
   pub put : List ℕ
   pub made_of :
       let body : List ℕ = drop (body_start before) before in
       IsMadeOf first body (map (λ (t : Token). t.len) (tokens_by first body)) change put (drop (body_start text) text)
-  pub counts : (r : Relexed) → IsRelexed first (drop (body_start before) before) change.start change.old_stop put r
-      → IsRelexedDocument first before edit.start edit.old_stop insert (counted kept (length (head_tokens before)) (length (head_tokens text)) r)
+  pub counts : (r : Relexed) → IsRelexed (part_by first) (drop (body_start before) before) change.start change.old_stop put r
+      → IsRelexed (whole_by first) before edit.start edit.old_stop insert (counted kept (length (head_tokens before)) (length (head_tokens text)) r)

@@ -1,6 +1,6 @@
--- The numbers and the names of kinds.
-use Rattle.std.specs.Prelude.{ℕ, List, codes}
-use Rattle.rustc_lexer.specs.{LiteralKind, TokenKind, Int, Float, Char, Byte, Str, ByteStr, CStr, RawStr, RawByteStr, RawCStr, LineComment, BlockComment, Whitespace, Frontmatter, Ident, InvalidIdent, RawIdent, ForcedKeywordIdent, UnknownPrefix, UnknownPrefixLifetime, RawLifetime, GuardedStrPrefix, Literal, Lifetime, Semi, Comma, Dot, OpenParen, CloseParen, OpenBrace, CloseBrace, OpenBracket, CloseBracket, At, Pound, Tilde, Question, Colon, Dollar, Eq, Bang, Lt, Gt, Minus, And, Or, Plus, Star, Slash, Caret, Percent, Unknown, Eof}
+-- The numbers and the names of kinds, and the words of an error.
+use Rattle.std.specs.Prelude.{ℕ, List, codes, ◌++◌, decimal}
+use Rattle.rustc_lexer.specs.{LiteralKind, RawStrError, InvalidStarter, NoTerminator, TooManyDelimiters, TokenKind, Int, Float, Char, Byte, Str, ByteStr, CStr, RawStr, RawByteStr, RawCStr, LineComment, BlockComment, Whitespace, Frontmatter, Ident, InvalidIdent, RawIdent, ForcedKeywordIdent, UnknownPrefix, UnknownPrefixLifetime, RawLifetime, GuardedStrPrefix, Literal, Lifetime, Semi, Comma, Dot, OpenParen, CloseParen, OpenBrace, CloseBrace, OpenBracket, CloseBracket, At, Pound, Tilde, Question, Colon, Dollar, Eq, Bang, Lt, Gt, Minus, And, Or, Plus, Star, Slash, Caret, Percent, Unknown, Eof}
 
 -- the number of a kind, for other languages, and the name of its variant. A number never changes: a new kind gets a new
 -- one, and no kind has 0
@@ -61,3 +61,9 @@ literal_entry (CStr terminated) = (7, codes "CStr")
 literal_entry (RawStr n_hashes) = (8, codes "RawStr")
 literal_entry (RawByteStr n_hashes) = (9, codes "RawByteStr")
 literal_entry (RawCStr n_hashes) = (10, codes "RawCStr")
+
+-- why a raw string is refused, in words
+abbrev pub raw_str_text : RawStrError → List ℕ
+raw_str_text (InvalidStarter bad_char) = codes "no hash or quote opens the raw string"
+raw_str_text (NoTerminator expected found offset) = codes "no quote with " ++ (decimal expected ++ codes " hashes closes the raw string")
+raw_str_text (TooManyDelimiters found) = codes "the raw string has " ++ (decimal found ++ codes " hashes on each side, and 255 are the most")

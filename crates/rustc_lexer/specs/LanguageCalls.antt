@@ -1,7 +1,7 @@
 -- What the calls that return no tokens answer, in terms of the grammar: errors in raw strings, guarded strings, shebang
 -- lines and editions. `w`, `next` and names in capitals are as in Language.antt; texts are lists of characters if
 -- nothing else is said, and offsets are in bytes.
-use Rattle.std.specs.Prelude.{◌≡◌, ◌==◌, ◌+◌, ◌-◌, ◌<◌, ◌≤◌, ℕ, suc, Bool, true, false, [], ◌∷◌, ◌++◌, length, drop, codes, Contains, Option, Some, None, Result, Ok, Err, List, decimal, bytes_eq, chars, find, if◌then◌else◌, nat_eq}
+use Rattle.std.specs.Prelude.{◌≡◌, ◌==◌, ◌+◌, ◌-◌, ◌<◌, ◌≤◌, ℕ, suc, Bool, true, false, [], ◌∷◌, ◌++◌, length, drop, codes, Contains, Option, Some, None, Result, Ok, Err, List, bytes_eq, chars, find, if◌then◌else◌, nat_eq}
 use Rattle.std.specs.Str.{byte}
 use Rattle.rustc_lexer.specs.{Edition, RawStrError, TokenKind, E2015, E2018, E2021, E2024, InvalidStarter, NoTerminator, TooManyDelimiters, LineComment, BlockComment, Whitespace}
 use Rattle.rustc_lexer.specs.Classes.{is_among, Chars, Utf8, begins, next_is, AreAll, NextNotIn, bytes, is_inline}
@@ -16,15 +16,15 @@ abbrev pub StartsRaw : Utf8 → ℕ → Type 0
 StartsRaw text p = (0 < p) × (next_is (λ c. c == byte "r") (drop (p - 1) (chars text)) ≡ true)
 
 -- where a raw string that is not closed was probably meant to end. `found` is the largest number of hashes that follow
--- a quote of w, and `place` is the offset at which the first quote with that many hashes ends. It counts p bytes and
--- the characters `before` in front of w. In `abc"#`, `found` is 1, and `place` is directly after the quote
+-- a quote of w, and `place` is the offset at which the first quote with that many hashes ends. In front of w stand p
+-- bytes and the characters `before`. In `abc"#`, `found` is 1, and `place` is directly after the quote
 pub data IsLikelyEnd (p : ℕ) (before w : Chars) : (found : ℕ) → (place : Option ℕ) → Type 0 where
   none : NoQuoteWith 1 w → IsLikelyEnd p before w 0 None
   best : {n : ℕ} (u v : Chars) → 0 < n → w ≡ u ++ (byte "\"" ∷ hashes n ++ v) → NoQuoteWith n u → NoQuoteWith (suc n) w
       → IsLikelyEnd p before w n (Some (p + bytes (before ++ (u ++ codes "\""))))
 
 -- the text after the `r` of a prefix of p characters, and the result of checking it: Ok if it begins with a valid raw
--- string, otherwise the reason why not
+-- string, otherwise the reason why not. Places are in bytes, where the prefix counts as p, a byte for each character
 pub data IsRawAnswer (p : ℕ) : Chars → Result Unit RawStrError → Type 0 where
   -- `##"a"##`, whatever follows
   good : {n : ℕ} {w next : Chars} → IsRaw next (Some n) w → IsRawAnswer p (w ++ next) (Ok tt)
@@ -38,12 +38,6 @@ pub data IsRawAnswer (p : ℕ) : Chars → Result Unit RawStrError → Type 0 wh
   no_quote : (n c : ℕ) (next : Chars) → is_among (codes "\"#") c ≡ false
       → IsRawAnswer p (hashes n ++ c ∷ next) (Err (InvalidStarter c))
   no_more : (n : ℕ) → IsRawAnswer p (hashes n) (Err (InvalidStarter 0))
-
--- the text of the error
-abbrev pub raw_str_text : RawStrError → List ℕ
-raw_str_text (InvalidStarter bad_char) = codes "no hash or quote opens the raw string"
-raw_str_text (NoTerminator expected found offset) = codes "no quote with " ++ (decimal expected ++ codes " hashes closes the raw string")
-raw_str_text (TooManyDelimiters found) = codes "the raw string has " ++ (decimal found ++ codes " hashes on each side, and 255 are the most")
 
 -- ---- guarded strings and shebang lines
 

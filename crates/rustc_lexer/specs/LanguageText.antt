@@ -17,38 +17,37 @@ year E2018 = 2018
 year E2021 = 2021
 year E2024 = 2024
 
--- the year of the first edition that has tokens of this kind as Language.antt defines them. An older edition splits
--- them, or gives them another kind. The year is 2015 if the lexer treats the kind the same in all editions, even if
--- Rust has it only since a later one
-abbrev pub kept_since : TokenKind → ℕ
-kept_since GuardedStrPrefix = 2024
-kept_since RawLifetime = 2021
-kept_since UnknownPrefix = 2021
-kept_since UnknownPrefixLifetime = 2021
-kept_since kind = 2015
+-- the year of the first edition in which the lexer has tokens of this kind as Language.antt defines them. In an older
+-- one it splits them, or gives them another kind. A C string, which Rust has since 2021, is the same token in each
+abbrev pub lexed_since : TokenKind → ℕ
+lexed_since GuardedStrPrefix = 2024
+lexed_since RawLifetime = 2021
+lexed_since UnknownPrefix = 2021
+lexed_since UnknownPrefixLifetime = 2021
+lexed_since kind = 2015
 
 -- w is the text of a token of this kind in the edition if `next` is the text after it
 pub data IsTokenIn (edition : Edition) (next : Chars) : TokenKind → Chars → Type 0 where
   kept : {kind : TokenKind} {w : Chars}
-      → kept_since kind ≤ year edition
+      → lexed_since kind ≤ year edition
       → IsTokenBefore next kind w
       → IsTokenIn edition next kind w
   -- a hash is a token, whatever follows it: `#` before `"a"`
   pound :
-      year edition < kept_since GuardedStrPrefix
+      year edition < lexed_since GuardedStrPrefix
       → IsTokenIn edition next Pound (codes "#")
   -- what newer editions read as a prefix is an identifier or a lifetime: `z` before `"a"`, `'a` before `#`
   ident : {w : Chars}
-      → year edition < kept_since UnknownPrefix
+      → year edition < lexed_since UnknownPrefix
       → IsTokenBefore next UnknownPrefix w
       → IsTokenIn edition next Ident w
   lifetime : {c : ℕ} {w : Chars}
-      → year edition < kept_since UnknownPrefixLifetime
+      → year edition < lexed_since UnknownPrefixLifetime
       → IsTokenBefore next UnknownPrefixLifetime (byte "'" ∷ c ∷ w)
       → IsTokenIn edition next (Lifetime (is_bad_name (c ∷ w))) (byte "'" ∷ c ∷ w)
   -- the first two characters of what newer editions read as a raw lifetime: `'r` before `#a`
   lifetime_r :
-      year edition < kept_since RawLifetime
+      year edition < lexed_since RawLifetime
       → begins_ident_after (codes "#") next ≡ true
       → IsTokenIn edition next (Lifetime false) (codes "'r")
 

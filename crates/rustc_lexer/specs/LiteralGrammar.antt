@@ -5,7 +5,7 @@
 use Rattle.std.specs.Prelude.{◌≡◌, ◌<◌, ◌≤◌, ℕ, zero, suc, ◌==◌, Bool, true, false, [], ◌∷◌, ◌++◌, codes, is_some, Option, Some, None}
 use Rattle.std.specs.Str.{byte}
 use Rattle.rustc_lexer.specs.{LiteralKind, Char, Byte, Str, ByteStr, CStr, RawStr, RawByteStr, RawCStr}
-use Rattle.rustc_lexer.specs.Classes.{is_among, is_id_start, is_id_continue, is_ident, Chars, begins, AreAll, NextIsNot, BeginsNot, NextIn, is_word_continue, is_name_start, begins_ident_after}
+use Rattle.rustc_lexer.specs.Classes.{is_among, is_id_start, is_id_continue, is_ident, Chars, begins, AreAll, NextIsNot, NextIn, is_word_continue, is_name_start, begins_ident_after}
 use Rattle.rustc_lexer.specs.NumberGrammar.{IsNumberBefore}
 
 -- w is quoted text that ends in `close`. Before that it has characters that are not special, and escapes: a backslash
@@ -123,7 +123,7 @@ pub data IsLiteralBefore (next : Chars) : LiteralKind → (may_suffix : Bool) �
   -- CHAR_LITERAL: `'\n'`. Not in the Reference: `'+-'`, `'+` at the end. Not `'ab'`, whose `a` may begin a name
   char : {t : Bool} {w : Chars}
       → IsSingleQuoted next t w
-      → BeginsNot is_name_start w
+      → NextIsNot is_name_start w
       → IsLiteralBefore next (Char t) t (codes "'" ++ w)
   -- not in the Reference: a name of two characters or more between quotes, `'ab'`. It cannot have a suffix: `'ab'c` is
   -- two tokens

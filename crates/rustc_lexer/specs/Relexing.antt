@@ -1,11 +1,11 @@
 -- Relexing for a caller who keeps the list of tokens and passes only their lengths.
-use Rattle.std.specs.Prelude.{ℕ, ◌≡◌, ◌+◌, ◌<◌, ◌≤◌, ◌^◌, ◌||◌, Bool, false, nat_eq, List, ◌++◌, length, map, take, drop, IsCharBoundary, IsUtf8}
+use Rattle.std.specs.Prelude.{ℕ, ◌≡◌, ◌↔◌, ◌+◌, ◌<◌, ◌≤◌, ◌^◌, ◌||◌, max, count_by, Bool, true, false, nat_eq, List, ◌++◌, length, map, take, drop, IsCharBoundary, IsUtf8}
 use Rattle.rustc_lexer.specs.declared.relex.relexing.{Change.Change, Relexing.Relexing}
 use Rattle.rustc_lexer.specs.{Token}
 use Rattle.rustc_lexer.specs.Classes.{IsText}
-use Rattle.rustc_lexer.specs.Edits.{IsEdit, IsInside, apply, known}
+use Rattle.rustc_lexer.specs.Edits.{IsBound, IsEdit, IsInside, IsMeeting, apply, ends_from, known, part_by}
+use Rattle.rustc_lexer.specs.Locality.{has_two}
 use Rattle.rustc_lexer.specs.Partition.{bound, tokens_by}
-use Rattle.rustc_lexer.specs.means.Relexing.{Stands}
 
 -- the change may have made the text: the inserted range is inside the text, between characters, and the old offsets are
 -- in order and below 2 ^ 32
@@ -51,11 +51,21 @@ pub record TakesSteps (first : List ℕ → Token) (text : List ℕ) (past : ℕ
   pub same_back : at'.at < past → at'.back ≡ at.back
   pub not_met : 0 < count → at'.at < past → at'.met ≡ false
 
--- these numbers are a state of relexing after a change of the old text. A reader need not know what that means for the
--- numbers: `begin` returns such numbers, `next` and `fill` keep the property, and if the old tokens are met, `counts`
--- says what the numbers are
+-- relexing after a change of the old text came from the end of the kept front to a boundary of the new tokens, and met no
+-- old one on the way. `met` says whether it meets one here. `back` is the first boundary of the old tokens that is not
+-- before this one, moved back by the change, or the last boundary; up to the end of the change it is that of the front
 pub record IsUnderWay (first : List ℕ → Token) (old : List ℕ) (change : Change) (text : List ℕ) (at : Relexing) : Type 0 where
-  pub stands : Stands first old change text at
+  pub front : at.front.number ≡ count_by (λ end. has_two old end change.start) (ends_from 0 (tokens_by first old))
+  pub front_bound : IsBound (tokens_by first old) at.front
+  pub inside : known at ≤ length (tokens_by first text)
+  pub place : at.at ≡ bound (tokens_by first text) (known at)
+  pub none_before : (number back : ℕ) → at.front.number ≤ number → number < known at
+      → IsMeeting (part_by first old) (part_by first text) change.old_stop change.new_stop number back → ⊥
+  pub met : (at.met ≡ true) ↔ ((back : ℕ) × IsMeeting (part_by first old) (part_by first text) change.old_stop change.new_stop (known at) back)
+  pub back_bound : IsBound (tokens_by first old) at.back
+  pub not_begun : at.at < change.new_stop → at.back ≡ at.front
+  pub passed : (k : ℕ) → k < at.back.number → bound (tokens_by first old) k + change.new_stop < max change.new_stop at.at + change.old_stop
+  pub reached : change.new_stop ≤ at.at → at.back.number < length (tokens_by first old) → at.at + change.old_stop ≤ at.back.place + change.new_stop
 
 -- for each old text whose tokens have these lengths, and of which the change made this text: relexing that was under
 -- way before is still so after, and the text that was left had exactly the tokens that were still to come

@@ -4,7 +4,6 @@ pub mod CharSteps
 pub mod Choice
 pub mod Cuts
 pub mod Edition
-pub mod Family
 pub mod Fences
 pub mod Frontmatter
 pub mod Ident
@@ -32,15 +31,12 @@ pub mod Number
 pub mod NumberGrammar
 pub mod NumberLongest
 pub mod Past
-pub mod Raw
 pub mod Reach
 pub mod Same
 pub mod Scan
-pub mod Seek
 pub mod State
 pub mod Texts
 pub mod TheAnswers
 pub mod TheLaws
-pub mod TokenBy
 pub mod Tokens
 pub mod Within

@@ -125,8 +125,8 @@ fn closing_end(rest: &[u8], n_dashes: usize) -> usize
     };
     let mut from = 0;
     'lines: while let Some(step) = memchr(b'\n', &rest[from..]) {
-        let line = run_end(rest, from + step + 1, b'\n');
-        let end = run_end(rest, line, b'-');
+        let line = byte_run_end(rest, from + step + 1, b'\n');
+        let end = byte_run_end(rest, line, b'-');
         if end - line >= n_dashes {
             return line_end(rest, line);
         }
@@ -223,7 +223,7 @@ fn recovery(rest: &[u8], guesses: Guesses) -> usize
 
 /// Returns where the run of a byte that begins at `from` ends.
 #[inline(always)]
-fn run_end(rest: &[u8], from: usize, byte: u8) -> usize
+fn byte_run_end(rest: &[u8], from: usize, byte: u8) -> usize
     requires { from ≤ length rest.now }
     ensures end { result ≡ from + run_len (λ b. b == byte) (drop from rest.now) }
     ensures inside { result ≤ length rest.now }
@@ -242,7 +242,7 @@ fn find_lone_dashes(rest: &[u8]) -> Option<usize>
     ensures inside { IfSome result (λ place. place < length rest.now) }
 {
     let mut end = 0;
-    'places: while let Some(step) = find(&rest[end..], b"---") {
+    'places: while let Some(step) = find_pattern(&rest[end..], b"---") {
         let place = end + step;
         if stands_alone(rest, end, place) {
             return Some(place);
@@ -287,7 +287,7 @@ fn line_end(rest: &[u8], place: usize) -> usize
 
 /// Returns the first place of the pattern. It searches for the pattern's first byte. So it does not have to make a
 /// searcher, which would allocate on the heap.
-fn find(rest: &[u8], pattern: &[u8]) -> Option<usize>
+fn find_pattern(rest: &[u8], pattern: &[u8]) -> Option<usize>
     requires { 0 < length pattern.now }
     ensures place { result ≡ spec.first pattern.now rest.now }
     ensures inside { IfSome result (λ place. place + length pattern.now ≤ length rest.now) }

@@ -112,7 +112,7 @@ fn spaces(v: u8x64) -> u64
 /// Returns a mask. Bit k is set unless bytes k - 1 and k both belong to a word or are both white space.
 #[inline(always)]
 #[tactic(auto, using(crate::proofs::BitLemmas::bit_lemmas, std::proofs::lemmas::Grind::common_steps))]
-fn apart(words: u64, spaces: u64) -> u64
+fn run_edges(words: u64, spaces: u64) -> u64
     ensures first { bit result 0 ≡ false }
     ensures later { (k : ℕ) → suc k < 64 → bit result (suc k)
         ≡ not ((bit words k && bit words (suc k)) || (bit spaces k && bit spaces (suc k))) }
@@ -131,7 +131,7 @@ pub(crate) fn ends_of_runs(bytes: &[u8]) -> u64
         return 0;
     }
     let v = u8x64::from_slice(bytes);
-    apart(words(v), spaces(v))
+    run_edges(words(v), spaces(v))
 }
 
 /// Returns how many bytes at the front are in the class. The run mostly ends within `WIDTH` bytes.
@@ -195,7 +195,7 @@ fn run_end_by_bytes<C: ByteClass>(bytes: &[u8]) -> usize
 /// Returns the first place of the byte. It is mostly within 64 bytes, so these are looked at before the search is
 /// called.
 #[inline(always)]
-pub(crate) fn find(stop: u8, bytes: &[u8]) -> Option<usize>
+pub(crate) fn find_byte(stop: u8, bytes: &[u8]) -> Option<usize>
     ensures { IsFirstByte (is_byte stop) bytes.now result }
 {
     if bytes.len() >= 64 {

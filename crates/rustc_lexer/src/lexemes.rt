@@ -36,6 +36,7 @@ mod word;
 /// The bytes alone determine the most common tokens and each token that begins with a hash. For the others it looks
 /// at the first character. Both branches promise the same.
 #[inline(always)]
+#[tactic(auto, using(crate::proofs::EditionLemmas::newest_first, std::proofs::lemmas::Grind::common_steps))]
 pub(crate) fn lexeme(text: &str) -> Token
     requires fits { Fits text.now }
     ensures { IsFirstToken text.now result }
@@ -69,6 +70,7 @@ pub(crate) fn choose_token(text: &str) -> Token
 /// Returns the kind of the token that begins with `first`, and the text after the token. `tail` is the text after
 /// `first`.
 #[inline(always)]
+#[tactic(auto, using(crate::proofs::FamilyLemmas::by_family, std::proofs::lemmas::Grind::common_steps))]
 fn past_first(first: char, tail: &str) -> (TokenKind, &str)
     requires fits { length tail.now + 1 < 2 ^ 32 }
     requires no_hash { spec.family_of first ≢ Hash }

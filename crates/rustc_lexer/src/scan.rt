@@ -13,7 +13,7 @@ ghost use Rattle.rustc_lexer.specs.means.Scan;
 ghost use Rattle.rustc_lexer.specs.means.Scan.{begins, past, run_len};
 
 use crate::classes::{is_id_continue, is_whitespace};
-use crate::kernels::{Continue, Space, ends_space, find, find_either, run_end, short_run_end};
+use crate::kernels::{Continue, Space, ends_space, find_byte, find_either, run_end, short_run_end};
 
 /// Returns the first character, or U+0000 if the text is empty.
 pub(crate) fn first(rest: &str) -> char
@@ -189,7 +189,7 @@ pub(crate) fn eat_until(rest: &str, stop: u8) -> &str
     ensures past { result.now
         ≡ past (run_len (λ c. not (is_byte stop c)) (chars rest.now)) rest.now }
 {
-    match find(stop, rest.as_bytes()) {
+    match find_byte(stop, rest.as_bytes()) {
         Some(place) => &rest[place..],
         None => "",
     }

@@ -1,6 +1,6 @@
 -- A batch, by what `fill` says of the tokens that are left.
 use Rattle.std.proofs.Common.{◌≡◌, ℕ, ◌+◌, ◌-◌, ◌≤◌, List, length, drop, refl, sym, ap, subst, ◌∙◌, arith, length-drop, IsCharBoundary}
-use Rattle.std.proofs.lemmas.List.{drop-drop}
+use Rattle.std.proofs.lemmas.Grind.{common_steps}
 use Rattle.std.proofs.lemmas.Str.{IsCharBoundary-from_rest, IsUtf8-drop}
 use Rattle.std.proofs.Math.Nat.{min-le_right}
 use Rattle.rustc_lexer.specs.declared.edition.Edition.TheVariants.{E2024}
@@ -74,17 +74,4 @@ module _ (text : List ℕ) (is : IsText text) (place : CPlace) (boundary : IsCha
 
   pub batch_is : (place' : CPlace) (allowed : FrontmatterAllowed) → place'.at ≡ length text - length t.rest → t.mode ≡ mode_in allowed (mode_edition t.mode) → place'.frontmatter_allowed ≡ allowed_number allowed → IsBatch text (state_at text place) buffer place' filled count
   batch_is place' allowed at held number =
-      let there : place'.at ≡ place.at + end = at ∙ place_is in
-      let follows : drop place'.at text ≡ t.rest = ap (λ n. drop n text) there ∙ (sym (drop-drop end place.at text) ∙ sym rest_is) in
-      let mode_is : t.mode ≡ mode_in allowed E2024 = held ∙ ap (mode_in allowed) newest in
-      record {
-        as_many = here.as_many;
-        tokens = here.tokens;
-        boundary = subst (λ n. IsCharBoundary text n) (sym there) (IsCharBoundary-from_rest text place.at end boundary.0 inside);
-        rest = follows ∙ sym (ap (λ (x : State). x.rest) state_is);
-        allowed = number ∙ (number_of-mode allowed ∙ (sym (ap mode_number mode_is) ∙ sym (ap (λ (x : State). mode_number x.mode) state_is)));
-        left = ap (λ n. tokens_of (mode_in (allowed_of n) E2024) (drop place'.at text)) number
-            ∙ (ap (λ (a : FrontmatterAllowed). tokens_of (mode_in a E2024) (drop place'.at text)) (allowed_back allowed)
-            ∙ (ap (λ (m : Mode). tokens_of m (drop place'.at text)) (sym mode_is)
-            ∙ (ap (tokens_of t.mode) follows ∙ (leaves.tokens ∙ ap (λ (x : State). drop count (tokens_left x)) begun))));
-      }
+      grind (arith, common_steps, place_is, rest_is, newest, here, IsCharBoundary-from_rest, inside, state_is, number_of-mode, allowed_back, leaves)

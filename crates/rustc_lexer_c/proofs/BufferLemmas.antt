@@ -1,6 +1,7 @@
 -- A list that is written into a buffer, one more at a time.
 use Rattle.std.proofs.Common.{◌≡◌, ℕ, ◌+◌, ◌<◌, ◌≤◌, List, [], ◌∷◌, ◌++◌, length, take, drop, min, sym, ap, ◌∙◌, arith, slice_set, take-add}
-use Rattle.std.proofs.lemmas.List.{drop-drop, drop-set-lt, length-drop, take-append-drop, take_more_set}
+use Rattle.std.proofs.lemmas.Grind.{common_steps}
+use Rattle.std.proofs.lemmas.List.{drop-drop, length-drop, take-append-drop, take_more_set}
 use Rattle.std.proofs.Math.Nat.{min-eq_left, min-eq_right}
 
 module _ {X : Type 0} (all left : List X) (count : ℕ) (x : X) (next : drop count all ≡ x ∷ left) where
@@ -16,9 +17,7 @@ module _ {X : Type 0} (all left : List X) (count : ℕ) (x : X) (next : drop cou
   front_step buffer fits front = take_more_set buffer count x fits ∙ (ap (λ l. l ++ x ∷ []) front ∙ sym (take-add count 1 all ∙ ap (λ l. take count all ++ take 1 l) next))
 
 pub back_step : {Y : Type 0} (buffer old : List Y) (count : ℕ) (y : Y) → drop count buffer ≡ drop count old → drop (count + 1) (slice_set buffer count y) ≡ drop (count + 1) old
-back_step buffer old count y back =
-    let low : count < count + 1 = omega arith in
-    drop-set-lt (count + 1) buffer count y low ∙ (sym (drop-drop 1 count buffer) ∙ (ap (drop 1) back ∙ drop-drop 1 count old))
+back_step buffer old count y back = grind (arith, common_steps)
 
 -- what the buffer holds at the end
 pub buffer_filled : {Y : Type 0} (buffer old front : List Y) (count : ℕ) → take count buffer ≡ front → drop count buffer ≡ drop count old → buffer ≡ front ++ drop count old

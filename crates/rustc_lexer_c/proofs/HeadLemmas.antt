@@ -1,5 +1,6 @@
 -- The head of a document as numbers, and back.
-use Rattle.std.proofs.Common.{◌≡◌, ◌≢◌, ℕ, zero, suc, ◌<◌, ◌≤◌, ◌^◌, Bool, true, false, not, true≢false, List, length, map, drop, nat_eq, refl, sym, ap, ap₂, ◌∙◌, subst, arith, Option, Some, None}
+use Rattle.std.proofs.Common.{◌≡◌, ◌≢◌, ℕ, zero, suc, Bool, true, false, not, true≢false, List, length, map, drop, nat_eq, refl, sym, ap, ap₂, ◌∙◌, subst, arith, Option, Some, None}
+use Rattle.std.proofs.lemmas.Grind.{common_steps}
 use Rattle.rustc_lexer.specs.declared.relex.head.Head.{Head}
 use Rattle.rustc_lexer.specs.declared.edition.Edition.TheVariants.{E2024}
 use Rattle.rustc_lexer.specs.declared.relex.relexing.Change.{Change}
@@ -14,7 +15,7 @@ use Rattle.rustc_lexer.specs.Locality.{IsGrammar}
 use Rattle.rustc_lexer.specs.Relexing.{IsChange, IsEditOf, IsMadeOf}
 use Rattle.rustc_lexer.specs.Tokens.{tokens_by}
 use Rattle.rustc_lexer.specs.laws.Edition.{edition_grammar}
-use Rattle.rustc_lexer.proofs.BodyChangeLemmas.{head_is, is_head}
+use Rattle.rustc_lexer.proofs.BodyChangeLemmas.{is_head}
 use Rattle.rustc_lexer.proofs.DocumentHead.{front_of}
 use Rattle.rustc_lexer.proofs.RelexingLemmas.{made_change}
 use Rattle.rustc_lexer_c.specs.declared.head.CHead.{CHead}
@@ -73,19 +74,7 @@ module _ (text : List ℕ) (is : IsText text) (edit : CEdit) (c : CHead) (body :
   of_old before insert e same = subst (λ (n : CHead). IsHeadOf before (head_of n)) (sym same) (head_back before e.is_text)
 
   refused_with : ((before insert : List ℕ) → IsEditOf before (change_of edit) insert text → c ≡ head_numbers before → ⊥) → FindsHead text edit c c body body kept kept 6
-  refused_with none = record {
-    status_is = record {
-      ok = λ _ before insert e same. absurd (none before insert e same);
-      not_utf8 = λ _ not. absurd (not is.utf8);
-      too_long = λ long. absurd (let f = is.fits in omega (arith, long, f));
-      bad_edit = λ _ _. refl;
-      no_other = λ _ _. refl;
-    };
-    head = λ z. absurd (let e : 6 ≡ 0 = z in omega (arith, e));
-    may_relex = λ z. absurd (let e : 6 ≡ 0 = z in omega (arith, e));
-    change = λ z. absurd (let e : 6 ≡ 0 = z in omega (arith, e));
-    refused = λ _. (refl, refl, refl);
-  }
+  refused_with none = grind (arith, common_steps)
 
   pub refused_edit : ¬ (IsChange text (change_of edit)) → FindsHead text edit c c body body kept kept 6
   refused_edit not = refused_with (λ before insert e same. not (made_fine before insert text (change_of edit) e))

@@ -1,8 +1,9 @@
 -- What many writes into a buffer of a caller's come to.
 use Rattle.std.proofs.Common.{◌≡◌, ◌≤◌, ◌+◌, ◌-◌, ℕ, List, [], ◌∷◌, length, take, drop, ◌++◌, refl, sym, ap, subst, ◌∙◌, arith, append_assoc, append-nil}
-use Rattle.std.proofs.lemmas.List.{drop-drop, length-append, length-take-le}
+use Rattle.std.proofs.lemmas.Grind.{common_steps}
+use Rattle.std.proofs.lemmas.List.{drop-drop, length-take-le}
 use Rattle.std.proofs.lemmas.Slice.{drop-put_mid, take-put_mid}
-use borrow.Rule.Slice.PartMut.{post_of, put_mid}
+use borrow.Rule.Slice.PartMut.{put_mid}
 use Rattle.std.specs.Fmt.{WritesInCalls}
 use Rattle.std.specs.List.{concat, FoldsTo}
 use Rattle.rustc_lexer_c.specs.declared.buffer.Buffer.{Buffer}
@@ -15,9 +16,7 @@ module _ (a : ℕ) (xs ys : List ℕ) (low : a ≤ length xs) where
   filled = put_mid a (a + length ys - a) xs ys
 
   pub filled_within : a + length ys ≤ length filled
-  filled_within =
-      let post : List ℕ = post_of a (a + length ys - a) xs in
-      omega (arith, length-append (take a xs) (ys ++ post), length-append ys post, length-take-le a xs low)
+  filled_within = grind (arith, common_steps, length-take-le)
 
   pub filled_front : take (a + length ys) filled ≡ take a xs ++ ys
   filled_front = take-put_mid a (a + length ys - a) xs ys (a + length ys) refl low
@@ -47,6 +46,4 @@ appends_all s (x ∷ xs) t low p =
 
 -- all that is written of a buffer of which nothing was, which stays the same one of the caller's
 pub written_front : (s : Buffer) (bytes : List ℕ) (t : Buffer) → s.len ≡ 0 → WritesInCalls Appends s bytes t → (t.bytes.ghost_name ≡ s.bytes.ghost_name) × IsFront bytes s.bytes.now t.bytes.now t.len
-written_front s bytes t none writes =
-    let all = appends_all s writes.parts t (omega (arith, none)) writes.calls in
-    (all.same_reference, record { within = all.within; front = all.written ∙ (ap (λ (n : ℕ). take n s.bytes.now ++ concat writes.parts) none ∙ writes.whole); rest = all.rest })
+written_front s bytes t none writes = grind (arith, common_steps, appends_all)

@@ -1,7 +1,8 @@
 -- How far a text is relexed, as numbers and back.
 use Rattle.std.proofs.Common.{◌≡◌, ◌≢◌, ℕ, ◌+◌, ◌-◌, ◌<◌, ◌≤◌, Bool, true, false, ◌||◌, if◌then◌else◌, eqb, List, ◌++◌, length, map, take, drop, true≢false, inl, inr, refl, sym, ap, ◌∙◌, subst, arith, take-add}
 use Rattle.std.proofs.lemmas.Bool.{cases_lt}
-use Rattle.std.proofs.lemmas.List.{length-map, length-drop, length-take-le, take_at, drop_at, drop-drop, map-append, take-map, drop-map}
+use Rattle.std.proofs.lemmas.Grind.{common_steps}
+use Rattle.std.proofs.lemmas.List.{length-map, length-take-le, drop_at, take-map, drop-map}
 use Rattle.rustc_lexer.specs.declared.edition.Edition.{Edition}
 use Rattle.rustc_lexer.specs.declared.relex.relexing.Relexed.{Relexed}
 use Rattle.rustc_lexer.specs.declared.relex.relexing.Relexing.{Relexing}
@@ -9,13 +10,15 @@ use Rattle.rustc_lexer.specs.declared.token.Token.{Token}
 use Rattle.rustc_lexer.specs.Tokens.{tokens_by, tokens_of}
 use Rattle.rustc_lexer.specs.Answers.{first_in}
 use Rattle.rustc_lexer.specs.LanguageText.{part}
-use Rattle.rustc_lexer.specs.Edits.{IsRelexed, known}
+use Rattle.rustc_lexer.specs.Edits.{IsRelexed, known, part_by}
 use Rattle.rustc_lexer.specs.Relexing.{IsMadeOf, IsUnderWay, IsWhole, MayGoOn, TakesSteps, is_over}
 use Rattle.rustc_lexer.specs.means.Relexing.{relexed_of}
 use Rattle.rustc_lexer.specs.Locality.{IsGrammar}
 use Rattle.rustc_lexer.specs.laws.Edition.{edition_grammar}
+use Rattle.rustc_lexer.proofs.LayoutLemmas.{part_by_body}
 use Rattle.rustc_lexer.proofs.RelexedLemmas.{relexed_is}
 use Rattle.rustc_lexer.proofs.RelexingLemmas.{over_met, few_lexed, counts_met}
+use Rattle.rustc_lexer.proofs.UnderWayLemmas.{to_stands}
 use Rattle.rustc_lexer_c.specs.declared.relex.CEdit.{CEdit}
 use Rattle.rustc_lexer_c.specs.declared.relex.CRelexing.{CRelexing}
 use Rattle.rustc_lexer_c.specs.declared.token.CToken.{CToken}
@@ -44,32 +47,16 @@ stage_met false e = absurd (omega arith)
 
 -- the numbers are those of where it stands
 relex_back : (text : List ℕ) (n : ℕ) (at : Relexing) → at.back.number ≤ n → is_over text at ≡ at.met → relexing_of n (numbers_of text n at) ≡ at
-relex_back text n at few over =
-    let number : n - (n - at.back.number) ≡ at.back.number = omega arith in
-    let met : eqb (stage_of (is_over text at)) 2 ≡ at.met = stage_over (is_over text at) ∙ over in
-    rw (number, met) refl
+relex_back text n at few over = grind (arith, common_steps, stage_over)
 
 -- what this call wrote comes behind what was written
 written_more : (new : List Token) (front before count lexed : ℕ) (buffer filled : List CToken) → lexed ≡ before + count → front + lexed ≤ length new → filled ≡ map token_numbers (take count (drop (front + before) new)) ++ drop count buffer → written new front lexed ≡ written new front before ++ take count filled
 written_more new front before count lexed buffer filled sum inside e =
-    let lexed_now : List Token = take count (drop (front + before) new) in
-    let long : length lexed_now ≡ count = length-take-le count (drop (front + before) new) (omega (arith, length-drop (front + before) new)) in
-    let here : take count filled ≡ map token_numbers lexed_now = ap (take count) e ∙ take_at (map token_numbers lexed_now) (drop count buffer) count (length-map lexed_now token_numbers ∙ long) in
-    let split : take lexed (drop front new) ≡ take before (drop front new) ++ lexed_now =
-    ap (λ n. take n (drop front new)) sum ∙ (take-add before count (drop front new) ∙ ap (λ (ts : List Token). take before (drop front new) ++ take count ts) (drop-drop before front new)) in
-    ap (map token_numbers) split ∙ (map-append token_numbers (take before (drop front new)) lexed_now ∙ ap (λ (l : List CToken). written new front before ++ l) (sym here))
+    grind (arith, common_steps, length-take-le, take-add)
 
 -- the list that is put together is that of the new tokens
 list_whole : (tokens new : List Token) (at : Relexing) (n : ℕ) (old : List CToken) → n ≡ at.back.number → old ≡ map token_numbers tokens → IsWhole tokens new at → take at.front.number old ++ (written new at.front.number at.lexed ++ drop n old) ≡ map token_numbers new
-list_whole tokens new at n old same e whole =
-    let front : take at.front.number old ≡ map token_numbers (take at.front.number tokens) = ap (take at.front.number) e ∙ take-map token_numbers at.front.number tokens in
-    let back : drop n old ≡ map token_numbers (drop at.back.number tokens) = ap (λ m. drop m old) same ∙ (ap (drop at.back.number) e ∙ drop-map token_numbers at.back.number tokens) in
-    let middle : List Token = take at.lexed (drop at.front.number new) in
-    let rest : written new at.front.number at.lexed ++ drop n old ≡ map token_numbers (middle ++ drop at.back.number tokens) =
-    ap (λ (l : List CToken). map token_numbers middle ++ l) back ∙ sym (map-append token_numbers middle (drop at.back.number tokens)) in
-    ap (λ (l : List CToken). l ++ (written new at.front.number at.lexed ++ drop n old)) front
-    ∙ (ap (λ (l : List CToken). map token_numbers (take at.front.number tokens) ++ l) rest
-    ∙ (sym (map-append token_numbers (take at.front.number tokens) (middle ++ drop at.back.number tokens)) ∙ ap (map token_numbers) whole))
+list_whole tokens new at n old same e whole = grind (arith, common_steps, take-map, drop-map)
 
 module _ (edition : Edition) (text : List ℕ) (old : List CToken) (change : CEdit) (c : CRelexing) (buffer filled : List CToken) (count : ℕ) (begin at : Relexing) where
   abbrev pub lens : List ℕ
@@ -83,7 +70,7 @@ module _ (edition : Edition) (text : List ℕ) (old : List CToken) (change : CEd
     where
       by_test : (b : Bool) → at.met ≡ b → (at.met || eqb at.at (length text)) ≡ at.met
       by_test true e = ap (λ m. m || eqb at.at (length text)) e ∙ sym e
-      by_test false e = ap (λ m. m || eqb at.at (length text)) e ∙ over_met (edition_grammar edition) before lens insert text (change_of change) is at stands.stands e
+      by_test false e = ap (λ m. m || eqb at.at (length text)) e ∙ over_met (edition_grammar edition) before lens insert text (change_of change) is at (to_stands (edition_grammar edition) before lens insert text (change_of change) is at stands) e
 
   pub batch_is : count ≤ length buffer → TakesSteps first text (change_of change).new_stop begin count at → filled ≡ map token_numbers (take count (tokens_by first (drop begin.at text))) ++ drop count buffer → MayGoOn text (length old) at → (count < length buffer → is_over text at ≡ true) → begin.lexed ≡ lexed_before c
       → (c.stage ≢ 0 → begin.front ≡ front_of c)
@@ -120,7 +107,8 @@ module _ (edition : Edition) (text : List ℕ) (old : List CToken) (change : CEd
     relexed = λ before insert is passed.
         let law = edition_grammar edition in
         let so = stands before insert is (begun first before insert law is passed) in
-        let found : IsRelexed first before change.start change.old_stop insert (relexed_of first before change.start change.old_stop insert) = relexed_is law before is.edit_of.is_text change.start change.old_stop insert is.edit_of.inserted is.edit_of.is_edit in
+        let at_stands = to_stands law before lens insert text (change_of change) is at so.0 in
+        let found : IsRelexed (part_by first) before change.start change.old_stop insert (relexed_of first before change.start change.old_stop insert) = part_by_body first before change.start change.old_stop insert _ (relexed_is law before is.edit_of.is_text change.start change.old_stop insert is.edit_of.inserted is.edit_of.is_edit) in
         let lexed = steps.lexed in
         let over = over_is before insert is so.0 in
         let same = relex_back text (length old) at may.number over in
@@ -136,13 +124,13 @@ module _ (edition : Edition) (text : List ℕ) (old : List CToken) (change : CEd
             under_way = λ _. subst (IsUnderWay first before (change_of change) text) (sym same) so.0;
           };
           tokens = filled_is;
-          more = written_more (tokens_of (part edition) text) at.front.number (lexed_before c) count at.lexed buffer filled (omega arith) so.0.stands.inside filled_is;
-          few = (relexed_of first before change.start change.old_stop insert, found, few_lexed law before lens insert text (change_of change) is at so.0.stands);
+          more = written_more (tokens_of (part edition) text) at.front.number (lexed_before c) count at.lexed buffer filled (omega arith) so.0.inside filled_is;
+          few = (relexed_of first before change.start change.old_stop insert, found, few_lexed law before lens insert text (change_of change) is at at_stands);
           counts = λ e.
-              let met = counts_met law before lens insert text (change_of change) is at so.0.stands (sym over ∙ stage_met (is_over text at) e) in
-              subst (IsRelexed first before change.start change.old_stop insert) (met.1 ∙ ap (λ (n : ℕ). let r : Relexed = record { kept_front = at.front.number; lexed = at.lexed; kept_back = n - at.back.number } in r) (sym met.0 ∙ many)) found;
+              let met = counts_met law before lens insert text (change_of change) is at at_stands (sym over ∙ stage_met (is_over text at) e) in
+              subst (IsRelexed (part_by first) before change.start change.old_stop insert) (met.1 ∙ ap (λ (n : ℕ). let r : Relexed = record { kept_front = at.front.number; lexed = at.lexed; kept_back = n - at.back.number } in r) (sym met.0 ∙ many)) found;
           list = λ e are.
-              let met = counts_met law before lens insert text (change_of change) is at so.0.stands (sym over ∙ stage_met (is_over text at) e) in
+              let met = counts_met law before lens insert text (change_of change) is at at_stands (sym over ∙ stage_met (is_over text at) e) in
               list_whole (tokens_by first before) (tokens_by first text) at (length old - (length old - at.back.number)) old back are met.2;
         };
   }

@@ -9,10 +9,9 @@ use Rattle.rustc_literal_escaper.specs.declared.mode.Mode.{Mode}
 use Rattle.rustc_literal_escaper.specs.declared.mode.Mode.TheVariants.{Char, Byte, Str, RawStr, ByteStr, RawByteStr, CStr, RawCStr}
 use Rattle.rustc_literal_escaper.specs.declared.unit.MixedUnit.{MixedUnit}
 use Rattle.rustc_literal_escaper.specs.declared.unit.MixedUnit.TheVariants.{Char as CharUnit, HighByte}
-use Rattle.rustc_literal_escaper.specs.Elements.{Item, items_of}
-use Rattle.rustc_literal_escaper.specs.Errors.{is_raw, is_single, errors_of, Error}
-use Rattle.rustc_literal_escaper.specs.Meaning.{byte_of, char_of, raw_unit_of, unit_of}
-use Rattle.rustc_literal_escaper.specs.Single.{byte_literal, char_literal}
+use Rattle.rustc_literal_escaper.specs.Grammar.{Error, Item}
+use Rattle.rustc_literal_escaper.specs.Answers.{byte_literal, char_literal, errors_of, items_of}
+use Rattle.rustc_literal_escaper.specs.Meaning.{byte_of, char_of, is_raw, is_single, raw_unit_of, unit_of}
 use Rattle.rustc_lexer_c.specs.declared.escapes.CUnit.{CUnit}
 use Rattle.rustc_lexer_c.specs.declared.escapes.Listing.{Listing}
 use Rattle.rustc_lexer_c.specs.declared.escapes.Listing.TheVariants.{Units, Errors}

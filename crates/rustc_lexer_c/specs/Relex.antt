@@ -10,7 +10,7 @@ use Rattle.rustc_lexer.specs.declared.token.Token.{Token}
 use Rattle.rustc_lexer.specs.Tokens.{tokens_by}
 use Rattle.rustc_lexer.specs.LanguageCalls.{edition_of_year}
 use Rattle.rustc_lexer.specs.Answers.{first_in}
-use Rattle.rustc_lexer.specs.Edits.{IsBound, IsRelexed}
+use Rattle.rustc_lexer.specs.Edits.{IsBound, IsRelexed, part_by}
 use Rattle.rustc_lexer.specs.Relexing.{IsChange, IsMadeOf, IsUnderWay, MayGoOn, is_over}
 use Rattle.rustc_lexer.specs.Classes.{IsText}
 use Rattle.rustc_lexer_c.specs.declared.relex.CEdit.{CEdit}
@@ -60,8 +60,8 @@ pub record HasRelexed (first : List ℕ → Token) (before : List ℕ) (edit : C
   pub passed : IsPassed first before (change_of edit) text (length old) c'
   pub tokens : filled ≡ map token_numbers (take count (drop (c'.kept_front + lexed_before c) (tokens_by first text))) ++ drop count buffer
   pub more : written (tokens_by first text) c'.kept_front c'.lexed ≡ written (tokens_by first text) c'.kept_front (lexed_before c) ++ take count filled
-  pub few : (r : Relexed) × IsRelexed first before edit.start edit.old_stop insert r × (c'.lexed ≤ r.lexed)
-  pub counts : c'.stage ≡ 2 → IsRelexed first before edit.start edit.old_stop insert (record { kept_front = c'.kept_front; lexed = c'.lexed; kept_back = c'.kept_back })
+  pub few : (r : Relexed) × IsRelexed (part_by first) before edit.start edit.old_stop insert r × (c'.lexed ≤ r.lexed)
+  pub counts : c'.stage ≡ 2 → IsRelexed (part_by first) before edit.start edit.old_stop insert (record { kept_front = c'.kept_front; lexed = c'.lexed; kept_back = c'.kept_back })
   pub list : c'.stage ≡ 2 → old ≡ map token_numbers (tokens_by first before)
       → take c'.kept_front old ++ (written (tokens_by first text) c'.kept_front c'.lexed ++ drop (length old - c'.kept_back) old) ≡ map token_numbers (tokens_by first text)
 

@@ -4,9 +4,9 @@ ghost use Rattle.std.specs.Option.{IsSomeAnd};
 ghost use Rattle.std.specs.Result.{result_err};
 ghost use Rattle.std.specs.Str.{IsUtf8};
 ghost use Rattle.rustc_lexer.specs.Classes.{IsText};
-ghost use Rattle.rustc_literal_escaper.specs.Elements.{items_of, TakesFirst};
-ghost use Rattle.rustc_literal_escaper.specs.Errors as errors;
-ghost use Rattle.rustc_literal_escaper.specs.Meaning.{unit_of};
+ghost use Rattle.rustc_literal_escaper.specs.Answers.{items_of};
+ghost use Rattle.rustc_literal_escaper.specs.Items.{TakesFirst};
+ghost use Rattle.rustc_literal_escaper.specs.Meaning.{is_raw, is_single, unit_of};
 ghost use Rattle.rustc_lexer_c.specs.Escapes as spec;
 ghost use Rattle.rustc_lexer_c.specs.Status.{IsStatus};
 
@@ -185,7 +185,7 @@ fn fill_units(text: &str, mode: Mode, passed: usize, buffer: &mut [CUnit]) -> us
 /// It is inlined into each arm of its caller, so that the mode is known there.
 #[inline(always)]
 fn fill_string(text: &str, mode: Mode, passed: usize, buffer: &mut [CUnit]) -> usize
-    requires double { false ≡ errors.is_single mode }
+    requires double { false ≡ is_single mode }
     ensures { spec.IsUnits (spec.units_of mode text.now) passed buffer.old buffer.new result }
 {
     let elements = elements_of(text, mode);
@@ -196,10 +196,7 @@ fn fill_string(text: &str, mode: Mode, passed: usize, buffer: &mut [CUnit]) -> u
 fn fill_one(unit: CUnit, passed: usize, buffer: &mut [CUnit]) -> usize
     ensures { spec.IsUnits (unit ∷ []) passed buffer.old buffer.new result }
 {
-    if passed > 0 {
-        return 0;
-    }
-    if buffer.is_empty() {
+    if passed > 0 || buffer.is_empty() {
         return 0;
     }
     buffer[0] = unit;
@@ -219,7 +216,7 @@ fn single_unit(text: &str, mode: Mode) -> CUnit
 /// Returns the elements between double quotes.
 #[inline(always)]
 fn elements_of(text: &str, mode: Mode) -> Elements<'_>
-    ensures { result ≡ items_of (errors.is_raw mode) text.now }
+    ensures { result ≡ items_of (is_raw mode) text.now }
 {
     match mode {
         Mode::RawStr | Mode::RawByteStr | Mode::RawCStr => Elements::new_raw(text),

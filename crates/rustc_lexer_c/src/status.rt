@@ -65,10 +65,7 @@ pub(crate) fn text_of(bytes: &[u8]) -> Result<&str, Refusal>
     if bytes.len() > u32::MAX as usize {
         return Err(Refusal::TooLong);
     }
-    match std::str::from_utf8(bytes) {
-        Ok(text) => Ok(text),
-        Err(_) => Err(Refusal::NotUtf8),
-    }
+    std::str::from_utf8(bytes).map_err(|_| Refusal::NotUtf8)
 }
 
 /// Returns bytes that are UTF-8 as a text that can be lexed, or why it cannot be. Does not check that they are

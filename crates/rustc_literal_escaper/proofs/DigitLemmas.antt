@@ -9,8 +9,8 @@ use Rattle.std.proofs.lemmas.Grind.{common_steps}
 use Rattle.rustc_literal_escaper.specs.declared.element.Element.{Element}
 use Rattle.rustc_literal_escaper.specs.declared.element.Element.TheVariants.{Unicode, Fault}
 use Rattle.rustc_literal_escaper.specs.declared.error.EscapeError.TheVariants.{InvalidCharInUnicodeEscape, UnclosedUnicodeEscape, OverlongUnicodeEscape}
-use Rattle.rustc_literal_escaper.specs.Escape.{is_hex, is_digit_or_underscore, closed_at_run}
-use Rattle.rustc_literal_escaper.specs.Runs.{front_run, past_run}
+use Rattle.rustc_literal_escaper.specs.Grammar.{is_hex, is_digit_or_underscore}
+use Rattle.rustc_literal_escaper.specs.means.Escape.{closed_at_run, front_run, past_run}
 
 -- one more digit has room in 24 bits
 pub with_room : (v n : ℕ) → v < 16 ^ min n 6 → n < 6 → v < 16 ^ 5

@@ -7,8 +7,10 @@ use Rattle.std.proofs.lemmas.Grind.{common_steps}
 use Rattle.rustc_literal_escaper.specs.declared.error.EscapeError.TheVariants.{MoreThanOneChar}
 use Rattle.rustc_literal_escaper.specs.declared.error.EscapeError.{EscapeError}
 use Rattle.rustc_literal_escaper.specs.declared.mode.Mode.{Mode}
-use Rattle.rustc_literal_escaper.specs.Elements.{Item, items_of}
-use Rattle.rustc_literal_escaper.specs.Errors.{Error, alone_error, errors_in, errors_of, is_raw, is_single}
+use Rattle.rustc_literal_escaper.specs.Grammar.{Error, Item}
+use Rattle.rustc_literal_escaper.specs.Answers.{items_of}
+use Rattle.rustc_literal_escaper.specs.means.Single.{alone_error, read_errors}
+use Rattle.rustc_literal_escaper.specs.Meaning.{errors_in, is_raw, is_single}
 use Rattle.rustc_literal_escaper.proofs.RunLemmas.{folds-on}
 
 error_to-is : (total : ℕ) (error : EscapeError) (left : List ℕ) → IsUtf8 left → Some (record { start = 0; end = total - length left }, error) ≡ alone_error total (Some error) (chars left)
@@ -26,8 +28,8 @@ alone_error-more total wrong left more d none reads is =
     ∙ (ap (alone_error total None) (sym reads) ∙ ap (λ (o : Option EscapeError). alone_error total o (chars left)) (sym none))
 
 -- a literal between double quotes has the errors of its elements
-pub errors_of-strings : (mode : Mode) (text : List ℕ) (items : List Item) → false ≡ is_single mode → items ≡ items_of (is_raw mode) text → errors_in mode items ≡ errors_of mode text
-errors_of-strings mode text items double are = grind (arith, common_steps)
+pub read_errors-strings : (mode : Mode) (text : List ℕ) (items : List Item) → false ≡ is_single mode → items ≡ items_of (is_raw mode) text → errors_in mode items ≡ read_errors mode text
+read_errors-strings mode text items double are = grind (arith, common_steps)
 
 -- the errors of some items and then others
 errors-append : (mode : Mode) (xs ys : List Item) → errors_in mode (xs ++ ys) ≡ errors_in mode xs ++ errors_in mode ys

@@ -1,28 +1,67 @@
 -- There are no more elements between quotes than bytes, and no more errors than elements.
-use Rattle.std.proofs.Common.{ℕ, zero, suc, ◌≤◌, Bool, List, [], ◌∷◌, length, Option, ap, arith, length-append}
+use Rattle.std.proofs.Common.{ℕ, ◌≤◌, Bool, true, false, if◌then◌else◌, List, [], ◌∷◌, ◌++◌, length, max, Option, sym, ap, subst, arith, length-append}
+use Rattle.std.proofs.Math.Nat.{le-max_left, le-max_right}
+use Rattle.std.specs.Char.{is_whitespace}
+use Rattle.std.specs.List.{list_any}
 use Rattle.std.specs.Option.{option_to_list}
 use Rattle.std.specs.Str.{chars, IsUtf8}
-use Rattle.std.proofs.lemmas.List.{length-map}
 use Rattle.std.proofs.lemmas.Str.{encodes-chars, length-le-encodes}
 use Rattle.std.proofs.lemmas.Grind.{common_steps}
+use Rattle.rustc_literal_escaper.specs.declared.element.Element.{Element}
+use Rattle.rustc_literal_escaper.specs.declared.element.Element.TheVariants.{Fault}
+use Rattle.rustc_literal_escaper.specs.declared.error.EscapeError.TheVariants.{MultipleSkippedLinesWarning}
 use Rattle.rustc_literal_escaper.specs.declared.mode.Mode.{Mode}
-use Rattle.rustc_literal_escaper.specs.Elements.{Item, front_by, items_from, items_in, items_of}
-use Rattle.rustc_literal_escaper.specs.Errors.{Error, errors_in}
-use Rattle.rustc_literal_escaper.proofs.ItemLemmas.{front_by-ends}
+use Rattle.rustc_literal_escaper.specs.Answers.{errors_of, items_of}
+use Rattle.rustc_literal_escaper.specs.Grammar as g
+use Rattle.rustc_literal_escaper.specs.Grammar.{AreItems, Error, IsElementBefore, Item, is_newline, item, lines_warning, space_warning}
+use Rattle.rustc_literal_escaper.specs.Meaning.{errors_in, is_raw, is_single}
+use Rattle.rustc_literal_escaper.specs.laws.Elements.{either}
+use Rattle.rustc_literal_escaper.specs.laws.TheAnswers.{items-are}
+use Rattle.rustc_literal_escaper.specs.means.Single.{single_error}
+use Rattle.rustc_literal_escaper.proofs.AnswerLemmas.{errors_of-read}
 
--- each step takes as many characters as it tells elements, at least
-few_in : (raw : Bool) (n total : ℕ) (s : List ℕ) → length (items_in (front_by raw) n total s) ≤ length s
-few_in raw zero total s = omega arith
-few_in raw (suc n) total [] = omega arith
-few_in raw (suc n) total (c ∷ s) = grind (arith, common_steps, length-append, length-map, front_by-ends, few_in raw n total)
+-- an element has at least one character
+some : {special next : List ℕ} {e : Element} {w : List ℕ} → IsElementBefore special next e w → 1 ≤ length w
+some (g.plain out) = omega arith
+some (g.escape is) = omega arith
+some (g.unescaped mark) = omega arith
+some g.bare = omega arith
+
+one : (b : Bool) (i : Item) → length (if b then i ∷ [] else []) ≤ 1
+one true i = omega arith
+one false i = omega arith
+
+space-few : (from : ℕ) (space next : List ℕ) → length (space_warning from space next) ≤ 1
+space-few from space [] = omega arith
+space-few from space (c ∷ next) = one (is_whitespace c) _
+
+few : {raw : Bool} {from : ℕ} {s : List ℕ} {items : List Item} → AreItems raw from s items → length items ≤ length s
+few g.nothing = omega arith
+few (g.element {next} {w} is other are) = omega (arith, length-append w next, some is, few are)
+few (g.raw_element is are) = omega (arith, few are)
+few (g.line_end {from} {next} {items} space all stops are) = omega (
+  arith,
+  length-append (lines_warning from space ++ space_warning from space next) items,
+  length-append (lines_warning from space) (space_warning from space next),
+  one (list_any is_newline space) (item from (Fault MultipleSkippedLinesWarning) (92 ∷ 10 ∷ space)),
+  space-few from space next,
+  length-append space next,
+  few are,
+)
 
 pub items-few : (raw : Bool) (text : List ℕ) → IsUtf8 text → length (items_of raw text) ≤ length text
-unfolding items_from
-items-few raw text is = omega (arith, few_in raw (length (chars text)) (length text) (chars text), length-le-encodes (chars text), ap length (encodes-chars text is))
+items-few raw text is = omega (arith, few (items-are raw text is), length-le-encodes (chars text), ap length (encodes-chars text is))
 
 pub errors-few : (mode : Mode) (items : List Item) → length (errors_in mode items) ≤ length items
 errors-few mode [] = omega arith
 errors-few mode (item ∷ items) = grind (arith, common_steps, errors-few mode items)
 
-pub alone-few : (error : Option Error) → length (option_to_list error) ≤ 1
+alone-few : (error : Option Error) → length (option_to_list error) ≤ 1
 alone-few error = grind (arith, common_steps)
+
+-- between single quotes there is at most one error
+pub errors_of-few : (mode : Mode) (text : List ℕ) → IsUtf8 text → length (errors_of mode text) ≤ max 1 (length text)
+errors_of-few mode text is = subst (λ (es : List Error). length es ≤ max 1 (length text)) (sym (errors_of-read mode text is))
+    (either (λ (es : List Error). length es ≤ max 1 (length text)) (is_single mode) (option_to_list (single_error (length text) mode (chars text))) (errors_in mode (items_of (is_raw mode) text))
+    (omega (arith, alone-few (single_error (length text) mode (chars text)), le-max_left 1 (length text)))
+    (omega (arith, errors-few mode (items_of (is_raw mode) text), items-few (is_raw mode) text is, le-max_right 1 (length text))))

@@ -1,3 +1,4 @@
+pub mod AnswerLemmas
 pub mod DigitLemmas
 pub mod ShortLemmas
 pub mod SingleLemmas

@@ -3,8 +3,10 @@ use Rattle.std.proofs.Common.{◌≡◌, ℕ, ◌-◌, true, List, [], ◌∷◌
 use Rattle.std.specs.Str.{chars, encode_utf8_all, IsUtf8}
 use Rattle.std.proofs.lemmas.Str.{chars-append, encodes-append, encodes-chars}
 use Rattle.std.proofs.lemmas.Grind.{common_steps}
-use Rattle.rustc_literal_escaper.specs.Elements.{Item, front_by, item_at, items_from, one, place, raw_element, raw_front}
-use Rattle.rustc_literal_escaper.proofs.ItemLemmas.{first-one, items-one, nothing}
+use Rattle.rustc_literal_escaper.specs.Grammar.{Item}
+use Rattle.rustc_literal_escaper.specs.means.Elements.{front_by, item_at, items_from, one, place, raw_element, raw_front}
+use Rattle.rustc_literal_escaper.proofs.ItemLemmas.{first-one}
+use Rattle.rustc_literal_escaper.specs.laws.Elements.{items-one, nothing}
 
 -- each character is one element
 raw-one : (c : ℕ) (s : List ℕ) → raw_front c s ≡ one (raw_element c, s)

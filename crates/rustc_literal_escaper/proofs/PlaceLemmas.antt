@@ -10,8 +10,9 @@ use Rattle.std.proofs.lemmas.Str.{byte_from_char, char_from_byte, chars-nil, enc
 use Rattle.std.proofs.lemmas.Grind.{common_steps}
 use Rattle.rustc_literal_escaper.specs.declared.element.Element.TheVariants.{Fault}
 use Rattle.rustc_literal_escaper.specs.declared.error.EscapeError.TheVariants.{MultipleSkippedLinesWarning, UnskippedWhitespaceWarning}
-use Rattle.rustc_literal_escaper.specs.Elements.{Item, begins_line, is_newline, is_passed_over, item_at, line_end, more_space}
-use Rattle.rustc_literal_escaper.specs.Runs.{front_run, past_run}
+use Rattle.rustc_literal_escaper.specs.Grammar.{Item, is_newline, is_passed_over}
+use Rattle.rustc_literal_escaper.specs.means.Elements.{begins_line, item_at, line_end, more_space}
+use Rattle.rustc_literal_escaper.specs.means.Escape.{front_run, past_run}
 use Rattle.rustc_literal_escaper.proofs.ItemLemmas.{item-is}
 
 -- whether a newline is among the white space ahead

@@ -5,9 +5,10 @@ use Rattle.std.specs.Str.{chars, IsUtf8}
 use Rattle.std.proofs.lemmas.Bool.{and_parts, not-true}
 use Rattle.std.proofs.lemmas.Grind.{common_steps}
 use Rattle.rustc_literal_escaper.specs.declared.element.Element.TheVariants.{Plain}
-use Rattle.rustc_literal_escaper.specs.Elements.{front, front_by, item_at, items_from, one, place, raw_front}
-use Rattle.rustc_literal_escaper.specs.Plain.{elements_in, is_plain, StandsForItself}
-use Rattle.rustc_literal_escaper.proofs.ItemLemmas.{first-one, items-one, nothing}
+use Rattle.rustc_literal_escaper.specs.means.Elements.{front, front_by, item_at, items_from, one, place, raw_front}
+use Rattle.rustc_literal_escaper.specs.Items.{elements_in, is_plain, StandsForItself}
+use Rattle.rustc_literal_escaper.proofs.ItemLemmas.{first-one}
+use Rattle.rustc_literal_escaper.specs.laws.Elements.{items-one, nothing}
 
 pub front_by-plain : (raw : Bool) (c : ℕ) (s : List ℕ) → is_plain raw c ≡ true → front_by raw c s ≡ one (Plain c, s)
 unfolding front raw_front

@@ -12,11 +12,13 @@ use Rattle.std.proofs.lemmas.Grind.{common_steps}
 use Rattle.rustc_literal_escaper.specs.declared.element.Element.{Element}
 use Rattle.rustc_literal_escaper.specs.declared.element.Element.TheVariants.{Byte, Plain, Unicode}
 use Rattle.rustc_literal_escaper.specs.declared.error.EscapeError.{EscapeError}
-use Rattle.rustc_literal_escaper.specs.Elements.{front, StartsWithOne}
-use Rattle.rustc_literal_escaper.specs.Escape.{braced, escape, hex, is_hex}
+use Rattle.rustc_literal_escaper.specs.means.Elements.{front, StartsWithOne}
+use Rattle.rustc_literal_escaper.specs.means.Escape.{braced, escape, hex}
+use Rattle.rustc_literal_escaper.specs.Grammar.{is_hex}
 use Rattle.rustc_literal_escaper.specs.Meaning.{char_of}
-use Rattle.rustc_literal_escaper.specs.RoundTrip.{CharComesBack}
-use Rattle.rustc_literal_escaper.specs.Single.{StartsWithSingle}
+use Rattle.rustc_literal_escaper.specs.Written.{CharComesBack}
+use Rattle.rustc_literal_escaper.specs.means.Single.{StartsWithSingle}
+use Rattle.rustc_literal_escaper.proofs.AnswerLemmas.{char_literal-is}
 use Rattle.rustc_literal_escaper.proofs.DigitLemmas.{left_at, left_at-brace, left_at-digit, left_at-start, with_digit}
 use Rattle.rustc_literal_escaper.proofs.PlainLemmas.{front_by-plain}
 use Rattle.rustc_literal_escaper.proofs.SingleLemmas.{literal-one}
@@ -137,4 +139,4 @@ char-spelled c is = or-spelled char_of (λ n. n) c (escape_unicode c) (λ l. rw 
 pub char_comes_back : CharComesBack
 char_comes_back c is =
     let w = char-spelled c is in
-    sym (literal-one char_of (escape_default c) [] w.element c (subst (λ (xs : List ℕ). StartsWithSingle xs w.element []) (append-nil (escape_default c)) (w.alone [])) w.means refl)
+    char_literal-is (escape_default c) ∙ sym (literal-one char_of (escape_default c) [] w.element c (subst (λ (xs : List ℕ). StartsWithSingle xs w.element []) (append-nil (escape_default c)) (w.alone [])) w.means refl)

@@ -5,8 +5,8 @@ use Rattle.std.specs.Str.{chars, encode_utf8_all, IsUtf8}
 use Rattle.std.proofs.lemmas.Bool.{and_parts}
 use Rattle.std.proofs.lemmas.Str.{encodes-append, encodes-chars, encodes-IsAscii}
 use Rattle.std.proofs.lemmas.Grind.{common_steps}
-use Rattle.rustc_literal_escaper.specs.Elements.{front_by, items_from, place}
-use Rattle.rustc_literal_escaper.specs.Plain.{is_simple, plain_items}
+use Rattle.rustc_literal_escaper.specs.means.Elements.{front_by, items_from, place}
+use Rattle.rustc_literal_escaper.specs.means.Plain.{is_simple, plain_items}
 use Rattle.rustc_literal_escaper.proofs.SimpleLemmas.{chars-simple, simple-ascii, simple-parts}
 use Rattle.rustc_literal_escaper.proofs.PlainLemmas.{items-plain}
 

@@ -4,7 +4,7 @@ use Rattle.std.specs.Char.{digit_value}
 use Rattle.std.proofs.lemmas.List.FromFn.{get_or-map-range_with_len}
 use Rattle.rustc_literal_escaper.specs.declared.element.Element.{Element}
 use Rattle.rustc_literal_escaper.specs.declared.escape.TheConstants.{DIGITS, SHORT}
-use Rattle.rustc_literal_escaper.specs.Escape.{short}
+use Rattle.rustc_literal_escaper.specs.means.Escape.{short}
 
 pub short_table : (c : ℕ) (none : Element) → c < 128 → get_or SHORT c none ≡ short c
 short_table c none small = get_or-map-range_with_len short 0 128 c c none small (omega arith)

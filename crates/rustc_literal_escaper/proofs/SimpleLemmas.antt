@@ -9,8 +9,9 @@ use Rattle.std.proofs.lemmas.Str.{chars-append, chars-IsAscii, IsCharBoundary-fr
 use Rattle.std.proofs.lemmas.Grind.{common_steps}
 use Rattle.rustc_literal_escaper.specs.declared.element.Element.TheVariants.{Plain}
 use Rattle.rustc_literal_escaper.specs.declared.mode.Mode.{Mode}
-use Rattle.rustc_literal_escaper.specs.Errors.{error_of}
-use Rattle.rustc_literal_escaper.specs.Plain.{is_fine, is_plain, is_simple, Passes}
+use Rattle.rustc_literal_escaper.specs.Meaning.{error_of}
+use Rattle.rustc_literal_escaper.specs.means.Plain.{is_fine, is_simple, Passes}
+use Rattle.rustc_literal_escaper.specs.Items.{is_plain}
 use Rattle.rustc_literal_escaper.proofs.LaneLemmas.{run_front}
 use Rattle.rustc_literal_escaper.proofs.WrittenLemmas.{all-weaker, is-ascii}
 

@@ -6,7 +6,7 @@ use Rattle.std.proofs.lemmas.Grind.{common_steps}
 use Rattle.rustc_literal_escaper.specs.declared.element.Element.{Element}
 use Rattle.rustc_literal_escaper.specs.declared.error.EscapeError.{EscapeError}
 use Rattle.rustc_literal_escaper.specs.declared.error.EscapeError.TheVariants.{MoreThanOneChar}
-use Rattle.rustc_literal_escaper.specs.Single.{alone, literal, StartsWithSingle}
+use Rattle.rustc_literal_escaper.specs.means.Single.{alone, literal, StartsWithSingle}
 
 module _ {U : Type 0} (meaning : Element → Result U EscapeError) where
   -- what the literal stands for, by its first element

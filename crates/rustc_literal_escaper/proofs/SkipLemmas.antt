@@ -12,9 +12,11 @@ use Rattle.std.proofs.lemmas.Grind.{common_steps}
 use Rattle.memchr.specs.Find.{is_byte, is_byte3, IsFirstByte}
 use Rattle.rustc_literal_escaper.specs.declared.element.Element.TheVariants.{Plain}
 use Rattle.rustc_literal_escaper.specs.declared.mode.Mode.{Mode}
-use Rattle.rustc_literal_escaper.specs.Elements.{Item, front_by, items_from}
-use Rattle.rustc_literal_escaper.specs.Errors.{error_of, errors_in}
-use Rattle.rustc_literal_escaper.specs.Plain.{is_plain, Passes}
+use Rattle.rustc_literal_escaper.specs.Grammar.{Item}
+use Rattle.rustc_literal_escaper.specs.means.Elements.{front_by, items_from}
+use Rattle.rustc_literal_escaper.specs.Meaning.{error_of, errors_in}
+use Rattle.rustc_literal_escaper.specs.Items.{is_plain}
+use Rattle.rustc_literal_escaper.specs.means.Plain.{Passes}
 use Rattle.rustc_literal_escaper.proofs.PlainLemmas.{items-plain}
 
 -- where nothing is wrong with them, the errors are those of what is left

@@ -16,14 +16,15 @@ use Rattle.rustc_literal_escaper.specs.declared.element.Element.{Element}
 use Rattle.rustc_literal_escaper.specs.declared.error.EscapeError.{EscapeError}
 use Rattle.rustc_literal_escaper.specs.declared.element.Element.TheVariants.{Plain, Unicode}
 use Rattle.rustc_literal_escaper.specs.declared.mode.Mode.{Mode}
-use Rattle.rustc_literal_escaper.specs.Elements.{front_by, items_from, items_of, raw_element}
-use Rattle.rustc_literal_escaper.specs.Errors.{errors_in, errors_of, is_raw, is_single}
-use Rattle.rustc_literal_escaper.specs.Plain.{is_simple, Passes}
-use Rattle.rustc_literal_escaper.specs.Escape.{braced, escape, short}
-use Rattle.rustc_literal_escaper.specs.Single.{alone, literal, single, StartsWithSingle}
+use Rattle.rustc_literal_escaper.specs.means.Elements.{front_by, items_from, raw_element}
+use Rattle.rustc_literal_escaper.specs.Answers.{items_of}
+use Rattle.rustc_literal_escaper.specs.Meaning.{errors_in, is_raw, is_single}
+use Rattle.rustc_literal_escaper.specs.means.Plain.{is_simple, Passes}
+use Rattle.rustc_literal_escaper.specs.means.Escape.{braced, escape, short}
+use Rattle.rustc_literal_escaper.specs.means.Single.{StartsWithSingle, alone, literal, read_errors, single}
 use Rattle.rustc_literal_escaper.proofs.DigitLemmas.{with_digit, left_at, left_at-brace, left_at-digit, left_at-start, hex-yes}
-use Rattle.rustc_literal_escaper.proofs.ErrorLemmas.{errors_of-strings}
-use Rattle.rustc_literal_escaper.proofs.ItemLemmas.{nothing}
+use Rattle.rustc_literal_escaper.proofs.ErrorLemmas.{read_errors-strings}
+use Rattle.rustc_literal_escaper.specs.laws.Elements.{nothing}
 use Rattle.rustc_literal_escaper.proofs.SimpleLemmas.{simple-fine}
 use Rattle.rustc_literal_escaper.proofs.SkipLemmas.{errors-skip}
 use Rattle.rustc_literal_escaper.proofs.SingleLemmas.{literal-starts}
@@ -115,10 +116,10 @@ raw_wide c e = grind (arith, common_steps, not-true, nat_tests)
 pub raw_double : (mode : Mode) → true ≡ is_raw mode → false ≡ is_single mode
 raw_double mode e = grind (arith, common_steps)
 
-pub raw_simple : (mode : Mode) (src left : List ℕ) → true ≡ is_raw mode → Passes (is_simple true) (chars src) (chars left) → length left ≡ 0 → errors_of mode src ≡ []
+pub raw_simple : (mode : Mode) (src left : List ℕ) → true ≡ is_raw mode → Passes (is_simple true) (chars src) (chars left) → length left ≡ 0 → read_errors mode src ≡ []
 raw_simple mode src left raw passes none =
     let empty : chars left ≡ [] = ap chars (nil_from_length left none) ∙ chars-nil in
-    sym (errors_of-strings mode src (items_of true src) (raw_double mode raw) (ap (λ (r : Bool). items_of r src) raw))
+    sym (read_errors-strings mode src (items_of true src) (raw_double mode raw) (ap (λ (r : Bool). items_of r src) raw))
     ∙ (sym (errors-skip mode true (is_simple true) (simple-fine mode true) (length src) None (chars src) (chars left) passes)
     ∙ (ap (λ (xs : List ℕ). errors_in mode (items_from (front_by true) (length src) xs)) empty ∙ ap (errors_in mode) (nothing (front_by true) (length src))))
 

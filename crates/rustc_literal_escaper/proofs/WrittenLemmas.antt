@@ -16,11 +16,11 @@ use Rattle.std.proofs.lemmas.Str.Ascii.{IsAscii-from_reads}
 use Rattle.std.proofs.lemmas.Grind.{common_steps}
 use Rattle.rustc_literal_escaper.specs.declared.element.Element.{Element}
 use Rattle.rustc_literal_escaper.specs.declared.error.EscapeError.{EscapeError}
-use Rattle.rustc_literal_escaper.specs.Elements.{Item, front, items_from, StartsWithOne}
-use Rattle.rustc_literal_escaper.specs.Meaning.{byte_of, char_of, unit_of}
-use Rattle.rustc_literal_escaper.specs.Units.{unit_of_byte}
+use Rattle.rustc_literal_escaper.specs.Grammar.{Item}
+use Rattle.rustc_literal_escaper.specs.means.Elements.{front, items_from, StartsWithOne}
+use Rattle.rustc_literal_escaper.specs.Meaning.{byte_of, char_of, unit_of, unit_of_byte}
 use Rattle.rustc_literal_escaper.specs.Written.{Grows, StandsFor, written_bytes, written_text}
-use Rattle.rustc_literal_escaper.proofs.ItemLemmas.{items-cons, nothing}
+use Rattle.rustc_literal_escaper.specs.laws.Elements.{items-cons, nothing}
 use Rattle.rustc_literal_escaper.proofs.RoundTripLemmas.{IsSpelled, byte-spelled, char-spelled}
 
 -- what each element passes

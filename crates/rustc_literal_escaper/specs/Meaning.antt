@@ -1,12 +1,16 @@
--- What an element stands for, in each kind of literal.
-use Rattle.std.specs.Prelude.{ℕ, ◌==◌, nat_lt, if◌then◌else◌, Result, Ok, Err}
+-- What an element stands for, and what is wrong with it, in each kind of literal.
+use Rattle.std.specs.Prelude.{ℕ, ◌==◌, nat_lt, Bool, true, false, if◌then◌else◌, List, [], ◌∷◌, codes, Option, Some, None, Result, Ok, Err}
+use Rattle.std.specs.Result.{result_err}
+use Rattle.std.specs.declared.ops.Range.{Range}
 use Rattle.rustc_literal_escaper.specs.declared.element.Element.{Element}
 use Rattle.rustc_literal_escaper.specs.declared.element.Element.TheVariants.{Plain, Byte, Unicode, Fault}
 use Rattle.rustc_literal_escaper.specs.declared.error.EscapeError.{EscapeError}
-use Rattle.rustc_literal_escaper.specs.declared.error.EscapeError.TheVariants.{OutOfRangeHexEscape, LoneSurrogateUnicodeEscape, OutOfRangeUnicodeEscape, UnicodeEscapeInByte, NonAsciiCharInByte, NulInCStr}
+use Rattle.rustc_literal_escaper.specs.declared.error.EscapeError.TheVariants.{OutOfRangeHexEscape, LoneSurrogateUnicodeEscape, OutOfRangeUnicodeEscape, UnicodeEscapeInByte, NonAsciiCharInByte, NulInCStr, UnskippedWhitespaceWarning, MultipleSkippedLinesWarning}
+use Rattle.rustc_literal_escaper.specs.declared.mode.Mode.{Mode}
+use Rattle.rustc_literal_escaper.specs.declared.mode.Mode.TheVariants.{Char, Byte as ByteMode, Str, RawStr, ByteStr, RawByteStr, CStr, RawCStr}
 use Rattle.rustc_literal_escaper.specs.declared.unit.MixedUnit.{MixedUnit}
-use Rattle.rustc_literal_escaper.specs.declared.unit.MixedUnit.TheVariants.{Char}
-use Rattle.rustc_literal_escaper.specs.Units.{unit_of_byte, unit_or_nul}
+use Rattle.rustc_literal_escaper.specs.declared.unit.MixedUnit.TheVariants.{Char as CharUnit, HighByte}
+use Rattle.rustc_literal_escaper.specs.Grammar.{Error, Item}
 
 -- the character with this number, or an error: U+D800 to U+DFFF are surrogates, and no character is greater than
 -- U+10FFFF
@@ -27,13 +31,21 @@ byte_of (Byte b) = Ok b
 byte_of (Unicode n) = Err UnicodeEscapeInByte
 byte_of (Fault error) = Err error
 
+-- a byte of ASCII is a character
+abbrev pub unit_of_byte : ℕ → MixedUnit
+unit_of_byte b = if nat_lt b 128 then CharUnit b else HighByte b
+
+-- no unit stands for 0
+abbrev pub unit_or_nul : ℕ → MixedUnit → Result MixedUnit EscapeError
+unit_or_nul n unit = if n == 0 then Err NulInCStr else Ok unit
+
 abbrev pub unit_of_scalar : Result ℕ EscapeError → Result MixedUnit EscapeError
-unit_of_scalar (Ok c) = unit_or_nul c (Char c)
+unit_of_scalar (Ok c) = unit_or_nul c (CharUnit c)
 unit_of_scalar (Err error) = Err error
 
 -- in a C string, where everything is allowed except U+0000 and the byte 0
 abbrev pub unit_of : Element → Result MixedUnit EscapeError
-unit_of (Plain c) = unit_or_nul c (Char c)
+unit_of (Plain c) = unit_or_nul c (CharUnit c)
 unit_of (Byte b) = unit_or_nul b (unit_of_byte b)
 unit_of (Unicode n) = unit_of_scalar (scalar_of n)
 unit_of (Fault error) = Err error
@@ -45,3 +57,55 @@ not_nul (Err error) = Err error
 -- in a raw C string, which has no escapes
 abbrev pub raw_unit_of : Element → Result ℕ EscapeError
 raw_unit_of element = not_nul (char_of element)
+
+-- ---- the kinds of literal
+
+-- the prefix of a literal, without the `r` of a raw string
+abbrev pub prefix_of : Mode → List ℕ
+prefix_of Char = codes ""
+prefix_of Str = codes ""
+prefix_of RawStr = codes ""
+prefix_of ByteMode = codes "b"
+prefix_of ByteStr = codes "b"
+prefix_of RawByteStr = codes "b"
+prefix_of CStr = codes "c"
+prefix_of RawCStr = codes "c"
+
+abbrev pub is_single : Mode → Bool
+is_single Char = true
+is_single ByteMode = true
+is_single mode = false
+
+abbrev pub is_raw : Mode → Bool
+is_raw RawStr = true
+is_raw RawByteStr = true
+is_raw RawCStr = true
+is_raw mode = false
+
+-- ---- errors
+
+-- all but the two warnings
+abbrev pub is_fatal : EscapeError → Bool
+is_fatal UnskippedWhitespaceWarning = false
+is_fatal MultipleSkippedLinesWarning = false
+is_fatal error = true
+
+-- the error of an element in a literal of this kind, if it has one
+abbrev pub error_of : Mode → Element → Option EscapeError
+error_of Char element = result_err (char_of element)
+error_of Str element = result_err (char_of element)
+error_of RawStr element = result_err (char_of element)
+error_of ByteMode element = result_err (byte_of element)
+error_of ByteStr element = result_err (byte_of element)
+error_of RawByteStr element = result_err (byte_of element)
+error_of CStr element = result_err (unit_of element)
+error_of RawCStr element = result_err (raw_unit_of element)
+
+abbrev pub put : Range ℕ → Option EscapeError → List Error → List Error
+put range None errors = errors
+put range (Some error) errors = (range, error) ∷ errors
+
+-- the errors of a list of items, in order
+abbrev pub errors_in : Mode → List Item → List Error
+errors_in mode [] = []
+errors_in mode (item ∷ items) = put item.0 (error_of mode item.1) (errors_in mode items)

@@ -1,11 +1,20 @@
--- Texts and bytes, escaped so that they can be put between double quotes.
-use Rattle.std.specs.Prelude.{◌≡◌, ℕ, false, List, ◌++◌, map, Result, Ok}
+-- Escaping: what is written, and that it stands for what was escaped.
+use Rattle.std.specs.Prelude.{◌≡◌, ℕ, ◌<◌, false, List, ◌++◌, map, Result, Ok}
+use Rattle.std.specs.Char.{IsScalar}
 use Rattle.std.specs.Char.Escape.{escape_ascii, escape_default}
 use Rattle.std.specs.List.{flat_map}
 use Rattle.std.specs.Str.{chars}
 use Rattle.rustc_literal_escaper.specs.declared.element.Element.{Element}
 use Rattle.rustc_literal_escaper.specs.declared.error.EscapeError.{EscapeError}
-use Rattle.rustc_literal_escaper.specs.Elements.{items_of}
+use Rattle.rustc_literal_escaper.specs.Answers.{byte_literal, char_literal, items_of}
+
+-- what `char::escape_default` writes of a character stands for it
+abbrev pub CharComesBack : Type 0
+CharComesBack = (c : ℕ) → IsScalar c → char_literal (escape_default c) ≡ Ok c
+
+-- what `u8::escape_ascii` writes of a byte stands for it
+abbrev pub ByteComesBack : Type 0
+ByteComesBack = (b : ℕ) → b < 256 → byte_literal (escape_ascii b) ≡ Ok b
 
 -- a text, each of whose characters is escaped as by `char::escape_default`
 abbrev pub written_text : List ℕ → List ℕ

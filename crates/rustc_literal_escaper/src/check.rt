@@ -4,8 +4,10 @@ ghost use Rattle.std.specs.List.{FoldsTo};
 ghost use Rattle.std.specs.Option.{option_to_list};
 ghost use Rattle.std.specs.Str.{chars, IsUtf8};
 ghost use Rattle.rustc_literal_escaper.specs.declared.mode.Mode.{Mode};
-ghost use Rattle.rustc_literal_escaper.specs.Elements.{front_by, item_at, items_from, line_end};
-ghost use Rattle.rustc_literal_escaper.specs.Errors as spec;
+ghost use Rattle.rustc_literal_escaper.specs.Answers.{errors_of};
+ghost use Rattle.rustc_literal_escaper.specs.Meaning as spec;
+ghost use Rattle.rustc_literal_escaper.specs.means.Elements.{front_by, item_at, items_from, line_end};
+ghost use Rattle.rustc_literal_escaper.specs.means.Single as means;
 
 use crate::element::Element;
 use crate::elements::{Elements, takes_all};
@@ -29,7 +31,7 @@ pub fn check_for_errors<F: FnMut(Range<usize>, EscapeError)>(
 )
     requires callable { F.IsAlwaysCallable error_callback }
     ensures calls { (last : F) × FoldsTo (λ f error g. F.step f error.0 error.1 tt g)
-        error_callback (spec.errors_of mode src.now) last }
+        error_callback (errors_of mode src.now) last }
 {
     each_error(src, mode, &mut error_callback);
 }
@@ -42,7 +44,7 @@ pub fn check_for_errors<F: FnMut(Range<usize>, EscapeError)>(
 fn each_error<F: FnMut(Range<usize>, EscapeError)>(src: &str, mode: Mode, callback: &mut F)
     requires callable { F.IsAlwaysCallable callback.old }
     ensures calls { FoldsTo (λ f error g. F.step f error.0 error.1 tt g)
-        callback.old (spec.errors_of mode src.now) callback.new }
+        callback.old (means.read_errors mode src.now) callback.new }
 {
     match mode {
         Mode::Char | Mode::Byte => check_single(src, mode, callback),
@@ -60,7 +62,7 @@ fn check_raw<F: FnMut(Range<usize>, EscapeError)>(src: &str, mode: Mode, callbac
     requires callable { F.IsAlwaysCallable callback.old }
     requires raw { true ≡ spec.is_raw mode }
     ensures calls { FoldsTo (λ f error g. F.step f error.0 error.1 tt g)
-        callback.old (spec.errors_of mode src.now) callback.new }
+        callback.old (means.read_errors mode src.now) callback.new }
 {
     if !past_last_simple(src, true).is_empty() {
         check_double(src, mode, callback);
@@ -75,7 +77,7 @@ fn check_double<F: FnMut(Range<usize>, EscapeError)>(src: &str, mode: Mode, call
     requires callable { F.IsAlwaysCallable callback.old }
     requires double { false ≡ spec.is_single mode }
     ensures calls { FoldsTo (λ f error g. F.step f error.0 error.1 tt g)
-        callback.old (spec.errors_of mode src.now) callback.new }
+        callback.old (means.read_errors mode src.now) callback.new }
 {
     match mode {
         Mode::Str => check_string(src, mode, callback),
@@ -100,7 +102,7 @@ pub(crate) fn is_raw(mode: Mode) -> bool
 fn check_single<F: FnMut(Range<usize>, EscapeError)>(src: &str, mode: Mode, callback: &mut F)
     requires callable { F.IsAlwaysCallable callback.old }
     ensures calls { FoldsTo (λ f error g. F.step f error.0 error.1 tt g)
-        callback.old (option_to_list (spec.single_error (length src.now) mode (chars src.now))) callback.new }
+        callback.old (option_to_list (means.single_error (length src.now) mode (chars src.now))) callback.new }
 {
     if let Some((range, error)) = single_error(src, mode) {
         callback(range, error);
@@ -112,7 +114,7 @@ fn check_single<F: FnMut(Range<usize>, EscapeError)>(src: &str, mode: Mode, call
 /// `src` is the text between the quotes. The place goes from 0 to the end of the character that shows the error.
 #[inline(always)]
 pub(crate) fn single_error(src: &str, mode: Mode) -> Option<(Range<usize>, EscapeError)>
-    ensures { result ≡ spec.single_error (length src.now) mode (chars src.now) }
+    ensures { result ≡ means.single_error (length src.now) mode (chars src.now) }
 {
     if let Some(element) = single::whole(src) {
         return whole_error(element, src.len(), mode);
@@ -123,7 +125,7 @@ pub(crate) fn single_error(src: &str, mode: Mode) -> Option<(Range<usize>, Escap
 /// Returns the error of an element that is the whole text of `total` bytes.
 #[inline(always)]
 fn whole_error(element: Element, total: usize, mode: Mode) -> Option<(Range<usize>, EscapeError)>
-    ensures { result ≡ spec.alone_error total (spec.error_of mode element) [] }
+    ensures { result ≡ means.alone_error total (spec.error_of mode element) [] }
 {
     let error = element.error_in(mode)?;
     Some((0..total, error))
@@ -132,7 +134,7 @@ fn whole_error(element: Element, total: usize, mode: Mode) -> Option<(Range<usiz
 /// Does what [`single_error`] does, and stays a call.
 #[inline(never)]
 fn other_error(src: &str, mode: Mode) -> Option<(Range<usize>, EscapeError)>
-    ensures { result ≡ spec.single_error (length src.now) mode (chars src.now) }
+    ensures { result ≡ means.single_error (length src.now) mode (chars src.now) }
 {
     let Some((c, tail)) = split_first(src) else {
         return Some((0..0, EscapeError::ZeroChars));
@@ -157,7 +159,7 @@ fn alone_error(
     total: usize,
 ) -> Option<(Range<usize>, EscapeError)>
     requires fits { length left.now ≤ total }
-    ensures { result ≡ spec.alone_error total error (chars left.now) }
+    ensures { result ≡ means.alone_error total error (chars left.now) }
 {
     if let Some(error) = error {
         return Some((0..total - left.len(), error));
@@ -174,7 +176,7 @@ fn check_string<F: FnMut(Range<usize>, EscapeError)>(src: &str, mode: Mode, call
     requires callable { F.IsAlwaysCallable callback.old }
     requires double { false ≡ spec.is_single mode }
     ensures calls { FoldsTo (λ f error g. F.step f error.0 error.1 tt g)
-        callback.old (spec.errors_of mode src.now) callback.new }
+        callback.old (means.read_errors mode src.now) callback.new }
 {
     if is_raw(mode) {
         check_elements(Elements::new_raw(src), mode, callback);
@@ -187,7 +189,7 @@ fn check_string<F: FnMut(Range<usize>, EscapeError)>(src: &str, mode: Mode, call
 ///
 /// It does what [`Elements::next_fault`] does, but keeps no warning for later, and the compiler makes it shorter.
 #[inline(always)]
-#[tactic(auto, using(crate::proofs::ItemLemmas::nothing))]
+#[tactic(auto, using(crate::specs::laws::Elements::nothing))]
 fn check_escaped<F: FnMut(Range<usize>, EscapeError)>(
     rest: &str,
     total: usize,

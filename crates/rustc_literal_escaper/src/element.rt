@@ -1,7 +1,6 @@
 //! The elements of a literal.
 ghost use Rattle.std.specs.Prelude.{◌≡◌};
-ghost use Rattle.rustc_literal_escaper.specs.Errors.{error_of};
-ghost use Rattle.rustc_literal_escaper.specs.Meaning.{char_of, byte_of, unit_of, raw_unit_of, scalar_of};
+ghost use Rattle.rustc_literal_escaper.specs.Meaning.{byte_of, char_of, error_of, raw_unit_of, scalar_of, unit_of};
 
 use crate::error::EscapeError;
 use crate::mode::Mode;

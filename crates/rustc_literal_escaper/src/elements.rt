@@ -1,11 +1,9 @@
 //! The elements of the text between double quotes.
 ghost use Rattle.std.specs.Prelude.{◌≡◌, ◌≤◌, ◌∷◌, ℕ, None, true, false, length, MatchOption};
 ghost use Rattle.std.specs.Iterator.{at_most};
-ghost use Rattle.rustc_literal_escaper.specs.Elements.{items_of, TakesFirst};
-ghost use Rattle.rustc_literal_escaper.specs.Errors.{error_of, errors_in};
-ghost use Rattle.rustc_literal_escaper.specs.Places.{ArePlaced};
-ghost use Rattle.rustc_literal_escaper.specs.Plain.{StandsForItself};
-ghost use Rattle.rustc_literal_escaper.specs.Rebuilt.{IsRebuilt};
+ghost use Rattle.rustc_literal_escaper.specs.Answers.{items_of};
+ghost use Rattle.rustc_literal_escaper.specs.Items.{ArePlaced, IsRebuilt, StandsForItself, TakesFirst};
+ghost use Rattle.rustc_literal_escaper.specs.Meaning.{error_of, errors_in};
 
 use crate::element::Element;
 use crate::error::EscapeError;
@@ -35,7 +33,8 @@ impl<'a> Model for Elements<'a> {
     ghost use Rattle.std.specs.Prelude.{List, ◌++◌, ◌≤◌, length};
     ghost use Rattle.std.specs.Option.{option_to_list};
     ghost use Rattle.std.specs.Str.{chars};
-    ghost use Rattle.rustc_literal_escaper.specs.Elements.{Item, items_from, front_by};
+    ghost use Rattle.rustc_literal_escaper.specs.Grammar.{Item};
+    ghost use Rattle.rustc_literal_escaper.specs.means.Elements.{items_from, front_by};
 
     ghost Value = { List Item };
 

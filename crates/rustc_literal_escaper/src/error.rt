@@ -1,6 +1,6 @@
 //! The errors and warnings of a literal.
 ghost use Rattle.std.specs.Prelude.{◌≡◌};
-ghost use Rattle.rustc_literal_escaper.specs.Fatal as spec;
+ghost use Rattle.rustc_literal_escaper.specs.Meaning as spec;
 
 /// An error in a literal, or a warning about it.
 #[derive(Clone, Copy, Debug, PartialEq, Eq)]

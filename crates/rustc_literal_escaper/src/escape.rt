@@ -3,8 +3,8 @@ ghost use Rattle.std.specs.Prelude.{◌≡◌, ◌≤◌, ◌<◌, ◌^◌, ◌+
 ghost use Rattle.std.specs.Char.{digit_value, is_ascii};
 ghost use Rattle.std.specs.List.{list_all};
 ghost use Rattle.std.specs.Str.{chars, IsUtf8};
-ghost use Rattle.rustc_literal_escaper.specs.Escape as spec;
-ghost use Rattle.rustc_literal_escaper.specs.Escape.{closed_at_run};
+ghost use Rattle.rustc_literal_escaper.specs.means.Escape as spec;
+ghost use Rattle.rustc_literal_escaper.specs.means.Escape.{closed_at_run};
 
 use crate::element::Element;
 use crate::element::Element::{Byte, Fault};

@@ -1,8 +1,8 @@
 //! The errors and warnings of a literal, one after another.
 ghost use Rattle.std.specs.Prelude.{◌≡◌, ◌++◌, length};
 ghost use Rattle.std.specs.Iterator.{at_most};
-ghost use Rattle.rustc_literal_escaper.specs.Elements.{TakesFirst};
-ghost use Rattle.rustc_literal_escaper.specs.Errors as spec;
+ghost use Rattle.rustc_literal_escaper.specs.Answers.{errors_of};
+ghost use Rattle.rustc_literal_escaper.specs.Items.{TakesFirst};
 
 use crate::check::{is_raw, single_error};
 use crate::elements::{Elements, elements_of};
@@ -33,7 +33,8 @@ pub struct Faults<'a> {
 impl<'a> Model for Faults<'a> {
     ghost use Rattle.std.specs.Prelude.{List, ◌++◌};
     ghost use Rattle.std.specs.Option.{option_to_list};
-    ghost use Rattle.rustc_literal_escaper.specs.Errors.{errors_in, Error};
+    ghost use Rattle.rustc_literal_escaper.specs.Meaning.{errors_in};
+    ghost use Rattle.rustc_literal_escaper.specs.Grammar.{Error};
 
     ghost Value = { List Error };
 
@@ -44,7 +45,7 @@ impl<'a> Faults<'a> {
     /// Returns an iterator over the errors and warnings of a literal of this kind. `src` is the text between the
     /// quotes.
     pub fn new(src: &'a str, mode: Mode) -> Faults<'a>
-        ensures { result ≡ spec.errors_of mode src.now }
+        ensures { result ≡ errors_of mode src.now }
     {
         if !mode.in_double_quotes() {
             return Faults {

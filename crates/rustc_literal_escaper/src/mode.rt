@@ -1,7 +1,6 @@
 //! The kinds of literal that have escapes or could have them.
 ghost use Rattle.std.specs.Prelude.{◌≡◌, not};
-ghost use Rattle.rustc_literal_escaper.specs.Errors.{is_single};
-ghost use Rattle.rustc_literal_escaper.specs.Mode.{prefix_of};
+ghost use Rattle.rustc_literal_escaper.specs.Meaning.{is_single, prefix_of};
 
 /// The kind of a literal.
 ///

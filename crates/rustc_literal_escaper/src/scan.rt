@@ -2,7 +2,8 @@
 ghost use Rattle.std.specs.Prelude.{◌≡◌, ◌<◌, ◌≤◌, ℕ, List, true, false, ◌∷◌, [], length, IfSome, MatchOption};
 ghost use Rattle.std.specs.Char.{is_ascii};
 ghost use Rattle.std.specs.Str.{chars, IsUtf8};
-ghost use Rattle.rustc_literal_escaper.specs.Plain.{is_plain, Passes};
+ghost use Rattle.rustc_literal_escaper.specs.Items.{is_plain};
+ghost use Rattle.rustc_literal_escaper.specs.means.Plain.{Passes};
 
 use memchr::{memchr, memchr3};
 

@@ -3,7 +3,7 @@ ghost use Rattle.std.specs.Prelude.{◌≡◌, ◌≤◌, ◌+◌, ◌++◌, tru
 ghost use Rattle.std.specs.List.{list_all, prefix_len};
 ghost use Rattle.std.specs.Simd.Lanes.{mask_l};
 ghost use Rattle.std.specs.Str.{chars, IsUtf8};
-ghost use Rattle.rustc_literal_escaper.specs.Plain as spec;
+ghost use Rattle.rustc_literal_escaper.specs.means.Plain as spec;
 
 use std::simd::prelude::*;
 

@@ -1,9 +1,9 @@
 //! Reads characters and bytes, the literals between single quotes.
 ghost use Rattle.std.specs.Prelude.{◌≡◌, ◌≤◌, ℕ, List, [], true, IfSome, length};
 ghost use Rattle.std.specs.Str.{chars, IsUtf8};
-ghost use Rattle.rustc_literal_escaper.specs.RoundTrip.{ByteComesBack, CharComesBack};
-ghost use Rattle.rustc_literal_escaper.specs.Single as spec;
-ghost use Rattle.rustc_literal_escaper.specs.Single.{byte_literal, char_literal};
+ghost use Rattle.rustc_literal_escaper.specs.Answers.{byte_literal, char_literal};
+ghost use Rattle.rustc_literal_escaper.specs.Written.{ByteComesBack, CharComesBack};
+ghost use Rattle.rustc_literal_escaper.specs.means.Single as spec;
 
 use crate::element::Element;
 use crate::error::EscapeError;

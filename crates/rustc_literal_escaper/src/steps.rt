@@ -3,10 +3,11 @@ ghost use Rattle.std.specs.Prelude.{◌≡◌, ◌≤◌, ◌<◌, ◌++◌, ◌
 ghost use Rattle.std.specs.List.{list_any};
 ghost use Rattle.std.specs.Option.{option_to_list};
 ghost use Rattle.std.specs.Str.{chars, IsUtf8};
-ghost use Rattle.rustc_literal_escaper.specs.Elements as spec;
-ghost use Rattle.rustc_literal_escaper.specs.Plain as plain;
-ghost use Rattle.rustc_literal_escaper.specs.Runs.{front_run, past_run};
-ghost use Rattle.rustc_literal_escaper.specs.Told.{told_by};
+ghost use Rattle.rustc_literal_escaper.specs.Grammar as grammar;
+ghost use Rattle.rustc_literal_escaper.specs.Items.{is_plain as plain};
+ghost use Rattle.rustc_literal_escaper.specs.means.Elements as spec;
+ghost use Rattle.rustc_literal_escaper.specs.means.Elements.{told_by};
+ghost use Rattle.rustc_literal_escaper.specs.means.Escape.{front_run, past_run};
 
 use crate::element::Element;
 use crate::error::EscapeError;
@@ -51,7 +52,7 @@ pub(crate) fn advance(rest: &str, total: usize, raw: bool) -> Told<'_>
 /// Returns the items at the character `c`, which begins at the place `start`, before `tail`. `raw` says whether the
 /// string is a raw one.
 #[inline(always)]
-#[tactic(auto, unfolding(crate::specs::Elements::front, crate::specs::Elements::raw_front))]
+#[tactic(auto, unfolding(crate::specs::means::Elements::front, crate::specs::means::Elements::raw_front))]
 fn step_by(raw: bool, c: char, tail: &str, start: usize, total: usize) -> Told<'_>
     requires fits { length tail.now ≤ total }
     ensures told { told_by result
@@ -136,7 +137,7 @@ pub(crate) fn first_byte(rest: &str, total: usize, raw: bool) -> Option<((Range<
 ///
 /// Returns `None` if another element begins there.
 #[inline(always)]
-#[tactic(auto, unfolding(crate::specs::Elements::front))]
+#[tactic(auto, unfolding(crate::specs::means::Elements::front))]
 pub(crate) fn byte_at(c: char, tail: &str, raw: bool) -> Option<(u8, &str)>
     ensures { IfSome result (λ r.
         (spec.front_by raw c (chars tail.now) ≡ spec.one (Element.Byte r.0, chars r.1.now))
@@ -151,7 +152,7 @@ pub(crate) fn byte_at(c: char, tail: &str, raw: bool) -> Option<(u8, &str)>
 /// Returns whether a character is plain, in a raw string or in another.
 #[inline(always)]
 pub(crate) fn is_plain(c: char, raw: bool) -> bool
-    ensures { result ≡ plain.is_plain raw c }
+    ensures { result ≡ plain raw c }
 {
     if raw {
         c != '\r'
@@ -162,7 +163,7 @@ pub(crate) fn is_plain(c: char, raw: bool) -> bool
 
 /// Returns the element at the front, and the text after it, like [`first_item`].
 #[inline(always)]
-#[tactic(auto, unfolding(crate::specs::Elements::front, crate::specs::Elements::raw_front))]
+#[tactic(auto, unfolding(crate::specs::means::Elements::front, crate::specs::means::Elements::raw_front))]
 fn first_element(rest: &str, raw: bool) -> Option<(Element, &str)>
     ensures { IfSome result (λ r. spec.StartsWithOne raw (chars rest.now) r.0 (chars r.1.now)
         × IsUtf8 r.1.now × (length r.1.now < length rest.now)) }
@@ -184,7 +185,7 @@ fn first_element(rest: &str, raw: bool) -> Option<(Element, &str)>
 /// Returns the text after a line end that is skipped. `c` is the backslash before it, and `tail` is the text after
 /// that.
 #[inline(always)]
-#[tactic(auto, unfolding(crate::specs::Elements::front))]
+#[tactic(auto, unfolding(crate::specs::means::Elements::front))]
 pub(crate) fn line_at(c: char, tail: &str) -> Option<&str>
     ensures { MatchOption result (IsTrue (not (c == 92 && spec.begins_line (chars tail.now))))
         (λ r. (spec.front c (chars tail.now) ≡ spec.line_end (chars r.now))
@@ -200,7 +201,7 @@ pub(crate) fn line_at(c: char, tail: &str) -> Option<&str>
 ///
 /// Most elements are found before this is called, so it stays out of the loops.
 #[inline(never)]
-#[tactic(auto, unfolding(crate::specs::Elements::front))]
+#[tactic(auto, unfolding(crate::specs::means::Elements::front))]
 pub(crate) fn lone_element(c: char, tail: &str) -> (Element, &str)
     requires alone { not (c == 92 && spec.begins_line (chars tail.now)) ≡ true }
     ensures read { spec.front c (chars tail.now) ≡ spec.one (result.0, chars result.1.now) }
@@ -306,8 +307,8 @@ fn line_end(line: &str, start: usize, total: usize) -> Told<'_>
 #[inline(always)]
 pub(crate) fn pass_over(line: &str) -> (bool, &str)
     ensures newline { result.0
-        ≡ list_any spec.is_newline (front_run spec.is_passed_over (chars line.now)) }
-    ensures left { chars result.1.now ≡ past_run spec.is_passed_over (chars line.now) }
+        ≡ list_any grammar.is_newline (front_run grammar.is_passed_over (chars line.now)) }
+    ensures left { chars result.1.now ≡ past_run grammar.is_passed_over (chars line.now) }
     ensures shorter { length result.1.now ≤ length line.now }
     ensures text { IsUtf8 result.1.now }
 {
@@ -323,11 +324,11 @@ pub(crate) fn pass_over(line: &str) -> (bool, &str)
 #[tactic(auto, using(crate::proofs::PlaceLemmas::place_lemmas))]
 fn past_blanks(line: &str) -> &str
     ensures newline { spec.begins_line (chars result.now)
-        ≡ list_any spec.is_newline (front_run spec.is_passed_over (chars line.now)) }
-    ensures past { past_run spec.is_passed_over (chars result.now)
-        ≡ past_run spec.is_passed_over (chars line.now) }
+        ≡ list_any grammar.is_newline (front_run grammar.is_passed_over (chars line.now)) }
+    ensures past { past_run grammar.is_passed_over (chars result.now)
+        ≡ past_run grammar.is_passed_over (chars line.now) }
     ensures stops { spec.begins_line (chars result.now) ≡ false
-        → chars result.now ≡ past_run spec.is_passed_over (chars line.now) }
+        → chars result.now ≡ past_run grammar.is_passed_over (chars line.now) }
     ensures shorter { length result.now ≤ length line.now }
     ensures text { IsUtf8 result.now }
 {
@@ -345,7 +346,7 @@ fn past_blanks(line: &str) -> &str
 #[inline(always)]
 #[tactic(auto, using(crate::proofs::PlaceLemmas::place_lemmas))]
 fn past_space(rest: &str) -> &str
-    ensures left { chars result.now ≡ past_run spec.is_passed_over (chars rest.now) }
+    ensures left { chars result.now ≡ past_run grammar.is_passed_over (chars rest.now) }
     ensures shorter { length result.now ≤ length rest.now }
     ensures text { IsUtf8 result.now }
 {
@@ -361,8 +362,8 @@ fn past_space(rest: &str) -> &str
 /// The first byte determines that, so it puts no character of several bytes together.
 #[inline(always)]
 fn split_passed(rest: &str) -> Option<(char, &str)>
-    ensures { MatchOption result (front_run spec.is_passed_over (chars rest.now) ≡ [])
-        (λ r. (chars rest.now ≡ r.0 ∷ chars r.1.now) × (spec.is_passed_over r.0 ≡ true)
+    ensures { MatchOption result (front_run grammar.is_passed_over (chars rest.now) ≡ [])
+        (λ r. (chars rest.now ≡ r.0 ∷ chars r.1.now) × (grammar.is_passed_over r.0 ≡ true)
         × (length r.1.now < length rest.now) × IsUtf8 r.1.now) }
 {
     let Some(byte) = rest.as_bytes().first() else {
@@ -377,7 +378,7 @@ fn split_passed(rest: &str) -> Option<(char, &str)>
 /// Returns whether this is white space that a backslash at the end of a line skips.
 #[inline(always)]
 fn is_passed_over(c: char) -> bool
-    ensures { result ≡ spec.is_passed_over c }
+    ensures { result ≡ grammar.is_passed_over c }
 {
     matches!(c, '\n' | '\r' | '\t' | ' ')
 }

@@ -3,9 +3,10 @@ ghost use Rattle.std.specs.Prelude.{◌≡◌, ◌≤◌, true, false, length, m
 ghost use Rattle.std.specs.List.{FoldsTo, list_all};
 ghost use Rattle.std.specs.Option.{option_to_list};
 ghost use Rattle.std.specs.Str.{chars, IsUtf8};
-ghost use Rattle.rustc_literal_escaper.specs.Elements.{front_by, item_at, items_from, items_of, line_end};
+ghost use Rattle.rustc_literal_escaper.specs.Answers.{items_of};
 ghost use Rattle.rustc_literal_escaper.specs.Meaning.{byte_of, char_of, raw_unit_of, unit_of};
-ghost use Rattle.rustc_literal_escaper.specs.Plain.{is_fine, plain_items};
+ghost use Rattle.rustc_literal_escaper.specs.means.Elements.{front_by, item_at, items_from, line_end};
+ghost use Rattle.rustc_literal_escaper.specs.means.Plain.{is_fine, plain_items};
 
 use crate::element::Element;
 use crate::error::EscapeError;
@@ -120,8 +121,8 @@ pub(crate) trait Meaning {
     ghost use Rattle.rustc_literal_escaper.specs.declared.element.Element.{Element};
     ghost use Rattle.rustc_literal_escaper.specs.declared.element.Element.TheVariants.{Plain};
     ghost use Rattle.rustc_literal_escaper.specs.declared.error.EscapeError.{EscapeError};
-    ghost use Rattle.rustc_literal_escaper.specs.Elements.{raw_element};
-    ghost use Rattle.rustc_literal_escaper.specs.Plain.{is_fine};
+    ghost use Rattle.rustc_literal_escaper.specs.means.Elements.{raw_element};
+    ghost use Rattle.rustc_literal_escaper.specs.means.Plain.{is_fine};
 
     type Meant: Copy;
 

@@ -119,7 +119,7 @@ impl From<NonZeroChar> for MixedUnit {
 }
 
 impl From<NonZeroU8> for MixedUnit {
-    ghost use Rattle.rustc_literal_escaper.specs.Units.{unit_of_byte};
+    ghost use Rattle.rustc_literal_escaper.specs.Meaning.{unit_of_byte};
 
     ghost from_gives = { λ b r. r ≡ unit_of_byte b };
 
@@ -134,7 +134,7 @@ impl From<NonZeroU8> for MixedUnit {
 }
 
 impl TryFrom<char> for MixedUnit {
-    ghost use Rattle.rustc_literal_escaper.specs.Units.{unit_or_nul};
+    ghost use Rattle.rustc_literal_escaper.specs.Meaning.{unit_or_nul};
     ghost use Rattle.rustc_literal_escaper.specs.declared.unit.MixedUnit.TheVariants.{Char};
 
     type Error = EscapeError;
@@ -151,7 +151,7 @@ impl TryFrom<char> for MixedUnit {
 }
 
 impl TryFrom<u8> for MixedUnit {
-    ghost use Rattle.rustc_literal_escaper.specs.Units.{unit_of_byte, unit_or_nul};
+    ghost use Rattle.rustc_literal_escaper.specs.Meaning.{unit_of_byte, unit_or_nul};
 
     type Error = EscapeError;
 

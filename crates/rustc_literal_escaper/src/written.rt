@@ -3,8 +3,7 @@ ghost use Rattle.std.specs.Prelude.{◌≡◌, ◌↔◌, ◌++◌, Contains, Is
 ghost use Rattle.std.specs.Char.Escape.{escape_ascii, escape_default};
 ghost use Rattle.std.specs.Str.{chars};
 ghost use Rattle.std.specs.String.{string_bytes};
-ghost use Rattle.rustc_literal_escaper.specs.Meaning.{byte_of, char_of, unit_of};
-ghost use Rattle.rustc_literal_escaper.specs.Units.{unit_of_byte};
+ghost use Rattle.rustc_literal_escaper.specs.Meaning.{byte_of, char_of, unit_of, unit_of_byte};
 ghost use Rattle.rustc_literal_escaper.specs.Written.{Grows, StandsFor, written_bytes, written_text};
 
 use crate::scan::split_first;

@@ -36,14 +36,7 @@ impl<T> Watched<T> {
 
     /// Returns the reader or the writer itself.
     pub fn into_inner(self) -> T {
-        let Watched {
-            inner,
-            failed: _,
-            faulty: _,
-            closed: _,
-            flushed: _,
-        } = self;
-        inner
+        self.inner
     }
 
     /// Records whether a call failed, whether it found a closed pipe, and whether it was a flush that succeeded.

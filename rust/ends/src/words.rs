@@ -19,8 +19,5 @@ pub fn past_name(alloc: Global, mut args: Args) -> Result<Vec<String>, AllocErro
 /// Returns the arguments after the first, which is the program's name. `None` stands for arguments that the program could
 /// not get, and gives the error of a failed allocation.
 pub fn given_words(alloc: Global, args: Option<Args>) -> Result<Vec<String>, AllocError> {
-    match args {
-        Some(args) => past_name(alloc, args),
-        None => Err(AllocError),
-    }
+    past_name(alloc, args.ok_or(AllocError)?)
 }

@@ -68,12 +68,8 @@ mod tests {
             let mut buf = [b'x'; 22];
             let start = write_digits(n, &mut buf, 21);
             assert_eq!(buf[start..21], *wanted.as_bytes());
-            assert!(
-                buf[..start]
-                    .iter()
-                    .chain(&buf[21..])
-                    .all(|byte| *byte == b'x')
-            );
+            let around = [&buf[..start], &buf[21..]].concat();
+            assert!(around.iter().all(|byte| *byte == b'x'));
         }
     }
 }

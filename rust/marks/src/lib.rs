@@ -30,7 +30,6 @@
 /// use the calls at the crate's root.
 // Contracts alone use some of its imports and variables.
 #[allow(missing_docs, unused_imports, unused_variables, dead_code)]
-#[allow(clippy::manual_unwrap_or, clippy::manual_unwrap_or_default)]
 #[doc(hidden)]
 pub mod erased;
 

@@ -59,10 +59,8 @@ fn a_stream_that_is_a_terminal() {
     use std::process::Command;
     const NAME: &str = "RATTLE_STD_TERMINAL";
     if std::env::var_os(NAME).is_none() {
-        let terminal = std::fs::File::options()
-            .read(true)
-            .write(true)
-            .open("/dev/ptmx");
+        let mut both_ways = std::fs::File::options();
+        let terminal = both_ways.read(true).write(true).open("/dev/ptmx");
         // Some systems make no terminals.
         let Ok(terminal) = terminal else { return };
         let ended = Command::new(std::env::current_exe().unwrap())
@@ -81,19 +79,10 @@ fn a_stream_that_is_a_terminal() {
 #[test]
 fn the_process() {
     let rt = rt::start();
-    let words: std::vec::Vec<_> = rattle_std::env::args(&rt).unwrap().collect();
-    let wanted: std::vec::Vec<_> = std::env::args().collect();
-    assert!(
-        words
-            .iter()
-            .map(|word| word.as_str())
-            .eq(wanted.iter().map(|word| &word[..]))
-    );
-    let path = std::env::var("PATH").unwrap();
-    assert_eq!(
-        rattle_std::env::var(&rt, "PATH").ok().as_deref(),
-        Some(&path[..])
-    );
+    let words = rattle_std::env::args(&rt).unwrap();
+    assert!(words.map(String::from).eq(std::env::args()));
+    let path = rattle_std::env::var(&rt, "PATH").ok();
+    assert_eq!(path.map(String::from), Some(std::env::var("PATH").unwrap()));
     let unset = rattle_std::env::var(&rt, "a variable that is not set");
     assert!(matches!(unset, Err(rattle_std::env::VarError::NotPresent)));
 }

@@ -20,6 +20,38 @@ mod lists;
 
 pub use lists::{String, Vec};
 
+use core::fmt;
+use core::ops::{Deref, DerefMut};
+
+impl<T> Deref for Vec<T> {
+    type Target = [T];
+
+    fn deref(&self) -> &[T] {
+        self.as_slice()
+    }
+}
+
+impl<T> DerefMut for Vec<T> {
+    fn deref_mut(&mut self) -> &mut [T] {
+        self.as_mut_slice()
+    }
+}
+
+impl Deref for String {
+    type Target = str;
+
+    fn deref(&self) -> &str {
+        self.as_str()
+    }
+}
+
+/// Appends what is written. If an allocation fails, it appends nothing and returns an error.
+impl fmt::Write for String {
+    fn write_str(&mut self, text: &str) -> fmt::Result {
+        self.push_str(text).map_err(|_| fmt::Error)
+    }
+}
+
 /// The allocator of the program. In Rattle it is passed to what allocates.
 #[derive(Clone, Copy, Debug, Default, PartialEq, Eq)]
 pub struct Global;
@@ -28,8 +60,8 @@ pub struct Global;
 #[derive(Clone, Copy, Debug, PartialEq, Eq)]
 pub struct AllocError;
 
-impl core::fmt::Display for AllocError {
-    fn fmt(&self, f: &mut core::fmt::Formatter<'_>) -> core::fmt::Result {
+impl fmt::Display for AllocError {
+    fn fmt(&self, f: &mut fmt::Formatter<'_>) -> fmt::Result {
         f.write_str("memory allocation failed")
     }
 }

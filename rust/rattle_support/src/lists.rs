@@ -2,7 +2,7 @@
 
 use super::{AllocError, Global};
 use alloc::collections::TryReserveError;
-use core::ops::{Deref, DerefMut, Range};
+use core::ops::Range;
 
 impl From<TryReserveError> for AllocError {
     fn from(_: TryReserveError) -> AllocError {
@@ -86,20 +86,6 @@ impl<T: Copy> Vec<T> {
     }
 }
 
-impl<T> Deref for Vec<T> {
-    type Target = [T];
-
-    fn deref(&self) -> &[T] {
-        &self.0
-    }
-}
-
-impl<T> DerefMut for Vec<T> {
-    fn deref_mut(&mut self) -> &mut [T] {
-        &mut self.0
-    }
-}
-
 /// A text. Its contracts are those of `std::string::String` in Rattle, which say what its bytes are after each call.
 #[derive(Clone, Debug, PartialEq, Eq)]
 pub struct String(alloc::string::String);
@@ -127,6 +113,14 @@ impl String {
     pub fn push(&mut self, c: char) -> Result<(), AllocError> {
         self.0.try_reserve(c.len_utf8())?;
         self.0.push(c);
+        Ok(())
+    }
+
+    /// Appends a text.
+    #[inline]
+    pub fn push_str(&mut self, text: &str) -> Result<(), AllocError> {
+        self.0.try_reserve(text.len())?;
+        self.0.push_str(text);
         Ok(())
     }
 
@@ -161,31 +155,14 @@ impl String {
 impl String {
     /// Returns the text of these bytes, or an error if they are not UTF-8.
     pub fn from_utf8(bytes: Vec<u8>) -> Result<String, core::str::Utf8Error> {
-        match alloc::string::String::from_utf8(bytes.0) {
-            Ok(text) => Ok(String(text)),
-            Err(error) => Err(error.utf8_error()),
-        }
-    }
-
-    /// Appends a text.
-    #[inline]
-    pub fn push_str(&mut self, text: &str) -> Result<(), AllocError> {
-        self.0.try_reserve(text.len())?;
-        self.0.push_str(text);
-        Ok(())
+        let text = alloc::string::String::from_utf8(bytes.0);
+        text.map(String).map_err(|error| error.utf8_error())
     }
 }
 
 impl core::fmt::Display for String {
     fn fmt(&self, f: &mut core::fmt::Formatter<'_>) -> core::fmt::Result {
         core::fmt::Display::fmt(&self.0, f)
-    }
-}
-
-/// Appends what is written. If an allocation fails, it appends nothing and returns an error.
-impl core::fmt::Write for String {
-    fn write_str(&mut self, text: &str) -> core::fmt::Result {
-        self.push_str(text).map_err(|_| core::fmt::Error)
     }
 }
 
@@ -198,13 +175,5 @@ impl From<alloc::string::String> for String {
 impl From<String> for alloc::string::String {
     fn from(text: String) -> alloc::string::String {
         text.0
-    }
-}
-
-impl Deref for String {
-    type Target = str;
-
-    fn deref(&self) -> &str {
-        &self.0
     }
 }

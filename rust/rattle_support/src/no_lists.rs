@@ -2,7 +2,7 @@
 
 use super::{AllocError, Global};
 use core::marker::PhantomData;
-use core::ops::{Deref, DerefMut, Range};
+use core::ops::Range;
 
 /// A list with no items.
 #[derive(Clone, Debug, PartialEq, Eq)]
@@ -43,20 +43,6 @@ fn refused_but_for(len: usize) -> Result<(), AllocError> {
     if len == 0 { Ok(()) } else { Err(AllocError) }
 }
 
-impl<T> Deref for Vec<T> {
-    type Target = [T];
-
-    fn deref(&self) -> &[T] {
-        &[]
-    }
-}
-
-impl<T> DerefMut for Vec<T> {
-    fn deref_mut(&mut self) -> &mut [T] {
-        &mut []
-    }
-}
-
 /// The empty text.
 #[derive(Clone, Debug, PartialEq, Eq)]
 pub struct String(());
@@ -78,6 +64,10 @@ impl String {
         Err(AllocError)
     }
 
+    pub fn push_str(&mut self, text: &str) -> Result<(), AllocError> {
+        refused_but_for(text.len())
+    }
+
     pub fn truncate(&mut self, _: usize) {}
 
     pub fn shrink_to_fit(&mut self) {}
@@ -88,19 +78,5 @@ impl String {
 
     pub fn replace_range(&mut self, _: Range<usize>, with: &str) -> Result<(), AllocError> {
         refused_but_for(with.len())
-    }
-}
-
-impl core::fmt::Write for String {
-    fn write_str(&mut self, text: &str) -> core::fmt::Result {
-        refused_but_for(text.len()).map_err(|_| core::fmt::Error)
-    }
-}
-
-impl Deref for String {
-    type Target = str;
-
-    fn deref(&self) -> &str {
-        ""
     }
 }

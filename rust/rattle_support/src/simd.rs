@@ -2,40 +2,31 @@
 //! WebAssembly; on other targets, or with the feature `portable`, with eight bytes in a word. The contracts are those
 //! of `std::simd` in Rattle.
 
+/// What a file of lanes does to each lane: functions that are built into their callers.
+macro_rules! lanewise {
+    ($($name:ident($($lanes:ident),*) = $made:expr;)*) => {$(
+        #[inline(always)]
+        pub fn $name($($lanes: Lanes),*) -> Lanes {
+            $made
+        }
+    )*};
+}
+
+// On each other target `lanes.rs` has words.
+#[cfg(feature = "portable")]
+mod lanes;
+#[cfg(not(feature = "portable"))]
 #[cfg_attr(
-    all(
-        target_arch = "x86_64",
-        target_feature = "sse2",
-        not(feature = "portable")
-    ),
+    all(target_arch = "x86_64", target_feature = "sse2"),
     path = "simd/sse2.rs"
 )]
 #[cfg_attr(
-    all(
-        target_arch = "aarch64",
-        target_feature = "neon",
-        not(feature = "portable")
-    ),
+    all(target_arch = "aarch64", target_feature = "neon"),
     path = "simd/neon.rs"
 )]
 #[cfg_attr(
-    all(
-        target_arch = "wasm32",
-        target_feature = "simd128",
-        not(feature = "portable")
-    ),
+    all(target_arch = "wasm32", target_feature = "simd128"),
     path = "simd/wasm.rs"
-)]
-#[cfg_attr(
-    any(
-        feature = "portable",
-        not(any(
-            all(target_arch = "x86_64", target_feature = "sse2"),
-            all(target_arch = "aarch64", target_feature = "neon"),
-            all(target_arch = "wasm32", target_feature = "simd128"),
-        ))
-    ),
-    path = "simd/words.rs"
 )]
 mod lanes;
 

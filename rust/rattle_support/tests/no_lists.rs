@@ -10,10 +10,8 @@ fn each_request_is_refused() {
     assert_eq!(list.push(1), Err(AllocError));
     assert_eq!(list.extend_from_slice(&[1]), Err(AllocError));
     assert_eq!(list.resize(1, 1), Err(AllocError));
-    assert_eq!(
-        (list.extend_from_slice(&[]), list.resize(0, 1)),
-        (Ok(()), Ok(()))
-    );
+    assert_eq!(list.extend_from_slice(&[]), Ok(()));
+    assert_eq!(list.resize(0, 1), Ok(()));
     // As in Rust, to keep more than there is has no effect.
     list.truncate(0);
     list.truncate(1);
@@ -23,15 +21,11 @@ fn each_request_is_refused() {
     let mut text = String::new(Global);
     assert_eq!(String::from_str(Global, "a"), Err(AllocError));
     assert_eq!(String::from_str(Global, ""), Ok(String::new(Global)));
-    assert_eq!(
-        (text.push('a'), text.reserve(1)),
-        (Err(AllocError), Err(AllocError))
-    );
+    assert_eq!(text.push('a'), Err(AllocError));
+    assert_eq!(text.reserve(1), Err(AllocError));
     assert_eq!(text.replace_range(0..0, "a"), Err(AllocError));
-    assert_eq!(
-        (text.replace_range(0..0, ""), text.reserve(0)),
-        (Ok(()), Ok(()))
-    );
+    assert_eq!(text.replace_range(0..0, ""), Ok(()));
+    assert_eq!(text.reserve(0), Ok(()));
     assert!(text.write_str("a").is_err() && text.write_str("").is_ok());
     text.truncate(0);
     text.truncate(1);

@@ -15,7 +15,8 @@ macro_rules! kept_calls {
             /// ```
             pub fn try_new_in(text: impl AsRef<str>, edition: Edition) -> Result<$Kept, EditError> {
                 let text = try_fitting(text.as_ref())?;
-                Ok($Kept(erased::$Kept::new_in(Global, text, edition)?))
+                let stepper = Checked::steps_in(edition);
+                Ok($Kept(erased::$Kept::with(Global, text, stepper)?))
             }
 
             /// Returns the edition of the tokens. Edits keep it.
@@ -27,7 +28,7 @@ macro_rules! kept_calls {
             /// ```
             #[must_use]
             pub fn edition(&self) -> Edition {
-                self.0.edition()
+                self.stepper().edition()
             }
 
             /// Lexes the text again, in another edition.
@@ -59,11 +60,42 @@ macro_rules! kept_calls {
             /// # Ok::<(), rustc_lexer::AllocError>(())
             /// ```
             pub fn try_set_edition(&mut self, edition: Edition) -> Result<(), AllocError> {
-                self.0.set_edition(edition)
+                let stepper = Checked::steps_in(edition);
+                self.0 = erased::$Kept::with(Global, self.text(), stepper)?;
+                Ok(())
             }
         }
 
         impl<S: Stepper> $Kept<S> {
+            /// Returns what is kept. Panics if a step of an edit panicked: then the tokens are not those of the text.
+            fn whole(&self) -> &erased::$Kept<Checked<S>> {
+                assert!(
+                    self.0.stepper().is_sound(),
+                    "a panic in `Stepper::step` left this text without tokens"
+                );
+                &self.0
+            }
+
+            /// Returns what is kept, as `whole` does.
+            fn whole_mut(&mut self) -> &mut erased::$Kept<Checked<S>> {
+                self.whole();
+                &mut self.0
+            }
+
+            /// Returns the text, and drops its tokens. It copies nothing.
+            ///
+            /// ```
+            #[doc = concat!("use rustc_lexer::", stringify!($Kept), ";")]
+            ///
+            #[doc = concat!("let mut lexed = ", stringify!($Kept), "::new(\"let x;\");")]
+            /// lexed.edit(4..5, "y");
+            /// assert_eq!(lexed.into_string(), "let y;");
+            /// ```
+            #[must_use]
+            pub fn into_string(self) -> String {
+                self.0.into_string().into()
+            }
+
             /// Returns the token that contains the byte at `offset`: its number, and where it begins. `None` at and past the
             /// end of the text, and in a shebang line, which is no token.
             ///
@@ -78,7 +110,7 @@ macro_rules! kept_calls {
             /// ```
             #[must_use]
             pub fn token_at(&self, offset: usize) -> Option<Bound> {
-                self.0.token_at(offset)
+                self.whole().token_at(offset)
             }
 
             /// Returns the pieces of the tokens that contain a byte of the range, like those of the lines in view. The
@@ -92,7 +124,7 @@ macro_rules! kept_calls {
             /// assert_eq!(seen, ["abc", " ", "="]);
             /// ```
             pub fn pieces_in(&self, range: Range<usize>) -> Pieces<'_> {
-                self.0.pieces_in(range.start, range.end)
+                self.whole().pieces_in(range.start, range.end)
             }
 
             /// Returns whether the range is in bounds and on char boundaries, and the new text has at most `u32::MAX`
@@ -125,7 +157,7 @@ macro_rules! kept_calls {
                 insert: &str,
             ) -> Result<Relexed, EditError> {
                 check_accepted(|insert| self.accepts(range.clone(), insert), insert)?;
-                Ok(self.0.edit(range.start, range.end, insert)?)
+                Ok(self.whole_mut().edit(range.start, range.end, insert)?)
             }
 
             /// Makes the edits in order, up to the first that is refused, and returns which that is, and why.
@@ -139,7 +171,7 @@ macro_rules! kept_calls {
             /// assert_eq!(lexed.text(), "a+b");
             /// ```
             pub fn edit_all(&mut self, edits: &[Edit<'_>]) -> Result<(), EditStop> {
-                self.0.edit_all(edits)
+                self.whole_mut().edit_all(edits)
             }
 
             /// Makes the edits as `edit_all` does, and returns which tokens all of them kept: what to repaint is between.
@@ -155,7 +187,7 @@ macro_rules! kept_calls {
             /// # Ok::<(), rustc_lexer::EditStop>(())
             /// ```
             pub fn edit_each(&mut self, edits: &[Edit<'_>]) -> Result<Relexed, EditStop> {
-                self.0.edit_each(edits)
+                self.whole_mut().edit_each(edits)
             }
 
             /// Gives back the memory that edits have left unused, by copying what is kept. If an allocation fails, the
@@ -176,12 +208,34 @@ macro_rules! kept_calls {
 
         impl<S: Stepper> fmt::Debug for $Kept<S> {
             fn fmt(&self, f: &mut fmt::Formatter<'_>) -> fmt::Result {
-                f.debug_struct(stringify!($Kept))
-                    .field("text", &self.text())
-                    .field("tokens", &self.tokens())
-                    .finish_non_exhaustive()
+                let mut shown = f.debug_struct(stringify!($Kept));
+                shown.field("text", &self.text());
+                if self.0.stepper().is_sound() {
+                    shown.field("tokens", &self.tokens());
+                }
+                shown.finish_non_exhaustive()
             }
         }
+
+        /// Two are equal if their texts, their tokens and their steppers are; two [`Steps`] are, if their editions are.
+        ///
+        /// ```
+        #[doc = concat!("use rustc_lexer::{Edition, ", stringify!($Kept), "};")]
+        ///
+        #[doc = concat!("let mut lexed = ", stringify!($Kept), "::new(\"a\");")]
+        #[doc = concat!("assert_ne!(lexed, ", stringify!($Kept), "::new_in(\"a\", Edition::E2015));")]
+        /// lexed.edit(1..1, "b");
+        #[doc = concat!("assert_eq!(lexed, ", stringify!($Kept), "::new(\"ab\"));")]
+        /// ```
+        impl<S: Stepper + PartialEq> PartialEq for $Kept<S> {
+            fn eq(&self, other: &$Kept<S>) -> bool {
+                self.text() == other.text()
+                    && self.tokens() == other.tokens()
+                    && self.stepper() == other.stepper()
+            }
+        }
+
+        impl<S: Stepper + Eq> Eq for $Kept<S> {}
 
         /// That of the empty text.
         impl Default for $Kept {

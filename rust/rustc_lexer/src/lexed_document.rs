@@ -1,11 +1,13 @@
 //! A whole document that is kept with its tokens under edits.
 
+use crate::checked::Checked;
 use crate::edit_error::{EditError, check_accepted, try_fitting};
 use crate::erased::{self, Edit, EditStop};
 use crate::kept_calls::kept_calls;
 use crate::lexed_text::checked_range;
 use crate::support::{AllocError, Global};
-use crate::{Bound, Edition, Pieces, Relexed, Stepper, Steps, Token};
+use crate::{Bound, Edition, Pieces, Relexed, Stepper, Steps, Token, TokenKind};
+use alloc::string::String;
 use core::fmt;
 use core::ops::Range;
 
@@ -32,7 +34,7 @@ use core::ops::Range;
 /// Each call that panics if a text is too long, a range is bad or an allocation fails has a twin that returns an error
 /// instead, like [`try_edit`](LexedDocument::try_edit).
 #[derive(Clone)]
-pub struct LexedDocument<S: Stepper = Steps>(erased::LexedDocument<S>);
+pub struct LexedDocument<S: Stepper = Steps>(erased::LexedDocument<Checked<S>>);
 
 impl LexedDocument {
     /// Returns the document with its tokens in the newest edition.
@@ -77,7 +79,18 @@ impl LexedDocument {
     /// ```
     #[must_use]
     pub fn body(&self) -> Bound {
-        self.0.body()
+        let is_front = |kind| matches!(kind, TokenKind::Frontmatter { .. });
+        let mut first_two = self.pieces().take(2).enumerate();
+        match first_two.find(|(_, piece)| is_front(piece.token.kind)) {
+            Some((number, front)) => Bound {
+                number: number + 1,
+                place: front.start as usize + front.text.len(),
+            },
+            None => Bound {
+                number: 0,
+                place: self.shebang_len(),
+            },
+        }
     }
 }
 
@@ -91,11 +104,19 @@ impl<S: Stepper> LexedDocument<S> {
     /// let lexed = LexedDocument::try_with("#!/bin/sh\nlet x;", Steps::new()).unwrap();
     /// assert_eq!(lexed.tokens().len(), 5);
     /// ```
+    ///
+    /// The tokens are taken by `step`, and where each ends is tested. With [`Steps`],
+    /// [`try_new_in`](LexedDocument::try_new_in) is twice as fast.
+    ///
+    /// # Panics
+    ///
+    /// Panics if `step` does, or if a token of it is empty, is longer than the text or ends inside a character. So do
+    /// edits: [`text`](LexedDocument::text) then has the edit, and each call that needs the tokens panics.
     pub fn try_with(text: impl AsRef<str>, stepper: S) -> Result<LexedDocument<S>, EditError> {
         let text = try_fitting(text.as_ref())?;
-        Ok(LexedDocument(erased::LexedDocument::with(
-            Global, text, stepper,
-        )?))
+        let stepper = Checked::new(stepper);
+        let document = erased::LexedDocument::with(Global, text, stepper)?;
+        Ok(LexedDocument(document))
     }
 
     /// Returns the stepper that the tokens of the body came from.
@@ -109,7 +130,7 @@ impl<S: Stepper> LexedDocument<S> {
     /// ```
     #[must_use]
     pub fn stepper(&self) -> &S {
-        self.0.stepper()
+        &self.0.stepper().stepper
     }
 
     /// Returns the text, with its shebang line.
@@ -134,7 +155,7 @@ impl<S: Stepper> LexedDocument<S> {
     /// ```
     #[must_use]
     pub fn shebang_len(&self) -> usize {
-        self.0.shebang_len()
+        self.whole().shebang_len()
     }
 
     /// Returns its tokens, which begin after the shebang line, in order.
@@ -147,7 +168,7 @@ impl<S: Stepper> LexedDocument<S> {
     /// ```
     #[must_use]
     pub fn tokens(&self) -> &[Token] {
-        self.0.tokens()
+        self.whole().tokens()
     }
 
     /// Returns the tokens with their offsets and their texts, in order. The first offset is
@@ -160,7 +181,7 @@ impl<S: Stepper> LexedDocument<S> {
     /// assert_eq!(lexed.pieces().nth(3).map(|piece| (piece.start, piece.text)), Some((12, "+")));
     /// ```
     pub fn pieces(&self) -> Pieces<'_> {
-        self.0.pieces()
+        self.whole().pieces()
     }
 
     /// Returns the pieces of some tokens, by their numbers. After an edit, repaint those of `relexed.range()`. A
@@ -181,7 +202,7 @@ impl<S: Stepper> LexedDocument<S> {
     /// Panics if there are no such tokens.
     pub fn pieces_of(&self, numbers: Range<usize>) -> Pieces<'_> {
         let numbers = checked_range(numbers, self.tokens());
-        self.0.pieces_of(numbers.start, numbers.end)
+        self.whole().pieces_of(numbers.start, numbers.end)
     }
 
     /// Replaces the bytes of the range by `insert`.

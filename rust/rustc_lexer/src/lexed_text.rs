@@ -1,10 +1,12 @@
 //! A text that is kept with its tokens under edits.
 
+use crate::checked::Checked;
 use crate::edit_error::{EditError, check_accepted, try_fitting};
 use crate::erased::{self, Edit, EditStop};
 use crate::kept_calls::kept_calls;
 use crate::support::{AllocError, Global};
 use crate::{Bound, Edition, Pieces, Relexed, Stepper, Steps, Token};
+use alloc::string::String;
 use core::fmt;
 use core::iter::FusedIterator;
 use core::ops::Range;
@@ -26,7 +28,7 @@ use core::ops::Range;
 /// Each call that panics if a text is too long, a range is bad or an allocation fails has a twin that returns an error
 /// instead, like [`try_edit`](LexedText::try_edit).
 #[derive(Clone)]
-pub struct LexedText<S: Stepper = Steps>(erased::LexedText<S>);
+pub struct LexedText<S: Stepper = Steps>(erased::LexedText<Checked<S>>);
 
 /// Returns the numbers of tokens. Panics if there are no such tokens.
 pub(crate) fn checked_range(numbers: Range<usize>, tokens: &[Token]) -> Range<usize> {
@@ -81,8 +83,17 @@ impl<S: Stepper> LexedText<S> {
     /// let lexed = LexedText::try_with("let x;", Steps::new()).unwrap();
     /// assert_eq!(lexed.tokens().len(), 4);
     /// ```
+    ///
+    /// The tokens are taken by `step`, and where each ends is tested. With [`Steps`],
+    /// [`try_new_in`](LexedText::try_new_in) is twice as fast.
+    ///
+    /// # Panics
+    ///
+    /// Panics if `step` does, or if a token of it is empty, is longer than the text or ends inside a character. So do
+    /// edits: [`text`](LexedText::text) then has the edit, and each call that needs the tokens panics.
     pub fn try_with(text: impl AsRef<str>, stepper: S) -> Result<LexedText<S>, EditError> {
         let text = try_fitting(text.as_ref())?;
+        let stepper = Checked::new(stepper);
         Ok(LexedText(erased::LexedText::with(Global, text, stepper)?))
     }
 
@@ -97,7 +108,7 @@ impl<S: Stepper> LexedText<S> {
     /// ```
     #[must_use]
     pub fn stepper(&self) -> &S {
-        self.0.stepper()
+        &self.0.stepper().stepper
     }
 
     /// Returns the text.
@@ -122,7 +133,7 @@ impl<S: Stepper> LexedText<S> {
     /// ```
     #[must_use]
     pub fn tokens(&self) -> &[Token] {
-        self.0.tokens()
+        self.whole().tokens()
     }
 
     /// Returns the tokens with their offsets and their texts, in order.
@@ -134,7 +145,7 @@ impl<S: Stepper> LexedText<S> {
     /// assert_eq!(lexed.pieces().nth(2).map(|piece| (piece.start, piece.text)), Some((2, "+")));
     /// ```
     pub fn pieces(&self) -> Pieces<'_> {
-        self.0.pieces()
+        self.whole().pieces()
     }
 
     /// Returns the pieces of some tokens, by their numbers. After an edit, repaint those of `relexed.range()`.
@@ -153,7 +164,7 @@ impl<S: Stepper> LexedText<S> {
     /// Panics if there are no such tokens.
     pub fn pieces_of(&self, numbers: Range<usize>) -> Pieces<'_> {
         let numbers = checked_range(numbers, self.tokens());
-        self.0.pieces_of(numbers.start, numbers.end)
+        self.whole().pieces_of(numbers.start, numbers.end)
     }
 
     /// Replaces the bytes of the range by `insert`.

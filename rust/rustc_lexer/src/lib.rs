@@ -27,9 +27,9 @@
 //! The modules below `erased` are generated from a source in Rattle, which is Rust with contracts, by deleting the
 //! contracts. It is proved of that source that, for every text under 4 GiB, its tokens are the only ones that a grammar
 //! of the language allows. The rest of this crate is written by hand: the calls of the original, of [`LexedText`] and
-//! of [`LexedDocument`] test what the contracts require of a caller. [`Relexing`], a [`Head`] and a [`Stepper`] test
-//! nothing: lists or a head that are not those of the old text give wrong tokens or a panic. The repository's
-//! `docs/ERASED.md` says what is claimed and what is trusted.
+//! of [`LexedDocument`] test what the contracts require of a caller, and where the tokens of a [`Stepper`] end.
+//! [`Relexing`] and a [`Head`] test nothing: lists or a head that are not those of the old text give wrong tokens or a
+//! panic. The repository's `docs/ERASED.md` says what is claimed and what is trusted.
 //!
 //! # A program that keeps the tokens of a file
 //!
@@ -47,6 +47,8 @@ extern crate alloc;
 #[cfg(test)]
 extern crate std;
 
+#[cfg(feature = "alloc")]
+mod checked;
 mod classes;
 mod cursor;
 #[cfg(feature = "alloc")]
@@ -175,10 +177,8 @@ pub use erased::Relexing;
 /// assert_eq!(Characters.step("é+").len, 2);
 /// ```
 ///
-/// Nothing tests its tokens. While you write a stepper, let `step` end with
-/// `assert!(token.len > 0 && rest.is_char_boundary(token.len as usize));`. Without that, tokens of no length fill memory
-/// until an allocation fails, and a token that ends past the text lets `pieces` panic later. A panic of `step` inside an
-/// edit leaves the new text with the old tokens: drop them then.
+/// [`LexedText::try_with`] takes one. It calls `step` alone, and tests where each token ends. [`Relexing`] tests nothing:
+/// there tokens of no length never come to an end.
 #[doc(inline)]
 pub use erased::Stepper;
 /// ```
@@ -208,7 +208,7 @@ pub use tokens::{EditionTokens, Tokens, tokenize, tokenize_as, tokenize_document
 /// `unicode-ident` of this build. The table of emoji is part of this crate, and is that of Unicode 15.
 ///
 /// ```
-/// assert!(rustc_lexer::UNICODE_VERSION.0 >= 15);
+/// assert!(rustc_lexer::UNICODE_VERSION.0 >= 12);
 /// ```
 #[doc(inline)]
 pub use unicode_ident::UNICODE_VERSION;

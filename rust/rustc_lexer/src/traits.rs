@@ -26,6 +26,15 @@ impl Default for Steps {
     }
 }
 
+/// Equal are those of one edition.
+impl PartialEq for Steps {
+    fn eq(&self, other: &Steps) -> bool {
+        self.edition() == other.edition()
+    }
+}
+
+impl Eq for Steps {}
+
 impl fmt::Debug for Steps {
     fn fmt(&self, f: &mut fmt::Formatter<'_>) -> fmt::Result {
         f.debug_struct("Steps").finish_non_exhaustive()

@@ -2,7 +2,7 @@
 
 use rustc_lexer::{
     Base, Cursor, DocStyle, Edition, FrontmatterAllowed, GuardedStr, LiteralKind, RawStrError,
-    Steps, Token, TokenKind, UNICODE_VERSION, is_horizontal_whitespace, is_id_continue,
+    Steps, Token, TokenKind, Tokens, UNICODE_VERSION, is_horizontal_whitespace, is_id_continue,
     is_id_start, is_ident, is_whitespace, settled, starts_raw, strip_shebang, tokenize,
     tokenize_as, tokenize_document, tokenize_in, validate_raw_str,
 };
@@ -13,6 +13,14 @@ fn guarded(n_hashes: u32, terminated: bool, token_len: u32) -> Option<GuardedStr
         terminated,
         token_len,
     })
+}
+
+fn token(kind: TokenKind, len: u32) -> Token {
+    Token { kind, len }
+}
+
+fn lens(tokens: Tokens<'_>) -> Vec<u32> {
+    tokens.map(|token| token.len).collect()
 }
 
 #[test]
@@ -35,26 +43,13 @@ fn guarded_strings() {
 fn hashes_that_are_pending() {
     let mut cursor = Cursor::new("##x", FrontmatterAllowed::No);
     assert_eq!(cursor.guarded_double_quoted_string(), None);
-    let ident = Token {
-        kind: TokenKind::Ident,
-        len: 3,
-    };
-    assert_eq!(cursor.advance_token(), ident);
+    assert_eq!(cursor.advance_token(), token(TokenKind::Ident, 3));
     let mut cursor = Cursor::new("#1u", FrontmatterAllowed::No);
     assert_eq!(cursor.guarded_double_quoted_string(), None);
-    let token = cursor.advance_token();
-    assert_eq!(token.len, 3);
-    let TokenKind::Literal { kind, suffix_start } = token.kind else {
-        panic!("{token:?}");
-    };
-    assert!(matches!(
-        kind,
-        LiteralKind::Int {
-            empty_int: false,
-            ..
-        }
-    ));
-    assert_eq!(suffix_start, 2);
+    let (base, empty_int, suffix_start) = (Base::Decimal, false, 2);
+    let kind = LiteralKind::Int { base, empty_int };
+    let number = TokenKind::Literal { kind, suffix_start };
+    assert_eq!(cursor.advance_token(), token(number, 3));
 }
 
 #[test]
@@ -78,13 +73,10 @@ fn pending_hashes_are_part_of_a_guarded_string_once() {
 
 #[test]
 fn pending_hashes_at_the_end() {
-    let end = Token {
-        kind: TokenKind::Eof,
-        len: 0,
-    };
     let mut cursor = Cursor::new("##", FrontmatterAllowed::No);
     assert_eq!(cursor.guarded_double_quoted_string(), None);
-    assert_eq!((cursor.advance_token(), cursor.as_str()), (end, ""));
+    assert_eq!(cursor.advance_token(), token(TokenKind::Eof, 0));
+    assert_eq!(cursor.as_str(), "");
 }
 
 #[test]
@@ -181,12 +173,8 @@ fn each_way_to_take_tokens_gives_the_same() {
             tokens.for_each(|token| folded.push(token));
             assert_eq!(folded, all);
             let mut tokens = tokenize(text, FrontmatterAllowed::No);
-            assert!(
-                tokens
-                    .by_ref()
-                    .take(taken)
-                    .eq(all.iter().copied().take(taken))
-            );
+            let front = all.iter().copied().take(taken);
+            assert!(tokens.by_ref().take(taken).eq(front));
             assert_eq!(tokens.count(), all.len().saturating_sub(taken));
         }
         for taken in 0..=all.len() {
@@ -204,10 +192,8 @@ fn each_way_to_take_tokens_gives_the_same() {
         assert!(tokenize_in(text, Edition::E2024).eq(all.iter().copied()));
     }
     for (text, kinds) in SHORT {
-        let found: Vec<_> = tokenize(text, FrontmatterAllowed::No)
-            .map(|token| token.kind)
-            .collect();
-        assert_eq!(found, kinds);
+        let found = tokenize(text, FrontmatterAllowed::No).map(|token| token.kind);
+        assert!(found.eq(kinds.iter().copied()), "{text:?}");
     }
 }
 
@@ -231,10 +217,7 @@ fn what_costs_what_it_reads() {
         assert_eq!(tokenize(&rest, FrontmatterAllowed::No).size_hint().0, 1);
     }
     let short = start.elapsed();
-    assert!(
-        short < whole,
-        "{short:?} for 5000 short reads, {whole:?} for all"
-    );
+    assert!(short < whole, "{short:?} for 5000 reads, {whole:?} for all");
 }
 
 /// What is left of a text is a part of it, and outlives what reads it.
@@ -273,11 +256,8 @@ fn classes() {
         assert_eq!(is_horizontal_whitespace(c), "\t ".contains(c), "{c:?}");
         let start = c == '_' || unicode_ident::is_xid_start(c);
         assert_eq!(is_id_start(c), start, "{c:?}");
-        assert_eq!(
-            is_id_continue(c),
-            unicode_ident::is_xid_continue(c),
-            "{c:?}"
-        );
+        let continues = unicode_ident::is_xid_continue(c);
+        assert_eq!(is_id_continue(c), continues, "{c:?}");
     }
     assert_eq!(UNICODE_VERSION, unicode_ident::UNICODE_VERSION);
     for (text, is) in [
@@ -329,12 +309,8 @@ fn what_is_settled() {
 fn each_call_has_its_frontmatter_and_edition() {
     use FrontmatterAllowed::{No, Yes};
     let text = "---\na\n---\n##";
-    let lens = |tokens: rustc_lexer::Tokens<'_>| tokens.map(|token| token.len).collect::<Vec<_>>();
-    let dashes = [1, 1, 1, 1, 1, 1, 1, 1, 1, 1];
-    let (part, older) = (
-        [&dashes[..], &[2]].concat(),
-        [&dashes[..], &[1, 1]].concat(),
-    );
+    let part = [1, 1, 1, 1, 1, 1, 1, 1, 1, 1, 2];
+    let older = [1; 12];
     assert_eq!(lens(tokenize(text, No)), part);
     assert_eq!(lens(tokenize(text, Yes)), [9, 1, 2]);
     assert_eq!(lens(tokenize_in(text, Edition::E2024)), part);
@@ -343,18 +319,11 @@ fn each_call_has_its_frontmatter_and_edition() {
     assert_eq!(lens(tokenize_as(text, Yes, Edition::E2021)), [9, 1, 1, 1]);
     assert_eq!(lens(tokenize_as(text, Yes, Edition::E2024)), [9, 1, 2]);
     let script = ["#!/\n", text].concat();
-    assert_eq!(
-        lens(tokenize_document(&script, Edition::E2021)),
-        [1, 9, 1, 1, 1]
-    );
-    assert_eq!(
-        lens(tokenize_document(&script, Edition::E2024)),
-        [1, 9, 1, 2]
-    );
-    assert_eq!(
-        tokenize_document(&script, Edition::E2024).as_str(),
-        &script[3..]
-    );
+    let older = tokenize_document(&script, Edition::E2021);
+    assert_eq!(lens(older), [1, 9, 1, 1, 1]);
+    let document = tokenize_document(&script, Edition::E2024);
+    assert_eq!(document.as_str(), &script[3..]);
+    assert_eq!(lens(document), [1, 9, 1, 2]);
 }
 
 /// White space leaves it allowed, and every other token ends that.
@@ -386,8 +355,7 @@ fn clones() {
     assert_eq!((second.as_str(), second.advance_token().len), ("x y", 3));
     let mut tokens = tokenize_as("\n---\n---\n##", FrontmatterAllowed::Yes, Edition::E2018);
     tokens.next();
-    let lens: Vec<u32> = tokens.clone().map(|token| token.len).collect();
-    assert_eq!(lens, [7, 1, 1, 1]);
+    assert_eq!(lens(tokens.clone()), [7, 1, 1, 1]);
     assert_eq!(tokens.next().map(|token| token.len), Some(7));
 }
 
@@ -440,10 +408,8 @@ fn a_frontmatter_behind_a_batch_of_white_space() {
 #[test]
 fn hashes_without_number() {
     let text = format!("r{0}\"abc\"{0}", "#".repeat(256));
-    assert_eq!(
-        validate_raw_str(&text, 1),
-        Err(RawStrError::TooManyDelimiters { found: 256 })
-    );
+    let error = RawStrError::TooManyDelimiters { found: 256 };
+    assert_eq!(validate_raw_str(&text, 1), Err(error));
 }
 
 #[test]
@@ -502,15 +468,11 @@ fn runs_of_each_length() {
         for times in 1..200 {
             let token = format!("{front}{}", run.repeat(times));
             for text in [token.clone(), format!("{token}{stop}{token}")] {
-                let mut tokens = tokenize(&text, FrontmatterAllowed::No);
-                assert_eq!(
-                    tokens.next().unwrap().len as usize,
-                    token.len(),
-                    "in {text:?}"
-                );
-                let mut buffer = [tokenize("a", FrontmatterAllowed::No).next().unwrap(); 1];
+                let first = tokenize(&text, FrontmatterAllowed::No).next().unwrap();
+                assert_eq!(first.len as usize, token.len(), "in {text:?}");
+                let mut buffer = [self::token(TokenKind::Eof, 0)];
                 tokenize(&text, FrontmatterAllowed::No).fill(&mut buffer);
-                assert_eq!(buffer[0].len as usize, token.len(), "in {text:?}");
+                assert_eq!(buffer, [first], "in {text:?}");
             }
         }
     }
@@ -588,10 +550,8 @@ fn what_is_written_of_values() {
         assert_eq!(format!("{edition:?}"), format!("E{year}"));
         let number = edition.year();
         assert_eq!(year, number.to_string());
-        assert_eq!(
-            format!("{edition:6}{edition:<6}{edition:06}"),
-            format!("{number:6}{number:<6}{number:06}")
-        );
+        let told = format!("{edition:6}{edition:<6}{edition:06}");
+        assert_eq!(told, format!("{number:6}{number:<6}{number:06}"));
         assert_eq!(year.parse(), Ok(edition));
         assert_eq!(Edition::try_from(edition.year()), Ok(edition));
     }

@@ -1,15 +1,15 @@
 //! A whole document that is kept with its tokens, against lexing it from scratch.
 
+mod made;
 mod random;
 
+use made::{counts, edit, token};
 use random::Random;
 use rustc_lexer::{
-    Bound, Change, Edit, EditStop, Edition, FrontmatterAllowed, Head, LexedDocument, LexedText,
-    Relexed, Relexing, Stepper, Steps, Token, TokenKind, strip_shebang, tokenize_as,
-    tokenize_document,
+    Bound, Change, EditStop, Edition, FrontmatterAllowed, Head, LexedDocument, LexedText, Relexed,
+    Relexing, Stepper, Steps, Token, TokenKind, strip_shebang, tokenize_as, tokenize_document,
 };
 use std::ops::Range;
-use std::panic::{AssertUnwindSafe, catch_unwind};
 
 /// A document with all that may stand in front, and where its body begins.
 const SCRIPT: &str = "#!/bin/sh\n---\na\n---\nb'c'";
@@ -45,16 +45,12 @@ fn check(lexed: &LexedDocument, edition: Edition, context: &str) {
     let scratch: Vec<Token> =
         tokenize_as(&text[line..], FrontmatterAllowed::Yes, edition).collect();
     assert_eq!(lexed.tokens(), scratch, "{context}");
-    assert_eq!(
-        (lexed.edition(), lexed.shebang_len()),
-        (edition, line),
-        "{context}"
-    );
+    let told = (lexed.edition(), lexed.shebang_len());
+    assert_eq!(told, (edition, line), "{context}");
     assert!(tokenize_document(text, edition).eq(scratch.iter().copied()));
-    let head = scratch
-        .iter()
-        .position(|token| matches!(token.kind, TokenKind::Frontmatter { .. }))
-        .map_or(0, |at| at + 1);
+    let is_frontmatter = |token: &Token| matches!(token.kind, TokenKind::Frontmatter { .. });
+    let head = scratch.iter().position(is_frontmatter);
+    let head = head.map_or(0, |at| at + 1);
     let mut start = line;
     for (number, (piece, token)) in lexed.pieces().zip(&scratch).enumerate() {
         if number == head {
@@ -95,24 +91,14 @@ fn edit_and_check(lexed: &mut LexedDocument, range: Range<usize>, insert: &str) 
     let relexed = lexed.edit(range.clone(), insert);
     let mut text = before.text().to_string();
     text.replace_range(range.clone(), insert);
-    let context = format!(
-        "{:?} with {insert:?} at {range:?}, in {:?}",
-        before.text(),
-        before.edition()
-    );
+    let (old_text, edition) = (before.text(), before.edition());
+    let context = format!("{old_text:?} with {insert:?} at {range:?}, in {edition:?}");
     assert_eq!(lexed.text(), text, "{context}");
-    check(lexed, before.edition(), &context);
-    let Relexed {
-        kept_front,
-        kept_back,
-        ..
-    } = relexed;
+    check(lexed, edition, &context);
+    let (kept_front, kept_back) = (relexed.kept_front, relexed.kept_back);
     let (old, new) = (before.tokens(), lexed.tokens());
-    assert_eq!(
-        relexed.range(),
-        kept_front..new.len() - kept_back,
-        "{context}"
-    );
+    let lexed_anew = kept_front..new.len() - kept_back;
+    assert_eq!(relexed.range(), lexed_anew, "{context}");
     assert_eq!(old[..kept_front], new[..kept_front], "{context}");
     let behind = [old.len() - kept_back, new.len() - kept_back];
     assert_eq!(old[behind[0]..], new[behind[1]..], "{context}");
@@ -120,13 +106,9 @@ fn edit_and_check(lexed: &mut LexedDocument, range: Range<usize>, insert: &str) 
         Some(wanted) => assert_eq!(relexed, wanted, "{context}"),
         None => assert_eq!(kept_front, 0, "{context}"),
     }
-    let painted: Vec<_> = lexed.pieces_of(relexed.range()).collect();
-    let wanted: Vec<_> = lexed
-        .pieces()
-        .skip(kept_front)
-        .take(relexed.lexed)
-        .collect();
-    assert_eq!(painted, wanted, "{context}");
+    let painted = lexed.pieces_of(relexed.range());
+    let all = lexed.pieces().skip(kept_front);
+    assert!(painted.eq(all.take(relexed.lexed)), "{context}");
 }
 
 /// Ten thousand edits of documents in each edition, or as many as the variable EDITS says.
@@ -202,11 +184,6 @@ fn an_edit_right_behind_the_head() {
 #[test]
 fn a_list_of_edits() {
     let mut lexed = LexedDocument::new(SCRIPT);
-    let edit = |start, stop, insert| Edit {
-        start,
-        stop,
-        insert,
-    };
     let edits = [
         edit(16, 19, ""),
         edit(16, 16, "---"),
@@ -216,10 +193,8 @@ fn a_list_of_edits() {
     assert_eq!(lexed.edit_all(&edits[..2]), Ok(()));
     assert_eq!(lexed.text(), SCRIPT);
     assert_eq!(lexed.edit_all(&edits), Err(EditStop::Range { at: 3 }));
-    assert_eq!(
-        lexed.text(),
-        [&SCRIPT[..BODY], "é", &SCRIPT[BODY..]].concat()
-    );
+    let wanted = [&SCRIPT[..BODY], "é", &SCRIPT[BODY..]].concat();
+    assert_eq!(lexed.text(), wanted);
     check(&lexed, Edition::E2024, "a list of edits");
 }
 
@@ -227,37 +202,12 @@ fn a_list_of_edits() {
 #[test]
 fn what_a_list_keeps() {
     for (edits, kept) in [
-        ([(24, 24, "d"), (20, 20, "fn ")], (2, 4, 0)),
-        ([(20, 20, "fn "), (14, 15, "bc")], (0, 5, 1)),
+        ([edit(24, 24, "d"), edit(20, 20, "fn ")], counts(2, 4, 0)),
+        ([edit(20, 20, "fn "), edit(14, 15, "bc")], counts(0, 5, 1)),
     ] {
         let mut lexed = LexedDocument::new(SCRIPT);
-        let edits = edits.map(|(start, stop, insert)| Edit {
-            start,
-            stop,
-            insert,
-        });
-        let relexed = lexed.edit_each(&edits).unwrap();
-        assert_eq!(
-            (relexed.kept_front, relexed.lexed, relexed.kept_back),
-            kept,
-            "{edits:?}"
-        );
+        assert_eq!(lexed.edit_each(&edits), Ok(kept), "{edits:?}");
         check(&lexed, Edition::E2024, "a list of edits");
-    }
-}
-
-#[test]
-fn what_is_not_accepted() {
-    let lexed = LexedDocument::new("#!é");
-    for (range, good) in [
-        (0..0, true),
-        (2..4, true),
-        (2..3, false),
-        (3..4, false),
-        (0..5, false),
-        (5..5, false),
-    ] {
-        assert_eq!(lexed.accepts(range, "b"), good);
     }
 }
 
@@ -268,53 +218,15 @@ struct Characters(usize);
 impl Stepper for Characters {
     fn step(&mut self, rest: &str) -> Token {
         self.0 += 1;
-        Token {
-            kind: TokenKind::Unknown,
-            len: rest.chars().next().map_or(0, char::len_utf8) as u32,
-        }
+        let len = rest.chars().next().map_or(0, char::len_utf8);
+        token(TokenKind::Unknown, len as u32)
     }
-}
-
-/// A stepper that breaks its rules: each token has two bytes, whatever is left, and there is none at `!`.
-#[derive(Clone)]
-struct Pairs;
-
-impl Stepper for Pairs {
-    fn step(&mut self, rest: &str) -> Token {
-        assert!(!rest.starts_with('!'), "no token");
-        Token {
-            kind: TokenKind::Unknown,
-            len: 2,
-        }
-    }
-}
-
-/// What docs/ERASED.md says of such a stepper.
-#[test]
-fn a_stepper_that_breaks_its_rules() {
-    macro_rules! calls {
-        ($Kept:ident) => {
-            let past = $Kept::try_with("abc", Pairs).unwrap();
-            let pieces = AssertUnwindSafe(|| past.pieces().count());
-            assert!(catch_unwind(pieces).is_err());
-            let mut lexed = $Kept::try_with("abcd", Pairs).unwrap();
-            let edit = AssertUnwindSafe(|| lexed.edit(0..0, "!!"));
-            assert!(catch_unwind(edit).is_err());
-            assert_eq!((lexed.text(), lexed.tokens().len()), ("!!abcd", 2));
-        };
-    }
-    calls!(LexedText);
-    calls!(LexedDocument);
 }
 
 /// A stepper that has no `fill` of its own, and one that has: the tokens that begin before the end, as many as fit.
 #[test]
 fn steppers_fill_up_to_an_end() {
-    let nothing = Token {
-        kind: TokenKind::Eof,
-        len: 0,
-    };
-    let mut buffer = [nothing; 9];
+    let mut buffer = [token(TokenKind::Eof, 0); 9];
     let mut by_characters = Characters(0);
     for (end, room, wanted) in [
         (0, 9, (0, 0)),
@@ -344,22 +256,15 @@ fn what_is_held() {
     let lexed = LexedDocument::try_with(SCRIPT, Steps::new_in(Edition::E2018)).unwrap();
     check(&lexed, Edition::E2018, "by a stepper");
     let by_characters = LexedDocument::try_with("#!a\nbé", Characters(0)).unwrap();
-    let lens: Vec<u32> = by_characters
-        .tokens()
-        .iter()
-        .map(|token| token.len)
-        .collect();
-    assert_eq!((lens, by_characters.stepper().0), (vec![1, 1, 2], 3));
-    let pieces: Vec<_> = lexed
-        .pieces_of(1..3)
-        .map(|piece| (piece.start, piece.text))
-        .collect();
+    let lens = by_characters.tokens().iter().map(|token| token.len);
+    assert!(lens.eq([1, 1, 2]));
+    assert_eq!(by_characters.stepper().0, 3);
+    let pieces = lexed.pieces_of(1..3);
+    let pieces: Vec<_> = pieces.map(|piece| (piece.start, piece.text)).collect();
     assert_eq!(pieces, [(10, "---\na\n---"), (19, "\n")]);
     let empty = LexedDocument::default();
-    assert_eq!(
-        (empty.text(), empty.tokens().len(), empty.body().place),
-        ("", 0, 0)
-    );
+    assert_eq!((empty.text(), empty.tokens().len()), ("", 0));
+    assert_eq!(empty.body().place, 0);
     let shown = format!("{:?}", LexedDocument::new("#!a+"));
     let wanted = r##"LexedDocument { text: "#!a+", tokens: [], .. }"##;
     assert_eq!(shown, wanted);
@@ -377,12 +282,7 @@ fn calls_with_a_stepper() {
             assert!(lexed.accepts(0..1, "b"));
             lexed.edit(0..1, "bc");
             assert!(lexed.try_edit(0..1, "").is_ok());
-            let edit = Edit {
-                start: 0,
-                stop: 1,
-                insert: "bc",
-            };
-            assert_eq!(lexed.edit_all(&[edit]), Ok(()));
+            assert_eq!(lexed.edit_all(&[edit(0, 1, "bc")]), Ok(()));
             assert_eq!(lexed.edit_each(&[]).map(|counts| counts.kept_front), Ok(3));
             lexed.shrink_to_fit();
             assert_eq!((lexed.text(), lexed.tokens().len()), ("bcé", 3));
@@ -399,35 +299,9 @@ fn calls_with_a_stepper() {
     calls!(LexedDocument);
 }
 
-#[test]
-#[should_panic(
-    expected = "the edit of 1..2: the range has to be inside the text, between characters"
-)]
-fn an_edit_inside_a_character() {
-    LexedDocument::new("é").edit(1..2, "");
-}
-
-#[test]
-#[should_panic(expected = "token range 1..3 out of range for 2 tokens")]
-fn pieces_past_the_last() {
-    let _ = LexedDocument::new("#!a\nb").pieces_of(1..3);
-}
-
-#[test]
-#[should_panic(expected = "token range 2..1 out of range for 4 tokens")]
-fn pieces_of_no_range() {
-    #[allow(clippy::reversed_empty_ranges)]
-    let reversed = 2..1;
-    let _ = LexedDocument::new("#!a\nb c").pieces_of(reversed);
-}
-
 /// The tokens of a head.
 fn tokens_of(head: Head) -> Vec<Token> {
-    let kind = TokenKind::Whitespace;
-    let space = Token {
-        kind,
-        len: head.space_len,
-    };
+    let space = token(TokenKind::Whitespace, head.space_len);
     let space = (head.space_len > 0).then_some(space);
     space.into_iter().chain(head.frontmatter).collect()
 }
@@ -443,10 +317,8 @@ fn lists_of_the_caller() {
         let tokens = held.tokens().to_vec();
         let counts = held.edit(range.clone(), &insert);
         let (head, now) = (Head::find(&old), Head::find(held.text()));
-        assert_eq!(
-            (now.shebang_len, now.body),
-            (held.shebang_len(), held.body().place)
-        );
+        assert_eq!(now.shebang_len, held.shebang_len());
+        assert_eq!(now.body, held.body().place);
         let edit = Change {
             start: range.start,
             old_stop: range.end,
@@ -454,13 +326,9 @@ fn lists_of_the_caller() {
         };
         let of_body = head.change_to(now, edit);
         let (body, old_body) = (&held.text()[now.body..], &tokens[head.count()..]);
-        let (change, first) = (
-            of_body.change,
-            Bound {
-                number: 0,
-                place: 0,
-            },
-        );
+        let change = of_body.change;
+        let (number, place) = (0, 0);
+        let first = Bound { number, place };
         assert!(change.may_make(body));
         let mut steps = Steps::new();
         let mut relexing = Relexing::begin(body, old_body, change, first);
@@ -476,10 +344,7 @@ fn lists_of_the_caller() {
         assert_eq!(made.len(), kept + wanted.lexed);
         // the same by a buffer, which is filled but at the end
         let mut again = Relexing::begin(body, old_body, change, first);
-        let mut buffer = [Token {
-            kind: TokenKind::Eof,
-            len: 0,
-        }; 3];
+        let mut buffer = [token(TokenKind::Eof, 0); 3];
         let mut filled = Vec::new();
         while !again.is_over(body) {
             let count = again.fill(&mut steps, body, old_body, change, &mut buffer);

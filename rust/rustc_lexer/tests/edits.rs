@@ -1,13 +1,16 @@
 //! A text that is kept with its tokens, against lexing it from scratch and against what an edit is to keep.
 
+mod made;
 mod random;
 
+use made::{counts, edit};
 use random::Random;
 use rustc_lexer::{
-    Edit, EditError, EditStop, Edition, FrontmatterAllowed, LexedDocument, LexedText, Steps, Token,
-    TokenKind, tokenize, tokenize_in,
+    EditError, EditStop, Edition, FrontmatterAllowed, LexedDocument, LexedText, Relexed, Steps,
+    Token, TokenKind, tokenize, tokenize_in,
 };
 use std::ops::Range;
+use std::panic::catch_unwind;
 
 /// What edits are made of: pieces that change what stands around them.
 #[rustfmt::skip]
@@ -35,13 +38,13 @@ fn bounds(tokens: &[Token]) -> Vec<usize> {
 }
 
 /// What the edit is to keep in front, to lex and to keep at the back, counted as docs/RELEXING.md says it.
-fn counts(
+fn wanted(
     old_text: &str,
     old: &[Token],
     new: &[Token],
     range: &Range<usize>,
     inserted: usize,
-) -> (usize, usize, usize) {
+) -> Relexed {
     let old_bounds = bounds(old);
     let new_bounds = bounds(new);
     let kept_front = old_bounds[1..]
@@ -57,7 +60,7 @@ fn counts(
         .expect("the ends of both texts meet");
     let there = new_bounds[met] - inserted + range.len();
     let kept_back = old_bounds[1..].iter().filter(|&&end| end > there).count();
-    (kept_front, met - kept_front, kept_back)
+    counts(kept_front, met - kept_front, kept_back)
 }
 
 fn check(lexed: &LexedText, context: &str) {
@@ -66,10 +69,8 @@ fn check(lexed: &LexedText, context: &str) {
     let mut start = 0;
     for (piece, token) in lexed.pieces().zip(&scratch) {
         let end = start + token.len as usize;
-        assert_eq!(
-            (piece.start, piece.token, piece.text),
-            (start as u32, *token, &lexed.text()[start..end])
-        );
+        let told = (piece.start as usize, piece.token, piece.text);
+        assert_eq!(told, (start, *token, &lexed.text()[start..end]));
         start = end;
     }
     assert_eq!(start, lexed.text().len());
@@ -82,23 +83,14 @@ fn edit_and_check(lexed: &mut LexedText, range: Range<usize>, insert: &str) {
     let mut text = before.clone();
     text.replace_range(range.clone(), insert);
     assert_eq!(lexed.text(), text);
-    let context = format!(
-        "{before:?} with {insert:?} at {range:?}, in {:?}",
-        lexed.edition()
-    );
+    let edition = lexed.edition();
+    let context = format!("{before:?} with {insert:?} at {range:?}, in {edition:?}");
     check(lexed, &context);
-    assert_eq!(
-        (relexed.kept_front, relexed.lexed, relexed.kept_back),
-        counts(&before, &old, lexed.tokens(), &range, insert.len()),
-        "{context}"
-    );
-    let painted: Vec<_> = lexed.pieces_of(relexed.range()).collect();
-    let wanted: Vec<_> = lexed
-        .pieces()
-        .skip(relexed.kept_front)
-        .take(relexed.lexed)
-        .collect();
-    assert_eq!(painted, wanted, "{context}");
+    let wanted = wanted(&before, &old, lexed.tokens(), &range, insert.len());
+    assert_eq!(relexed, wanted, "{context}");
+    let painted = lexed.pieces_of(relexed.range());
+    let all = lexed.pieces().skip(relexed.kept_front);
+    assert!(painted.eq(all.take(relexed.lexed)), "{context}");
 }
 
 #[test]
@@ -167,16 +159,10 @@ fn more_tokens_than_the_room_of_one_call() {
 fn the_example_of_the_documents() {
     let mut lexed = LexedText::new("let ab = cd + ef;");
     edit_and_check(&mut lexed, 12..13, "- 1 -");
-    let relexed = lexed.edit(12..17, "+");
-    assert_eq!(
-        (relexed.kept_front, relexed.lexed, relexed.kept_back),
-        (6, 3, 3)
-    );
+    assert_eq!(lexed.edit(12..17, "+"), counts(6, 3, 3));
     assert_eq!(lexed.tokens()[2].kind, TokenKind::Ident);
-    assert_eq!(
-        lexed.tokens().last().map(|token| token.kind),
-        Some(TokenKind::Semi)
-    );
+    assert_eq!(lexed.tokens()[11].kind, TokenKind::Semi);
+    assert_eq!(lexed.tokens().len(), 12);
 }
 
 #[test]
@@ -195,44 +181,55 @@ fn editions() {
     assert_eq!(tokenize_in("", Edition::E2015).next(), None);
 }
 
+/// A range has to be inside the text and between characters, in a shebang line too.
 #[test]
+#[allow(clippy::reversed_empty_ranges)]
 fn what_is_not_accepted() {
-    let lexed = LexedText::new("aé");
     for (range, good) in [
         (0..0, true),
-        (1..3, true),
-        (1..2, false),
+        (2..4, true),
         (2..3, false),
-        (0..4, false),
-        (4..4, false),
+        (3..4, false),
+        (0..5, false),
+        (5..5, false),
+        (4..2, false),
     ] {
-        assert_eq!(lexed.accepts(range, "b"), good);
+        let (text, document) = (LexedText::new("#!é"), LexedDocument::new("#!é"));
+        assert_eq!(text.accepts(range.clone(), "b"), good, "{range:?}");
+        assert_eq!(document.accepts(range.clone(), "b"), good, "{range:?}");
     }
-    #[allow(clippy::reversed_empty_ranges)]
-    let reversed = 3..1;
-    assert!(!lexed.accepts(reversed, ""));
 }
 
+/// What the calls say that have no answer for a range.
 #[test]
-#[should_panic(
-    expected = "the edit of 1..2: the range has to be inside the text, between characters"
-)]
-fn an_edit_inside_a_character() {
-    LexedText::new("é").edit(1..2, "");
-}
-
-#[test]
-#[should_panic(expected = "token range 2..4 out of range for 3 tokens")]
-fn pieces_past_the_last() {
-    let _ = LexedText::new("a b").pieces_of(2..4);
-}
-
-#[test]
-#[should_panic(expected = "token range 2..1 out of range for 3 tokens")]
-fn pieces_of_no_range() {
-    #[allow(clippy::reversed_empty_ranges)]
-    let reversed = 2..1;
-    let _ = LexedText::new("a b").pieces_of(reversed);
+#[allow(clippy::reversed_empty_ranges)]
+fn ranges_that_panic() {
+    const EDIT: &str = "the edit of 1..2: the range has to be inside the text, between characters";
+    type Call = fn() -> usize;
+    let calls: [(Call, &str); 6] = [
+        (|| LexedText::new("é").edit(1..2, "").lexed, EDIT),
+        (|| LexedDocument::new("é").edit(1..2, "").lexed, EDIT),
+        (
+            || LexedText::new("a b").pieces_of(2..4).len(),
+            "token range 2..4 out of range for 3 tokens",
+        ),
+        (
+            || LexedDocument::new("#!a\nb").pieces_of(1..3).len(),
+            "token range 1..3 out of range for 2 tokens",
+        ),
+        (
+            || LexedText::new("a b").pieces_of(2..1).len(),
+            "token range 2..1 out of range for 3 tokens",
+        ),
+        (
+            || LexedDocument::new("#!a\nb c").pieces_of(2..1).len(),
+            "token range 2..1 out of range for 4 tokens",
+        ),
+    ];
+    for (call, wanted) in calls {
+        let said = catch_unwind(call).expect_err(wanted);
+        assert_eq!(said.downcast_ref::<String>().unwrap(), wanted);
+    }
 }
 
 /// Ranges that are none, and what a call says that has no answer for them. Text and tokens stay as they were.
@@ -244,19 +241,11 @@ fn ranges_that_are_refused() {
         let mut document = LexedDocument::new("aé");
         assert_eq!(text.try_edit(range.clone(), "b"), Err(EditError::Range));
         assert_eq!(document.try_edit(range.clone(), "b"), Err(EditError::Range));
-        let nothing = Edit {
-            start: 0,
-            stop: 0,
-            insert: "",
-        };
-        let edit = Edit {
-            start: range.start,
-            stop: range.end,
-            insert: "b",
-        };
+        let nothing = edit(0, 0, "");
+        let edits = [nothing, edit(range.start, range.end, "b"), nothing];
         let stop = Err(EditStop::Range { at: 1 });
-        assert_eq!(text.edit_all(&[nothing, edit, nothing]), stop);
-        assert_eq!(document.edit_all(&[nothing, edit, nothing]), stop);
+        assert_eq!(text.edit_all(&edits), stop);
+        assert_eq!(document.edit_all(&edits), stop);
         assert_eq!((text.text(), text.tokens().len()), ("aé", 1));
         assert_eq!((document.text(), document.tokens().len()), ("aé", 1));
     }
@@ -273,10 +262,7 @@ fn ranges_that_are_refused() {
         ),
         (EditError::Memory, "Memory", "memory allocation failed"),
     ] {
-        assert_eq!(
-            (error.to_string(), format!("{error:?}")),
-            (said.into(), name.into())
-        );
+        assert_eq!(format!("{error} {error:?}"), format!("{said} {name}"));
         // Who prints an error with its sources prints no words twice.
         assert!(std::error::Error::source(&error).is_none(), "{name}");
     }
@@ -286,18 +272,7 @@ fn ranges_that_are_refused() {
 /// Edits in order: each is of the text that those before it made.
 #[test]
 fn a_list_of_edits() {
-    let edits = [
-        Edit {
-            start: 8,
-            stop: 8,
-            insert: "z",
-        },
-        Edit {
-            start: 0,
-            stop: 3,
-            insert: "",
-        },
-    ];
+    let edits = [edit(8, 8, "z"), edit(0, 3, "")];
     let mut lexed = LexedText::new("ab cd ef");
     assert_eq!(lexed.edit_all(&edits), Ok(()));
     check(&lexed, "a list of edits");
@@ -309,35 +284,25 @@ fn a_list_of_edits() {
 /// What all edits of a list keep, worked by hand. The tokens have one byte each.
 #[test]
 fn what_a_list_keeps() {
-    let at = |start, stop, insert| Edit {
-        start,
-        stop,
-        insert,
-    };
     for (edits, kept) in [
         // None: all stay at the front.
-        (&[][..], (13, 0, 0)),
+        (&[][..], counts(13, 0, 0)),
         // One: what `edit` returns.
-        (&[at(8, 9, "+")][..], (6, 3, 4)),
+        (&[edit(8, 9, "+")][..], counts(6, 3, 4)),
         // The front of the later edit and the back of the earlier one, and the other way round.
-        (&[at(8, 9, "+"), at(4, 5, "-")], (2, 7, 4)),
-        (&[at(4, 5, "-"), at(8, 9, "+")], (2, 7, 4)),
+        (&[edit(8, 9, "+"), edit(4, 5, "-")], counts(2, 7, 4)),
+        (&[edit(4, 5, "-"), edit(8, 9, "+")], counts(2, 7, 4)),
         // One that makes three tokens of two, and one that takes them out again: what was lexed is not old.
-        (&[at(8, 9, "+ 1"), at(8, 11, "e")], (6, 3, 4)),
+        (&[edit(8, 9, "+ 1"), edit(8, 11, "e")], counts(6, 3, 4)),
         // The first opens a comment to the end, the second closes it.
-        (&[at(6, 6, "/*"), at(9, 9, "*/")], (4, 9, 0)),
+        (&[edit(6, 6, "/*"), edit(9, 9, "*/")], counts(4, 9, 0)),
         // All of the text is taken out.
-        (&[at(0, 13, "")], (0, 0, 0)),
+        (&[edit(0, 13, "")], counts(0, 0, 0)),
     ] {
         let mut text = LexedText::new("a b c d e f g");
         let mut document = LexedDocument::new("a b c d e f g");
-        let relexed = text.edit_each(edits).unwrap();
-        assert_eq!(
-            (relexed.kept_front, relexed.lexed, relexed.kept_back),
-            kept,
-            "{edits:?}"
-        );
-        assert_eq!(document.edit_each(edits), Ok(relexed), "{edits:?}");
+        assert_eq!(text.edit_each(edits), Ok(kept), "{edits:?}");
+        assert_eq!(document.edit_each(edits), Ok(kept), "{edits:?}");
         check(&text, "a list of edits");
     }
 }
@@ -362,15 +327,9 @@ fn random_lists_of_edits() {
                     ranges.push(range);
                     inserts.push(insert);
                 }
-                let edits: Vec<_> = ranges
-                    .iter()
-                    .zip(&inserts)
-                    .map(|(range, insert)| Edit {
-                        start: range.start,
-                        stop: range.end,
-                        insert,
-                    })
-                    .collect();
+                let pairs = ranges.iter().zip(&inserts);
+                let edits = pairs.map(|(range, insert)| edit(range.start, range.end, insert));
+                let edits: Vec<_> = edits.collect();
                 let relexed = lexed.edit_each(&edits).unwrap();
                 let new = lexed.tokens();
                 assert_eq!((lexed.text(), new), (made.text(), made.tokens()));
@@ -378,11 +337,8 @@ fn random_lists_of_edits() {
                 assert_eq!(front + relexed.lexed + back, new.len());
                 assert!(front + back <= old.len(), "{text:?}: {edits:?}");
                 assert_eq!(new[..front], old[..front], "{text:?}: {edits:?}");
-                assert_eq!(
-                    new[new.len() - back..],
-                    old[old.len() - back..],
-                    "{text:?}: {edits:?}"
-                );
+                let behind = (&new[new.len() - back..], &old[old.len() - back..]);
+                assert_eq!(behind.0, behind.1, "{text:?}: {edits:?}");
             }
         };
     }
@@ -393,11 +349,7 @@ fn random_lists_of_edits() {
 /// What was made before an edit that is refused stays.
 #[test]
 fn a_list_of_edits_that_stops() {
-    let edits = [(0, 1, "b"), (2, 3, "")].map(|(start, stop, insert)| Edit {
-        start,
-        stop,
-        insert,
-    });
+    let edits = [edit(0, 1, "b"), edit(2, 3, "")];
     let mut text = LexedText::new("a");
     let mut document = LexedDocument::new("a");
     assert_eq!(text.edit_each(&edits), Err(EditStop::Range { at: 1 }));
@@ -412,33 +364,49 @@ fn clones_and_defaults() {
     let second = lexed.clone();
     let piece = second.pieces().nth(1);
     lexed.edit(0..1, "");
-    assert_eq!(
-        (lexed.text(), second.text(), second.tokens().len()),
-        ("r#a", "'r#a", 3)
-    );
-    assert_eq!(
-        (second.edition(), lexed.edition()),
-        (Edition::E2018, Edition::E2018)
-    );
+    assert_eq!((lexed.text(), lexed.edition()), ("r#a", Edition::E2018));
+    assert_eq!((second.text(), second.edition()), ("'r#a", Edition::E2018));
+    assert_eq!(second.tokens().len(), 3);
     assert_eq!(second.pieces().clone().nth(1), piece);
     let mut document = LexedDocument::new("#!/a\nb");
     let second = document.clone();
     document.edit(0..5, "");
-    assert_eq!(
-        (document.text(), second.text(), second.shebang_len()),
-        ("b", "#!/a\nb", 4)
-    );
+    assert_eq!((second.text(), second.shebang_len()), ("#!/a\nb", 4));
+    assert_eq!(document.text(), "b");
     let empty = LexedText::default();
-    assert_eq!(
-        (empty.text(), empty.tokens().len(), empty.edition()),
-        ("", 0, Edition::E2024)
-    );
+    assert_eq!((empty.text(), empty.tokens().len()), ("", 0));
+    assert_eq!(empty.edition(), Edition::E2024);
     assert_eq!(LexedDocument::default().edition(), Edition::E2024);
     let by_default = LexedText::try_with("'r#a", Steps::default()).unwrap();
-    assert_eq!(
-        (by_default.edition(), by_default.tokens().len()),
-        (Edition::E2024, 1)
-    );
+    assert_eq!(by_default.edition(), Edition::E2024);
+    assert_eq!(by_default.tokens().len(), 1);
+}
+
+/// Two are equal if text and edition are, however they were made. The text is given back as edits left it.
+#[test]
+fn what_is_equal_and_given_back() {
+    macro_rules! rows {
+        ($Kept:ident) => {
+            let mut lexed = $Kept::new("#!a\nlet x;");
+            assert_eq!(lexed, lexed.clone());
+            assert_eq!(lexed, $Kept::try_with(lexed.text(), Steps::new()).unwrap());
+            // The tokens of both editions are the same.
+            let older = $Kept::new_in(lexed.text(), Edition::E2021);
+            assert_eq!(lexed.tokens(), older.tokens());
+            assert_ne!(lexed, older);
+            lexed.set_edition(Edition::E2021);
+            assert_eq!(lexed, older);
+            lexed.edit(8..9, "é");
+            assert_ne!(lexed, older);
+            assert_eq!(lexed, $Kept::new_in("#!a\nlet é;", Edition::E2021));
+            let held = lexed.text().as_ptr();
+            let text = lexed.into_string();
+            assert_eq!((text.as_str(), text.as_ptr()), ("#!a\nlet é;", held));
+            assert_eq!($Kept::default().into_string(), "");
+        };
+    }
+    rows!(LexedText);
+    rows!(LexedDocument);
 }
 
 /// A text is taken as it is held.
@@ -472,10 +440,8 @@ fn what_is_written_of_texts() {
         (format!("{:#?}", LexedText::new("")), "LexedText"),
         (format!("{:#?}", LexedDocument::new("")), "LexedDocument"),
     ] {
-        assert_eq!(
-            shown,
-            [name, " {\n    text: \"\",\n    tokens: [],\n    ..\n}"].concat()
-        );
+        let wanted = " {\n    text: \"\",\n    tokens: [],\n    ..\n}";
+        assert_eq!(shown, [name, wanted].concat());
     }
     let lexed = LexedText::new("a b");
     let mut pieces = lexed.pieces();
@@ -498,10 +464,8 @@ fn marks_at_the_ends_of_a_text() {
             assert_eq!(lexed.text(), "\u{feff}a\u{feff}b\0");
             let (none, word) = (TokenKind::Unknown, TokenKind::Ident);
             let tokens: Vec<_> = lexed.tokens().iter().map(|it| (it.kind, it.len)).collect();
-            assert_eq!(
-                tokens,
-                [(none, 3), (word, 1), (none, 3), (word, 1), (none, 1)]
-            );
+            let wanted = [(none, 3), (word, 1), (none, 3), (word, 1), (none, 1)];
+            assert_eq!(tokens, wanted);
         };
     }
     keeps_them!(LexedText);

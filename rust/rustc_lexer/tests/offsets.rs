@@ -25,21 +25,16 @@ fn starts(tokens: &[Token], mut start: usize) -> Vec<usize> {
 
 /// The token at the offset, by looking at each.
 fn found(starts: &[usize], offset: usize) -> Option<Bound> {
-    let at = starts
-        .windows(2)
-        .position(|ends| (ends[0]..ends[1]).contains(&offset))?;
-    Some(Bound {
-        number: at,
-        place: starts[at],
-    })
+    let mut ends = starts.windows(2);
+    let number = ends.position(|ends| (ends[0]..ends[1]).contains(&offset))?;
+    let place = starts[number];
+    Some(Bound { number, place })
 }
 
 /// The numbers of the tokens that contain a byte of the range, by looking at each.
 fn touched(starts: &[usize], range: &Range<usize>) -> Vec<usize> {
-    let touches = |ends: &[usize]| ends[0].max(range.start) < ends[1].min(range.end);
-    (0..starts.len() - 1)
-        .filter(|&number| touches(&starts[number..number + 2]))
-        .collect()
+    let touches = |n: &usize| starts[*n].max(range.start) < starts[n + 1].min(range.end);
+    (0..starts.len() - 1).filter(touches).collect()
 }
 
 /// Checks offsets and ranges of a text that is kept: those near `place`, and some anywhere.
@@ -50,21 +45,16 @@ macro_rules! check {
         let first = $place - $place.min(3);
         let offsets = (first..first + 6).chain((0..6).map(|_| $random.below(end)));
         for offset in offsets.chain([usize::MAX]) {
-            assert_eq!(
-                lexed.token_at(offset),
-                found(&starts, offset),
-                "{offset} in {lexed:?}"
-            );
+            let found = found(&starts, offset);
+            assert_eq!(lexed.token_at(offset), found, "{offset} in {lexed:?}");
         }
         for _ in 0..4 {
             let range = $random.below(end)..$random.below(end);
-            let pieces: Vec<_> = lexed.pieces_in(range.clone()).collect();
             let numbers = touched(&starts, &range);
-            let wanted = numbers
-                .first()
-                .map_or(0..0, |from| *from..from + numbers.len());
-            let wanted: Vec<_> = lexed.pieces_of(wanted).collect();
-            assert_eq!(pieces, wanted, "{range:?} in {lexed:?}");
+            let first = numbers.first().copied().unwrap_or(0);
+            let wanted = lexed.pieces_of(first..first + numbers.len());
+            let pieces = lexed.pieces_in(range.clone());
+            assert!(pieces.eq(wanted), "{range:?} in {lexed:?}");
         }
     }};
 }
@@ -85,13 +75,8 @@ fn offsets_under_edits() {
         text.edit(range.clone(), &insert);
         document.edit(range.clone(), &insert);
         check!(text, starts(text.tokens(), 0), random, range.start);
-        let begin = document.shebang_len();
-        check!(
-            document,
-            starts(document.tokens(), begin),
-            random,
-            range.start
-        );
+        let starts = starts(document.tokens(), document.shebang_len());
+        check!(document, starts, random, range.start);
     }
 }
 
@@ -112,7 +97,7 @@ fn a_long_text() {
 #[test]
 fn offsets_of_a_text() {
     let text = LexedText::new("let é = 1;");
-    let rows = [
+    for (offset, wanted) in [
         (0, Some((0, 0))),
         (2, Some((0, 0))),
         (3, Some((1, 3))),
@@ -122,8 +107,7 @@ fn offsets_of_a_text() {
         (10, Some((7, 10))),
         (11, None),
         (usize::MAX, None),
-    ];
-    for (offset, wanted) in rows {
+    ] {
         let found = text.token_at(offset).map(|at| (at.number, at.place));
         assert_eq!(found, wanted, "{offset}");
     }
@@ -133,7 +117,7 @@ fn offsets_of_a_text() {
 #[test]
 fn offsets_of_a_document() {
     let document = LexedDocument::new("#!/bin/sh\n---\na\n---\nfn");
-    let rows = [
+    for (offset, wanted) in [
         (0, None),
         (8, None),
         (9, Some((0, 9))),
@@ -142,8 +126,7 @@ fn offsets_of_a_document() {
         (19, Some((2, 19))),
         (21, Some((3, 20))),
         (22, None),
-    ];
-    for (offset, wanted) in rows {
+    ] {
         let found = document.token_at(offset).map(|at| (at.number, at.place));
         assert_eq!(found, wanted, "{offset}");
     }

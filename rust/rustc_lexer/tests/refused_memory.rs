@@ -5,8 +5,7 @@ mod refusing;
 
 use refusing::{given, refused_once, requests};
 use rustc_lexer::{
-    AllocError, Edit, EditError, EditStop, Edition, LexedDocument, LexedText, Stepper, Steps,
-    Token, TokenKind,
+    AllocError, Edit, EditError, EditStop, Edition, LexedDocument, LexedText, Steps,
 };
 use std::panic::{AssertUnwindSafe, catch_unwind};
 
@@ -59,64 +58,31 @@ fn heads_of_documents() {
     assert!((1..99).contains(&refused), "{refused} refusals");
 }
 
-/// A stepper that breaks its rules: its tokens have no length.
-struct Nothing;
-
-impl Stepper for Nothing {
-    fn step(&mut self, _: &str) -> Token {
-        Token {
-            kind: TokenKind::Unknown,
-            len: 0,
-        }
-    }
-}
-
-/// What docs/ERASED.md says of such a stepper: its tokens take memory until there is none.
-#[test]
-fn tokens_of_no_length() {
-    let memory = Some(EditError::Memory);
-    let (text, document) = given(9, || {
-        let text = LexedText::try_with("a", Nothing).err();
-        (text, LexedDocument::try_with("a", Nothing).err())
-    });
-    assert_eq!((text, document), (memory, memory));
-    let mut lexed = LexedText::try_with("", Nothing).unwrap();
-    assert_eq!(given(9, || lexed.try_edit(0..0, "a")).err(), memory);
-    assert_eq!((lexed.text(), lexed.tokens().len()), ("", 0));
+/// What the calls that make a kept text answer to whom nothing is given.
+fn errors_without_memory(text: &str) -> [Option<EditError>; 4] {
+    let edition = Edition::E2024;
+    [
+        given(0, || LexedText::try_new_in(text, edition)).err(),
+        given(0, || LexedText::try_with(text, Steps::new())).err(),
+        given(0, || LexedDocument::try_new_in(text, edition)).err(),
+        given(0, || LexedDocument::try_with(text, Steps::new())).err(),
+    ]
 }
 
 /// What each call answers to whom nothing is given, and what stands then.
 #[test]
 fn texts_and_another_edition() {
     let memory = Some(EditError::Memory);
-    let edition = Edition::E2024;
-    let text = "a + b";
-    assert_eq!(
-        given(0, || LexedText::try_new_in(text, edition)).err(),
-        memory
-    );
-    assert_eq!(
-        given(0, || LexedText::try_with(text, Steps::new())).err(),
-        memory
-    );
-    assert_eq!(
-        given(0, || LexedDocument::try_new_in(text, edition)).err(),
-        memory
-    );
-    assert_eq!(
-        given(0, || LexedDocument::try_with(text, Steps::new())).err(),
-        memory
-    );
+    assert_eq!(errors_without_memory("a + b"), [memory; 4]);
     let mut lexed = LexedText::new("'r#a");
     let mut document = LexedDocument::new("'r#a");
     let refused = Err(AllocError);
     assert_eq!(given(0, || lexed.try_set_edition(Edition::E2015)), refused);
-    assert_eq!(
-        given(0, || document.try_set_edition(Edition::E2015)),
-        refused
-    );
-    assert_eq!((lexed.edition(), lexed.tokens().len()), (edition, 1));
-    assert_eq!((document.edition(), document.tokens().len()), (edition, 1));
+    let answer = given(0, || document.try_set_edition(Edition::E2015));
+    assert_eq!(answer, refused);
+    let newest = Edition::E2024;
+    assert_eq!((lexed.edition(), lexed.tokens().len()), (newest, 1));
+    assert_eq!((document.edition(), document.tokens().len()), (newest, 1));
     let edits = [Edit {
         start: 0,
         stop: 0,
@@ -127,11 +93,8 @@ fn texts_and_another_edition() {
     assert_eq!(given(0, || document.edit_all(&edits)), stop);
     assert_eq!(given(0, || lexed.edit_each(&edits)).map(drop), stop);
     assert_eq!(given(0, || document.edit_each(&edits)).map(drop), stop);
-    let insert = edits[0].insert;
-    assert_eq!(
-        given(0, || document.try_edit(0..0, insert)),
-        Err(EditError::Memory)
-    );
+    let answer = given(0, || document.try_edit(0..0, edits[0].insert));
+    assert_eq!(answer.err(), memory);
     assert_eq!((lexed.text(), document.text()), ("'r#a", "'r#a"));
     assert_eq!(given(9, || lexed.try_set_edition(Edition::E2015)), Ok(()));
     assert_eq!(lexed.tokens().len(), 3);
@@ -149,16 +112,7 @@ fn the_longest_text() {
         assert!(!zeros.is_null());
         std::str::from_utf8_unchecked(std::slice::from_raw_parts(zeros, len))
     };
-    let edition = Edition::E2024;
-    let errors = given(0, || {
-        [
-            LexedText::try_new_in(text, edition).err(),
-            LexedText::try_with(text, Steps::new()).err(),
-            LexedDocument::try_new_in(text, edition).err(),
-            LexedDocument::try_with(text, Steps::new()).err(),
-        ]
-    });
-    assert_eq!(errors, [Some(EditError::Memory); 4]);
+    assert_eq!(errors_without_memory(text), [Some(EditError::Memory); 4]);
 }
 
 /// The calls that answer no error say by a panic that an allocation failed. Nothing changes then.
@@ -184,10 +138,8 @@ fn calls_that_panic() {
         let call = AssertUnwindSafe(|| call(&mut text, &mut document));
         let said = refused_once(|| catch_unwind(call)).expect_err("it panics");
         let said = said.downcast_ref::<String>().expect("it says why");
-        assert!(
-            said.ends_with("memory allocation failed"),
-            "{number}: {said}"
-        );
+        let is_said = said.ends_with("memory allocation failed");
+        assert!(is_said, "{number}: {said}");
         assert_eq!((text.text(), document.text()), ("'r#a", "'r#a"));
         let editions = (text.edition(), document.edition());
         assert_eq!(editions, (Edition::E2024, Edition::E2024));

@@ -133,18 +133,11 @@ fn edits_that_make_one() {
     }
     assert_eq!(text.try_edit(2..2, insert), Err(EditError::Range));
     assert_eq!(document.try_edit(2..2, insert), Err(EditError::Range));
-    let edits = [
-        Edit {
-            start: 0,
-            stop: 0,
-            insert: "b",
-        },
-        Edit {
-            start: 0,
-            stop: 0,
-            insert,
-        },
-    ];
+    let edits = ["b", insert].map(|insert| Edit {
+        start: 0,
+        stop: 0,
+        insert,
+    });
     assert_eq!(text.edit_all(&edits), Err(EditStop::TooLong { at: 1 }));
     assert_eq!(document.edit_all(&edits), Err(EditStop::TooLong { at: 1 }));
     assert_eq!((text.text(), document.text()), ("baé", "baé"));

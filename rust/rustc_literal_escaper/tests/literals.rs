@@ -42,9 +42,8 @@ fn errors_are_those_of_the_units() {
     }
     let mut texts = vec![String::new()];
     for _ in 0..4 {
-        let longer = texts
-            .iter()
-            .flat_map(|text| pieces.map(|piece| text.clone() + piece));
+        let longer = |text: &String| pieces.map(|piece| text.clone() + piece);
+        let longer = texts.iter().flat_map(longer);
         texts = [String::new()].into_iter().chain(longer).collect();
     }
     for text in &texts {
@@ -135,76 +134,57 @@ fn bytes() {
     ] {
         assert_eq!(unescape_byte(text), want, "in {text:?}");
     }
-    assert_eq!(
-        errors("é", Mode::Byte),
-        [(0..2, EscapeError::NonAsciiCharInByte)]
-    );
+    assert_eq!(errors("é", Mode::Byte), [(0..2, NonAsciiCharInByte)]);
 }
 
 #[test]
 fn strings() {
     let none: Units<char> = Vec::new();
     assert_eq!(units!(unescape_str, ""), none);
-    assert_eq!(
-        units!(unescape_str, "a\\t\\\n  b\"\r"),
-        [
-            (0..1, Ok('a')),
-            (1..3, Ok('\t')),
-            (7..8, Ok('b')),
-            (8..9, Err(EscapeOnlyChar)),
-            (9..10, Err(BareCarriageReturn)),
-        ]
-    );
-    assert_eq!(
-        units!(unescape_str, "\\\n\n\u{a0}"),
-        [
-            (0..3, Err(MultipleSkippedLinesWarning)),
-            (0..5, Err(UnskippedWhitespaceWarning)),
-            (3..5, Ok('\u{a0}')),
-        ]
-    );
-    assert_eq!(
-        units!(unescape_byte_str, r"\xffé\u{41}"),
-        [
-            (0..4, Ok(255)),
-            (4..6, Err(NonAsciiCharInByte)),
-            (6..12, Err(UnicodeEscapeInByte)),
-        ]
-    );
+    let wanted = [
+        (0..1, Ok('a')),
+        (1..3, Ok('\t')),
+        (7..8, Ok('b')),
+        (8..9, Err(EscapeOnlyChar)),
+        (9..10, Err(BareCarriageReturn)),
+    ];
+    assert_eq!(units!(unescape_str, "a\\t\\\n  b\"\r"), wanted);
+    let wanted = [
+        (0..3, Err(MultipleSkippedLinesWarning)),
+        (0..5, Err(UnskippedWhitespaceWarning)),
+        (3..5, Ok('\u{a0}')),
+    ];
+    assert_eq!(units!(unescape_str, "\\\n\n\u{a0}"), wanted);
+    let wanted = [
+        (0..4, Ok(255)),
+        (4..6, Err(NonAsciiCharInByte)),
+        (6..12, Err(UnicodeEscapeInByte)),
+    ];
+    assert_eq!(units!(unescape_byte_str, r"\xffé\u{41}"), wanted);
     let char = |c| Ok(MixedUnit::Char(NonZero::new(c).unwrap()));
-    assert_eq!(
-        units!(unescape_c_str, r"é\xff\x41\0"),
-        [
-            (0..2, char('é')),
-            (2..6, Ok(MixedUnit::HighByte(NonZero::new(255).unwrap()))),
-            (6..10, char('A')),
-            (10..12, Err(NulInCStr)),
-        ]
-    );
-    assert_eq!(
-        units!(check_raw_str, "\\n\r"),
-        [
-            (0..1, Ok('\\')),
-            (1..2, Ok('n')),
-            (2..3, Err(BareCarriageReturnInRawString)),
-        ]
-    );
-    assert_eq!(
-        units!(check_raw_byte_str, "aé"),
-        [(0..1, Ok(b'a')), (1..3, Err(NonAsciiCharInByte))]
-    );
-    assert_eq!(
-        units!(check_raw_c_str, "é\0"),
-        [
-            (0..2, Ok(NonZero::new('é').unwrap())),
-            (2..3, Err(NulInCStr)),
-        ]
-    );
+    let wanted = [
+        (0..2, char('é')),
+        (2..6, Ok(MixedUnit::HighByte(NonZero::new(255).unwrap()))),
+        (6..10, char('A')),
+        (10..12, Err(NulInCStr)),
+    ];
+    assert_eq!(units!(unescape_c_str, r"é\xff\x41\0"), wanted);
+    let wanted = [
+        (0..1, Ok('\\')),
+        (1..2, Ok('n')),
+        (2..3, Err(BareCarriageReturnInRawString)),
+    ];
+    assert_eq!(units!(check_raw_str, "\\n\r"), wanted);
+    let wanted = [(0..1, Ok(b'a')), (1..3, Err(NonAsciiCharInByte))];
+    assert_eq!(units!(check_raw_byte_str, "aé"), wanted);
+    let wanted = [
+        (0..2, Ok(NonZero::new('é').unwrap())),
+        (2..3, Err(NulInCStr)),
+    ];
+    assert_eq!(units!(check_raw_c_str, "é\0"), wanted);
     assert_eq!(errors(r"a\0", Mode::CStr), [(1..3, NulInCStr)]);
-    assert_eq!(
-        errors("a\r", Mode::RawStr),
-        [(1..2, BareCarriageReturnInRawString)]
-    );
+    let wanted = [(1..2, BareCarriageReturnInRawString)];
+    assert_eq!(errors("a\r", Mode::RawStr), wanted);
 }
 
 /// Literals with as many units as cross at once, one less and more.
@@ -212,10 +192,8 @@ fn strings() {
 fn long_strings() {
     for count in [127, 128, 129, 1000] {
         let text = r"\n".repeat(count);
-        let want: Units<char> = (0..count)
-            .map(|at| (2 * at..2 * at + 2, Ok('\n')))
-            .collect();
-        assert_eq!(units!(unescape_str, &text), want);
+        let want = (0..count).map(|at| (2 * at..2 * at + 2, Ok('\n')));
+        assert_eq!(units!(unescape_str, &text), want.collect::<Units<char>>());
     }
 }
 
@@ -231,35 +209,23 @@ fn plain_text_around() {
             units.extend((end..end + 20).map(|at| (at..at + 1, Ok('b'))));
             units
         };
+        let same = |x: &str, units: Units<char>, unit| {
+            assert_eq!(units, around(x, unit), "behind {before}");
+        };
+        let in_raw = Err(BareCarriageReturnInRawString);
         for (x, in_string, in_raw_string) in [
             ("\"", Err(EscapeOnlyChar), Ok('"')),
-            (
-                "\r",
-                Err(BareCarriageReturn),
-                Err(BareCarriageReturnInRawString),
-            ),
+            ("\r", Err(BareCarriageReturn), in_raw),
             ("\0", Ok('\0'), Ok('\0')),
             ("\x7f", Ok('\x7f'), Ok('\x7f')),
             ("\u{80}", Ok('\u{80}'), Ok('\u{80}')),
             ("●", Ok('●'), Ok('●')),
         ] {
-            assert_eq!(
-                units!(unescape_str, &text(x)),
-                around(x, in_string),
-                "behind {before}"
-            );
-            assert_eq!(
-                units!(check_raw_str, &text(x)),
-                around(x, in_raw_string),
-                "behind {before}"
-            );
+            same(x, units!(unescape_str, &text(x)), in_string);
+            same(x, units!(check_raw_str, &text(x)), in_raw_string);
         }
         for x in [r"\n", r"\x0a", r"\u{a}"] {
-            assert_eq!(
-                units!(unescape_str, &text(x)),
-                around(x, Ok('\n')),
-                "behind {before}"
-            );
+            same(x, units!(unescape_str, &text(x)), Ok('\n'));
         }
         let wrong = |units: Units<u8>| units.iter().position(|unit| unit.1.is_err());
         assert_eq!(wrong(units!(unescape_byte_str, &text("é"))), Some(before));
@@ -286,11 +252,8 @@ fn warnings_of_long_strings() {
     }
     for before in 0..2 {
         let text = r"\q".repeat(before) + &"\\\n\n\u{a0}".repeat(150);
-        assert_eq!(
-            errors(&text, Mode::Str).len(),
-            before + 300,
-            "behind {before}"
-        );
+        let count = errors(&text, Mode::Str).len();
+        assert_eq!(count, before + 300, "behind {before}");
     }
 }
 
@@ -302,10 +265,8 @@ fn modes_and_units() {
     assert_eq!(MixedUnit::try_from('\0'), Err(NulInCStr));
     assert_eq!(MixedUnit::try_from(0u8), Err(NulInCStr));
     assert_eq!(MixedUnit::try_from(b'a'), MixedUnit::try_from('a'));
-    assert_eq!(
-        MixedUnit::try_from(128u8),
-        Ok(MixedUnit::HighByte(NonZero::new(128).unwrap()))
-    );
+    let byte = MixedUnit::HighByte(NonZero::new(128).unwrap());
+    assert_eq!(MixedUnit::try_from(128u8), Ok(byte));
     let twice = (1..=255u8).chain(1..=255).map(MixedUnit::try_from);
     let units: HashSet<MixedUnit> = twice.map(Result::unwrap).collect();
     assert_eq!(units.len(), 255);

@@ -41,10 +41,8 @@ fn where_nothing_is_written() {
     out.shrink_to_fit();
     assert_eq!(given(0, || escape_str(&long, &mut out)), Err(AllocError));
     let bytes = long.as_bytes();
-    assert_eq!(
-        given(0, || escape_byte_str(bytes, &mut out)),
-        Err(AllocError)
-    );
+    let answer = given(0, || escape_byte_str(bytes, &mut out));
+    assert_eq!(answer, Err(AllocError));
     let memory = Err(EscapeCStrError::Memory);
     assert_eq!(given(0, || escape_c_str(bytes, &mut out)), memory);
     assert_eq!(out, "front");

@@ -18,7 +18,7 @@ mark a b c (d ∷ s) e =
     record { rest = s; whole = ap (λ x. x ∷ d ∷ s) (eqb-true c a t.0) ∙ ap (λ x. a ∷ x ∷ s) (eqb-true d b (and_parts (d == b) true t.1).0) }
 
 -- what a rule allows, the function finds
-found : (fuel : ℕ) {s : List ℕ} {n : ℕ} → Closes s n → length s ≤ fuel → end_within fuel s ≡ Some n
+pub found : (fuel : ℕ) {s : List ℕ} {n : ℕ} → Closes s n → length s ≤ fuel → end_within fuel s ≡ Some n
 found zero at_mark fits = absurd (omega arith)
 found zero (nested p q) fits = absurd (omega arith)
 found zero (past_one e f p) fits = absurd (omega arith)
@@ -33,7 +33,7 @@ pub comment_end-found : {s : List ℕ} {n : ℕ} → Closes s n → comment_end 
 comment_end-found {s} p = found (length s) p (omega arith)
 
 -- what the function finds, a rule allows
-allowed : (fuel : ℕ) (s : List ℕ) (n : ℕ) → end_within fuel s ≡ Some n → Closes s n
+pub allowed : (fuel : ℕ) (s : List ℕ) (n : ℕ) → end_within fuel s ≡ Some n → Closes s n
 allowed zero s n e = absurd (cc)
 allowed (suc fuel) [] n e = absurd (cc)
 allowed (suc fuel) (c ∷ cs) n e = by_mark (allowed fuel) (at_closing (c ∷ cs)) (at_opening (c ∷ cs)) refl refl

@@ -1,6 +1,6 @@
 -- What is true of each arm of a choice is true of the choice.
-use Rattle.std.proofs.Common.{◌≡◌, ℕ, ◌==◌, Bool, true, false, if◌then◌else◌, List, [], ◌∷◌, refl, sym, subst, Option, Some, None}
-use Rattle.std.proofs.lemmas.Bool.{eqb-true, and_parts}
+use Rattle.std.proofs.Common.{◌≡◌, ℕ, ◌==◌, Bool, true, false, if◌then◌else◌, List, [], ◌∷◌, refl, Option, Some, None}
+use Rattle.std.proofs.lemmas.Bool.{and_parts}
 use Rattle.std.specs.List.{list_all}
 use Rattle.rustc_lexer.specs.{TokenKind, Unknown}
 use Rattle.rustc_lexer.specs.Tables.{kind_among}
@@ -19,10 +19,6 @@ by_either false t f = f refl
 pub by_found : {A B : Type 0} (o : Option A) → ((x : A) → o ≡ Some x → B) → (o ≡ None → B) → B
 by_found (Some x) found lost = found x refl
 by_found None found lost = lost refl
-
--- what is true at one character, of each that is it
-pub at_char : (P : ℕ → (List ℕ → TokenKind × ℕ) → Type 0) (d : ℕ) (scan : List ℕ → TokenKind × ℕ) → P d scan → (c : ℕ) → (c == d) ≡ true → P c scan
-at_char P d scan is c e = subst (λ (x : ℕ). P x scan) (sym (eqb-true c d e)) is
 
 -- of each symbol in a list, at each character, and of a character that is none of them
 pub by_symbol : (p : TokenKind → Bool) (ss : List (ℕ × TokenKind)) (c : ℕ) → list_all (λ (s : ℕ × TokenKind). p s.1) ss ≡ true → p Unknown ≡ true → p (kind_among ss c) ≡ true

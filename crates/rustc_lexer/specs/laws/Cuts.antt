@@ -6,8 +6,7 @@ use Rattle.rustc_lexer.specs.{Token}
 use Rattle.rustc_lexer.specs.Locality.{AgreePast, IsGrammar}
 use Rattle.rustc_lexer.specs.Partition.{bound, cut_by, tokens_by}
 use Rattle.rustc_lexer.specs.Classes.{IsText}
-use Rattle.rustc_lexer.specs.laws.Texts.{agree_inside}
-use Rattle.rustc_lexer.specs.laws.TokenBy.{left_text}
+use Rattle.rustc_lexer.specs.laws.Texts.{agree_inside, left_text}
 
 -- the first characters of a text, two at most
 abbrev pub look : List ℕ → List ℕ

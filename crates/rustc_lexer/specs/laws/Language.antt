@@ -1,6 +1,6 @@
 -- What is read at the front of a text is a token of the language, and a token of the language is what is read.
-use Rattle.std.proofs.Common.{◌≡◌, ◌↔◌, ℕ, Bool, true, false, List, [], ◌∷◌, ◌++◌, length, take, drop, codes, refl, sym, ap, ◌∙◌, subst, take-append-drop, arith}
-use Rattle.std.proofs.Math.Seq.{take-append_seam, drop-append_seam}
+use Rattle.std.proofs.Common.{◌≡◌, ℕ, Bool, true, false, List, [], ◌∷◌, ◌++◌, length, take, drop, codes, refl, sym, ap, ◌∙◌, subst, take-append-drop, arith}
+use Rattle.std.proofs.Math.Seq.{take-append_seam}
 use Rattle.std.proofs.lemmas.Bool.{and_parts, eqb-true}
 use Rattle.std.proofs.lemmas.Grind.{common_steps}
 use Rattle.unicode_ident.proofs.Computing.{unicode_ident}
@@ -9,12 +9,11 @@ use Rattle.rustc_lexer.specs.{LiteralKind, TokenKind, ForcedKeywordIdent}
 use Rattle.rustc_lexer.specs.Classes.{is_id_start, is_id_continue, NextIs}
 use Rattle.rustc_lexer.specs.means.Ident.{ident_or_unknown_prefix, marks_ident}
 use Rattle.rustc_lexer.specs.laws.Choice.{by_test}
-use Rattle.rustc_lexer.specs.laws.Family.{by_letter}
 use Rattle.rustc_lexer.specs.laws.LanguageComments.{space-sound, space-read, hash-sound, pound-read, guarded-read, symbol-sound, symbol-read, slash-sound, slash-read, line-read, block-read, open-read}
 use Rattle.rustc_lexer.specs.laws.LanguageLifetimes.{quote-sound, lifetime-read, prefix-read, raw_lifetime-read, char-reads, one-reads, name-reads}
 use Rattle.rustc_lexer.specs.laws.LanguageLiterals.{str-sound, byte-sound, byte_str-sound, c_str-sound, raw_str-sound, raw_byte_str-sound, raw_c_str-sound, number-sound, ReadsLiteral, plain-read, with_suffix-read, str-reads, byte-reads, byte_str-reads, c_str-reads, raw_str-reads, raw_byte_str-reads, raw_c_str-reads, number-reads}
 use Rattle.rustc_lexer.specs.laws.LanguageRuns.{Sound, EachChosen, each_chosen}
-use Rattle.rustc_lexer.specs.laws.LanguageWords.{no-opening, raw_mark-none, none-raw, ident-sound, invalid-sound, raw_ident-sound, keyword-sound, ident-is_read, prefix-read as word_prefix-read, invalid-read, raw_ident-read, keyword-read}
+use Rattle.rustc_lexer.specs.laws.LanguageWords.{by_letter, no-opening, raw_mark-none, none-raw, ident-sound, invalid-sound, raw_ident-sound, keyword-sound, ident-is_read, prefix-read as word_prefix-read, invalid-read, raw_ident-read, keyword-read}
 use Rattle.rustc_lexer.specs.Language as the
 use Rattle.rustc_lexer.specs.LiteralGrammar as lit
 use Rattle.rustc_lexer.specs.Language.{begins_prefixed, IsTokenBefore}
@@ -125,22 +124,7 @@ token-read {next} (the.symbol {c} is) = symbol-read c next is
 
 -- ---- both
 
--- what is read at the front of a text is the token that the language has there, the only one
-abbrev pub IsLanguage : Type 0
-IsLanguage =
-    (next w : List ℕ) (kind : TokenKind)
-    → IsTokenBefore next kind w ↔ (lexeme (w ++ next) ≡ (kind, length w))
-
-pub language : IsLanguage
-language next w kind = (token-read, read-token)
-  where
-    read-token : lexeme (w ++ next) ≡ (kind, length w) → IsTokenBefore next kind w
-    read-token e =
-        subst (λ (u : List ℕ). IsTokenBefore u kind w) (drop-append_seam w next)
-        (subst (λ (v : List ℕ). IsTokenBefore (drop (length w) (w ++ next)) kind v) (take-append_seam w next)
-        (subst (λ (r : TokenKind × ℕ). IsTokenBefore (drop r.1 (w ++ next)) r.0 (take r.1 (w ++ next))) e (lexeme-sound (w ++ next))))
-
--- and each text begins with one
+-- each text begins with one
 pub begins-one : (s : List ℕ) → TheOnly (Unit {0}) (BeginsWith s)
 begins-one s = record {
   answer = ((lexeme s).0, take (lexeme s).1 s);

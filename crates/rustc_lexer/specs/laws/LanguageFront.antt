@@ -1,13 +1,13 @@
 -- Texts and their characters, and the token of the grammar at the front of a text.
-use Rattle.std.proofs.Common.{◌≡◌, ℕ, ◌<◌, ◌≤◌, List, [], ◌∷◌, ◌++◌, length, take, drop, refl, sym, ap, ◌∙◌, arith, take_at, drop_at, length-append}
+use Rattle.std.proofs.Common.{◌≡◌, ℕ, ◌<◌, ◌≤◌, List, [], ◌∷◌, ◌++◌, length, take, drop, refl, sym, ap, ◌∙◌, subst, arith, take_at, drop_at, take-append-drop, length-append}
 use lib.Utf8.{scalars}
 use Rattle.std.proofs.Math.Seq.{take-append_seam, drop-append_seam}
-use Rattle.std.proofs.lemmas.Str.{chars-encodes, encodes-append, encodes-chars, length-le-encodes, scalars-chars}
-use Rattle.std.specs.Str.{chars, encode_utf8_all, IsUtf8}
+use Rattle.std.proofs.lemmas.Str.{chars-append, chars-encodes, encodes-append, encodes-chars, length-le-encodes, scalars-chars, IsCharBoundary-from_take}
+use Rattle.std.specs.Str.{chars, encode_utf8_all, IsCharBoundary, IsUtf8}
 use Rattle.std.proofs.lemmas.Grind.{common_steps}
 use Rattle.rustc_lexer.specs.{TokenKind}
 use Rattle.rustc_lexer.specs.laws.Language.{token-read}
-use Rattle.rustc_lexer.specs.laws.TokenBy.{scalars-take, scalars-drop}
+use Rattle.rustc_lexer.specs.laws.Texts.{scalars-take, scalars-drop}
 use Rattle.rustc_lexer.specs.Language.{IsTokenBefore}
 use Rattle.rustc_lexer.specs.Classes.{bytes, IsText}
 use Rattle.rustc_lexer.specs.means.Lexeme.{first_token}
@@ -39,6 +39,16 @@ split text w next is e =
       some = λ lt. omega (arith, ap length whole, length-append (encode_utf8_all w) (encode_utf8_all next), length-le-encodes w);
       again = chars-encodes next (ap scalars (sym (drop-append_seam w next) ∙ ap (drop (length w)) (sym e)) ∙ scalars-drop (length w) (chars text) (scalars-chars text is.utf8));
     }
+
+-- where the front ends
+pub split-boundary : {text w next : List ℕ} → IsText text → Split text w next → IsCharBoundary text (bytes w)
+split-boundary {text} {w} is cut = IsCharBoundary-from_take text (bytes w) is.utf8 cut.inside (subst IsUtf8 (sym cut.front) cut.front_utf8)
+
+-- a text that begins with the same bytes begins with the same characters
+pub split-same : {text w next : List ℕ} (other : List ℕ) → Split text w next → take (bytes w) text ≡ take (bytes w) other → chars other ≡ w ++ chars (drop (bytes w) other)
+split-same {w = w} other cut same =
+    let front : take (bytes w) other ≡ encode_utf8_all w = sym same ∙ cut.front in
+    ap chars (sym (take-append-drop (bytes w) other)) ∙ (chars-append _ _ (subst IsUtf8 (sym front) cut.front_utf8) ∙ ap (λ xs. xs ++ chars (drop (bytes w) other)) (ap chars front ∙ cut.again_front))
 
 -- ---- the token at the front
 

@@ -8,7 +8,7 @@ use Rattle.std.specs.Str.{chars}
 use Rattle.std.proofs.lemmas.Grind.{common_steps}
 use Rattle.rustc_lexer.specs.{Edition, Token, TokenKind, E2024, Ident, UnknownPrefix, UnknownPrefixLifetime, RawLifetime, Lifetime, GuardedStrPrefix, Pound}
 use Rattle.rustc_lexer.specs.Classes.{is_among, is_id_start, is_id_continue, is_ident, is_word_continue, is_word_start, begins_ident_after, AreAll, NextIs, bytes, IsText, is_bad_name}
-use Rattle.rustc_lexer.specs.LanguageText.{year, kept_since, IsTokenIn, kept, pound, ident, lifetime, lifetime_r}
+use Rattle.rustc_lexer.specs.LanguageText.{year, lexed_since, IsTokenIn, kept, pound, ident, lifetime, lifetime_r}
 use Rattle.rustc_lexer.specs.means.Edition.{token, has_marked_name, before_2024, before_2021, changed, first_token_in}
 use Rattle.rustc_lexer.specs.Language as the
 use Rattle.rustc_lexer.specs.Language.{IsTokenBefore}
@@ -23,18 +23,18 @@ use Rattle.rustc_lexer.specs.laws.LanguageLifetimes.{hash-stops}
 
 -- ---- what an edition keeps
 
-kept_2021 : (kind : TokenKind) (len : ℕ) → kept_since kind < 2024 → before_2024 kind len ≡ token kind len
+kept_2021 : (kind : TokenKind) (len : ℕ) → lexed_since kind < 2024 → before_2024 kind len ≡ token kind len
 kept_2021 GuardedStrPrefix len lt = absurd (omega (arith, lt))
 kept_2021 kind len lt = refl
 
-kept_2018 : (cs : List ℕ) (kind : TokenKind) (len : ℕ) → kept_since kind < 2021 → before_2021 cs kind len ≡ token kind len
+kept_2018 : (cs : List ℕ) (kind : TokenKind) (len : ℕ) → lexed_since kind < 2021 → before_2021 cs kind len ≡ token kind len
 kept_2018 cs kind len lt = grind (arith, common_steps)
 
 -- no edition is older
 oldest : (edition : Edition) → 2015 ≤ year edition
 oldest w0 = grind (arith, common_steps)
 
-keeps : (edition : Edition) (cs : List ℕ) (kind : TokenKind) (len : ℕ) → kept_since kind ≤ year edition → changed edition cs (token kind len) ≡ token kind len
+keeps : (edition : Edition) (cs : List ℕ) (kind : TokenKind) (len : ℕ) → lexed_since kind ≤ year edition → changed edition cs (token kind len) ≡ token kind len
 keeps edition cs kind len le = grind (arith, common_steps, kept_2021, leb-false, kept_2018)
 
 guarded-cut : (edition : Edition) (cs : List ℕ) (len : ℕ) → year edition < 2024 → changed edition cs (token GuardedStrPrefix len) ≡ token Pound 1
@@ -50,10 +50,10 @@ data View (next : List ℕ) : TokenKind → List ℕ → Type 0 where
   cut_raw : {w : List ℕ} → is_ident w ≡ true → View next RawLifetime (39 ∷ 114 ∷ 35 ∷ w)
   name : {c : ℕ} {w : List ℕ} → is_word_start c ≡ true → AreAll is_word_continue w → NextIs (is_among (codes "#")) next → View next UnknownPrefixLifetime (39 ∷ c ∷ w)
   prefix : {w : List ℕ} → View next UnknownPrefix w
-  other : {kind : TokenKind} {w : List ℕ} → kept_since kind ≡ 2015 → View next kind w
+  other : {kind : TokenKind} {w : List ℕ} → lexed_since kind ≡ 2015 → View next kind w
 
-symbol-old : (c : ℕ) → kept_since (symbol_kind c) ≡ 2015
-symbol-old c = eqb-true _ 2015 (by_symbol (λ kind. kept_since kind == 2015) symbols c refl refl)
+symbol-old : (c : ℕ) → lexed_since (symbol_kind c) ≡ 2015
+symbol-old c = eqb-true _ 2015 (by_symbol (λ kind. lexed_since kind == 2015) symbols c refl refl)
 
 view : {next : List ℕ} {kind : TokenKind} {w : List ℕ} → IsTokenBefore next kind w → View next kind w
 view (the.unknown_prefix is goes free) = prefix
@@ -80,7 +80,7 @@ lifetime-marked : {next : List ℕ} {kind : TokenKind} {c : ℕ} {w : List ℕ} 
 lifetime-marked {next} {kind} {c} {w} (cut_raw is) e = absurd (cc e)
 lifetime-marked {next} {kind} {c} {w} (name start all hash) e = name-marked c w next all hash
 lifetime-marked {next} {kind} {c} {w} prefix e = absurd (cc e)
-lifetime-marked {next} {kind} {c} {w} (other old) e = absurd (let n : 2021 ≡ 2015 = sym (ap kept_since e) ∙ old in omega (arith, n))
+lifetime-marked {next} {kind} {c} {w} (other old) e = absurd (let n : 2021 ≡ 2015 = sym (ap lexed_since e) ∙ old in omega (arith, n))
 
 -- ---- a token of an edition is what is read in it
 
@@ -135,7 +135,7 @@ pub record Front (edition : Edition) (cs : List ℕ) (t : Token) : Type 0 where
 abbrev Fronts : Edition → List ℕ → TokenKind → ℕ → List ℕ → Type 0
 Fronts edition next kind c w = Front edition (c ∷ w ++ next) (changed edition (c ∷ w ++ next) (token kind (bytes (c ∷ w))))
 
-keep : (edition : Edition) (next : List ℕ) (kind : TokenKind) (c : ℕ) (w : List ℕ) → kept_since kind ≤ year edition → IsTokenBefore next kind (c ∷ w) → Fronts edition next kind c w
+keep : (edition : Edition) (next : List ℕ) (kind : TokenKind) (c : ℕ) (w : List ℕ) → lexed_since kind ≤ year edition → IsTokenBefore next kind (c ∷ w) → Fronts edition next kind c w
 keep edition next kind c w le p = record { kind = kind; c = c; w = w; next = next; whole = refl; same = keeps edition (c ∷ w ++ next) kind (bytes (c ∷ w)) le; is = kept le p }
 
 goes-name : (w next : List ℕ) → is_ident w ≡ true → begins_ident_after (codes "#") (35 ∷ w ++ next) ≡ true
@@ -202,7 +202,7 @@ pub in_grammar : {edition : Edition} {next : List ℕ} {kind : TokenKind} {w : L
 in_grammar newest w1 = grind (arith, common_steps)
 
 pub of_grammar : {edition : Edition} {next : List ℕ} {kind : TokenKind} {w : List ℕ} → edition ≡ E2024 → IsTokenBefore next kind w → IsTokenIn edition next kind w
-of_grammar {edition} {next} {kind} newest p = kept (subst (λ (x : Edition). kept_since kind ≤ year x) (sym newest) (grind (arith, common_steps))) p
+of_grammar {edition} {next} {kind} newest p = kept (subst (λ (x : Edition). lexed_since kind ≤ year x) (sym newest) (grind (arith, common_steps))) p
 
 pub newest_has : (next w : List ℕ) (kind : TokenKind) → IsTokenIn E2024 next kind w ↔ IsTokenBefore next kind w
 newest_has next w kind = (in_grammar refl, of_grammar refl)

@@ -1,5 +1,5 @@
 -- How far a token of each kind looks can be read off the conditions of the language on what follows.
-use Rattle.std.proofs.Common.{◌≡◌, ℕ, zero, suc, ◌<◌, ◌==◌, ◌&&◌, if◌then◌else◌, not, Bool, true, false, true≢false, List, [], ◌∷◌, ◌++◌, length, take, drop, codes, refl, sym, ap, ◌∙◌, subst, arith, Option, None, bytes_eq}
+use Rattle.std.proofs.Common.{◌≡◌, ℕ, zero, suc, ◌<◌, ◌==◌, ◌&&◌, if◌then◌else◌, not, Bool, true, false, true≢false, List, [], ◌∷◌, ◌++◌, length, take, drop, codes, refl, sym, ap, ◌∙◌, subst, arith, Option, bytes_eq}
 use Rattle.std.proofs.lemmas.Bool.{and_parts, or_parts, or_from, eqb-true}
 use Rattle.std.proofs.lemmas.List.{append-nil}
 use Rattle.std.specs.List.{list_all, list_any}
@@ -7,7 +7,7 @@ use Rattle.std.proofs.Math.Bool.{and-false, and-true}
 use Rattle.std.proofs.lemmas.Grind.{common_steps}
 use Rattle.rustc_lexer.specs.Classes.{is_among, is_ident, AreAll, NextIs, NextIsNot, is_word_continue, is_name_start, begins_ident_after, ends_prefix}
 use Rattle.unicode_ident.proofs.Computing.{unicode_ident}
-use Rattle.rustc_lexer.specs.{Base, LiteralKind, TokenKind, Int, Char, Byte, RawStr, RawByteStr, RawCStr, Literal, UnknownPrefix}
+use Rattle.rustc_lexer.specs.{Base, LiteralKind, TokenKind, Int, Char, Byte, Literal, UnknownPrefix}
 use Rattle.rustc_lexer.specs.Language as the
 use Rattle.rustc_lexer.specs.LiteralGrammar as lit
 use Rattle.rustc_lexer.specs.LiteralGrammar.{IsDoubleQuoted, SingleTo, IsSingleQuoted, IsRaw, IsLiteralBefore, IsSuffixBefore}
@@ -63,27 +63,17 @@ reach-literal (Char true) n w = refl
 reach-literal (Byte false) n w = refl
 reach-literal kind n w = refl
 
--- a raw string that is refused
-abbrev pub is_refused : LiteralKind → Bool
-is_refused (RawStr None) = true
-is_refused (RawByteStr None) = true
-is_refused (RawCStr None) = true
-is_refused kind = false
+-- how far a number looks
+exponent-reach : {base : Base} {kind : LiteralKind} {w : List ℕ} → IsExponent base kind w → (v : List ℕ) → literal_reach kind v ≡ number_reach kind
+exponent-reach (number.signed e g ds) v = refl
+exponent-reach (number.unsigned e ds) v = refl
 
--- how far a number looks; and it is no raw string
-abbrev IsNumberKind : LiteralKind → List ℕ → Type 0
-IsNumberKind kind v = (literal_reach kind v ≡ number_reach kind) × (is_refused kind ≡ false)
+tail-reach : {next : List ℕ} {base : Base} {kind : LiteralKind} {w : List ℕ} → IsTailBefore next base kind w → (v : List ℕ) → literal_reach kind v ≡ number_reach kind
+tail-reach w0 v = grind (arith, common_steps, exponent-reach)
 
-exponent-kind : {base : Base} {kind : LiteralKind} {w : List ℕ} → IsExponent base kind w → (v : List ℕ) → IsNumberKind kind v
-exponent-kind (number.signed e g ds) v = (refl, refl)
-exponent-kind (number.unsigned e ds) v = (refl, refl)
-
-tail-kind : {next : List ℕ} {base : Base} {kind : LiteralKind} {w : List ℕ} → IsTailBefore next base kind w → (v : List ℕ) → IsNumberKind kind v
-tail-kind w0 v = grind (arith, common_steps, exponent-kind)
-
-number-kind : {next : List ℕ} {kind : LiteralKind} {w : List ℕ} → HasNumberForm next kind w → (v : List ℕ) → IsNumberKind kind v
-number-kind (number.of_prefix is) v = (refl, refl)
-number-kind (number.of_parts is tail) v = tail-kind tail v
+number-reach : {next : List ℕ} {kind : LiteralKind} {w : List ℕ} → HasNumberForm next kind w → (v : List ℕ) → literal_reach kind v ≡ number_reach kind
+number-reach (number.of_prefix is) v = refl
+number-reach (number.of_parts is tail) v = tail-reach tail v
 
 number-looks : (kind : LiteralKind) → 0 < number_reach kind
 number-looks kind = by_looks (is_float kind)
@@ -145,7 +135,7 @@ closed-reach w q stop s = let first : next_is is_name_start (w ++ s) ≡ false =
 
 -- what may have a suffix looks at something
 literal-looks : {next : List ℕ} {kind : LiteralKind} {takes : Bool} {w : List ℕ} → IsLiteralBefore next kind takes w → takes ≡ true → (s : List ℕ) → 0 < literal_reach kind (w ++ s)
-literal-looks (lit.number {kind} {w} is) t s = let reach = (number-kind is.form (w ++ s)).0 in omega (arith, reach, number-looks kind)
+literal-looks (lit.number {kind} {w} is) t s = let reach = number-reach is.form (w ++ s) in omega (arith, reach, number-looks kind)
 literal-looks (lit.char_of_one {c} out) t s = omega (arith, one-reach c s)
 literal-looks (lit.char {t = true} {w} q stop) t s = omega (arith, closed-reach w q stop s)
 literal-looks (lit.byte_char {t = true} q) t s = omega arith
@@ -153,7 +143,7 @@ literal-looks (lit.char_of_name w start all) t s = absurd (true≢false (sym t))
 literal-looks other t s = omega arith
 
 literal-alike : {next : List ℕ} {kind : LiteralKind} {takes : Bool} {w : List ℕ} → IsLiteralBefore next kind takes w → (s other : List ℕ) → take (literal_reach kind (w ++ s)) other ≡ take (literal_reach kind (w ++ s)) next → IsLiteralBefore other kind takes w
-literal-alike {next} (lit.number {kind} {w} is) s other e = lit.number (number-stays w (number-digit is) is other (subst (λ (k : ℕ). take k other ≡ take k next) (number-kind is.form (w ++ s)).0 e))
+literal-alike {next} (lit.number {kind} {w} is) s other e = lit.number (number-stays w (number-digit is) is other (subst (λ (k : ℕ). take k other ≡ take k next) (number-reach is.form (w ++ s)) e))
 literal-alike {next} (lit.str q) s other e = lit.str (double-alike q other e)
 literal-alike {next} (lit.byte_str q) s other e = lit.byte_str (double-alike q other e)
 literal-alike {next} (lit.c_str q) s other e = lit.c_str (double-alike q other e)

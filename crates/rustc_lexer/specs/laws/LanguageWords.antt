@@ -10,13 +10,19 @@ use Rattle.rustc_lexer.specs.Classes.{is_id_start, is_id_continue, is_ident, is_
 use Rattle.rustc_lexer.specs.Tables.{is_emoji, emoji_ranges}
 use Rattle.rustc_lexer.specs.means.Ident.{ident_kind, ident_or_unknown_prefix, invalid_ident, marks_ident, marked}
 use Rattle.rustc_lexer.specs.laws.Choice.{by_either}
-use Rattle.rustc_lexer.specs.laws.Family.{by_letter}
 use Rattle.rustc_lexer.specs.laws.LanguageRuns.{run_len-here, run-stops, either-way, Sound, Read, read-first, begins-next, chooses-word, chooses-emoji, word-no_mark, mark-stops, start-word_start}
 use Rattle.rustc_lexer.specs.laws.Reach.{run_all}
 use Rattle.rustc_lexer.specs.Language as the
 use Rattle.rustc_lexer.specs.Language.{IsTokenBefore, begins_prefixed}
 use Rattle.rustc_lexer.specs.means.Lexeme.{letter_r, letter_k, letter_b, letter_c, raw_or_ident, word, is_raw_mark, begins_raw}
 use Rattle.rustc_lexer.specs.means.Scan.{after, begins, next_is, run, run_len}
+
+-- ---- a choice by letters
+
+-- of what follows each letter that may be more than the start of an identifier, and of what follows any other start
+pub by_letter : (P : ℕ → (List ℕ → TokenKind × ℕ) → Type 0) (c : ℕ) → P 114 letter_r → P 107 letter_k → P 98 letter_b → P 99 letter_c
+    → ((c == 114) ≡ false → (c == 107) ≡ false → (c == 98) ≡ false → (c == 99) ≡ false → P c ident_or_unknown_prefix) → P c (word c)
+by_letter w0 c of_r of_k of_b of_c other = grind (arith, common_steps)
 
 -- ---- what begins no identifier
 

@@ -4,7 +4,7 @@ use Rattle.std.specs.Char.{encode_utf8}
 use Rattle.std.specs.Str.{chars, encode_utf8_all, IsUtf8}
 use Rattle.std.proofs.lemmas.Str.{chars-encodes, encodes-chars, scalars-chars, encodes-append, chars_past_char, IsUtf8-past_char}
 use Rattle.rustc_lexer.specs.means.Scan.{past, bytes_of}
-use Rattle.rustc_lexer.specs.laws.TokenBy.{scalars-drop}
+use Rattle.rustc_lexer.specs.laws.Texts.{scalars-drop}
 
 pub past-zero : (text : List ℕ) → IsUtf8 text → past 0 text ≡ text
 unfolding past

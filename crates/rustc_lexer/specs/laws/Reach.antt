@@ -8,7 +8,7 @@ use Rattle.std.proofs.lemmas.Grind.{common_steps}
 use Rattle.rustc_lexer.specs.laws.Choice.{by_test}
 use Rattle.rustc_lexer.specs.laws.Least.{one_more-none}
 use Rattle.rustc_lexer.specs.means.Least.{one_more, least}
-use Rattle.rustc_lexer.specs.means.Scan.{IsLocalAt, IsLocal, IsFound, or_all, then_by, and_then, gives, after, read_as, begins, next_is, run_len, run, run_as}
+use Rattle.rustc_lexer.specs.means.Scan.{IsLocalAt, IsLocal, then_by, and_then, gives, after, read_as, begins, next_is, run_len, run, run_as}
 
 -- ---- texts that begin alike
 
@@ -69,10 +69,6 @@ gives_local k a s = record { inside = omega arith; local = λ u e. refl }
 -- what reaches less far
 pub wider : {A : Type 0} {scan : List ℕ → A × ℕ} {s : List ℕ} (j k : ℕ) → j ≤ k → IsLocalAt A j scan s → IsLocalAt A k scan s
 wider {A} {scan} {s} j k le is = record { inside = is.inside; local = λ u e. is.local u (cut ((scan s).1 + j) ((scan s).1 + k) u s (omega arith) e) }
-
--- what takes all of the text
-pub all_at : {A : Type 0} (k : ℕ) (scan : List ℕ → A × ℕ) (s : List ℕ) → 0 < k → (scan s).1 ≡ length s → IsLocalAt A k scan s
-all_at k scan s some all = record { inside = omega arith; local = λ u e. ap scan (same_text ((scan s).1 + k) u s (omega arith) e) }
 
 -- another answer
 pub read_as_at : {A B : Type 0} (k : ℕ) (f : A → B) (scan : List ℕ → A × ℕ) (s : List ℕ) → IsLocalAt A k scan s → IsLocalAt B k (read_as f scan) s
@@ -138,16 +134,6 @@ pub next_is_local : {A : Type 0} (k : ℕ) (p : ℕ → Bool) (scan other : List
 next_is_local k p scan other le is others s =
     either_at 1 k (next_is p) (after 1 scan) other (next_is-told p) s le (λ t. after_at k 1 scan s (next_is-length p s t) (is (drop 1 s))) (λ t. others s)
 
--- the first character is taken
-pub first_at : {A : Type 0} (k : ℕ) (past_first : ℕ → List ℕ → A × ℕ) (scan : List ℕ → A × ℕ) (c : ℕ) (s : List ℕ) → ((c : ℕ) (s : List ℕ) → scan (c ∷ s) ≡ ((past_first c s).0, suc (past_first c s).1))
-    → IsLocalAt A k (past_first c) s → IsLocalAt A k scan (c ∷ s)
-first_at {A} k past_first scan c s at_char is = grind (arith, common_steps, cut_first)
-
-pub first_local : {A : Type 0} (k : ℕ) (end : A) (past_first : ℕ → List ℕ → A × ℕ) (scan : List ℕ → A × ℕ) → 0 < k → scan [] ≡ (end, 0)
-    → ((c : ℕ) (s : List ℕ) → scan (c ∷ s) ≡ ((past_first c s).0, suc (past_first c s).1)) → ((c : ℕ) → IsLocal A k (past_first c)) → IsLocal A k scan
-first_local {A} k end past_first scan some at_end at_char is [] = all_at k scan [] some (ap (λ (r : A × ℕ). r.1) at_end)
-first_local k end past_first scan some at_end at_char is (c ∷ s) = first_at k past_first scan c s at_char (is c s)
-
 -- ---- runs
 
 pub run_len_le : (p : ℕ → Bool) (s : List ℕ) → run_len p s ≤ length s
@@ -199,14 +185,6 @@ run_local a p = run_as_local (λ front rest. a) p (λ front s. refl)
 
 -- ---- ends
 
-module _ (end : List ℕ → Option ℕ) where
-  pub found_at : (k : ℕ) (s : List ℕ) (n : ℕ) → end s ≡ Some n → n ≤ length s → ((u : List ℕ) → take (n + k) u ≡ take (n + k) s → end u ≡ Some n) → IsLocalAt (Option ℕ) k (λ u. (end u, (or_all end u).1)) s
-  found_at k s n e le same = grind (arith, common_steps)
-
-  module _ (k : ℕ) (is : IsFound k end) (s : List ℕ) (n : ℕ) (e : end s ≡ Some n) where
-    pub found-same : (u : List ℕ) → take (n + k) u ≡ take (n + k) s → end u ≡ Some n
-    found-same u a = grind (arith, common_steps)
-
 -- the least number that passes a test
 pub record IsLeast (test : ℕ → Bool) (count n : ℕ) : Type 0 where
   pub below : n < count
@@ -256,13 +234,3 @@ none-least test (suc count) e i lt = by_test (test 0) refl (none-least (λ i. te
     by_test true f ih i lt = absurd (let found : Some 0 ≡ None = sym (rw f refl) ∙ e in cc)
     by_test false f ih zero lt = f
     by_test false f ih (suc i) lt = ih (one_more-none (least (λ i. test (suc i)) count) (sym (rw f refl) ∙ e)) i (omega arith)
-
--- the least place that passes a test of what stands before it and of k characters from it on
-pub least_found : (k : ℕ) (test : List ℕ → ℕ → Bool) → 0 < k → ((u s : List ℕ) (i : ℕ) → take (i + k) u ≡ take (i + k) s → test u i ≡ test s i) → IsFound k (λ s. least (test s) (length s))
-least_found k test some told s n e =
-    let is = least-some (test s) (length s) n e in
-    found_at (λ s. least (test s) (length s)) k s n e (let l = is.below in omega arith) (λ u a. least-is (test u) (length u) n record {
-      below = omega (arith, is.below, ap length a, length-take (n + k) u, length-take (n + k) s);
-      here = told u s n a ∙ is.here;
-      before = λ i lt. told u s i (cut (i + k) (n + k) u s (omega arith) a) ∙ is.before i lt;
-    })

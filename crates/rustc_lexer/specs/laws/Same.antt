@@ -1,5 +1,5 @@
 -- What `==` of two tokens, or of two heads, tells: that they are the same.
-use Rattle.std.proofs.Common.{◌≡◌, ◌↔◌, IsTrue, Bool, true, false, true≢false, refl, sym, ap, ◌∙◌, ◌==◌, List, [], ◌∷◌, Option, ◌&&◌, inl, inr, arith}
+use Rattle.std.proofs.Common.{rules, ◌≡◌, ◌↔◌, IsTrue, Bool, true, false, true≢false, refl, sym, ap, ◌∙◌, ◌==◌, List, [], ◌∷◌, Option, ◌&&◌, inl, inr, arith}
 use Rattle.std.specs.Cmp.Derive.{of_values}
 use Rattle.std.specs.Option.{option_eq}
 use Rattle.std.proofs.lemmas.Bool.{and_parts, eqb-true}
@@ -74,7 +74,7 @@ literal-tells = grind (arith, common_steps, two, flag, one, option, of_enum)
 kind-tells : Tells kind.ghosts.eq
 kind-tells =
     let style = option (record { tells = same_true doc_style.the_type tt }) in
-    of_enum token_kind.enum _ (one style, (two style flag, (two flag flag, (two literal-tells number, (one flag, tt)))))
+    of_enum token_kind.enum _ (search (rules, one, two, flag, number, style, literal-tells) depth 12)
 
 pub same_token : (a b : Token) → is_same a b ≡ true → a ≡ b
 same_token a b e = grind (arith, common_steps, and_parts, kind-tells, eqb-true)

@@ -1,7 +1,26 @@
--- What follows from the agreement of two texts.
-use Rattle.std.proofs.Common.{ℕ, ◌≤◌, List, length, ap, arith, length-take}
+-- What follows from the agreement of two texts, and from the parts of one.
+use Rattle.std.proofs.Common.{◌≡◌, ℕ, zero, suc, ◌≤◌, true, List, [], ◌∷◌, length, take, drop, refl, ap, arith, length-drop, length-take, IsUtf8}
+use lib.Utf8.{scalars, scalar}
+use Rattle.std.proofs.lemmas.Str.{IsCharBoundary-from_take, IsUtf8-drop}
+use Rattle.std.proofs.lemmas.Bool.{and_parts}
+use Rattle.std.proofs.lemmas.Grind.{common_steps}
+use Rattle.rustc_lexer.specs.Classes.{IsText}
 use Rattle.rustc_lexer.specs.Locality.{AgreePast}
 
 -- a place inside one of them is inside the other
 pub agree_inside : (place : ℕ) (text other : List ℕ) → place ≤ length text → AgreePast place text other → place ≤ length other
 agree_inside place text other inside agree = let same = ap length agree.below in omega (arith, same, length-take place text, length-take place other)
+
+-- what is left of a text past a front that may be cut off
+pub left_text : (other : List ℕ) (n : ℕ) → IsText other → n ≤ length other → IsUtf8 (take n other) → IsText (drop n other)
+left_text other n is inside front = grind (arith, common_steps, IsUtf8-drop, IsCharBoundary-from_take, length-drop)
+
+pub scalars-take : (n : ℕ) (cs : List ℕ) → scalars cs ≡ true → scalars (take n cs) ≡ true
+scalars-take zero cs is = refl
+scalars-take (suc n) [] is = refl
+scalars-take (suc n) (c ∷ cs) is = let b = and_parts (scalar c) (scalars cs) is in rw b.0 (scalars-take n cs b.1)
+
+pub scalars-drop : (n : ℕ) (cs : List ℕ) → scalars cs ≡ true → scalars (drop n cs) ≡ true
+scalars-drop zero cs is = is
+scalars-drop (suc n) [] is = refl
+scalars-drop (suc n) (c ∷ cs) is = scalars-drop n cs (and_parts (scalar c) (scalars cs) is).1

@@ -5,13 +5,13 @@ use Rattle.rustc_lexer.specs.declared.relex.head.Head.{Head}
 use Rattle.rustc_lexer.specs.declared.relex.relexing.{Change.Change, Relexed.Relexed, Relexing.Relexing}
 use Rattle.rustc_lexer.specs.{Token}
 use Rattle.rustc_lexer.specs.Classes.{IsText}
-use Rattle.rustc_lexer.specs.Document.{IsCountedDocument, IsRelexedDocument, IsSteppedDocument, shebang_len}
+use Rattle.rustc_lexer.specs.Document.{shebang_len, whole_by}
 pub use Rattle.rustc_lexer.specs.Head.{body_change, counted, front_tokens, tokens_of_head}
-use Rattle.rustc_lexer.specs.Edits.{apply, IsRelexed, IsStepped}
+use Rattle.rustc_lexer.specs.Edits.{apply, Layout, part_by}
 use Rattle.rustc_lexer.specs.Partition.{tokens_by}
 use Rattle.rustc_lexer.specs.means.Checkpoints.{AreBounds}
 use Rattle.rustc_lexer.specs.means.Frontmatter.{frontmatter, opens, spaces_len}
-use Rattle.rustc_lexer.specs.means.Relexing.{IsRenewed}
+use Rattle.rustc_lexer.specs.means.Relexing.{IsBodyRelexed, IsRenewed}
 use Rattle.rustc_lexer.specs.means.Scan.{past}
 
 -- the head of a text with a shebang line of n bytes. `rest` is the text after that line, and `past` the text after the
@@ -59,7 +59,7 @@ abbrev pub IsRelexedAs : (List ℕ → Token) → List ℕ → ℕ → ℕ → L
 IsRelexedAs first text start stop insert kept old now made r =
     let edit : Change = record { start = start; old_stop = stop; new_stop = start + length insert } in
     let change : Change = body_change kept old.body now.body edit in
-    (body : Relexed) × IsRelexed first (drop old.body text) change.start change.old_stop (body_insert kept change insert (drop now.body made)) body
+    (body : Relexed) × IsBodyRelexed first (drop old.body text) change.start change.old_stop (body_insert kept change insert (drop now.body made)) body
     × (r ≡ counted kept (length (tokens_of_head old)) (length (tokens_of_head now)) body)
 
 -- the same, by the old text and the edit
@@ -100,17 +100,7 @@ abbrev pub start_in : Bool → List ℕ → ℕ
 start_in true = shebang_len
 start_in false = λ text. 0
 
--- the counts of an edit
-abbrev pub IsRelexedIn : Bool → (List ℕ → Token) → List ℕ → ℕ → ℕ → List ℕ → Relexed → Type 0
-IsRelexedIn true = IsRelexedDocument
-IsRelexedIn false = IsRelexed
-
--- how the step count grew by an edit that lexed so many tokens
-abbrev pub IsCountedIn : Bool → List ℕ → ℕ → ℕ → List ℕ → ℕ → ℕ → ℕ → Type 0
-IsCountedIn true = IsCountedDocument
-IsCountedIn false = λ text start stop insert before after lexed. after ≡ before + lexed
-
--- how it grew by an edit
-abbrev pub IsSteppedIn : Bool → (List ℕ → Token) → List ℕ → ℕ → ℕ → List ℕ → ℕ → ℕ → Type 0
-IsSteppedIn true = IsSteppedDocument
-IsSteppedIn false = IsStepped
+-- the tokens
+abbrev pub layout_in : Bool → (List ℕ → Token) → List ℕ → Layout
+layout_in true = whole_by
+layout_in false = part_by

@@ -1,34 +1,34 @@
 -- Means, by how it is read: quoted text: what follows an opening quote.
-use Rattle.std.specs.Prelude.{ℕ, suc, ◌==◌, ◌&&◌, ◌||◌, not, Bool, true, false, if◌then◌else◌, List, [], ◌∷◌, length, drop, codes, Option, Some, None}
+use Rattle.std.specs.Prelude.{ℕ, suc, ◌==◌, ◌&&◌, ◌||◌, not, Bool, true, false, if◌then◌else◌, List, [], ◌∷◌, drop, codes}
 use Rattle.std.specs.Str.{byte}
 use Rattle.rustc_lexer.specs.declared.lexemes.quoted.QuotedPrefix.{QuotedPrefix}
 use Rattle.rustc_lexer.specs.declared.lexemes.quoted.QuotedPrefix.TheVariants.{Single, BSingle, Double, BDouble, CDouble}
 use Rattle.rustc_lexer.specs.{LiteralKind, TokenKind, Char, Byte, Str, ByteStr, CStr}
-use Rattle.rustc_lexer.specs.means.Least.{one_more}
 use Rattle.rustc_lexer.specs.means.Literal.{Body, literal}
-use Rattle.rustc_lexer.specs.means.Scan.{after, begins}
+use Rattle.rustc_lexer.specs.means.Scan.{after, begins, next_is}
 
 abbrev pub is_backslash : ℕ → Bool
 is_backslash c = c == byte "\\"
 
--- the offset of the first stop that is not escaped. A backslash that is not escaped itself makes the next character escaped
-abbrev pub seek : (List ℕ → Bool) → List ℕ → Bool → Option ℕ
-seek test [] escaped = None
-seek test (c ∷ cs) escaped = if not escaped && test (c ∷ cs) then Some 0 else one_more (seek test cs (if escaped then false else is_backslash c))
+-- one character more
+abbrev pub one_past : Bool × ℕ → Bool × ℕ
+one_past read = (read.0, suc read.1)
 
--- the end of a quoted text, by the offset of its stop. If the stop is the quote, the text is closed and takes it. If it
--- is another stop, the text is not closed and ends before it. Without a stop it takes everything
-abbrev pub stopped : ℕ → Option ℕ → List ℕ → Bool × ℕ
-stopped quote None s = (false, length s)
-stopped quote (Some n) s = if begins (quote ∷ []) (drop n s) then (true, suc n) else (false, n)
+-- a quoted text goes up to its first stop that is not escaped: whether it is closed, and how many characters it takes.
+-- If the stop is the quote, the text is closed and takes it. If it is another stop, the text is not closed and ends
+-- before it. Without a stop it takes everything. A backslash that is not escaped itself makes the next character escaped
+abbrev pub quoted_from : ℕ → (List ℕ → Bool) → Bool → List ℕ → Bool × ℕ
+quoted_from quote stop escaped [] = (false, 0)
+quoted_from quote stop escaped (c ∷ s) =
+    if not escaped && stop (c ∷ s) then (if c == quote then (true, 1) else (false, 0))
+    else one_past (quoted_from quote stop (if escaped then false else is_backslash c) s)
 
--- a quoted text goes up to its first stop that is not escaped: whether it is closed, and how many characters it takes
 abbrev pub quoted : ℕ → (List ℕ → Bool) → List ℕ → Bool × ℕ
-quoted quote stop s = stopped quote (seek stop s false) s
+quoted quote stop s = quoted_from quote stop false s
 
 -- between double quotes, only the quote is a stop
 abbrev pub at_double_quote : List ℕ → Bool
-at_double_quote s = begins (codes "\"") s
+at_double_quote s = next_is (λ c. c == byte "\"") s
 
 abbrev pub double_quoted_string : List ℕ → Bool × ℕ
 double_quoted_string s = quoted (byte "\"") at_double_quote s

@@ -1,12 +1,12 @@
 -- Means, by how it is read: raw strings, and the check of one.
-use Rattle.std.specs.Prelude.{ℕ, zero, suc, ◌+◌, ◌<◌, ◌==◌, nat_le, max, Bool, true, false, ◌&&◌, not, if◌then◌else◌, List, [], ◌∷◌, length, drop, Option, Some, None, Result, Ok, Err}
+use Rattle.std.specs.Prelude.{ℕ, zero, suc, ◌+◌, ◌==◌, nat_le, max, Bool, true, false, ◌&&◌, not, if◌then◌else◌, List, [], ◌∷◌, length, drop, Option, Some, None, Result, Ok, Err}
 use Rattle.std.specs.Str.{byte, chars}
 use Rattle.rustc_lexer.specs.declared.lexemes.raw.RawPrefix.{RawPrefix}
 use Rattle.rustc_lexer.specs.declared.lexemes.raw.RawPrefix.TheVariants.{R, Br, Cr}
 use Rattle.rustc_lexer.specs.{LiteralKind, RawStrError, TokenKind, RawStr, RawByteStr, RawCStr, InvalidStarter, NoTerminator, TooManyDelimiters}
 use Rattle.rustc_lexer.specs.means.Least.{least}
 use Rattle.rustc_lexer.specs.means.Literal.{Body, literal_past}
-use Rattle.rustc_lexer.specs.means.Scan.{IsLocalAt, after, bytes_of, gives, next_is, run_len}
+use Rattle.rustc_lexer.specs.means.Scan.{after, bytes_of, gives, next_is, run_len}
 pub use Rattle.rustc_lexer.specs.LanguageCalls.{StartsRaw}
 
 -- the least offset from which on the text passes a test
@@ -131,14 +131,3 @@ checked (Err e) = Err e
 -- the check of a text whose prefix is p characters long
 unfoldable pub check_raw : List ℕ → ℕ → Result Unit RawStrError
 check_raw text p = checked (raw_read p (drop p (chars text))).0
-
--- the string has an end of its own, other than the end of the text; v is the text after the first hashes
-abbrev pub HasEnd : List ℕ → Result ℕ RawStrError → Type 0
-HasEnd v (Ok n) = Unit {0}
-HasEnd v (Err (TooManyDelimiters n)) = Unit {0}
-HasEnd v (Err (InvalidStarter c)) = 0 < length v
-HasEnd v (Err (NoTerminator n m end)) = ⊥
-
--- a string with an end of its own depends on nothing after it
-abbrev pub EndsItself : ℕ → Type 0
-EndsItself prefix = (s : List ℕ) → HasEnd (drop (hash_run s) s) (raw_read prefix s).0 → IsLocalAt (Result ℕ RawStrError) 0 (raw_read prefix) s

@@ -9,9 +9,32 @@ use Rattle.rustc_lexer.specs.declared.relex.relexing.Relexed.{Relexed}
 use Rattle.rustc_lexer.specs.declared.relex.relexing.Relexing.{Relexing}
 use Rattle.rustc_lexer.specs.{Token}
 use Rattle.rustc_lexer.specs.Partition.{bound, tokens_by}
-use Rattle.rustc_lexer.specs.Edits.{IsBound, apply, ends_from, kept_front, known}
+use Rattle.rustc_lexer.specs.Edits.{IsBound, apply, ends_from, known}
+use Rattle.rustc_lexer.specs.Locality.{has_two}
 
--- ---- what an edit keeps, by a search for the meeting
+-- ---- what an edit of a text without a head keeps
+
+-- how many of the tokens end at least two characters before `to`
+abbrev pub kept_front : List ℕ → List Token → ℕ → ℕ
+kept_front text tokens to = count_by (λ end. has_two text end to) (ends_from 0 tokens)
+
+-- token boundary `number` of the new tokens is not before the end of the edit and matches an old one, which `back` old
+-- tokens follow
+pub record IsBodyMeeting (old new : List Token) (old_stop new_stop number back : ℕ) : Type 0 where
+  pub number_inside : number ≤ length new
+  pub past_edit : new_stop ≤ bound new number
+  pub old_number : ℕ
+  pub back_is : old_number + back ≡ length old
+  pub same_place : bound new number + old_stop ≡ bound old old_number + new_stop
+
+-- the counts of an edit
+pub record IsBodyRelexed (first : List ℕ → Token) (text : List ℕ) (start stop : ℕ) (insert : List ℕ) (r : Relexed) : Type 0 where
+  pub front : r.kept_front ≡ kept_front text (tokens_by first text) start
+  pub meeting : IsBodyMeeting (tokens_by first text) (tokens_by first (apply text start stop insert)) stop (start + length insert) (r.kept_front + r.lexed) r.kept_back
+  pub none_before : (number back : ℕ) → r.kept_front ≤ number → number < r.kept_front + r.lexed
+      → IsBodyMeeting (tokens_by first text) (tokens_by first (apply text start stop insert)) stop (start + length insert) number back → ⊥
+
+-- ---- the same by a search for the meeting
 
 -- whether an offset of the new text is not before the end of the edit, which is `new_stop` there and `old_stop` in the
 -- old text, and, moved back by the edit, is a boundary of the old tokens

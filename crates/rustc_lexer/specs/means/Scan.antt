@@ -55,10 +55,6 @@ or_all_at (Some n) s = (true, n)
 abbrev pub or_all : (List ℕ → Option ℕ) → List ℕ → Bool × ℕ
 or_all end s = or_all_at (end s) s
 
--- an end that is found depends on at most `reach` characters after it
-abbrev pub IsFound : ℕ → (List ℕ → Option ℕ) → Type 0
-IsFound reach end = (s : List ℕ) (n : ℕ) → end s ≡ Some n → IsLocalAt (Option ℕ) reach (λ u. (end u, (or_all end u).1)) s
-
 -- how many bytes the first n characters take
 abbrev pub bytes_of : ℕ → List ℕ → ℕ
 bytes_of n cs = length (encode_utf8_all (take n cs))

@@ -80,7 +80,7 @@ fn guarded_body(body: &str, n_hashes: usize) -> (bool, &str)
 {
     let (terminated, left) = double_quoted_string(body);
     if terminated {
-        (true, eat_literal_suffix(eat_hashes(left, n_hashes)))
+        (true, eat_literal_suffix(eat_hashes_up_to(left, n_hashes)))
     } else {
         (false, left)
     }
@@ -88,7 +88,7 @@ fn guarded_body(body: &str, n_hashes: usize) -> (bool, &str)
 
 /// Returns the text after the hashes at its front, of which it skips `most` at most.
 #[tactic(auto, using(crate::proofs::GuardedLemmas::hash_boundary, crate::proofs::GuardedLemmas::hash_cut, std::proofs::lemmas::Grind::common_steps))]
-fn eat_hashes(rest: &str, most: usize) -> &str
+fn eat_hashes_up_to(rest: &str, most: usize) -> &str
     ensures shorter { length result.now ≤ length rest.now }
     ensures past { result.now ≡ past (min most (hash_run (chars rest.now))) rest.now }
 {

@@ -3,11 +3,11 @@ ghost use Rattle.std.specs.Prelude.{◌≡◌, ◌+◌, ◌≤◌, ◌-◌, drop
 ghost use Rattle.rustc_lexer.specs.means.Ends.{AreEndsPast, IsUntold, TakesTold, TellsAhead};
 
 use crate::kernels::ends_of_runs;
-use crate::lexemes::classified::{classified_by, ends_after, past_lowest, turns};
+use crate::lexemes::classified::{classified_by, ends_after, may_continue, past_lowest};
 use crate::token::{Token, TokenKind};
 
 /// How many bytes are searched at once for the ends of runs. For fewer bytes the search costs more than it saves.
-const BLOCK: usize = 64;
+const SEARCHED: usize = 64;
 
 /// An offset in a text, and what is known about the bytes after it.
 #[derive(Clone, Copy)]
@@ -39,7 +39,7 @@ impl Ahead {
             let next = text.as_bytes()[end];
             // A byte that determines its own token never changes the token before it.
             let told = classified_by(next);
-            if told.is_some() || !turns(kind, next) {
+            if told.is_some() || !may_continue(kind, next) {
                 let len = (end - self.at) as u32;
                 self.at = end;
                 self.ends = past_lowest(ends);
@@ -59,7 +59,7 @@ impl Ahead {
         ensures at { self.new.at ≡ self.old.at }
         ensures tells { TellsAhead text.now self.new }
     {
-        if text.len() - self.at < BLOCK {
+        if text.len() - self.at < SEARCHED {
             return;
         }
         let told = classified_by(text.as_bytes()[self.at]);

@@ -18,8 +18,8 @@ use std::iter::Iterator;
 ///
 /// A first token is not empty, ends between two characters, and depends only on itself and the two characters after
 /// it. `step` returns the first token of the text that it is given, and always the same one for the same text. In
-/// Rattle each implementation proves this. In plain Rust an implementation has to obey it, or the tokens of an
-/// edited text are wrong.
+/// Rattle each implementation proves this. In plain Rust a kept text tests where tokens end; if an implementation
+/// breaks another rule, the tokens of an edited text are wrong.
 pub trait Stepper: Drop {
     /// The grammar: the first token of each text.
     ghost grammar: { Self → List ℕ → Token };

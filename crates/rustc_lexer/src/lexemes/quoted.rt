@@ -99,7 +99,7 @@ pub(crate) fn quoted_literal(prefix: QuotedPrefix, tail: &str) -> (TokenKind, &s
     ensures { (result.0, result.1.now) ≡ scanned (spec.quoted_literal prefix) tail.now }
 {
     let (terminated, rest) = quoted_string(prefix, tail);
-    let kind = literal_kind(prefix, terminated);
+    let kind = quoted_kind(prefix, terminated);
     let token = literal(kind, tail, rest);
     if terminated {
         (token, eat_literal_suffix(rest))
@@ -117,16 +117,16 @@ fn quoted_string(prefix: QuotedPrefix, tail: &str) -> (bool, &str)
 {
     match prefix {
         QuotedPrefix::Single => single_quoted_string(tail),
-        QuotedPrefix::BSingle => single_quoted_string(past_first(tail)),
+        QuotedPrefix::BSingle => single_quoted_string(after_first(tail)),
         QuotedPrefix::Double => double_quoted_string(tail),
-        QuotedPrefix::BDouble | QuotedPrefix::CDouble => double_quoted_string(past_first(tail)),
+        QuotedPrefix::BDouble | QuotedPrefix::CDouble => double_quoted_string(after_first(tail)),
     }
 }
 
 /// Returns the text after its first character, if there is one.
 #[inline(always)]
 #[tactic(auto, using(crate::specs::laws::Past::past_end, std::proofs::lemmas::Grind::common_steps))]
-fn past_first(text: &str) -> &str
+fn after_first(text: &str) -> &str
     ensures shorter { length result.now ≤ length text.now }
     ensures past { result.now ≡ past 1 text.now }
 {
@@ -138,7 +138,7 @@ fn past_first(text: &str) -> &str
 
 /// Returns the kind of the literal with this prefix.
 #[inline(always)]
-fn literal_kind(prefix: QuotedPrefix, terminated: bool) -> LiteralKind
+fn quoted_kind(prefix: QuotedPrefix, terminated: bool) -> LiteralKind
     ensures { result ≡ spec.quoted_kind prefix terminated }
 {
     match prefix {

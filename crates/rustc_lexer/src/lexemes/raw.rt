@@ -31,14 +31,14 @@ pub(crate) fn raw_literal(prefix: RawPrefix, rest: &str) -> (TokenKind, &str)
     let suffix_start = prefix_len(prefix) + (rest.len() - left.len()) as u32;
     match read {
         Ok(n_hashes) => {
-            let kind = literal_kind(prefix, Some(n_hashes));
+            let kind = raw_kind(prefix, Some(n_hashes));
             (
                 TokenKind::Literal { kind, suffix_start },
                 eat_literal_suffix(left),
             )
         }
         Err(_) => {
-            let kind = literal_kind(prefix, None);
+            let kind = raw_kind(prefix, None);
             (TokenKind::Literal { kind, suffix_start }, left)
         }
     }
@@ -57,7 +57,7 @@ fn prefix_len(prefix: RawPrefix) -> u32
 
 /// Returns the kind of the raw string with this prefix.
 #[inline(always)]
-fn literal_kind(prefix: RawPrefix, n_hashes: Option<u8>) -> LiteralKind
+fn raw_kind(prefix: RawPrefix, n_hashes: Option<u8>) -> LiteralKind
     ensures { result ≡ spec.prefix_kind prefix n_hashes }
 {
     match prefix {

@@ -64,7 +64,7 @@ impl<S: Stepper, E: Extent> Kept<S, E> {
 
         // Which tokens stay through all of the edits.
         ensures least { IfOk result
-            (IsRelexedList (means.IsRelexedIn E.whole (S.grammar self.old.stepper)) (string_bytes self.old.text)
+            (IsRelexedList (means.layout_in E.whole (S.grammar self.old.stepper)) (string_bytes self.old.text)
             edits.now (length self.old.tokens.items) (length self.new.tokens.items)) }
         ensures all { IfOk result
             (λ r. r.kept_front + r.lexed + r.kept_back ≡ length self.new.tokens.items) }
@@ -80,7 +80,7 @@ impl<S: Stepper, E: Extent> Kept<S, E> {
         ensures grammar { S.grammar self.new.stepper ≡ S.grammar self.old.stepper }
         ensures number { S.number self.new.stepper ≡ S.number self.old.stepper }
         ensures count { OnOk result
-            (AreStepped (means.IsSteppedIn E.whole (S.grammar self.old.stepper))
+            (AreStepped (means.layout_in E.whole (S.grammar self.old.stepper))
             (string_bytes self.old.text) edits.now
             (S.count self.old.stepper) (S.count self.new.stepper)) }
 
@@ -92,7 +92,7 @@ impl<S: Stepper, E: Extent> Kept<S, E> {
             (λ e. string_bytes self.new.text
             ≡ apply_list (string_bytes self.old.text) (take (stop_at e) edits.now)) }
         ensures stop_count { IfErr result
-            (λ e. IsStopStepped e (means.IsSteppedIn E.whole (S.grammar self.old.stepper))
+            (λ e. IsStopStepped e (means.layout_in E.whole (S.grammar self.old.stepper))
             (string_bytes self.old.text) edits.now
             (S.count self.old.stepper) (S.count self.new.stepper)) }
     {

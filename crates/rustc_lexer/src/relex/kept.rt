@@ -6,7 +6,7 @@ ghost use Rattle.rustc_lexer.specs.declared.relex.relexing.Relexed.{Relexed};
 ghost use Rattle.rustc_lexer.specs.Classes.{Fits};
 ghost use Rattle.rustc_lexer.specs.means.Document as means;
 ghost use Rattle.rustc_lexer.specs.Tokens.{bound, tokens_by};
-ghost use Rattle.rustc_lexer.specs.Edits.{AreTouched, ContainsByte, IsBoundFrom, IsEdit, apply};
+ghost use Rattle.rustc_lexer.specs.Edits.{AreTouched, ContainsByte, IsBoundFrom, IsEdit, IsRelexed, IsStepped, apply};
 ghost use Rattle.rustc_lexer.specs.means.Checkpoints.{AreBounds};
 
 use crate::entry::stepper::Stepper;
@@ -121,7 +121,7 @@ impl<S: Stepper, E: Extent> Kept<S, E> {
 
         // Which tokens stay, and how many were lexed.
         ensures relexed { IfOk result
-            (means.IsRelexedIn E.whole (S.grammar self.old.stepper) (string_bytes self.old.text)
+            (IsRelexed (means.layout_in E.whole (S.grammar self.old.stepper)) (string_bytes self.old.text)
             start stop insert.now) }
         ensures all { IfOk result
             (λ r. r.kept_front + r.lexed + r.kept_back ≡ length self.new.tokens.items) }
@@ -133,12 +133,13 @@ impl<S: Stepper, E: Extent> Kept<S, E> {
 
         // How many steps were taken, also if it fails.
         ensures count { IfOk result
-            (λ r. means.IsCountedIn E.whole (string_bytes self.old.text) start stop insert.now
-            (S.count self.old.stepper) (S.count self.new.stepper) r.lexed) }
+            (λ r. S.count self.new.stepper
+            + (length (means.layout_in E.whole (S.grammar self.old.stepper) (string_bytes self.new.text)).head - r.kept_front)
+            ≡ S.count self.old.stepper + r.lexed) }
         ensures rose { S.count self.old.stepper ≤ S.count self.new.stepper }
         ensures few { OnErr result
             ((most : ℕ)
-            × means.IsSteppedIn E.whole (S.grammar self.old.stepper) (string_bytes self.old.text)
+            × IsStepped (means.layout_in E.whole (S.grammar self.old.stepper)) (string_bytes self.old.text)
             start stop insert.now (S.count self.old.stepper) most
             × (S.count self.new.stepper ≤ most)) }
     {

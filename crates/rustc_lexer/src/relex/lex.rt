@@ -11,7 +11,7 @@ use crate::token::{Token, TokenKind};
 use std::alloc::AllocError;
 
 /// How many tokens are lexed at once, and how many there are between two checkpoints.
-const BLOCK: usize = 128;
+const BUFFER_LEN: usize = 128;
 
 /// Lexes all tokens of a text, and appends them to a list. Returns checkpoints among them.
 pub(crate) fn lex_all<S: Stepper>(
@@ -34,7 +34,7 @@ pub(crate) fn lex_all<S: Stepper>(
     let mut buffer = [Token {
         kind: TokenKind::Eof,
         len: 0,
-    }; BLOCK];
+    }; BUFFER_LEN];
     let mut place = 0;
     'left: while place < text.len() {
         let number = tokens.len() - old_count;

@@ -1,9 +1,10 @@
 //! A whole document that is kept with its tokens.
 ghost use Rattle.std.specs.Prelude.{◌≡◌, ◌+◌, ◌-◌, ◌<◌, ◌≤◌, ◌↔◌, IfOk, IfErr, IfSome, IsSome, OnOk, OnErr, IsTrue, ℕ, drop, length, take};
+ghost use Rattle.std.specs.String.{string_bytes};
 ghost use Rattle.rustc_lexer.specs.Classes.{Fits};
 ghost use Rattle.rustc_lexer.specs.Document as spec;
 ghost use Rattle.rustc_lexer.specs.means.Document as means;
-ghost use Rattle.rustc_lexer.specs.Edits.{AreEdits, AreStepped, AreTouched, ContainsByte, IsEdit, IsRelexedList, IsStop, IsStopStepped, apply, apply_list, pieces_from, stop_at};
+ghost use Rattle.rustc_lexer.specs.Edits.{AreEdits, AreStepped, AreTouched, ContainsByte, IsEdit, IsRelexed, IsRelexedList, IsStepped, IsStop, IsStopStepped, apply, apply_list, pieces_from, stop_at};
 
 use crate::entry::stepper::Stepper;
 use crate::relex::edit::{Edit, accepts};
@@ -110,6 +111,15 @@ impl<S: Stepper> LexedDocument<S> {
         &self.kept.stepper
     }
 
+    /// Returns the text, with its shebang line, and drops its tokens. It copies nothing.
+    pub fn into_string(self) -> String
+        ensures { string_bytes result ≡ self.text }
+    {
+        let LexedDocument { kept } = self;
+        let Kept { text, .. } = kept;
+        text
+    }
+
     /// Gives back memory that edits have left unused, as `Vec::shrink_to_fit` does. Text, tokens and stepper stay. If
     /// an allocation fails on the way, the unused memory stays too.
     pub fn shrink_to_fit(&mut self)
@@ -204,7 +214,7 @@ impl<S: Stepper> LexedDocument<S> {
 
         // Which tokens stay, and how many were lexed.
         ensures relexed { IfOk result
-            (spec.IsRelexedDocument (S.grammar self.old.stepper) self.old.text start stop insert.now) }
+            (IsRelexed (spec.whole_by (S.grammar self.old.stepper)) self.old.text start stop insert.now) }
         ensures all { IfOk result
             (λ r. r.kept_front + r.lexed + r.kept_back ≡ length self.new.tokens) }
         ensures front { IfOk result
@@ -215,8 +225,8 @@ impl<S: Stepper> LexedDocument<S> {
 
         // How many steps the stepper took. It keeps its grammar.
         ensures count { IfOk result
-            (λ r. spec.IsCountedDocument self.old.text start stop insert.now
-            (S.count self.old.stepper) (S.count self.new.stepper) r.lexed) }
+            (λ r. S.count self.new.stepper + (length (spec.head_tokens self.new.text) - r.kept_front)
+            ≡ S.count self.old.stepper + r.lexed) }
         ensures grammar { S.grammar self.new.stepper ≡ S.grammar self.old.stepper }
         ensures number { S.number self.new.stepper ≡ S.number self.old.stepper }
         ensures rose { S.count self.old.stepper ≤ S.count self.new.stepper }
@@ -226,7 +236,7 @@ impl<S: Stepper> LexedDocument<S> {
         ensures same_tokens { OnErr result (self.new.tokens ≡ self.old.tokens) }
         ensures few { OnErr result
             ((most : ℕ)
-            × spec.IsSteppedDocument (S.grammar self.old.stepper) self.old.text start stop insert.now
+            × IsStepped (spec.whole_by (S.grammar self.old.stepper)) self.old.text start stop insert.now
             (S.count self.old.stepper) most
             × (S.count self.new.stepper ≤ most)) }
     {
@@ -245,7 +255,7 @@ impl<S: Stepper> LexedDocument<S> {
         ensures grammar { S.grammar self.new.stepper ≡ S.grammar self.old.stepper }
         ensures number { S.number self.new.stepper ≡ S.number self.old.stepper }
         ensures count { OnOk result
-            (AreStepped (spec.IsSteppedDocument (S.grammar self.old.stepper)) self.old.text edits.now
+            (AreStepped (spec.whole_by (S.grammar self.old.stepper)) self.old.text edits.now
             (S.count self.old.stepper) (S.count self.new.stepper)) }
 
         // If an edit is refused, the edits before it were made.
@@ -255,7 +265,7 @@ impl<S: Stepper> LexedDocument<S> {
         ensures stop_text { IfErr result
             (λ e. self.new.text ≡ apply_list self.old.text (take (stop_at e) edits.now)) }
         ensures stop_count { IfErr result
-            (λ e. IsStopStepped e (spec.IsSteppedDocument (S.grammar self.old.stepper)) self.old.text edits.now
+            (λ e. IsStopStepped e (spec.whole_by (S.grammar self.old.stepper)) self.old.text edits.now
             (S.count self.old.stepper) (S.count self.new.stepper)) }
     {
         self.edit_each(edits)?;
@@ -264,6 +274,7 @@ impl<S: Stepper> LexedDocument<S> {
 
     /// Makes the edits as [`edit_all`](LexedDocument::edit_all) does. Returns how many tokens all of them kept at the
     /// front and at the back, and how many are now between these. An empty list keeps all at the front.
+    #[tactic(auto, using(crate::proofs::DocumentPage::past_law, std::proofs::lemmas::Grind::common_steps))]
     pub fn edit_each(&mut self, edits: &[Edit<'_>]) -> Result<Relexed, EditStop>
         ensures accepted { OnOk result (AreEdits self.old.text edits.now) }
         ensures text { OnOk result (self.new.text ≡ apply_list self.old.text edits.now) }
@@ -272,7 +283,7 @@ impl<S: Stepper> LexedDocument<S> {
 
         // Which tokens stay through all of the edits.
         ensures least { IfOk result
-            (IsRelexedList (spec.IsRelexedDocument (S.grammar self.old.stepper)) self.old.text edits.now
+            (IsRelexedList (spec.whole_by (S.grammar self.old.stepper)) self.old.text edits.now
             (length self.old.tokens) (length self.new.tokens)) }
         ensures all { IfOk result
             (λ r. r.kept_front + r.lexed + r.kept_back ≡ length self.new.tokens) }
@@ -287,7 +298,7 @@ impl<S: Stepper> LexedDocument<S> {
         ensures grammar { S.grammar self.new.stepper ≡ S.grammar self.old.stepper }
         ensures number { S.number self.new.stepper ≡ S.number self.old.stepper }
         ensures count { OnOk result
-            (AreStepped (spec.IsSteppedDocument (S.grammar self.old.stepper)) self.old.text edits.now
+            (AreStepped (spec.whole_by (S.grammar self.old.stepper)) self.old.text edits.now
             (S.count self.old.stepper) (S.count self.new.stepper)) }
 
         // If an edit is refused, the edits before it were made.
@@ -297,7 +308,7 @@ impl<S: Stepper> LexedDocument<S> {
         ensures stop_text { IfErr result
             (λ e. self.new.text ≡ apply_list self.old.text (take (stop_at e) edits.now)) }
         ensures stop_count { IfErr result
-            (λ e. IsStopStepped e (spec.IsSteppedDocument (S.grammar self.old.stepper)) self.old.text edits.now
+            (λ e. IsStopStepped e (spec.whole_by (S.grammar self.old.stepper)) self.old.text edits.now
             (S.count self.old.stepper) (S.count self.new.stepper)) }
     {
         self.kept.edit_each(edits)

@@ -1,9 +1,10 @@
 //! A text that is kept with its tokens.
 ghost use Rattle.std.specs.Prelude.{◌≡◌, ◌+◌, ◌-◌, ◌<◌, ◌≤◌, ◌↔◌, IfOk, IfErr, IfSome, IsSome, OnOk, OnErr, IsTrue, ℕ, drop, length, take};
+ghost use Rattle.std.specs.String.{string_bytes};
 ghost use Rattle.rustc_lexer.specs.{E2024};
 ghost use Rattle.rustc_lexer.specs.Classes.{Fits};
 ghost use Rattle.rustc_lexer.specs.Tokens.{tokens_by, tokens_of};
-ghost use Rattle.rustc_lexer.specs.Edits.{AreEdits, AreStepped, AreTouched, ContainsByte, IsEdit, IsRelexed, IsRelexedList, IsStepped, IsStop, IsStopStepped, apply, apply_list, pieces_from, stop_at};
+ghost use Rattle.rustc_lexer.specs.Edits.{AreEdits, AreStepped, AreTouched, ContainsByte, IsEdit, IsRelexed, IsRelexedList, IsStepped, IsStop, IsStopStepped, apply, apply_list, part_by, pieces_from, stop_at};
 ghost use Rattle.rustc_lexer.specs.LanguageText.{part};
 ghost use Rattle.rustc_lexer.specs.Answers.{first_in};
 
@@ -83,6 +84,15 @@ impl<S: Stepper> LexedText<S> {
         ensures { result.now ≡ self.now.stepper }
     {
         &self.kept.stepper
+    }
+
+    /// Returns the text, and drops its tokens. It copies nothing.
+    pub fn into_string(self) -> String
+        ensures { string_bytes result ≡ self.text }
+    {
+        let LexedText { kept } = self;
+        let Kept { text, .. } = kept;
+        text
     }
 
     /// Gives back memory that edits have left unused, as `Vec::shrink_to_fit` does. Text, tokens and stepper stay. If
@@ -165,7 +175,7 @@ impl<S: Stepper> LexedText<S> {
 
         // Which tokens stay, and how many were lexed.
         ensures relexed { IfOk result
-            (IsRelexed (S.grammar self.old.stepper) self.old.text start stop insert.now) }
+            (IsRelexed (part_by (S.grammar self.old.stepper)) self.old.text start stop insert.now) }
         ensures all { IfOk result
             (λ r. r.kept_front + r.lexed + r.kept_back ≡ length self.new.tokens) }
         ensures front { IfOk result
@@ -186,7 +196,7 @@ impl<S: Stepper> LexedText<S> {
         ensures same_tokens { OnErr result (self.new.tokens ≡ self.old.tokens) }
         ensures few { OnErr result
             ((most : ℕ)
-            × IsStepped (S.grammar self.old.stepper) self.old.text start stop insert.now
+            × IsStepped (part_by (S.grammar self.old.stepper)) self.old.text start stop insert.now
             (S.count self.old.stepper) most
             × (S.count self.new.stepper ≤ most)) }
     {
@@ -205,7 +215,7 @@ impl<S: Stepper> LexedText<S> {
         ensures grammar { S.grammar self.new.stepper ≡ S.grammar self.old.stepper }
         ensures number { S.number self.new.stepper ≡ S.number self.old.stepper }
         ensures count { OnOk result
-            (AreStepped (IsStepped (S.grammar self.old.stepper)) self.old.text edits.now
+            (AreStepped (part_by (S.grammar self.old.stepper)) self.old.text edits.now
             (S.count self.old.stepper) (S.count self.new.stepper)) }
 
         // If an edit is refused, the edits before it were made.
@@ -215,7 +225,7 @@ impl<S: Stepper> LexedText<S> {
         ensures stop_text { IfErr result
             (λ e. self.new.text ≡ apply_list self.old.text (take (stop_at e) edits.now)) }
         ensures stop_count { IfErr result
-            (λ e. IsStopStepped e (IsStepped (S.grammar self.old.stepper)) self.old.text edits.now
+            (λ e. IsStopStepped e (part_by (S.grammar self.old.stepper)) self.old.text edits.now
             (S.count self.old.stepper) (S.count self.new.stepper)) }
     {
         self.edit_each(edits)?;
@@ -232,7 +242,7 @@ impl<S: Stepper> LexedText<S> {
 
         // Which tokens stay through all of the edits.
         ensures least { IfOk result
-            (IsRelexedList (IsRelexed (S.grammar self.old.stepper)) self.old.text edits.now
+            (IsRelexedList (part_by (S.grammar self.old.stepper)) self.old.text edits.now
             (length self.old.tokens) (length self.new.tokens)) }
         ensures all { IfOk result
             (λ r. r.kept_front + r.lexed + r.kept_back ≡ length self.new.tokens) }
@@ -247,7 +257,7 @@ impl<S: Stepper> LexedText<S> {
         ensures grammar { S.grammar self.new.stepper ≡ S.grammar self.old.stepper }
         ensures number { S.number self.new.stepper ≡ S.number self.old.stepper }
         ensures count { OnOk result
-            (AreStepped (IsStepped (S.grammar self.old.stepper)) self.old.text edits.now
+            (AreStepped (part_by (S.grammar self.old.stepper)) self.old.text edits.now
             (S.count self.old.stepper) (S.count self.new.stepper)) }
 
         // If an edit is refused, the edits before it were made.
@@ -257,7 +267,7 @@ impl<S: Stepper> LexedText<S> {
         ensures stop_text { IfErr result
             (λ e. self.new.text ≡ apply_list self.old.text (take (stop_at e) edits.now)) }
         ensures stop_count { IfErr result
-            (λ e. IsStopStepped e (IsStepped (S.grammar self.old.stepper)) self.old.text edits.now
+            (λ e. IsStopStepped e (part_by (S.grammar self.old.stepper)) self.old.text edits.now
             (S.count self.old.stepper) (S.count self.new.stepper)) }
     {
         self.kept.edit_each(edits)

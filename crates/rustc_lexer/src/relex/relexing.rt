@@ -2,7 +2,7 @@
 ghost use Rattle.std.specs.Prelude.{◌≡◌, ◌+◌, ◌-◌, ◌^◌, ◌<◌, ◌≤◌, ◌∷◌, ◌++◌, ◌↔◌, IsTrue, List, MatchOption, drop, false, length, map, take, ℕ, true};
 ghost use Rattle.rustc_lexer.specs.declared.relex.relexing.Change.{Change};
 ghost use Rattle.rustc_lexer.specs.{Token};
-ghost use Rattle.rustc_lexer.specs.Edits.{IsBound, IsRelexed, known};
+ghost use Rattle.rustc_lexer.specs.Edits.{IsBound, IsRelexed, known, part_by};
 ghost use Rattle.rustc_lexer.specs.Classes.{Fits};
 ghost use Rattle.rustc_lexer.specs.Tokens.{tokens_by};
 ghost use Rattle.rustc_lexer.specs.Relexing.{GoesOn, IsChange, IsMadeOf, IsUnderWay, IsWhole, MayGoOn, TakesSteps, is_over};
@@ -254,7 +254,7 @@ impl Relexing {
             → IsGrammar first → IsMadeOf first before lengths change insert text
             → length lengths ≡ old_count → IsUnderWay first before change text self.now
             → self.now.met ≡ true
-            → IsRelexed first before change.start change.old_stop insert result
+            → IsRelexed (part_by first) before change.start change.old_stop insert result
             × IsWhole (tokens_by first before) (tokens_by first text) self.now }
     {
         Relexed {

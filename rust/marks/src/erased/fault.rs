@@ -123,35 +123,51 @@ fn raw_fault(text: &str, prefix_len: u32) -> Option<Fault> {
 /// Returns a sentence that says what is wrong between the quotes of a literal.
 fn error_sentence(error: EscapeError) -> &'static str {
     match error {
-        EscapeError::ZeroChars => "nothing stands between these quotes",
-        EscapeError::MoreThanOneChar => "more than one character stands between these quotes",
-        EscapeError::LoneSlash => "nothing follows this backslash",
-        EscapeError::InvalidEscape => "no escape is written like this",
-        EscapeError::BareCarriageReturn => "a carriage return is written as an escape",
-        EscapeError::BareCarriageReturnInRawString => "a raw string has no carriage return",
-        EscapeError::EscapeOnlyChar => "this character is written as an escape here",
-        EscapeError::TooShortHexEscape => "this escape has two hexadecimal digits",
-        EscapeError::InvalidCharInHexEscape => "this escape has hexadecimal digits alone",
-        EscapeError::OutOfRangeHexEscape => "this escape goes up to 7f here",
-        EscapeError::NoBraceInUnicodeEscape => "this escape has braces around its digits",
+        EscapeError::ZeroChars => "nothing is between these quotes: one character goes there",
+        EscapeError::MoreThanOneChar => "more than one character is between these quotes",
+        EscapeError::LoneSlash => "nothing follows this backslash, which begins an escape",
+        EscapeError::InvalidEscape => {
+            "there is no such escape: a backslash itself is written twice"
+        }
+        EscapeError::BareCarriageReturn => {
+            "a carriage return cannot stand here itself: it is written as \\r"
+        }
+        EscapeError::BareCarriageReturnInRawString => "a raw string cannot hold a carriage return",
+        EscapeError::EscapeOnlyChar => {
+            "this character cannot stand here itself: it is written as an escape"
+        }
+        EscapeError::TooShortHexEscape => {
+            "this escape ends too early: \\x takes two hexadecimal digits"
+        }
+        EscapeError::InvalidCharInHexEscape => {
+            "this is no hexadecimal digit: \\x takes two of them"
+        }
+        EscapeError::OutOfRangeHexEscape => "this escape is out of range: here \\x goes up to 7f",
+        EscapeError::NoBraceInUnicodeEscape => {
+            "no brace follows here: \\u takes its digits in braces"
+        }
         EscapeError::InvalidCharInUnicodeEscape => {
-            "between these braces stand hexadecimal digits and underscores alone"
+            "this is neither a hexadecimal digit nor an underscore nor a closing brace"
         }
-        EscapeError::EmptyUnicodeEscape => "no digit stands between these braces",
-        EscapeError::UnclosedUnicodeEscape => "no brace closes this escape",
+        EscapeError::EmptyUnicodeEscape => "no digit is between these braces: \\u takes one to six",
+        EscapeError::UnclosedUnicodeEscape => "nothing closes this escape: a brace would",
         EscapeError::LeadingUnderscoreUnicodeEscape => {
-            "no underscore stands before the first digit"
+            "an underscore is the first here: \\u takes a digit first"
         }
-        EscapeError::OverlongUnicodeEscape => "this escape has six digits at most",
+        EscapeError::OverlongUnicodeEscape => {
+            "too many digits are between these braces: \\u takes six at most"
+        }
         EscapeError::LoneSurrogateUnicodeEscape => {
             "this is the number of a surrogate, which is no character"
         }
-        EscapeError::OutOfRangeUnicodeEscape => "no character has so great a number",
-        EscapeError::UnicodeEscapeInByte => "no byte is written like this",
+        EscapeError::OutOfRangeUnicodeEscape => {
+            "no character has so great a number: the greatest is 10ffff"
+        }
+        EscapeError::UnicodeEscapeInByte => "no byte is written like this: \\x writes one",
         EscapeError::NonAsciiCharInByte => "this character is not in ASCII, and so is no byte",
-        EscapeError::NulInCStr => "no NUL stands in a C string",
+        EscapeError::NulInCStr => "a C string cannot hold a NUL, which ends it",
         EscapeError::UnskippedWhitespaceWarning => {
-            "the white space behind this line end is not all skipped"
+            "not all white space after this line end is skipped: spaces, tabs and line ends are"
         }
         EscapeError::MultipleSkippedLinesWarning => "more than one line end is skipped here",
     }
@@ -161,7 +177,9 @@ impl fmt::Display for Fault {
     fn fmt(&self, f: &mut fmt::Formatter) -> fmt::Result {
         match self {
             Fault::OpenComment => f.write_str("nothing closes this comment"),
-            Fault::FrontmatterSpace => f.write_str("white space stands before this frontmatter"),
+            Fault::FrontmatterSpace => {
+                f.write_str("white space comes before this frontmatter, which begins its line")
+            }
             Fault::FrontmatterInfostring => {
                 f.write_str("the first line of this frontmatter holds more than a name")
             }
@@ -178,7 +196,9 @@ impl fmt::Display for Fault {
             Fault::OpenCharacter => f.write_str("nothing closes this character"),
             Fault::OpenByte => f.write_str("nothing closes this byte"),
             Fault::OpenString => f.write_str("nothing closes this string"),
-            Fault::RawStarter => f.write_str("a raw string begins with hashes and a quote"),
+            Fault::RawStarter => {
+                f.write_str("no quote follows: a raw string begins with hashes and a quote")
+            }
             Fault::OpenRawString { expected } => write!(
                 f,
                 "nothing closes this raw string: a quote and {expected} # would"

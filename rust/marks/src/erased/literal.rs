@@ -90,18 +90,12 @@ fn quote_of(mode: Mode) -> u8 {
 
 /// Returns the place of the first byte of this value, or the length of the text.
 fn first_place(byte: u8, text: &str) -> usize {
-    match memchr(byte, text.as_bytes()) {
-        Some(place) => place,
-        None => text.len(),
-    }
+    memchr(byte, text.as_bytes()).unwrap_or(text.len())
 }
 
 /// Returns the place of the last byte of this value, or 0.
 fn last_place(byte: u8, text: &str) -> usize {
-    match memrchr(byte, text.as_bytes()) {
-        Some(place) => place,
-        None => 0,
-    }
+    memrchr(byte, text.as_bytes()).unwrap_or(0)
 }
 
 /// Writes a literal between single quotes. The text between them goes from the place `begin` to `close`.

@@ -25,10 +25,7 @@ pub fn write_with_fault<W: fmt::Write>(
 
 /// Returns how many bytes come before the first newline or carriage return.
 fn first_line(text: &str) -> usize {
-    match memchr2(b'\n', b'\r', text.as_bytes()) {
-        Some(at) => at,
-        None => text.len(),
-    }
+    memchr2(b'\n', b'\r', text.as_bytes()).unwrap_or(text.len())
 }
 
 /// Writes a part of the text between the marks of its class. Writes nothing if the part is empty.

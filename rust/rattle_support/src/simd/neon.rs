@@ -19,34 +19,13 @@ pub fn load(bytes: &[u8; COUNT]) -> Lanes {
     unsafe { vld1q_u8(bytes.as_ptr()) }
 }
 
-#[inline(always)]
-pub fn sub(a: Lanes, b: Lanes) -> Lanes {
-    unsafe { vsubq_u8(a, b) }
-}
-
-#[inline(always)]
-pub fn or(a: Lanes, b: Lanes) -> Lanes {
-    unsafe { vorrq_u8(a, b) }
-}
-
-#[inline(always)]
-pub fn and(a: Lanes, b: Lanes) -> Lanes {
-    unsafe { vandq_u8(a, b) }
-}
-
-#[inline(always)]
-pub fn not(a: Lanes) -> Lanes {
-    unsafe { vmvnq_u8(a) }
-}
-
-#[inline(always)]
-pub fn eq(a: Lanes, b: Lanes) -> Lanes {
-    unsafe { vceqq_u8(a, b) }
-}
-
-#[inline(always)]
-pub fn ge(a: Lanes, b: Lanes) -> Lanes {
-    unsafe { vcgeq_u8(a, b) }
+lanewise! {
+    sub(a, b) = unsafe { vsubq_u8(a, b) };
+    or(a, b) = unsafe { vorrq_u8(a, b) };
+    and(a, b) = unsafe { vandq_u8(a, b) };
+    not(a) = unsafe { vmvnq_u8(a) };
+    eq(a, b) = unsafe { vceqq_u8(a, b) };
+    ge(a, b) = unsafe { vcgeq_u8(a, b) };
 }
 
 #[inline(always)]

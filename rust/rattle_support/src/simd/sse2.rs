@@ -16,34 +16,13 @@ pub fn load(bytes: &[u8; COUNT]) -> Lanes {
     unsafe { _mm_loadu_si128(bytes.as_ptr().cast()) }
 }
 
-#[inline(always)]
-pub fn sub(a: Lanes, b: Lanes) -> Lanes {
-    unsafe { _mm_sub_epi8(a, b) }
-}
-
-#[inline(always)]
-pub fn or(a: Lanes, b: Lanes) -> Lanes {
-    unsafe { _mm_or_si128(a, b) }
-}
-
-#[inline(always)]
-pub fn and(a: Lanes, b: Lanes) -> Lanes {
-    unsafe { _mm_and_si128(a, b) }
-}
-
-#[inline(always)]
-pub fn not(a: Lanes) -> Lanes {
-    unsafe { _mm_xor_si128(a, _mm_set1_epi8(-1)) }
-}
-
-#[inline(always)]
-pub fn eq(a: Lanes, b: Lanes) -> Lanes {
-    unsafe { _mm_cmpeq_epi8(a, b) }
-}
-
-#[inline(always)]
-pub fn ge(a: Lanes, b: Lanes) -> Lanes {
-    unsafe { _mm_cmpeq_epi8(_mm_max_epu8(a, b), a) }
+lanewise! {
+    sub(a, b) = unsafe { _mm_sub_epi8(a, b) };
+    or(a, b) = unsafe { _mm_or_si128(a, b) };
+    and(a, b) = unsafe { _mm_and_si128(a, b) };
+    not(a) = unsafe { _mm_xor_si128(a, _mm_set1_epi8(-1)) };
+    eq(a, b) = unsafe { _mm_cmpeq_epi8(a, b) };
+    ge(a, b) = unsafe { _mm_cmpeq_epi8(_mm_max_epu8(a, b), a) };
 }
 
 #[inline(always)]

@@ -24,12 +24,10 @@ fn all_pairs<const N: usize>() {
             let same = x.simd_eq(Bytes::splat(apart));
             assert_eq!(same.to_bitmask(), bits(&a, &b, |a, _| a == apart));
             let seven = Bytes::splat(7);
-            let (less, joined) = ((x - y).simd_ge(seven), (x | y).simd_eq(seven));
-            assert_eq!(
-                less.to_bitmask(),
-                bits(&a, &b, |a, b| a.wrapping_sub(b) >= 7)
-            );
-            assert_eq!(joined.to_bitmask(), bits(&a, &b, |a, b| a | b == 7));
+            let less = (x - y).simd_ge(seven).to_bitmask();
+            let joined = (x | y).simd_eq(seven).to_bitmask();
+            assert_eq!(less, bits(&a, &b, |a, b| a.wrapping_sub(b) >= 7));
+            assert_eq!(joined, bits(&a, &b, |a, b| a | b == 7));
             let (one, other): (Mask<N>, Mask<N>) = (x.simd_ge(y), x.simd_ge(seven));
             let (any, both) = ((one | other).to_bitmask(), (one & other).to_bitmask());
             assert_eq!(any, bits(&a, &b, |a, b| a >= b || a >= 7));
@@ -69,29 +67,23 @@ macro_rules! all_pairs_of {
                     assert_eq!($lanes::bits(&masks[..2]), bits & u64::from(u32::MAX));
                     bits
                 };
-                let seven = $lanes::splat(7);
-                assert_eq!(each(&$lanes::eq), bits(&a, &b, |a, b| a == b));
-                assert_eq!(each(&$lanes::ge), bits(&a, &b, |a, b| a >= b));
-                assert_eq!(
-                    each(&|a, _| $lanes::eq(a, $lanes::splat(apart))),
-                    bits(&a, &b, |a, _| a == apart)
-                );
-                assert_eq!(
-                    each(&|a, b| $lanes::not($lanes::ge(a, b))),
-                    bits(&a, &b, |a, b| a < b)
-                );
-                assert_eq!(
-                    each(&|a, b| $lanes::eq($lanes::sub(a, b), seven)),
-                    bits(&a, &b, |a, b| a.wrapping_sub(b) == 7)
-                );
-                assert_eq!(
-                    each(&|a, b| $lanes::eq($lanes::or(a, b), seven)),
-                    bits(&a, &b, |a, b| a | b == 7)
-                );
-                assert_eq!(
-                    each(&|a, b| $lanes::and($lanes::ge(a, b), $lanes::ge(a, seven))),
-                    bits(&a, &b, |a, b| a >= b && a >= 7)
-                );
+                use $lanes::{and, eq, ge, not, or, splat, sub};
+                let seven = splat(7);
+                let same = |made: u64, wanted: fn(u8, u8) -> bool| {
+                    assert_eq!(made, bits(&a, &b, wanted));
+                };
+                same(each(&eq), |a, b| a == b);
+                same(each(&ge), |a, b| a >= b);
+                let of_one = each(&|a, _| eq(a, splat(apart)));
+                assert_eq!(of_one, bits(&a, &b, |a, _| a == apart));
+                same(each(&|a, b| not(ge(a, b))), |a, b| a < b);
+                same(each(&|a, b| eq(sub(a, b), seven)), |a, b| {
+                    a.wrapping_sub(b) == 7
+                });
+                same(each(&|a, b| eq(or(a, b), seven)), |a, b| a | b == 7);
+                same(each(&|a, b| and(ge(a, b), ge(a, seven))), |a, b| {
+                    a >= b && a >= 7
+                });
             }
         }
     };

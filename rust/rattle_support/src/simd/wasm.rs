@@ -16,34 +16,13 @@ pub fn load(bytes: &[u8; COUNT]) -> Lanes {
     unsafe { v128_load(bytes.as_ptr().cast()) }
 }
 
-#[inline(always)]
-pub fn sub(a: Lanes, b: Lanes) -> Lanes {
-    u8x16_sub(a, b)
-}
-
-#[inline(always)]
-pub fn or(a: Lanes, b: Lanes) -> Lanes {
-    v128_or(a, b)
-}
-
-#[inline(always)]
-pub fn and(a: Lanes, b: Lanes) -> Lanes {
-    v128_and(a, b)
-}
-
-#[inline(always)]
-pub fn not(a: Lanes) -> Lanes {
-    v128_not(a)
-}
-
-#[inline(always)]
-pub fn eq(a: Lanes, b: Lanes) -> Lanes {
-    u8x16_eq(a, b)
-}
-
-#[inline(always)]
-pub fn ge(a: Lanes, b: Lanes) -> Lanes {
-    u8x16_ge(a, b)
+lanewise! {
+    sub(a, b) = u8x16_sub(a, b);
+    or(a, b) = v128_or(a, b);
+    and(a, b) = v128_and(a, b);
+    not(a) = v128_not(a);
+    eq(a, b) = u8x16_eq(a, b);
+    ge(a, b) = u8x16_ge(a, b);
 }
 
 #[inline(always)]

@@ -88,8 +88,8 @@ fn closing_end(rest: &[u8], n_dashes: usize) -> usize {
     };
     let mut from = 0;
     while let Some(step) = memchr(b'\n', &rest[from..]) {
-        let line = run_end(rest, from + step + 1, b'\n');
-        let end = run_end(rest, line, b'-');
+        let line = byte_run_end(rest, from + step + 1, b'\n');
+        let end = byte_run_end(rest, line, b'-');
         if end - line >= n_dashes {
             return line_end(rest, line);
         }
@@ -164,7 +164,7 @@ fn recovery(rest: &[u8], guesses: Guesses) -> usize {
 
 /// Returns where the run of a byte that begins at `from` ends.
 #[inline(always)]
-fn run_end(rest: &[u8], from: usize, byte: u8) -> usize {
+fn byte_run_end(rest: &[u8], from: usize, byte: u8) -> usize {
     let mut end = from;
     while end < rest.len() && rest[end] == byte {
         end += 1;
@@ -175,7 +175,7 @@ fn run_end(rest: &[u8], from: usize, byte: u8) -> usize {
 /// Returns the first place of three dashes with only blanks before them, on their line and past the dashes before.
 fn find_lone_dashes(rest: &[u8]) -> Option<usize> {
     let mut end = 0;
-    while let Some(step) = find(&rest[end..], b"---") {
+    while let Some(step) = find_pattern(&rest[end..], b"---") {
         let place = end + step;
         if stands_alone(rest, end, place) {
             return Some(place);
@@ -209,7 +209,7 @@ fn line_end(rest: &[u8], place: usize) -> usize {
 
 /// Returns the first place of the pattern. It searches for the pattern's first byte. So it does not have to make a
 /// searcher, which would allocate on the heap.
-fn find(rest: &[u8], pattern: &[u8]) -> Option<usize> {
+fn find_pattern(rest: &[u8], pattern: &[u8]) -> Option<usize> {
     let mut from = 0;
     while let Some(step) = memchr(pattern[0], &rest[from..]) {
         let place = from + step;

@@ -2,7 +2,7 @@
 
 use crate::erased::classes::{is_id_continue, is_whitespace};
 use crate::erased::kernels::{
-    Continue, Space, ends_space, find, find_either, run_end, short_run_end,
+    Continue, Space, ends_space, find_byte, find_either, run_end, short_run_end,
 };
 
 /// Returns the first character, or U+0000 if the text is empty.
@@ -130,7 +130,7 @@ pub(crate) fn eat_whitespace(rest: &str) -> &str {
 /// none.
 #[inline(always)]
 pub(crate) fn eat_until(rest: &str, stop: u8) -> &str {
-    match find(stop, rest.as_bytes()) {
+    match find_byte(stop, rest.as_bytes()) {
         Some(place) => &rest[place..],
         None => "",
     }

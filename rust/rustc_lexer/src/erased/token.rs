@@ -173,100 +173,62 @@ pub enum TokenKind {
 impl TokenKind {
     /// Returns the name of the kind, which is the name of its variant, like `Ident`.
     pub fn name(self) -> &'static str {
-        match self {
-            TokenKind::LineComment { .. } => "LineComment",
-            TokenKind::BlockComment { .. } => "BlockComment",
-            TokenKind::Whitespace => "Whitespace",
-            TokenKind::Frontmatter { .. } => "Frontmatter",
-            TokenKind::Ident => "Ident",
-            TokenKind::InvalidIdent => "InvalidIdent",
-            TokenKind::RawIdent => "RawIdent",
-            TokenKind::ForcedKeywordIdent => "ForcedKeywordIdent",
-            TokenKind::UnknownPrefix => "UnknownPrefix",
-            TokenKind::UnknownPrefixLifetime => "UnknownPrefixLifetime",
-            TokenKind::RawLifetime => "RawLifetime",
-            TokenKind::GuardedStrPrefix => "GuardedStrPrefix",
-            TokenKind::Literal { .. } => "Literal",
-            TokenKind::Lifetime { .. } => "Lifetime",
-            TokenKind::Semi => "Semi",
-            TokenKind::Comma => "Comma",
-            TokenKind::Dot => "Dot",
-            TokenKind::OpenParen => "OpenParen",
-            TokenKind::CloseParen => "CloseParen",
-            TokenKind::OpenBrace => "OpenBrace",
-            TokenKind::CloseBrace => "CloseBrace",
-            TokenKind::OpenBracket => "OpenBracket",
-            TokenKind::CloseBracket => "CloseBracket",
-            TokenKind::At => "At",
-            TokenKind::Pound => "Pound",
-            TokenKind::Tilde => "Tilde",
-            TokenKind::Question => "Question",
-            TokenKind::Colon => "Colon",
-            TokenKind::Dollar => "Dollar",
-            TokenKind::Eq => "Eq",
-            TokenKind::Bang => "Bang",
-            TokenKind::Lt => "Lt",
-            TokenKind::Gt => "Gt",
-            TokenKind::Minus => "Minus",
-            TokenKind::And => "And",
-            TokenKind::Or => "Or",
-            TokenKind::Plus => "Plus",
-            TokenKind::Star => "Star",
-            TokenKind::Slash => "Slash",
-            TokenKind::Caret => "Caret",
-            TokenKind::Percent => "Percent",
-            TokenKind::Unknown => "Unknown",
-            TokenKind::Eof => "Eof",
-        }
+        self.entry().1
     }
 
     /// Returns the number of the kind. Numbers begin at 1 and never change: a new kind gets a new number.
     #[inline(always)]
     pub fn number(self) -> u8 {
+        self.entry().0
+    }
+
+    /// Returns the number and the name of the kind.
+    #[inline(always)]
+    fn entry(self) -> (u8, &'static str) {
         match self {
-            TokenKind::LineComment { .. } => 1,
-            TokenKind::BlockComment { .. } => 2,
-            TokenKind::Whitespace => 3,
-            TokenKind::Frontmatter { .. } => 4,
-            TokenKind::Ident => 5,
-            TokenKind::InvalidIdent => 6,
-            TokenKind::RawIdent => 7,
-            TokenKind::ForcedKeywordIdent => 8,
-            TokenKind::UnknownPrefix => 9,
-            TokenKind::UnknownPrefixLifetime => 10,
-            TokenKind::RawLifetime => 11,
-            TokenKind::GuardedStrPrefix => 12,
-            TokenKind::Literal { .. } => 13,
-            TokenKind::Lifetime { .. } => 14,
-            TokenKind::Semi => 15,
-            TokenKind::Comma => 16,
-            TokenKind::Dot => 17,
-            TokenKind::OpenParen => 18,
-            TokenKind::CloseParen => 19,
-            TokenKind::OpenBrace => 20,
-            TokenKind::CloseBrace => 21,
-            TokenKind::OpenBracket => 22,
-            TokenKind::CloseBracket => 23,
-            TokenKind::At => 24,
-            TokenKind::Pound => 25,
-            TokenKind::Tilde => 26,
-            TokenKind::Question => 27,
-            TokenKind::Colon => 28,
-            TokenKind::Dollar => 29,
-            TokenKind::Eq => 30,
-            TokenKind::Bang => 31,
-            TokenKind::Lt => 32,
-            TokenKind::Gt => 33,
-            TokenKind::Minus => 34,
-            TokenKind::And => 35,
-            TokenKind::Or => 36,
-            TokenKind::Plus => 37,
-            TokenKind::Star => 38,
-            TokenKind::Slash => 39,
-            TokenKind::Caret => 40,
-            TokenKind::Percent => 41,
-            TokenKind::Unknown => 42,
-            TokenKind::Eof => 43,
+            TokenKind::LineComment { .. } => (1, "LineComment"),
+            TokenKind::BlockComment { .. } => (2, "BlockComment"),
+            TokenKind::Whitespace => (3, "Whitespace"),
+            TokenKind::Frontmatter { .. } => (4, "Frontmatter"),
+            TokenKind::Ident => (5, "Ident"),
+            TokenKind::InvalidIdent => (6, "InvalidIdent"),
+            TokenKind::RawIdent => (7, "RawIdent"),
+            TokenKind::ForcedKeywordIdent => (8, "ForcedKeywordIdent"),
+            TokenKind::UnknownPrefix => (9, "UnknownPrefix"),
+            TokenKind::UnknownPrefixLifetime => (10, "UnknownPrefixLifetime"),
+            TokenKind::RawLifetime => (11, "RawLifetime"),
+            TokenKind::GuardedStrPrefix => (12, "GuardedStrPrefix"),
+            TokenKind::Literal { .. } => (13, "Literal"),
+            TokenKind::Lifetime { .. } => (14, "Lifetime"),
+            TokenKind::Semi => (15, "Semi"),
+            TokenKind::Comma => (16, "Comma"),
+            TokenKind::Dot => (17, "Dot"),
+            TokenKind::OpenParen => (18, "OpenParen"),
+            TokenKind::CloseParen => (19, "CloseParen"),
+            TokenKind::OpenBrace => (20, "OpenBrace"),
+            TokenKind::CloseBrace => (21, "CloseBrace"),
+            TokenKind::OpenBracket => (22, "OpenBracket"),
+            TokenKind::CloseBracket => (23, "CloseBracket"),
+            TokenKind::At => (24, "At"),
+            TokenKind::Pound => (25, "Pound"),
+            TokenKind::Tilde => (26, "Tilde"),
+            TokenKind::Question => (27, "Question"),
+            TokenKind::Colon => (28, "Colon"),
+            TokenKind::Dollar => (29, "Dollar"),
+            TokenKind::Eq => (30, "Eq"),
+            TokenKind::Bang => (31, "Bang"),
+            TokenKind::Lt => (32, "Lt"),
+            TokenKind::Gt => (33, "Gt"),
+            TokenKind::Minus => (34, "Minus"),
+            TokenKind::And => (35, "And"),
+            TokenKind::Or => (36, "Or"),
+            TokenKind::Plus => (37, "Plus"),
+            TokenKind::Star => (38, "Star"),
+            TokenKind::Slash => (39, "Slash"),
+            TokenKind::Caret => (40, "Caret"),
+            TokenKind::Percent => (41, "Percent"),
+            TokenKind::Unknown => (42, "Unknown"),
+            TokenKind::Eof => (43, "Eof"),
         }
     }
 }
@@ -351,34 +313,29 @@ pub enum LiteralKind {
 impl LiteralKind {
     /// Returns the name of the kind, which is the name of its variant, like `Int`.
     pub fn name(self) -> &'static str {
-        match self {
-            LiteralKind::Int { .. } => "Int",
-            LiteralKind::Float { .. } => "Float",
-            LiteralKind::Char { .. } => "Char",
-            LiteralKind::Byte { .. } => "Byte",
-            LiteralKind::Str { .. } => "Str",
-            LiteralKind::ByteStr { .. } => "ByteStr",
-            LiteralKind::CStr { .. } => "CStr",
-            LiteralKind::RawStr { .. } => "RawStr",
-            LiteralKind::RawByteStr { .. } => "RawByteStr",
-            LiteralKind::RawCStr { .. } => "RawCStr",
-        }
+        self.entry().1
     }
 
     /// Returns the number of the kind. Numbers begin at 1 and never change: a new kind gets a new number.
     #[inline(always)]
     pub fn number(self) -> u8 {
+        self.entry().0
+    }
+
+    /// Returns the number and the name of the kind.
+    #[inline(always)]
+    fn entry(self) -> (u8, &'static str) {
         match self {
-            LiteralKind::Int { .. } => 1,
-            LiteralKind::Float { .. } => 2,
-            LiteralKind::Char { .. } => 3,
-            LiteralKind::Byte { .. } => 4,
-            LiteralKind::Str { .. } => 5,
-            LiteralKind::ByteStr { .. } => 6,
-            LiteralKind::CStr { .. } => 7,
-            LiteralKind::RawStr { .. } => 8,
-            LiteralKind::RawByteStr { .. } => 9,
-            LiteralKind::RawCStr { .. } => 10,
+            LiteralKind::Int { .. } => (1, "Int"),
+            LiteralKind::Float { .. } => (2, "Float"),
+            LiteralKind::Char { .. } => (3, "Char"),
+            LiteralKind::Byte { .. } => (4, "Byte"),
+            LiteralKind::Str { .. } => (5, "Str"),
+            LiteralKind::ByteStr { .. } => (6, "ByteStr"),
+            LiteralKind::CStr { .. } => (7, "CStr"),
+            LiteralKind::RawStr { .. } => (8, "RawStr"),
+            LiteralKind::RawByteStr { .. } => (9, "RawByteStr"),
+            LiteralKind::RawCStr { .. } => (10, "RawCStr"),
         }
     }
 }

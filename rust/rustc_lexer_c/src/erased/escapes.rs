@@ -153,10 +153,7 @@ fn fill_string(text: &str, mode: Mode, passed: usize, buffer: &mut [CUnit]) -> u
 
 /// Writes the one unit, if it is not skipped and there is room. Returns how many units it wrote.
 fn fill_one(unit: CUnit, passed: usize, buffer: &mut [CUnit]) -> usize {
-    if passed > 0 {
-        return 0;
-    }
-    if buffer.is_empty() {
+    if passed > 0 || buffer.is_empty() {
         return 0;
     }
     buffer[0] = unit;

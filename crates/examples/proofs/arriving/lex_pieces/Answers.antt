@@ -1,10 +1,7 @@
-use Rattle.std.proofs.Common.{ℕ, ◌++◌, List, [], Bor, get_or, take, take_all, sym, ap, subst, ◌∙◌, arith}
+use Rattle.std.proofs.Common.{ℕ, ◌++◌, List, [], Bor, get_or, take, sym, subst, arith, rules}
+use Rattle.std.proofs.lemmas.Grind.{common_steps}
 use Rattle.std.proofs.lemmas.List.Folds.{length-flat_map-take}
-use Rattle.rustc_lexer.specs.declared.edition.Edition.TheVariants.{E2024}
 use Rattle.rustc_lexer.specs.declared.token.Token.{Token}
-use Rattle.rustc_lexer.specs.LanguageText.{part}
-use Rattle.rustc_lexer.specs.State.{State}
-use Rattle.rustc_lexer.specs.Tokens.{tokens_of, tokens_left}
 use Rattle.examples.specs.Joined.{joined}
 use Rattle.examples.proofs.ArrivingLemmas.{HasGiven, all_given, gives_more, joined_more}
 use Rattle.examples.proofs.arriving.lex_pieces.Goals as goal
@@ -30,9 +27,4 @@ loop-piece-preserved c =
     (subst (λ (ts : List Token). HasGiven (taken ++ piece) ts c.take.new.self) (sym c.in_ok-append.ensures.items) more)
 
 pub loop-token-init : goal.loop-token-init
-loop-token-init c =
-    let pieces = c.args.pieces.now in
-    let all = take_all c.loop-piece.piece-index pieces (let over = c.loop-piece-test.false in omega arith) in
-    let given = subst (λ ps. HasGiven (joined ps) c.loop-piece.tokens.items c.loop-piece.arriving) all c.loop-piece.invariant in
-    let left = ap (λ (s : State). tokens_left s) c.into_iter-token-iterator.ensures.into_iter_gives ∙ (c.tokenize-token-items.ensures.tokens ∙ ap (tokens_of (part E2024)) c.rest.ensures) in
-    ap (λ ts. c.loop-piece.tokens.items ++ ts) left ∙ all_given (joined pieces) c.loop-piece.arriving c.loop-piece.tokens.items given c.requires.fits
+loop-token-init c = grind (arith, common_steps, rules, all_given)

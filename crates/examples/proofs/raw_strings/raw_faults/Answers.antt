@@ -1,4 +1,4 @@
-use Rattle.std.proofs.Common.{refl, sym, ◌∙◌, ◌∷◌, [], drop, subst}
+use Rattle.std.proofs.Common.{refl, sym, ◌∙◌, ◌∷◌, [], drop, subst, arith}
 use Rattle.rustc_lexer.specs.Tokens.{HaveTexts, tokens_left}
 use Rattle.rustc_lexer.proofs.PlaceLemmas.{piece_is, stands_past}
 use Rattle.examples.specs.RawStrings.{faults_of}
@@ -6,12 +6,7 @@ use Rattle.examples.proofs.PieceLemmas.{gather}
 use Rattle.examples.proofs.raw_strings.raw_faults.Goals as goal
 
 pub raw_fault-requires-clause-text : goal.raw_fault-requires-clause-text
-raw_fault-requires-clause-text c =
-    let at = c.loop-token.token-iterator in
-    let token = c.in-Some.token in
-    let have = subst (HaveTexts at.rest) c.in-Some.ensures.steps.first c.loop-token.invariant.texts in
-    let piece = piece_is c.args.text.now at.rest c.range.result.now c.loop-token.start token.len c.range.ensures.value c.loop-token.invariant.place.1 in
-    rw piece have.0
+raw_fault-requires-clause-text c = grind (arith, piece_is)
 
 pub loop-token-preserved-in_ok-push : goal.loop-token-preserved-in_ok-push
 loop-token-preserved-in_ok-push c =

@@ -1,15 +1,12 @@
-use Rattle.std.proofs.Common.{sym, ap, ◌∙◌, arith, length, subst}
+use Rattle.std.proofs.Common.{sym, ◌∙◌, arith, subst, rules}
+use Rattle.std.proofs.lemmas.Grind.{common_steps}
 use Rattle.rustc_lexer.specs.Classes.{IsText}
 use Rattle.rustc_lexer.proofs.BoundLemmas.{tokens_le_bytes}
 use Rattle.examples.proofs.RepaintLemmas.{enough_for}
 use Rattle.examples.proofs.repaint.edit_shown.Goals as goal
 
 pub prove-unreachable-requires : goal.prove-unreachable-requires
-prove-unreachable-requires g c =
-    let text = c.args.lexed.now.text in
-    let is : IsText text = subst IsText c.text.ensures.text record { utf8 = c.text.utf8; fits = c.text.ensures.fits } in
-    let more = c.if-prove.true in
-    absurd (omega (arith, ap length c.tokens.ensures.from_scratch, ap length c.text.ensures.text, tokens_le_bytes (g.S.Stepper.law c.args.lexed.now.stepper) text is))
+prove-unreachable-requires g c = grind (arith, common_steps, rules, tokens_le_bytes)
 
 pub returns-clause-enough : goal.returns-clause-enough
 returns-clause-enough g c =

@@ -1,4 +1,5 @@
-use Rattle.std.proofs.Common.{◌≡◌, ◌-◌, arith, take, List, ℕ, Some, None, get_or, refl, ap, subst, ◌∙◌}
+use Rattle.std.proofs.Common.{◌≡◌, ◌-◌, arith, take, List, ℕ, Some, get_or, refl, ap, subst, ◌∙◌, rules}
+use Rattle.std.proofs.lemmas.Grind.{common_steps}
 use Rattle.memchr.specs.Find.{IsFirstByte}
 use Rattle.marks.specs.Escape.{entity, is_special}
 use Rattle.marks.proofs.CallLemmas.{on_ok}
@@ -21,6 +22,4 @@ loop-at-preserved g c =
     }
 
 pub returns-clause-written : goal.returns-clause-written
-returns-clause-written g c =
-    let none = subst (λ (xs : List ℕ). IsFirstByte is_special xs None) c.as_bytes.ensures.value c.in_default.ensures in
-    on_ok c.write_str-2.result c.write_str-2.ensures.ok (λ call. c.loop-at.invariant.left _ (writes_plain g.W.Write.write_str_gives c.loop-at.output c.write_str-2.new.self c.loop-at.rest.now none call))
+returns-clause-written g c = grind (arith, common_steps, rules, on_ok, writes_plain)

@@ -1,21 +1,12 @@
-use Rattle.std.proofs.Common.{arith, ◌∙◌}
+use Rattle.std.proofs.Common.{arith, rules}
+use Rattle.std.proofs.lemmas.Grind.{common_steps}
 use Rattle.std.proofs.lemmas.Str.{IsCharBoundary-start}
-use Rattle.rustc_literal_escaper.specs.Errors.{is_raw}
 use Rattle.std.proofs.lemmas.Result.{on_ok_weaker}
 use Rattle.marks.proofs.LiteralLemmas.{placed_all, placed_first, writes_all, writes_end, writes_item, writes_told}
 use Rattle.marks.proofs.literal.write_string.Goals as goal
 
 pub loop-range-init : goal.loop-range-init
-loop-range-init g c =
-    let are = c.into_iter-range-iterator.ensures.into_iter_gives ∙ c.elements_of-range-items.ensures.items in
-    record {
-      shown = IsCharBoundary-start c.args.text.now c.utf8.text;
-      at = c.requires.begin;
-      order = omega arith;
-      high = c.requires.order;
-      places = placed_all c.args.text.now c.range.result.now c.args.begin c.args.close (is_raw c.args.mode) c.into_iter-range-iterator.result are c.range.ensures.value c.elements_of-range-items.ensures.places;
-      left = λ w more. writes_all g.W.Write.write_str_gives c.args.style c.args.mode c.args.text.now c.range.result.now c.args.begin c.args.close c.into_iter-range-iterator.result c.args.output.now w are c.range.ensures.value more;
-    }
+loop-range-init g c = grind (arith, common_steps, rules, IsCharBoundary-start, placed_all, writes_all)
 
 pub overflow_add-start : goal.overflow_add-start
 overflow_add-start g c =
@@ -80,6 +71,4 @@ loop-range-preserved g c =
     }
 
 pub returns : goal.returns
-returns g c =
-    on_ok_weaker c.write_in_class.result (λ last. c.loop-range.invariant.left _ (writes_end g.W.Write.write_str_gives c.args.style c.args.mode c.args.text.now c.range_from.result.now c.args.begin c.loop-range.at c.args.close
-    c.loop-range.shown c.in_ok-shown-3.shown c.loop-range.range-iterator c.loop-range.output c.write_skipped-2.new.output c.write_in_class.new.output c.in-None.ensures.steps.0 c.range_from.ensures.value c.in_ok-shown-3.ensures.1 last)) c.write_in_class.ensures
+returns g c = grind (arith, common_steps, rules, on_ok_weaker, writes_end)

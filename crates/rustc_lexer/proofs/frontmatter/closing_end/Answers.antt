@@ -10,15 +10,15 @@ lines-init c = seen_none c.args.n_dashes c.args.rest.now
 pub returns-then-end-line-clause-end : goal.returns-then-end-line-clause-end
 returns-then-end-line-clause-end c =
     c.line_end.ensures.end
-    ∙ closes_here c.args.rest.now c.lines.from c.in-Some.step c.run_end-line.result c.run_end-end.result
-    (is_line c.args.rest.now _ c.lines.from c.in-Some.step c.run_end-line.result c.run_end-end.result (take_rest c.args.rest.now c.lines.from) c.in-Some.ensures c.run_end-line.ensures.end c.run_end-end.ensures.end)
+    ∙ closes_here c.args.rest.now c.lines.from c.in-Some.step c.byte_run_end-line.result c.byte_run_end-end.result
+    (is_line c.args.rest.now _ c.lines.from c.in-Some.step c.byte_run_end-line.result c.byte_run_end-end.result (take_rest c.args.rest.now c.lines.from) c.in-Some.ensures c.byte_run_end-line.ensures.end c.byte_run_end-end.ensures.end)
     c.args.n_dashes c.requires.some c.lines.invariant.full c.if-end-line.true
 
 pub lines-preserved : goal.lines-preserved
 lines-preserved c =
-    seen_on c.args.rest.now c.lines.from c.in-Some.step c.run_end-line.result c.run_end-end.result
-    (is_line c.args.rest.now _ c.lines.from c.in-Some.step c.run_end-line.result c.run_end-end.result (take_rest c.args.rest.now c.lines.from) c.in-Some.ensures c.run_end-line.ensures.end c.run_end-end.ensures.end)
-    c.args.n_dashes c.lines.guesses.short_fence c.lines.guesses.use_item c.lines.guesses.inner_doc c.lines.guesses.inner_attribute _ _ _ _ c.requires.some c.lines.invariant c.if-end-line.false c.run_end-end.ensures.inside
+    seen_on c.args.rest.now c.lines.from c.in-Some.step c.byte_run_end-line.result c.byte_run_end-end.result
+    (is_line c.args.rest.now _ c.lines.from c.in-Some.step c.byte_run_end-line.result c.byte_run_end-end.result (take_rest c.args.rest.now c.lines.from) c.in-Some.ensures c.byte_run_end-line.ensures.end c.byte_run_end-end.ensures.end)
+    c.args.n_dashes c.lines.guesses.short_fence c.lines.guesses.use_item c.lines.guesses.inner_doc c.lines.guesses.inner_attribute _ _ _ _ c.requires.some c.lines.invariant c.if-end-line.false c.byte_run_end-end.ensures.inside
     c.with_line-guesses.ensures.short_fence c.with_line-guesses.ensures.use_item c.with_line-guesses.ensures.inner_doc c.with_line-guesses.ensures.inner_attribute
 
 pub recovery-requires-clause-short_fence : goal.recovery-requires-clause-short_fence

@@ -1,4 +1,4 @@
-use Rattle.std.proofs.Common.{List, ℕ, map, take, sym, ap, ◌∙◌, arith}
+use Rattle.std.proofs.Common.{rules, List, ℕ, map, take, sym, ap, ◌∙◌, arith}
 use Rattle.std.proofs.lemmas.Grind.{common_steps}
 use Rattle.std.proofs.lemmas.List.{take_rest}
 use lib.Count.{count_trailing_zeros}
@@ -21,8 +21,4 @@ returns-then-stops-ne0 g c =
 
 pub lanes-preserved : goal.lanes-preserved
 lanes-preserved g c =
-    let passes = g.C.ByteClass.passes in
-    let fits = g.C.ByteClass.width_fits in
-    let width = c.WIDTH.ensures in
-    let mask = c.stops-stops.ensures ∙ ap (λ (xs : List ℕ). mask_l (map (outside passes) (take g.C.ByteClass.WIDTH xs))) (take_rest c.args.bytes.now c.lanes.end) in
-    grind (arith, common_steps, run_through, mask, c.lanes.invariant.run)
+    grind (arith, common_steps, rules, take_rest, run_through, g.C.ByteClass.passes, g.C.ByteClass.width_fits, c.WIDTH.ensures)

@@ -1,6 +1,6 @@
 use Rattle.std.proofs.Common.{length}
 use Rattle.std.specs.List.{FoldsTo}
-use Rattle.rustc_literal_escaper.specs.Errors.{errors_in}
+use Rattle.rustc_literal_escaper.specs.Meaning.{errors_in}
 use Rattle.rustc_literal_escaper.proofs.check.check_elements.Given as goal
 
 -- the calls that are still to come end where all of them do

@@ -1,8 +1,8 @@
 use Rattle.std.proofs.Common.{◌-◌, ◌∷◌, List, [], false, length, map, sym, subst, ap, ◌∙◌, arith, rules}
 use Rattle.std.specs.List.{FoldsTo}
 use Rattle.rustc_literal_escaper.specs.declared.element.Element.TheVariants.{Byte}
-use Rattle.rustc_literal_escaper.specs.Elements.{Front, item_at}
-use Rattle.rustc_literal_escaper.specs.Errors.{Error}
+use Rattle.rustc_literal_escaper.specs.means.Elements.{Front, item_at}
+use Rattle.rustc_literal_escaper.specs.Grammar.{Error}
 use Rattle.rustc_literal_escaper.proofs.ErrorLemmas.{folds-errors}
 use Rattle.rustc_literal_escaper.proofs.ItemLemmas.{first-one, items-step}
 use Rattle.rustc_literal_escaper.proofs.PlainLemmas.{first-plain}

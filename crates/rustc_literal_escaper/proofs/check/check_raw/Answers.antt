@@ -1,6 +1,6 @@
 use Rattle.std.proofs.Common.{◌≡◌, List, length, sym, subst, refl, arith}
 use Rattle.std.specs.List.{FoldsTo}
-use Rattle.rustc_literal_escaper.specs.Errors.{Error}
+use Rattle.rustc_literal_escaper.specs.Grammar.{Error}
 use Rattle.rustc_literal_escaper.proofs.WholeLemmas.{raw_simple}
 use Rattle.rustc_literal_escaper.proofs.check.check_raw.Goals as goal
 

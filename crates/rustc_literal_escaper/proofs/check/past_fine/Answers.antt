@@ -1,6 +1,7 @@
 use Rattle.std.proofs.Common.{None, false}
 use Rattle.std.specs.Str.{chars}
-use Rattle.rustc_literal_escaper.specs.Plain.{is_plain, is_simple}
+use Rattle.rustc_literal_escaper.specs.Items.{is_plain}
+use Rattle.rustc_literal_escaper.specs.means.Plain.{is_simple}
 use Rattle.rustc_literal_escaper.proofs.SimpleLemmas.{simple-fine}
 use Rattle.rustc_literal_escaper.proofs.SkipLemmas.{errors-skip, plain-fine}
 use Rattle.rustc_literal_escaper.proofs.check.past_fine.Goals as goal

@@ -1,7 +1,7 @@
 use Rattle.std.proofs.Common.{◌≡◌, ◌-◌, List, [], length, ℕ, arith, subst, IfSome}
 use Rattle.std.specs.List.{slice_index}
 use Rattle.std.specs.Str.{chars}
-use Rattle.rustc_literal_escaper.specs.Escape.{escape}
+use Rattle.rustc_literal_escaper.specs.means.Escape.{escape}
 use Rattle.rustc_literal_escaper.proofs.WholeLemmas.{number_escape}
 use Rattle.rustc_literal_escaper.proofs.escape.whole_escape.Goals as goal
 

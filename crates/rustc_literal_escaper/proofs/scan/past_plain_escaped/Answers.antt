@@ -1,7 +1,8 @@
 use Rattle.std.proofs.Common.{false, List, ℕ, Some, None, sym, subst}
 use Rattle.std.specs.Str.{chars}
 use Rattle.memchr.specs.Find.{IsFirstByte, is_byte3}
-use Rattle.rustc_literal_escaper.specs.Plain.{is_plain, Passes}
+use Rattle.rustc_literal_escaper.specs.Items.{is_plain}
+use Rattle.rustc_literal_escaper.specs.means.Plain.{Passes}
 use Rattle.rustc_literal_escaper.proofs.SkipLemmas.{byte3_plain, byte3_small, past-found, past-none}
 use Rattle.rustc_literal_escaper.proofs.scan.past_plain_escaped.Goals as goal
 

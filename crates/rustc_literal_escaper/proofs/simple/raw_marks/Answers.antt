@@ -1,6 +1,6 @@
 use Rattle.std.proofs.Common.{ℕ, true, bit_or, refl, arith}
 use Rattle.std.proofs.lemmas.Simd.{zip2_splat, zip2_of_maps, splat_is_map}
-use Rattle.rustc_literal_escaper.specs.Plain.{is_mark}
+use Rattle.rustc_literal_escaper.specs.means.Plain.{is_mark}
 use Rattle.rustc_literal_escaper.proofs.LaneLemmas.{least, masked}
 use Rattle.rustc_literal_escaper.proofs.simple.raw_marks.Goals as goal
 

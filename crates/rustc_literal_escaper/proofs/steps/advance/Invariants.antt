@@ -2,7 +2,7 @@ use Rattle.std.proofs.Common.{◌≡◌, ◌≤◌, length}
 use Rattle.std.specs.Str.{chars}
 use denote.Text.{Utf8}
 use denote.Shadow.{shadow}
-use Rattle.rustc_literal_escaper.specs.Elements.{front_by, items_from}
+use Rattle.rustc_literal_escaper.specs.means.Elements.{front_by, items_from}
 use Rattle.rustc_literal_escaper.proofs.steps.advance.Given as goal
 
 abbrev pub invariant-steps : goal.invariant-steps

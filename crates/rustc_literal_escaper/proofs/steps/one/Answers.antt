@@ -1,5 +1,5 @@
 use Rattle.std.proofs.Common.{[], ◌∷◌, ap}
-use Rattle.rustc_literal_escaper.specs.Elements.{Item}
+use Rattle.rustc_literal_escaper.specs.Grammar.{Item}
 use Rattle.rustc_literal_escaper.proofs.ItemLemmas.{item-is}
 use Rattle.rustc_literal_escaper.proofs.steps.one.Goals as goal
 

@@ -2,8 +2,8 @@ use Rattle.std.proofs.Common.{◌≡◌, ◌≤◌, length}
 use Rattle.std.specs.Str.{chars}
 use denote.Text.{Utf8}
 use denote.Shadow.{shadow}
-use Rattle.rustc_literal_escaper.specs.Elements.{is_passed_over}
-use Rattle.rustc_literal_escaper.specs.Runs.{past_run}
+use Rattle.rustc_literal_escaper.specs.Grammar.{is_passed_over}
+use Rattle.rustc_literal_escaper.specs.means.Escape.{past_run}
 use Rattle.rustc_literal_escaper.proofs.steps.past_space.Given as goal
 
 abbrev pub invariant-space : goal.invariant-space

@@ -7,8 +7,9 @@ use denote.Param.Always.{mut_next}
 use Rattle.std.proofs.lemmas.Str.{chars-nil, chars_past_char, encode_ascii, length-encode, len_utf8_bounds, IsUtf8-past_char}
 use Rattle.std.proofs.lemmas.Bool.{ltb-true}
 use Rattle.std.proofs.lemmas.List.{nil_from_length}
-use Rattle.rustc_literal_escaper.specs.Elements.{Item, front_by, items_from, raw_element}
-use Rattle.rustc_literal_escaper.proofs.ItemLemmas.{nothing}
+use Rattle.rustc_literal_escaper.specs.Grammar.{Item}
+use Rattle.rustc_literal_escaper.specs.means.Elements.{front_by, items_from, raw_element}
+use Rattle.rustc_literal_escaper.specs.laws.Elements.{nothing}
 use Rattle.rustc_literal_escaper.proofs.PartLemmas.{first-raw}
 use Rattle.rustc_literal_escaper.proofs.WholeLemmas.{raw_wide}
 use Rattle.rustc_literal_escaper.proofs.strings.each_raw_char.Goals as goal

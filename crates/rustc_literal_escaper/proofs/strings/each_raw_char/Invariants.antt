@@ -2,7 +2,7 @@ use Rattle.std.proofs.Common.{◌≡◌, ◌≤◌, ◌-◌, true, length}
 use Rattle.std.specs.List.{FoldsTo}
 use Rattle.std.specs.Str.{chars, IsUtf8}
 use Rattle.std.specs.Str.Iter.{chars_rest}
-use Rattle.rustc_literal_escaper.specs.Elements.{front_by, items_from}
+use Rattle.rustc_literal_escaper.specs.means.Elements.{front_by, items_from}
 use Rattle.rustc_literal_escaper.proofs.strings.each_raw_char.Given as goal
 
 -- the calls that are still to come end where all of them do

@@ -1,8 +1,9 @@
 use Rattle.std.proofs.Common.{◌≡◌, ◌-◌, List, [], true, length, refl, sym, subst, ap, ◌∙◌, arith}
 use Rattle.std.specs.List.{FoldsTo}
 use Rattle.std.specs.Str.{chars}
-use Rattle.rustc_literal_escaper.specs.Elements.{Item, front_by, items_from}
-use Rattle.rustc_literal_escaper.proofs.ItemLemmas.{nothing}
+use Rattle.rustc_literal_escaper.specs.Grammar.{Item}
+use Rattle.rustc_literal_escaper.specs.means.Elements.{front_by, items_from}
+use Rattle.rustc_literal_escaper.specs.laws.Elements.{nothing}
 use Rattle.rustc_literal_escaper.proofs.PartLemmas.{first-raw, part-items}
 use Rattle.rustc_literal_escaper.proofs.RunLemmas.{folds-append, run-items}
 use Rattle.rustc_literal_escaper.proofs.strings.each_raw_unit_in.Goals as goal

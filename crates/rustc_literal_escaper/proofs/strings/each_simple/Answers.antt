@@ -1,7 +1,7 @@
 use Rattle.std.proofs.Common.{List, ℕ, sym, subst, refl}
 use Rattle.std.specs.List.{FoldsTo}
 use Rattle.std.proofs.lemmas.List.{nil_from_length}
-use Rattle.rustc_literal_escaper.specs.Plain.{plain_items}
+use Rattle.rustc_literal_escaper.specs.means.Plain.{plain_items}
 use Rattle.rustc_literal_escaper.proofs.strings.each_simple.Goals as goal
 
 pub returns-clause-calls : goal.returns-clause-calls

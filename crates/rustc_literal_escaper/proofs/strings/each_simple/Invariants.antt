@@ -1,6 +1,6 @@
 use Rattle.std.proofs.Common.{◌≡◌, ◌≤◌, true, length}
 use Rattle.std.specs.List.{FoldsTo, list_all}
-use Rattle.rustc_literal_escaper.specs.Plain.{is_fine, plain_items}
+use Rattle.rustc_literal_escaper.specs.means.Plain.{is_fine, plain_items}
 use Rattle.rustc_literal_escaper.proofs.strings.each_simple.Given as goal
 
 -- the calls that are still to come end where all of them do

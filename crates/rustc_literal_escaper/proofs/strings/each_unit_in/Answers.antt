@@ -1,7 +1,8 @@
 use Rattle.std.proofs.Common.{◌-◌, false, length, map, refl, sym, ap, ◌∙◌, arith, rules, ◌∷◌, []}
 use Rattle.rustc_literal_escaper.specs.declared.element.Element.TheVariants.{Byte}
-use Rattle.rustc_literal_escaper.specs.Elements.{Front, front_by, item_at, items_from}
-use Rattle.rustc_literal_escaper.proofs.ItemLemmas.{first-one, items-step, nothing}
+use Rattle.rustc_literal_escaper.specs.means.Elements.{Front, front_by, item_at, items_from}
+use Rattle.rustc_literal_escaper.proofs.ItemLemmas.{first-one, items-step}
+use Rattle.rustc_literal_escaper.specs.laws.Elements.{nothing}
 use Rattle.rustc_literal_escaper.proofs.PlainLemmas.{first-plain}
 use Rattle.rustc_literal_escaper.proofs.RunLemmas.{folds-on, run-items}
 use Rattle.rustc_literal_escaper.proofs.strings.each_unit_in.Goals as goal

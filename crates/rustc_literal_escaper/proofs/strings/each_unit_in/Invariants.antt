@@ -3,7 +3,7 @@ use Rattle.std.specs.List.{FoldsTo}
 use Rattle.std.specs.Str.{chars}
 use denote.Text.{Utf8}
 use denote.Shadow.{shadow}
-use Rattle.rustc_literal_escaper.specs.Elements.{front_by, items_from}
+use Rattle.rustc_literal_escaper.specs.means.Elements.{front_by, items_from}
 use Rattle.rustc_literal_escaper.proofs.strings.each_unit_in.Given as goal
 
 -- the calls that are still to come end where all of them do

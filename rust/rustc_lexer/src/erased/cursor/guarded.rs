@@ -60,13 +60,13 @@ fn string_past(rest: &str, n_hashes: usize) -> Option<(bool, usize)> {
 fn guarded_body(body: &str, n_hashes: usize) -> (bool, &str) {
     let (terminated, left) = double_quoted_string(body);
     if terminated {
-        (true, eat_literal_suffix(eat_hashes(left, n_hashes)))
+        (true, eat_literal_suffix(eat_hashes_up_to(left, n_hashes)))
     } else {
         (false, left)
     }
 }
 
 /// Returns the text after the hashes at its front, of which it skips `most` at most.
-fn eat_hashes(rest: &str, most: usize) -> &str {
+fn eat_hashes_up_to(rest: &str, most: usize) -> &str {
     &rest[count_hashes(rest).min(most)..]
 }

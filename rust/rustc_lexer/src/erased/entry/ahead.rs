@@ -1,11 +1,11 @@
 //! The place of the iterator in its text, and the tokens past it that the ends of runs tell, 64 bytes at a time.
 
 use crate::erased::kernels::ends_of_runs;
-use crate::erased::lexemes::classified::{classified_by, ends_after, past_lowest, turns};
+use crate::erased::lexemes::classified::{classified_by, ends_after, may_continue, past_lowest};
 use crate::erased::token::{Token, TokenKind};
 
 /// How many bytes are searched at once for the ends of runs. For fewer bytes the search costs more than it saves.
-const BLOCK: usize = 64;
+const SEARCHED: usize = 64;
 
 /// An offset in a text, and what is known about the bytes after it.
 #[derive(Clone, Copy)]
@@ -33,7 +33,7 @@ impl Ahead {
             let next = text.as_bytes()[end];
             // A byte that determines its own token never changes the token before it.
             let told = classified_by(next);
-            if told.is_some() || !turns(kind, next) {
+            if told.is_some() || !may_continue(kind, next) {
                 let len = (end - self.at) as u32;
                 self.at = end;
                 self.ends = past_lowest(ends);
@@ -49,7 +49,7 @@ impl Ahead {
     /// ends that are known already are kept.
     #[inline(always)]
     pub(crate) fn begin(&mut self, text: &str) {
-        if text.len() - self.at < BLOCK {
+        if text.len() - self.at < SEARCHED {
             return;
         }
         let told = classified_by(text.as_bytes()[self.at]);

@@ -117,7 +117,7 @@ pub(crate) fn past_lowest(ends: u64) -> u64 {
 
 /// Returns whether the byte `next` after the run may change the token of that kind, or continue it.
 #[inline(always)]
-pub(crate) fn turns(kind: TokenKind, next: u8) -> bool {
+pub(crate) fn may_continue(kind: TokenKind, next: u8) -> bool {
     is_mark(next)
         && match kind {
             TokenKind::Ident => true,

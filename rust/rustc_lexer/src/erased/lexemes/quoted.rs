@@ -80,7 +80,7 @@ pub(crate) enum QuotedPrefix {
 #[inline(always)]
 pub(crate) fn quoted_literal(prefix: QuotedPrefix, tail: &str) -> (TokenKind, &str) {
     let (terminated, rest) = quoted_string(prefix, tail);
-    let kind = literal_kind(prefix, terminated);
+    let kind = quoted_kind(prefix, terminated);
     let token = literal(kind, tail, rest);
     if terminated {
         (token, eat_literal_suffix(rest))
@@ -95,15 +95,15 @@ pub(crate) fn quoted_literal(prefix: QuotedPrefix, tail: &str) -> (TokenKind, &s
 fn quoted_string(prefix: QuotedPrefix, tail: &str) -> (bool, &str) {
     match prefix {
         QuotedPrefix::Single => single_quoted_string(tail),
-        QuotedPrefix::BSingle => single_quoted_string(past_first(tail)),
+        QuotedPrefix::BSingle => single_quoted_string(after_first(tail)),
         QuotedPrefix::Double => double_quoted_string(tail),
-        QuotedPrefix::BDouble | QuotedPrefix::CDouble => double_quoted_string(past_first(tail)),
+        QuotedPrefix::BDouble | QuotedPrefix::CDouble => double_quoted_string(after_first(tail)),
     }
 }
 
 /// Returns the text after its first character, if there is one.
 #[inline(always)]
-fn past_first(text: &str) -> &str {
+fn after_first(text: &str) -> &str {
     match split_first(text) {
         Some((_, rest)) => rest,
         None => text,
@@ -112,7 +112,7 @@ fn past_first(text: &str) -> &str {
 
 /// Returns the kind of the literal with this prefix.
 #[inline(always)]
-fn literal_kind(prefix: QuotedPrefix, terminated: bool) -> LiteralKind {
+fn quoted_kind(prefix: QuotedPrefix, terminated: bool) -> LiteralKind {
     match prefix {
         QuotedPrefix::Single => LiteralKind::Char { terminated },
         QuotedPrefix::BSingle => LiteralKind::Byte { terminated },

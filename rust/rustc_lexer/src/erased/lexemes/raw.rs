@@ -22,14 +22,14 @@ pub(crate) fn raw_literal(prefix: RawPrefix, rest: &str) -> (TokenKind, &str) {
     let suffix_start = prefix_len(prefix) + (rest.len() - left.len()) as u32;
     match read {
         Ok(n_hashes) => {
-            let kind = literal_kind(prefix, Some(n_hashes));
+            let kind = raw_kind(prefix, Some(n_hashes));
             (
                 TokenKind::Literal { kind, suffix_start },
                 eat_literal_suffix(left),
             )
         }
         Err(_) => {
-            let kind = literal_kind(prefix, None);
+            let kind = raw_kind(prefix, None);
             (TokenKind::Literal { kind, suffix_start }, left)
         }
     }
@@ -46,7 +46,7 @@ fn prefix_len(prefix: RawPrefix) -> u32 {
 
 /// Returns the kind of the raw string with this prefix.
 #[inline(always)]
-fn literal_kind(prefix: RawPrefix, n_hashes: Option<u8>) -> LiteralKind {
+fn raw_kind(prefix: RawPrefix, n_hashes: Option<u8>) -> LiteralKind {
     match prefix {
         RawPrefix::R => LiteralKind::RawStr { n_hashes },
         RawPrefix::Br => LiteralKind::RawByteStr { n_hashes },

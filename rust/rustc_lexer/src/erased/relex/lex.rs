@@ -8,7 +8,7 @@ use crate::erased::token::{Token, TokenKind};
 use crate::support::AllocError;
 
 /// How many tokens are lexed at once, and how many there are between two checkpoints.
-const BLOCK: usize = 128;
+const BUFFER_LEN: usize = 128;
 
 /// Lexes all tokens of a text, and appends them to a list. Returns checkpoints among them.
 pub(crate) fn lex_all<S: Stepper>(
@@ -21,7 +21,7 @@ pub(crate) fn lex_all<S: Stepper>(
     let mut buffer = [Token {
         kind: TokenKind::Eof,
         len: 0,
-    }; BLOCK];
+    }; BUFFER_LEN];
     let mut place = 0;
     while place < text.len() {
         let number = tokens.len() - old_count;

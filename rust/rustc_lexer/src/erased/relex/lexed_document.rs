@@ -1,4 +1,5 @@
 //! A whole document that is kept with its tokens.
+use crate::support::String;
 
 use crate::erased::entry::stepper::Stepper;
 use crate::erased::relex::edit::{Edit, accepts};
@@ -61,6 +62,13 @@ impl<S: Stepper> LexedDocument<S> {
     /// Returns the stepper that lexed the tokens of the body.
     pub fn stepper(&self) -> &S {
         &self.kept.stepper
+    }
+
+    /// Returns the text, with its shebang line, and drops its tokens. It copies nothing.
+    pub fn into_string(self) -> String {
+        let LexedDocument { kept } = self;
+        let Kept { text, .. } = kept;
+        text
     }
 
     /// Gives back memory that edits have left unused, as `Vec::shrink_to_fit` does. Text, tokens and stepper stay. If

@@ -1,4 +1,5 @@
 //! A text that is kept with its tokens.
+use crate::support::String;
 
 use crate::erased::edition::Edition;
 use crate::erased::entry::stepper::{Stepper, Steps};
@@ -41,6 +42,13 @@ impl<S: Stepper> LexedText<S> {
     /// Returns the stepper that lexed the tokens.
     pub fn stepper(&self) -> &S {
         &self.kept.stepper
+    }
+
+    /// Returns the text, and drops its tokens. It copies nothing.
+    pub fn into_string(self) -> String {
+        let LexedText { kept } = self;
+        let Kept { text, .. } = kept;
+        text
     }
 
     /// Gives back memory that edits have left unused, as `Vec::shrink_to_fit` does. Text, tokens and stepper stay. If

@@ -107,11 +107,9 @@ impl Counts {
     /// Prints the counts, and answers how many differences there are.
     fn print(self, name: &str) -> u64 {
         let (texts, bytes, answers) = (self.texts, self.bytes, self.answers);
-        let differences = self.differences;
-        println!(
-            "{name}: {texts} texts, {bytes} bytes, {answers} answers, {differences} differences"
-        );
-        differences
+        print!("{name}: {texts} texts, {bytes} bytes, {answers} answers, ");
+        println!("{} differences", self.differences);
+        self.differences
     }
 }
 
@@ -189,12 +187,8 @@ fn differences() -> Result<u64, String> {
         counts.compare(literals::ANSWERS, &path.to_string_lossy(), text);
     }
     for number in 0..texts {
-        let text = random.literal();
-        counts.compare(
-            literals::ANSWERS,
-            &format!("random literal {number}"),
-            &text,
-        );
+        let (name, text) = (format!("random literal {number}"), random.literal());
+        counts.compare(literals::ANSWERS, &name, &text);
     }
     differences += counts.print("literals");
 

@@ -18,10 +18,7 @@ fn each<T: Copy, A>(items: &[T], call: impl Fn(T) -> A) -> Sum {
             black_box(call(black_box(item)));
         }
     }
-    Sum {
-        count: TIMES * items.len() as u64,
-        sum: 0,
-    }
+    Sum::new(TIMES * items.len() as u64, 0)
 }
 
 const WORDS: &[&str] = &["fn", "self", "usize", "iter", "as_bytes", "FromIterator"];

@@ -22,19 +22,20 @@ struct Sum {
 
 impl Sum {
     #[inline(always)]
+    fn new(count: u64, sum: u64) -> Sum {
+        Sum { count, sum }
+    }
+
+    #[inline(always)]
     fn add(self, kind: u64, len: u32) -> Sum {
-        Sum {
-            count: self.count + 1,
-            sum: (self.sum.rotate_left(5) ^ kind).wrapping_add(u64::from(len) << 32),
-        }
+        let sum = self.sum.rotate_left(5) ^ kind;
+        Sum::new(self.count + 1, sum.wrapping_add(u64::from(len) << 32))
     }
 
     /// The same for each byte of a text, with the number of items in the sum.
     fn of_bytes(self, text: &str) -> Sum {
-        Sum {
-            count: text.len() as u64,
-            sum: self.sum.wrapping_mul(31).wrapping_add(self.count),
-        }
+        let sum = self.sum.wrapping_mul(31).wrapping_add(self.count);
+        Sum::new(text.len() as u64, sum)
     }
 }
 
@@ -77,10 +78,10 @@ fn main() {
     text.truncate(text.floor_char_boundary(1 << 18));
     println!("| Use | Original | This crate | Ratio |\n|---|---|---|---|");
     for (name, consumers) in tokens::ways() {
-        let times: Vec<[f64; 2]> = consumers
-            .iter()
-            .map(|[theirs, ours]| least([&|| theirs(&text), &|| ours(&text)], rounds))
-            .collect();
+        let time = |[theirs, ours]: [fn(&str) -> Sum; 2]| {
+            least([&|| theirs(&text), &|| ours(&text)], rounds)
+        };
+        let times: Vec<[f64; 2]> = consumers.into_iter().map(time).collect();
         row(name, &times);
     }
     let pair = |[theirs, ours]: [calls::Call; 2], text: &str| {

@@ -123,15 +123,12 @@ macro_rules! ways {
                 }
 
                 pub fn sum(&self) -> Sum {
-                    let sum = self.kinds.iter().fold(self.sum, |sum, count| Sum {
-                        count: sum.count + count,
-                        sum: sum.sum.wrapping_mul(31).wrapping_add(*count),
-                    });
-                    let kept = black_box(&self.tokens).len() as u64;
-                    Sum {
-                        count: sum.count + kept,
-                        ..sum
+                    let Sum { mut count, mut sum } = self.sum;
+                    for of_kind in self.kinds {
+                        count += of_kind;
+                        sum = sum.wrapping_mul(31).wrapping_add(of_kind);
                     }
+                    Sum::new(count + black_box(&self.tokens).len() as u64, sum)
                 }
             }
 
@@ -214,10 +211,8 @@ macro_rules! ways {
                     starts.push(start);
                     start += token.len;
                 }
-                Sum {
-                    count: black_box(&kinds).len() as u64,
-                    sum: black_box(&starts).len() as u64,
-                }
+                let (kinds, starts) = (black_box(&kinds), black_box(&starts));
+                Sum::new(kinds.len() as u64, starts.len() as u64)
             }
 
             pub const WAYS: [Way; 6] = [
@@ -238,17 +233,14 @@ ways!(ours, rustc_lexer);
 /// Many tokens at once, which ours alone has.
 fn by_fill<const CONSUMER: usize>(text: &str) -> Sum {
     let mut consumer = Consumer::<CONSUMER>::new();
-    let eof = Token {
-        kind: TokenKind::Eof,
-        len: 0,
-    };
-    let mut buffer = [eof; 256];
+    let (kind, len) = (TokenKind::Eof, 0);
+    let mut buffer = [Token { kind, len }; 256];
     let mut tokens = tokenize(text, FrontmatterAllowed::No);
     while !tokens.as_str().is_empty() {
         let count = tokens.fill(&mut buffer);
-        buffer[..count]
-            .iter()
-            .for_each(|token| consumer.take(*token));
+        for token in &buffer[..count] {
+            consumer.take(*token);
+        }
     }
     consumer.sum()
 }
@@ -273,10 +265,7 @@ fn by_for_2021<const CONSUMER: usize>(text: &str) -> Sum {
 
 fn into_vec(text: &str) -> Sum {
     let tokens = tokenize(text, FrontmatterAllowed::No).into_vec();
-    Sum {
-        count: std::hint::black_box(&tokens).len() as u64,
-        sum: 0,
-    }
+    Sum::new(std::hint::black_box(&tokens).len() as u64, 0)
 }
 
 /// Each way with its functions. What the original has not is beside what it has.
@@ -295,14 +284,15 @@ pub fn ways() -> Vec<(&'static str, Pairs)> {
     ] {
         ways.push(pairs(ours, theirs::WAYS[0].1));
     }
-    ways.push((
-        "`collect` of `tokenize`",
-        vec![[theirs::collected, ours::collected]],
-    ));
-    ways.push(("`Tokens::into_vec`", vec![[theirs::collected, into_vec]]));
-    ways.push((
-        "kinds and starts in two lists",
-        vec![[theirs::kinds_and_starts, ours::kinds_and_starts]],
-    ));
+    let two_lists = [theirs::kinds_and_starts, ours::kinds_and_starts];
+    let alone: [(_, [fn(&str) -> Sum; 2]); 3] = [
+        (
+            "`collect` of `tokenize`",
+            [theirs::collected, ours::collected],
+        ),
+        ("`Tokens::into_vec`", [theirs::collected, into_vec]),
+        ("kinds and starts in two lists", two_lists),
+    ];
+    ways.extend(alone.map(|(name, pair)| (name, vec![pair])));
     ways
 }

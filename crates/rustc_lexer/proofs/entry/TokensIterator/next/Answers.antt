@@ -1,5 +1,6 @@
-use Rattle.std.proofs.Common.{ℕ, List, drop, drop-drop, refl, sym, ap, subst, ◌∙◌}
+use Rattle.std.proofs.Common.{arith, rules, ℕ, List, drop, drop-drop, refl, sym, ap, subst, ◌∙◌}
 use Rattle.std.specs.Str.{IsUtf8}
+use Rattle.std.proofs.lemmas.Grind.{common_steps}
 use Rattle.rustc_lexer.specs.{Token}
 use Rattle.rustc_lexer.specs.Classes.{Fits}
 use Rattle.rustc_lexer.specs.LanguageText.{Mode, mode_in}
@@ -26,10 +27,7 @@ returns-in-Some c =
     record { steps = taken; goes = goes _ _ _ taken }
 
 pub returns-then-self-clause-steps : goal.returns-then-self-clause-steps
-returns-then-self-clause-steps c =
-    let text : List ℕ = c.self.inside.text.now in
-    let view = still text _ c.args.self.now _ _ c.in_default.ensures c.self.view_is in
-    (none_left c.args.self.now _ (ap (λ (x : State). x.rest) view) (left_none text _ c.if-self.true), view)
+returns-then-self-clause-steps c = grind (arith, common_steps, rules, still, none_left, left_none)
 
 pub quick_token-requires-clause-utf8 : goal.quick_token-requires-clause-utf8
 quick_token-requires-clause-utf8 c =

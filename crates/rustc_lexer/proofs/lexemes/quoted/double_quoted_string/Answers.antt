@@ -1,18 +1,18 @@
 use Rattle.std.proofs.Common.{◌≡◌, ◌==◌, ℕ, List, ◌∷◌, Bool, not, true, false, refl, sym, subst, ◌∙◌, inl, inr}
 use Rattle.std.specs.Str.{chars}
-use Rattle.std.proofs.lemmas.Bool.{or_parts, or_cases, not-true, not-false, ne_eqb, false≢true}
+use Rattle.std.proofs.lemmas.Bool.{eq-eqb, or_parts, or_cases, not-true, not-false, ne_eqb, false≢true}
 use Rattle.memchr.specs.Find.{is_byte2}
 use Rattle.rustc_lexer.specs.means.Quoted.{at_double_quote, double_quoted_string, is_backslash}
 use Rattle.rustc_lexer.specs.means.Scan.{past, run_len}
 use Rattle.rustc_lexer.specs.laws.Scan.{scanned-shorter}
-use Rattle.rustc_lexer.proofs.QuotedLoop.{Seeking, seek-start, seek-on, seek-run, seek-closed, seek-end, run_fails, is-it, is-other}
+use Rattle.rustc_lexer.proofs.QuotedLoop.{Seeking, seek-start, seek-on, seek-run, seek-closed, seek-end, run_fails}
 use Rattle.rustc_lexer.proofs.lexemes.quoted.double_quoted_string.Goals as goal
 
 abbrev plain : ℕ → Bool
 plain c = not (is_byte2 34 92 c)
 
 goes : (c : ℕ) (s : List ℕ) → plain c ≡ true → at_double_quote (c ∷ s) ≡ false
-goes c s e = let p = or_parts (c == 34) (c == 92) (not-true _ e) in rw p.0 refl
+goes c s e = (or_parts (c == 34) (c == 92) (not-true _ e)).0
 
 straight : (c : ℕ) → plain c ≡ true → is_backslash c ≡ false
 straight c e = (or_parts (c == 34) (c == 92) (not-true _ e)).1
@@ -34,14 +34,14 @@ returns-in_default c =
 
 pub returns-then-c-eq34 : goal.returns-then-c-eq34
 returns-then-c-eq34 c =
-    let quote = is-it 34 _ (chars c.in-Some.tail.now) c.if-c-eq34.true in
+    let quote = eq-eqb _ 34 c.if-c-eq34.true in
     let read = seek-closed 34 at_double_quote _ _ _ false _ (at_stop _ _ _ c.quoted.invariant.1 c.eat_until_either-stop.ensures.past) c.in-Some.ensures.0 c.in-Some.ensures.1 quote quote in
     record { shorter = scanned-shorter double_quoted_string _ _ _ c.utf8.body read; read = read }
 
 escaped : (body rest stop tail : List ℕ) (d : ℕ) → Seeking 34 at_double_quote body rest false → stop ≡ past (run_len plain (chars rest)) rest → chars stop ≡ d ∷ chars tail → tail ≡ past 1 stop → (d ≡ 34 → ⊥) → Seeking 34 at_double_quote body tail true
 escaped body rest stop tail d at e reads cut ne =
     let fails = run_fails plain rest stop (chars tail) d at.utf8 e reads in
-    seek-on 34 at_double_quote body stop tail false d (at_stop body rest stop at e) reads cut true (is-other 34 d (chars tail) ne) (backslash d fails ne)
+    seek-on 34 at_double_quote body stop tail false d (at_stop body rest stop at e) reads cut true (ne_eqb d 34 ne) (backslash d fails ne)
 
 pub returns-in_default-split_first : goal.returns-in_default-split_first
 returns-in_default-split_first c =

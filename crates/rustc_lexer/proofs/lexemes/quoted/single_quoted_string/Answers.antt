@@ -1,8 +1,9 @@
 use Rattle.std.proofs.Common.{sym, ◌∙◌}
 use Rattle.std.specs.Str.{chars}
+use Rattle.std.proofs.lemmas.Bool.{eq-eqb, ne_eqb}
 use Rattle.rustc_lexer.specs.means.Quoted.{at_single_stop, single_quoted_string}
 use Rattle.rustc_lexer.specs.laws.Scan.{scanned-shorter}
-use Rattle.rustc_lexer.proofs.QuotedLoop.{seek-start, seek-on, seek-closed, seek-open, seek-end, when-escaped, when-plain, to-plain, to-next, is-it, is-other, single-closed, single-lone, single-free}
+use Rattle.rustc_lexer.proofs.QuotedLoop.{seek-start, seek-on, seek-closed, seek-open, seek-end, when-escaped, when-plain, to-plain, to-next, single-closed, single-lone, single-free}
 use Rattle.rustc_lexer.proofs.lexemes.quoted.single_quoted_string.Goals as goal
 
 pub loop-c-init : goal.loop-c-init
@@ -15,13 +16,13 @@ returns-in-Some c =
 
 pub returns-then-c-eq39 : goal.returns-then-c-eq39
 returns-then-c-eq39 c =
-    let stop = seek-closed 39 at_single_stop _ _ _ _ _ c.loop-c.invariant.1 c.in-Some-split_first.ensures.0 c.in-Some-split_first.ensures.1 (when-plain _ _ _ c.if-escaped.false (single-closed _ (chars c.in-Some-split_first.tail.now) c.if-c-eq39.true)) (is-it 39 _ (chars c.in-Some-split_first.tail.now) c.if-c-eq39.true) in
+    let stop = seek-closed 39 at_single_stop _ _ _ _ _ c.loop-c.invariant.1 c.in-Some-split_first.ensures.0 c.in-Some-split_first.ensures.1 (when-plain _ _ _ c.if-escaped.false (single-closed _ (chars c.in-Some-split_first.tail.now) c.if-c-eq39.true)) (eq-eqb _ 39 c.if-c-eq39.true) in
     let read = stop ∙ single-free _ c.in_default.ensures in
     record { shorter = scanned-shorter single_quoted_string _ _ _ c.utf8.body read; read = read }
 
 pub returns-then-stops_open : goal.returns-then-stops_open
 returns-then-stops_open c =
-    let stop = seek-open 39 at_single_stop _ _ _ _ _ c.loop-c.invariant.1 c.in-Some-split_first.ensures.0 c.in-Some-split_first.ensures.1 (when-plain _ _ _ c.if-escaped.false (sym c.if-stops_open.ensures)) (is-other 39 _ (chars c.in-Some-split_first.tail.now) c.if-c-eq39.false) in
+    let stop = seek-open 39 at_single_stop _ _ _ _ _ c.loop-c.invariant.1 c.in-Some-split_first.ensures.0 c.in-Some-split_first.ensures.1 (when-plain _ _ _ c.if-escaped.false (sym c.if-stops_open.ensures)) (ne_eqb _ 39 c.if-c-eq39.false) in
     let read = stop ∙ single-free _ c.in_default.ensures in
     record { shorter = scanned-shorter single_quoted_string _ _ _ c.utf8.body read; read = read }
 

@@ -49,8 +49,7 @@ overflow_add-place g c =
     let behind : List Token = drop (length c.args.tokens.now.items) c.left.tokens.items in
     let next = block_more (g.S.Stepper.law c.args.stepper.now) c.args.text.now c.range_from.result.now behind c.left.buffer c.fill-count.new.buffer c.left.place c.fill-count.result.0 c.fill-count.result.1
     c.left.invariant.2 is c.left.invariant.1 (omega arith) c.range_from.ensures.value some_buffer _ (omega arith) c.fill-count.ensures.filled c.fill-count.ensures.bytes in
-    let few = next.few in
-    omega arith
+    omega (arith, next.few)
 
 pub left-smaller : goal.left-smaller
 left-smaller g c =
@@ -59,9 +58,7 @@ left-smaller g c =
     let behind : List Token = drop (length c.args.tokens.now.items) c.left.tokens.items in
     let next = block_more (g.S.Stepper.law c.args.stepper.now) c.args.text.now c.range_from.result.now behind c.left.buffer c.fill-count.new.buffer c.left.place c.fill-count.result.0 c.fill-count.result.1
     c.left.invariant.2 is c.left.invariant.1 (omega arith) c.range_from.ensures.value some_buffer _ (omega arith) c.fill-count.ensures.filled c.fill-count.ensures.bytes in
-    let few = next.few in
-    let some = next.some in
-    omega arith
+    omega (arith, next.some, next.few)
 
 pub left-preserved : goal.left-preserved
 left-preserved g c =

@@ -1,5 +1,5 @@
 use Rattle.std.proofs.Common.{◌≡◌, length}
-use Rattle.rustc_literal_escaper.specs.Errors.{errors_in}
+use Rattle.rustc_literal_escaper.specs.Meaning.{errors_in}
 use Rattle.rustc_literal_escaper.proofs.elements.Elements.next_fault.Given as goal
 
 abbrev pub invariant-elements : goal.invariant-elements

@@ -1,9 +1,11 @@
 use Rattle.std.proofs.Common.{◌≤◌, ◌++◌, List, length, ap, ◌∙◌, subst}
 use Rattle.std.specs.Option.{option_to_list}
 use Rattle.std.specs.Str.{chars}
-use Rattle.rustc_literal_escaper.specs.Elements.{Item, front_by, items_from}
-use Rattle.rustc_literal_escaper.specs.Errors.{errors_in}
-use Rattle.rustc_literal_escaper.specs.Plain.{is_plain, is_simple}
+use Rattle.rustc_literal_escaper.specs.Grammar.{Item}
+use Rattle.rustc_literal_escaper.specs.means.Elements.{front_by, items_from}
+use Rattle.rustc_literal_escaper.specs.Meaning.{errors_in}
+use Rattle.rustc_literal_escaper.specs.Items.{is_plain}
+use Rattle.rustc_literal_escaper.specs.means.Plain.{is_simple}
 use Rattle.rustc_literal_escaper.proofs.SimpleLemmas.{simple-fine}
 use Rattle.rustc_literal_escaper.proofs.SkipLemmas.{errors-skip, fewer-skip, plain-fine}
 use Rattle.rustc_literal_escaper.proofs.elements.Elements.skip_plain.Goals as goal

@@ -6,7 +6,7 @@ use Rattle.rustc_lexer.proofs.BitLemmas.{lowest_is}
 use Rattle.rustc_lexer.proofs.EndsLemmas.{classified_stays}
 use Rattle.rustc_lexer.proofs.ToldLemmas.{TellsNext, all_tell, told_after, told_ahead, told_bound, told_in, told_inside}
 use Rattle.rustc_lexer.proofs.entry.ahead.Ahead.take.Goals as goal
-use Rattle.rustc_lexer.proofs.entry.ahead.Ahead.take.Goals.{then-is_some-via-then-is_some, then-is_some-via-else-is_some+then-not-turns}
+use Rattle.rustc_lexer.proofs.entry.ahead.Ahead.take.Goals.{then-is_some-via-then-is_some, then-is_some-via-else-is_some+then-not-may_continue}
 
 pub bounds-as_bytes-end : goal.bounds-as_bytes-end
 bounds-as_bytes-end c =
@@ -34,7 +34,7 @@ returns-then-is_some c =
     let byte : get_or c.as_bytes.result.now (block + low) 0 ≡ get_or text (block + low) 0 = ap (λ (xs : List ℕ). get_or xs (block + low) 0) c.as_bytes.ensures.value in
     let stays : StaysWithin c.in_ok-kind.kind (get_or c.as_bytes.result.now (block + low) 0) = elim c.then-is_some.branch [
       | then-is_some-via-then-is_some w ↦ classified_stays c.in_ok-kind.kind _ (ap is_some (sym c.classified_by-told.ensures) ∙ sym w.if-is_some.ensures)
-      | then-is_some-via-else-is_some+then-not-turns w ↦ w.turns.ensures w.if-not-turns.true
+      | then-is_some-via-else-is_some+then-not-may_continue w ↦ w.may_continue.ensures w.if-not-may_continue.true
     ] in
     let next : TellsNext text at block ends low c.in_ok-kind.kind = record {
       utf8 = c.utf8.text;

@@ -1,8 +1,8 @@
-use Rattle.std.proofs.Common.{◌≡◌, ◌+◌, List, ℕ, length, slice_range, string_bytes, refl, sym, ap, ap₂, ◌∙◌, subst, arith, IsUtf8, IsCharBoundary}
+use Rattle.std.proofs.Common.{◌≡◌, ◌+◌, ◌-◌, List, ℕ, length, slice_range, string_bytes, refl, sym, ap, ap₂, ◌∙◌, subst, arith, IsUtf8, IsCharBoundary}
 use Rattle.std.proofs.lemmas.Grind.{common_steps}
 use Rattle.rustc_lexer.specs.declared.relex.head.Head.{Head}
 use Rattle.rustc_lexer.specs.Classes.{IsText}
-use Rattle.rustc_lexer.specs.means.Document.{document_by, head_by}
+use Rattle.rustc_lexer.specs.means.Document.{document_by, head_by, layout_in}
 use Rattle.rustc_lexer.specs.Edits.{IsEdit, apply}
 use Rattle.rustc_lexer.proofs.DocumentEditLemmas.{steps_rise, OnErr-always}
 use Rattle.rustc_lexer.proofs.EditLemmas.{put_back}
@@ -23,7 +23,10 @@ pub returns-in-Ok-clause-relexed : goal.returns-in-Ok-clause-relexed
 returns-in-Ok-clause-relexed g c = relexed_in (g.S.Stepper.law c.args.self.now.stepper) _ _ _ _ c.requires.kept.0 c.utf8.insert c.requires.edit g.E.Extent.whole (rw c.reserve.ensures.bytes at c.in-Ok.ensures.relexed)
 
 pub returns-in-Ok-clause-count : goal.returns-in-Ok-clause-count
-returns-in-Ok-clause-count g c = counted_in (g.S.Stepper.law c.args.self.now.stepper) _ _ _ _ c.requires.kept.0 c.utf8.insert c.requires.edit g.E.Extent.whole (rw c.reserve.ensures.bytes at c.in-Ok.ensures.count)
+returns-in-Ok-clause-count g c =
+    let text : string_bytes c.put_in.new.self.text ≡ apply (string_bytes c.args.self.now.text) c.args.start c.args.stop c.args.insert.now = c.put_in.ensures.text ∙ ap (λ (bytes : List ℕ). apply bytes c.args.start c.args.stop c.args.insert.now) c.reserve.ensures.bytes in
+    subst (λ (bytes : List ℕ). g.S.Stepper.count c.put_in.new.self.stepper + (length (layout_in g.E.Extent.whole (g.S.Stepper.grammar c.args.self.now.stepper) bytes).head - c.in-Ok.counts.kept_front) ≡ g.S.Stepper.count c.args.self.now.stepper + c.in-Ok.counts.lexed) (sym text)
+    (counted_in (g.S.Stepper.law c.args.self.now.stepper) _ _ _ _ c.requires.kept.0 c.utf8.insert c.requires.edit g.E.Extent.whole (rw c.reserve.ensures.bytes at c.in-Ok.ensures.relexed) (rw c.reserve.ensures.bytes at c.in-Ok.ensures.count))
 
 pub returns-clause-same_text : goal.returns-clause-same_text
 returns-clause-same_text g c =

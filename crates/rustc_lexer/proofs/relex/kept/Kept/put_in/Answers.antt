@@ -7,7 +7,9 @@ use Rattle.rustc_lexer.specs.means.Document.{document_by, head_by, IsCountedByHe
 use Rattle.rustc_lexer.specs.means.Checkpoints.{AreBounds}
 use Rattle.rustc_lexer.proofs.DocumentEditLemmas.{body_edit, made_read, near_behind, new_are, new_behind, renewed_by, bounds_move, counted_all, counted_front, counted_back, counted_few, counted_relexed, counted_steps, few_body, OnErr-always}
 use Rattle.rustc_lexer.proofs.EditLemmas.{edited}
+use Rattle.rustc_lexer.proofs.LayoutLemmas.{body_by_part}
 use Rattle.rustc_lexer.proofs.RelexingLemmas.{few_lexed, made_change}
+use Rattle.rustc_lexer.proofs.UnderWayLemmas.{of_stands}
 use Rattle.rustc_lexer.proofs.relex.kept.Kept.put_in.Goals as goal
 
 pub relex-requires-clause-change : goal.relex-requires-clause-change
@@ -53,7 +55,7 @@ returns g c =
     let read : take (length slice - n) (drop n slice) ≡ drop n old = take_rest slice n ∙ ap (drop n) c.as_slice.ensures.value in
     let size : length (take (length slice - n) (drop n slice)) ≡ length old - n = omega (arith, ap (λ (ts : List Token). length ts) read, length-drop n old) in
     let many : length (map (λ (t : Token). t.len) (drop n old)) ≡ length (take (length slice - n) (drop n slice)) = length-map (drop n old) (λ (t : Token). t.len) ∙ sym (ap (λ (ts : List Token). length ts) read) in
-    let exact = c.counts.ensures.exact _ _ _ _ _ _ law b.made_of many (record { stands = l.stands }) l.met in
+    let exact = c.counts.ensures.exact _ _ _ _ _ _ law b.made_of many (of_stands law _ _ _ _ _ b.made_of _ l.stands) l.met in
     let moved = bounds_move law b c.new_head-new_head.ensures r c.args.self.now.checkpoints b.n_is c.requires.kept.4 in
     record {
       grammar = search rules;
@@ -71,7 +73,7 @@ returns g c =
         subst (λ (xs : List ℕ). IsCharBoundary xs c.find_head-now.result.body) c.as_str-made.ensures.value c.find_head-now.ensures.boundary,
         subst (λ (ts : List Token). AreBounds ts c.past_edit-self.result) (sym (new_behind law b c.new_head-new_head.ensures r)) (c.past_edit-self.ensures _ _ moved.1 (subst (λ k. AreBounds (drop k c.args.self.now.tokens.items) c.args.self.now.checkpoints) (sym b.n_is) c.requires.kept.4)),
       );
-      relexed = subst (λ (x : Relexed). IsRelexedByHead (head_by g.E.Extent.whole) (g.S.Stepper.grammar c.args.self.now.stepper) (string_bytes c.args.self.now.text) c.args.start c.args.stop c.args.insert.now x) (sym c.counted.ensures) (counted_relexed law b c.new_head-new_head.ensures r _ c.count.ensures size c.counts.ensures.counts exact.0);
+      relexed = subst (λ (x : Relexed). IsRelexedByHead (head_by g.E.Extent.whole) (g.S.Stepper.grammar c.args.self.now.stepper) (string_bytes c.args.self.now.text) c.args.start c.args.stop c.args.insert.now x) (sym c.counted.ensures) (counted_relexed law b c.new_head-new_head.ensures r _ c.count.ensures size c.counts.ensures.counts (body_by_part _ _ _ _ _ _ exact.0));
       all = subst (λ (x : Relexed). x.kept_front + x.lexed + x.kept_back ≡ length c.put_tokens.new.tokens.items) (sym c.counted.ensures) (counted_all law b c.new_head-new_head.ensures r _ c.count.ensures size c.counts.ensures.counts);
       front = subst (λ (x : Relexed). take x.kept_front c.put_tokens.new.tokens.items ≡ take x.kept_front c.args.self.now.tokens.items) (sym c.counted.ensures) (counted_front law b c.new_head-new_head.ensures r _ c.count.ensures size c.counts.ensures.counts);
       back = subst (λ (x : Relexed). drop (x.kept_front + x.lexed) c.put_tokens.new.tokens.items ≡ drop (length c.args.self.now.tokens.items - x.kept_back) c.args.self.now.tokens.items) (sym c.counted.ensures) (counted_back law b c.new_head-new_head.ensures r _ c.count.ensures size c.counts.ensures.counts);

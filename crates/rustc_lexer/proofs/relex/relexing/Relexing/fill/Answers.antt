@@ -6,6 +6,7 @@ use Rattle.rustc_lexer.specs.Relexing.{IsMadeOf, IsUnderWay, is_over}
 use Rattle.rustc_lexer.specs.Tokens.{tokens_by}
 use Rattle.rustc_lexer.proofs.BufferLemmas.{none_written, one_written}
 use Rattle.rustc_lexer.proofs.RelexStepLemmas.{IsStepTo, step_of, left_at, next_left, no_step, step_more}
+use Rattle.rustc_lexer.proofs.UnderWayLemmas.{to_stands}
 use Rattle.rustc_lexer.proofs.relex.relexing.Relexing.fill.Goals as goal
 
 pub places-init : goal.places-init
@@ -53,10 +54,10 @@ places-preserved g c =
 
 pub returns-after-places-clause-stands : goal.returns-after-places-clause-stands
 returns-after-places-clause-stands g c = λ before insert made begun.
-    (c.places.invariant.stands before insert made begun, left_at (g.S.Stepper.law c.args.stepper.now) before _ insert c.args.text.now c.args.change made c.args.self.now begun.stands)
+    (c.places.invariant.stands before insert made begun, left_at (g.S.Stepper.law c.args.stepper.now) before _ insert c.args.text.now c.args.change made c.args.self.now (to_stands (g.S.Stepper.law c.args.stepper.now) before _ insert c.args.text.now c.args.change made c.args.self.now begun))
 
 pub returns-in_default-clause-stands : goal.returns-in_default-clause-stands
 returns-in_default-clause-stands g c = λ before insert made begun. (
   subst (λ at. IsUnderWay (g.S.Stepper.grammar c.args.stepper.now) before c.args.change c.args.text.now at) (sym c.in_default.ensures.step.0) (c.places.invariant.stands before insert made begun),
-  left_at (g.S.Stepper.law c.args.stepper.now) before _ insert c.args.text.now c.args.change made c.args.self.now begun.stands,
+  left_at (g.S.Stepper.law c.args.stepper.now) before _ insert c.args.text.now c.args.change made c.args.self.now (to_stands (g.S.Stepper.law c.args.stepper.now) before _ insert c.args.text.now c.args.change made c.args.self.now begun),
 )

@@ -5,6 +5,7 @@ use Rattle.rustc_lexer.specs.means.Relexing.{IsFollowed, old_stop_of}
 use Rattle.rustc_lexer.specs.Classes.{IsText}
 use Rattle.rustc_lexer.proofs.RelexStepLemmas.{one_step}
 use Rattle.rustc_lexer.proofs.RelexingLemmas.{damage_stop, end_last, stands_next, gives_next, below_later, not_over, step_place}
+use Rattle.rustc_lexer.proofs.UnderWayLemmas.{of_stands, to_stands}
 use Rattle.rustc_lexer.proofs.relex.relexing.Relexing.next.Goals as goal
 
 pub range_from-requires : goal.range_from-requires
@@ -59,16 +60,17 @@ returns-clause-step g c =
     )
 
 pub returns-clause-stands : goal.returns-clause-stands
-returns-clause-stands g c = λ before insert is stands.
+returns-clause-stands g c = λ before insert is under_way.
     let law = g.S.Stepper.law c.args.stepper.now in
     let at = c.args.self.now in
+    let stands = to_stands law before _ insert _ c.args.change is at under_way in
     let token = c.step-token.ensures.token ∙ ap (g.S.Stepper.grammar c.args.stepper.now) c.range_from.ensures.value in
-    let out = sym (c.is_over.ensures.met (g.S.Stepper.grammar c.args.stepper.now) before _ insert c.args.change law is stands) ∙ c.if-is_over.false in
-    let later = below_later law before _ insert _ c.args.change is at stands.stands (at.at + c.step-token.result.len) (omega arith) in
-    let to = c.follow-to.ensures.followed (tokens_by (g.S.Stepper.grammar c.args.stepper.now) before) is.lengths_are stands.stands.back_bound (rw c.damage.ensures (λ n less. let b = later n less in let e = damage_stop c.args.text.now c.args.change c.requires.change in omega arith)) (rw c.damage.ensures (end_last law before _ insert _ c.args.change is (at.at + c.step-token.result.len))) in
+    let out = sym (c.is_over.ensures.met (g.S.Stepper.grammar c.args.stepper.now) before _ insert c.args.change law is under_way) ∙ c.if-is_over.false in
+    let later = below_later law before _ insert _ c.args.change is at stands (at.at + c.step-token.result.len) (omega arith) in
+    let to = c.follow-to.ensures.followed (tokens_by (g.S.Stepper.grammar c.args.stepper.now) before) is.lengths_are stands.back_bound (rw c.damage.ensures (λ n less. let b = later n less in let e = damage_stop c.args.text.now c.args.change c.requires.change in omega arith)) (rw c.damage.ensures (end_last law before _ insert _ c.args.change is (at.at + c.step-token.result.len))) in
     let Followed : Damage → Type 0 = λ d. IsFollowed (tokens_by (g.S.Stepper.grammar c.args.stepper.now) before) (old_stop_of d) d.past (at.at + c.step-token.result.len) c.follow-to.result.at c.follow-to.result.met in
     let followed = subst (λ n. IsFollowed (tokens_by (g.S.Stepper.grammar c.args.stepper.now) before) n c.args.change.new_stop (at.at + c.step-token.result.len) c.follow-to.result.at c.follow-to.result.met) (damage_stop c.args.text.now c.args.change c.requires.change) (subst Followed c.damage.ensures to) in
     let stays : at.at + c.step-token.result.len < c.args.change.new_stop → c.follow-to.result.at ≡ at.back = λ early. c.follow-to.ensures.stays (rw c.damage.ensures early) in (
-      record { stands = stands_next law before _ insert _ c.args.change is at stands.stands c.step-token.result c.follow-to.result out token followed stays },
-      gives_next law before _ insert _ c.args.change is at stands.stands c.step-token.result c.follow-to.result out token followed stays,
+      of_stands law before _ insert _ c.args.change is _ (stands_next law before _ insert _ c.args.change is at stands c.step-token.result c.follow-to.result out token followed stays),
+      gives_next law before _ insert _ c.args.change is at stands c.step-token.result c.follow-to.result out token followed stays,
     )

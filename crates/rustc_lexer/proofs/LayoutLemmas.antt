@@ -1,0 +1,187 @@
+-- What an edit keeps, by all tokens of a text and by those of its body, and that there is one answer.
+use Rattle.std.proofs.Common.{◌≡◌, ◌⊎◌, inl, inr, ℕ, suc, ◌+◌, ◌-◌, ◌<◌, ◌≤◌, ◌==◌, Bool, true, false, true≢false, List, [], ◌∷◌, ◌++◌, length, drop, get_or, refl, sym, ap, ap₂, ◌∙◌, arith, length-append}
+use Rattle.std.proofs.Math.Seq.{drop-append_seam}
+use Rattle.std.proofs.lemmas.Bool.{cases_lt, eqb-false, eqb-true}
+use Rattle.std.proofs.lemmas.Grind.{common_steps}
+use Rattle.rustc_lexer.specs.{Token}
+use Rattle.rustc_lexer.specs.declared.relex.relexing.Relexed.{Relexed}
+use Rattle.rustc_lexer.specs.Edits.{apply, body_in, IsMeeting, IsRelexed, KeepsHead, Layout, part_by, place_in}
+use Rattle.rustc_lexer.specs.Tokens.{bound}
+use Rattle.rustc_lexer.specs.laws.Same.{is_same, same_token, token_same}
+use Rattle.rustc_lexer.specs.means.Relexing.{IsBodyMeeting, IsBodyRelexed}
+use Rattle.rustc_lexer.proofs.BoundLemmas.{bound_mono}
+use Rattle.rustc_lexer.proofs.FrontLemmas.{bound-shift}
+
+pub place-behind : (of : Layout) (k : ℕ) → place_in of (length of.head + k) ≡ body_in of + bound of.body k
+place-behind of k = grind (arith, common_steps, drop-append_seam, bound-shift)
+
+-- ---- a text without a head
+
+abbrev bare : List Token → Layout
+bare tokens = record { start = 0; head = []; body = tokens }
+
+module _ {old new : List Token} {old_stop new_stop number back : ℕ} where
+  pub part_meets : IsBodyMeeting old new old_stop new_stop number back → IsMeeting (bare old) (bare new) old_stop new_stop number back
+  part_meets m = record {
+    number_inside = m.number_inside;
+    past_edit = omega (arith, m.past_edit);
+    past_head = omega arith;
+    old_number = m.old_number;
+    past_old_head = omega arith;
+    back_is = m.back_is;
+    same_place = omega (arith, m.same_place);
+  }
+
+  pub body_meets : IsMeeting (bare old) (bare new) old_stop new_stop number back → IsBodyMeeting old new old_stop new_stop number back
+  body_meets m = record {
+    number_inside = m.number_inside;
+    past_edit = omega (arith, m.past_edit);
+    old_number = m.old_number;
+    back_is = m.back_is;
+    same_place = omega (arith, m.same_place);
+  }
+
+module _ (first : List ℕ → Token) (text : List ℕ) (start stop : ℕ) (insert : List ℕ) (r : Relexed) where
+  pub part_by_body : IsBodyRelexed first text start stop insert r → IsRelexed (part_by first) text start stop insert r
+  part_by_body is = record {
+    kept = λ k. omega (arith, is.front);
+    changed = λ none. absurd (none (omega arith, refl, refl));
+    meeting = part_meets is.meeting;
+    none_before = λ number back more less m. is.none_before number back more less (body_meets m);
+  }
+
+  pub body_by_part : IsRelexed (part_by first) text start stop insert r → IsBodyRelexed first text start stop insert r
+  body_by_part is = record {
+    front = omega (arith, is.kept (omega arith, refl, refl));
+    meeting = body_meets is.meeting;
+    none_before = λ number back more less m. is.none_before number back more less (part_meets m);
+  }
+
+-- ---- a text with a head: the bodies meet where all tokens do, as `more` is how far both bodies begin past the edit
+
+module _ (old new : Layout) (stop new_stop more body_stop new_body_stop : ℕ) (old_more : body_stop + body_in old ≡ stop + more) (new_more : new_body_stop + body_in new ≡ new_stop + more)
+    (least : (other : ℕ) → body_in old ≤ stop + other → body_in new ≤ new_stop + other → more ≤ other) where
+  pub meets : (number back : ℕ) → IsBodyMeeting old.body new.body body_stop new_body_stop number back → IsMeeting old new stop new_stop (length new.head + number) back
+  meets number back m =
+      let past = m.past_edit in
+      let same = m.same_place in
+      let at = place-behind new number in
+      let old_at = place-behind old m.old_number in
+      record {
+        number_inside = (let few = m.number_inside in omega (arith, few, length-append new.head new.body));
+        past_edit = omega (arith, at, past, new_more);
+        past_head = omega arith;
+        old_number = length old.head + m.old_number;
+        past_old_head = omega arith;
+        back_is = omega (arith, m.back_is, length-append old.head old.body);
+        same_place = omega (arith, at, old_at, same, old_more, new_more);
+      }
+
+  pub meets_behind : (number back : ℕ) → IsMeeting old new stop new_stop number back → IsBodyMeeting old.body new.body body_stop new_body_stop (number - length new.head) back
+  meets_behind number back m =
+      let old_head = m.past_old_head in
+      let past = m.past_edit in
+      let same = m.same_place in
+      let n : length new.head + (number - length new.head) ≡ number = omega (arith, m.past_head) in
+      let i : length old.head + (m.old_number - length old.head) ≡ m.old_number = omega arith in
+      let at : place_in new number ≡ body_in new + bound new.body (number - length new.head) = ap (place_in new) (sym n) ∙ place-behind new (number - length new.head) in
+      let old_at : place_in old m.old_number ≡ body_in old + bound old.body (m.old_number - length old.head) = ap (place_in old) (sym i) ∙ place-behind old (m.old_number - length old.head) in
+      let far : more ≤ place_in new number - new_stop = least (place_in new number - new_stop) (omega (arith, same, past, old_at)) (omega (arith, past, at)) in
+      record {
+        number_inside = (let few = m.number_inside in omega (arith, few, length-append new.head new.body));
+        past_edit = omega (arith, far, past, at, new_more);
+        old_number = m.old_number - length old.head;
+        back_is = omega (arith, m.back_is, old_head, length-append old.head old.body);
+        same_place = omega (arith, at, old_at, same, old_more, new_more);
+      }
+
+-- ---- whether the head is kept
+
+abbrev pub Told : Type 0 → Type 0
+Told P = P ⊎ (P → ⊥)
+
+all : {P Q R : Type 0} → Told P → Told Q → Told R → Told (P × Q × R)
+all (inl p) (inl q) (inl r) = inl (p, q, r)
+all (inl p) (inl q) (inr none) = inr (λ x. none x.2)
+all (inl p) (inr none) r = inr (λ x. none x.1)
+all (inr none) q r = inr (λ x. none x.0)
+
+numbers : (a b : ℕ) → Told (a ≡ b)
+numbers a b = by_test (a == b) refl
+  where
+    by_test : (t : Bool) → (a == b) ≡ t → Told (a ≡ b)
+    by_test true e = inl (eqb-true a b e)
+    by_test false e = inr (eqb-false a b e)
+
+at_most : (a b : ℕ) → Told (a ≤ b)
+at_most a b = elim (cases_lt b a) [
+  | inl less ↦ inr (λ le. omega (arith, le, less))
+  | inr le ↦ inl le
+]
+
+tokens : (xs ys : List Token) → Told (xs ≡ ys)
+tokens [] [] = inl refl
+tokens [] (y ∷ ys) = inr (λ e. omega (arith, ap (λ (ts : List Token). length ts) e))
+tokens (x ∷ xs) [] = inr (λ e. omega (arith, ap (λ (ts : List Token). length ts) e))
+tokens (x ∷ xs) (y ∷ ys) = by_first (is_same x y) refl (tokens xs ys)
+  where
+    by_first : (t : Bool) → is_same x y ≡ t → Told (xs ≡ ys) → Told ((x ∷ xs) ≡ (y ∷ ys))
+    by_first true e (inl same) = inl (ap₂ (λ (t : Token) (ts : List Token). t ∷ ts) (same_token x y e) same)
+    by_first true e (inr none) = inr (λ all. none (ap (λ (ts : List Token). drop 1 ts) all))
+    by_first false e rest = inr (λ all. true≢false (sym (token_same x y (ap (λ (ts : List Token). get_or ts 0 x) all)) ∙ e))
+
+pub keeps_head : (old new : Layout) (start : ℕ) → Told (KeepsHead old new start)
+keeps_head old new start = all (at_most (body_in old) start) (numbers old.start new.start) (tokens old.head new.head)
+
+-- ---- there is one answer
+
+module _ (layout : List ℕ → Layout) (text : List ℕ) (start stop : ℕ) (insert : List ℕ) (rises : (k : ℕ) → k < length (layout text).body → bound (layout text).body k < bound (layout text).body (suc k)) where
+  abbrev old : Layout
+  old = layout text
+
+  abbrev new : Layout
+  new = layout (apply text start stop insert)
+
+  -- boundaries of the body that stand at one place are one
+  same_bound : (i j : ℕ) → i ≤ length old.body → j ≤ length old.body → bound old.body i ≡ bound old.body j → i ≡ j
+  same_bound i j few less_j e = elim (cases_lt i j) [
+    | inl less ↦ absurd (omega (arith, rises i (omega arith), bound_mono old.body (suc i) j (omega arith), e))
+    | inr not ↦ elim (cases_lt j i) [
+      | inl less ↦ absurd (omega (arith, rises j (omega arith), bound_mono old.body (suc j) i (omega arith), e))
+      | inr none ↦ omega arith
+    ]
+  ]
+
+  same_place : (i j : ℕ) → length old.head ≤ i → length old.head ≤ j → i ≤ length (old.head ++ old.body) → j ≤ length (old.head ++ old.body) → place_in old i ≡ place_in old j → i ≡ j
+  same_place i j past_i past_j few_i few_j e =
+      let h : ℕ = length old.head in
+      let size = length-append old.head old.body in
+      let n : h + (i - h) ≡ i = omega arith in
+      let m : h + (j - h) ≡ j = omega arith in
+      let at : place_in old i ≡ body_in old + bound old.body (i - h) = ap (place_in old) (sym n) ∙ place-behind old (i - h) in
+      let to : place_in old j ≡ body_in old + bound old.body (j - h) = ap (place_in old) (sym m) ∙ place-behind old (j - h) in
+      let same : i - h ≡ j - h = same_bound (i - h) (j - h) (omega (arith, few_i, size)) (omega (arith, few_j, size)) (omega (arith, at, to, e)) in
+      omega (arith, same, past_i, past_j)
+
+  module _ (r s : Relexed) (a : IsRelexed layout text start stop insert r) (b : IsRelexed layout text start stop insert s) where
+    fronts : r.kept_front ≡ s.kept_front
+    fronts = by_told (keeps_head old new start)
+      where
+        by_told : Told (KeepsHead old new start) → r.kept_front ≡ s.kept_front
+        by_told (inl k) = a.kept k ∙ sym (b.kept k)
+        by_told (inr none) = a.changed none ∙ sym (b.changed none)
+
+    lexed : r.lexed ≡ s.lexed
+    lexed = elim (cases_lt r.lexed s.lexed) [
+      | inl less ↦ absurd (b.none_before (r.kept_front + r.lexed) r.kept_back (omega (arith, fronts)) (omega (arith, fronts)) a.meeting)
+      | inr not ↦ elim (cases_lt s.lexed r.lexed) [
+        | inl less ↦ absurd (a.none_before (s.kept_front + s.lexed) s.kept_back (omega (arith, fronts)) (omega (arith, fronts)) b.meeting)
+        | inr none ↦ omega arith
+      ]
+    ]
+
+    backs : r.kept_back ≡ s.kept_back
+    backs = grind (arith, common_steps, fronts, lexed, same_place, a.meeting, b.meeting)
+
+    pub one_relexed : r ≡ s
+    one_relexed = λ i. record { kept_front = fronts i; lexed = lexed i; kept_back = backs i }

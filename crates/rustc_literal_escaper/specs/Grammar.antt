@@ -1,0 +1,218 @@
+-- The grammar of the text between the quotes of a literal: its elements, and the units, errors and warnings that they
+-- make. There is one rule for each form, and no rule says how a text is read. docs/ESCAPES.md explains the rules in
+-- words, and Meaning.antt says what an element stands for in each kind of literal.
+--
+-- Names in capitals are productions of the Rust Reference. `w` is the text of an element, and `next` is all of the text
+-- after it, which is [] at the end of the literal. The Reference has no text that is wrong. Here its parts are elements
+-- too, and the text of an error ends with the character that shows it, or with the literal.
+use Rattle.std.specs.Prelude.{◌≡◌, ◌↔◌, ◌<◌, ◌≤◌, ℕ, ◌+◌, ◌*◌, ◌==◌, ◌||◌, Bool, true, false, if◌then◌else◌, List, [], ◌∷◌, ◌++◌, length, fold, filter, codes, Result, Ok, Err}
+use Rattle.std.specs.Char.{digit_value, is_digit, is_whitespace}
+use Rattle.std.specs.List.{list_all, list_any}
+use Rattle.std.specs.Str.{byte, encode_utf8_all}
+use Rattle.std.specs.declared.ops.Range.{Range}
+use Rattle.rustc_literal_escaper.specs.declared.element.Element.{Element}
+use Rattle.rustc_literal_escaper.specs.declared.element.Element.TheVariants.{Plain, Byte, Unicode, Fault}
+use Rattle.rustc_literal_escaper.specs.declared.error.EscapeError.{EscapeError}
+use Rattle.rustc_literal_escaper.specs.declared.error.EscapeError.TheVariants.{ZeroChars, MoreThanOneChar, LoneSlash, InvalidEscape, BareCarriageReturn, BareCarriageReturnInRawString, EscapeOnlyChar, TooShortHexEscape, InvalidCharInHexEscape, NoBraceInUnicodeEscape, InvalidCharInUnicodeEscape, EmptyUnicodeEscape, UnclosedUnicodeEscape, LeadingUnderscoreUnicodeEscape, OverlongUnicodeEscape, UnskippedWhitespaceWarning, MultipleSkippedLinesWarning}
+
+-- a text as a list of characters
+abbrev pub Chars : Type 0
+Chars = List ℕ
+
+-- the length of these characters in bytes, in UTF-8
+abbrev pub bytes : Chars → ℕ
+bytes w = length (encode_utf8_all w)
+
+-- whether the character is in the list
+abbrev pub is_among : Chars → ℕ → Bool
+is_among ds c = list_any (λ d. c == d) ds
+
+-- ---- escapes
+
+-- HEX_DIGIT
+abbrev pub is_hex : ℕ → Bool
+is_hex c = is_digit c 16
+
+abbrev pub is_digit_or_underscore : ℕ → Bool
+is_digit_or_underscore c = c == byte "_" || is_hex c
+
+abbrev pub hex_value : Chars → ℕ
+hex_value digits = fold (λ value digit. value * 16 + digit_value digit) 0 digits
+
+-- digits, and underscores anywhere after the first: `1F_600`, `1__`, or nothing
+pub data AreDigits : Chars → Type 0 where
+  none : AreDigits []
+  some : {d : ℕ} {w : Chars}
+      → is_hex d ≡ true
+      → list_all is_digit_or_underscore w ≡ true
+      → AreDigits (d ∷ w)
+
+-- w is an escape without its backslash, if `next` follows it
+pub data IsEscapeBefore (next : Chars) : Element → Chars → Type 0 where
+  -- ASCII_ESCAPE, BYTE_ESCAPE: `\0`, `\t`, `\n`, `\r`, `\\`
+  nul : IsEscapeBefore next (Byte 0) (codes "0")
+  tab : IsEscapeBefore next (Byte 9) (codes "t")
+  newline : IsEscapeBefore next (Byte 10) (codes "n")
+  carriage_return : IsEscapeBefore next (Byte 13) (codes "r")
+  backslash : IsEscapeBefore next (Byte (byte "\\")) (codes "\\")
+  -- QUOTE_ESCAPE, BYTE_ESCAPE: `\'`, `\"`
+  single_quote : IsEscapeBefore next (Byte (byte "'")) (codes "'")
+  double_quote : IsEscapeBefore next (Byte (byte "\"")) (codes "\"")
+  -- ASCII_ESCAPE, BYTE_ESCAPE: `\x7F`
+  of_byte : {h l : ℕ}
+      → is_hex h ≡ true
+      → is_hex l ≡ true
+      → IsEscapeBefore next (Byte (digit_value h * 16 + digit_value l)) (byte "x" ∷ h ∷ l ∷ [])
+  -- UNICODE_ESCAPE: `\u{1F_600}`
+  of_number : {d : ℕ} {w : Chars}
+      → AreDigits (d ∷ w)
+      → length (filter is_hex (d ∷ w)) ≤ 6
+      → IsEscapeBefore next (Unicode (hex_value (filter is_hex (d ∷ w)))) (codes "u{" ++ d ∷ w ++ codes "}")
+  -- errors: a backslash at the end, and one before any other character
+  lone : next ≡ [] → IsEscapeBefore next (Fault LoneSlash) []
+  invalid : {c : ℕ}
+      → is_among (codes "0tnr\\'\"xu") c ≡ false
+      → IsEscapeBefore next (Fault InvalidEscape) (c ∷ [])
+  -- `\x` and `\x7` at the end; `\xg`; `\x7g`
+  no_digits : next ≡ [] → IsEscapeBefore next (Fault TooShortHexEscape) (codes "x")
+  one_digit : {h : ℕ}
+      → next ≡ []
+      → is_hex h ≡ true
+      → IsEscapeBefore next (Fault TooShortHexEscape) (byte "x" ∷ h ∷ [])
+  bad_first : {h : ℕ}
+      → is_hex h ≡ false
+      → IsEscapeBefore next (Fault InvalidCharInHexEscape) (byte "x" ∷ h ∷ [])
+  bad_second : {h l : ℕ}
+      → is_hex h ≡ true
+      → is_hex l ≡ false
+      → IsEscapeBefore next (Fault InvalidCharInHexEscape) (byte "x" ∷ h ∷ l ∷ [])
+  -- `\u` at the end; `\u1`
+  no_more : next ≡ [] → IsEscapeBefore next (Fault NoBraceInUnicodeEscape) (codes "u")
+  no_brace : {c : ℕ}
+      → (c == byte "{") ≡ false
+      → IsEscapeBefore next (Fault NoBraceInUnicodeEscape) (byte "u" ∷ c ∷ [])
+  -- `\u{_`; `\u{}`
+  underscore : IsEscapeBefore next (Fault LeadingUnderscoreUnicodeEscape) (codes "u{_")
+  empty : IsEscapeBefore next (Fault EmptyUnicodeEscape) (codes "u{}")
+  -- `\u{1` at the end; `\u{1g`; `\u{1234567}`
+  unclosed : {w : Chars}
+      → next ≡ []
+      → AreDigits w
+      → IsEscapeBefore next (Fault UnclosedUnicodeEscape) (codes "u{" ++ w)
+  bad_digit : {w : Chars} (c : ℕ)
+      → AreDigits w
+      → is_digit_or_underscore c ≡ false
+      → (c == byte "}") ≡ false
+      → IsEscapeBefore next (Fault InvalidCharInUnicodeEscape) (codes "u{" ++ w ++ c ∷ [])
+  too_many : {w : Chars}
+      → AreDigits w
+      → 6 < length (filter is_hex w)
+      → IsEscapeBefore next (Fault OverlongUnicodeEscape) (codes "u{" ++ w ++ codes "}")
+
+-- ---- elements
+
+-- w is an element if `next` follows it, where the characters of `special` have to be escaped
+pub data IsElementBefore (special next : Chars) : Element → Chars → Type 0 where
+  plain : {c : ℕ}
+      → is_among (codes "\\\r" ++ special) c ≡ false
+      → IsElementBefore special next (Plain c) (c ∷ [])
+  escape : {element : Element} {w : Chars}
+      → IsEscapeBefore next element w
+      → IsElementBefore special next element (codes "\\" ++ w)
+  unescaped : {c : ℕ}
+      → is_among special c ≡ true
+      → IsElementBefore special next (Fault EscapeOnlyChar) (c ∷ [])
+  bare : IsElementBefore special next (Fault BareCarriageReturn) (codes "\r")
+
+-- the same in a raw string, where each character is an element
+pub data IsRawElement : Element → ℕ → Type 0 where
+  plain : {c : ℕ} → (c == byte "\r") ≡ false → IsRawElement (Plain c) c
+  bare : IsRawElement (Fault BareCarriageReturnInRawString) (byte "\r")
+
+-- ---- between single quotes
+
+-- an error or a warning, and its range of bytes
+abbrev pub Error : Type 0
+Error = Range ℕ × EscapeError
+
+-- the range of w, the front of a text
+abbrev pub front_range : Chars → Range ℕ
+front_range w = record { start = 0; end = bytes w }
+
+-- what a text stands for: CHAR_LITERAL or BYTE_LITERAL without its quotes has one element, whose meaning is its unit.
+-- Otherwise it has one error, that of its first element, or else that more follows
+pub data IsSingle {U : Type 0} (meaning : Element → Result U EscapeError) : Chars → Result U Error → Type 0 where
+  unit : {element : Element} {w : Chars} {u : U}
+      → IsElementBefore (codes "'\n\t") [] element w
+      → meaning element ≡ Ok u
+      → IsSingle meaning w (Ok u)
+  nothing : IsSingle meaning [] (Err (front_range [], ZeroChars))
+  wrong : {next : Chars} {element : Element} {w : Chars} {error : EscapeError}
+      → IsElementBefore (codes "'\n\t") next element w
+      → meaning element ≡ Err error
+      → IsSingle meaning (w ++ next) (Err (front_range w, error))
+  more : {c : ℕ} {next : Chars} {element : Element} {w : Chars} {u : U}
+      → IsElementBefore (codes "'\n\t") (c ∷ next) element w
+      → meaning element ≡ Ok u
+      → IsSingle meaning (w ++ c ∷ next) (Err (front_range (w ++ c ∷ []), MoreThanOneChar))
+
+-- ---- between double quotes
+
+-- an element and its range of bytes
+abbrev pub Item : Type 0
+Item = Range ℕ × Element
+
+-- the item of w, which begins at the offset `from`
+abbrev pub item : ℕ → Element → Chars → Item
+item from element w = (record { start = from; end = from + bytes w }, element)
+
+abbrev pub is_newline : ℕ → Bool
+is_newline c = c == 10
+
+-- the white space that STRING_CONTINUE skips: newlines, carriage returns, tabs and spaces
+abbrev pub is_passed_over : ℕ → Bool
+is_passed_over c = c == 10 || c == 13 || c == 9 || c == 32
+
+-- the character is in the class; the end of the text is in none
+abbrev pub next_is : (ℕ → Bool) → Chars → Bool
+next_is p [] = false
+next_is p (c ∷ s) = p c
+
+-- a warning if the skipped white space has another newline. It covers everything that is skipped
+abbrev pub lines_warning : ℕ → Chars → List Item
+lines_warning from space =
+    if list_any is_newline space then item from (Fault MultipleSkippedLinesWarning) (codes "\\\n" ++ space) ∷ [] else []
+
+-- a warning if other white space follows. It covers the first character of that too
+abbrev pub space_warning : ℕ → Chars → Chars → List Item
+space_warning from space [] = []
+space_warning from space (c ∷ next) =
+    if is_whitespace c then item from (Fault UnskippedWhitespaceWarning) (codes "\\\n" ++ space ++ c ∷ []) ∷ [] else []
+
+-- the items of a text that begins at the offset `from`. The text is STRING_LITERAL, BYTE_STRING_LITERAL or
+-- C_STRING_LITERAL without its quotes, or that of a raw string
+pub data AreItems : (raw : Bool) → (from : ℕ) → Chars → List Item → Type 0 where
+  nothing : {raw : Bool} {from : ℕ} → AreItems raw from [] []
+  -- any element but a backslash before a newline
+  element : {from : ℕ} {next : Chars} {element : Element} {w : Chars} {items : List Item}
+      → IsElementBefore (codes "\"") next element w
+      → (w ≡ codes "\\\n" → ⊥)
+      → AreItems false (from + bytes w) next items
+      → AreItems false from (w ++ next) (item from element w ∷ items)
+  -- STRING_CONTINUE
+  line_end : {from : ℕ} {next : Chars} {items : List Item} (space : Chars)
+      → list_all is_passed_over space ≡ true
+      → next_is is_passed_over next ≡ false
+      → AreItems false (from + bytes (codes "\\\n" ++ space)) next items
+      → AreItems false from (codes "\\\n" ++ space ++ next) (lines_warning from space ++ space_warning from space next ++ items)
+  raw_element : {from c : ℕ} {next : Chars} {element : Element} {items : List Item}
+      → IsRawElement element c
+      → AreItems true (from + bytes (c ∷ [])) next items
+      → AreItems true from (c ∷ next) (item from element (c ∷ []) ∷ items)
+
+-- ---- only one
+
+-- if the premise holds, the answer is allowed and no other is
+pub record TheOnly {A : Type 0} (premise : Type 0) (Allows : A → Type 0) : Type 0 where
+  pub answer : A
+  pub only : premise → (other : A) → Allows other ↔ (other ≡ answer)

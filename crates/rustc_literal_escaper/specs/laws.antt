@@ -1,0 +1,4 @@
+pub mod Elements
+pub mod Escape
+pub mod Single
+pub mod TheAnswers

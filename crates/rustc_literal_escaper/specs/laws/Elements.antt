@@ -1,0 +1,241 @@
+-- The items that are read between double quotes are those that the grammar has there.
+use Rattle.std.proofs.Common.{◌≡◌, ℕ, zero, suc, ◌+◌, ◌≤◌, ◌==◌, ◌||◌, Bool, true, false, true≢false, if◌then◌else◌, List, [], ◌∷◌, ◌++◌, length, length-append, append_assoc, map, refl, sym, ap, subst, ◌∙◌, arith}
+use Rattle.std.specs.Char.{is_whitespace}
+use Rattle.std.specs.List.{list_all, list_any}
+use Rattle.std.specs.Str.{byte, encode_utf8_all}
+use Rattle.std.proofs.lemmas.Bool.{cond_both, eqb-true, or_parts}
+use Rattle.std.proofs.lemmas.List.{append_cancel_right, map-append}
+use Rattle.std.proofs.lemmas.Str.{encodes-append}
+use Rattle.std.proofs.lemmas.Grind.{common_steps}
+use Rattle.rustc_literal_escaper.specs.declared.element.Element.{Element}
+use Rattle.rustc_literal_escaper.specs.declared.element.Element.TheVariants.{Fault, Plain}
+use Rattle.rustc_literal_escaper.specs.declared.error.EscapeError.TheVariants.{BareCarriageReturn, BareCarriageReturnInRawString, EscapeOnlyChar, MultipleSkippedLinesWarning, UnskippedWhitespaceWarning}
+use Rattle.rustc_literal_escaper.specs.Grammar as g
+use Rattle.rustc_literal_escaper.specs.Grammar.{AreItems, IsElementBefore, IsRawElement, Item, bytes, is_among, is_newline, is_passed_over, item, lines_warning, next_is, space_warning}
+use Rattle.rustc_literal_escaper.specs.laws.Escape.{Reads, at-char, by_either, element-is, element-reads, escape-is, run-all, run-cut, run-is, run-stops}
+use Rattle.rustc_literal_escaper.specs.means.Elements.{Front, front, front_by, raw_element, raw_front, item_at, items_from, items_in, line_end, more_lines, more_space, one, past_backslash, place, unescaped}
+use Rattle.rustc_literal_escaper.specs.means.Escape.{escape, front_run, past_run}
+
+pub either : {A : Type 0} (P : A → Type 0) (b : Bool) (x y : A) → P x → P y → P (if b then x else y)
+either P b x y p q = grind (arith, common_steps)
+
+-- ---- what is left is no longer than what there was
+
+past_run-shorter : (p : ℕ → Bool) (s : List ℕ) → length (past_run p s) ≤ length s
+past_run-shorter p [] = omega arith
+past_run-shorter p (c ∷ s) = either (λ (left : List ℕ). length left ≤ suc (length s)) (p c) (past_run p s) (c ∷ s) (let l = past_run-shorter p s in omega arith) (omega arith)
+
+escape-shorter : (s : List ℕ) → length (escape s).1 ≤ length s
+escape-shorter s = let is = escape-is s in omega (arith, ap length is.1, length-append is.0 (escape s).1)
+
+past_backslash-shorter : (s : List ℕ) → length (past_backslash s).left ≤ length s
+past_backslash-shorter [] = escape-shorter []
+past_backslash-shorter (c ∷ s) = either (λ (f : Front). length f.left ≤ suc (length s)) (is_newline c) (line_end s) (one (escape (c ∷ s)))
+    (let l = past_run-shorter is_passed_over s in omega arith) (escape-shorter (c ∷ s))
+
+left-shorter : (raw : Bool) (c : ℕ) (s : List ℕ) → length (front_by raw c s).left ≤ length s
+unfolding front raw_front
+left-shorter true c s = omega arith
+left-shorter false c s = either (λ (f : Front). length f.left ≤ length s) (c == byte "\\") (past_backslash s) (one (unescaped c, s)) (past_backslash-shorter s) (omega arith)
+
+-- ---- so any number of steps that is large enough gives the same items
+
+module _ (raw : Bool) (total : ℕ) where
+  abbrev at : ℕ → List ℕ → Front
+  at = front_by raw
+
+  enough : (m n : ℕ) (s : List ℕ) → length s ≤ m → length s ≤ n → items_in at m total s ≡ items_in at n total s
+  enough zero zero [] a b = refl
+  enough zero (suc n) [] a b = refl
+  enough (suc m) zero [] a b = refl
+  enough (suc m) (suc n) [] a b = refl
+  enough zero n (c ∷ s) a b = absurd (omega arith)
+  enough (suc m) zero (c ∷ s) a b = absurd (omega arith)
+  enough (suc m) (suc n) (c ∷ s) a b = grind (arith, common_steps, left-shorter, enough m n)
+
+  pub items-cons : (c : ℕ) (s : List ℕ) → items_from at total (c ∷ s) ≡ map (item_at total (place total (c ∷ s))) (at c s).told ++ items_from at total (at c s).left
+  unfolding items_from
+  items-cons c s = grind (arith, common_steps, left-shorter, enough)
+
+  -- one element
+  pub items-one : (c : ℕ) (s left : List ℕ) (e : Element) → at c s ≡ one (e, left) → items_from at total (c ∷ s) ≡ item_at total (place total (c ∷ s)) (e, left) ∷ items_from at total left
+  items-one c s left e is = items-cons c s ∙ ap (λ (f : Front). map (item_at total (place total (c ∷ s))) f.told ++ items_from at total f.left) is
+
+-- no items are in nothing
+pub nothing : (at : ℕ → List ℕ → Front) (total : ℕ) → items_from at total [] ≡ []
+unfolding items_from
+nothing at total = refl
+
+-- ---- what the grammar has is read
+
+-- the length of what is put together
+pub bytes-append : (w s : List ℕ) → bytes (w ++ s) ≡ bytes w + bytes s
+bytes-append w s = ap length (encodes-append w s) ∙ length-append (encode_utf8_all w) (encode_utf8_all s)
+
+-- the item of the front of a text
+item-at : (total from : ℕ) (w next : List ℕ) (e : Element) → from + bytes (w ++ next) ≡ total → item_at total (place total (w ++ next)) (e, next) ≡ item from e w
+item-at total from w next e ends =
+    let sizes = bytes-append w next in
+    let start : place total (w ++ next) ≡ from = omega arith in
+    let end : place total next ≡ from + bytes w = omega arith in
+    ap (λ (a : ℕ). (record { start = a; end = place total next }, e)) start ∙ ap (λ (b : ℕ). (record { start = from; end = b }, e)) end
+
+-- elements between double quotes
+unescaped-is : (c : ℕ) (s : List ℕ) → (c == 92) ≡ false → IsElementBefore (34 ∷ []) s (unescaped c) (c ∷ [])
+unescaped-is c s slash =
+    cond_both (c == 34) (Fault EscapeOnlyChar) _ (λ (e : Element). IsElementBefore (34 ∷ []) s e (c ∷ [])) (λ a. g.unescaped (rw a refl)) (λ a.
+    cond_both (c == 13) (Fault BareCarriageReturn) (Plain c) (λ (e : Element). IsElementBefore (34 ∷ []) s e (c ∷ []))
+    (at-char (λ x. IsElementBefore (34 ∷ []) s (Fault BareCarriageReturn) (x ∷ [])) c 13 g.bare) (λ b. g.plain (rw (slash, b, a) refl)))
+
+unescaped-plain : (c : ℕ) → is_among (92 ∷ 13 ∷ 34 ∷ []) c ≡ false → unescaped c ≡ Plain c
+unescaped-plain c out = grind (arith, common_steps, or_parts)
+
+unescaped-marked : (c : ℕ) → is_among (34 ∷ []) c ≡ true → ((c == 92) ≡ false) × (unescaped c ≡ Fault EscapeOnlyChar)
+unescaped-marked c mark = at-char (λ x. ((x == 92) ≡ false) × (unescaped x ≡ Fault EscapeOnlyChar)) c 34 (refl, refl) (is (c == 34) mark)
+  where
+    is : (b : Bool) → (b || false) ≡ true → b ≡ true
+    is true e = refl
+    is false e = e
+
+abbrev ReadsDouble : List ℕ → Element → List ℕ → Type 0
+ReadsDouble = Reads (34 ∷ []) unescaped unescaped-plain unescaped-marked refl unescaped-is
+
+double-reads : {next : List ℕ} {e : Element} {w : List ℕ} → IsElementBefore (34 ∷ []) next e w → ReadsDouble next e w
+double-reads = element-reads (34 ∷ []) unescaped unescaped-plain unescaped-marked refl unescaped-is
+
+-- a backslash that no newline follows is an element
+past_backslash-one : (v next : List ℕ) (e : Element) → escape (v ++ next) ≡ (e, next) → (v ≡ 10 ∷ [] → ⊥) → past_backslash (v ++ next) ≡ one (e, next)
+past_backslash-one v next e read other = by_text (v ++ next) refl
+  where
+    by_text : (s : List ℕ) → v ++ next ≡ s → past_backslash s ≡ one (e, next)
+    by_text [] text = ap one (sym (ap escape text) ∙ read)
+    by_text (d ∷ t) text = by_either (is_newline d)
+        (λ n.
+        let line : v ++ next ≡ 10 ∷ t = text ∙ ap (λ x. x ∷ t) (eqb-true d 10 n) in
+        let same : t ≡ next = ap (λ (r : Element × List ℕ). r.1) (sym (ap escape line) ∙ read) in
+        absurd (other (append_cancel_right v (10 ∷ []) next (line ∙ ap (λ xs. 10 ∷ xs) same))))
+        (λ n. rw n (ap one (sym (ap escape text) ∙ read)))
+
+element-front : {next : List ℕ} {e : Element} {w : List ℕ} → (r : ReadsDouble next e w) → (w ≡ 92 ∷ 10 ∷ [] → ⊥) → front r.first (r.others ++ next) ≡ one (e, next)
+unfolding front
+element-front {next} {e} {w} r other = by_either (r.first == 92)
+    (λ slash.
+    let read : escape (r.others ++ next) ≡ (e, next) = subst (λ (b : Bool). (if b then escape (r.others ++ next) else (unescaped r.first, r.others ++ next)) ≡ (e, next)) slash r.read in
+    let same : r.first ≡ 92 = eqb-true r.first 92 slash in
+    rw slash (past_backslash-one r.others next e read (λ (n : r.others ≡ 10 ∷ []). other (r.whole ∙ (ap (λ x. x ∷ r.others) same ∙ ap (λ xs. 92 ∷ xs) n)))))
+    (λ none. rw none (ap one (subst (λ (b : Bool). (if b then escape (r.others ++ next) else (unescaped r.first, r.others ++ next)) ≡ (e, next)) none r.read)))
+
+raw-reads : {e : Element} {c : ℕ} → IsRawElement e c → (next : List ℕ) → raw_front c next ≡ one (e, next)
+unfolding raw_front
+raw-reads (g.plain out) next = rw out refl
+raw-reads g.bare next = refl
+
+-- the warnings past a line end
+module _ (total from : ℕ) (space next : List ℕ) (ends : from + bytes (92 ∷ 10 ∷ space ++ next) ≡ total) where
+  abbrev told_at : Element × List ℕ → Item
+  told_at = item_at total (place total (92 ∷ 10 ∷ space ++ next))
+
+  lines-told : map told_at (more_lines space next) ≡ lines_warning from space
+  lines-told = by_any (list_any is_newline space)
+    where
+      by_any : (b : Bool) → map told_at (if b then (Fault MultipleSkippedLinesWarning, next) ∷ [] else []) ≡ if b then item from (Fault MultipleSkippedLinesWarning) (92 ∷ 10 ∷ space) ∷ [] else []
+      by_any true = ap (λ (i : Item). i ∷ []) (item-at total from (92 ∷ 10 ∷ space) next (Fault MultipleSkippedLinesWarning) ends)
+      by_any false = refl
+
+  space-told : map told_at (more_space next) ≡ space_warning from space next
+  space-told = by_next next refl
+    where
+      by_next : (left : List ℕ) → next ≡ left → map told_at (more_space left) ≡ space_warning from space left
+      by_next [] e = refl
+      by_next (c ∷ t) e = by_white (is_whitespace c)
+        where
+          text : 92 ∷ 10 ∷ space ++ next ≡ (92 ∷ 10 ∷ (space ++ c ∷ [])) ++ t
+          text = ap (λ xs. 92 ∷ 10 ∷ xs) (ap (λ xs. space ++ xs) e ∙ sym (append_assoc space (c ∷ []) t))
+
+          one_item : told_at (Fault UnskippedWhitespaceWarning, t) ≡ item from (Fault UnskippedWhitespaceWarning) (92 ∷ 10 ∷ (space ++ c ∷ []))
+          one_item = ap (λ (s : List ℕ). item_at total (place total s) (Fault UnskippedWhitespaceWarning, t)) text
+              ∙ item-at total from (92 ∷ 10 ∷ (space ++ c ∷ [])) t (Fault UnskippedWhitespaceWarning) (sym (ap (λ (s : List ℕ). from + bytes s) text) ∙ ends)
+
+          by_white : (b : Bool) → map told_at (if b then (Fault UnskippedWhitespaceWarning, t) ∷ [] else []) ≡ if b then item from (Fault UnskippedWhitespaceWarning) (92 ∷ 10 ∷ (space ++ c ∷ [])) ∷ [] else []
+          by_white true = ap (λ (i : Item). i ∷ []) one_item
+          by_white false = refl
+
+line-read : (space next : List ℕ) → list_all is_passed_over space ≡ true → next_is is_passed_over next ≡ false → front 92 (10 ∷ space ++ next) ≡ record { told = more_lines space next ++ more_space next; left = next }
+unfolding front
+line-read space next all stops =
+    let run = run-is is_passed_over space next all stops in
+    ap (λ (v : List ℕ). let f : Front = record { told = more_lines v (past_run is_passed_over (space ++ next)) ++ more_space (past_run is_passed_over (space ++ next)); left = past_run is_passed_over (space ++ next) } in f) run.0
+    ∙ ap (λ (v : List ℕ). let f : Front = record { told = more_lines space v ++ more_space v; left = v } in f) run.1
+
+-- where the text after w ends
+past-ends : (total from : ℕ) (w next : List ℕ) → from + bytes (w ++ next) ≡ total → from + bytes w + bytes next ≡ total
+past-ends total from w next ends = let sizes = bytes-append w next in omega arith
+
+pub items-read : {raw : Bool} {from : ℕ} {s : List ℕ} {items : List Item} → AreItems raw from s items → (total : ℕ) → from + bytes s ≡ total → items_from (front_by raw) total s ≡ items
+items-read {raw} g.nothing total ends = nothing (front_by raw) total
+items-read (g.element {from} {next} {element = e} {w} {items} is other are) total ends =
+    let r = double-reads is in
+    let text : w ++ next ≡ r.first ∷ r.others ++ next = ap (λ xs. xs ++ next) r.whole in
+    ap (items_from front total) text
+    ∙ (items-one false total r.first (r.others ++ next) next e (element-front r other)
+    ∙ (ap (λ (s : List ℕ). item_at total (place total s) (e, next) ∷ items_from front total next) (sym text)
+    ∙ (ap (λ (i : Item). i ∷ items_from front total next) (item-at total from w next e ends)
+    ∙ ap (λ (is : List Item). item from e w ∷ is) (items-read are total (past-ends total from w next ends)))))
+items-read (g.line_end {from} {next} {items} space all stops are) total ends =
+    items-cons false total 92 (10 ∷ space ++ next)
+    ∙ (ap (λ (f : Front). map (item_at total (place total (92 ∷ 10 ∷ space ++ next))) f.told ++ items_from front total f.left) (line-read space next all stops)
+    ∙ (ap (λ (told : List Item). told ++ items_from front total next) (map-append (item_at total (place total (92 ∷ 10 ∷ space ++ next))) (more_lines space next) (more_space next))
+    ∙ (ap (λ (told : List Item). told ++ map (item_at total (place total (92 ∷ 10 ∷ space ++ next))) (more_space next) ++ items_from front total next) (lines-told total from space next ends)
+    ∙ (ap (λ (told : List Item). lines_warning from space ++ told ++ items_from front total next) (space-told total from space next ends)
+    ∙ ap (λ (is : List Item). lines_warning from space ++ space_warning from space next ++ is) (items-read are total (past-ends total from (92 ∷ 10 ∷ space) next ends))))))
+items-read (g.raw_element {from} {c} {next} {element = e} {items} is are) total ends =
+    items-one true total c next next e (raw-reads is next)
+    ∙ (ap (λ (i : Item). i ∷ items_from raw_front total next) (item-at total from (c ∷ []) next e ends)
+    ∙ ap (λ (is : List Item). item from e (c ∷ []) ∷ is) (items-read are total (past-ends total from (c ∷ []) next ends)))
+
+-- ---- each text has items
+
+abbrev HasItems : Bool → ℕ → List ℕ → Type 0
+HasItems raw from s = (items : List Item) × AreItems raw from s items
+
+raw-has : (c : ℕ) → IsRawElement (raw_element c) c
+raw-has c = cond_both (c == 13) (Fault BareCarriageReturnInRawString) (Plain c) (λ (e : Element). IsRawElement e c)
+    (at-char (λ x. IsRawElement (Fault BareCarriageReturnInRawString) x) c 13 g.bare) (λ e. g.plain e)
+
+line-has : (from : ℕ) (t : List ℕ) → ((at : ℕ) → HasItems false at (past_run is_passed_over t)) → HasItems false from (92 ∷ 10 ∷ t)
+line-has from t rest =
+    let space : List ℕ = front_run is_passed_over t in
+    let next : List ℕ = past_run is_passed_over t in
+    let items = rest (from + bytes (92 ∷ 10 ∷ space)) in
+    subst (HasItems false from) (ap (λ xs. 92 ∷ 10 ∷ xs) (sym (run-cut is_passed_over t)))
+    (lines_warning from space ++ space_warning from space next ++ items.0, g.line_end space (run-all is_passed_over t) (run-stops is_passed_over t) items.1)
+
+abbrev first_of : List ℕ → ℕ
+first_of [] = 0
+first_of (x ∷ xs) = x
+
+abbrev others_of : List ℕ → List ℕ
+others_of [] = []
+others_of (x ∷ xs) = xs
+
+element-has : (from c : ℕ) (s : List ℕ) → (c ≡ 92 → (t : List ℕ) → s ≡ 10 ∷ t → ⊥) → ((at : ℕ) (left : List ℕ) → length left ≤ length s → HasItems false at left) → HasItems false from (c ∷ s)
+element-has from c s other rest =
+    let has = element-is (34 ∷ []) unescaped unescaped-plain unescaped-marked refl unescaped-is c s in
+    let left : List ℕ = (if c == 92 then escape s else (unescaped c, s)).1 in
+    let items = rest (from + bytes (c ∷ has.others)) left (omega (arith, ap length has.whole, length-append has.others left)) in
+    subst (HasItems false from) (ap (λ xs. c ∷ xs) (sym has.whole))
+    (_, g.element has.is (λ (e : c ∷ has.others ≡ 92 ∷ 10 ∷ []). other (ap first_of e) left (has.whole ∙ ap (λ xs. xs ++ left) (ap others_of e))) items.1)
+
+double-has : (from c : ℕ) (s : List ℕ) → ((at : ℕ) (left : List ℕ) → length left ≤ length s → HasItems false at left) → HasItems false from (c ∷ s)
+double-has from c [] rest = element-has from c [] (λ e t f. absurd (cc)) rest
+double-has from c (d ∷ t) rest = by_either (c == 92)
+    (λ slash. by_either (d == 10)
+    (λ line. at-char (λ x. HasItems false from (x ∷ d ∷ t)) c 92 (at-char (λ y. HasItems false from (92 ∷ y ∷ t)) d 10 (line-has from t (λ at. rest at (past_run is_passed_over t) (let short = past_run-shorter is_passed_over t in omega arith))) line) slash)
+    (λ none. element-has from c (d ∷ t) (λ e u f. absurd (true≢false (sym (ap (λ (xs : List ℕ). first_of xs == 10) f) ∙ none))) rest))
+    (λ none. element-has from c (d ∷ t) (λ e u f. absurd (true≢false (sym (ap (λ (x : ℕ). x == 92) e) ∙ none))) rest)
+
+pub items-some : (raw : Bool) (n : ℕ) (s : List ℕ) (from : ℕ) → length s ≤ n → HasItems raw from s
+items-some raw n [] from fits = ([], g.nothing)
+items-some raw zero (c ∷ s) from fits = absurd (omega arith)
+items-some true (suc n) (c ∷ s) from fits = let rest = items-some true n s (from + bytes (c ∷ [])) (omega arith) in (_, g.raw_element (raw-has c) rest.1)
+items-some false (suc n) (c ∷ s) from fits = double-has from c s (λ at left few. items-some false n left at (omega arith))

@@ -1,0 +1,4 @@
+pub mod Elements
+pub mod Escape
+pub mod Plain
+pub mod Single

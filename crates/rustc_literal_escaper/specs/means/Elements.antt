@@ -1,0 +1,95 @@
+-- Reading the text between double quotes: its elements in order, each with its range of bytes.
+use Rattle.std.specs.Prelude.{◌≡◌, ℕ, zero, suc, ◌-◌, ◌==◌, Bool, true, false, if◌then◌else◌, List, [], ◌∷◌, ◌++◌, length, map}
+use Rattle.std.specs.Char.{is_whitespace}
+use Rattle.std.specs.List.{list_any}
+use Rattle.std.specs.Option.{option_to_list}
+use Rattle.std.specs.Str.{byte, encode_utf8_all}
+use Rattle.rustc_literal_escaper.specs.declared.element.Element.{Element}
+use Rattle.rustc_literal_escaper.specs.declared.element.Element.TheVariants.{Plain, Fault}
+use Rattle.rustc_literal_escaper.specs.declared.error.EscapeError.TheVariants.{EscapeOnlyChar, BareCarriageReturn, BareCarriageReturnInRawString, UnskippedWhitespaceWarning, MultipleSkippedLinesWarning}
+use Rattle.rustc_literal_escaper.specs.declared.steps.Told.{Told}
+use Rattle.rustc_literal_escaper.specs.Grammar.{Item, is_newline, is_passed_over}
+use Rattle.rustc_literal_escaper.specs.means.Escape.{escape, front_run, past_run}
+
+-- one step of reading a text: the elements that it reports, each with the text that is left after the characters of
+-- that element, and the text that is left after the step
+pub record Front : Type 0 where
+  pub told : List (Element × List ℕ)
+  pub left : List ℕ
+
+-- a step that reports one element
+abbrev pub one : Element × List ℕ → Front
+one read = record { told = read ∷ []; left = read.1 }
+
+abbrev pub begins_line : List ℕ → Bool
+begins_line [] = false
+begins_line (c ∷ s) = is_newline c
+
+-- a warning if more than one line end is skipped. It covers everything that is skipped
+abbrev pub more_lines : List ℕ → List ℕ → List (Element × List ℕ)
+more_lines passed left = if list_any is_newline passed then (Fault MultipleSkippedLinesWarning, left) ∷ [] else []
+
+-- a warning if other white space follows what is skipped. It covers the first character of that too
+abbrev pub more_space : List ℕ → List (Element × List ℕ)
+more_space [] = []
+more_space (c ∷ s) = if is_whitespace c then (Fault UnskippedWhitespaceWarning, s) ∷ [] else []
+
+-- the step after a backslash and a newline
+abbrev pub line_end : List ℕ → Front
+line_end s = record {
+  told = more_lines (front_run is_passed_over s) (past_run is_passed_over s) ++ more_space (past_run is_passed_over s);
+  left = past_run is_passed_over s;
+}
+
+-- the step after a backslash
+abbrev pub past_backslash : List ℕ → Front
+past_backslash [] = one (escape [])
+past_backslash (c ∷ s) = if is_newline c then line_end s else one (escape (c ∷ s))
+
+-- an unescaped character. A double quote or a carriage return is an error, since it has to be escaped
+abbrev pub unescaped : ℕ → Element
+unescaped c =
+    if c == byte "\"" then Fault EscapeOnlyChar else
+    if c == 13 then Fault BareCarriageReturn else
+    Plain c
+
+-- the step that reads the character `c` before `s`
+unfoldable pub front : ℕ → List ℕ → Front
+front c s = if c == byte "\\" then past_backslash s else one (unescaped c, s)
+
+-- a step in a raw string: each character stands for itself, but a carriage return is an error
+abbrev pub raw_element : ℕ → Element
+raw_element c = if c == 13 then Fault BareCarriageReturnInRawString else Plain c
+
+unfoldable pub raw_front : ℕ → List ℕ → Front
+raw_front c s = one (raw_element c, s)
+
+abbrev pub front_by : Bool → ℕ → List ℕ → Front
+front_by true = raw_front
+front_by false = front
+
+-- a list that is not empty begins with this element, without a warning, and `left` is the text after it
+abbrev pub StartsWithOne : Bool → List ℕ → Element → List ℕ → Type 0
+StartsWithOne raw [] element left = ⊥
+StartsWithOne raw (c ∷ s) element left = front_by raw c s ≡ one (element, left)
+
+-- the offset of the rest `left` in a text of `total` bytes
+abbrev pub place : ℕ → List ℕ → ℕ
+place total left = total - length (encode_utf8_all left)
+
+abbrev pub item_at : ℕ → ℕ → Element × List ℕ → Item
+item_at total start told = (record { start = start; end = place total told.1 }, told.0)
+
+-- the items of the rest of a text of `total` bytes, in at most `count` steps
+abbrev pub items_in : (ℕ → List ℕ → Front) → ℕ → ℕ → List ℕ → List Item
+items_in at zero total s = []
+items_in at (suc count) total [] = []
+items_in at (suc count) total (c ∷ s) = map (item_at total (place total (c ∷ s))) (at c s).told ++ items_in at count total (at c s).left
+
+-- all items: a text has at most as many steps as characters, since each step takes at least one
+unfoldable pub items_from : (ℕ → List ℕ → Front) → ℕ → List ℕ → List Item
+items_from at total s = items_in at (length s) total s
+
+-- the items that a step of the code reports, in order
+abbrev pub told_by : Told → List Item
+told_by told = option_to_list told.first ++ option_to_list told.second
