@@ -1,5 +1,5 @@
 -- The error of a token, and the sentence that describes it.
-use Rattle.std.specs.Prelude.{ℕ, ◌-◌, ◌==◌, Bool, true, false, ◌&&◌, nat_lt, if◌then◌else◌, List, ◌++◌, codes, decimal, drop, Option, Some, None, Result, Ok, Err}
+use Rattle.std.specs.Prelude.{ℕ, ◌-◌, ◌==◌, Bool, true, false, ◌&&◌, nat_lt, if◌then◌else◌, List, [], ◌++◌, codes, decimal, drop, get_or, map, Option, Some, None, Result, Ok, Err}
 use Rattle.std.specs.Str.{byte, chars}
 use Rattle.rustc_lexer.specs.declared.token.LiteralKind.{LiteralKind}
 use Rattle.rustc_lexer.specs.declared.token.LiteralKind.TheVariants.{Int, Float, Char, Byte, Str, ByteStr, CStr, RawStr, RawByteStr, RawCStr}
@@ -11,8 +11,9 @@ use Rattle.rustc_lexer.specs.Answers.{raw_check}
 use Rattle.rustc_lexer.specs.Classes.{next_is}
 use Rattle.marks.specs.declared.fault.Fault.{Fault}
 use Rattle.marks.specs.declared.fault.Fault.TheVariants.{OpenComment, FrontmatterSpace, FrontmatterInfostring, InvalidName, UnknownPrefix, UnknownLifetimePrefix, GuardedString, InvalidLifetime, UnknownCharacter, EmptyNumber, EmptyExponent, OpenCharacter, OpenByte, OpenString, RawStarter, OpenRawString, FewHashes, ManyHashes, InLiteral}
+use Rattle.marks.specs.declared.fault.TheConstants.{ERRORS, OPEN_COMMENT, FRONTMATTER_SPACE, FRONTMATTER_INFOSTRING, INVALID_NAME, UNKNOWN_PREFIX, UNKNOWN_LIFETIME_PREFIX, GUARDED_STRING, INVALID_LIFETIME, UNKNOWN_CHARACTER, EMPTY_NUMBER, EMPTY_EXPONENT, OPEN_CHARACTER, OPEN_BYTE, OPEN_STRING, RAW_STARTER}
 use Rattle.rustc_literal_escaper.specs.declared.error.EscapeError.{EscapeError}
-use Rattle.rustc_literal_escaper.specs.declared.error.EscapeError.TheVariants.{ZeroChars, MoreThanOneChar, LoneSlash, InvalidEscape, BareCarriageReturn, BareCarriageReturnInRawString, EscapeOnlyChar, TooShortHexEscape, InvalidCharInHexEscape, OutOfRangeHexEscape, NoBraceInUnicodeEscape, InvalidCharInUnicodeEscape, EmptyUnicodeEscape, UnclosedUnicodeEscape, LeadingUnderscoreUnicodeEscape, OverlongUnicodeEscape, LoneSurrogateUnicodeEscape, OutOfRangeUnicodeEscape, UnicodeEscapeInByte, NonAsciiCharInByte, NulInCStr, UnskippedWhitespaceWarning, MultipleSkippedLinesWarning}
+use Rattle.rustc_literal_escaper.specs.Numbers.{error_number}
 
 -- the error for a reader, by the reason why a raw string is refused
 abbrev pub refusal : RawStrError → Fault
@@ -61,46 +62,24 @@ fault_of kind text = None
 
 -- the sentence for an error between the quotes of a literal
 abbrev pub error_sentence : EscapeError → List ℕ
-error_sentence ZeroChars = codes "nothing is between these quotes: one character goes there"
-error_sentence MoreThanOneChar = codes "more than one character is between these quotes"
-error_sentence LoneSlash = codes "nothing follows this backslash, which begins an escape"
-error_sentence InvalidEscape = codes "there is no such escape: a backslash itself is written twice"
-error_sentence BareCarriageReturn = codes "a carriage return cannot stand here itself: it is written as \\r"
-error_sentence BareCarriageReturnInRawString = codes "a raw string cannot hold a carriage return"
-error_sentence EscapeOnlyChar = codes "this character cannot stand here itself: it is written as an escape"
-error_sentence TooShortHexEscape = codes "this escape ends too early: \\x takes two hexadecimal digits"
-error_sentence InvalidCharInHexEscape = codes "this is no hexadecimal digit: \\x takes two of them"
-error_sentence OutOfRangeHexEscape = codes "this escape is out of range: here \\x goes up to 7f"
-error_sentence NoBraceInUnicodeEscape = codes "no brace follows here: \\u takes its digits in braces"
-error_sentence InvalidCharInUnicodeEscape = codes "this is neither a hexadecimal digit nor an underscore nor a closing brace"
-error_sentence EmptyUnicodeEscape = codes "no digit is between these braces: \\u takes one to six"
-error_sentence UnclosedUnicodeEscape = codes "nothing closes this escape: a brace would"
-error_sentence LeadingUnderscoreUnicodeEscape = codes "an underscore is the first here: \\u takes a digit first"
-error_sentence OverlongUnicodeEscape = codes "too many digits are between these braces: \\u takes six at most"
-error_sentence LoneSurrogateUnicodeEscape = codes "this is the number of a surrogate, which is no character"
-error_sentence OutOfRangeUnicodeEscape = codes "no character has so great a number: the greatest is 10ffff"
-error_sentence UnicodeEscapeInByte = codes "no byte is written like this: \\x writes one"
-error_sentence NonAsciiCharInByte = codes "this character is not in ASCII, and so is no byte"
-error_sentence NulInCStr = codes "a C string cannot hold a NUL, which ends it"
-error_sentence UnskippedWhitespaceWarning = codes "not all white space after this line end is skipped: spaces, tabs and line ends are"
-error_sentence MultipleSkippedLinesWarning = codes "more than one line end is skipped here"
+error_sentence error = get_or (map (λ words. words.now) ERRORS) (error_number error - 1) []
 
 unfoldable pub sentence : Fault → List ℕ
-sentence OpenComment = codes "nothing closes this comment"
-sentence FrontmatterSpace = codes "white space comes before this frontmatter, which begins its line"
-sentence FrontmatterInfostring = codes "the first line of this frontmatter holds more than a name"
-sentence InvalidName = codes "this name holds an emoji"
-sentence UnknownPrefix = codes "no literal has this prefix"
-sentence UnknownLifetimePrefix = codes "no lifetime has this prefix"
-sentence GuardedString = codes "these marks are reserved for strings to come"
-sentence InvalidLifetime = codes "this lifetime begins with a digit or holds an emoji"
-sentence UnknownCharacter = codes "no token begins with this character"
-sentence EmptyNumber = codes "this number has no digits"
-sentence EmptyExponent = codes "the exponent has no digits"
-sentence OpenCharacter = codes "nothing closes this character"
-sentence OpenByte = codes "nothing closes this byte"
-sentence OpenString = codes "nothing closes this string"
-sentence RawStarter = codes "no quote follows: a raw string begins with hashes and a quote"
+sentence OpenComment = OPEN_COMMENT.now
+sentence FrontmatterSpace = FRONTMATTER_SPACE.now
+sentence FrontmatterInfostring = FRONTMATTER_INFOSTRING.now
+sentence InvalidName = INVALID_NAME.now
+sentence UnknownPrefix = UNKNOWN_PREFIX.now
+sentence UnknownLifetimePrefix = UNKNOWN_LIFETIME_PREFIX.now
+sentence GuardedString = GUARDED_STRING.now
+sentence InvalidLifetime = INVALID_LIFETIME.now
+sentence UnknownCharacter = UNKNOWN_CHARACTER.now
+sentence EmptyNumber = EMPTY_NUMBER.now
+sentence EmptyExponent = EMPTY_EXPONENT.now
+sentence OpenCharacter = OPEN_CHARACTER.now
+sentence OpenByte = OPEN_BYTE.now
+sentence OpenString = OPEN_STRING.now
+sentence RawStarter = RAW_STARTER.now
 sentence (OpenRawString expected) = codes "nothing closes this raw string: a quote and " ++ (decimal expected ++ codes " # would")
 sentence (FewHashes expected found end) =
     codes "a quote and " ++ (decimal expected ++ (codes " # would close this raw string; at byte " ++ (decimal end ++ (codes " it has " ++ decimal found))))

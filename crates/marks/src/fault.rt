@@ -136,47 +136,68 @@ fn raw_fault(text: &str, prefix_len: u32) -> Option<Fault>
     }
 }
 
+const OPEN_COMMENT: &str = "nothing closes this comment";
+
+const FRONTMATTER_SPACE: &str = "white space comes before this frontmatter, which begins its line";
+
+const FRONTMATTER_INFOSTRING: &str = "the first line of this frontmatter holds more than a name";
+
+const INVALID_NAME: &str = "this name holds an emoji";
+
+const UNKNOWN_PREFIX: &str = "no literal has this prefix";
+
+const UNKNOWN_LIFETIME_PREFIX: &str = "no lifetime has this prefix";
+
+const GUARDED_STRING: &str = "these marks are reserved for strings to come";
+
+const INVALID_LIFETIME: &str = "this lifetime begins with a digit or holds an emoji";
+
+const UNKNOWN_CHARACTER: &str = "no token begins with this character";
+
+const EMPTY_NUMBER: &str = "this number has no digits";
+
+const EMPTY_EXPONENT: &str = "the exponent has no digits";
+
+const OPEN_CHARACTER: &str = "nothing closes this character";
+
+const OPEN_BYTE: &str = "nothing closes this byte";
+
+const OPEN_STRING: &str = "nothing closes this string";
+
+const RAW_STARTER: &str = "no quote follows: a raw string begins with hashes and a quote";
+
+/// What is said of each error between the quotes of a literal, in the order of `EscapeError`.
+const ERRORS: [&str; 23] = [
+    "nothing is between these quotes: one character goes there",
+    "more than one character is between these quotes",
+    "nothing follows this backslash, which begins an escape",
+    "there is no such escape: a backslash itself is written twice",
+    "a carriage return cannot stand here itself: it is written as \\r",
+    "a raw string cannot hold a carriage return",
+    "this character cannot stand here itself: it is written as an escape",
+    "this escape ends too early: \\x takes two hexadecimal digits",
+    "this is no hexadecimal digit: \\x takes two of them",
+    "this escape is out of range: here \\x goes up to 7f",
+    "no brace follows here: \\u takes its digits in braces",
+    "this is neither a hexadecimal digit nor an underscore nor a closing brace",
+    "no digit is between these braces: \\u takes one to six",
+    "nothing closes this escape: a brace would",
+    "an underscore is the first here: \\u takes a digit first",
+    "too many digits are between these braces: \\u takes six at most",
+    "this is the number of a surrogate, which is no character",
+    "no character has so great a number: the greatest is 10ffff",
+    "no byte is written like this: \\x writes one",
+    "this character is not in ASCII, and so is no byte",
+    "a C string cannot hold a NUL, which ends it",
+    "not all white space after this line end is skipped: spaces, tabs and line ends are",
+    "more than one line end is skipped here",
+];
+
 /// Returns a sentence that says what is wrong between the quotes of a literal.
 fn error_sentence(error: EscapeError) -> &'static str
     ensures { result.now ≡ error_sentence error }
 {
-    match error {
-        EscapeError::ZeroChars => "nothing is between these quotes: one character goes there",
-        EscapeError::MoreThanOneChar => "more than one character is between these quotes",
-        EscapeError::LoneSlash => "nothing follows this backslash, which begins an escape",
-        EscapeError::InvalidEscape =>
-            "there is no such escape: a backslash itself is written twice",
-        EscapeError::BareCarriageReturn =>
-            "a carriage return cannot stand here itself: it is written as \\r",
-        EscapeError::BareCarriageReturnInRawString => "a raw string cannot hold a carriage return",
-        EscapeError::EscapeOnlyChar =>
-            "this character cannot stand here itself: it is written as an escape",
-        EscapeError::TooShortHexEscape =>
-            "this escape ends too early: \\x takes two hexadecimal digits",
-        EscapeError::InvalidCharInHexEscape =>
-            "this is no hexadecimal digit: \\x takes two of them",
-        EscapeError::OutOfRangeHexEscape => "this escape is out of range: here \\x goes up to 7f",
-        EscapeError::NoBraceInUnicodeEscape =>
-            "no brace follows here: \\u takes its digits in braces",
-        EscapeError::InvalidCharInUnicodeEscape =>
-            "this is neither a hexadecimal digit nor an underscore nor a closing brace",
-        EscapeError::EmptyUnicodeEscape => "no digit is between these braces: \\u takes one to six",
-        EscapeError::UnclosedUnicodeEscape => "nothing closes this escape: a brace would",
-        EscapeError::LeadingUnderscoreUnicodeEscape =>
-            "an underscore is the first here: \\u takes a digit first",
-        EscapeError::OverlongUnicodeEscape =>
-            "too many digits are between these braces: \\u takes six at most",
-        EscapeError::LoneSurrogateUnicodeEscape =>
-            "this is the number of a surrogate, which is no character",
-        EscapeError::OutOfRangeUnicodeEscape =>
-            "no character has so great a number: the greatest is 10ffff",
-        EscapeError::UnicodeEscapeInByte => "no byte is written like this: \\x writes one",
-        EscapeError::NonAsciiCharInByte => "this character is not in ASCII, and so is no byte",
-        EscapeError::NulInCStr => "a C string cannot hold a NUL, which ends it",
-        EscapeError::UnskippedWhitespaceWarning =>
-            "not all white space after this line end is skipped: spaces, tabs and line ends are",
-        EscapeError::MultipleSkippedLinesWarning => "more than one line end is skipped here",
-    }
+    ERRORS[error as usize]
 }
 
 impl fmt::Display for Fault {
@@ -185,29 +206,22 @@ impl fmt::Display for Fault {
     #[tactic(auto, unfolding(crate::specs::Fault::sentence))]
     fn fmt<W: fmt::Write>(&self, f: &mut fmt::Formatter<W>) -> fmt::Result {
         match self {
-            Fault::OpenComment => f.write_str("nothing closes this comment"),
-            Fault::FrontmatterSpace => f.write_str(
-                "white space comes before this frontmatter, which begins its line",
-            ),
-            Fault::FrontmatterInfostring => {
-                f.write_str("the first line of this frontmatter holds more than a name")
-            }
-            Fault::InvalidName => f.write_str("this name holds an emoji"),
-            Fault::UnknownPrefix => f.write_str("no literal has this prefix"),
-            Fault::UnknownLifetimePrefix => f.write_str("no lifetime has this prefix"),
-            Fault::GuardedString => f.write_str("these marks are reserved for strings to come"),
-            Fault::InvalidLifetime => f.write_str(
-                "this lifetime begins with a digit or holds an emoji",
-            ),
-            Fault::UnknownCharacter => f.write_str("no token begins with this character"),
-            Fault::EmptyNumber => f.write_str("this number has no digits"),
-            Fault::EmptyExponent => f.write_str("the exponent has no digits"),
-            Fault::OpenCharacter => f.write_str("nothing closes this character"),
-            Fault::OpenByte => f.write_str("nothing closes this byte"),
-            Fault::OpenString => f.write_str("nothing closes this string"),
-            Fault::RawStarter => f.write_str(
-                "no quote follows: a raw string begins with hashes and a quote",
-            ),
+            Fault::OpenComment => f.write_str(OPEN_COMMENT),
+            Fault::FrontmatterSpace => f.write_str(FRONTMATTER_SPACE),
+            Fault::FrontmatterInfostring => f.write_str(FRONTMATTER_INFOSTRING),
+            Fault::InvalidName => f.write_str(INVALID_NAME),
+            Fault::UnknownPrefix => f.write_str(UNKNOWN_PREFIX),
+            Fault::UnknownLifetimePrefix => f.write_str(UNKNOWN_LIFETIME_PREFIX),
+            Fault::GuardedString => f.write_str(GUARDED_STRING),
+            Fault::InvalidLifetime => f.write_str(INVALID_LIFETIME),
+            Fault::UnknownCharacter => f.write_str(UNKNOWN_CHARACTER),
+            Fault::EmptyNumber => f.write_str(EMPTY_NUMBER),
+            Fault::EmptyExponent => f.write_str(EMPTY_EXPONENT),
+            Fault::OpenCharacter => f.write_str(OPEN_CHARACTER),
+            Fault::OpenByte => f.write_str(OPEN_BYTE),
+            Fault::OpenString => f.write_str(OPEN_STRING),
+            Fault::RawStarter => f.write_str(RAW_STARTER),
+            Fault::InLiteral(error) => f.write_str(error_sentence(*error)),
             Fault::OpenRawString { expected } => write!(
                 f,
                 "nothing closes this raw string: a quote and {expected} # would"
@@ -224,7 +238,6 @@ impl fmt::Display for Fault {
                 f,
                 "a raw string has at most 255 hashes on each side, and this one {found}"
             ),
-            Fault::InLiteral(error) => f.write_str(error_sentence(*error)),
         }
     }
 }

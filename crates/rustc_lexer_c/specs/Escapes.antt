@@ -4,7 +4,7 @@ use Rattle.std.specs.Option.{IsSomeAnd}
 use Rattle.std.specs.Str.{chars}
 use Rattle.std.specs.declared.ops.Range.{Range}
 use Rattle.rustc_literal_escaper.specs.declared.error.EscapeError.{EscapeError}
-use Rattle.rustc_literal_escaper.specs.declared.error.EscapeError.TheVariants.{ZeroChars, MoreThanOneChar, LoneSlash, InvalidEscape, BareCarriageReturn, BareCarriageReturnInRawString, EscapeOnlyChar, TooShortHexEscape, InvalidCharInHexEscape, OutOfRangeHexEscape, NoBraceInUnicodeEscape, InvalidCharInUnicodeEscape, EmptyUnicodeEscape, UnclosedUnicodeEscape, LeadingUnderscoreUnicodeEscape, OverlongUnicodeEscape, LoneSurrogateUnicodeEscape, OutOfRangeUnicodeEscape, UnicodeEscapeInByte, NonAsciiCharInByte, NulInCStr, UnskippedWhitespaceWarning, MultipleSkippedLinesWarning}
+use Rattle.rustc_literal_escaper.specs.declared.error.EscapeError.TheVariants.{UnskippedWhitespaceWarning, MultipleSkippedLinesWarning}
 use Rattle.rustc_literal_escaper.specs.declared.mode.Mode.{Mode}
 use Rattle.rustc_literal_escaper.specs.declared.mode.Mode.TheVariants.{Char, Byte, Str, RawStr, ByteStr, RawByteStr, CStr, RawCStr}
 use Rattle.rustc_literal_escaper.specs.declared.unit.MixedUnit.{MixedUnit}
@@ -12,6 +12,7 @@ use Rattle.rustc_literal_escaper.specs.declared.unit.MixedUnit.TheVariants.{Char
 use Rattle.rustc_literal_escaper.specs.Grammar.{Error, Item}
 use Rattle.rustc_literal_escaper.specs.Answers.{byte_literal, char_literal, errors_of, items_of}
 use Rattle.rustc_literal_escaper.specs.Meaning.{byte_of, char_of, is_raw, is_single, raw_unit_of, unit_of}
+pub use Rattle.rustc_literal_escaper.specs.Numbers.{error_number}
 use Rattle.rustc_lexer_c.specs.declared.escapes.CUnit.{CUnit}
 use Rattle.rustc_lexer_c.specs.declared.escapes.Listing.{Listing}
 use Rattle.rustc_lexer_c.specs.declared.escapes.Listing.TheVariants.{Units, Errors}
@@ -29,32 +30,6 @@ mode_of number =
     else if nat_eq number 9 then Some RawByteStr
     else if nat_eq number 10 then Some RawCStr
     else None
-
--- the numbers of errors. They never change: a new error gets a new number
-abbrev pub error_number : EscapeError → ℕ
-error_number ZeroChars = 1
-error_number MoreThanOneChar = 2
-error_number LoneSlash = 3
-error_number InvalidEscape = 4
-error_number BareCarriageReturn = 5
-error_number BareCarriageReturnInRawString = 6
-error_number EscapeOnlyChar = 7
-error_number TooShortHexEscape = 8
-error_number InvalidCharInHexEscape = 9
-error_number OutOfRangeHexEscape = 10
-error_number NoBraceInUnicodeEscape = 11
-error_number InvalidCharInUnicodeEscape = 12
-error_number EmptyUnicodeEscape = 13
-error_number UnclosedUnicodeEscape = 14
-error_number LeadingUnderscoreUnicodeEscape = 15
-error_number OverlongUnicodeEscape = 16
-error_number LoneSurrogateUnicodeEscape = 17
-error_number OutOfRangeUnicodeEscape = 18
-error_number UnicodeEscapeInByte = 19
-error_number NonAsciiCharInByte = 20
-error_number NulInCStr = 21
-error_number UnskippedWhitespaceWarning = 22
-error_number MultipleSkippedLinesWarning = 23
 
 -- 3 for an error, 4 for a warning
 abbrev pub wrong_kind : EscapeError → ℕ

@@ -1,0 +1,30 @@
+-- The numbers of errors, for other languages and for tables.
+use Rattle.std.specs.Prelude.{ℕ}
+use Rattle.rustc_literal_escaper.specs.declared.error.EscapeError.{EscapeError}
+use Rattle.rustc_literal_escaper.specs.declared.error.EscapeError.TheVariants.{ZeroChars, MoreThanOneChar, LoneSlash, InvalidEscape, BareCarriageReturn, BareCarriageReturnInRawString, EscapeOnlyChar, TooShortHexEscape, InvalidCharInHexEscape, OutOfRangeHexEscape, NoBraceInUnicodeEscape, InvalidCharInUnicodeEscape, EmptyUnicodeEscape, UnclosedUnicodeEscape, LeadingUnderscoreUnicodeEscape, OverlongUnicodeEscape, LoneSurrogateUnicodeEscape, OutOfRangeUnicodeEscape, UnicodeEscapeInByte, NonAsciiCharInByte, NulInCStr, UnskippedWhitespaceWarning, MultipleSkippedLinesWarning}
+
+-- errors are numbered in order, from 1 on. A number never changes: a new error gets a new one
+abbrev pub error_number : EscapeError → ℕ
+error_number ZeroChars = 1
+error_number MoreThanOneChar = 2
+error_number LoneSlash = 3
+error_number InvalidEscape = 4
+error_number BareCarriageReturn = 5
+error_number BareCarriageReturnInRawString = 6
+error_number EscapeOnlyChar = 7
+error_number TooShortHexEscape = 8
+error_number InvalidCharInHexEscape = 9
+error_number OutOfRangeHexEscape = 10
+error_number NoBraceInUnicodeEscape = 11
+error_number InvalidCharInUnicodeEscape = 12
+error_number EmptyUnicodeEscape = 13
+error_number UnclosedUnicodeEscape = 14
+error_number LeadingUnderscoreUnicodeEscape = 15
+error_number OverlongUnicodeEscape = 16
+error_number LoneSurrogateUnicodeEscape = 17
+error_number OutOfRangeUnicodeEscape = 18
+error_number UnicodeEscapeInByte = 19
+error_number NonAsciiCharInByte = 20
+error_number NulInCStr = 21
+error_number UnskippedWhitespaceWarning = 22
+error_number MultipleSkippedLinesWarning = 23
