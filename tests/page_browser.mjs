@@ -10,7 +10,6 @@ import { existsSync, mkdtempSync, readFileSync, rmSync, writeFileSync } from 'no
 import { tmpdir } from 'node:os';
 import { join } from 'node:path';
 import { pathToFileURL } from 'node:url';
-import { smaller } from './page_picture.mjs';
 
 const [page, task, ...words] = process.argv.slice(2);
 // The check of the page takes a minute or two. Nothing takes longer.
@@ -421,7 +420,7 @@ const tasks = {
     const shoot = async (name, width, height) => {
       await value('new Promise((done) => setTimeout(done, 300))');
       const { data } = await tell('Page.captureScreenshot', { format: 'png', clip: { x: 0, y: 0, width, height, scale: 1 } });
-      writeFileSync(join(folder, name), smaller(Buffer.from(data, 'base64')));
+      writeFileSync(join(folder, name), Buffer.from(data, 'base64'));
       console.log(`page: ${join(folder, name)}`);
     };
     const size = async (width, height, scheme) => {

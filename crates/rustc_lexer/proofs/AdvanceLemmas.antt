@@ -11,7 +11,7 @@ use Rattle.rustc_lexer.specs.State.{State, kind_past, token_past, HasSuffixWithi
 use Rattle.rustc_lexer.specs.means.Taking.{IsCursor, token_at, take_next}
 use Rattle.rustc_lexer.specs.Classes.{IsText}
 use Rattle.rustc_lexer.specs.Tokens.{tokens_left, tokens_of, HasSuffix, TakesFirst, TakesToken}
-use Rattle.rustc_lexer.specs.laws.State.{state, past_token, advance-end, advance-some, token_past-zero}
+use Rattle.rustc_lexer.specs.laws.State.{state, past_token, edition-after, advance-end, advance-some, token_past-zero}
 use Rattle.rustc_lexer.proofs.TextLemmas.{suffixes, token_at-not_end}
 use Rattle.rustc_lexer.specs.laws.Tokens.{tokens-cons}
 
@@ -105,7 +105,6 @@ module _ (pending : ℕ) (tokens : State) (is : IsCursor pending tokens) (s : St
         taken = taken;
         takes = takes_alone;
         with_pending = refl;
-        alone = λ none. ap (λ n. token_past n taken) none ∙ token_past-zero taken;
         none_pending = refl;
       };
     }
@@ -128,7 +127,7 @@ module _ (pending : ℕ) (tokens : State) (is : IsCursor pending tokens) (s : St
         let fits = is.fits in
         record {
           alone = ap (λ (x : State). x.pending) next_is;
-          newest = takes.edition ∙ is.newest;
+          newest = ap mode_edition takes.mode ∙ (edition-after tokens.mode taken.kind ∙ is.newest);
           text = record { utf8 = subst IsUtf8 (sym takes.rest) (IsUtf8-drop tokens.rest taken.len is.text.utf8 takes.boundary); fits = omega (arith, cut, shorter, fits) };
           fits = omega (arith, cut, shorter, fits, few);
         }

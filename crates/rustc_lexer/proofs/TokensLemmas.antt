@@ -16,7 +16,7 @@ use Rattle.rustc_lexer.specs.means.Edition.{first_token_in}
 use Rattle.rustc_lexer.specs.State.{State, token_past}
 use Rattle.rustc_lexer.specs.means.Taking.{token_at}
 use Rattle.rustc_lexer.specs.laws.Cuts.{at_bound}
-use Rattle.rustc_lexer.specs.laws.State.{state, past_token, past_token-is, edition-after, advance-some, token_past-zero}
+use Rattle.rustc_lexer.specs.laws.State.{state, past_token, past_token-is, advance-some, token_past-zero}
 use Rattle.rustc_lexer.specs.Classes.{IsText}
 
 pub restarts : (edition : Edition) (text : List ℕ) → IsText text → RestartsAtBounds edition text
@@ -43,7 +43,6 @@ takes_first s t token none is some e f =
         boundary = IsCharBoundary-from_take s.rest first.len is.utf8 cuts.inside cuts.front;
         rest = refl;
         mode = refl;
-        edition = edition-after s.mode first.kind;
       };
       pending = refl;
     }

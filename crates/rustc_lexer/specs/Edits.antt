@@ -174,10 +174,6 @@ YieldsPiece s (Some piece) t =
 
 -- ---- from an offset to a token
 
--- a boundary of the tokens, by its number and its offset, if the first of them begins at `first`
-abbrev pub IsBoundFrom : ℕ → List Token → Bound → Type 0
-IsBoundFrom first tokens at = (at.number ≤ length tokens) × (at.place ≡ first + bound tokens at.number)
-
 -- the token with this number and this start contains the byte at `offset`, if the first token begins at `first`
 pub record ContainsByte (first : ℕ) (tokens : List Token) (offset : ℕ) (at : Bound) : Type 0 where
   pub number : at.number < length tokens

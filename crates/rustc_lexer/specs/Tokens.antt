@@ -4,7 +4,7 @@ use Rattle.rustc_lexer.specs.{Edition, FrontmatterAllowed, LiteralKind, Token, T
 pub use Rattle.rustc_lexer.specs.Answers.{advance, raw_check, tokens_of}
 use Rattle.rustc_lexer.specs.Classes.{is_ident}
 use Rattle.rustc_lexer.specs.LanguageCalls.{StartsRaw}
-use Rattle.rustc_lexer.specs.LanguageText.{part, mode_in, mode_edition, mode_after}
+use Rattle.rustc_lexer.specs.LanguageText.{part, mode_in, mode_after}
 pub use Rattle.rustc_lexer.specs.Partition.{cut_by, tokens_by, bound, Partitions}
 use Rattle.rustc_lexer.specs.State.{State, token_past, HasSuffixWithin}
 
@@ -19,7 +19,7 @@ RestartsAtBounds edition text =
     (k : ℕ) → k ≤ length tokens → tokens_of (part edition) (drop (bound tokens k) text) ≡ drop k tokens
 
 -- with nothing pending, the token is the first of those that are left, and `advance` says which state follows. The
--- token is not empty, ends between characters and is removed from the text, and the edition stays
+-- token is not empty, ends between characters and is removed from the text
 pub record TakesToken (s : State) (token : Token) (t : State) : Type 0 where
   pub first : tokens_left s ≡ token ∷ tokens_left t
   pub advances : advance s ≡ (token, t)
@@ -27,7 +27,6 @@ pub record TakesToken (s : State) (token : Token) (t : State) : Type 0 where
   pub boundary : IsCharBoundary s.rest token.len
   pub rest : t.rest ≡ drop token.len s.rest
   pub mode : t.mode ≡ mode_after s.mode token.kind
-  pub edition : mode_edition t.mode ≡ mode_edition s.mode
 
 -- what `next` does. If no token is left, it returns None and changes nothing. Otherwise it takes one
 abbrev pub YieldsToken : State → Option Token → State → Type 0
@@ -40,7 +39,6 @@ pub record TakesFirst (s : State) (token : Token) (t : State) : Type 0 where
   pub taken : Token
   pub takes : TakesToken (record s { pending = 0 }) taken t
   pub with_pending : token ≡ token_past s.pending taken
-  pub alone : s.pending ≡ 0 → token ≡ taken
   pub none_pending : t.pending ≡ 0
 
 -- the text may be passed to the check of raw strings, which accepts it exactly if the number of hashes is Some
@@ -84,12 +82,11 @@ EndsFaulty kind len = Unit {0}
 abbrev pub HasSuffix : Token → Type 0
 HasSuffix token = HasSuffixWithin token × EndsFaulty token.kind token.len
 
--- an iterator at the start of a text, which it reads as a document or as a part in an edition. Its tokens are those of
--- the text. They partition the text; a part can be lexed again from each token boundary; and the suffix and the text of
--- each token are as its kind says
+-- an iterator at the start of a text, which it reads as a document or as a part in an edition. Its tokens, those of the
+-- text, partition it; a part can be lexed again from each token boundary; and the suffix and the text of each token are
+-- as its kind says
 pub record ReadsAs (allowed : FrontmatterAllowed) (edition : Edition) (text : List ℕ) (at : State) : Type 0 where
   pub state : at ≡ record { pending = 0; rest = text; mode = mode_in allowed edition }
-  pub tokens : tokens_left at ≡ tokens_of (mode_in allowed edition) text
   pub partitions : Partitions text (tokens_of (mode_in allowed edition) text)
   pub restarts : RestartsAtBounds edition text
   pub suffixes : All HasSuffix (tokens_of (mode_in allowed edition) text)

@@ -1,11 +1,16 @@
 -- Means, by how it is read: bounds of a list of tokens that are remembered, and what becomes of them in an edit.
-use Rattle.std.specs.Prelude.{◌≡◌, ◌+◌, ◌<◌, ◌≤◌, ◌^◌, List, take, drop}
+use Rattle.std.specs.Prelude.{◌≡◌, ◌+◌, ◌<◌, ◌≤◌, ◌^◌, ℕ, List, length, take, drop}
 use Rattle.std.specs.List.{All}
 use Rattle.rustc_lexer.specs.declared.relex.front.Bound.{Bound}
 use Rattle.rustc_lexer.specs.declared.relex.checkpoints.Checkpoints.{Checkpoints}
 use Rattle.rustc_lexer.specs.{Token}
 use Rattle.rustc_lexer.specs.declared.relex.relexing.Relexing.{Relexing}
 use Rattle.rustc_lexer.specs.Edits.{IsBound, known}
+use Rattle.rustc_lexer.specs.Partition.{bound}
+
+-- a boundary of the tokens, by its number and its offset, if the first of them begins at `first`
+abbrev pub IsBoundFrom : ℕ → List Token → Bound → Type 0
+IsBoundFrom first tokens at = (at.number ≤ length tokens) × (at.place ≡ first + bound tokens at.number)
 
 -- all of them are bounds of the tokens
 abbrev pub AreBounds : List Token → Checkpoints → Type 0

@@ -6,8 +6,8 @@ ghost use Rattle.rustc_lexer.specs.declared.relex.relexing.Relexed.{Relexed};
 ghost use Rattle.rustc_lexer.specs.Classes.{Fits};
 ghost use Rattle.rustc_lexer.specs.means.Document as means;
 ghost use Rattle.rustc_lexer.specs.Tokens.{bound, tokens_by};
-ghost use Rattle.rustc_lexer.specs.Edits.{AreTouched, ContainsByte, IsBoundFrom, IsEdit, IsRelexed, IsStepped, apply};
-ghost use Rattle.rustc_lexer.specs.means.Checkpoints.{AreBounds};
+ghost use Rattle.rustc_lexer.specs.Edits.{AreTouched, ContainsByte, IsEdit, IsRelexed, IsStepped, apply};
+ghost use Rattle.rustc_lexer.specs.means.Checkpoints.{AreBounds, IsBoundFrom};
 
 use crate::entry::stepper::Stepper;
 use crate::relex::checkpoints::Checkpoints;

@@ -15,7 +15,6 @@ returns c =
     let is : IsText c.args.text.now = record { utf8 = c.utf8.text; fits = c.requires.fits } in
     record {
       state = refl;
-      tokens = refl;
       partitions = partitions _ mode is;
       restarts = restarts c.args.edition _ is;
       suffixes = suffixes _ mode is;

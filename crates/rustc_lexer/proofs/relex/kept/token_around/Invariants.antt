@@ -1,5 +1,5 @@
 use Rattle.std.proofs.Common.{◌-◌, ◌≤◌, length}
-use Rattle.rustc_lexer.specs.Edits.{IsBoundFrom}
+use Rattle.rustc_lexer.specs.means.Checkpoints.{IsBoundFrom}
 use Rattle.rustc_lexer.proofs.relex.kept.token_around.Given as goal
 
 abbrev pub invariant-loop-back : goal.invariant-loop-back
