@@ -17,7 +17,7 @@ use Rattle.rustc_literal_escaper.specs.means.Elements.{front_by, items_from}
 use Rattle.rustc_literal_escaper.specs.Meaning.{error_of, errors_in}
 use Rattle.rustc_literal_escaper.specs.Items.{is_plain}
 use Rattle.rustc_literal_escaper.specs.means.Plain.{Passes}
-use Rattle.rustc_literal_escaper.proofs.PlainLemmas.{items-plain}
+use Rattle.rustc_literal_escaper.proofs.ItemLemmas.{items-plain}
 
 -- where nothing is wrong with them, the errors are those of what is left
 module _ (mode : Mode) (raw : Bool) (class : ℕ → Bool) (fine : (c : ℕ) → class c ≡ true → (is_plain raw c ≡ true) × (error_of mode (Plain c) ≡ None)) (total : ℕ) where
@@ -35,10 +35,6 @@ module _ (mode : Mode) (raw : Bool) (class : ℕ → Bool) (fine : (c : ℕ) →
 
   pub fewer-skip : (waiting : Option Item) (s left : List ℕ) → Passes class s left → length (option_to_list waiting ++ items_from (front_by raw) total left) ≤ length (option_to_list waiting ++ items_from (front_by raw) total s)
   fewer-skip waiting s left p = grind (arith, common_steps, fewer-past p.passed left p.all, p.whole)
-
--- nothing is wrong with a plain character, where no plain one is wrong
-pub plain-fine : (mode : Mode) (raw : Bool) → ((c : ℕ) → error_of mode (Plain c) ≡ None) → (c : ℕ) → is_plain raw c ≡ true → (is_plain raw c ≡ true) × (error_of mode (Plain c) ≡ None)
-plain-fine mode raw fine c e = (e, fine c)
 
 -- ---- a search of bytes finds the first character that is not plain
 
@@ -90,3 +86,17 @@ byte_plain c e = rw e refl
 
 pub byte3_plain : (c : ℕ) → is_byte3 92 34 13 c ≡ false → is_plain false c ≡ true
 byte3_plain c e = grind (arith, nat_tests)
+
+pub past_found_raw : (bs : List ℕ) (at : ℕ) → IsUtf8 bs → IsFirstByte (is_byte 13) bs (Some at) → Passes (is_plain true) (chars bs) (chars (drop at bs))
+past_found_raw = past-found true (is_byte 13) byte_small byte_plain
+
+pub past_none_raw : (bs : List ℕ) → IsUtf8 bs → IsFirstByte (is_byte 13) bs None → Passes (is_plain true) (chars bs) (chars [])
+past_none_raw = past-none true (is_byte 13) byte_small byte_plain
+
+pub past_found_escaped : (bs : List ℕ) (at : ℕ) → IsUtf8 bs → IsFirstByte (is_byte3 92 34 13) bs (Some at) → Passes (is_plain false) (chars bs) (chars (drop at bs))
+past_found_escaped = past-found false (is_byte3 92 34 13) byte3_small byte3_plain
+
+pub past_none_escaped : (bs : List ℕ) → IsUtf8 bs → IsFirstByte (is_byte3 92 34 13) bs None → Passes (is_plain false) (chars bs) (chars [])
+past_none_escaped = past-none false (is_byte3 92 34 13) byte3_small byte3_plain
+
+pub ruleset skip_lemmas = (past_found_raw, past_none_raw, past_found_escaped, past_none_escaped)

@@ -73,10 +73,7 @@ text-comes_back text is = stands_for char_of escape_default (λ c. c) (chars tex
 -- bytes, in a byte string and in a C string
 bytes-spelled : (bytes : List ℕ) → ((i : ℕ) → slice_index bytes i < 256) → AreSpelled byte_of escape_ascii (λ b. b) bytes
 bytes-spelled [] small = tt
-bytes-spelled (b ∷ bs) small = (
-  byte-spelled byte_of (λ n. n) b (small 0) refl (λ l. rw (lt-ltb b 128 (omega arith)) refl),
-  bytes-spelled bs (λ i. small (suc i)),
-)
+bytes-spelled (b ∷ bs) small = (byte-spelled byte_of (λ n. n) b (small 0) refl (λ l. rw (lt-ltb b 128 (omega arith)) refl), bytes-spelled bs (λ i. small (suc i)))
 
 pub bytes-come_back : (bytes : List ℕ) → ((i : ℕ) → slice_index bytes i < 256) → StandsFor byte_of (written_bytes bytes) bytes
 bytes-come_back bytes small = stands_for byte_of escape_ascii (λ b. b) bytes (bytes-spelled bytes small) ∙ ap (map Ok) (map-id bytes)

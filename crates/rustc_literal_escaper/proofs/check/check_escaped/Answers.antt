@@ -4,8 +4,7 @@ use Rattle.rustc_literal_escaper.specs.declared.element.Element.TheVariants.{Byt
 use Rattle.rustc_literal_escaper.specs.means.Elements.{Front, item_at}
 use Rattle.rustc_literal_escaper.specs.Grammar.{Error}
 use Rattle.rustc_literal_escaper.proofs.ErrorLemmas.{folds-errors}
-use Rattle.rustc_literal_escaper.proofs.ItemLemmas.{first-one, items-step}
-use Rattle.rustc_literal_escaper.proofs.PlainLemmas.{first-plain}
+use Rattle.rustc_literal_escaper.proofs.ItemLemmas.{first-one, items-step, first-plain}
 use Rattle.rustc_literal_escaper.proofs.check.check_escaped.Goals as goal
 
 pub items-preserved-then-is_plain : goal.items-preserved-then-is_plain

@@ -1,7 +1,7 @@
 use Rattle.std.proofs.Common.{◌≤◌, ℕ, List, length, subst}
 use Rattle.std.specs.List.{prefix_len}
 use Rattle.rustc_literal_escaper.specs.means.Plain.{is_simple}
-use Rattle.rustc_literal_escaper.proofs.SimpleLemmas.{cut-simple}
+use Rattle.rustc_literal_escaper.proofs.RunLemmas.{cut-simple}
 use Rattle.rustc_literal_escaper.proofs.simple.split_simple.Goals as goal
 
 pub range_from-requires : goal.range_from-requires
