@@ -13,10 +13,6 @@ use Rattle.rustc_literal_escaper.specs.laws.Elements.{items-cons, nothing, items
 use Rattle.rustc_literal_escaper.specs.means.Elements.{Front, StartsWithOne, front_by, item_at, items_from, one, front, place, raw_front, raw_element}
 use Rattle.rustc_literal_escaper.specs.declared.element.Element.TheVariants.{Plain}
 
--- what is left of a text has its own length
-pub item-is : (total start : ℕ) (e : Element) (left : List ℕ) → IsUtf8 left → (record { start = start; end = total - length left }, e) ≡ item_at total start (e, chars left)
-item-is total start e left is = ap (λ (n : ℕ). (record { start = start; end = total - n }, e)) (sym (ap length (encodes-chars left is)))
-
 module _ (raw : Bool) (total : ℕ) where
   abbrev at : ℕ → List ℕ → Front
   at = front_by raw

@@ -13,7 +13,6 @@ use Rattle.rustc_literal_escaper.specs.declared.error.EscapeError.TheVariants.{M
 use Rattle.rustc_literal_escaper.specs.Grammar.{Item, is_newline, is_passed_over}
 use Rattle.rustc_literal_escaper.specs.means.Elements.{begins_line, item_at, line_end, more_space}
 use Rattle.rustc_literal_escaper.specs.means.Escape.{front_run, past_run}
-use Rattle.rustc_literal_escaper.proofs.ItemLemmas.{item-is}
 
 -- whether a newline is among the white space ahead
 unfoldable pub newline_ahead : List ℕ → Bool
@@ -84,7 +83,7 @@ more_space-yes total start left tail c is e white = rw (e, white, encodes-chars 
 pub more_lines-yes : (total start : ℕ) (left : List ℕ) (newline : Bool) → IsUtf8 left → newline ≡ true
     → (record { start = start; end = total - length left }, Fault MultipleSkippedLinesWarning) ∷ []
     ≡ map (item_at total start) (if newline then (Fault MultipleSkippedLinesWarning, chars left) ∷ [] else [])
-more_lines-yes total start left newline is e = rw e (ap (λ (i : Item). i ∷ []) (item-is total start (Fault MultipleSkippedLinesWarning) left is))
+more_lines-yes total start left newline is e = rw (e, encodes-chars left is) refl
 
 -- the warnings past a line's end
 pub line_end-told : (total start : ℕ) (line left : List ℕ) (newline : Bool) (lines space : List Item)

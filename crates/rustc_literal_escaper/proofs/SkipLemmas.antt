@@ -44,31 +44,22 @@ module _ (raw : Bool) (test : ℕ → Bool) (small : (b : ℕ) → test b ≡ tr
 
   clear-chars : (cs : List ℕ) → Clear (encode_utf8_all cs) → list_all (is_plain raw) cs ≡ true
   clear-chars [] none = refl
-  clear-chars (c ∷ cs) none = rw (plain c (false_from_ne_true (test c) first)) (clear-chars cs (λ k l set. none (length (encode_utf8 c) + k)
+  clear-chars (c ∷ cs) none =
+      let first : test c ≡ true → ⊥ = λ set. subst (λ (xs : List ℕ). Clear (xs ++ encode_utf8_all cs)) (encode_ascii c (small c set)) none 0 (omega arith) set in
+      rw (plain c (false_from_ne_true (test c) first)) (clear-chars cs (λ k l set. none (length (encode_utf8 c) + k)
       (let n = length-append (encode_utf8 c) (encode_utf8_all cs) in omega arith)
       (ap test (get_or-append-add (encode_utf8 c) (encode_utf8_all cs) k 0) ∙ set)))
-    where
-      first : test c ≡ true → ⊥
-      first set =
-          let alone : encode_utf8 c ≡ c ∷ [] = encode_ascii c (small c set) in
-          subst (λ (xs : List ℕ). Clear (xs ++ encode_utf8_all cs)) alone none 0 (omega arith) set
 
   -- the characters before the byte that is found
   pub past-found : (bs : List ℕ) (at : ℕ) → IsUtf8 bs → IsFirstByte test bs (Some at) → Passes (is_plain raw) (chars bs) (chars (drop at bs))
-  past-found bs at is found = record {
-    passed = chars (take at bs);
-    all = clear-chars (chars (take at bs)) (subst Clear (sym (encodes-chars (take at bs) front)) (λ k l set. found.0.before k (omega arith) (below k l) (ap test (same k l) ∙ set)));
-    whole = ap chars (sym (take-append-drop at bs)) ∙ chars-append (take at bs) (drop at bs) front;
-  }
-    where
-      front : IsUtf8 (take at bs)
-      front = IsUtf8-take bs at is (IsCharBoundary-before_ascii bs at found.0.high (small (slice_index bs at) found.1))
-
-      below : (k : ℕ) → k < length (take at bs) → k < at
-      below k l = let n = length-take at bs in omega arith
-
-      same : (k : ℕ) → k < length (take at bs) → slice_index bs k ≡ slice_index (take at bs) k
-      same k l = ap (λ (xs : List ℕ). slice_index xs k) (sym (take-append-drop at bs)) ∙ get_or_append_left (take at bs) (drop at bs) 0 k l
+  past-found bs at is found =
+      let front : IsUtf8 (take at bs) = IsUtf8-take bs at is (IsCharBoundary-before_ascii bs at found.0.high (small (slice_index bs at) found.1)) in
+      let same : (k : ℕ) → k < length (take at bs) → slice_index bs k ≡ slice_index (take at bs) k = λ k l. ap (λ (xs : List ℕ). slice_index xs k) (sym (take-append-drop at bs)) ∙ get_or_append_left (take at bs) (drop at bs) 0 k l in
+      record {
+        passed = chars (take at bs);
+        all = clear-chars (chars (take at bs)) (subst Clear (sym (encodes-chars (take at bs) front)) (λ k l set. found.0.before k (omega arith) (omega (arith, length-take at bs)) (ap test (same k l) ∙ set)));
+        whole = ap chars (sym (take-append-drop at bs)) ∙ chars-append (take at bs) (drop at bs) front;
+      }
 
   -- all of them, where none is found
   pub past-none : (bs : List ℕ) → IsUtf8 bs → IsFirstByte test bs None → Passes (is_plain raw) (chars bs) (chars [])

@@ -1,7 +1,7 @@
 -- The items that are read between double quotes are those that the grammar has there.
 use Rattle.std.proofs.Common.{◌≡◌, ℕ, zero, suc, ◌+◌, ◌≤◌, ◌==◌, Bool, true, false, true≢false, if◌then◌else◌, List, [], ◌∷◌, ◌++◌, length, length-append, append_assoc, map, refl, sym, ap, subst, ◌∙◌, arith}
 use Rattle.std.specs.List.{list_all}
-use Rattle.std.specs.Str.{byte, encode_utf8_all}
+use Rattle.std.specs.Str.{encode_utf8_all}
 use Rattle.std.proofs.lemmas.Bool.{cond_both, eqb-true, or_parts}
 use Rattle.std.proofs.lemmas.List.{append_cancel_right, map-append}
 use Rattle.std.proofs.lemmas.Str.{encodes-append}
@@ -35,8 +35,7 @@ past_backslash-shorter (c ∷ s) = either (λ (f : Front). length f.left ≤ suc
 
 left-shorter : (raw : Bool) (c : ℕ) (s : List ℕ) → length (front_by raw c s).left ≤ length s
 unfolding front raw_front
-left-shorter true c s = omega arith
-left-shorter false c s = either (λ (f : Front). length f.left ≤ length s) (c == byte "\\") (past_backslash s) (one (unescaped c, s)) (past_backslash-shorter s) (omega arith)
+left-shorter raw c s = grind (arith, common_steps, nat_tests, either, past_backslash-shorter)
 
 -- ---- so any number of steps that is large enough gives the same items
 
@@ -49,9 +48,8 @@ module _ (raw : Bool) (total : ℕ) where
   enough zero (suc n) [] a b = refl
   enough (suc m) zero [] a b = refl
   enough (suc m) (suc n) [] a b = refl
-  enough zero n (c ∷ s) a b = absurd (omega arith)
-  enough (suc m) zero (c ∷ s) a b = absurd (omega arith)
   enough (suc m) (suc n) (c ∷ s) a b = grind (arith, common_steps, left-shorter, enough m n)
+  enough m n (c ∷ s) a b = absurd (omega arith)
 
   pub items-cons : (c : ℕ) (s : List ℕ) → items_from at total (c ∷ s) ≡ map (item_at total (place total (c ∷ s))) (at c s).told ++ items_from at total (at c s).left
   unfolding items_from
@@ -119,8 +117,7 @@ element-front {next} {e} {w} r other = by_either (r.first == 92)
 
 raw-reads : {e : Element} {c : ℕ} → IsRawElement e c → (next : List ℕ) → raw_front c next ≡ one (e, next)
 unfolding raw_front
-raw-reads (g.plain out) next = rw out refl
-raw-reads g.bare next = refl
+raw-reads is next = grind (arith, common_steps, nat_tests)
 
 -- the warnings past a line end
 module _ (total from : ℕ) (space next : List ℕ) (ends : from + bytes (92 ∷ 10 ∷ space ++ next) ≡ total) where

@@ -3,6 +3,7 @@ use Rattle.std.proofs.Common.{◌≡◌, ℕ, ◌==◌, ◌||◌, Bool, true, fa
 use Rattle.std.specs.List.{list_all}
 use Rattle.std.proofs.lemmas.Bool.{and_parts, cond-false, cond-true, cond_both, eqb-true, le-leb, leb-false, leb-true, lt-leb, or_parts}
 use Rattle.std.proofs.Math.Bool.{or-true}
+use Rattle.std.proofs.lemmas.Bool.Decides.{nat_tests}
 use Rattle.std.proofs.lemmas.Grind.{common_steps}
 use Rattle.rustc_literal_escaper.specs.declared.element.Element.{Element}
 use Rattle.rustc_literal_escaper.specs.declared.element.Element.TheVariants.{Plain, Unicode, Fault}
@@ -49,10 +50,7 @@ digit-runs c digit = ap (λ b. (c == 95) || b) digit ∙ or-true (c == 95)
 
 -- digits before what is none
 digits-read : (d : ℕ) (w s : List ℕ) → is_hex d ≡ true → list_all is_digit_or_underscore w ≡ true → next_is is_digit_or_underscore s ≡ false → braced (d ∷ w ++ s) ≡ closed (d ∷ w) s
-digits-read d w s digit all stops =
-    let run = run-is is_digit_or_underscore (d ∷ w) s (rw (digit-runs d digit) all) stops in
-    cond-false _ _ _ (no-digit 95 d refl digit) ∙ (cond-false _ _ _ (no-digit 125 d refl digit) ∙ (cond-true (is_hex d) _ _ digit
-    ∙ (ap (λ (v : List ℕ). closed v (past_run is_digit_or_underscore (d ∷ w ++ s))) run.0 ∙ ap (closed (d ∷ w)) run.1)))
+digits-read d w s digit all stops = grind (arith, common_steps, nat_tests, run-is, digit-runs, cond-false, no-digit, cond-true)
 
 closed-read : (d x : ℕ) (w next : List ℕ) (r : Element × List ℕ) → is_hex d ≡ true → list_all is_digit_or_underscore w ≡ true → is_digit_or_underscore x ≡ false
     → closed (d ∷ w) (x ∷ next) ≡ r → braced (d ∷ (w ++ x ∷ []) ++ next) ≡ r

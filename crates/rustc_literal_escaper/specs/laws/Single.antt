@@ -70,10 +70,7 @@ module _ {U : Type 0} (meaning : Element → Result U EscapeError) where
       subst (λ (xs : List ℕ). (r : Result U Error) × IsSingle meaning xs r) (ap (λ xs. c ∷ xs) (sym has.whole))
       (by_meaning (single c s).1 (single c s).0 (c ∷ has.others) (meaning (single c s).0) refl has.is)
     where
-      by_left : (left : List ℕ) (e : Element) (w : List ℕ) (u : U) → meaning e ≡ Ok u → IsElementBefore special left e w → (r : Result U Error) × IsSingle meaning (w ++ left) r
-      by_left [] e w u means is = (_, subst (λ (xs : List ℕ). IsSingle meaning xs (Ok u)) (sym (append-nil w)) (g.unit is means))
-      by_left (d ∷ left) e w u means is = (_, g.more is means)
-
       by_meaning : (left : List ℕ) (e : Element) (w : List ℕ) (meant : Result U EscapeError) → meaning e ≡ meant → IsElementBefore special left e w → (r : Result U Error) × IsSingle meaning (w ++ left) r
-      by_meaning left e w (Ok u) means is = by_left left e w u means is
+      by_meaning [] e w (Ok u) means is = (_, subst (λ (xs : List ℕ). IsSingle meaning xs (Ok u)) (sym (append-nil w)) (g.unit is means))
+      by_meaning (d ∷ left) e w (Ok u) means is = (_, g.more is means)
       by_meaning left e w (Err error) means is = (_, g.wrong is means)
