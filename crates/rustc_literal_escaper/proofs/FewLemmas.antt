@@ -1,5 +1,5 @@
 -- There are no more elements between quotes than bytes, and no more errors than elements.
-use Rattle.std.proofs.Common.{ℕ, ◌≤◌, Bool, true, false, if◌then◌else◌, List, [], ◌∷◌, length, max, Option, ap, arith, length-append}
+use Rattle.std.proofs.Common.{ℕ, ◌≤◌, Bool, if◌then◌else◌, List, [], ◌∷◌, length, max, Option, ap, arith, length-append}
 use Rattle.std.proofs.Math.Nat.{le-max_left, le-max_right}
 use Rattle.std.specs.List.{list_any}
 use Rattle.std.specs.Option.{option_to_list}
@@ -23,8 +23,7 @@ some (g.plain out) = omega arith
 some is = omega arith
 
 one : (b : Bool) (i : Item) → length (if b then i ∷ [] else []) ≤ 1
-one true i = omega arith
-one false i = omega arith
+one b i = grind (arith, common_steps)
 
 space-few : (from : ℕ) (space next : List ℕ) → length (space_warning from space next) ≤ 1
 space-few from space next = grind (arith, common_steps, one)

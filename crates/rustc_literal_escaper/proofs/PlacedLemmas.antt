@@ -130,12 +130,10 @@ skip space e from left (r ∷ places) made = (
 
 -- its warnings mark no places
 if-none : (b : Bool) (i : Item) → is_unit i ≡ false → filter is_unit (if b then i ∷ [] else []) ≡ []
-if-none true i e = rw e refl
-if-none false i e = refl
+if-none b i e = grind (arith, common_steps)
 
 space-none : (from : ℕ) (space next : List ℕ) → filter is_unit (space_warning from space next) ≡ []
-space-none from space [] = refl
-space-none from space (c ∷ next) = if-none (is_whitespace c) (item from (Fault UnskippedWhitespaceWarning) (92 ∷ 10 ∷ (space ++ c ∷ []))) refl
+space-none from space next = grind (arith, common_steps, if-none)
 
 warnings-none : (from : ℕ) (space next : List ℕ) (items : List Item) → places_of (lines_warning from space ++ space_warning from space next ++ items) ≡ places_of items
 warnings-none from space next items = grind (arith, common_steps, filter-append, if-none (list_any is_newline space) (item from (Fault MultipleSkippedLinesWarning) (92 ∷ 10 ∷ space)) refl, space-none from space next)

@@ -51,7 +51,7 @@ module _ (raw : Bool) (test : ℕ → Bool) (small : (b : ℕ) → test b ≡ tr
       (ap test (get_or-append-add (encode_utf8 c) (encode_utf8_all cs) k 0) ∙ set)))
 
   -- the characters before the byte that is found
-  pub past-found : (bs : List ℕ) (at : ℕ) → IsUtf8 bs → IsFirstByte test bs (Some at) → Passes (is_plain raw) (chars bs) (chars (drop at bs))
+  past-found : (bs : List ℕ) (at : ℕ) → IsUtf8 bs → IsFirstByte test bs (Some at) → Passes (is_plain raw) (chars bs) (chars (drop at bs))
   past-found bs at is found =
       let front : IsUtf8 (take at bs) = IsUtf8-take bs at is (IsCharBoundary-before_ascii bs at found.0.high (small (slice_index bs at) found.1)) in
       let same : (k : ℕ) → k < length (take at bs) → slice_index bs k ≡ slice_index (take at bs) k = λ k l. ap (λ (xs : List ℕ). slice_index xs k) (sym (take-append-drop at bs)) ∙ get_or_append_left (take at bs) (drop at bs) 0 k l in
@@ -62,32 +62,20 @@ module _ (raw : Bool) (test : ℕ → Bool) (small : (b : ℕ) → test b ≡ tr
       }
 
   -- all of them, where none is found
-  pub past-none : (bs : List ℕ) → IsUtf8 bs → IsFirstByte test bs None → Passes (is_plain raw) (chars bs) (chars [])
+  past-none : (bs : List ℕ) → IsUtf8 bs → IsFirstByte test bs None → Passes (is_plain raw) (chars bs) (chars [])
   past-none bs is none =
       grind (arith, common_steps, clear-chars (chars bs), encodes-chars bs is, chars-nil, append-nil (chars bs))
 
-pub byte_small : (b : ℕ) → is_byte 13 b ≡ true → b < 128
-byte_small b e = grind (arith, nat_tests)
-
-pub byte3_small : (b : ℕ) → is_byte3 92 34 13 b ≡ true → b < 128
-byte3_small b e = grind (arith, nat_tests)
-
-pub byte_plain : (c : ℕ) → is_byte 13 c ≡ false → is_plain true c ≡ true
-byte_plain c e = rw e refl
-
-pub byte3_plain : (c : ℕ) → is_byte3 92 34 13 c ≡ false → is_plain false c ≡ true
-byte3_plain c e = grind (arith, nat_tests)
-
 pub past_found_raw : (bs : List ℕ) (at : ℕ) → IsUtf8 bs → IsFirstByte (is_byte 13) bs (Some at) → Passes (is_plain true) (chars bs) (chars (drop at bs))
-past_found_raw = past-found true (is_byte 13) byte_small byte_plain
+past_found_raw = past-found true (is_byte 13) (λ b e. grind (arith, nat_tests)) (λ c e. rw e refl)
 
 pub past_none_raw : (bs : List ℕ) → IsUtf8 bs → IsFirstByte (is_byte 13) bs None → Passes (is_plain true) (chars bs) (chars [])
-past_none_raw = past-none true (is_byte 13) byte_small byte_plain
+past_none_raw = past-none true (is_byte 13) (λ b e. grind (arith, nat_tests)) (λ c e. rw e refl)
 
 pub past_found_escaped : (bs : List ℕ) (at : ℕ) → IsUtf8 bs → IsFirstByte (is_byte3 92 34 13) bs (Some at) → Passes (is_plain false) (chars bs) (chars (drop at bs))
-past_found_escaped = past-found false (is_byte3 92 34 13) byte3_small byte3_plain
+past_found_escaped = past-found false (is_byte3 92 34 13) (λ b e. grind (arith, nat_tests)) (λ c e. grind (arith, nat_tests))
 
 pub past_none_escaped : (bs : List ℕ) → IsUtf8 bs → IsFirstByte (is_byte3 92 34 13) bs None → Passes (is_plain false) (chars bs) (chars [])
-past_none_escaped = past-none false (is_byte3 92 34 13) byte3_small byte3_plain
+past_none_escaped = past-none false (is_byte3 92 34 13) (λ b e. grind (arith, nat_tests)) (λ c e. grind (arith, nat_tests))
 
 pub ruleset skip_lemmas = (past_found_raw, past_none_raw, past_found_escaped, past_none_escaped)

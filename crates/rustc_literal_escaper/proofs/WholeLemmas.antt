@@ -80,9 +80,6 @@ more_fits v n d fits few digit = grind (arith, common_steps, pow-add)
 last_byte : (s : List ℕ) (n : ℕ) → length s ≡ n + 1 → s ≡ take n s ++ (slice_index s n ∷ [])
 last_byte s n e = sym (take-append-drop n s) ∙ ap (λ (xs : List ℕ). take n s ++ xs) (drop-cons s n 0 (omega arith) ∙ ap (λ (xs : List ℕ). slice_index s n ∷ xs) (drop_of_length-le s {i = suc n} (omega arith)))
 
-four_bytes : (bs : List ℕ) (n : ℕ) → length bs ≡ n + 4 → bs ≡ slice_index bs 0 ∷ slice_index bs 1 ∷ slice_index bs 2 ∷ take n (drop 3 bs) ++ (slice_index (drop 3 bs) n ∷ [])
-four_bytes bs n e = grind (arith, common_steps, last_byte)
-
 -- a number between braces, which is the whole text
 abbrev in_braces : List ℕ → Element → Type 0
 in_braces digits e = (list_all is_ascii digits ≡ true) × ((e, []) ≡ braced (digits ++ (125 ∷ [])))
@@ -91,7 +88,7 @@ braces_whole : (bs digits : List ℕ) (e : Element) → bs ≡ 117 ∷ 123 ∷ d
 braces_whole bs digits e is h = grind (arith, common_steps, list_all-append, chars_are)
 
 braces_is : (bs : List ℕ) (n : ℕ) → length bs ≡ n + 4 → slice_index bs 0 ≡ 117 → slice_index bs 1 ≡ 123 → slice_index bs (length bs - 1) ≡ 125 → bs ≡ 117 ∷ 123 ∷ (slice_index bs 2 ∷ take n (drop 3 bs)) ++ (125 ∷ [])
-braces_is bs n e u brace close = grind (arith, common_steps, get_or-drop, four_bytes)
+braces_is bs n e u brace close = grind (arith, common_steps, get_or-drop, last_byte)
 
 pub number_escape : (bs : List ℕ) (r : Option Element) → 4 ≤ length bs → slice_index bs 0 ≡ 117 → slice_index bs 1 ≡ 123 → slice_index bs (length bs - 1) ≡ 125
     → IfSome r (λ e. (list_all is_ascii (slice_index bs 2 ∷ take (length bs - 1 - 3) (drop 3 bs)) ≡ true) × ((e, []) ≡ braced (slice_index bs 2 ∷ take (length bs - 1 - 3) (drop 3 bs) ++ (125 ∷ []))))

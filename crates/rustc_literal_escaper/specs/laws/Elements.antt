@@ -120,12 +120,8 @@ unfolding raw_front
 raw-reads is next = grind (arith, common_steps, nat_tests)
 
 -- the warnings past a line end
-module _ (total from : ℕ) (space next : List ℕ) (ends : from + bytes (92 ∷ 10 ∷ space ++ next) ≡ total) where
-  abbrev told_at : Element × List ℕ → Item
-  told_at = item_at total (place total (92 ∷ 10 ∷ space ++ next))
-
-  lines-told : map told_at (more_lines space next) ≡ lines_warning from space
-  lines-told = grind (arith, common_steps, item-at total from (92 ∷ 10 ∷ space) next (Fault MultipleSkippedLinesWarning) ends)
+lines-told : (total from : ℕ) (space next : List ℕ) → from + bytes (92 ∷ 10 ∷ space ++ next) ≡ total → map (item_at total (place total (92 ∷ 10 ∷ space ++ next))) (more_lines space next) ≡ lines_warning from space
+lines-told total from space next ends = grind (arith, common_steps, item-at total from (92 ∷ 10 ∷ space) next (Fault MultipleSkippedLinesWarning) ends)
 
 space-told : (total from : ℕ) (space next : List ℕ) → from + bytes (92 ∷ 10 ∷ space ++ next) ≡ total → map (item_at total (place total (92 ∷ 10 ∷ space ++ next))) (more_space next) ≡ space_warning from space next
 space-told total from space [] ends = refl
