@@ -1,16 +1,18 @@
--- The digits between braces, one by one.
-use Rattle.std.proofs.Common.{◌≡◌, ℕ, zero-add, add-zero, ◌+◌, ◌*◌, ◌^◌, ◌<◌, ◌≤◌, ◌==◌, ◌||◌, Bool, true, false, if◌then◌else◌, List, [], ◌∷◌, length, fold, filter, refl, sym, ap, ◌∙◌, subst, arith, nat_le, nat_lt, min}
+-- The digits between braces, one by one, and the tables of digits and of the escapes of one character.
+use Rattle.std.proofs.Common.{◌≡◌, ℕ, zero-add, add-zero, ◌+◌, ◌*◌, ◌^◌, ◌<◌, ◌≤◌, ◌==◌, ◌||◌, Bool, true, false, if◌then◌else◌, List, [], ◌∷◌, length, fold, filter, refl, sym, ap, ◌∙◌, subst, arith, nat_le, nat_lt, min, get_or}
 use Rattle.std.specs.Char.{digit_value}
 use Rattle.std.proofs.lemmas.Bool.{ne_eqb}
 use Rattle.std.proofs.lemmas.Bool.Decides.{nat_tests}
-use Rattle.std.proofs.Math.Bool.{or-true}
 use Rattle.std.proofs.Math.Nat.{pow-le-pow_right}
 use Rattle.std.proofs.lemmas.Grind.{common_steps}
+use Rattle.std.proofs.lemmas.List.FromFn.{get_or-map-range_with_len}
 use Rattle.rustc_literal_escaper.specs.declared.element.Element.{Element}
 use Rattle.rustc_literal_escaper.specs.declared.element.Element.TheVariants.{Unicode, Fault}
 use Rattle.rustc_literal_escaper.specs.declared.error.EscapeError.TheVariants.{InvalidCharInUnicodeEscape, UnclosedUnicodeEscape, OverlongUnicodeEscape}
 use Rattle.rustc_literal_escaper.specs.Grammar.{is_hex, is_digit_or_underscore}
-use Rattle.rustc_literal_escaper.specs.means.Escape.{closed_at_run, front_run, past_run}
+use Rattle.rustc_literal_escaper.specs.laws.Escape.{digit-runs}
+use Rattle.rustc_literal_escaper.specs.means.Escape.{closed_at_run, front_run, past_run, short}
+use Rattle.rustc_literal_escaper.specs.declared.escape.TheConstants.{DIGITS, SHORT}
 
 -- one more digit has room in 24 bits
 pub with_room : (v n : ℕ) → v < 16 ^ min n 6 → n < 6 → v < 16 ^ 5
@@ -56,7 +58,7 @@ by_digit p h v n c s a b = grind (arith, common_steps, nat_tests)
 
 pub left_at-digit : (v n c : ℕ) (s : List ℕ) → is_hex c ≡ true → left_at v n (c ∷ s) ≡ left_at (with_digit v n (digit_value c)) (n + 1) s
 unfolding left_at
-left_at-digit v n c s e = by_digit is_digit_or_underscore is_hex v n c s (ap (λ b. (c == 95) || b) e ∙ or-true (c == 95)) e
+left_at-digit v n c s e = by_digit is_digit_or_underscore is_hex v n c s (digit-runs c e) e
 
 by_other : (p h : ℕ → Bool) (v n c : ℕ) (s : List ℕ) → p c ≡ false → (c == 125) ≡ false → left_by p h v n (c ∷ s) ≡ (Fault InvalidCharInUnicodeEscape, s)
 by_other p h v n c s a b = rw a (rw b refl)
@@ -73,3 +75,11 @@ pub hex-no : (c : ℕ) → (digit_value c < 16 → ⊥) → is_hex c ≡ false
 hex-no c l = grind (arith, nat_tests)
 
 pub ruleset digit_lemmas = (left_at-start, left_at-end, left_at-underscore, left_at-brace, left_at-digit, left_at-other, hex-yes, hex-no)
+
+-- ---- the tables in ASCII; past it there are none
+
+pub short_table : (c : ℕ) (none : Element) → c < 128 → get_or SHORT c none ≡ short c
+short_table c none small = get_or-map-range_with_len short 0 128 c c none small (omega arith)
+
+pub digit_table : (c none : ℕ) → c < 128 → get_or DIGITS c none ≡ min (digit_value c) 16
+digit_table c none small = get_or-map-range_with_len (λ d. min (digit_value d) 16) 0 128 c c none small (omega arith)

@@ -1,5 +1,5 @@
 -- The errors of a list of items, one item at a time.
-use Rattle.std.proofs.Common.{◌≡◌, false, ℕ, ◌-◌, length, List, [], ◌∷◌, ◌++◌, Option, Some, None, refl, sym, ap, ◌∙◌, arith}
+use Rattle.std.proofs.Common.{◌≡◌, false, ℕ, ◌-◌, length, List, [], ◌∷◌, ◌++◌, Option, Some, None, refl, ap, ◌∙◌, arith}
 use Rattle.std.specs.List.{FoldsTo}
 use Rattle.std.specs.Str.{chars, IsUtf8}
 use Rattle.std.proofs.lemmas.Str.{encodes-chars}
@@ -13,19 +13,14 @@ use Rattle.rustc_literal_escaper.specs.means.Single.{alone_error, read_errors}
 use Rattle.rustc_literal_escaper.specs.Meaning.{errors_in, is_raw, is_single}
 use Rattle.rustc_literal_escaper.proofs.RunLemmas.{folds-on}
 
-error_to-is : (total : ℕ) (error : EscapeError) (left : List ℕ) → IsUtf8 left → Some (record { start = 0; end = total - length left }, error) ≡ alone_error total (Some error) (chars left)
-error_to-is total error left is = ap (λ (n : ℕ). Some (record { start = 0; end = total - n }, error)) (sym (ap length (encodes-chars left is)))
-
 -- what is wrong between single quotes, by what is wrong with the element, or by what is left
 pub alone_error-some : (total : ℕ) (wrong : Option EscapeError) (left : List ℕ) (error : EscapeError) → IsUtf8 left → wrong ≡ Some error
     → Some (record { start = 0; end = total - length left }, error) ≡ alone_error total wrong (chars left)
-alone_error-some total wrong left error is some = error_to-is total error left is ∙ ap (λ (o : Option EscapeError). alone_error total o (chars left)) (sym some)
+alone_error-some total wrong left error is some = grind (arith, common_steps, encodes-chars left is)
 
 pub alone_error-more : (total : ℕ) (wrong : Option EscapeError) (left more : List ℕ) (d : ℕ) → wrong ≡ None → chars left ≡ d ∷ chars more → IsUtf8 more
     → Some (record { start = 0; end = total - length more }, MoreThanOneChar) ≡ alone_error total wrong (chars left)
-alone_error-more total wrong left more d none reads is =
-    error_to-is total MoreThanOneChar more is
-    ∙ (ap (alone_error total None) (sym reads) ∙ ap (λ (o : Option EscapeError). alone_error total o (chars left)) (sym none))
+alone_error-more total wrong left more d none reads is = grind (arith, common_steps, encodes-chars more is)
 
 -- a literal between double quotes has the errors of its elements
 pub read_errors-strings : (mode : Mode) (text : List ℕ) (items : List Item) → false ≡ is_single mode → items ≡ items_of (is_raw mode) text → errors_in mode items ≡ read_errors mode text

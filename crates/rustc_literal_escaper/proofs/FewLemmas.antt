@@ -1,7 +1,6 @@
 -- There are no more elements between quotes than bytes, and no more errors than elements.
-use Rattle.std.proofs.Common.{ℕ, ◌≤◌, Bool, true, false, if◌then◌else◌, List, [], ◌∷◌, ◌++◌, length, max, Option, sym, ap, subst, arith, length-append}
+use Rattle.std.proofs.Common.{ℕ, ◌≤◌, Bool, if◌then◌else◌, List, [], ◌∷◌, length, max, Option, ap, arith, length-append}
 use Rattle.std.proofs.Math.Nat.{le-max_left, le-max_right}
-use Rattle.std.specs.Char.{is_whitespace}
 use Rattle.std.specs.List.{list_any}
 use Rattle.std.specs.Option.{option_to_list}
 use Rattle.std.specs.Str.{chars, IsUtf8}
@@ -13,41 +12,27 @@ use Rattle.rustc_literal_escaper.specs.declared.error.EscapeError.TheVariants.{M
 use Rattle.rustc_literal_escaper.specs.declared.mode.Mode.{Mode}
 use Rattle.rustc_literal_escaper.specs.Answers.{errors_of, items_of}
 use Rattle.rustc_literal_escaper.specs.Grammar as g
-use Rattle.rustc_literal_escaper.specs.Grammar.{AreItems, Error, IsElementBefore, Item, is_newline, item, lines_warning, space_warning}
-use Rattle.rustc_literal_escaper.specs.Meaning.{errors_in, is_raw, is_single}
-use Rattle.rustc_literal_escaper.specs.laws.Elements.{either}
+use Rattle.rustc_literal_escaper.specs.Grammar.{AreItems, Error, IsElementBefore, Item, is_newline, item, space_warning}
+use Rattle.rustc_literal_escaper.specs.Meaning.{errors_in}
 use Rattle.rustc_literal_escaper.specs.laws.TheAnswers.{items-are}
-use Rattle.rustc_literal_escaper.specs.means.Single.{single_error}
 use Rattle.rustc_literal_escaper.proofs.AnswerLemmas.{errors_of-read}
 
 -- an element has at least one character
-some : {special next : List ℕ} {e : Element} {w : List ℕ} → IsElementBefore special next e w → 1 ≤ length w
+pub some : {special next : List ℕ} {e : Element} {w : List ℕ} → IsElementBefore special next e w → 1 ≤ length w
 some (g.plain out) = omega arith
-some (g.escape is) = omega arith
-some (g.unescaped mark) = omega arith
-some g.bare = omega arith
+some is = omega arith
 
 one : (b : Bool) (i : Item) → length (if b then i ∷ [] else []) ≤ 1
-one true i = omega arith
-one false i = omega arith
+one b i = grind (arith, common_steps)
 
 space-few : (from : ℕ) (space next : List ℕ) → length (space_warning from space next) ≤ 1
-space-few from space [] = omega arith
-space-few from space (c ∷ next) = one (is_whitespace c) _
+space-few from space next = grind (arith, common_steps, one)
 
 few : {raw : Bool} {from : ℕ} {s : List ℕ} {items : List Item} → AreItems raw from s items → length items ≤ length s
 few g.nothing = omega arith
 few (g.element {next} {w} is other are) = omega (arith, length-append w next, some is, few are)
 few (g.raw_element is are) = omega (arith, few are)
-few (g.line_end {from} {next} {items} space all stops are) = omega (
-  arith,
-  length-append (lines_warning from space ++ space_warning from space next) items,
-  length-append (lines_warning from space) (space_warning from space next),
-  one (list_any is_newline space) (item from (Fault MultipleSkippedLinesWarning) (92 ∷ 10 ∷ space)),
-  space-few from space next,
-  length-append space next,
-  few are,
-)
+few (g.line_end {from} {next} {items} space all stops are) = omega (arith, length-append {A = Item}, length-append space next, one (list_any is_newline space) (item from (Fault MultipleSkippedLinesWarning) (92 ∷ 10 ∷ space)), space-few from space next, few are)
 
 pub items-few : (raw : Bool) (text : List ℕ) → IsUtf8 text → length (items_of raw text) ≤ length text
 items-few raw text is = omega (arith, few (items-are raw text is), length-le-encodes (chars text), ap length (encodes-chars text is))
@@ -61,7 +46,4 @@ alone-few error = grind (arith, common_steps)
 
 -- between single quotes there is at most one error
 pub errors_of-few : (mode : Mode) (text : List ℕ) → IsUtf8 text → length (errors_of mode text) ≤ max 1 (length text)
-errors_of-few mode text is = subst (λ (es : List Error). length es ≤ max 1 (length text)) (sym (errors_of-read mode text is))
-    (either (λ (es : List Error). length es ≤ max 1 (length text)) (is_single mode) (option_to_list (single_error (length text) mode (chars text))) (errors_in mode (items_of (is_raw mode) text))
-    (omega (arith, alone-few (single_error (length text) mode (chars text)), le-max_left 1 (length text)))
-    (omega (arith, errors-few mode (items_of (is_raw mode) text), items-few (is_raw mode) text is, le-max_right 1 (length text))))
+errors_of-few mode text is = grind (arith, common_steps, errors_of-read, alone-few, le-max_left, errors-few, items-few, le-max_right)

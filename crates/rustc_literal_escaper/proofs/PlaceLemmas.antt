@@ -1,5 +1,5 @@
 -- Items and their places.
-use Rattle.std.proofs.Common.{◌≡◌, ℕ, ◌-◌, ◌<◌, Bool, true, false, Some, None, List, [], ◌∷◌, length, map, ◌++◌, if◌then◌else◌, refl, sym, ap, ◌∙◌, arith}
+use Rattle.std.proofs.Common.{◌≡◌, ℕ, ◌-◌, ◌<◌, Bool, true, false, Some, None, List, [], ◌∷◌, length, map, ◌++◌, if◌then◌else◌, refl, ap, ◌∙◌, arith}
 use Rattle.std.specs.Char.{is_whitespace}
 use Rattle.std.specs.List.{list_any, slice_get}
 use Rattle.std.specs.Str.{chars, encode_utf8_all, IsUtf8}
@@ -13,7 +13,6 @@ use Rattle.rustc_literal_escaper.specs.declared.error.EscapeError.TheVariants.{M
 use Rattle.rustc_literal_escaper.specs.Grammar.{Item, is_newline, is_passed_over}
 use Rattle.rustc_literal_escaper.specs.means.Elements.{begins_line, item_at, line_end, more_space}
 use Rattle.rustc_literal_escaper.specs.means.Escape.{front_run, past_run}
-use Rattle.rustc_literal_escaper.proofs.ItemLemmas.{item-is}
 
 -- whether a newline is among the white space ahead
 unfoldable pub newline_ahead : List ℕ → Bool
@@ -54,15 +53,7 @@ stopped-end line left at none = grind (arith, common_steps, no-line, past_run-no
 
 pub first-tells : (p : ℕ → Bool) → ((c : ℕ) → p c ≡ true → c < 128) → (bs s : List ℕ) (b c : ℕ) → IsUtf8 bs → Some b ≡ slice_get bs 0 → chars bs ≡ c ∷ s → p c ≡ p b
 first-tells p small [] s b c is e at = absurd (let f : Some b ≡ None = e in cc)
-first-tells p small (x ∷ xs) s b c is e at = grind (
-  arith,
-  common_steps,
-  encodes-chars (x ∷ xs) is,
-  byte_from_char (x ∷ xs) (encode_utf8_all s) c,
-  small c,
-  char_from_byte (x ∷ xs) (encode_utf8_all s) c,
-  small b,
-)
+first-tells p small (x ∷ xs) s b c is e at = grind (arith, common_steps, encodes-chars (x ∷ xs) is, byte_from_char (x ∷ xs) (encode_utf8_all s) c, small c, char_from_byte (x ∷ xs) (encode_utf8_all s) c, small b)
 
 -- so it tells whether white space that is passed over stands next
 
@@ -86,15 +77,13 @@ no-byte (b ∷ bs) e = absurd (let f : None ≡ Some b = e in cc)
 -- the warning where white space stands next
 pub more_space-yes : (total start : ℕ) (left tail : List ℕ) (c : ℕ) → IsUtf8 tail → chars left ≡ c ∷ chars tail → is_whitespace c ≡ true
     → (record { start = start; end = total - length tail }, Fault UnskippedWhitespaceWarning) ∷ [] ≡ map (item_at total start) (more_space (chars left))
-more_space-yes total start left tail c is e white =
-    ap (λ (i : Item). i ∷ []) (item-is total start (Fault UnskippedWhitespaceWarning) tail is)
-    ∙ sym (ap (λ (xs : List ℕ). map (item_at total start) (more_space xs)) e ∙ ap (map (item_at total start)) (cond-true (is_whitespace c) ((Fault UnskippedWhitespaceWarning, chars tail) ∷ []) [] white))
+more_space-yes total start left tail c is e white = rw (e, white, encodes-chars tail is) refl
 
 -- the warning where a newline was passed over
 pub more_lines-yes : (total start : ℕ) (left : List ℕ) (newline : Bool) → IsUtf8 left → newline ≡ true
     → (record { start = start; end = total - length left }, Fault MultipleSkippedLinesWarning) ∷ []
     ≡ map (item_at total start) (if newline then (Fault MultipleSkippedLinesWarning, chars left) ∷ [] else [])
-more_lines-yes total start left newline is e = rw e (ap (λ (i : Item). i ∷ []) (item-is total start (Fault MultipleSkippedLinesWarning) left is))
+more_lines-yes total start left newline is e = rw (e, encodes-chars left is) refl
 
 -- the warnings past a line's end
 pub line_end-told : (total start : ℕ) (line left : List ℕ) (newline : Bool) (lines space : List Item)

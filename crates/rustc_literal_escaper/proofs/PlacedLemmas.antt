@@ -1,21 +1,26 @@
--- The text before each item and after it is cut between characters.
-use Rattle.std.proofs.Common.{◌≡◌, ℕ, ◌+◌, ◌<◌, Bool, true, false, if◌then◌else◌, List, [], ◌∷◌, ◌++◌, length-append, append_assoc, refl, sym, ap, subst, ◌∙◌, arith}
+-- The text before each item and after it is cut between characters, and the places of the items make up the text.
+use Rattle.std.proofs.Common.{◌≡◌, ℕ, ◌+◌, ◌<◌, Bool, true, false, if◌then◌else◌, List, [], ◌∷◌, ◌++◌, length-append, append_assoc, refl, sym, ap, subst, ◌∙◌, arith, length, filter}
 use Rattle.std.specs.Prelude.{IsCharBoundary}
-use Rattle.std.specs.Char.{encode_utf8, is_whitespace}
-use Rattle.std.specs.List.{list_any}
+use Rattle.std.specs.Char.{is_whitespace, is_ascii}
+use Rattle.std.specs.List.{list_any, list_all}
 use Rattle.std.specs.Str.{all_scalars, chars, encode_utf8_all, IsUtf8}
 use Rattle.std.proofs.lemmas.Bool.{and_parts}
-use Rattle.std.proofs.lemmas.List.Elements.{All-append, All-cons, All-nil}
-use Rattle.std.proofs.lemmas.Str.{encodes-append, encodes-chars, scalars-chars, length-encode, len_utf8_bounds, IsCharBoundary-at_seam}
+use Rattle.std.proofs.lemmas.List.Elements.{All-append, All-cons, All-nil, filter-append}
+use Rattle.std.proofs.lemmas.Str.{encodes-append, encodes-chars, scalars-chars, length-le-encodes, IsCharBoundary-at_seam, encodes-IsAscii}
+use Rattle.std.specs.declared.ops.Range.{Range}
+use Rattle.std.proofs.lemmas.Bool.Decides.{nat_tests}
+use Rattle.std.proofs.lemmas.Grind.{common_steps}
 use Rattle.rustc_literal_escaper.specs.declared.element.Element.{Element}
 use Rattle.rustc_literal_escaper.specs.declared.element.Element.TheVariants.{Fault}
 use Rattle.rustc_literal_escaper.specs.declared.error.EscapeError.TheVariants.{MultipleSkippedLinesWarning, UnskippedWhitespaceWarning}
 use Rattle.rustc_literal_escaper.specs.Answers.{items_of}
 use Rattle.rustc_literal_escaper.specs.Grammar as g
-use Rattle.rustc_literal_escaper.specs.Grammar.{AreItems, IsElementBefore, Item, bytes, is_newline, item, lines_warning, space_warning}
-use Rattle.rustc_literal_escaper.specs.Items.{ArePlaced, IsPlaced}
-use Rattle.rustc_literal_escaper.specs.laws.Elements.{bytes-append}
+use Rattle.rustc_literal_escaper.specs.Grammar.{AreItems, IsElementBefore, Item, bytes, is_newline, item, lines_warning, space_warning, IsEscapeBefore, IsRawElement, is_passed_over}
+use Rattle.rustc_literal_escaper.specs.Items.{ArePlaced, IsPlaced, AreLineEnds, IsMadeOf, IsRebuilt, is_unit, is_warning, places_of}
+use Rattle.rustc_literal_escaper.specs.laws.Elements.{bytes-append, either}
 use Rattle.rustc_literal_escaper.specs.laws.TheAnswers.{items-are}
+use Rattle.rustc_literal_escaper.proofs.FewLemmas.{some}
+use Rattle.rustc_literal_escaper.proofs.WrittenLemmas.{all-weaker, is-ascii}
 
 scalars-end : (front left : List ℕ) → all_scalars (front ++ left) ≡ true → all_scalars left ≡ true
 scalars-end [] left e = e
@@ -23,13 +28,10 @@ scalars-end (c ∷ front) left e = scalars-end front left (and_parts _ (all_scal
 
 -- a character has at least one byte, and so has an element
 bytes-some : (c : ℕ) (w : List ℕ) → 0 < bytes (c ∷ w)
-bytes-some c w = let sum = length-append (encode_utf8 c) (encode_utf8_all w) in let l = length-encode c in let b = (len_utf8_bounds c).0 in omega arith
+bytes-some c w = omega (arith, length-le-encodes (c ∷ w))
 
 element-some : {special next : List ℕ} {e : Element} {w : List ℕ} → IsElementBefore special next e w → 0 < bytes w
-element-some (g.plain {c} out) = bytes-some c []
-element-some (g.escape {w = w} is) = bytes-some 92 w
-element-some (g.unescaped {c} mark) = bytes-some c []
-element-some g.bare = bytes-some 13 []
+element-some {w = w} is = omega (arith, some is, length-le-encodes w)
 
 module _ (text : List ℕ) (is : IsUtf8 text) where
   boundary : (before s : List ℕ) → before ++ s ≡ chars text → IsCharBoundary text (bytes before)
@@ -60,8 +62,7 @@ module _ (text : List ℕ) (is : IsUtf8 text) where
       }
 
   if-placed : (b : Bool) (i : Item) → IsPlaced text i → ArePlaced text (if b then i ∷ [] else [])
-  if-placed true i placed = All-cons (IsPlaced text) i [] placed (All-nil (IsPlaced text))
-  if-placed false i placed = All-nil (IsPlaced text)
+  if-placed b i placed = either (ArePlaced text) b (i ∷ []) [] (All-cons (IsPlaced text) i [] placed (All-nil (IsPlaced text))) (All-nil (IsPlaced text))
 
   space-placed : (from : ℕ) (space next : List ℕ) → Stands from (92 ∷ 10 ∷ space ++ next) → ArePlaced text (space_warning from space next)
   space-placed from space [] here = All-nil (IsPlaced text)
@@ -84,3 +85,73 @@ module _ (text : List ℕ) (is : IsUtf8 text) where
 
   pub are_placed : (raw : Bool) → ArePlaced text (items_of raw text)
   are_placed raw = placed (items-are raw text is) (record { before = []; at = refl; whole = refl })
+
+-- ---- the text, put together again from the places of its items
+
+-- ---- no element is a warning
+
+abbrev Tells : Element → Type 0
+Tells e = is_warning e ≡ false
+
+escape-tells : {next : List ℕ} {e : Element} {w : List ℕ} → IsEscapeBefore next e w → Tells e
+escape-tells g.nul = refl
+escape-tells is = refl
+
+element-tells : {special next : List ℕ} {e : Element} {w : List ℕ} → IsElementBefore special next e w → Tells e
+element-tells (g.escape is) = escape-tells is
+element-tells is = refl
+
+raw-tells : {e : Element} {c : ℕ} → IsRawElement e c → Tells e
+raw-tells (g.plain out) = refl
+raw-tells g.bare = refl
+
+-- ---- a line end that is skipped
+
+-- its characters are their bytes
+line-ascii : (space : List ℕ) → list_all is_passed_over space ≡ true → encode_utf8_all (92 ∷ 10 ∷ space) ≡ 92 ∷ 10 ∷ space
+line-ascii space all = encodes-IsAscii (92 ∷ 10 ∷ space) (is-ascii (92 ∷ 10 ∷ space) (all-weaker is_passed_over is_ascii (λ c e. grind (arith, nat_tests)) space all))
+
+-- in front of what is made of some places it changes nothing
+skip : (space : List ℕ) → list_all is_passed_over space ≡ true → (from : ℕ) (left : List ℕ) (places : List (Range ℕ))
+    → IsMadeOf false (from + bytes (92 ∷ 10 ∷ space)) left places → IsMadeOf false from (92 ∷ 10 ∷ (space ++ left)) places
+skip space e from left [] made = (space ∷ made.0, rw e made.1, ap (λ (xs : List ℕ). 92 ∷ 10 ∷ (space ++ xs)) made.2)
+skip space e from left (r ∷ places) made = (
+  made.0,
+  record {
+    skipped = 92 ∷ 10 ∷ (space ++ made.1.skipped);
+    marked = made.1.marked;
+    line_ends = (space ∷ made.1.line_ends.0, rw e made.1.line_ends.1, ap (λ (xs : List ℕ). 92 ∷ 10 ∷ (space ++ xs)) made.1.line_ends.2);
+    start = (let s = made.1.start in let l = length-append space made.1.skipped in let n = ap length (line-ascii space e) in omega arith);
+    end = made.1.end;
+    whole = ap (λ (xs : List ℕ). 92 ∷ 10 ∷ (space ++ xs)) made.1.whole ∙ ap (λ (xs : List ℕ). 92 ∷ 10 ∷ xs) (sym (append_assoc space made.1.skipped (made.1.marked ++ made.0)));
+  },
+  made.2,
+)
+
+-- its warnings mark no places
+if-none : (b : Bool) (i : Item) → is_unit i ≡ false → filter is_unit (if b then i ∷ [] else []) ≡ []
+if-none b i e = grind (arith, common_steps)
+
+space-none : (from : ℕ) (space next : List ℕ) → filter is_unit (space_warning from space next) ≡ []
+space-none from space next = grind (arith, common_steps, if-none)
+
+warnings-none : (from : ℕ) (space next : List ℕ) (items : List Item) → places_of (lines_warning from space ++ space_warning from space next ++ items) ≡ places_of items
+warnings-none from space next items = grind (arith, common_steps, filter-append, if-none (list_any is_newline space) (item from (Fault MultipleSkippedLinesWarning) (92 ∷ 10 ∷ space)) refl, space-none from space next)
+
+-- ---- the items of a text
+
+none : (raw : Bool) → AreLineEnds raw []
+none raw = grind (arith, common_steps)
+
+-- an element, and what is made of the text after it
+one-made : (raw : Bool) (from : ℕ) (e : Element) (w next : List ℕ) (items : List Item) → Tells e → IsMadeOf raw (from + bytes w) (encode_utf8_all next) (places_of items) → IsMadeOf raw from (encode_utf8_all (w ++ next)) (places_of (item from e w ∷ items))
+one-made raw from e w next items tells made = rw tells (encode_utf8_all next, record { skipped = []; marked = encode_utf8_all w; line_ends = none raw; start = (omega arith); end = refl; whole = encodes-append w next }, made)
+
+made : {raw : Bool} {from : ℕ} {s : List ℕ} {items : List Item} → AreItems raw from s items → IsMadeOf raw from (encode_utf8_all s) (places_of items)
+made {raw} g.nothing = none raw
+made (g.element {from} {next} {element = e} {w} {items} is other are) = one-made false from e w next items (element-tells is) (made are)
+made (g.raw_element {from} {c} {next} {element = e} {items} is are) = one-made true from e (c ∷ []) next items (raw-tells is) (made are)
+made (g.line_end {from} {next} {items} space all stops are) = rw (warnings-none from space next items, encodes-append (92 ∷ 10 ∷ space) next, line-ascii space all) (skip space all from (encode_utf8_all next) (places_of items) (made are))
+
+pub is_rebuilt : (raw : Bool) (text : List ℕ) → IsUtf8 text → IsRebuilt raw text
+is_rebuilt raw text is = subst (λ (xs : List ℕ). IsMadeOf raw 0 xs (places_of (items_of raw text))) (encodes-chars text is) (made (items-are raw text is))

@@ -1,9 +1,9 @@
 -- What is written of a character or a byte is one element that stands for it.
-use Rattle.std.proofs.Common.{◌≡◌, ℕ, ◌+◌, ◌*◌, ◌/◌, ◌%◌, ◌<◌, ◌≤◌, ◌==◌, ◌&&◌, true, false, cond, List, [], ◌∷◌, ◌++◌, append_assoc, length, map, fold, Result, Ok, refl, sym, ap, subst, ◌∙◌, inl, inr, arith, nat_lt}
+use Rattle.std.proofs.Common.{◌≡◌, ℕ, ◌+◌, ◌*◌, ◌/◌, ◌%◌, ◌<◌, ◌≤◌, ◌==◌, ◌&&◌, true, false, cond, List, [], ◌∷◌, ◌++◌, append_assoc, length, map, fold, Result, Ok, refl, sym, ap, subst, ◌∙◌, arith, nat_lt}
 use Rattle.std.specs.Char.{digit_char, digit_value, is_ascii, IsScalar}
 use Rattle.std.specs.Char.Escape.{escape_ascii, escape_default, escape_or, escape_unicode, hex_digit_at}
 use Rattle.std.specs.List.{list_all}
-use Rattle.std.proofs.lemmas.Bool.{agree_below_at, cases_Bool, cond-false, cond-true, cond_both, eqb-true, le-leb, lt-ltb, ltb-false, ltb-true}
+use Rattle.std.proofs.lemmas.Bool.{agree_below_at, cond-false, cond-true, cond_both, le-leb, lt-ltb, ltb-false, ltb-true}
 use Rattle.std.proofs.lemmas.Bool.Decides.{nat_tests}
 use Rattle.std.proofs.lemmas.List.{append-nil}
 use Rattle.std.proofs.Math.Nat.{div-one}
@@ -13,15 +13,15 @@ use Rattle.rustc_literal_escaper.specs.declared.element.Element.{Element}
 use Rattle.rustc_literal_escaper.specs.declared.element.Element.TheVariants.{Byte, Plain, Unicode}
 use Rattle.rustc_literal_escaper.specs.declared.error.EscapeError.{EscapeError}
 use Rattle.rustc_literal_escaper.specs.means.Elements.{front, StartsWithOne}
-use Rattle.rustc_literal_escaper.specs.means.Escape.{braced, escape, hex}
+use Rattle.rustc_literal_escaper.specs.laws.Escape.{by_char}
+use Rattle.rustc_literal_escaper.specs.means.Escape.{braced, escape}
 use Rattle.rustc_literal_escaper.specs.Grammar.{is_hex}
 use Rattle.rustc_literal_escaper.specs.Meaning.{char_of}
 use Rattle.rustc_literal_escaper.specs.Written.{CharComesBack}
 use Rattle.rustc_literal_escaper.specs.means.Single.{StartsWithSingle}
-use Rattle.rustc_literal_escaper.proofs.AnswerLemmas.{char_literal-is}
+use Rattle.rustc_literal_escaper.proofs.AnswerLemmas.{literal_read, literal_is}
 use Rattle.rustc_literal_escaper.proofs.DigitLemmas.{left_at, left_at-brace, left_at-digit, left_at-start, with_digit}
-use Rattle.rustc_literal_escaper.proofs.PlainLemmas.{front_by-plain}
-use Rattle.rustc_literal_escaper.proofs.SingleLemmas.{literal-one}
+use Rattle.rustc_literal_escaper.proofs.ItemLemmas.{front_by-plain}
 
 -- ---- the last hexadecimal digit of a number
 
@@ -78,12 +78,12 @@ module _ {U : Type 0} (meaning : Element → Result U EscapeError) where
   or-spelled : (unit : ℕ → U) (c : ℕ) (xs : List ℕ) → (c < 127 → meaning (Byte c) ≡ Ok (unit c)) → (c < 127 → meaning (Plain c) ≡ Ok (unit c))
       → IsSpelled meaning (unit c) xs → IsSpelled meaning (unit c) (escape_or c xs)
   or-spelled unit c xs byte plain other =
-      by_eq P c 9 (λ m. escaped (Byte 9) (unit 9) 116 [] (m (omega arith)) refl refl (λ s. refl)) (λ a.
-      by_eq P c 13 (λ m. escaped (Byte 13) (unit 13) 114 [] (m (omega arith)) refl refl (λ s. refl)) (λ b.
-      by_eq P c 10 (λ m. escaped (Byte 10) (unit 10) 110 [] (m (omega arith)) refl refl (λ s. refl)) (λ d.
-      by_eq P c 39 (λ m. escaped (Byte 39) (unit 39) 39 [] (m (omega arith)) refl refl (λ s. refl)) (λ e.
-      by_eq P c 34 (λ m. escaped (Byte 34) (unit 34) 34 [] (m (omega arith)) refl refl (λ s. refl)) (λ f.
-      by_eq P c 92 (λ m. escaped (Byte 92) (unit 92) 92 [] (m (omega arith)) refl refl (λ s. refl)) (λ g m.
+      by_char P c 9 (λ m. escaped (Byte 9) (unit 9) 116 [] (m (omega arith)) refl refl (λ s. refl)) (λ a.
+      by_char P c 13 (λ m. escaped (Byte 13) (unit 13) 114 [] (m (omega arith)) refl refl (λ s. refl)) (λ b.
+      by_char P c 10 (λ m. escaped (Byte 10) (unit 10) 110 [] (m (omega arith)) refl refl (λ s. refl)) (λ d.
+      by_char P c 39 (λ m. escaped (Byte 39) (unit 39) 39 [] (m (omega arith)) refl refl (λ s. refl)) (λ e.
+      by_char P c 34 (λ m. escaped (Byte 34) (unit 34) 34 [] (m (omega arith)) refl refl (λ s. refl)) (λ f.
+      by_char P c 92 (λ m. escaped (Byte 92) (unit 92) 92 [] (m (omega arith)) refl refl (λ s. refl)) (λ g m.
       rw (a, b, d, e, f, g) (cond_both (nat_lt c 32) _ _ Spelled (λ h. other) (λ h. cond_both (nat_lt c 127) _ _ Spelled (λ l. record {
         element = Plain c;
         means = plain (ltb-true c 127 l);
@@ -98,18 +98,12 @@ module _ {U : Type 0} (meaning : Element → Result U EscapeError) where
       P : ℕ → Type 0
       P n = (n < 127 → meaning (Byte n) ≡ Ok (unit n)) → IsSpelled meaning (unit n) (escape_or n xs)
 
-      by_eq : (Q : ℕ → Type 0) (c k : ℕ) → Q k → ((c == k) ≡ false → Q c) → Q c
-      by_eq Q c k same other = elim (cases_Bool (c == k)) [ inl e ↦ subst Q (sym (eqb-true c k e)) same | inr e ↦ other e ]
-
   pub byte-spelled : (unit : ℕ → U) (b : ℕ) → b < 256 → meaning (Byte b) ≡ Ok (unit b) → (b < 127 → meaning (Plain b) ≡ Ok (unit b)) → IsSpelled meaning (unit b) (escape_ascii b)
-  byte-spelled unit b small byte plain = or-spelled unit b _ (λ l. byte) plain
-      (escaped (Byte b) (unit b) 120 (hex_digit_at 0x10 b ∷ hex_digit_at 1 b ∷ []) byte (rw (digit-ascii (b / 0x10), digit-ascii (b / 1)) refl) refl read)
-    where
-      value : b / 0x10 % 16 * 16 + b / 1 % 16 ≡ b
-      value = rw div-one (omega arith)
-
-      read : (s : List ℕ) → hex (hex_digit_at 0x10 b ∷ hex_digit_at 1 b ∷ s) ≡ (Byte b, s)
-      read s = rw (digit-hex (b / 0x10), digit-hex (b / 1), digit-value (b / 0x10), digit-value (b / 1), value) refl
+  byte-spelled unit b small byte plain =
+      let value : b / 0x10 % 16 * 16 + b / 1 % 16 ≡ b = rw div-one (omega arith) in
+      or-spelled unit b _ (λ l. byte) plain
+      (escaped (Byte b) (unit b) 120 (hex_digit_at 0x10 b ∷ hex_digit_at 1 b ∷ []) byte (rw (digit-ascii (b / 0x10), digit-ascii (b / 1)) refl) refl
+      (λ s. rw (digit-hex (b / 0x10), digit-hex (b / 1), digit-value (b / 0x10), digit-value (b / 1), value) refl))
 
 unicode-spelled : (c : ℕ) → IsScalar c → IsSpelled char_of c (escape_unicode c)
 unicode-spelled c is =
@@ -139,4 +133,4 @@ char-spelled c is = or-spelled char_of (λ n. n) c (escape_unicode c) (λ l. rw 
 pub char_comes_back : CharComesBack
 char_comes_back c is =
     let w = char-spelled c is in
-    char_literal-is (escape_default c) ∙ sym (literal-one char_of (escape_default c) [] w.element c (subst (λ (xs : List ℕ). StartsWithSingle xs w.element []) (append-nil (escape_default c)) (w.alone [])) w.means refl)
+    literal_read char_of (escape_default c) ∙ (sym (literal_is char_of (escape_default c) w.element (subst (λ (xs : List ℕ). StartsWithSingle xs w.element []) (append-nil (escape_default c)) (w.alone []))) ∙ w.means)

@@ -1,14 +1,53 @@
--- Runs of simple characters: the items of each.
-use Rattle.std.proofs.Common.{◌≡◌, ℕ, ◌-◌, Bool, true, List, [], ◌∷◌, ◌++◌, length, length-append, refl, sym, subst, arith, ap, ◌∙◌}
-use Rattle.std.specs.List.{list_all, FoldsTo}
-use Rattle.std.specs.Str.{chars, encode_utf8_all, IsUtf8}
-use Rattle.std.proofs.lemmas.Bool.{and_parts}
-use Rattle.std.proofs.lemmas.Str.{encodes-append, encodes-chars, encodes-IsAscii}
+-- Runs of simple characters, passed over, and the items of each.
+use Rattle.std.proofs.Common.{◌≡◌, ℕ, ◌≤◌, ◌==◌, nat_lt, not, Bool, true, List, ◌++◌, length, take, drop, None, arith, sym, ap, ◌∙◌, ◌-◌, [], ◌∷◌, length-append, refl, subst}
+use Rattle.std.specs.Char.{is_ascii}
+use Rattle.std.specs.List.{list_all, prefix_len, FoldsTo}
+use Rattle.std.specs.Str.{chars, IsAscii, IsCharBoundary, IsUtf8, encode_utf8_all}
+use Rattle.std.proofs.lemmas.Bool.{and_from, and_parts, not-true}
+use Rattle.std.proofs.lemmas.List.{take-append-drop}
+use Rattle.std.proofs.lemmas.Str.{chars-append, chars-IsAscii, IsCharBoundary-from_take, IsUtf8-from_ascii, encodes-append, encodes-chars, encodes-IsAscii}
 use Rattle.std.proofs.lemmas.Grind.{common_steps}
+use Rattle.rustc_literal_escaper.specs.declared.element.Element.TheVariants.{Plain}
+use Rattle.rustc_literal_escaper.specs.declared.mode.Mode.{Mode}
+use Rattle.rustc_literal_escaper.specs.Meaning.{error_of}
+use Rattle.rustc_literal_escaper.specs.means.Plain.{is_fine, is_simple, Passes, plain_items}
+use Rattle.rustc_literal_escaper.specs.Items.{is_plain}
+use Rattle.rustc_literal_escaper.proofs.LaneLemmas.{run_front}
+use Rattle.rustc_literal_escaper.proofs.WrittenLemmas.{all-weaker, is-ascii}
 use Rattle.rustc_literal_escaper.specs.means.Elements.{front_by, items_from, place}
-use Rattle.rustc_literal_escaper.specs.means.Plain.{is_simple, plain_items}
-use Rattle.rustc_literal_escaper.proofs.SimpleLemmas.{chars-simple, simple-ascii, simple-parts}
-use Rattle.rustc_literal_escaper.proofs.PlainLemmas.{items-plain}
+use Rattle.rustc_literal_escaper.proofs.ItemLemmas.{items-plain}
+
+pub simple-parts : (raw : Bool) (c : ℕ) → is_simple raw c ≡ true → (nat_lt c 128 ≡ true) × (not (c == 0) ≡ true) × (is_plain raw c ≡ true)
+simple-parts raw c e = grind (arith, common_steps, and_parts)
+
+-- nothing is wrong with a simple character
+pub simple-fine : (mode : Mode) (raw : Bool) (c : ℕ) → is_simple raw c ≡ true → (is_plain raw c ≡ true) × (error_of mode (Plain c) ≡ None)
+simple-fine mode raw c e = grind (arith, common_steps, simple-parts, not-true)
+
+-- it is a byte that stands for itself in each kind of string
+pub simple-all-fine : (raw : Bool) (bs : List ℕ) → list_all (is_simple raw) bs ≡ true → list_all is_fine bs ≡ true
+simple-all-fine raw bs e = all-weaker (is_simple raw) is_fine (λ c f. let p = simple-parts raw c f in and_from (nat_lt c 128) (not (c == 0)) p.0 p.1) bs e
+
+-- simple characters are bytes, and what follows them begins with a character
+pub simple-ascii : (raw : Bool) (bs : List ℕ) → list_all (is_simple raw) bs ≡ true → IsAscii bs
+simple-ascii raw bs e = is-ascii bs (all-weaker (is_simple raw) is_ascii (λ c f. (simple-parts raw c f).0) bs e)
+
+pub chars-simple : (raw : Bool) (run left : List ℕ) → list_all (is_simple raw) run ≡ true → chars (run ++ left) ≡ run ++ chars left
+chars-simple raw run left e =
+    grind (arith, common_steps, simple-ascii raw run e, chars-append run left, IsUtf8-from_ascii run, chars-IsAscii run)
+
+pub passes-simple : (raw : Bool) (bs : List ℕ) (n : ℕ) → n ≤ prefix_len (is_simple raw) bs → Passes (is_simple raw) (chars bs) (chars (drop n bs))
+passes-simple raw bs n run =
+    let all = run_front (is_simple raw) bs n run in
+    record { passed = take n bs; all = all; whole = ap chars (sym (take-append-drop n bs)) ∙ chars-simple raw (take n bs) (drop n bs) all }
+
+-- so a text may be cut there
+pub cut-simple : (raw : Bool) (bs : List ℕ) (n : ℕ) → IsUtf8 bs → n ≤ length bs → n ≤ prefix_len (is_simple raw) bs → IsCharBoundary bs n
+cut-simple raw bs n is within run = IsCharBoundary-from_take bs n is within (IsUtf8-from_ascii (take n bs) (simple-ascii raw (take n bs) (run_front (is_simple raw) bs n run)))
+
+pub ruleset simple_lemmas = (passes-simple, simple-all-fine)
+
+-- ---- the items of a run
 
 module _ (raw : Bool) (total : ℕ) where
   -- each is one byte

@@ -17,7 +17,7 @@ use Rattle.rustc_literal_escaper.specs.means.Elements.{front_by, items_from}
 use Rattle.rustc_literal_escaper.specs.Meaning.{error_of, errors_in}
 use Rattle.rustc_literal_escaper.specs.Items.{is_plain}
 use Rattle.rustc_literal_escaper.specs.means.Plain.{Passes}
-use Rattle.rustc_literal_escaper.proofs.PlainLemmas.{items-plain}
+use Rattle.rustc_literal_escaper.proofs.ItemLemmas.{items-plain}
 
 -- where nothing is wrong with them, the errors are those of what is left
 module _ (mode : Mode) (raw : Bool) (class : ℕ → Bool) (fine : (c : ℕ) → class c ≡ true → (is_plain raw c ≡ true) × (error_of mode (Plain c) ≡ None)) (total : ℕ) where
@@ -36,10 +36,6 @@ module _ (mode : Mode) (raw : Bool) (class : ℕ → Bool) (fine : (c : ℕ) →
   pub fewer-skip : (waiting : Option Item) (s left : List ℕ) → Passes class s left → length (option_to_list waiting ++ items_from (front_by raw) total left) ≤ length (option_to_list waiting ++ items_from (front_by raw) total s)
   fewer-skip waiting s left p = grind (arith, common_steps, fewer-past p.passed left p.all, p.whole)
 
--- nothing is wrong with a plain character, where no plain one is wrong
-pub plain-fine : (mode : Mode) (raw : Bool) → ((c : ℕ) → error_of mode (Plain c) ≡ None) → (c : ℕ) → is_plain raw c ≡ true → (is_plain raw c ≡ true) × (error_of mode (Plain c) ≡ None)
-plain-fine mode raw fine c e = (e, fine c)
-
 -- ---- a search of bytes finds the first character that is not plain
 
 module _ (raw : Bool) (test : ℕ → Bool) (small : (b : ℕ) → test b ≡ true → b < 128) (plain : (c : ℕ) → test c ≡ false → is_plain raw c ≡ true) where
@@ -48,45 +44,38 @@ module _ (raw : Bool) (test : ℕ → Bool) (small : (b : ℕ) → test b ≡ tr
 
   clear-chars : (cs : List ℕ) → Clear (encode_utf8_all cs) → list_all (is_plain raw) cs ≡ true
   clear-chars [] none = refl
-  clear-chars (c ∷ cs) none = rw (plain c (false_from_ne_true (test c) first)) (clear-chars cs (λ k l set. none (length (encode_utf8 c) + k)
+  clear-chars (c ∷ cs) none =
+      let first : test c ≡ true → ⊥ = λ set. subst (λ (xs : List ℕ). Clear (xs ++ encode_utf8_all cs)) (encode_ascii c (small c set)) none 0 (omega arith) set in
+      rw (plain c (false_from_ne_true (test c) first)) (clear-chars cs (λ k l set. none (length (encode_utf8 c) + k)
       (let n = length-append (encode_utf8 c) (encode_utf8_all cs) in omega arith)
       (ap test (get_or-append-add (encode_utf8 c) (encode_utf8_all cs) k 0) ∙ set)))
-    where
-      first : test c ≡ true → ⊥
-      first set =
-          let alone : encode_utf8 c ≡ c ∷ [] = encode_ascii c (small c set) in
-          subst (λ (xs : List ℕ). Clear (xs ++ encode_utf8_all cs)) alone none 0 (omega arith) set
 
   -- the characters before the byte that is found
-  pub past-found : (bs : List ℕ) (at : ℕ) → IsUtf8 bs → IsFirstByte test bs (Some at) → Passes (is_plain raw) (chars bs) (chars (drop at bs))
-  past-found bs at is found = record {
-    passed = chars (take at bs);
-    all = clear-chars (chars (take at bs)) (subst Clear (sym (encodes-chars (take at bs) front)) (λ k l set. found.0.before k (omega arith) (below k l) (ap test (same k l) ∙ set)));
-    whole = ap chars (sym (take-append-drop at bs)) ∙ chars-append (take at bs) (drop at bs) front;
-  }
-    where
-      front : IsUtf8 (take at bs)
-      front = IsUtf8-take bs at is (IsCharBoundary-before_ascii bs at found.0.high (small (slice_index bs at) found.1))
-
-      below : (k : ℕ) → k < length (take at bs) → k < at
-      below k l = let n = length-take at bs in omega arith
-
-      same : (k : ℕ) → k < length (take at bs) → slice_index bs k ≡ slice_index (take at bs) k
-      same k l = ap (λ (xs : List ℕ). slice_index xs k) (sym (take-append-drop at bs)) ∙ get_or_append_left (take at bs) (drop at bs) 0 k l
+  past-found : (bs : List ℕ) (at : ℕ) → IsUtf8 bs → IsFirstByte test bs (Some at) → Passes (is_plain raw) (chars bs) (chars (drop at bs))
+  past-found bs at is found =
+      let front : IsUtf8 (take at bs) = IsUtf8-take bs at is (IsCharBoundary-before_ascii bs at found.0.high (small (slice_index bs at) found.1)) in
+      let same : (k : ℕ) → k < length (take at bs) → slice_index bs k ≡ slice_index (take at bs) k = λ k l. ap (λ (xs : List ℕ). slice_index xs k) (sym (take-append-drop at bs)) ∙ get_or_append_left (take at bs) (drop at bs) 0 k l in
+      record {
+        passed = chars (take at bs);
+        all = clear-chars (chars (take at bs)) (subst Clear (sym (encodes-chars (take at bs) front)) (λ k l set. found.0.before k (omega arith) (omega (arith, length-take at bs)) (ap test (same k l) ∙ set)));
+        whole = ap chars (sym (take-append-drop at bs)) ∙ chars-append (take at bs) (drop at bs) front;
+      }
 
   -- all of them, where none is found
-  pub past-none : (bs : List ℕ) → IsUtf8 bs → IsFirstByte test bs None → Passes (is_plain raw) (chars bs) (chars [])
+  past-none : (bs : List ℕ) → IsUtf8 bs → IsFirstByte test bs None → Passes (is_plain raw) (chars bs) (chars [])
   past-none bs is none =
       grind (arith, common_steps, clear-chars (chars bs), encodes-chars bs is, chars-nil, append-nil (chars bs))
 
-pub byte_small : (b : ℕ) → is_byte 13 b ≡ true → b < 128
-byte_small b e = grind (arith, nat_tests)
+pub past_found_raw : (bs : List ℕ) (at : ℕ) → IsUtf8 bs → IsFirstByte (is_byte 13) bs (Some at) → Passes (is_plain true) (chars bs) (chars (drop at bs))
+past_found_raw = past-found true (is_byte 13) (λ b e. grind (arith, nat_tests)) (λ c e. rw e refl)
 
-pub byte3_small : (b : ℕ) → is_byte3 92 34 13 b ≡ true → b < 128
-byte3_small b e = grind (arith, nat_tests)
+pub past_none_raw : (bs : List ℕ) → IsUtf8 bs → IsFirstByte (is_byte 13) bs None → Passes (is_plain true) (chars bs) (chars [])
+past_none_raw = past-none true (is_byte 13) (λ b e. grind (arith, nat_tests)) (λ c e. rw e refl)
 
-pub byte_plain : (c : ℕ) → is_byte 13 c ≡ false → is_plain true c ≡ true
-byte_plain c e = rw e refl
+pub past_found_escaped : (bs : List ℕ) (at : ℕ) → IsUtf8 bs → IsFirstByte (is_byte3 92 34 13) bs (Some at) → Passes (is_plain false) (chars bs) (chars (drop at bs))
+past_found_escaped = past-found false (is_byte3 92 34 13) (λ b e. grind (arith, nat_tests)) (λ c e. grind (arith, nat_tests))
 
-pub byte3_plain : (c : ℕ) → is_byte3 92 34 13 c ≡ false → is_plain false c ≡ true
-byte3_plain c e = grind (arith, nat_tests)
+pub past_none_escaped : (bs : List ℕ) → IsUtf8 bs → IsFirstByte (is_byte3 92 34 13) bs None → Passes (is_plain false) (chars bs) (chars [])
+past_none_escaped = past-none false (is_byte3 92 34 13) (λ b e. grind (arith, nat_tests)) (λ c e. grind (arith, nat_tests))
+
+pub ruleset skip_lemmas = (past_found_raw, past_none_raw, past_found_escaped, past_none_escaped)

@@ -21,23 +21,17 @@ use Rattle.rustc_literal_escaper.specs.Answers.{items_of}
 use Rattle.rustc_literal_escaper.specs.Meaning.{errors_in, is_raw, is_single}
 use Rattle.rustc_literal_escaper.specs.means.Plain.{is_simple, Passes}
 use Rattle.rustc_literal_escaper.specs.means.Escape.{braced, escape, short}
-use Rattle.rustc_literal_escaper.specs.means.Single.{StartsWithSingle, alone, literal, read_errors, single}
+use Rattle.rustc_literal_escaper.specs.means.Single.{StartsWithSingle, alone, read_errors, single}
 use Rattle.rustc_literal_escaper.proofs.DigitLemmas.{with_digit, left_at, left_at-brace, left_at-digit, left_at-start, hex-yes}
 use Rattle.rustc_literal_escaper.proofs.ErrorLemmas.{read_errors-strings}
 use Rattle.rustc_literal_escaper.specs.laws.Elements.{nothing}
-use Rattle.rustc_literal_escaper.proofs.SimpleLemmas.{simple-fine}
+use Rattle.rustc_literal_escaper.proofs.RunLemmas.{simple-fine}
 use Rattle.rustc_literal_escaper.proofs.SkipLemmas.{errors-skip}
-use Rattle.rustc_literal_escaper.proofs.SingleLemmas.{literal-starts}
+use Rattle.rustc_literal_escaper.proofs.AnswerLemmas.{alone_whole}
 use Rattle.rustc_literal_escaper.proofs.WrittenLemmas.{is-ascii}
-
-pub alone_whole : {U : Type 0} (meant : Result U EscapeError) → alone meant [] ≡ meant
-alone_whole meant = grind (arith, common_steps)
 
 pub alone_at : {U : Type 0} (meaning : Element → Result U EscapeError) (c : ℕ) (s : List ℕ) (e : Element) → (e, []) ≡ single c s → meaning e ≡ alone (meaning (single c s).0) (single c s).1
 alone_at meaning c s e at = subst (λ (p : Element × List ℕ). meaning e ≡ alone (meaning p.0) p.1) at (sym (alone_whole (meaning e)))
-
-pub literal_is : {U : Type 0} (meaning : Element → Result U EscapeError) (s : List ℕ) (e : Element) → StartsWithSingle s e [] → meaning e ≡ literal meaning s
-literal_is meaning s e h = sym (literal-starts meaning s [] e h ∙ alone_whole (meaning e))
 
 -- texts of one, two and three bytes of ASCII
 chars_are : (bs xs : List ℕ) → bs ≡ xs → list_all is_ascii xs ≡ true → chars bs ≡ xs
@@ -53,11 +47,8 @@ pub chars_three : (bs : List ℕ) → 3 ≤ length bs → length bs < 4 → slic
 chars_three bs l m a b d = chars_are bs _ (grind (arith, common_steps)) (grind (arith, common_steps, nat_tests))
 
 -- a backslash and a character that makes a byte with it
-pub short_alone : (b c : ℕ) → Element.Byte b ≡ short c → (Element.Byte b, []) ≡ escape (c ∷ [])
-short_alone b c e = grind (arith, common_steps, nat_tests)
-
 pub short_whole : (bs : List ℕ) (b : ℕ) → chars bs ≡ 92 ∷ slice_index bs 1 ∷ [] → Element.Byte b ≡ short (slice_index bs 1) → StartsWithSingle (chars bs) (Element.Byte b) []
-short_whole bs b at e = subst (λ (xs : List ℕ). StartsWithSingle xs (Element.Byte b) []) (sym at) (short_alone b (slice_index bs 1) e)
+short_whole bs b at e = rw at (grind (arith, common_steps, nat_tests))
 
 -- a number between braces that is the whole text
 pub number_ends : (v n c : ℕ) (s : List ℕ) → n ≤ 6 → digit_value c < 16 → left_at v n (125 ∷ []) ≡ left_at 0 0 (c ∷ s) → (Unicode v, []) ≡ braced (c ∷ s)
@@ -89,9 +80,6 @@ more_fits v n d fits few digit = grind (arith, common_steps, pow-add)
 last_byte : (s : List ℕ) (n : ℕ) → length s ≡ n + 1 → s ≡ take n s ++ (slice_index s n ∷ [])
 last_byte s n e = sym (take-append-drop n s) ∙ ap (λ (xs : List ℕ). take n s ++ xs) (drop-cons s n 0 (omega arith) ∙ ap (λ (xs : List ℕ). slice_index s n ∷ xs) (drop_of_length-le s {i = suc n} (omega arith)))
 
-four_bytes : (bs : List ℕ) (n : ℕ) → length bs ≡ n + 4 → bs ≡ slice_index bs 0 ∷ slice_index bs 1 ∷ slice_index bs 2 ∷ take n (drop 3 bs) ++ (slice_index (drop 3 bs) n ∷ [])
-four_bytes bs n e = grind (arith, common_steps, last_byte)
-
 -- a number between braces, which is the whole text
 abbrev in_braces : List ℕ → Element → Type 0
 in_braces digits e = (list_all is_ascii digits ≡ true) × ((e, []) ≡ braced (digits ++ (125 ∷ [])))
@@ -100,7 +88,7 @@ braces_whole : (bs digits : List ℕ) (e : Element) → bs ≡ 117 ∷ 123 ∷ d
 braces_whole bs digits e is h = grind (arith, common_steps, list_all-append, chars_are)
 
 braces_is : (bs : List ℕ) (n : ℕ) → length bs ≡ n + 4 → slice_index bs 0 ≡ 117 → slice_index bs 1 ≡ 123 → slice_index bs (length bs - 1) ≡ 125 → bs ≡ 117 ∷ 123 ∷ (slice_index bs 2 ∷ take n (drop 3 bs)) ++ (125 ∷ [])
-braces_is bs n e u brace close = grind (arith, common_steps, get_or-drop, four_bytes)
+braces_is bs n e u brace close = grind (arith, common_steps, get_or-drop, last_byte)
 
 pub number_escape : (bs : List ℕ) (r : Option Element) → 4 ≤ length bs → slice_index bs 0 ≡ 117 → slice_index bs 1 ≡ 123 → slice_index bs (length bs - 1) ≡ 125
     → IfSome r (λ e. (list_all is_ascii (slice_index bs 2 ∷ take (length bs - 1 - 3) (drop 3 bs)) ≡ true) × ((e, []) ≡ braced (slice_index bs 2 ∷ take (length bs - 1 - 3) (drop 3 bs) ++ (125 ∷ []))))

@@ -57,26 +57,20 @@ module _ {U : Type 0} (meaning : Element → Result U EscapeError) (written : �
   stands_for cs all = grind (arith, common_steps, chars-IsAscii, is-ascii, all-ascii, read-all)
 
 -- a text
-text-spelled : (text : List ℕ) → IsUtf8 text → AreSpelled char_of escape_default (λ c. c) (chars text)
-text-spelled text is = each (chars text) (scalars-chars text is)
-  where
-    each : (cs : List ℕ) → all_scalars cs ≡ true → AreSpelled char_of escape_default (λ c. c) cs
-    each [] e = tt
-    each (c ∷ cs) e = let p = and_parts _ (all_scalars cs) e in (char-spelled c p.0, each cs p.1)
+text-spelled : (cs : List ℕ) → all_scalars cs ≡ true → AreSpelled char_of escape_default (λ c. c) cs
+text-spelled [] e = tt
+text-spelled (c ∷ cs) e = let p = and_parts _ (all_scalars cs) e in (char-spelled c p.0, text-spelled cs p.1)
 
 pub char-encodes : (c : ℕ) → IsScalar c → encode_utf8_all (escape_default c) ≡ escape_default c
 char-encodes c is = encodes-IsAscii (escape_default c) (is-ascii (escape_default c) (char-spelled c is).ascii)
 
 pub text-comes_back : (text : List ℕ) → IsUtf8 text → StandsFor char_of (written_text text) (chars text)
-text-comes_back text is = stands_for char_of escape_default (λ c. c) (chars text) (text-spelled text is) ∙ ap (map Ok) (map-id (chars text))
+text-comes_back text is = stands_for char_of escape_default (λ c. c) (chars text) (text-spelled (chars text) (scalars-chars text is)) ∙ ap (map Ok) (map-id (chars text))
 
 -- bytes, in a byte string and in a C string
 bytes-spelled : (bytes : List ℕ) → ((i : ℕ) → slice_index bytes i < 256) → AreSpelled byte_of escape_ascii (λ b. b) bytes
 bytes-spelled [] small = tt
-bytes-spelled (b ∷ bs) small = (
-  byte-spelled byte_of (λ n. n) b (small 0) refl (λ l. rw (lt-ltb b 128 (omega arith)) refl),
-  bytes-spelled bs (λ i. small (suc i)),
-)
+bytes-spelled (b ∷ bs) small = (byte-spelled byte_of (λ n. n) b (small 0) refl (λ l. rw (lt-ltb b 128 (omega arith)) refl), bytes-spelled bs (λ i. small (suc i)))
 
 pub bytes-come_back : (bytes : List ℕ) → ((i : ℕ) → slice_index bytes i < 256) → StandsFor byte_of (written_bytes bytes) bytes
 bytes-come_back bytes small = stands_for byte_of escape_ascii (λ b. b) bytes (bytes-spelled bytes small) ∙ ap (map Ok) (map-id bytes)

@@ -46,7 +46,7 @@ impl<'a> Model for Elements<'a> {
 
 /// Returns an iterator over the elements of a raw string, or of a string that may have escapes.
 #[inline(always)]
-#[tactic(auto, using(crate::proofs::PlacedLemmas::are_placed, crate::proofs::PlainLemmas::stands_for_itself, crate::proofs::RebuiltLemmas::is_rebuilt))]
+#[tactic(auto, using(crate::proofs::PlacedLemmas::are_placed, crate::proofs::ItemLemmas::stands_for_itself, crate::proofs::PlacedLemmas::is_rebuilt))]
 pub(crate) fn elements_of(src: &str, raw: bool) -> Elements<'_>
     ensures items { result ≡ items_of raw src.now }
     ensures plain { StandsForItself raw src.now }

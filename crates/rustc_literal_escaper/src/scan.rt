@@ -59,6 +59,7 @@ pub(crate) fn past_plain(rest: &str, raw: bool) -> &str
 }
 
 /// Returns the text after the plain characters at the front of a raw string: from the first carriage return on.
+#[tactic(auto, using(crate::proofs::SkipLemmas::skip_lemmas))]
 fn past_plain_raw(rest: &str) -> &str
     ensures passes { Passes (is_plain true) (chars rest.now) (chars result.now) }
     ensures text { IsUtf8 result.now }
@@ -72,6 +73,7 @@ fn past_plain_raw(rest: &str) -> &str
 
 /// Returns the text after the plain characters at the front of a string that may have escapes: from the first
 /// character that is not plain on.
+#[tactic(auto, using(crate::proofs::SkipLemmas::skip_lemmas))]
 fn past_plain_escaped(rest: &str) -> &str
     ensures passes { Passes (is_plain false) (chars rest.now) (chars result.now) }
     ensures text { IsUtf8 result.now }

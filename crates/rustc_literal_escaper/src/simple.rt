@@ -9,7 +9,7 @@ use std::simd::prelude::*;
 
 /// Returns the text after simple characters at the front.
 #[inline(always)]
-#[tactic(auto, using(crate::proofs::SimpleLemmas::simple_lemmas))]
+#[tactic(auto, using(crate::proofs::RunLemmas::simple_lemmas))]
 pub(crate) fn past_simple(rest: &str, raw: bool) -> &str
     ensures passes { spec.Passes (spec.is_simple raw) (chars rest.now) (chars result.now) }
     ensures text { IsUtf8 result.now }
@@ -22,7 +22,7 @@ pub(crate) fn past_simple(rest: &str, raw: bool) -> &str
 /// Returns the text after simple characters at the front, if fewer than 32 bytes are left, for which [`past_simple`]
 /// does not look. Of a longer text it skips none.
 #[inline(always)]
-#[tactic(auto, using(crate::proofs::SimpleLemmas::simple_lemmas))]
+#[tactic(auto, using(crate::proofs::RunLemmas::simple_lemmas))]
 pub(crate) fn past_last_simple(rest: &str, raw: bool) -> &str
     ensures passes { spec.Passes (spec.is_simple raw) (chars rest.now) (chars result.now) }
     ensures text { IsUtf8 result.now }

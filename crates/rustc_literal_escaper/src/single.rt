@@ -22,7 +22,7 @@ use crate::strings::{AsByte, AsChar, Meaning};
 /// unescape_char("ab") // Err(EscapeError::MoreThanOneChar)
 /// ```
 #[inline]
-#[tactic(auto, using(crate::proofs::RoundTripLemmas::char_comes_back))]
+#[tactic(auto, using(crate::proofs::AnswerLemmas::literal_read, crate::proofs::RoundTripLemmas::char_comes_back))]
 pub fn unescape_char(src: &str) -> Result<char, EscapeError>
     ensures literal { result ≡ char_literal (chars src.now) }
     ensures escapes { CharComesBack }
@@ -35,6 +35,7 @@ pub fn unescape_char(src: &str) -> Result<char, EscapeError>
 ///
 /// Rust Reference, [Byte literals](https://doc.rust-lang.org/reference/tokens.html#byte-literals).
 #[inline]
+#[tactic(auto, using(crate::proofs::AnswerLemmas::literal_read))]
 pub fn unescape_byte(src: &str) -> Result<u8, EscapeError>
     ensures literal { result ≡ byte_literal (chars src.now) }
     ensures escapes { ByteComesBack }
@@ -46,7 +47,7 @@ pub fn unescape_byte(src: &str) -> Result<u8, EscapeError>
 ///
 /// Only the look at a plain character of ASCII or a short escape is put into the caller.
 #[inline(always)]
-#[tactic(auto, using(crate::proofs::WholeLemmas::literal_is))]
+#[tactic(auto, using(crate::proofs::AnswerLemmas::literal_is))]
 fn read<M: Meaning>(src: &str) -> Result<M::Meant, EscapeError>
     ensures { result ≡ spec.literal M.meaning (chars src.now) }
 {
@@ -109,7 +110,7 @@ fn read_rest<M: Meaning>(c: char, tail: &str) -> Result<M::Meant, EscapeError>
 
 /// Returns what an element stands for, if no text is left after it.
 #[inline(always)]
-#[tactic(auto, using(std::proofs::StrCases::chars_of_empty, crate::proofs::SingleLemmas::single_lemmas, std::proofs::lemmas::Grind::common_steps))]
+#[tactic(auto, using(std::proofs::StrCases::chars_of_empty, crate::proofs::AnswerLemmas::single_lemmas, std::proofs::lemmas::Grind::common_steps))]
 fn alone<U: Copy>(meant: Result<U, EscapeError>, left: &str) -> Result<U, EscapeError>
     ensures { result ≡ spec.alone meant (chars left.now) }
 {

@@ -98,7 +98,7 @@ pub(crate) fn first_item(
 
 /// Returns the item at the front if it is a plain character, and the text after it, like [`first_item`].
 #[inline(always)]
-#[tactic(auto, using(crate::proofs::PlainLemmas::plain_lemmas))]
+#[tactic(auto, using(crate::proofs::ItemLemmas::plain_lemmas))]
 pub(crate) fn first_plain(
     rest: &str,
     total: usize,

@@ -310,7 +310,7 @@ fn each_raw_unit<M: Meaning, F: FnMut(Range<usize>, Result<M::Meant, EscapeError
 /// Plain characters and escapes of a byte have a call of their own, which the compiler makes short. After a plain
 /// character it looks for a run of simple ones, which have a loop of their own.
 #[inline(always)]
-#[tactic(auto, using(crate::proofs::SimpleLemmas::simple_lemmas))]
+#[tactic(auto, using(crate::proofs::RunLemmas::simple_lemmas))]
 fn each_unit_in<M: Meaning, F: FnMut(Range<usize>, Result<M::Meant, EscapeError>)>(
     rest: &str,
     total: usize,
@@ -377,7 +377,7 @@ fn each_warning<'a, M: Meaning, F: FnMut(Range<usize>, Result<M::Meant, EscapeEr
 /// After a short run of simple characters it reads characters one by one for a while, in a loop that does nothing
 /// else.
 #[inline(always)]
-#[tactic(auto, using(crate::proofs::SimpleLemmas::simple_lemmas))]
+#[tactic(auto, using(crate::proofs::RunLemmas::simple_lemmas))]
 fn each_raw_unit_in<M: Meaning, F: FnMut(Range<usize>, Result<M::Meant, EscapeError>)>(
     rest: &str,
     total: usize,

@@ -1,11 +1,11 @@
 -- The items that are read between double quotes are those that the grammar has there.
-use Rattle.std.proofs.Common.{◌≡◌, ℕ, zero, suc, ◌+◌, ◌≤◌, ◌==◌, ◌||◌, Bool, true, false, true≢false, if◌then◌else◌, List, [], ◌∷◌, ◌++◌, length, length-append, append_assoc, map, refl, sym, ap, subst, ◌∙◌, arith}
-use Rattle.std.specs.Char.{is_whitespace}
-use Rattle.std.specs.List.{list_all, list_any}
-use Rattle.std.specs.Str.{byte, encode_utf8_all}
+use Rattle.std.proofs.Common.{◌≡◌, ℕ, zero, suc, ◌+◌, ◌≤◌, ◌==◌, Bool, true, false, true≢false, if◌then◌else◌, List, [], ◌∷◌, ◌++◌, length, length-append, append_assoc, map, refl, sym, ap, subst, ◌∙◌, arith}
+use Rattle.std.specs.List.{list_all}
+use Rattle.std.specs.Str.{encode_utf8_all}
 use Rattle.std.proofs.lemmas.Bool.{cond_both, eqb-true, or_parts}
 use Rattle.std.proofs.lemmas.List.{append_cancel_right, map-append}
 use Rattle.std.proofs.lemmas.Str.{encodes-append}
+use Rattle.std.proofs.lemmas.Bool.Decides.{nat_tests}
 use Rattle.std.proofs.lemmas.Grind.{common_steps}
 use Rattle.rustc_literal_escaper.specs.declared.element.Element.{Element}
 use Rattle.rustc_literal_escaper.specs.declared.element.Element.TheVariants.{Fault, Plain}
@@ -35,8 +35,7 @@ past_backslash-shorter (c ∷ s) = either (λ (f : Front). length f.left ≤ suc
 
 left-shorter : (raw : Bool) (c : ℕ) (s : List ℕ) → length (front_by raw c s).left ≤ length s
 unfolding front raw_front
-left-shorter true c s = omega arith
-left-shorter false c s = either (λ (f : Front). length f.left ≤ length s) (c == byte "\\") (past_backslash s) (one (unescaped c, s)) (past_backslash-shorter s) (omega arith)
+left-shorter raw c s = grind (arith, common_steps, nat_tests, either, past_backslash-shorter)
 
 -- ---- so any number of steps that is large enough gives the same items
 
@@ -49,9 +48,8 @@ module _ (raw : Bool) (total : ℕ) where
   enough zero (suc n) [] a b = refl
   enough (suc m) zero [] a b = refl
   enough (suc m) (suc n) [] a b = refl
-  enough zero n (c ∷ s) a b = absurd (omega arith)
-  enough (suc m) zero (c ∷ s) a b = absurd (omega arith)
   enough (suc m) (suc n) (c ∷ s) a b = grind (arith, common_steps, left-shorter, enough m n)
+  enough m n (c ∷ s) a b = absurd (omega arith)
 
   pub items-cons : (c : ℕ) (s : List ℕ) → items_from at total (c ∷ s) ≡ map (item_at total (place total (c ∷ s))) (at c s).told ++ items_from at total (at c s).left
   unfolding items_from
@@ -74,11 +72,7 @@ bytes-append w s = ap length (encodes-append w s) ∙ length-append (encode_utf8
 
 -- the item of the front of a text
 item-at : (total from : ℕ) (w next : List ℕ) (e : Element) → from + bytes (w ++ next) ≡ total → item_at total (place total (w ++ next)) (e, next) ≡ item from e w
-item-at total from w next e ends =
-    let sizes = bytes-append w next in
-    let start : place total (w ++ next) ≡ from = omega arith in
-    let end : place total next ≡ from + bytes w = omega arith in
-    ap (λ (a : ℕ). (record { start = a; end = place total next }, e)) start ∙ ap (λ (b : ℕ). (record { start = from; end = b }, e)) end
+item-at total from w next e ends = let sizes = bytes-append w next in grind (arith, common_steps)
 
 -- elements between double quotes
 unescaped-is : (c : ℕ) (s : List ℕ) → (c == 92) ≡ false → IsElementBefore (34 ∷ []) s (unescaped c) (c ∷ [])
@@ -91,11 +85,7 @@ unescaped-plain : (c : ℕ) → is_among (92 ∷ 13 ∷ 34 ∷ []) c ≡ false �
 unescaped-plain c out = grind (arith, common_steps, or_parts)
 
 unescaped-marked : (c : ℕ) → is_among (34 ∷ []) c ≡ true → ((c == 92) ≡ false) × (unescaped c ≡ Fault EscapeOnlyChar)
-unescaped-marked c mark = at-char (λ x. ((x == 92) ≡ false) × (unescaped x ≡ Fault EscapeOnlyChar)) c 34 (refl, refl) (is (c == 34) mark)
-  where
-    is : (b : Bool) → (b || false) ≡ true → b ≡ true
-    is true e = refl
-    is false e = e
+unescaped-marked c mark = grind (arith, common_steps, nat_tests)
 
 abbrev ReadsDouble : List ℕ → Element → List ℕ → Type 0
 ReadsDouble = Reads (34 ∷ []) unescaped unescaped-plain unescaped-marked refl unescaped-is
@@ -127,45 +117,21 @@ element-front {next} {e} {w} r other = by_either (r.first == 92)
 
 raw-reads : {e : Element} {c : ℕ} → IsRawElement e c → (next : List ℕ) → raw_front c next ≡ one (e, next)
 unfolding raw_front
-raw-reads (g.plain out) next = rw out refl
-raw-reads g.bare next = refl
+raw-reads is next = grind (arith, common_steps, nat_tests)
 
 -- the warnings past a line end
-module _ (total from : ℕ) (space next : List ℕ) (ends : from + bytes (92 ∷ 10 ∷ space ++ next) ≡ total) where
-  abbrev told_at : Element × List ℕ → Item
-  told_at = item_at total (place total (92 ∷ 10 ∷ space ++ next))
+lines-told : (total from : ℕ) (space next : List ℕ) → from + bytes (92 ∷ 10 ∷ space ++ next) ≡ total → map (item_at total (place total (92 ∷ 10 ∷ space ++ next))) (more_lines space next) ≡ lines_warning from space
+lines-told total from space next ends = grind (arith, common_steps, item-at total from (92 ∷ 10 ∷ space) next (Fault MultipleSkippedLinesWarning) ends)
 
-  lines-told : map told_at (more_lines space next) ≡ lines_warning from space
-  lines-told = by_any (list_any is_newline space)
-    where
-      by_any : (b : Bool) → map told_at (if b then (Fault MultipleSkippedLinesWarning, next) ∷ [] else []) ≡ if b then item from (Fault MultipleSkippedLinesWarning) (92 ∷ 10 ∷ space) ∷ [] else []
-      by_any true = ap (λ (i : Item). i ∷ []) (item-at total from (92 ∷ 10 ∷ space) next (Fault MultipleSkippedLinesWarning) ends)
-      by_any false = refl
-
-  space-told : map told_at (more_space next) ≡ space_warning from space next
-  space-told = by_next next refl
-    where
-      by_next : (left : List ℕ) → next ≡ left → map told_at (more_space left) ≡ space_warning from space left
-      by_next [] e = refl
-      by_next (c ∷ t) e = by_white (is_whitespace c)
-        where
-          text : 92 ∷ 10 ∷ space ++ next ≡ (92 ∷ 10 ∷ (space ++ c ∷ [])) ++ t
-          text = ap (λ xs. 92 ∷ 10 ∷ xs) (ap (λ xs. space ++ xs) e ∙ sym (append_assoc space (c ∷ []) t))
-
-          one_item : told_at (Fault UnskippedWhitespaceWarning, t) ≡ item from (Fault UnskippedWhitespaceWarning) (92 ∷ 10 ∷ (space ++ c ∷ []))
-          one_item = ap (λ (s : List ℕ). item_at total (place total s) (Fault UnskippedWhitespaceWarning, t)) text
-              ∙ item-at total from (92 ∷ 10 ∷ (space ++ c ∷ [])) t (Fault UnskippedWhitespaceWarning) (sym (ap (λ (s : List ℕ). from + bytes s) text) ∙ ends)
-
-          by_white : (b : Bool) → map told_at (if b then (Fault UnskippedWhitespaceWarning, t) ∷ [] else []) ≡ if b then item from (Fault UnskippedWhitespaceWarning) (92 ∷ 10 ∷ (space ++ c ∷ [])) ∷ [] else []
-          by_white true = ap (λ (i : Item). i ∷ []) one_item
-          by_white false = refl
+space-told : (total from : ℕ) (space next : List ℕ) → from + bytes (92 ∷ 10 ∷ space ++ next) ≡ total → map (item_at total (place total (92 ∷ 10 ∷ space ++ next))) (more_space next) ≡ space_warning from space next
+space-told total from space [] ends = refl
+space-told total from space (c ∷ next) ends =
+    let text : (space ++ c ∷ []) ++ next ≡ space ++ c ∷ next = append_assoc space (c ∷ []) next in
+    grind (arith, common_steps, item-at total from (92 ∷ 10 ∷ (space ++ c ∷ [])) next (Fault UnskippedWhitespaceWarning) (rw text ends))
 
 line-read : (space next : List ℕ) → list_all is_passed_over space ≡ true → next_is is_passed_over next ≡ false → front 92 (10 ∷ space ++ next) ≡ record { told = more_lines space next ++ more_space next; left = next }
 unfolding front
-line-read space next all stops =
-    let run = run-is is_passed_over space next all stops in
-    ap (λ (v : List ℕ). let f : Front = record { told = more_lines v (past_run is_passed_over (space ++ next)) ++ more_space (past_run is_passed_over (space ++ next)); left = past_run is_passed_over (space ++ next) } in f) run.0
-    ∙ ap (λ (v : List ℕ). let f : Front = record { told = more_lines space v ++ more_space v; left = v } in f) run.1
+line-read space next all stops = let run = run-is is_passed_over space next all stops in grind (arith, common_steps)
 
 -- where the text after w ends
 past-ends : (total from : ℕ) (w next : List ℕ) → from + bytes (w ++ next) ≡ total → from + bytes w + bytes next ≡ total
@@ -175,23 +141,12 @@ pub items-read : {raw : Bool} {from : ℕ} {s : List ℕ} {items : List Item} �
 items-read {raw} g.nothing total ends = nothing (front_by raw) total
 items-read (g.element {from} {next} {element = e} {w} {items} is other are) total ends =
     let r = double-reads is in
-    let text : w ++ next ≡ r.first ∷ r.others ++ next = ap (λ xs. xs ++ next) r.whole in
-    ap (items_from front total) text
-    ∙ (items-one false total r.first (r.others ++ next) next e (element-front r other)
-    ∙ (ap (λ (s : List ℕ). item_at total (place total s) (e, next) ∷ items_from front total next) (sym text)
-    ∙ (ap (λ (i : Item). i ∷ items_from front total next) (item-at total from w next e ends)
-    ∙ ap (λ (is : List Item). item from e w ∷ is) (items-read are total (past-ends total from w next ends)))))
+    grind (arith, common_steps, r.whole, items-one false total r.first (r.others ++ next) next e (element-front r other), item-at total from w next e ends, items-read are total (past-ends total from w next ends))
 items-read (g.line_end {from} {next} {items} space all stops are) total ends =
     items-cons false total 92 (10 ∷ space ++ next)
-    ∙ (ap (λ (f : Front). map (item_at total (place total (92 ∷ 10 ∷ space ++ next))) f.told ++ items_from front total f.left) (line-read space next all stops)
-    ∙ (ap (λ (told : List Item). told ++ items_from front total next) (map-append (item_at total (place total (92 ∷ 10 ∷ space ++ next))) (more_lines space next) (more_space next))
-    ∙ (ap (λ (told : List Item). told ++ map (item_at total (place total (92 ∷ 10 ∷ space ++ next))) (more_space next) ++ items_from front total next) (lines-told total from space next ends)
-    ∙ (ap (λ (told : List Item). lines_warning from space ++ told ++ items_from front total next) (space-told total from space next ends)
-    ∙ ap (λ (is : List Item). lines_warning from space ++ space_warning from space next ++ is) (items-read are total (past-ends total from (92 ∷ 10 ∷ space) next ends))))))
+    ∙ rw (line-read space next all stops, map-append (item_at total (place total (92 ∷ 10 ∷ space ++ next))) (more_lines space next) (more_space next), lines-told total from space next ends, space-told total from space next ends, items-read are total (past-ends total from (92 ∷ 10 ∷ space) next ends)) refl
 items-read (g.raw_element {from} {c} {next} {element = e} {items} is are) total ends =
-    items-one true total c next next e (raw-reads is next)
-    ∙ (ap (λ (i : Item). i ∷ items_from raw_front total next) (item-at total from (c ∷ []) next e ends)
-    ∙ ap (λ (is : List Item). item from e (c ∷ []) ∷ is) (items-read are total (past-ends total from (c ∷ []) next ends)))
+    grind (arith, common_steps, items-one true total c next next e (raw-reads is next), item-at total from (c ∷ []) next e ends, items-read are total (past-ends total from (c ∷ []) next ends))
 
 -- ---- each text has items
 
@@ -210,28 +165,20 @@ line-has from t rest =
     subst (HasItems false from) (ap (λ xs. 92 ∷ 10 ∷ xs) (sym (run-cut is_passed_over t)))
     (lines_warning from space ++ space_warning from space next ++ items.0, g.line_end space (run-all is_passed_over t) (run-stops is_passed_over t) items.1)
 
-abbrev first_of : List ℕ → ℕ
-first_of [] = 0
-first_of (x ∷ xs) = x
-
-abbrev others_of : List ℕ → List ℕ
-others_of [] = []
-others_of (x ∷ xs) = xs
-
 element-has : (from c : ℕ) (s : List ℕ) → (c ≡ 92 → (t : List ℕ) → s ≡ 10 ∷ t → ⊥) → ((at : ℕ) (left : List ℕ) → length left ≤ length s → HasItems false at left) → HasItems false from (c ∷ s)
 element-has from c s other rest =
     let has = element-is (34 ∷ []) unescaped unescaped-plain unescaped-marked refl unescaped-is c s in
     let left : List ℕ = (if c == 92 then escape s else (unescaped c, s)).1 in
     let items = rest (from + bytes (c ∷ has.others)) left (omega (arith, ap length has.whole, length-append has.others left)) in
     subst (HasItems false from) (ap (λ xs. c ∷ xs) (sym has.whole))
-    (_, g.element has.is (λ (e : c ∷ has.others ≡ 92 ∷ 10 ∷ []). other (ap first_of e) left (has.whole ∙ ap (λ xs. xs ++ left) (ap others_of e))) items.1)
+    (_, g.element has.is (λ (e : c ∷ has.others ≡ 92 ∷ 10 ∷ []). let line : has.others ≡ 10 ∷ [] = cc in other (cc) left (has.whole ∙ ap (λ xs. xs ++ left) line)) items.1)
 
 double-has : (from c : ℕ) (s : List ℕ) → ((at : ℕ) (left : List ℕ) → length left ≤ length s → HasItems false at left) → HasItems false from (c ∷ s)
 double-has from c [] rest = element-has from c [] (λ e t f. absurd (cc)) rest
 double-has from c (d ∷ t) rest = by_either (c == 92)
     (λ slash. by_either (d == 10)
     (λ line. at-char (λ x. HasItems false from (x ∷ d ∷ t)) c 92 (at-char (λ y. HasItems false from (92 ∷ y ∷ t)) d 10 (line-has from t (λ at. rest at (past_run is_passed_over t) (let short = past_run-shorter is_passed_over t in omega arith))) line) slash)
-    (λ none. element-has from c (d ∷ t) (λ e u f. absurd (true≢false (sym (ap (λ (xs : List ℕ). first_of xs == 10) f) ∙ none))) rest))
+    (λ none. element-has from c (d ∷ t) (λ e u f. let line : d ≡ 10 = cc in absurd (true≢false (sym (ap (λ (x : ℕ). x == 10) line) ∙ none))) rest))
     (λ none. element-has from c (d ∷ t) (λ e u f. absurd (true≢false (sym (ap (λ (x : ℕ). x == 92) e) ∙ none))) rest)
 
 pub items-some : (raw : Bool) (n : ℕ) (s : List ℕ) (from : ℕ) → length s ≤ n → HasItems raw from s

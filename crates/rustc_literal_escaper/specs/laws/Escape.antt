@@ -3,6 +3,7 @@ use Rattle.std.proofs.Common.{◌≡◌, ℕ, ◌==◌, ◌||◌, Bool, true, fa
 use Rattle.std.specs.List.{list_all}
 use Rattle.std.proofs.lemmas.Bool.{and_parts, cond-false, cond-true, cond_both, eqb-true, le-leb, leb-false, leb-true, lt-leb, or_parts}
 use Rattle.std.proofs.Math.Bool.{or-true}
+use Rattle.std.proofs.lemmas.Bool.Decides.{nat_tests}
 use Rattle.std.proofs.lemmas.Grind.{common_steps}
 use Rattle.rustc_literal_escaper.specs.declared.element.Element.{Element}
 use Rattle.rustc_literal_escaper.specs.declared.element.Element.TheVariants.{Plain, Unicode, Fault}
@@ -44,30 +45,21 @@ by_either false t f = f refl
 no-digit : (k c : ℕ) → is_hex k ≡ false → is_hex c ≡ true → (c == k) ≡ false
 no-digit k c none is = by_either (c == k) (λ e. absurd (true≢false (sym is ∙ (ap is_hex (eqb-true c k e) ∙ none)))) (λ e. e)
 
+pub digit-runs : (c : ℕ) → is_hex c ≡ true → is_digit_or_underscore c ≡ true
+digit-runs c digit = ap (λ b. (c == 95) || b) digit ∙ or-true (c == 95)
+
 -- digits before what is none
 digits-read : (d : ℕ) (w s : List ℕ) → is_hex d ≡ true → list_all is_digit_or_underscore w ≡ true → next_is is_digit_or_underscore s ≡ false → braced (d ∷ w ++ s) ≡ closed (d ∷ w) s
-digits-read d w s digit all stops =
-    let one : is_digit_or_underscore d ≡ true = ap (λ b. (d == 95) || b) digit ∙ or-true (d == 95) in
-    let run = run-is is_digit_or_underscore (d ∷ w) s (rw one all) stops in
-    cond-false _ _ _ (no-digit 95 d refl digit) ∙ (cond-false _ _ _ (no-digit 125 d refl digit) ∙ (cond-true (is_hex d) _ _ digit
-    ∙ (ap (λ (v : List ℕ). closed v (past_run is_digit_or_underscore (d ∷ w ++ s))) run.0 ∙ ap (closed (d ∷ w)) run.1)))
+digits-read d w s digit all stops = grind (arith, common_steps, nat_tests, run-is, digit-runs, cond-false, no-digit, cond-true)
 
 closed-read : (d x : ℕ) (w next : List ℕ) (r : Element × List ℕ) → is_hex d ≡ true → list_all is_digit_or_underscore w ≡ true → is_digit_or_underscore x ≡ false
     → closed (d ∷ w) (x ∷ next) ≡ r → braced (d ∷ (w ++ x ∷ []) ++ next) ≡ r
 closed-read d x w next r digit all stops e = ap (λ (v : List ℕ). braced (d ∷ v)) (append_assoc w (x ∷ []) next) ∙ (digits-read d w (x ∷ next) digit all stops ∙ e)
 
 bad_first-read : (h : ℕ) (next : List ℕ) → is_hex h ≡ false → hex (h ∷ next) ≡ (Fault InvalidCharInHexEscape, next)
-bad_first-read h [] bad = rw bad refl
-bad_first-read h (l ∷ next) bad = rw bad refl
+bad_first-read h next bad = grind (arith, common_steps)
 
 pub escape-reads : {next : List ℕ} {e : Element} {w : List ℕ} → IsEscapeBefore next e w → escape (w ++ next) ≡ (e, next)
-escape-reads g.nul = refl
-escape-reads g.tab = refl
-escape-reads g.newline = refl
-escape-reads g.carriage_return = refl
-escape-reads g.backslash = refl
-escape-reads g.single_quote = refl
-escape-reads g.double_quote = refl
 escape-reads (g.of_byte a b) = rw a (rw b refl)
 escape-reads {next} (g.of_number {d} {w} (g.some digit all) few) = closed-read d 125 w next _ digit all refl (rw (le-leb _ 6 few) refl)
 escape-reads (g.lone none) = subst (λ (n : List ℕ). escape n ≡ (Fault LoneSlash, n)) (sym none) refl
@@ -78,14 +70,13 @@ escape-reads {next} (g.bad_first {h} a) = bad_first-read h next a
 escape-reads (g.bad_second a b) = rw a (rw b refl)
 escape-reads (g.no_more none) = subst (λ (n : List ℕ). escape (117 ∷ n) ≡ (Fault NoBraceInUnicodeEscape, n)) (sym none) refl
 escape-reads (g.no_brace a) = rw a refl
-escape-reads g.underscore = refl
-escape-reads g.empty = refl
 escape-reads (g.unclosed none g.none) = subst (λ (n : List ℕ). escape (117 ∷ 123 ∷ n) ≡ (Fault UnclosedUnicodeEscape, n)) (sym none) refl
 escape-reads (g.unclosed none (g.some {d} {w} digit all)) = subst (λ (n : List ℕ). braced (d ∷ w ++ n) ≡ (Fault UnclosedUnicodeEscape, n)) (sym none) (digits-read d w [] digit all refl)
 escape-reads (g.bad_digit c g.none other inner) = let parts = or_parts (c == 95) (is_hex c) other in rw (parts.0) (rw inner (rw (parts.1) refl))
 escape-reads {next} (g.bad_digit c (g.some {d} {w} digit all) other inner) = closed-read d c w next _ digit all other (rw inner refl)
 escape-reads (g.too_many g.none many) = absurd (omega arith)
 escape-reads {next} (g.too_many (g.some {d} {w} digit all) many) = closed-read d 125 w next _ digit all refl (rw (lt-leb _ 6 many) refl)
+escape-reads is = refl
 
 -- ---- what is read is in the grammar
 
@@ -96,7 +87,7 @@ IsFront s read = (w : List ℕ) × (s ≡ w ++ read.1) × IsEscapeBefore read.1 
 pub at-char : (P : ℕ → Type 0) (c k : ℕ) → P k → (c == k) ≡ true → P c
 at-char P c k is e = subst P (sym (eqb-true c k e)) is
 
-by_char : (P : ℕ → Type 0) (c k : ℕ) → P k → ((c == k) ≡ false → P c) → P c
+pub by_char : (P : ℕ → Type 0) (c k : ℕ) → P k → ((c == k) ≡ false → P c) → P c
 by_char P c k is other = by_either (c == k) (at-char P c k is) other
 
 short-is : (c : ℕ) (s : List ℕ) → (c == 120) ≡ false → (c == 117) ≡ false → IsFront (c ∷ s) (short c, s)
@@ -123,30 +114,26 @@ hex-is (h ∷ l ∷ s) = cond_both (is_hex h) _ (Fault InvalidCharInHexEscape, l
     (λ a. (120 ∷ h ∷ [], refl, g.bad_first a))
 
 digits-are : (c : ℕ) (s : List ℕ) → is_hex c ≡ true → IsFront (117 ∷ 123 ∷ c ∷ s) (closed_at_run (c ∷ s))
-digits-are c s digit = rw one (by_left (past_run is_digit_or_underscore s) refl (run-stops is_digit_or_underscore s))
+digits-are c s digit = rw (digit-runs c digit) (by_left (past_run is_digit_or_underscore s) (run-cut is_digit_or_underscore s) (run-stops is_digit_or_underscore s))
   where
-    one : is_digit_or_underscore c ≡ true
-    one = ap (λ b. (c == 95) || b) digit ∙ or-true (c == 95)
-
     ds : List ℕ
     ds = front_run is_digit_or_underscore s
 
     are : AreDigits (c ∷ ds)
     are = g.some digit (run-all is_digit_or_underscore s)
 
-    text : (left : List ℕ) → past_run is_digit_or_underscore s ≡ left → s ≡ ds ++ left
-    text left e = run-cut is_digit_or_underscore s ∙ ap (λ xs. ds ++ xs) e
+    past-one : (x : ℕ) (left : List ℕ) → s ≡ ds ++ x ∷ left → 117 ∷ 123 ∷ c ∷ s ≡ 117 ∷ 123 ∷ c ∷ (ds ++ x ∷ []) ++ left
+    past-one x left text = ap (λ xs. 117 ∷ 123 ∷ c ∷ xs) (text ∙ sym (append_assoc ds (x ∷ []) left))
 
-    past-one : (x : ℕ) (left : List ℕ) → past_run is_digit_or_underscore s ≡ x ∷ left → 117 ∷ 123 ∷ c ∷ s ≡ 117 ∷ 123 ∷ c ∷ (ds ++ x ∷ []) ++ left
-    past-one x left e = ap (λ xs. 117 ∷ 123 ∷ c ∷ xs) (text (x ∷ left) e ∙ sym (append_assoc ds (x ∷ []) left))
-
-    by_left : (left : List ℕ) → past_run is_digit_or_underscore s ≡ left → next_is is_digit_or_underscore left ≡ false → IsFront (117 ∷ 123 ∷ c ∷ s) (closed (c ∷ ds) left)
-    by_left [] e stops = (117 ∷ 123 ∷ c ∷ ds, ap (λ xs. 117 ∷ 123 ∷ c ∷ xs) (text [] e), g.unclosed refl are)
-    by_left (x ∷ left) e stops = cond_both (x == 125) (number (filter is_hex (c ∷ ds))) (Fault InvalidCharInUnicodeEscape) (λ (r : Element). IsFront (117 ∷ 123 ∷ c ∷ s) (r, left))
-        (λ close. cond_both (nat_le (length (filter is_hex (c ∷ ds))) 6) (Unicode (hex_value (filter is_hex (c ∷ ds)))) (Fault OverlongUnicodeEscape) (λ (r : Element). IsFront (117 ∷ 123 ∷ c ∷ s) (r, left))
-        (λ few. (117 ∷ 123 ∷ c ∷ (ds ++ 125 ∷ []), past-one 125 left (e ∙ ap (λ y. y ∷ left) (eqb-true x 125 close)), g.of_number are (leb-true _ 6 few)))
-        (λ many. (117 ∷ 123 ∷ c ∷ (ds ++ 125 ∷ []), past-one 125 left (e ∙ ap (λ y. y ∷ left) (eqb-true x 125 close)), g.too_many are (leb-false _ 6 many))))
-        (λ inner. (117 ∷ 123 ∷ c ∷ (ds ++ x ∷ []), past-one x left e, g.bad_digit x are stops inner))
+    by_left : (left : List ℕ) → s ≡ ds ++ left → next_is is_digit_or_underscore left ≡ false → IsFront (117 ∷ 123 ∷ c ∷ s) (closed (c ∷ ds) left)
+    by_left [] text stops = (117 ∷ 123 ∷ c ∷ ds, ap (λ xs. 117 ∷ 123 ∷ c ∷ xs) text, g.unclosed refl are)
+    by_left (x ∷ left) text stops = cond_both (x == 125) (number (filter is_hex (c ∷ ds))) (Fault InvalidCharInUnicodeEscape) (λ (r : Element). IsFront (117 ∷ 123 ∷ c ∷ s) (r, left))
+        (λ close.
+        let whole = past-one 125 left (text ∙ ap (λ y. ds ++ y ∷ left) (eqb-true x 125 close)) in
+        cond_both (nat_le (length (filter is_hex (c ∷ ds))) 6) (Unicode (hex_value (filter is_hex (c ∷ ds)))) (Fault OverlongUnicodeEscape) (λ (r : Element). IsFront (117 ∷ 123 ∷ c ∷ s) (r, left))
+        (λ few. (117 ∷ 123 ∷ c ∷ (ds ++ 125 ∷ []), whole, g.of_number are (leb-true _ 6 few)))
+        (λ many. (117 ∷ 123 ∷ c ∷ (ds ++ 125 ∷ []), whole, g.too_many are (leb-false _ 6 many))))
+        (λ inner. (117 ∷ 123 ∷ c ∷ (ds ++ x ∷ []), past-one x left text, g.bad_digit x are stops inner))
 
 braced-is : (s : List ℕ) → IsFront (117 ∷ 123 ∷ s) (braced s)
 braced-is [] = (117 ∷ 123 ∷ [], refl, g.unclosed refl g.none)

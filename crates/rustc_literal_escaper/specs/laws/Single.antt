@@ -1,7 +1,8 @@
 -- What is read between single quotes is what the grammar has there.
-use Rattle.std.proofs.Common.{◌≡◌, ℕ, ◌==◌, true, false, true≢false, List, [], ◌∷◌, ◌++◌, Result, Ok, Err, refl, sym, ap, subst, ◌∙◌, arith, append_assoc}
+use Rattle.std.proofs.Common.{◌≡◌, ℕ, ◌==◌, true, false, List, [], ◌∷◌, ◌++◌, Result, Ok, Err, refl, sym, ap, subst, ◌∙◌, arith, append_assoc}
 use Rattle.std.proofs.lemmas.Bool.{cond_both, or_parts}
 use Rattle.std.proofs.lemmas.List.{append-nil}
+use Rattle.std.proofs.lemmas.Bool.Decides.{nat_tests}
 use Rattle.std.proofs.lemmas.Grind.{common_steps}
 use Rattle.rustc_literal_escaper.specs.declared.element.Element.{Element}
 use Rattle.rustc_literal_escaper.specs.declared.element.Element.TheVariants.{Plain, Fault}
@@ -10,7 +11,7 @@ use Rattle.rustc_literal_escaper.specs.declared.error.EscapeError.TheVariants.{B
 use Rattle.rustc_literal_escaper.specs.Grammar as g
 use Rattle.rustc_literal_escaper.specs.Grammar.{Error, IsElementBefore, IsSingle, bytes, is_among}
 use Rattle.rustc_literal_escaper.specs.laws.Elements.{bytes-append}
-use Rattle.rustc_literal_escaper.specs.laws.Escape.{Reads, at-char, by_either, element-is, element-reads}
+use Rattle.rustc_literal_escaper.specs.laws.Escape.{Reads, at-char, element-is, element-reads}
 use Rattle.rustc_literal_escaper.specs.means.Elements.{place}
 use Rattle.rustc_literal_escaper.specs.means.Single.{only, read_single, single, unescaped}
 
@@ -33,14 +34,7 @@ unescaped-plain : (c : ℕ) → is_among (92 ∷ 13 ∷ special) c ≡ false →
 unescaped-plain c out = grind (arith, common_steps, or_parts)
 
 unescaped-marked : (c : ℕ) → is_among special c ≡ true → ((c == 92) ≡ false) × (unescaped c ≡ Fault EscapeOnlyChar)
-unescaped-marked c mark =
-    by_either (c == 39) (at-char P c 39 (refl, refl)) (λ a.
-    by_either (c == 10) (at-char P c 10 (refl, refl)) (λ b.
-    by_either (c == 9) (at-char P c 9 (refl, refl)) (λ d.
-    absurd (true≢false (sym mark ∙ rw (a, b, d) refl)))))
-  where
-    P : ℕ → Type 0
-    P x = ((x == 92) ≡ false) × (unescaped x ≡ Fault EscapeOnlyChar)
+unescaped-marked c mark = grind (arith, common_steps, nat_tests)
 
 abbrev ReadsSingle : List ℕ → Element → List ℕ → Type 0
 ReadsSingle = Reads special unescaped unescaped-plain unescaped-marked refl unescaped-is
@@ -54,18 +48,10 @@ module _ {U : Type 0} (meaning : Element → Result U EscapeError) where
 
   -- by the first element and what is left
   read-first : {next : List ℕ} {e : Element} {w : List ℕ} (meant : Result U EscapeError) → IsElementBefore special next e w → meaning e ≡ meant → read (w ++ next) ≡ only (bytes (w ++ next)) meant next
-  read-first {next} {e} {w} meant is means =
-      let r = single-reads is in
-      let text : w ++ next ≡ r.first ∷ r.others ++ next = ap (λ xs. xs ++ next) r.whole in
-      ap (read_single (bytes (w ++ next)) meaning) text
-      ∙ (ap (λ (p : Element × List ℕ). only (bytes (w ++ next)) (meaning p.0) p.1) r.read
-      ∙ ap (λ (m : Result U EscapeError). only (bytes (w ++ next)) m next) means)
+  read-first {next} {e} {w} meant is means = let r = single-reads is in grind (arith, common_steps, r.whole, r.read)
 
   error-at : (w next : List ℕ) (error : EscapeError) → ◌≡◌ {A = Result U Error} (Err (record { start = 0; end = place (bytes (w ++ next)) next }, error)) (Err (g.front_range w, error))
-  error-at w next error =
-      let sizes = bytes-append w next in
-      let end : place (bytes (w ++ next)) next ≡ bytes w = omega arith in
-      ap (λ (n : ℕ). Err (record { start = 0; end = n }, error)) end
+  error-at w next error = let sizes = bytes-append w next in grind (arith, common_steps)
 
   pub single-read : {s : List ℕ} {r : Result U Error} → IsSingle meaning s r → read s ≡ r
   single-read (g.unit {element = e} {w} {u} is means) = ap read (sym (append-nil w)) ∙ read-first (Ok u) is means
@@ -84,10 +70,7 @@ module _ {U : Type 0} (meaning : Element → Result U EscapeError) where
       subst (λ (xs : List ℕ). (r : Result U Error) × IsSingle meaning xs r) (ap (λ xs. c ∷ xs) (sym has.whole))
       (by_meaning (single c s).1 (single c s).0 (c ∷ has.others) (meaning (single c s).0) refl has.is)
     where
-      by_left : (left : List ℕ) (e : Element) (w : List ℕ) (u : U) → meaning e ≡ Ok u → IsElementBefore special left e w → (r : Result U Error) × IsSingle meaning (w ++ left) r
-      by_left [] e w u means is = (_, subst (λ (xs : List ℕ). IsSingle meaning xs (Ok u)) (sym (append-nil w)) (g.unit is means))
-      by_left (d ∷ left) e w u means is = (_, g.more is means)
-
       by_meaning : (left : List ℕ) (e : Element) (w : List ℕ) (meant : Result U EscapeError) → meaning e ≡ meant → IsElementBefore special left e w → (r : Result U Error) × IsSingle meaning (w ++ left) r
-      by_meaning left e w (Ok u) means is = by_left left e w u means is
+      by_meaning [] e w (Ok u) means is = (_, subst (λ (xs : List ℕ). IsSingle meaning xs (Ok u)) (sym (append-nil w)) (g.unit is means))
+      by_meaning (d ∷ left) e w (Ok u) means is = (_, g.more is means)
       by_meaning left e w (Err error) means is = (_, g.wrong is means)

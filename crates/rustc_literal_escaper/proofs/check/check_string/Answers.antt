@@ -1,20 +1,14 @@
-use Rattle.std.proofs.Common.{Bool, List, ap, sym, subst, ◌∙◌, false}
-use Rattle.std.specs.List.{FoldsTo}
+use Rattle.std.proofs.Common.{Bool, ap, sym, ◌∙◌, false}
 use Rattle.rustc_literal_escaper.specs.Answers.{items_of}
-use Rattle.rustc_literal_escaper.specs.Grammar.{Error}
 use Rattle.rustc_literal_escaper.proofs.ErrorLemmas.{read_errors-strings}
 use Rattle.rustc_literal_escaper.proofs.check.check_string.Goals as goal
 
 pub returns-then-is_raw : goal.returns-then-is_raw
 returns-then-is_raw g c = record {
-  calls = subst (λ (es : List Error). FoldsTo (λ f error h. goal.F-step g f error.0 error.1 tt h) c.args.callback.now es c.check_elements.new.callback)
-      (read_errors-strings c.args.mode c.args.src.now c.new_raw.result c.requires.double (c.new_raw.ensures.items ∙ ap (λ (raw : Bool). items_of raw c.args.src.now) (sym c.if-is_raw.true ∙ c.is_raw.ensures)))
-      c.check_elements.ensures.calls;
+  calls = rw (← read_errors-strings c.args.mode c.args.src.now c.new_raw.result c.requires.double (c.new_raw.ensures.items ∙ ap (λ (raw : Bool). items_of raw c.args.src.now) (sym c.if-is_raw.true ∙ c.is_raw.ensures))) c.check_elements.ensures.calls;
 }
 
 pub returns-else-is_raw : goal.returns-else-is_raw
 returns-else-is_raw g c = record {
-  calls = subst (λ (es : List Error). FoldsTo (λ f error h. goal.F-step g f error.0 error.1 tt h) c.args.callback.now es c.check_escaped.new.callback)
-      (read_errors-strings c.args.mode c.args.src.now (items_of false c.args.src.now) c.requires.double (ap (λ (raw : Bool). items_of raw c.args.src.now) (sym c.if-is_raw.false ∙ c.is_raw.ensures)))
-      c.check_escaped.ensures.calls;
+  calls = rw (← read_errors-strings c.args.mode c.args.src.now (items_of false c.args.src.now) c.requires.double (ap (λ (raw : Bool). items_of raw c.args.src.now) (sym c.if-is_raw.false ∙ c.is_raw.ensures))) c.check_escaped.ensures.calls;
 }

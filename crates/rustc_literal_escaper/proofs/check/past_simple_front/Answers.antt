@@ -1,7 +1,7 @@
 use Rattle.std.proofs.Common.{None, false}
 use Rattle.std.specs.Str.{chars}
 use Rattle.rustc_literal_escaper.specs.means.Plain.{is_simple}
-use Rattle.rustc_literal_escaper.proofs.SimpleLemmas.{simple-fine}
+use Rattle.rustc_literal_escaper.proofs.RunLemmas.{simple-fine}
 use Rattle.rustc_literal_escaper.proofs.SkipLemmas.{errors-skip}
 use Rattle.rustc_literal_escaper.proofs.check.past_simple_front.Goals as goal
 

@@ -1,4 +1,4 @@
-use Rattle.rustc_literal_escaper.proofs.ShortLemmas.{digit_table}
+use Rattle.rustc_literal_escaper.proofs.DigitLemmas.{digit_table}
 use Rattle.rustc_literal_escaper.proofs.escape.digit_or_16.Goals as goal
 
 pub returns-then-code-lt128 : goal.returns-then-code-lt128

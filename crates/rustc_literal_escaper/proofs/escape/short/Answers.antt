@@ -1,4 +1,4 @@
-use Rattle.rustc_literal_escaper.proofs.ShortLemmas.{short_table}
+use Rattle.rustc_literal_escaper.proofs.DigitLemmas.{short_table}
 use Rattle.rustc_literal_escaper.proofs.escape.short.Goals as goal
 
 pub returns-then-code-lt128 : goal.returns-then-code-lt128

@@ -1,7 +1,5 @@
-use Rattle.std.proofs.Common.{◌≡◌, ◌-◌, List, [], length, ℕ, arith, subst, IfSome}
+use Rattle.std.proofs.Common.{◌≡◌, ◌-◌, length, arith}
 use Rattle.std.specs.List.{slice_index}
-use Rattle.std.specs.Str.{chars}
-use Rattle.rustc_literal_escaper.specs.means.Escape.{escape}
 use Rattle.rustc_literal_escaper.proofs.WholeLemmas.{number_escape}
 use Rattle.rustc_literal_escaper.proofs.escape.whole_escape.Goals as goal
 
@@ -10,5 +8,4 @@ returns-in-117 c =
     let letter : slice_index c.as_bytes.result.now 0 ≡ 117 = grind arith in
     let brace : slice_index c.as_bytes.result.now 1 ≡ 123 = grind arith in
     let close : slice_index c.as_bytes.result.now (length c.as_bytes.result.now - 1) ≡ 125 = grind arith in
-    subst (λ (bs : List ℕ). IfSome c.whole_number.result (λ e. (e, []) ≡ escape (chars bs))) c.as_bytes.ensures.value
-    (number_escape c.as_bytes.result.now c.whole_number.result c.in-117.len_at_least letter brace close c.whole_number.ensures)
+    rw (← c.as_bytes.ensures.value) (number_escape c.as_bytes.result.now c.whole_number.result c.in-117.len_at_least letter brace close c.whole_number.ensures)

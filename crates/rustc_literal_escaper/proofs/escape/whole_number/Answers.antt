@@ -1,12 +1,7 @@
-use Rattle.std.proofs.Common.{◌≡◌, ◌<◌, ◌^◌, ◌∷◌, [], ◌++◌, List, ℕ, sym, ap, ◌∙◌, arith}
-use Rattle.rustc_literal_escaper.specs.declared.element.Element.{Element}
+use Rattle.std.proofs.Common.{◌<◌, ◌^◌, ◌∷◌, [], ◌++◌, List, ℕ, sym, ap, ◌∙◌, arith}
 use Rattle.rustc_literal_escaper.proofs.DigitLemmas.{with_room, left_at}
 use Rattle.rustc_literal_escaper.proofs.WholeLemmas.{all_more, digit_ascii, more_fits, read_digit}
 use Rattle.rustc_literal_escaper.proofs.escape.whole_number.Goals as goal
-
--- one step, where the front of what was left is read
-step : (v n w m c : ℕ) (rest tail : List ℕ) (read : Element × List ℕ) → rest ≡ c ∷ tail → left_at v n (rest ++ (125 ∷ [])) ≡ read → left_at w m (tail ++ (125 ∷ [])) ≡ left_at v n (c ∷ tail ++ (125 ∷ [])) → left_at w m (tail ++ (125 ∷ [])) ≡ read
-step v n w m c rest tail read front at next = next ∙ (ap (λ (xs : List ℕ). left_at v n (xs ++ (125 ∷ []))) (sym front) ∙ at)
 
 pub overflow_mul-value : goal.overflow_mul-value
 overflow_mul-value c = let room : c.digits.value < 16 ^ 5 = with_room _ _ c.digits.invariant.3 (omega (arith, c.digits.invariant.2, c.if-count-eq-MOST_DIGITS.false)) in omega arith
@@ -18,7 +13,7 @@ pub digits-preserved-in-Some-hex_digit : goal.digits-preserved-in-Some-hex_digit
 digits-preserved-in-Some-hex_digit c =
     let few : c.digits.count < 6 = omega (arith, c.digits.invariant.2, c.if-count-eq-MOST_DIGITS.false) in
     let digit : c.in-Some-hex_digit.digit < 16 = omega (arith, c.in-Some-hex_digit.ensures.0, c.in-Some-hex_digit.ensures.1) in (
-      step c.digits.value c.digits.count _ _ c.in-Some.byte.now _ _ _ c.in-Some.ensures.cases.0 c.digits.invariant.0 (read_digit _ _ _ _ _ c.in-Some-hex_digit.ensures.0 c.in-Some-hex_digit.ensures.1 few),
+      read_digit _ _ _ _ _ c.in-Some-hex_digit.ensures.0 c.in-Some-hex_digit.ensures.1 few ∙ (ap (λ (xs : List ℕ). left_at c.digits.value c.digits.count (xs ++ (125 ∷ []))) (sym c.in-Some.ensures.cases.0) ∙ c.digits.invariant.0),
       λ all. c.digits.invariant.1 (all_more c.in-Some.byte.now _ _ c.in-Some.ensures.cases.0 (digit_ascii _ c.in-Some-hex_digit.ensures.0) all),
       omega arith,
       more_fits _ _ _ c.digits.invariant.3 few digit,

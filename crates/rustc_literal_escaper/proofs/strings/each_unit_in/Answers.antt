@@ -1,9 +1,8 @@
 use Rattle.std.proofs.Common.{◌-◌, false, length, map, refl, sym, ap, ◌∙◌, arith, rules, ◌∷◌, []}
 use Rattle.rustc_literal_escaper.specs.declared.element.Element.TheVariants.{Byte}
-use Rattle.rustc_literal_escaper.specs.means.Elements.{Front, front_by, item_at, items_from}
-use Rattle.rustc_literal_escaper.proofs.ItemLemmas.{first-one, items-step}
+use Rattle.rustc_literal_escaper.specs.means.Elements.{Front, front_by, item_at}
+use Rattle.rustc_literal_escaper.proofs.ItemLemmas.{first-one, items-step, first-plain}
 use Rattle.rustc_literal_escaper.specs.laws.Elements.{nothing}
-use Rattle.rustc_literal_escaper.proofs.PlainLemmas.{first-plain}
 use Rattle.rustc_literal_escaper.proofs.RunLemmas.{folds-on, run-items}
 use Rattle.rustc_literal_escaper.proofs.strings.each_unit_in.Goals as goal
 
@@ -53,6 +52,4 @@ items-preserved g c = (
 )
 
 pub returns : goal.returns
-returns g c = record {
-  calls = c.items.invariant.3 c.items.callback (rw (ap (items_from (front_by false) c.args.total) c.in_default.ensures ∙ nothing (front_by false) c.args.total) refl);
-}
+returns g c = record { calls = c.items.invariant.3 c.items.callback (rw (c.in_default.ensures, nothing (front_by false) c.args.total) refl) }

@@ -1,12 +1,9 @@
-use Rattle.std.proofs.Common.{◌≤◌, ◌++◌, List, length, ap, ◌∙◌, subst}
-use Rattle.std.specs.Option.{option_to_list}
+use Rattle.std.proofs.Common.{ap, ◌∙◌}
 use Rattle.std.specs.Str.{chars}
 use Rattle.rustc_literal_escaper.specs.declared.mode.Mode.TheVariants.{Str}
-use Rattle.rustc_literal_escaper.specs.Grammar.{Item}
-use Rattle.rustc_literal_escaper.specs.means.Elements.{front_by, items_from}
 use Rattle.rustc_literal_escaper.specs.Meaning.{errors_in}
 use Rattle.rustc_literal_escaper.specs.means.Plain.{is_simple}
-use Rattle.rustc_literal_escaper.proofs.SimpleLemmas.{simple-fine}
+use Rattle.rustc_literal_escaper.proofs.RunLemmas.{simple-fine}
 use Rattle.rustc_literal_escaper.proofs.SkipLemmas.{errors-skip, fewer-skip}
 use Rattle.rustc_literal_escaper.proofs.elements.Elements.skip_simple.Goals as goal
 
@@ -17,5 +14,4 @@ returns-in-Some-clause-same c = λ mode.
 
 pub returns-in-Some-clause-fewer : goal.returns-in-Some-clause-fewer
 returns-in-Some-clause-fewer c =
-    subst (λ (is : List Item). length (option_to_list c.self.inside.waiting ++ items_from (front_by c.self.inside.raw) c.self.inside.total (chars c.past_simple-self-inside.result.now)) ≤ length is) c.self.view_is
-    (fewer-skip Str c.self.inside.raw (is_simple c.self.inside.raw) (simple-fine Str c.self.inside.raw) c.self.inside.total c.self.inside.waiting (chars c.self.inside.rest.now) (chars c.past_simple-self-inside.result.now) c.past_simple-self-inside.ensures.passes)
+    rw (← c.self.view_is) (fewer-skip Str c.self.inside.raw (is_simple c.self.inside.raw) (simple-fine Str c.self.inside.raw) c.self.inside.total c.self.inside.waiting (chars c.self.inside.rest.now) (chars c.past_simple-self-inside.result.now) c.past_simple-self-inside.ensures.passes)
