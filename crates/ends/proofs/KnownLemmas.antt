@@ -1,5 +1,5 @@
 -- The known bytes of readers and writers, over loops.
-use Rattle.std.proofs.Common.{◌≡◌, ℕ, ◌+◌, ◌-◌, List, [], ◌++◌, length, take, drop, refl, sym, ap, ◌∙◌, arith, append_assoc, append-nil, length-append, take-append-drop, take_at, length-drop, take_all, subst, Option}
+use Rattle.std.proofs.Common.{◌≡◌, ℕ, ◌+◌, ◌-◌, List, [], ◌++◌, length, take, drop, refl, arith, append_assoc, append-nil, length-append, take-append-drop, take_at, length-drop, take_all, Option}
 use Rattle.std.proofs.lemmas.Grind.{common_steps}
 use Rattle.std.specs.Io.KnownBytes.{Appends, Keeps}
 use Rattle.std.proofs.Math.Seq.{take-append-add}
@@ -19,24 +19,17 @@ pub appends-kept : (old mid new : Option (List ℕ)) (xs : List ℕ) → Appends
 appends-kept old mid new xs a b = grind (arith, common_steps)
 
 pub went_more : (old mid new : Option (List ℕ)) (text rest cut : List ℕ) (n : ℕ) → Went old mid text rest → Appends mid new (take n rest) → cut ≡ drop n rest → Went old new text cut
-went_more old mid new text rest cut n w a e = record {
-  front = w.front ++ take n rest;
-  whole = w.whole ∙ (ap (λ xs. w.front ++ xs) (sym (take-append-drop n rest) ∙ ap (λ xs. take n rest ++ xs) (sym e)) ∙ sym (append_assoc w.front (take n rest) cut));
-  grew = appends-more old mid new w.front (take n rest) w.grew a;
-}
+went_more old mid new text rest cut n w a e = record { front = w.front ++ take n rest; whole = grind (arith, common_steps, take-append-drop, append_assoc); grew = appends-more old mid new w.front (take n rest) w.grew a }
 
 pub went_kept : (old mid new : Option (List ℕ)) (text rest : List ℕ) → Went old mid text rest → Keeps mid new → Went old new text rest
-went_kept old mid new text rest w k = record { front = w.front; whole = w.whole; grew = appends-kept old mid new w.front w.grew k }
+went_kept old mid new text rest w k = grind (arith, common_steps, appends-kept)
 
 pub went_front : (old new : Option (List ℕ)) (text rest : List ℕ) → Went old new text rest → AppendsFront old new text
-went_front old new text rest w =
-    let n : ℕ = length w.front in
-    let front : take n text ≡ w.front = ap (take n) w.whole ∙ take_at w.front rest n refl in
-    (n, omega (arith, ap length w.whole, length-append w.front rest), subst (λ (xs : List ℕ). Appends old new xs) (sym front) w.grew)
+went_front old new text rest w = (length w.front, grind (arith, common_steps, length-append), grind (arith, common_steps, take_at))
 
 -- what is cut off a slice past its first n bytes, as a slice of a slice
 pub cut_past : (n : ℕ) (rest : List ℕ) → take (length rest - n) (drop n rest) ≡ drop n rest
-cut_past n rest = take_all (length rest - n) (drop n rest) (omega (arith, length-drop n rest))
+cut_past n rest = grind (arith, common_steps, length-drop, take_all)
 
 -- a beginning of a text is one of each text that goes on from it
 pub front_first : (old new : Option (List ℕ)) (xs ys text : List ℕ) → xs ++ ys ≡ text → AppendsFront old new xs → AppendsFront old new text
@@ -44,11 +37,7 @@ front_first old new xs ys text e f = grind (arith, common_steps, length-append, 
 
 -- a text and then a beginning of another
 pub front_more : (old mid new : Option (List ℕ)) (xs ys text : List ℕ) → xs ++ ys ≡ text → Appends old mid xs → AppendsFront mid new ys → AppendsFront old new text
-front_more old mid new xs ys text e a f = (
-  length xs + f.0,
-  omega (arith, f.1, length-append xs ys, ap length e),
-  subst (λ (zs : List ℕ). Appends old new zs) (sym (ap (take (length xs + f.0)) (sym e) ∙ take-append-add xs ys f.0)) (appends-more old mid new xs (take f.0 ys) a f.2),
-)
+front_more old mid new xs ys text e a f = (length xs + f.0, grind (arith, common_steps, length-append), grind (arith, common_steps, take-append-add, appends-more))
 
 -- two texts and then a beginning of a third
 pub front_last : (old mid late new : Option (List ℕ)) (xs ys zs text : List ℕ) → xs ++ (ys ++ zs) ≡ text → Appends old mid xs → Appends mid late ys → AppendsFront late new zs → AppendsFront old new text

@@ -85,10 +85,7 @@ pub fn is_closed(error: &Error) -> bool
 fn has_closed<T>(answer: &io::Result<T>) -> bool
     ensures { result ≡ has_closed answer.now }
 {
-    match answer {
-        Ok(_) => false,
-        Err(error) => is_closed(error),
-    }
+    matches!(answer, Err(error) if is_closed(error))
 }
 
 impl<R: Read> Read for Watched<R> {

@@ -98,8 +98,7 @@ gives_more taken piece rest past given more at first sure =
             utf8 = IsUtf8-append (rest ++ piece) others sure.is_text.utf8 (utf8_past (taken ++ piece) others text its.utf8);
             fits = omega (arith, at.short, length-append (rest ++ piece) others, length-append rest piece, length-append (taken ++ piece) others, length-append taken piece);
           } in
-          ap (tokens_of (part E2024)) (append_assoc taken piece others) ∙ (at.first (piece ++ others) (subst IsText (append_assoc taken piece others) its)
-          ∙ (ap (λ bs. given ++ tokens_of (part E2024) bs) (sym (append_assoc rest piece others)) ∙ (ap (λ ts. given ++ ts) (first others here) ∙ sym (append_assoc given more (tokens_of (part E2024) (past ++ others))))));
+          cc (append_assoc taken piece others, at.first (piece ++ others) (subst IsText (append_assoc taken piece others) its), append_assoc rest piece others, first others here, append_assoc given more (tokens_of (part E2024) (past ++ others)));
     }
 
 -- nothing more comes

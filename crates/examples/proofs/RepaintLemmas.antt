@@ -30,14 +30,11 @@ pieces-moved : (added removed : ℕ) (text other : List ℕ) (from to : ℕ) (ts
 pieces-moved added removed text other from to [] same at fits = refl
 pieces-moved added removed text other from to (t ∷ ts) same at fits =
     let next : drop (from + t.len) text ≡ drop (to + t.len) other = sym (drop-drop t.len from text) ∙ (ap (drop t.len) same ∙ drop-drop t.len to other) in
-    ap (λ (p : ℕ). (let q : Placed = record { start = p; token = t; text = take t.len (drop to other) } in q) ∷ pieces_from other (to + t.len) ts) at
-    ∙ (ap (λ (bs : List ℕ). (let q : Placed = record { start = from + added - removed; token = t; text = take t.len bs } in q) ∷ pieces_from other (to + t.len) ts) (sym same)
-    ∙ ap (λ ps. (let q : Placed = record { start = from + added - removed; token = t; text = take t.len (drop from text) } in q) ∷ ps) (pieces-moved added removed text other (from + t.len) (to + t.len) ts next (omega arith) (omega arith)))
+    cc (pieces-moved added removed text other (from + t.len) (to + t.len) ts next (omega arith) (omega arith))
 
 -- a list is what stands before a number, so many more, and the rest
 in_three : (k n : ℕ) (ps : List Placed) → ps ≡ take k ps ++ (take n (drop k ps) ++ drop (k + n) ps)
-in_three k n ps =
-    sym (ap (λ qs. take k ps ++ qs) (ap (λ qs. take n (drop k ps) ++ qs) (sym (drop-drop n k ps)) ∙ take-append-drop n (drop k ps)) ∙ take-append-drop k ps)
+in_three k n ps = cc (take-append-drop k ps, take-append-drop n (drop k ps), drop-drop n k ps)
 
 kept_before : (text : List ℕ) (start : ℕ) (ts : List Token) (k : ℕ) → (0 < k → has_two text (bound ts k) start ≡ true) → bound ts k ≤ start
 kept_before text start ts zero two = omega arith
@@ -73,9 +70,7 @@ module _ {first : List ℕ → Token} (law : IsGrammar first) (text : List ℕ) 
       let long : length (take kept old) ≡ kept = length-take-le kept old two.0 in
       let end : bound (take kept old) (length (take kept old)) ≡ bound old kept = ap (bound (take kept old)) long ∙ bound-take kept old in
       let early : bound old kept ≤ start = kept_before text start old kept two.1 in
-      take-pieces new_text 0 kept new ∙ (ap (pieces_from new_text 0) (front_same law text is start stop insert its edit)
-      ∙ (sym (pieces-within new_text start 0 (take kept old) (omega (arith, end))) ∙ (ap (λ xs. pieces_from xs 0 (take kept old)) ed.front
-      ∙ (pieces-within text start 0 (take kept old) (omega (arith, end)) ∙ sym (take-pieces text 0 kept old)))))
+      cc (take-pieces new_text 0 kept new, front_same law text is start stop insert its edit, pieces-within new_text start 0 (take kept old) (omega (arith, end)), ed.front, pieces-within text start 0 (take kept old) (omega (arith, end)), take-pieces text 0 kept old)
 
   back_shown : (met back : ℕ) (at : IsBodyMeeting old new stop (start + length insert) met back) → drop met to_show ≡ map (moved (length insert) (stop - start)) (drop at.old_number shown)
   back_shown met back at =
@@ -89,9 +84,7 @@ module _ {first : List ℕ → Token} (law : IsGrammar first) (text : List ℕ) 
       let same : drop (0 + bound old i) text ≡ drop (0 + bound new met) new_text =
       ap (λ p. drop p text) (sym a ∙ there) ∙ (sym (same_rest law text start stop insert new_text is edit ed (bound new met) past) ∙ ap (λ p. drop p new_text) b) in
       let rest : drop met new ≡ drop i old = met_rest law text start stop insert new_text is edit ed met i past there in
-      drop-pieces new_text 0 met new ∙ (ap (pieces_from new_text (0 + bound new met)) rest
-      ∙ (pieces-moved (length insert) (stop - start) text new_text (0 + bound old i) (0 + bound new met) (drop i old) same (omega arith) (omega arith)
-      ∙ ap (map (moved (length insert) (stop - start))) (sym (drop-pieces text 0 i old))))
+      cc (drop-pieces new_text 0 met new, pieces-moved (length insert) (stop - start) text new_text (0 + bound old i) (0 + bound new met) (drop i old) same (omega arith) (omega arith), drop-pieces text 0 i old)
 
   -- with what is painted, what was shown is what is to be shown
   pub enough : (r : Relexed) → IsRelexed (part_by first) text start stop insert r → to_show ≡ shown_after r (length insert) (stop - start) shown (changed r to_show)
@@ -101,10 +94,7 @@ module _ {first : List ℕ → Token} (law : IsGrammar first) (text : List ℕ) 
       let back = at.back_is in
       let number : length shown - r.kept_back ≡ at.old_number = omega (arith, length-pieces text 0 old) in
       let front : take r.kept_front to_show ≡ take r.kept_front shown = subst (λ n. take n to_show ≡ take n shown) (sym counts.front) front_shown in
-      in_three r.kept_front r.lexed to_show
-      ∙ (ap (λ ps. ps ++ (changed r to_show ++ drop (r.kept_front + r.lexed) to_show)) front
-      ∙ (ap (λ ps. take r.kept_front shown ++ (changed r to_show ++ ps)) (back_shown (r.kept_front + r.lexed) r.kept_back at)
-      ∙ ap (λ n. take r.kept_front shown ++ (changed r to_show ++ map (moved (length insert) (stop - start)) (drop n shown))) (sym number)))
+      cc (in_three r.kept_front r.lexed to_show, back_shown (r.kept_front + r.lexed) r.kept_back at)
 
   pub enough_for : {E : Type 0} (result : Result Relexed E) (bytes : List ℕ) (tokens held : List Token) → held ≡ tokens_by first text → tokens ≡ tokens_by first bytes
       → OnOk result (bytes ≡ apply text start stop insert) → IfOk result (IsRelexed (part_by first) text start stop insert)

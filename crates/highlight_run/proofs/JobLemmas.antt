@@ -1,5 +1,6 @@
 -- The options that words write, by the first of them.
-use Rattle.std.proofs.Common.{◌≡◌, ◌<◌, ℕ, Bool, true, false, if◌then◌else◌, List, [], ◌∷◌, length, map, string_bytes, refl, sym, ap, ◌∙◌, arith, Option, Some, None, String, Global}
+use Rattle.std.proofs.Common.{◌≡◌, ◌<◌, ℕ, Bool, false, if◌then◌else◌, List, [], ◌∷◌, length, map, string_bytes, refl, sym, ap, ◌∙◌, arith, Option, None, String, Global}
+use Rattle.std.proofs.lemmas.Grind.{common_steps}
 use Rattle.std.specs.Prelude.{codes}
 use Rattle.std.specs.Option.{option_and_then, option_map}
 use Rattle.std.specs.Str.{bytes_eq}
@@ -15,19 +16,14 @@ abbrev pub others : Option Found → Option Options
 others found = option_and_then (λ (p : Found). options_of p.0 p.1) found
 
 after : (x : Option Options) (words : List (List ℕ)) → option_and_then (λ o. options_of o words) x ≡ others (option_map (λ o. (o, words)) x)
-after None words = refl
-after (Some o) words = refl
+after x words = grind (arith, common_steps)
 
 alone : (x : Option Options) → x ≡ others (option_map (λ o. (o, [])) x)
-alone None = refl
-alone (Some o) = refl
+alone x = grind (arith, common_steps)
 
 by_name : (a b c : Bool) (x y z : Option Options) (u v w : Option Found) → x ≡ others u → y ≡ others v → z ≡ others w
     → (if a then x else (if b then y else (if c then z else None))) ≡ others (if a then u else (if b then v else (if c then w else None)))
-by_name true b c x y z u v w e f g = e
-by_name false true c x y z u v w e f g = f
-by_name false false true x y z u v w e f g = g
-by_name false false false x y z u v w e f g = refl
+by_name a b c x y z u v w e f g = grind (arith, common_steps)
 
 pub options-first : (o : Options) (words : List (String Global)) (found : Option Found) → 0 < length words → found ≡ option_of o (map string_bytes words) → options_of o (map string_bytes words) ≡ others found
 options-first o [] found some is = absurd (omega arith)

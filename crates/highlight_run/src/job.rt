@@ -59,10 +59,7 @@ pub fn read_job(words: &[String], colours: bool) -> Option<Job>
 fn is_help(words: &[String]) -> bool
     ensures { result ≡ is_help (map string_bytes words.now) }
 {
-    match words {
-        [word] => word.as_str() == "--help",
-        _ => false,
-    }
+    matches!(words, [word] if word.as_str() == "--help")
 }
 
 /// Adds the options of the arguments to `options`, in any order, each at most once. So it calls itself at most
@@ -102,10 +99,7 @@ fn read_option(options: Options, words: &[String]) -> Option<(Options, &[String]
 fn page(options: Options) -> Option<Options>
     ensures { result ≡ page options }
 {
-    if options.html {
-        return None;
-    }
-    Some(Options {
+    (!options.html).then_some(Options {
         html: true,
         ..options
     })
@@ -115,26 +109,20 @@ fn page(options: Options) -> Option<Options>
 fn in_edition(options: Options, edition: Edition) -> Option<Options>
     ensures { result ≡ in_edition options edition }
 {
-    match options.edition {
-        Some(_) => None,
-        None => Some(Options {
-            edition: Some(edition),
-            ..options
-        }),
-    }
+    options.edition.is_none().then_some(Options {
+        edition: Some(edition),
+        ..options
+    })
 }
 
 /// Adds `--color`. Returns `None` if it is there already.
 fn with_colours(options: Options, when: When) -> Option<Options>
     ensures { result ≡ with_colours options when }
 {
-    match options.color {
-        Some(_) => None,
-        None => Some(Options {
-            color: Some(when),
-            ..options
-        }),
-    }
+    options.color.is_none().then_some(Options {
+        color: Some(when),
+        ..options
+    })
 }
 
 /// Returns the style that the options ask for.

@@ -80,9 +80,7 @@ fn show<R: Read, W: Write>(
         (W.contents output.new.inner) result }
 {
     let words = given_words(alloc, start.args)?;
-    let Some(colours) = wants_colours(&start.no_color, start.is_terminal) else {
-        return Err(Stop::Memory);
-    };
+    let colours = wants_colours(&start.no_color, start.is_terminal).ok_or(Stop::Memory)?;
     match read_job(words.as_slice(), colours) {
         Some(Job::Show { style, edition }) => run(alloc, style, edition, input, output),
         Some(Job::Help) => put(output, HELP),

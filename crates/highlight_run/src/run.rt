@@ -33,9 +33,7 @@ pub fn run<R: Read, W: Write>(
         (W.contents output.old.inner) (W.contents output.new.inner) result }
 {
     let text = read_text(alloc, input)?;
-    let Ok(made) = print(alloc, style, edition, text.as_str()) else {
-        return Err(Stop::Memory);
-    };
+    let made = print(alloc, style, edition, text.as_str()).map_err(|_| Stop::Memory)?;
     put(output, made.as_str())
 }
 

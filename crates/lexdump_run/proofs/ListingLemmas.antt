@@ -1,5 +1,5 @@
 -- The loops that list tokens.
-use Rattle.std.proofs.Common.{◌≡◌, ℕ, zero, suc, ◌+◌, ◌-◌, ◌<◌, ◌≤◌, ◌^◌, List, [], ◌∷◌, ◌++◌, length, take, drop, refl, ap, sym, ◌∙◌, arith, append_assoc, length-drop, length-take-le, subst}
+use Rattle.std.proofs.Common.{◌≡◌, ℕ, zero, suc, ◌+◌, ◌-◌, ◌<◌, ◌≤◌, ◌^◌, List, [], ◌∷◌, ◌++◌, length, take, drop, refl, ap, ◌∙◌, arith, append_assoc, length-drop, length-take-le, subst}
 use Rattle.std.proofs.lemmas.Grind.{common_steps}
 use Rattle.std.proofs.lemmas.List.{nil_from_length}
 use Rattle.std.specs.Str.{IsUtf8}
@@ -20,8 +20,7 @@ listing-split start tokens zero = let e : start ≡ start + 0 = omega arith in a
 listing-split start [] (suc count) = refl
 listing-split start (t ∷ ts) (suc count) =
     let e : start + t.len + bound ts count ≡ start + (t.len + bound ts count) = omega arith in
-    ap (λ xs. line_text start t ++ xs) (listing-split (start + t.len) ts count ∙ ap (λ n. listing_from (start + t.len) (take count ts) ++ listing_from n (drop count ts)) e)
-    ∙ sym (append_assoc (line_text start t) (listing_from (start + t.len) (take count ts)) (listing_from (start + (t.len + bound ts count)) (drop count ts)))
+    cc (listing-split (start + t.len) ts count, append_assoc (line_text start t) (listing_from (start + t.len) (take count ts)) (listing_from (start + (t.len + bound ts count)) (drop count ts)))
 
 -- a buffer is filled with the first `count` of the tokens of the rest of a text
 module _ (text cut rest : List ℕ) (mode : Mode) (buffer filled : List Token) (count : ℕ) (cut_is : cut ≡ rest) (utf8 : IsUtf8 cut) (within : length rest ≤ length text) (fits : length text < 2 ^ 32) (fills : IsFilled (λ (t : Token). t) (tokens_of mode rest) buffer filled count) where
@@ -43,10 +42,7 @@ module _ (text cut rest : List ℕ) (mode : Mode) (buffer filled : List Token) (
   buffer-split later after e f =
       let start : length text - length rest ≡ length text - length cut = omega (arith, ap length cut_is) in
       let next : length text - length cut + bound left count ≡ length text - length after = omega (arith, ap length cut_is, ap length f, length-drop (bound left count) rest, inside, within) in
-      ap (λ n. listing_from n left) start ∙ (listing-split (length text - length cut) left count
-      ∙ (ap (λ ts. listing_from (length text - length cut) ts ++ listing_from (length text - length cut + bound left count) (drop count left)) (sym front.front)
-      ∙ (ap (λ n. listing_from (length text - length cut) (take count filled) ++ listing_from n (drop count left)) next
-      ∙ ap (λ ts. listing_from (length text - length cut) (take count filled) ++ listing_from (length text - length after) ts) (sym e))))
+      cc (listing-split (length text - length cut) left count, front.front)
 
 -- where no text is left, no token is
 pub none_left : (s : State) → length s.rest ≡ 0 → tokens_left s ≡ []

@@ -39,17 +39,13 @@ module _ (job : Job) (known : Option (List ℕ)) (text : List ℕ) (old mid : Op
     -- all was listed, and what is held is written at the end
     pub ends_listed : (new : Option (List ℕ)) (result : Result (Unit {0}) Fault) → Lists job text old mid held left (Ok tt)
         → IfErr result (λ fault. fault ≡ Write) → OnOk result (Appends mid new left) → OnErr result (AppendsFront mid new left) → IfSome known (λ bytes. Ends job bytes old new result)
-    ends_listed new (Ok done) p only ok err =
+    ends_listed new result p only ok err =
         let it : IsText text = record { utf8 = utf8; fits = fits } in
-        text_known (λ bytes. Ends job bytes old new (Ok done)) known text is (grind (arith, common_steps, appends-more))
-    ends_listed new (Err fault) p only ok err =
         let w : Went old mid p.0 left = subst (λ (xs : List ℕ). Went old mid (xs ++ p.0) left) none p.2 in
-        text_known (λ bytes. Ends job bytes old new (Err fault)) known text is
-        (subst (λ (f : Fault). Ends job text old new (Err f)) (sym only) (record { utf8 = utf8; fits = fits }, (p.0, p.1, front_more old mid new w.front left p.0 (sym w.whole) w.grew err)))
+        text_known (λ bytes. Ends job bytes old new result) known text is (grind (arith, common_steps, appends-more, front_more old mid new w.front left p.0 (sym w.whole) w.grew))
 
 -- what went out, and then what is held, are the bytes; where the end fails a beginning of them went out
 pub front_written : (old mid new : Option (List ℕ)) (held bytes left : List ℕ) (result : Result (Unit {0}) Fault) → held ≡ [] → Went old mid (held ++ bytes) left → OnErr result (AppendsFront mid new left) → OnErr result (AppendsFront old new bytes)
-front_written old mid new held bytes left (Ok done) none went err = grind (arith, common_steps)
-front_written old mid new held bytes left (Err fault) none went err =
+front_written old mid new held bytes left result none went err =
     let w : Went old mid bytes left = subst (λ (xs : List ℕ). Went old mid (xs ++ bytes) left) none went in
-    front_more old mid new w.front left bytes (sym w.whole) w.grew err
+    grind (arith, common_steps, front_more old mid new w.front left bytes (sym w.whole) w.grew)

@@ -31,9 +31,7 @@ module _ (old mid new : Option (List ℕ)) (all held to_come first rest : List �
 -- a push that fails before all is pushed
 pub pushes_stopped : (old mid new : Option (List ℕ)) (start end bytes held to_come first rest : List ℕ) (fault : Fault) (result : Result (Unit {0}) Fault)
     → Went old mid (start ++ bytes) (held ++ to_come) → to_come ≡ first ++ rest → (fault ≡ Write) × AppendsFront mid new (held ++ first) → IsErrAnd result (λ y. y ≡ fault) → Pushes old new start end bytes result
-pushes_stopped old mid new start end bytes held to_come first rest fault (Ok done) at e p is = absurd is
-pushes_stopped old mid new start end bytes held to_come first rest fault (Err y) at e p is =
-    (is ∙ p.0, front_stopped old mid new (start ++ bytes) held to_come first rest at e p.1)
+pushes_stopped old mid new start end bytes held to_come first rest fault result at e p is = grind (arith, common_steps, front_stopped old mid new (start ++ bytes) held to_come first rest at e p.1)
 
 pub pushes_first : (old new : Option (List ℕ)) (held left one two bytes : List ℕ) (fault : Fault) (result : Result (Unit {0}) Fault)
     → bytes ≡ one ++ two → (fault ≡ Write) × AppendsFront old new (held ++ one) → IsErrAnd result (λ y. y ≡ fault) → Pushes old new held left bytes result

@@ -36,9 +36,7 @@ pub fn read_job<'a>(alloc: Global, words: &'a [String]) -> Result<Job<'a>, Fault
         [command] if command.as_str() == "front" => Ok(Job::Front),
         [command] if command.as_str() == "shebang" => Ok(Job::Shebang),
         [option, year, rest @ ..] if option.as_str() == "--edition" => {
-            let Ok(edition) = Edition::from_str(year.as_str()) else {
-                return Err(Fault::Arguments);
-            };
+            let edition = Edition::from_str(year.as_str()).map_err(|_| Fault::Arguments)?;
             read_job_in(alloc, rest, edition)
         }
         _ => read_job_in(alloc, words, Edition::E2024),

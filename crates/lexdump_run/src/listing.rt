@@ -26,14 +26,6 @@ use std::io::Write;
 /// How many tokens are lexed at once.
 const BUFFER_LEN: usize = 256;
 
-/// Makes a buffer for tokens.
-fn new_buffer() -> [Token; BUFFER_LEN] {
-    [Token {
-        kind: TokenKind::Eof,
-        len: 0,
-    }; BUFFER_LEN]
-}
-
 /// Writes the lines of the tokens, the first of which begins at byte `start`, and flushes.
 #[tactic(auto, using(crate::proofs::OutcomeLemmas::front_written, std::proofs::lemmas::Grind::common_steps))]
 pub fn write_listing<W: Write>(
@@ -71,7 +63,10 @@ pub fn list_tokens<W: Write>(
     ensures pushed { Pushes (W.contents output.old.inner) (W.contents output.new.inner)
         lines.old lines.new (listing (tokens_of (mode_in frontmatter_allowed edition) text.now)) result }
 {
-    let mut buffer = new_buffer();
+    let mut buffer = [Token {
+        kind: TokenKind::Eof,
+        len: 0,
+    }; BUFFER_LEN];
     let mut tokens = tokenize_as(text, frontmatter_allowed, edition);
     'left: while !tokens.as_str().is_empty() {
         let start = text.len() - tokens.as_str().len();
@@ -363,11 +358,7 @@ fn text_field(label: &'static str, text: &'static str) -> Field
 fn flag_field(label: &'static str, value: bool) -> Field
     ensures { field_text result ≡ label.now ++ bool_text value }
 {
-    if value {
-        text_field(label, "true")
-    } else {
-        text_field(label, "false")
-    }
+    text_field(label, if value { "true" } else { "false" })
 }
 
 /// Returns the fields of a literal that may be unterminated.
@@ -381,14 +372,11 @@ fn end_fields(label: &'static str, terminated: bool) -> (Field, Field)
 fn hash_fields(label: &'static str, n_hashes: Option<u8>) -> (Field, Field)
     ensures { field_text result.0 ++ field_text result.1 ≡ label.now ++ hashes_text n_hashes }
 {
-    let field = match n_hashes {
-        None => text_field(label, "none"),
-        Some(n) => Field {
-            label,
-            value: Value::Number(u32::from(n)),
-        },
+    let value = match n_hashes {
+        None => Value::Text("none"),
+        Some(n) => Value::Number(u32::from(n)),
     };
-    (field, NONE)
+    (Field { label, value }, NONE)
 }
 
 /// Returns the style of a doc comment, or `none`.

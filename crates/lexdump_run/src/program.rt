@@ -53,8 +53,6 @@ fn dump<R: Read, W: Write>(
         (W.contents output.old.inner) (W.contents output.new.inner) result }
 {
     let words = given_words(alloc, args)?;
-    match read_job(alloc, words.as_slice()) {
-        Ok(job) => run(alloc, &job, input, output),
-        Err(fault) => Err(fault),
-    }
+    let job = read_job(alloc, words.as_slice())?;
+    run(alloc, &job, input, output)
 }

@@ -1,11 +1,10 @@
 -- A batch, by what `fill` says of the tokens that are left.
-use Rattle.std.proofs.Common.{◌≡◌, ℕ, ◌+◌, ◌-◌, ◌≤◌, List, length, drop, refl, sym, ap, subst, ◌∙◌, arith, length-drop, IsCharBoundary}
+use Rattle.std.proofs.Common.{◌≡◌, ℕ, ◌+◌, ◌-◌, ◌≤◌, List, length, drop, sym, ap, subst, ◌∙◌, arith, length-drop, IsCharBoundary}
 use Rattle.std.proofs.lemmas.Grind.{common_steps}
 use Rattle.std.proofs.lemmas.Str.{IsCharBoundary-from_rest, IsUtf8-drop}
 use Rattle.std.proofs.Math.Nat.{min-le_right}
 use Rattle.rustc_lexer.specs.declared.edition.Edition.TheVariants.{E2024}
 use Rattle.rustc_lexer.specs.declared.token.FrontmatterAllowed.{FrontmatterAllowed}
-use Rattle.rustc_lexer.specs.declared.token.FrontmatterAllowed.TheVariants.{Yes, No}
 use Rattle.rustc_lexer.specs.Tokens.{bound, tokens_of, tokens_left}
 use Rattle.rustc_lexer.specs.means.Tokens.{IsFilled}
 use Rattle.rustc_lexer.specs.LanguageText.{Mode, mode_edition, mode_in}
@@ -19,17 +18,14 @@ use Rattle.rustc_lexer_c.specs.Batch.{IsBatch, allowed_of, allowed_number, mode_
 use Rattle.rustc_lexer_c.specs.Numbers.{token_numbers}
 
 allowed_back : (allowed : FrontmatterAllowed) → allowed_of (allowed_number allowed) ≡ allowed
-allowed_back No = refl
-allowed_back Yes = refl
+allowed_back allowed = grind (arith, common_steps)
 
 -- the number of a flag is that of what it asks for, which is of the newest edition
 number_of-mode : (allowed : FrontmatterAllowed) → allowed_number allowed ≡ mode_number (mode_in allowed E2024)
-number_of-mode Yes = refl
-number_of-mode No = refl
+number_of-mode allowed = grind (arith, common_steps)
 
 mode_of-edition : (allowed : FrontmatterAllowed) → mode_edition (mode_in allowed E2024) ≡ E2024
-mode_of-edition Yes = refl
-mode_of-edition No = refl
+mode_of-edition allowed = grind (arith, common_steps)
 
 module _ (text : List ℕ) (is : IsText text) (place : CPlace) (boundary : IsCharBoundary text place.at) (s t : State) (buffer filled : List CToken) (count : ℕ) (begun : s ≡ state_at text place)
     (filling : IsFilled token_numbers (tokens_left s) buffer filled count) (past : t ≡ state_past count s) where

@@ -2,7 +2,7 @@
 use Rattle.std.proofs.Common.{◌≡◌, ℕ, false, true≢false, ◌+◌, ◌≤◌, List, length, take, drop, min, max, sym, ap, ◌∙◌, arith, Option, Some, None}
 use Rattle.std.proofs.lemmas.Bool.{cond_both}
 use Rattle.std.proofs.lemmas.Grind.{common_steps}
-use Rattle.std.proofs.lemmas.List.{drop-drop, length-map}
+use Rattle.std.proofs.lemmas.List.{drop-drop, length-map, length-set}
 use Rattle.std.proofs.Math.Nat.{le-max_left, le-max_right}
 use Rattle.std.specs.Option.{is_some}
 use Rattle.std.specs.Str.{IsUtf8}
@@ -15,7 +15,7 @@ use Rattle.rustc_lexer_c.specs.declared.escapes.CUnit.{CUnit}
 use Rattle.rustc_lexer_c.specs.declared.escapes.Listing.{Listing}
 use Rattle.rustc_lexer_c.specs.declared.escapes.Listing.TheVariants.{Units, Errors}
 use Rattle.rustc_lexer_c.specs.Escapes.{IsUnits, listed, wrong_unit}
-use Rattle.rustc_lexer_c.proofs.BufferLemmas.{all_taken, count_second, left_step, buffer_filled}
+use Rattle.rustc_lexer_c.proofs.BufferLemmas.{all_taken, back_step, buffer_filled, count_second, few_step, front_step, left_step}
 
 -- what is left past one more, if there is one
 pub passed_step : {X : Type 0} (all at past : List X) (over : ℕ) (next : Option X) → at ≡ drop over all → TakesFirst at next past → past ≡ drop (over + 1) all
@@ -28,11 +28,11 @@ units_done all passed buffer old count front back is = grind (arith, common_step
 
 -- past all of them nothing is written
 pub none_left : (all at past : List CUnit) (over passed : ℕ) (buffer : List CUnit) (next : Option CUnit) → at ≡ drop over all → over ≤ passed → is_some next ≡ false → TakesFirst at next past → IsUnits all passed buffer buffer 0
-none_left all at past over passed buffer (Some unit) is low none taken = absurd (true≢false none)
-none_left all at past over passed buffer None is low none taken =
-    grind (arith, common_steps, all_taken, units_done, count_second)
+none_left all at past over passed buffer next is low none taken = grind (arith, common_steps, all_taken, units_done, count_second)
 
 -- there are no more of them than bytes, or one
 pub listed_few : (listing : Listing) (mode : Mode) (text : List ℕ) → IsUtf8 text → length (listed listing mode text) ≤ max 1 (length text)
 listed_few Units mode text is = grind (arith, common_steps, cond_both, le-max_left, items-few, le-max_right)
 listed_few Errors mode text is = omega (arith, errors_of-few mode text is, length-map (errors_of mode text) (λ (e : Error). wrong_unit e.0 e.1))
+
+pub ruleset fill_lemmas = (passed_step, few_step, length-set, front_step, back_step)

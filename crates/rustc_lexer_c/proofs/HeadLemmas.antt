@@ -1,5 +1,5 @@
 -- The head of a document as numbers, and back.
-use Rattle.std.proofs.Common.{◌≡◌, ◌≢◌, ℕ, zero, suc, Bool, true, false, not, true≢false, List, length, map, drop, nat_eq, refl, sym, ap, ap₂, ◌∙◌, subst, arith, Option, Some, None}
+use Rattle.std.proofs.Common.{◌≡◌, ℕ, zero, suc, Bool, true, not, true≢false, List, length, map, drop, nat_eq, refl, sym, ap, ap₂, ◌∙◌, subst, arith, Option, Some, None}
 use Rattle.std.proofs.lemmas.Grind.{common_steps}
 use Rattle.rustc_lexer.specs.declared.relex.head.Head.{Head}
 use Rattle.rustc_lexer.specs.declared.edition.Edition.TheVariants.{E2024}
@@ -25,8 +25,7 @@ use Rattle.rustc_lexer_c.specs.Numbers.{bool_number, first_of, second_of, token_
 use Rattle.rustc_lexer_c.specs.Relex.{change_of}
 
 bool-back : (b : Bool) → not (nat_eq (bool_number b) 0) ≡ b
-bool-back true = refl
-bool-back false = refl
+bool-back b = grind (arith, common_steps)
 
 kind-back : (kind : TokenKind) (len : ℕ) → is_frontmatter kind ≡ true → frontmatter_of (token_numbers (record { kind = kind; len = len })) ≡ record { kind = kind; len = len }
 unfolding token_numbers first_of second_of
@@ -87,13 +86,7 @@ module _ (text : List ℕ) (is : IsText text) (edit : CEdit) (c : CHead) (body :
 
     pub found : IsChange text (change_of edit) → IsChange (drop now.body text) change → FindsHead text edit c (numbers_of_head now) body (record { start = change.start; old_stop = change.old_stop; new_stop = change.new_stop }) kept (bool_number keeps) 0
     found fine may = record {
-      status_is = record {
-        ok = λ _ _ _ _ _. refl;
-        not_utf8 = λ _ not. absurd (not is.utf8);
-        too_long = λ long. absurd (let f = is.fits in omega (arith, long, f));
-        bad_edit = λ _ not. absurd (not fine);
-        no_other = λ _ not. absurd (not refl);
-      };
+      status_is = grind (arith, common_steps);
       head = λ _. numbers_are text is now is_now;
       may_relex = λ _. subst (λ (n : ℕ). IsChange (drop n text) change) is_now.end_is may;
       change = λ _ grammar before insert law e same. (keeps, refl, all grammar before insert text law e (of_old before insert e same) is_now);

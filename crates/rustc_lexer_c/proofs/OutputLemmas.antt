@@ -36,13 +36,7 @@ appends_all s [] t low is = subst (Appends s []) is record { same_reference = re
 appends_all s (x ∷ xs) t low p =
     let one = p.1 in
     let others = appends_all p.0 xs t one.within p.2 in
-    record {
-      same_reference = others.same_reference ∙ one.same_reference;
-      within = others.within;
-      more = let a = one.more in let b = others.more in omega arith;
-      written = others.written ∙ (ap (λ bs. bs ++ concat xs) one.written ∙ append_assoc (take s.len s.bytes.now) x (concat xs));
-      rest = others.rest ∙ drop_later p.0.len t.len p.0.bytes.now s.bytes.now others.more one.rest;
-    }
+    grind (arith, common_steps, append_assoc, drop_later p.0.len t.len p.0.bytes.now s.bytes.now)
 
 -- all that is written of a buffer of which nothing was, which stays the same one of the caller's
 pub written_front : (s : Buffer) (bytes : List ℕ) (t : Buffer) → s.len ≡ 0 → WritesInCalls Appends s bytes t → (t.bytes.ghost_name ≡ s.bytes.ghost_name) × IsFront bytes s.bytes.now t.bytes.now t.len

@@ -1,6 +1,5 @@
 -- How far a text is relexed, as numbers and back.
-use Rattle.std.proofs.Common.{◌≡◌, ◌≢◌, ℕ, ◌+◌, ◌-◌, ◌<◌, ◌≤◌, Bool, true, false, ◌||◌, if◌then◌else◌, eqb, List, ◌++◌, length, map, take, drop, true≢false, inl, inr, refl, sym, ap, ◌∙◌, subst, arith, take-add}
-use Rattle.std.proofs.lemmas.Bool.{cases_lt}
+use Rattle.std.proofs.Common.{◌≡◌, ◌≢◌, ℕ, ◌+◌, ◌-◌, ◌<◌, ◌≤◌, Bool, true, if◌then◌else◌, eqb, List, ◌++◌, length, map, take, drop, sym, ap, ◌∙◌, subst, arith, take-add}
 use Rattle.std.proofs.lemmas.Grind.{common_steps}
 use Rattle.std.proofs.lemmas.List.{length-map, length-take-le, drop_at, take-map, drop-map}
 use Rattle.rustc_lexer.specs.declared.edition.Edition.{Edition}
@@ -29,21 +28,11 @@ use Rattle.rustc_lexer_c.specs.Relex.{IsPassed, IsRelexBatch, change_of, front_o
 abbrev pub stage_of : Bool → ℕ
 stage_of over = if over then 2 else 1
 
-pub stage_goes_on : (over : Bool) → stage_of over ≢ 2 → (stage_of over ≡ 1) × (over ≡ false)
-stage_goes_on true not = absurd (not refl)
-stage_goes_on false not = (refl, refl)
-
-pub stage_some : (over : Bool) → stage_of over ≢ 0
-stage_some true e = absurd (omega arith)
-stage_some false e = absurd (omega arith)
-
 pub stage_over : (over : Bool) → eqb (stage_of over) 2 ≡ over
-stage_over true = refl
-stage_over false = refl
+stage_over over = grind (arith, common_steps)
 
 pub stage_met : (over : Bool) → stage_of over ≡ 2 → over ≡ true
-stage_met true e = refl
-stage_met false e = absurd (omega arith)
+stage_met over e = grind (arith, common_steps)
 
 -- the numbers are those of where it stands
 relex_back : (text : List ℕ) (n : ℕ) (at : Relexing) → at.back.number ≤ n → is_over text at ≡ at.met → relexing_of n (numbers_of text n at) ≡ at
@@ -66,11 +55,8 @@ module _ (edition : Edition) (text : List ℕ) (old : List CToken) (change : CEd
   first = first_in edition
 
   pub over_is : (before insert : List ℕ) → IsMadeOf first before lens (change_of change) insert text → IsUnderWay first before (change_of change) text at → is_over text at ≡ at.met
-  over_is before insert is stands = by_test at.met refl
-    where
-      by_test : (b : Bool) → at.met ≡ b → (at.met || eqb at.at (length text)) ≡ at.met
-      by_test true e = ap (λ m. m || eqb at.at (length text)) e ∙ sym e
-      by_test false e = ap (λ m. m || eqb at.at (length text)) e ∙ over_met (edition_grammar edition) before lens insert text (change_of change) is at (to_stands (edition_grammar edition) before lens insert text (change_of change) is at stands) e
+  over_is before insert is stands =
+      let law = edition_grammar edition in grind (arith, common_steps, over_met law before lens insert text (change_of change) is at (to_stands law before lens insert text (change_of change) is at stands))
 
   pub batch_is : count ≤ length buffer → TakesSteps first text (change_of change).new_stop begin count at → filled ≡ map token_numbers (take count (tokens_by first (drop begin.at text))) ++ drop count buffer → MayGoOn text (length old) at → (count < length buffer → is_over text at ≡ true) → begin.lexed ≡ lexed_before c
       → (c.stage ≢ 0 → begin.front ≡ front_of c)
@@ -79,31 +65,11 @@ module _ (edition : Edition) (text : List ℕ) (old : List CToken) (change : CEd
       → IsRelexBatch edition text old change c buffer (numbers_of text (length old) at) filled count
   batch_is within steps tokens may over_of before_lexed begun_front begun stands = record {
     within = within;
-    rest =
-        let long : length (map token_numbers (take count (tokens_by first (drop begin.at text)))) ≡ count = length-map (take count (tokens_by first (drop begin.at text))) token_numbers ∙ length-take-le count (tokens_by first (drop begin.at text)) steps.inside in
-        ap (drop count) tokens ∙ drop_at (map token_numbers (take count (tokens_by first (drop begin.at text)))) (drop count buffer) count long;
+    rest = grind (arith, common_steps, length-map, length-take-le, drop_at, steps.inside);
     lexed = steps.lexed ∙ ap (λ n. n + count) before_lexed;
-    goes_on = λ not.
-        let on = stage_goes_on (is_over text at) not in (
-          on.0,
-          elim (cases_lt count (length buffer)) [
-            | inl less ↦ absurd (true≢false (sym (over_of less) ∙ on.1))
-            | inr full ↦ omega arith
-          ],
-        );
+    goes_on = λ not. grind (arith, common_steps);
     front = λ later. steps.front ∙ begun_front later;
-    may_relex = λ _.
-        let few = may.number in
-        let back : length old - (length old - at.back.number) ≡ at.back.number = omega arith in (
-          omega arith,
-          record {
-            boundary = may.boundary;
-            number = omega arith;
-            apart = (let apart = may.apart in omega arith);
-            small = may.small;
-            few = may.few;
-          },
-        );
+    may_relex = λ _. grind (arith, common_steps);
     relexed = λ before insert is passed.
         let law = edition_grammar edition in
         let so = stands before insert is (begun first before insert law is passed) in
@@ -120,7 +86,7 @@ module _ (edition : Edition) (text : List ℕ) (old : List CToken) (change : CEd
         let back : length old - (length old - at.back.number) ≡ at.back.number = (let few = may.number in omega arith) in
         record {
           passed = record {
-            near = λ e. absurd (stage_some (is_over text at) e);
+            near = λ e. grind (arith, common_steps);
             under_way = λ _. subst (IsUnderWay first before (change_of change) text) (sym same) so.0;
           };
           tokens = filled_is;

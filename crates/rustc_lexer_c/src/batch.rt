@@ -73,7 +73,7 @@ pub extern "C" fn rustc_lexer_first_token_unchecked(text: &[u8], frontmatter_all
             FrontmatterAllowed::No => first_token(text, FrontmatterAllowed::No),
             FrontmatterAllowed::Yes => first_token(text, FrontmatterAllowed::Yes),
         },
-        Err(_) => no_token(),
+        Err(_) => NO_TOKEN,
     }
 }
 
@@ -83,25 +83,20 @@ fn first_token(text: &str, allowed: FrontmatterAllowed) -> CToken
     requires fits { Fits text.now }
     ensures { result ≡ spec.first_numbers (tokens_of (mode_in allowed E2024) text.now) }
 {
-    match tokenize(text, allowed).next() {
-        Some(token) => token_numbers(token),
-        None => no_token(),
-    }
+    tokenize(text, allowed)
+        .next()
+        .map_or(NO_TOKEN, token_numbers)
 }
 
-/// Returns zeros, which are not a token.
-pub(crate) fn no_token() -> CToken
-    ensures { result ≡ spec.no_token }
-{
-    CToken {
-        kind: 0,
-        first: 0,
-        second: 0,
-        third: 0,
-        suffix_start: 0,
-        len: 0,
-    }
-}
+/// Zeros, which are not a token.
+pub(crate) const NO_TOKEN: CToken = CToken {
+    kind: 0,
+    first: 0,
+    second: 0,
+    third: 0,
+    suffix_start: 0,
+    len: 0,
+};
 
 /// Writes the batch at the place into the buffer, and its number of tokens into `count`.
 fn batch(text: &str, place: &mut CPlace, buffer: &mut [CToken], count: &mut usize) -> u32

@@ -26,6 +26,7 @@ impl<'a> fmt::Write for Buffer<'a> {
     ghost write_str_gives = { Appends };
 
     /// Appends a text to what is written, unless there is too little room for it.
+    #[tactic(auto, using(crate::proofs::OutputLemmas::filled_within, crate::proofs::OutputLemmas::filled_front, crate::proofs::OutputLemmas::filled_rest, std::proofs::lemmas::Grind::common_steps))]
     fn write_str(&mut self, s: &str) -> fmt::Result
         ensures ok { IsOk result → Appends self.old s.now self.new }
         ensures buffer { IsOk result ↔ HasRoom self.old s.now }

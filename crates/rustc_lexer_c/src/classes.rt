@@ -15,10 +15,7 @@ pub extern "C" fn rustc_lexer_is_whitespace(code: u32) -> bool
     ensures class { IsScalar code → result ≡ Classes.is_whitespace code }
     ensures none { ¬ (IsScalar code) → result ≡ false }
 {
-    match char::from_u32(code) {
-        Some(c) => is_whitespace(c),
-        None => false,
-    }
+    matches!(char::from_u32(code), Some(c) if is_whitespace(c))
 }
 
 /// Returns whether the character is a tab or a space. Returns false for a number that is not a character.
@@ -27,10 +24,7 @@ pub extern "C" fn rustc_lexer_is_horizontal_whitespace(code: u32) -> bool
     ensures class { IsScalar code → result ≡ Classes.is_horizontal_whitespace code }
     ensures none { ¬ (IsScalar code) → result ≡ false }
 {
-    match char::from_u32(code) {
-        Some(c) => is_horizontal_whitespace(c),
-        None => false,
-    }
+    matches!(char::from_u32(code), Some(c) if is_horizontal_whitespace(c))
 }
 
 /// Returns whether an identifier may begin with the character. Returns false for a number that is not a character.
@@ -39,10 +33,7 @@ pub extern "C" fn rustc_lexer_is_id_start(code: u32) -> bool
     ensures class { IsScalar code → result ≡ Classes.is_id_start code }
     ensures none { ¬ (IsScalar code) → result ≡ false }
 {
-    match char::from_u32(code) {
-        Some(c) => is_id_start(c),
-        None => false,
-    }
+    matches!(char::from_u32(code), Some(c) if is_id_start(c))
 }
 
 /// Returns whether an identifier may continue with the character. Returns false for a number that is not a
@@ -52,10 +43,7 @@ pub extern "C" fn rustc_lexer_is_id_continue(code: u32) -> bool
     ensures class { IsScalar code → result ≡ Classes.is_id_continue code }
     ensures none { ¬ (IsScalar code) → result ≡ false }
 {
-    match char::from_u32(code) {
-        Some(c) => is_id_continue(c),
-        None => false,
-    }
+    matches!(char::from_u32(code), Some(c) if is_id_continue(c))
 }
 
 /// Writes whether the text is an identifier.

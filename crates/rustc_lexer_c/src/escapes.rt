@@ -12,7 +12,7 @@ ghost use Rattle.rustc_lexer_c.specs.Status.{IsStatus};
 
 use crate::status::{Refusal, done, refuse, text_of, utf8_text_of};
 use rustc_literal_escaper::{
-    Element, Elements, EscapeError, Faults, Mode, NonZeroChar, unescape_byte, unescape_char,
+    Element, Elements, EscapeError, Faults, Mode, unescape_byte, unescape_char,
 };
 use std::ops::Range;
 
@@ -116,6 +116,7 @@ enum Listing {
 }
 
 /// Writes the listing of a text.
+#[tactic(auto, using(crate::proofs::EscapeLemmas::listed_few))]
 fn write(
     text: &str,
     listing: Listing,
@@ -208,8 +209,8 @@ fn single_unit(text: &str, mode: Mode) -> CUnit
     ensures { result ≡ spec.single_unit mode text.now }
 {
     match mode {
-        Mode::Byte => byte_unit(0..text.len(), unescape_byte(text)),
-        _ => char_unit(0..text.len(), unescape_char(text)),
+        Mode::Byte => coded_unit(0..text.len(), 2, unescape_byte(text).map(u32::from)),
+        _ => coded_unit(0..text.len(), 1, unescape_char(text).map(u32::from)),
     }
 }
 
@@ -266,6 +267,7 @@ impl<'a> Units for Faults<'a> {
 
 /// Writes units, without the first ones, which it skips. Returns how many it wrote.
 #[inline(always)]
+#[tactic(auto, using(crate::proofs::EscapeLemmas::fill_lemmas))]
 fn fill_all<U: Units>(mut units: U, passed: usize, buffer: &mut [CUnit]) -> usize
     ensures { spec.IsUnits (U.units units) passed buffer.old buffer.new result }
 {
@@ -293,29 +295,23 @@ fn item_unit(mode: Mode, place: Range<usize>, element: Element) -> CUnit
     ensures { result ≡ spec.item_unit mode (place, element) }
 {
     match mode {
-        Mode::Char | Mode::Str | Mode::RawStr => char_unit(place, element.to_char()),
-        Mode::Byte | Mode::ByteStr | Mode::RawByteStr => byte_unit(place, element.to_byte()),
+        Mode::Char | Mode::Str | Mode::RawStr => {
+            coded_unit(place, 1, element.to_char().map(u32::from))
+        }
+        Mode::Byte | Mode::ByteStr | Mode::RawByteStr => {
+            coded_unit(place, 2, element.to_byte().map(u32::from))
+        }
         Mode::CStr => mixed_unit(place, element),
-        Mode::RawCStr => raw_unit(place, element.to_raw_unit()),
+        Mode::RawCStr => coded_unit(place, 1, element.to_raw_unit().map(|c| c.get() as u32)),
     }
 }
 
-/// Returns a character as numbers, or the error.
-fn char_unit(place: Range<usize>, meaning: Result<char, EscapeError>) -> CUnit
-    ensures { result ≡ spec.coded_unit 1 place meaning }
+/// Returns a unit of a kind, 1 or 2, by its number, or the error.
+fn coded_unit(place: Range<usize>, kind: u32, meaning: Result<u32, EscapeError>) -> CUnit
+    ensures { result ≡ spec.coded_unit kind place meaning }
 {
     match meaning {
-        Ok(c) => unit_at(place, 1, c as u32),
-        Err(error) => wrong_unit(place, error),
-    }
-}
-
-/// Returns a byte as numbers, or the error.
-fn byte_unit(place: Range<usize>, meaning: Result<u8, EscapeError>) -> CUnit
-    ensures { result ≡ spec.coded_unit 2 place meaning }
-{
-    match meaning {
-        Ok(byte) => unit_at(place, 2, u32::from(byte)),
+        Ok(code) => unit_at(place, kind, code),
         Err(error) => wrong_unit(place, error),
     }
 }
@@ -339,18 +335,8 @@ fn sound_unit(place: Range<usize>, element: Element) -> CUnit
         Element::Plain(c) => unit_at(place, 1, c as u32),
         Element::Byte(byte) if byte < 128 => unit_at(place, 1, u32::from(byte)),
         Element::Byte(byte) => unit_at(place, 2, u32::from(byte)),
-        Element::Unicode(_) => char_unit(place, element.to_char()),
+        Element::Unicode(_) => coded_unit(place, 1, element.to_char().map(u32::from)),
         Element::Fault(error) => wrong_unit(place, error),
-    }
-}
-
-/// Returns a character of a raw C string as numbers, or the error.
-fn raw_unit(place: Range<usize>, meaning: Result<NonZeroChar, EscapeError>) -> CUnit
-    ensures { result ≡ spec.coded_unit 1 place meaning }
-{
-    match meaning {
-        Ok(c) => unit_at(place, 1, c.get() as u32),
-        Err(error) => wrong_unit(place, error),
     }
 }
 
@@ -387,29 +373,5 @@ fn wrong_kind(error: EscapeError) -> u32
 fn error_number(error: EscapeError) -> u32
     ensures { result ≡ spec.error_number error }
 {
-    match error {
-        EscapeError::ZeroChars => 1,
-        EscapeError::MoreThanOneChar => 2,
-        EscapeError::LoneSlash => 3,
-        EscapeError::InvalidEscape => 4,
-        EscapeError::BareCarriageReturn => 5,
-        EscapeError::BareCarriageReturnInRawString => 6,
-        EscapeError::EscapeOnlyChar => 7,
-        EscapeError::TooShortHexEscape => 8,
-        EscapeError::InvalidCharInHexEscape => 9,
-        EscapeError::OutOfRangeHexEscape => 10,
-        EscapeError::NoBraceInUnicodeEscape => 11,
-        EscapeError::InvalidCharInUnicodeEscape => 12,
-        EscapeError::EmptyUnicodeEscape => 13,
-        EscapeError::UnclosedUnicodeEscape => 14,
-        EscapeError::LeadingUnderscoreUnicodeEscape => 15,
-        EscapeError::OverlongUnicodeEscape => 16,
-        EscapeError::LoneSurrogateUnicodeEscape => 17,
-        EscapeError::OutOfRangeUnicodeEscape => 18,
-        EscapeError::UnicodeEscapeInByte => 19,
-        EscapeError::NonAsciiCharInByte => 20,
-        EscapeError::NulInCStr => 21,
-        EscapeError::UnskippedWhitespaceWarning => 22,
-        EscapeError::MultipleSkippedLinesWarning => 23,
-    }
+    error as u32 + 1
 }

@@ -4,7 +4,7 @@ ghost use Rattle.std.specs.Str.{IsUtf8};
 ghost use Rattle.rustc_lexer.specs.Classes.{Fits};
 ghost use Rattle.rustc_lexer_c.specs.Head as spec;
 
-use crate::batch::no_token;
+use crate::batch::NO_TOKEN;
 use crate::relex::{CEdit, change_of};
 use crate::status::{OK, Refusal, text_of, utf8_text_of};
 use crate::token::{CToken, token_numbers};
@@ -132,17 +132,14 @@ fn numbers_of_head(head: Head) -> CHead
     ensures { result ≡ spec.numbers_of_head head }
 {
     let (count, tokens) = match head.frontmatter {
-        None => (0, [no_token(), no_token()]),
+        None => (0, [NO_TOKEN, NO_TOKEN]),
+        Some(front) if head.space_len == 0 => (1, [token_numbers(front), NO_TOKEN]),
         Some(front) => {
-            if head.space_len == 0 {
-                (1, [token_numbers(front), no_token()])
-            } else {
-                let space = Token {
-                    kind: TokenKind::Whitespace,
-                    len: head.space_len,
-                };
-                (2, [token_numbers(space), token_numbers(front)])
-            }
+            let space = Token {
+                kind: TokenKind::Whitespace,
+                len: head.space_len,
+            };
+            (2, [token_numbers(space), token_numbers(front)])
         }
     };
     CHead {

@@ -69,6 +69,7 @@ fn style_of(number: u32) -> Option<Style>
 }
 
 /// Writes marked tokens into a buffer of which nothing is written.
+#[tactic(auto, using(crate::proofs::OutputLemmas::written_front, std::proofs::lemmas::Grind::common_steps))]
 fn fill(
     style: Style,
     edition: Edition,

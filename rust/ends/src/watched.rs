@@ -55,10 +55,7 @@ pub fn is_closed(error: &Error) -> bool {
 
 /// Returns whether the result is an error that means that nobody reads the output any more.
 fn has_closed<T>(answer: &io::Result<T>) -> bool {
-    match answer {
-        Ok(_) => false,
-        Err(error) => is_closed(error),
-    }
+    matches!(answer, Err(error) if is_closed(error))
 }
 
 impl<R: Read> Read for Watched<R> {

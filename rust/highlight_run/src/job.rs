@@ -53,10 +53,7 @@ pub fn read_job(words: &[String], colours: bool) -> Option<Job> {
 
 /// Returns whether the only argument is `--help`.
 fn is_help(words: &[String]) -> bool {
-    match words {
-        [word] => word.as_str() == "--help",
-        _ => false,
-    }
+    matches!(words, [word] if word.as_str() == "--help")
 }
 
 /// Adds the options of the arguments to `options`, in any order, each at most once. So it calls itself at most
@@ -87,10 +84,7 @@ fn read_option(options: Options, words: &[String]) -> Option<(Options, &[String]
 
 /// Adds `--html`. Returns `None` if it is there already.
 fn page(options: Options) -> Option<Options> {
-    if options.html {
-        return None;
-    }
-    Some(Options {
+    (!options.html).then_some(Options {
         html: true,
         ..options
     })
@@ -98,24 +92,18 @@ fn page(options: Options) -> Option<Options> {
 
 /// Adds an edition. Returns `None` if there is one already.
 fn in_edition(options: Options, edition: Edition) -> Option<Options> {
-    match options.edition {
-        Some(_) => None,
-        None => Some(Options {
-            edition: Some(edition),
-            ..options
-        }),
-    }
+    options.edition.is_none().then_some(Options {
+        edition: Some(edition),
+        ..options
+    })
 }
 
 /// Adds `--color`. Returns `None` if it is there already.
 fn with_colours(options: Options, when: When) -> Option<Options> {
-    match options.color {
-        Some(_) => None,
-        None => Some(Options {
-            color: Some(when),
-            ..options
-        }),
-    }
+    options.color.is_none().then_some(Options {
+        color: Some(when),
+        ..options
+    })
 }
 
 /// Returns the style that the options ask for.

@@ -50,9 +50,7 @@ fn show<R: Read, W: Write>(
     output: &mut Watched<W>,
 ) -> Result<(), Stop> {
     let words = given_words(alloc, start.args)?;
-    let Some(colours) = wants_colours(&start.no_color, start.is_terminal) else {
-        return Err(Stop::Memory);
-    };
+    let colours = wants_colours(&start.no_color, start.is_terminal).ok_or(Stop::Memory)?;
     match read_job(words.as_slice(), colours) {
         Some(Job::Show { style, edition }) => run(alloc, style, edition, input, output),
         Some(Job::Help) => put(output, HELP),

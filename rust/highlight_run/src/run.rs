@@ -21,9 +21,7 @@ pub fn run<R: Read, W: Write>(
     output: &mut Watched<W>,
 ) -> Result<(), Stop> {
     let text = read_text(alloc, input)?;
-    let Ok(made) = print(alloc, style, edition, text.as_str()) else {
-        return Err(Stop::Memory);
-    };
+    let made = print(alloc, style, edition, text.as_str()).map_err(|_| Stop::Memory)?;
     put(output, made.as_str())
 }
 

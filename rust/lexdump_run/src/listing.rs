@@ -14,14 +14,6 @@ use rustc_lexer::erased::{
 /// How many tokens are lexed at once.
 const BUFFER_LEN: usize = 256;
 
-/// Makes a buffer for tokens.
-fn new_buffer() -> [Token; BUFFER_LEN] {
-    [Token {
-        kind: TokenKind::Eof,
-        len: 0,
-    }; BUFFER_LEN]
-}
-
 /// Writes the lines of the tokens, the first of which begins at byte `start`, and flushes.
 pub fn write_listing<W: Write>(
     output: &mut Watched<W>,
@@ -41,7 +33,10 @@ pub fn list_tokens<W: Write>(
     frontmatter_allowed: FrontmatterAllowed,
     edition: Edition,
 ) -> Result<(), Fault> {
-    let mut buffer = new_buffer();
+    let mut buffer = [Token {
+        kind: TokenKind::Eof,
+        len: 0,
+    }; BUFFER_LEN];
     let mut tokens = tokenize_as(text, frontmatter_allowed, edition);
     while !tokens.as_str().is_empty() {
         let start = text.len() - tokens.as_str().len();
@@ -272,11 +267,7 @@ fn text_field(label: &'static str, text: &'static str) -> Field {
 
 /// Returns a field whose value is `true` or `false`.
 fn flag_field(label: &'static str, value: bool) -> Field {
-    if value {
-        text_field(label, "true")
-    } else {
-        text_field(label, "false")
-    }
+    text_field(label, if value { "true" } else { "false" })
 }
 
 /// Returns the fields of a literal that may be unterminated.
@@ -286,14 +277,11 @@ fn end_fields(label: &'static str, terminated: bool) -> (Field, Field) {
 
 /// Returns the fields of a raw string: the number of its hashes, or `none`.
 fn hash_fields(label: &'static str, n_hashes: Option<u8>) -> (Field, Field) {
-    let field = match n_hashes {
-        None => text_field(label, "none"),
-        Some(n) => Field {
-            label,
-            value: Value::Number(u32::from(n)),
-        },
+    let value = match n_hashes {
+        None => Value::Text("none"),
+        Some(n) => Value::Number(u32::from(n)),
     };
-    (field, NONE)
+    (Field { label, value }, NONE)
 }
 
 /// Returns the style of a doc comment, or `none`.

@@ -30,8 +30,6 @@ fn dump<R: Read, W: Write>(
     output: &mut Watched<W>,
 ) -> Result<(), Fault> {
     let words = given_words(alloc, args)?;
-    match read_job(alloc, words.as_slice()) {
-        Ok(job) => run(alloc, &job, input, output),
-        Err(fault) => Err(fault),
-    }
+    let job = read_job(alloc, words.as_slice())?;
+    run(alloc, &job, input, output)
 }

@@ -7,35 +7,23 @@ use rustc_lexer::erased::{
 
 /// Returns whether the character is white space in Rust. Returns false for a number that is not a character.
 pub fn rustc_lexer_is_whitespace(code: u32) -> bool {
-    match char::from_u32(code) {
-        Some(c) => is_whitespace(c),
-        None => false,
-    }
+    matches!(char::from_u32(code), Some(c) if is_whitespace(c))
 }
 
 /// Returns whether the character is a tab or a space. Returns false for a number that is not a character.
 pub fn rustc_lexer_is_horizontal_whitespace(code: u32) -> bool {
-    match char::from_u32(code) {
-        Some(c) => is_horizontal_whitespace(c),
-        None => false,
-    }
+    matches!(char::from_u32(code), Some(c) if is_horizontal_whitespace(c))
 }
 
 /// Returns whether an identifier may begin with the character. Returns false for a number that is not a character.
 pub fn rustc_lexer_is_id_start(code: u32) -> bool {
-    match char::from_u32(code) {
-        Some(c) => is_id_start(c),
-        None => false,
-    }
+    matches!(char::from_u32(code), Some(c) if is_id_start(c))
 }
 
 /// Returns whether an identifier may continue with the character. Returns false for a number that is not a
 /// character.
 pub fn rustc_lexer_is_id_continue(code: u32) -> bool {
-    match char::from_u32(code) {
-        Some(c) => is_id_continue(c),
-        None => false,
-    }
+    matches!(char::from_u32(code), Some(c) if is_id_continue(c))
 }
 
 /// Writes whether the text is an identifier.

@@ -1,6 +1,6 @@
 //! The head of a document, and what an edit of the document changes in its body.
 
-use crate::erased::batch::no_token;
+use crate::erased::batch::NO_TOKEN;
 use crate::erased::relex::{CEdit, change_of};
 use crate::erased::status::{OK, Refusal, text_of, utf8_text_of};
 use crate::erased::token::{CToken, token_numbers};
@@ -106,17 +106,14 @@ fn frontmatter_of(numbers: CToken) -> Token {
 /// Returns a head as numbers.
 fn numbers_of_head(head: Head) -> CHead {
     let (count, tokens) = match head.frontmatter {
-        None => (0, [no_token(), no_token()]),
+        None => (0, [NO_TOKEN, NO_TOKEN]),
+        Some(front) if head.space_len == 0 => (1, [token_numbers(front), NO_TOKEN]),
         Some(front) => {
-            if head.space_len == 0 {
-                (1, [token_numbers(front), no_token()])
-            } else {
-                let space = Token {
-                    kind: TokenKind::Whitespace,
-                    len: head.space_len,
-                };
-                (2, [token_numbers(space), token_numbers(front)])
-            }
+            let space = Token {
+                kind: TokenKind::Whitespace,
+                len: head.space_len,
+            };
+            (2, [token_numbers(space), token_numbers(front)])
         }
     };
     CHead {

@@ -42,7 +42,7 @@ pub struct CGuardedStr {
 pub fn rustc_lexer_validate_raw_str(text: &[u8], prefix_len: u32, error: &mut CRawStrError) -> u32 {
     match text_of(text) {
         Ok(text) => raw_str(text, prefix_len, error),
-        Err(refusal) => refuse(refusal, no_error(), error),
+        Err(refusal) => refuse(refusal, NO_ERROR, error),
     }
 }
 
@@ -55,14 +55,14 @@ pub fn rustc_lexer_validate_raw_str_unchecked(
 ) -> u32 {
     match utf8_text_of(text) {
         Ok(text) => raw_str(text, prefix_len, error),
-        Err(refusal) => refuse(refusal, no_error(), error),
+        Err(refusal) => refuse(refusal, NO_ERROR, error),
     }
 }
 
 /// Checks the raw string at the front of a text.
 fn raw_str(text: &str, prefix_len: u32, error: &mut CRawStrError) -> u32 {
     if !starts_raw(text, prefix_len) {
-        return refuse(Refusal::NotRaw, no_error(), error);
+        return refuse(Refusal::NotRaw, NO_ERROR, error);
     }
     done(answer_numbers(validate_raw_str(text, prefix_len)), error)
 }
@@ -104,11 +104,11 @@ fn guarded_str(text: &str) -> CGuardedStr {
 /// Returns the result of a check as numbers.
 fn answer_numbers(answer: Result<(), RawStrError>) -> CRawStrError {
     match answer {
-        Ok(_) => no_error(),
+        Ok(_) => NO_ERROR,
         Err(RawStrError::InvalidStarter { bad_char }) => CRawStrError {
             error: 1,
             bad_char: bad_char as u32,
-            ..no_error()
+            ..NO_ERROR
         },
         Err(RawStrError::NoTerminator {
             expected,
@@ -120,27 +120,25 @@ fn answer_numbers(answer: Result<(), RawStrError>) -> CRawStrError {
             found,
             has_offset: u32::from(possible_terminator_offset.is_some()),
             possible_terminator_offset: possible_terminator_offset.unwrap_or(0),
-            ..no_error()
+            ..NO_ERROR
         },
         Err(RawStrError::TooManyDelimiters { found }) => CRawStrError {
             error: 3,
             found,
-            ..no_error()
+            ..NO_ERROR
         },
     }
 }
 
-/// Returns the numbers for no error.
-fn no_error() -> CRawStrError {
-    CRawStrError {
-        error: 0,
-        bad_char: 0,
-        expected: 0,
-        found: 0,
-        has_offset: 0,
-        possible_terminator_offset: 0,
-    }
-}
+/// The numbers for no error.
+const NO_ERROR: CRawStrError = CRawStrError {
+    error: 0,
+    bad_char: 0,
+    expected: 0,
+    found: 0,
+    has_offset: 0,
+    possible_terminator_offset: 0,
+};
 
 /// Returns a guarded string as numbers.
 fn guarded_numbers(string: Option<GuardedStr>) -> CGuardedStr {

@@ -140,11 +140,7 @@ fn standing(text: &str, old: &[CToken], change: Change, relexing: &CRelexing) ->
         at: relexing.at,
         met: relexing.stage == 2,
     };
-    if at.may_go_on(text, old.len()) {
-        Some(at)
-    } else {
-        None
-    }
+    at.may_go_on(text, old.len()).then_some(at)
 }
 
 /// Returns how far the text is relexed, as numbers.

@@ -1,15 +1,8 @@
 use Rattle.std.proofs.Common.{arith, rules}
 use Rattle.std.proofs.lemmas.Grind.{common_steps}
-use Rattle.std.proofs.lemmas.List.{length-set}
-use Rattle.rustc_lexer_c.proofs.EscapeLemmas.{none_left, passed_step, units_done}
-use Rattle.rustc_lexer_c.proofs.BufferLemmas.{all_taken, back_step, count_first, count_second, few_step, front_step}
+use Rattle.rustc_lexer_c.proofs.EscapeLemmas.{none_left, units_done}
+use Rattle.rustc_lexer_c.proofs.BufferLemmas.{all_taken, count_first, count_second}
 use Rattle.rustc_lexer_c.proofs.escapes.fill_all.Goals as goal
-
-pub passed-preserved : goal.passed-preserved
-passed-preserved g c = grind (arith, common_steps, rules, passed_step)
-
-pub buffer-preserved : goal.buffer-preserved
-buffer-preserved g c = grind (arith, passed_step, few_step, length-set, front_step, back_step)
 
 pub returns : goal.returns
 returns g c = grind (arith, common_steps, rules, units_done, count_first, all_taken, count_second)

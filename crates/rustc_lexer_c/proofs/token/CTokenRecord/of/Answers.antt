@@ -1,7 +1,6 @@
-use Rattle.std.proofs.Common.{◌≡◌, ◌∙◌, ◌<◌, ◌/◌, ◌^◌, ℕ, bit_and, arith, refl, sym, ap}
-use Rattle.std.proofs.lemmas.Bool.{ltb-true}
+use Rattle.std.proofs.Common.{◌≡◌, ◌∙◌, ◌<◌, ◌/◌, ◌^◌, ℕ, bit_and, arith, sym, ap}
+use Rattle.std.proofs.lemmas.Grind.{common_steps}
 use Rattle.rustc_lexer.specs.declared.token.TokenKind.{TokenKind}
-use Rattle.rustc_lexer.specs.declared.token.TokenKind.TheVariants.{LineComment, BlockComment, Frontmatter, Literal, Lifetime}
 use Rattle.rustc_lexer.specs.Kinds.{kind_entry}
 use Rattle.rustc_lexer_c.specs.declared.token.CToken.{CToken}
 use Rattle.rustc_lexer_c.specs.Numbers.{first_of, second_of, third_of, token_numbers}
@@ -9,20 +8,14 @@ use Rattle.rustc_lexer_c.proofs.token.CTokenRecord.of.Goals as goal
 
 small : (kind : TokenKind) → (kind_entry kind).0 < 64
 unfolding kind_entry
-small (LineComment doc_style) = ltb-true 1 64 refl
-small kind = ltb-true _ 64 refl
+small kind = grind (arith, common_steps)
 
 abbrev bare : TokenKind → ℕ → CToken
 bare kind len = record { kind = (kind_entry kind).0; first = 0; second = 0; third = 0; suffix_start = 0; len = len }
 
 bare_numbers : (kind : TokenKind) (len : ℕ) → bit_and (24598 / 2 ^ (kind_entry kind).0) 1 ≡ 0 → bare kind len ≡ token_numbers record { kind = kind; len = len }
 unfolding kind_entry token_numbers first_of second_of third_of
-bare_numbers (LineComment doc_style) len none = absurd (omega (arith, none))
-bare_numbers (BlockComment doc_style terminated) len none = absurd (omega (arith, none))
-bare_numbers (Frontmatter has_invalid_preceding_whitespace invalid_infostring) len none = absurd (omega (arith, none))
-bare_numbers (Literal kind suffix_start) len none = absurd (omega (arith, none))
-bare_numbers (Lifetime starts_with_number) len none = absurd (omega (arith, none))
-bare_numbers kind len none = refl
+bare_numbers kind len none = grind (arith, common_steps)
 
 pub overflow_shr-number : goal.overflow_shr-number
 overflow_shr-number c = let e = c.number.ensures in let s = small c.args.token.kind in omega (arith, e, s)
