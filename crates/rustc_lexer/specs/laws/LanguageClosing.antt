@@ -68,7 +68,7 @@ is_pattern pattern = begins (codes "\n") pattern && list_all is_ascii pattern
 abbrev are_patterns : List (Chars × Bool) → Bool
 are_patterns es = list_all (λ (ending : Chars × Bool). is_pattern ending.0) es
 
-endings-patterns : (n : ℕ) → are_patterns (endings n) ≡ true
+pub endings-patterns : (n : ℕ) → are_patterns (endings n) ≡ true
 endings-patterns n = rw (fence-ascii n) refl
   where
     fence-ascii : (n : ℕ) → list_all is_ascii (fence n) ≡ true
@@ -142,7 +142,7 @@ newline-first (d ∷ ds) s is e =
     front [] e = e
     front (c ∷ s) e = rw (and_parts (c == d) (begins ds s) e).0 refl
 
-body-at : (es : List (Chars × Bool)) (s : Chars) → are_patterns es ≡ true → Body es s
+pub body-at : (es : List (Chars × Bool)) (s : Chars) → are_patterns es ≡ true → Body es s
 body-at [] s good = by_found (first_lone true 0 s)
     (λ j e.
     let l = lined (drop j s) in
@@ -174,9 +174,6 @@ body-at ((pattern, takes_line) ∷ others) s good =
           whole = append_assoc (take j s) (10 ∷ l.line) l.next ∙ (ap (λ (t : Chars). take j s ++ t) (sym back) ∙ take-append-drop j s);
           is = the.with_line pattern (take j s) l.line (subst (IsFirstPlaceOf (IsAt pattern) (take j s)) back at) l.inline l.stop;
         }
-
-pub any-body : (n : ℕ) (s : Chars) → Body (endings n) s
-any-body n s = body-at (endings n) s (endings-patterns n)
 
 -- ---- in bytes it ends at the same place
 
