@@ -1,4 +1,4 @@
-use Rattle.std.proofs.Common.{◌≡◌, ◌+◌, ◌-◌, ℕ, List, length-drop, get_or, sym, ap, subst, ◌∙◌, arith, is_some}
+use Rattle.std.proofs.Common.{◌≡◌, ◌+◌, ℕ, List, length-drop, get_or, sym, ap, subst, ◌∙◌, arith, is_some}
 use Rattle.std.specs.ControlFlow.{continue_value}
 use lib.Count.{count_trailing_zeros}
 use Rattle.rustc_lexer.specs.means.Ends.{IsLowest, StaysWithin, classified}
