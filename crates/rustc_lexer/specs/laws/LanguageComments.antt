@@ -62,14 +62,7 @@ styled again undocs (c ∷ s) = by_test (λ style. IsStyle again undocs style (c
     by_next e false b f g = neither (rw f (sym (begins-next 33 (c ∷ s)) ∙ e))
 
 style-is : {again : ℕ} {undocs w : List ℕ} {style : Option DocStyle} → (again == 33) ≡ false → (again == again) ≡ true → IsStyle again undocs style w → doc_style again undocs w ≡ style
-style-is mark self inner = refl
-style-is mark self (outer stop) = rw (mark, self, stop) refl
-style-is mark self (no_outer goes) = rw (mark, self, goes) refl
-style-is {again} {undocs} mark self (neither {w} stop) = by_first w stop
-  where
-    by_first : (w : List ℕ) → NextNotIn (again ∷ 33 ∷ []) w → doc_style again undocs w ≡ None
-    by_first [] stop = refl
-    by_first (c ∷ s) stop = let parts = or_parts (c == again) _ stop in rw ((or_parts (c == 33) _ parts.1).0, parts.0) refl
+style-is w0 w1 w2 = grind (arith, common_steps, or_parts)
 
 -- ---- line comments
 
@@ -93,11 +86,7 @@ line-sound s =
     the.line_comment (run_all is_inline s) (run-stops is_inline s) (subst (λ (style : Option DocStyle). IsLineStyle style (take n s)) (line_doc_style-own s) (line-styled (take n s)))
 
 pub line-read : (style : Option DocStyle) (w next : List ℕ) → AreAll is_inline w → NextIsNot is_inline next → IsLineStyle style w → Read (LineComment style) (suc (suc (length w))) (47 ∷ 47 ∷ w ++ next)
-line-read style w next all stop is =
-    let len : run_len is_inline (w ++ next) ≡ length w = run_len-here is_inline w next all stop in
-    let own : line_doc_style w ≡ line_doc_style (w ++ next) = ap line_doc_style (sym (ap (λ (n : ℕ). take n (w ++ next)) len ∙ take-append_seam w next)) ∙ line_doc_style-own (w ++ next) in
-    read-first 47 slash (47 ∷ w ++ next) (LineComment style) (1 + length w) _ chooses-slash
-    (pair _ _ _ _ (ap LineComment (sym own ∙ (line-style w ∙ style-is refl refl is))) (ap (λ (n : ℕ). 1 + n) len)) (omega arith)
+line-read style w next all stop is = grind (arith, common_steps, run_len-here, take-append_seam, line_doc_style-own, read-first, chooses-slash, pair, line-style, style-is)
 
 -- ---- block comments
 

@@ -65,22 +65,14 @@ view whole = other refl
 
 -- what no hash begins is in 2021 as in 2024
 pub unhashed : {next : List ℕ} {kind : TokenKind} {c : ℕ} {w : List ℕ} → IsTokenBefore next kind (c ∷ w) → c ≢ 35 → (len : ℕ) → before_2024 kind len ≡ token kind len
-unhashed p none len = by_view (view p) none
-  where
-    by_view : {next : List ℕ} {kind : TokenKind} {c : ℕ} {w : List ℕ} → View next kind (c ∷ w) → c ≢ 35 → before_2024 kind len ≡ token kind len
-    by_view cut_hash none = absurd (none refl)
-    by_view {kind = kind} (other old) none = kept_2021 kind len (omega (arith, old))
-    by_view v none = refl
+unhashed p none len = grind (arith, common_steps, view, kept_2021)
 
 -- whether a name is marked
 name-marked : (c : ℕ) (w next : List ℕ) → AreAll is_word_continue w → NextIs (is_among (codes "#")) next → has_marked_name (39 ∷ c ∷ w ++ next) ≡ is_bad_name (c ∷ w)
 name-marked c w next all hash = grind (arith, common_steps, run_len-here, hash-stops, take-append_seam)
 
 lifetime-marked : {next : List ℕ} {kind : TokenKind} {c : ℕ} {w : List ℕ} → View next kind (39 ∷ c ∷ w) → kind ≡ UnknownPrefixLifetime → has_marked_name (39 ∷ c ∷ w ++ next) ≡ is_bad_name (c ∷ w)
-lifetime-marked {next} {kind} {c} {w} (cut_raw is) e = absurd (cc e)
-lifetime-marked {next} {kind} {c} {w} (name start all hash) e = name-marked c w next all hash
-lifetime-marked {next} {kind} {c} {w} prefix e = absurd (cc e)
-lifetime-marked {next} {kind} {c} {w} (other old) e = absurd (let n : 2021 ≡ 2015 = sym (ap lexed_since e) ∙ old in omega (arith, n))
+lifetime-marked w0 w1 = grind (arith, common_steps, name-marked)
 
 -- ---- a token of an edition is what is read in it
 

@@ -7,7 +7,7 @@ use Rattle.std.proofs.Math.Bool.{and-false, and-true}
 use Rattle.std.proofs.lemmas.Grind.{common_steps}
 use Rattle.rustc_lexer.specs.Classes.{is_among, is_ident, AreAll, NextIs, NextIsNot, is_word_continue, is_name_start, begins_ident_after, ends_prefix}
 use Rattle.unicode_ident.proofs.Computing.{unicode_ident}
-use Rattle.rustc_lexer.specs.{Base, LiteralKind, TokenKind, Int, Float, Char, Byte, Literal, UnknownPrefix}
+use Rattle.rustc_lexer.specs.{Base, LiteralKind, TokenKind, Int, Float, Char, Literal, UnknownPrefix}
 use Rattle.rustc_lexer.specs.Language as the
 use Rattle.rustc_lexer.specs.LiteralGrammar as lit
 use Rattle.rustc_lexer.specs.LiteralGrammar.{IsDoubleQuoted, SingleTo, IsSingleQuoted, IsRaw, IsLiteralBefore, IsSuffixBefore}
@@ -56,11 +56,7 @@ abbrev literal_reach : LiteralKind → List ℕ → ℕ
 literal_reach kind w = reach (Literal kind 0) w
 
 reach-literal : (kind : LiteralKind) (suffix_start : ℕ) (w : List ℕ) → reach (Literal kind suffix_start) w ≡ literal_reach kind w
-reach-literal (Int base empty) n w = refl
-reach-literal (Char false) n w = refl
-reach-literal (Char true) n w = refl
-reach-literal (Byte false) n w = refl
-reach-literal kind n w = refl
+reach-literal kind suffix_start w = grind (arith, common_steps)
 
 -- of each number, what is of an integer and of a float
 pub number-kind : (P : LiteralKind → Type 0) → ((base : Base) (empty : Bool) → P (Int base empty)) → ((base : Base) (empty : Bool) → P (Float base empty)) → {next : List ℕ} {kind : LiteralKind} {w : List ℕ} → HasNumberForm next kind w → P kind
@@ -131,12 +127,7 @@ closed-reach w q stop s = let first : next_is is_name_start (w ++ s) ≡ false =
 
 -- what may have a suffix looks at something
 literal-looks : {next : List ℕ} {kind : LiteralKind} {takes : Bool} {w : List ℕ} → IsLiteralBefore next kind takes w → takes ≡ true → (s : List ℕ) → 0 < literal_reach kind (w ++ s)
-literal-looks (lit.number {kind} {w} is) t s = let reach = number-reach is.form (w ++ s) in omega (arith, reach, number-looks kind)
-literal-looks (lit.char_of_one {c} out) t s = omega (arith, one-reach c s)
-literal-looks (lit.char {t = true} {w} q stop) t s = omega (arith, closed-reach w q stop s)
-literal-looks (lit.byte_char {t = true} q) t s = omega arith
-literal-looks (lit.char_of_name w start all) t s = absurd (true≢false (sym t))
-literal-looks other t s = omega arith
+literal-looks w0 w1 s = grind (arith, common_steps, number-reach, number-looks, one-reach, closed-reach)
 
 literal-alike : {next : List ℕ} {kind : LiteralKind} {takes : Bool} {w : List ℕ} → IsLiteralBefore next kind takes w → (s other : List ℕ) → take (literal_reach kind (w ++ s)) other ≡ take (literal_reach kind (w ++ s)) next → IsLiteralBefore other kind takes w
 literal-alike {next} (lit.number {kind} {w} is) s other e = lit.number (number-stays w (number-digit is) is other (subst (λ (k : ℕ). take k other ≡ take k next) (number-reach is.form (w ++ s)) e))

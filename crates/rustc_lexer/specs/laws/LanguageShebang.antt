@@ -69,11 +69,7 @@ abbrev passed_kinds : List TokenKind
 passed_kinds = Whitespace ∷ LineComment None ∷ BlockComment None true ∷ BlockComment None false ∷ []
 
 passes : (kind : TokenKind) → Contains passed_kinds kind → is_passed kind ≡ true
-passes kind (zero, few, e) = ap is_passed (sym e)
-passes kind (suc zero, few, e) = ap is_passed (sym e)
-passes kind (suc (suc zero), few, e) = ap is_passed (sym e)
-passes kind (suc (suc (suc zero)), few, e) = ap is_passed (sym e)
-passes kind (suc (suc (suc (suc k))), few, e) = absurd (omega (arith, few))
+passes kind w0 = grind (arith, common_steps)
 
 attribute-read : {cs : List ℕ} → IsAttributeRest cs → (text : List ℕ) → IsText text → chars text ≡ cs → is_attribute (ts text) ≡ true
 attribute-read (the.bracket next) text is e = first-step text OpenBracket 91 [] next is e (grammar.symbol {c = 91} bracket-alone)
@@ -161,18 +157,7 @@ no_return-before (c ∷ []) next e free = by_either (c == 13)
 no_return-before (c ∷ d ∷ w) next e free = one_less c d w (w ++ next) ∙ no_return-before (d ∷ w) next e (λ u f. free (c ∷ u) (ap (λ (x : List ℕ). c ∷ x) f))
 
 line-read : {next w : List ℕ} → IsLineBefore next w → line_len (w ++ next) ≡ length w
-line-read {next} {w} (the.to_newline all e free) =
-    ap (line_to (w ++ next)) (prefix-here w next all e) ∙ ap (λ (b : Bool). if b then length w - 1 else length w) (no_return-before w next e free)
-line-read {next} {w} (the.to_return all e) =
-    let past : begins (codes "\r\n") (drop (suc (length w) - 1) (w ++ next)) ≡ true = ap (λ (k : ℕ). begins (codes "\r\n") (drop k (w ++ next))) (less (length w)) ∙ (ap (begins (codes "\r\n")) (drop-append_seam w next) ∙ e) in
-    ap (line_to (w ++ next)) (prefix-return w next all e) ∙ (ap (λ (b : Bool). if b then suc (length w) - 1 else suc (length w)) past ∙ less (length w))
-line-read {next} {w} (the.to_end all none) =
-    ap (λ (x : List ℕ). line_len (w ++ x)) none ∙ (ap line_len (append-nil w) ∙ (ap (line_to w) (prefix-all w all) ∙ ap (λ (b : Bool). if b then length w - 1 else length w) (at_end w)))
-  where
-    at_end : (w : List ℕ) → begins (codes "\r\n") (drop (length w - 1) w) ≡ false
-    at_end [] = refl
-    at_end (c ∷ []) = short (c ∷ []) (omega arith)
-    at_end (c ∷ d ∷ w) = one_less c d w w ∙ at_end (d ∷ w)
+line-read w0 = grind (arith, common_steps, prefix-here, no_return-before, less, drop-append_seam, prefix-return, append-nil, prefix-all, short, one_less)
 
 record HasLine (text : List ℕ) : Type 0 where
   w : List ℕ

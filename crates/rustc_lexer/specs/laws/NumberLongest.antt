@@ -263,13 +263,7 @@ read-length first s = omega (arith, length-take-le (number_kind first s).1 s (nu
 
 -- what is read is a number
 pub number-read : (first : ℕ) (s : List ℕ) → is_ascii_digit first ≡ true → IsNumberBefore (drop (number_kind first s).1 s) (number_kind first s).0 (first ∷ take (number_kind first s).1 s)
-number-read first s digit = record {
-  form = number-form first s digit;
-  longest = λ other v rest text form. elim (form-within first s (text ∙ ap (λ (xs : List ℕ). first ∷ xs) (take-append-drop (number_kind first s).1 s)) form) [
-    | inl h ↦ omega (arith, h.1, read-length first s)
-    | inr e ↦ omega (arith, ap (λ (r : LiteralKind × ℕ). r.1) e, read-length first s)
-  ];
-}
+number-read first s digit = grind (arith, common_steps, number-form, form-within, take-append-drop, read-length)
 
 -- and a number is what is read
 pub number-is : {next : List ℕ} {kind : LiteralKind} (first : ℕ) (v : List ℕ) → is_ascii_digit first ≡ true → IsNumberBefore next kind (first ∷ v) → number_kind first (v ++ next) ≡ (kind, length v)
