@@ -2,9 +2,9 @@
 use Rattle.std.proofs.Common.{◌≡◌, ℕ, zero, suc, ◌+◌, ◌<◌, ◌≤◌, false, List, [], ◌∷◌, length, drop, refl, sym, ap, ◌∙◌, arith, length-drop, drop-drop, Option, Some, None}
 use Rattle.rustc_lexer.specs.means.Least.{more}
 use Rattle.rustc_lexer.specs.means.BlockComment.{at_closing, at_opening, followed_by, end_within, comment_end}
-use Rattle.rustc_lexer.specs.laws.BlockGrammar.{found, allowed, comment_end-found, comment_end-allowed}
+use Rattle.rustc_lexer.specs.laws.BlockGrammar.{found, allowed, comment_end-found}
 use Rattle.rustc_lexer.specs.laws.Choice.{by_found}
-use Rattle.rustc_lexer.specs.laws.Scan.{more-more}
+use Rattle.rustc_lexer.specs.laws.Least.{more-more}
 
 followed_by-more : (k : ℕ) (o : Option ℕ) (f : ℕ → Option ℕ) → followed_by (more k o) f ≡ more k (followed_by o (λ n. f (k + n)))
 followed_by-more k None f = refl
@@ -21,7 +21,7 @@ followed_by-same (Some n) f g e = ap (more n) (e n)
 -- a number that is greater finds the same end
 end-same : (fuel : ℕ) (s : List ℕ) → length s ≤ fuel → end_within fuel s ≡ comment_end s
 end-same fuel s fits = by_found (comment_end s)
-    (λ n e. found fuel (comment_end-allowed s n e) fits ∙ sym e)
+    (λ n e. found fuel (allowed (length s) s n e) fits ∙ sym e)
     (λ none. by_found (end_within fuel s) (λ n e. absurd (let some : comment_end s ≡ Some n = comment_end-found (allowed fuel s n e) in cc)) (λ e. e ∙ sym none))
 
 -- up to the end of the comment, and of as many as it stands in

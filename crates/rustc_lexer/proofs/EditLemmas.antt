@@ -1,6 +1,7 @@
 -- What an edit keeps: the front by locality, the back by a bound that both texts have.
-use Rattle.std.proofs.Common.{◌≡◌, ℕ, zero, suc, ◌+◌, ◌-◌, ◌*◌, ◌<◌, ◌≤◌, Bool, true, false, List, [], ◌∷◌, ◌++◌, length, take, drop, cond, refl, sym, ap, ◌∙◌, subst, arith, length-drop, length-append, drop-drop, take-take, take-append-drop, take-add, take_at, drop_at, length-take-le, IsUtf8, IsCharBoundary, chars, leb-true, le-leb, leb, is_some, slice_get, encode_utf8, slice_range, append_assoc, Result, Ok, Err, IfErr, OnOk, OnErr, IfOk}
+use Rattle.std.proofs.Common.{◌≡◌, ℕ, zero, suc, ◌+◌, ◌-◌, ◌*◌, ◌<◌, ◌≤◌, true, false, true≢false, List, [], ◌∷◌, ◌++◌, length, take, drop, cond, refl, sym, ap, ◌∙◌, subst, arith, length-drop, length-append, drop-drop, take-take, take-append-drop, take-add, take_at, drop_at, length-take-le, IsUtf8, IsCharBoundary, chars, leb-true, le-leb, leb, is_some, slice_get, encode_utf8, slice_range, append_assoc, Result, Ok, Err, IfErr, OnOk, OnErr, IfOk}
 use Rattle.std.specs.List.{count_by, replace_range}
+use Rattle.std.proofs.lemmas.Bool.{false_from_ne_true}
 use Rattle.std.proofs.lemmas.List.{drop-take, take-append-le}
 use Rattle.std.proofs.lemmas.Grind.{common_steps}
 use Rattle.std.proofs.lemmas.Str.{chars_past_char, chars-nil, IsUtf8-append, IsUtf8-take, IsUtf8-drop, IsUtf8-between, IsCharBoundary-from_drop, chars-append, length-encode, len_utf8_bounds, encodes-chars}
@@ -168,13 +169,9 @@ front-none text to from (t ∷ ts) is cuts out =
     let e1 : from + (t.len + 0) ≡ from + t.len = omega arith in
     let here : IsCharBoundary text from = subst (IsCharBoundary text) e0 (cuts 0 (omega arith)) in
     let next : IsCharBoundary text (from + t.len) = subst (IsCharBoundary text) e1 (cuts 1 (omega arith)) in
-    let none : has_two text (from + t.len) to ≡ false = by_test (has_two text (from + t.len) to) refl here next in
+    let none : has_two text (from + t.len) to ≡ false = false_from_ne_true (has_two text (from + t.len) to) (λ e. true≢false (sym (has_two-mono text from (from + t.len) to is (omega arith) here next e) ∙ out)) in
     let rest : kept_front_from text to (from + t.len) ts ≡ 0 = front-none text to (from + t.len) ts is (λ k few. let e : from + (t.len + bound ts k) ≡ from + t.len + bound ts k = omega arith in subst (IsCharBoundary text) e (cuts (suc k) (omega arith))) none in
     rw (none, rest) refl
-  where
-    by_test : (b : Bool) → has_two text (from + t.len) to ≡ b → IsCharBoundary text from → IsCharBoundary text (from + t.len) → b ≡ false
-    by_test false e h n = refl
-    by_test true e h n = sym (has_two-mono text from (from + t.len) to is (omega arith) h n e) ∙ out
 
 -- whether a second character stands past the first
 pub two_chars : (text : List ℕ) (from to : ℕ) (bs rest : List ℕ) (c : ℕ) → bs ≡ take (to - from) (drop from text) → IsUtf8 bs → bs ≡ encode_utf8 c ++ rest → is_some (slice_get (chars rest) 0) ≡ has_two text from to

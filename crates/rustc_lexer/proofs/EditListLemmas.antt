@@ -1,8 +1,9 @@
 -- A list of edits, one edit at a time.
-use Rattle.std.proofs.Common.{◌≡◌, ℕ, zero, suc, ◌+◌, ◌-◌, ◌<◌, ◌≤◌, min, List, [], ◌∷◌, length, take, drop, get_or, refl, sym, ap, ◌∙◌, subst, arith, length-drop, length-take-le, take-take, drop-drop}
+use Rattle.std.proofs.Common.{◌≡◌, ℕ, zero, suc, ◌+◌, ◌-◌, ◌<◌, ◌≤◌, min, List, [], ◌∷◌, length, take, drop, get_or, refl, sym, ap, ◌∙◌, subst, arith, length-drop, length-take-le, drop-drop}
 use Rattle.std.proofs.lemmas.List.{length-take}
 use Rattle.std.proofs.lemmas.Grind.{common_steps}
 use Rattle.rustc_lexer.specs.{Token}
+use Rattle.rustc_lexer.specs.laws.Reach.{cut}
 use Rattle.rustc_lexer.specs.declared.relex.edit.Edit.{Edit}
 use Rattle.rustc_lexer.specs.declared.relex.relexing.Relexed.{Relexed}
 use Rattle.rustc_lexer.specs.Edits.{IsEdit, IsRelexed, IsStepped, Layout, applied, apply_list, AreEdits, AreLeast, AreStepped}
@@ -73,9 +74,6 @@ pub record StayAtEnds (old new : List Token) (front back : ℕ) : Type 0 where
   pub same_back : drop (length new - back) new ≡ drop (length old - back) old
 
 -- fewer of them stay too
-fewer_front : (n front : ℕ) (old new : List Token) → n ≤ front → take front new ≡ take front old → take n new ≡ take n old
-fewer_front n front old new few same = sym (take-take n front new few) ∙ (ap (take n) same ∙ take-take n front old few)
-
 fewer_back : (n back : ℕ) (old new : List Token) → n ≤ back → back ≤ length old → back ≤ length new → drop (length new - back) new ≡ drop (length old - back) old → drop (length new - n) new ≡ drop (length old - n) old
 fewer_back n back old new few old_has new_has same =
     let before : length new - back + (back - n) ≡ length new - n = omega arith in
@@ -86,7 +84,7 @@ fewer_stay : {old new : List Token} {front back : ℕ} (n m : ℕ) → n ≤ fro
 fewer_stay {old} {new} {front} {back} n m few_front few_back stay = record {
   front_inside = omega (arith, stay.front_inside);
   front_within = omega (arith, stay.front_within);
-  same_front = fewer_front n front old new few_front stay.same_front;
+  same_front = cut n front new old few_front stay.same_front;
   back_inside = omega (arith, stay.back_inside);
   back_within = omega (arith, stay.back_within);
   same_back = fewer_back m back old new few_back stay.back_inside stay.back_within stay.same_back;

@@ -65,13 +65,10 @@ kept_first (c ∷ s) none =
     unhashed (lexeme-sound (c ∷ s)) (λ e. none c s refl (ap family_of e ∙ hash_family)) (bytes_of (suc (past_first c s).1) (c ∷ s))
 
 -- where no hash stands in front
-first_2021 : (text : List ℕ) → BeginsWithNoHash text → first_token text ≡ first_token_in E2021 text
-unfolding first_token
-first_2021 text none = sym (kept_first (chars text) none)
-
 pub first_newer : (edition : Edition) (text : List ℕ) → BeginsWithNoHash text → (edition ≡ E2024) ⊎ (edition ≡ E2021) → first_token text ≡ first_token_in edition text
+unfolding first_token
 first_newer edition text none (inl e) = rw e refl
-first_newer edition text none (inr e) = rw e (first_2021 text none)
+first_newer edition text none (inr e) = rw e (sym (kept_first (chars text) none))
 
 -- the two oldest have the same
 pub first_oldest : (edition : Edition) (text : List ℕ) → (edition ≡ E2018) ⊎ (edition ≡ E2015) → first_token_in E2018 text ≡ first_token_in edition text

@@ -117,32 +117,19 @@ classified_table b none small = get_or-map-range_with_len classified 0 256 b b n
 pub symbol_classified : (b : ℕ) (none : Option TokenKind) → b < 128 → family_of b ≡ Symbol → get_or CLASSIFIED.now b none ≡ Some (symbol_kind b)
 symbol_classified b none small family = classified_table b none (omega arith) ∙ rw (lt-ltb b 128 small, family) refl
 
-is_word_family : Family → Bool
-is_word_family Word = true
-is_word_family other = false
-
-is_space_family : Family → Bool
-is_space_family Space = true
-is_space_family other = false
-
-is_symbol_family : Family → Bool
-is_symbol_family Symbol = true
-is_symbol_family other = false
-
 holds : (a b : Bool) → (not a || b) ≡ true → a ≡ true → b ≡ true
 holds a b e f = let g = ap (λ t. not t || b) f in sym g ∙ e
 
-word_continues : (b : ℕ) → b < 128 → Word ≡ family_of b → is_continue_byte b ≡ true
-unfolding is_emoji unicode_ident is_word_family
-word_continues b l e = holds _ _ (agree_below_at (λ x. not (is_word_family (family_of x)) || is_continue_byte x) (λ _. true) 128 b refl l) (sym (ap is_word_family e))
+-- the runs that a character of a family is in
+abbrev in_run_of : Family → ℕ → Bool
+in_run_of Word b = is_continue_byte b
+in_run_of Space b = is_space_byte b
+in_run_of Symbol b = not (is_continue_byte b || is_space_byte b)
+in_run_of other b = true
 
-space_continues : (b : ℕ) → b < 128 → Space ≡ family_of b → is_space_byte b ≡ true
-unfolding is_emoji unicode_ident is_space_family
-space_continues b l e = holds _ _ (agree_below_at (λ x. not (is_space_family (family_of x)) || is_space_byte x) (λ _. true) 128 b refl l) (sym (ap is_space_family e))
-
-symbol_alone : (b : ℕ) → b < 128 → Symbol ≡ family_of b → not (is_continue_byte b || is_space_byte b) ≡ true
-unfolding is_emoji unicode_ident is_symbol_family
-symbol_alone b l e = holds _ _ (agree_below_at (λ x. not (is_symbol_family (family_of x)) || not (is_continue_byte x || is_space_byte x)) (λ _. true) 128 b refl l) (sym (ap is_symbol_family e))
+run_of_family : (b : ℕ) (f : Family) → b < 128 → f ≡ family_of b → in_run_of f b ≡ true
+unfolding is_emoji unicode_ident
+run_of_family b f l e = subst (λ (g : Family). in_run_of g b ≡ true) (sym e) (agree_below_at (λ x. in_run_of (family_of x) x) (λ _. true) 128 b refl l)
 
 pub record Tells (b : ℕ) (kind : TokenKind) : Type 0 where
   pub small : b < 128
@@ -174,13 +161,13 @@ module _ (text : List ℕ) (is : IsUtf8 text) (b : ℕ) (rest : List ℕ) (e : t
 
   as_word : b < 128 → Word ≡ family_of b → turns_word next ≡ false → IsFirstToken text record { kind = Ident; len = 1 + n }
   as_word small family stays =
-      let in_class = word_continues b small family in
+      let in_class : is_continue_byte b ≡ true = run_of_family b Word small family in
       let all : prefix_len is_continue_byte text ≡ suc n = run_is is_continue_byte is_space_byte never_both text n run.room run.on run.end (ap is_continue_byte front ∙ in_class) in
       word_first text b rest n is e small family (counted is_continue_byte in_class all) (ap not (ap (next_is turns_word) left ∙ stays))
 
   as_space : b < 128 → Space ≡ family_of b → is_space_lead next ≡ false → IsFirstToken text record { kind = Whitespace; len = 1 + n }
   as_space small family stays =
-      let in_class = space_continues b small family in
+      let in_class : is_space_byte b ≡ true = run_of_family b Space small family in
       let all : prefix_len is_space_byte text ≡ suc n = run_is is_space_byte is_continue_byte (λ x. and_comm (is_space_byte x) (is_continue_byte x) ∙ never_both x) text n run.room (λ k l. swapped (get_or text k 0) (get_or text (suc k) 0) ∙ run.on k l) (swapped (get_or text n 0) (get_or text (suc n) 0) ∙ run.end) (ap is_space_byte front ∙ in_class) in
       space_first text b rest n is e small family (counted is_space_byte in_class all) (ap not (ap (next_is is_space_lead) left ∙ stays))
     where
@@ -191,7 +178,7 @@ module _ (text : List ℕ) (is : IsUtf8 text) (b : ℕ) (rest : List ℕ) (e : t
   as_symbol small family = subst (λ k. IsFirstToken text record { kind = symbol_kind b; len = 1 + k }) (alone n refl) (symbol_first text b rest (symbol_kind b) is e small family refl)
     where
       out : (is_continue_byte b ≡ false) × (is_space_byte b ≡ false)
-      out = or_parts (is_continue_byte b) (is_space_byte b) (not-true _ (symbol_alone b small family))
+      out = or_parts (is_continue_byte b) (is_space_byte b) (not-true _ (run_of_family b Symbol small family))
 
       alone : (m : ℕ) → n ≡ m → 0 ≡ n
       alone zero f = sym f

@@ -25,10 +25,6 @@ mark-small c e = grind (arith, common_steps, or_cases, eqb-true)
 pub hash-small : (c : ℕ) → is_hash c ≡ true → c < 128
 hash-small c e = grind (arith, common_steps, eqb-true)
 
--- the next character is a mark where the next byte is one
-pub mark-byte : (text : List ℕ) → IsUtf8 text → next_is is_guarded_mark (chars text) ≡ next_is is_guarded_mark text
-mark-byte = next_byte is_guarded_mark mark-small
-
 -- a hash alone chooses the family
 hash-code : (c : ℕ) → family_of c ≡ Hash → c ≡ 35
 hash-code c e = grind arith
@@ -65,13 +61,13 @@ prefix_first text b (d ∷ ds) is e small family mark = first text b (d ∷ ds) 
     told : IsUtf8 (d ∷ ds) → (GuardedStrPrefix, ds) ≡ scanned (past_first b) (d ∷ ds)
     told inner =
         let cut : ds ≡ past 1 (d ∷ ds) = sym (past-one (d ∷ ds) ds d inner (ap (λ (xs : List ℕ). xs ++ ds) (sym (encode_ascii d (mark-small d mark))))) in
-        by_family Hash b (d ∷ ds) _ family (prefix_read (d ∷ ds) inner ds (mark-byte (d ∷ ds) inner ∙ mark) cut)
+        by_family Hash b (d ∷ ds) _ family (prefix_read (d ∷ ds) inner ds (next_byte is_guarded_mark mark-small (d ∷ ds) inner ∙ mark) cut)
 
 pub pound_first : (text : List ℕ) (b : ℕ) (rest : List ℕ) → IsUtf8 text → text ≡ b ∷ rest → b < 128 → Hash ≡ family_of b → next_is is_guarded_mark rest ≡ false → IsFirstToken text record { kind = Pound; len = 1 }
 pound_first text b rest is e small family none = first text b rest Pound 0 is e small (omega arith) told
   where
     told : IsUtf8 rest → (Pound, rest) ≡ scanned (past_first b) rest
-    told inner = by_family Hash b rest _ family (pound_read rest inner (mark-byte rest inner ∙ none))
+    told inner = by_family Hash b rest _ family (pound_read rest inner (next_byte is_guarded_mark mark-small rest inner ∙ none))
 
 -- the same in each edition
 pub hash_alone : (guards : Bool) (text : List ℕ) (b : ℕ) (rest : List ℕ) → IsUtf8 text → text ≡ b ∷ rest → b < 128 → Hash ≡ family_of b → next_is is_guarded_mark rest ≡ false → IsFirstBy guards text record { kind = Pound; len = 1 }

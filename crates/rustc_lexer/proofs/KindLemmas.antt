@@ -4,7 +4,7 @@ use Rattle.std.proofs.lemmas.List.{append-nil}
 use Rattle.std.proofs.lemmas.Str.{chars-append, chars-encodes, encode_ascii, encodes-append}
 use Rattle.std.proofs.lemmas.Grind.{common_steps}
 use Rattle.std.specs.Str.{encode_utf8_all}
-use Rattle.rustc_lexer.specs.{Base, Edition, LiteralKind, RawStrError, Token, TokenKind, Ident, RawIdent, UnknownPrefix, Literal, Eof}
+use Rattle.rustc_lexer.specs.{Edition, LiteralKind, RawStrError, Token, TokenKind, Ident, RawIdent, UnknownPrefix, Literal, Eof}
 use Rattle.rustc_lexer.specs.Answers.{raw_check}
 use Rattle.rustc_lexer.specs.Classes.{bytes, is_ident, Chars, IsText, Utf8}
 use Rattle.rustc_lexer.specs.Language as the
@@ -15,8 +15,7 @@ use Rattle.rustc_lexer.specs.LanguageText as grammar
 use Rattle.rustc_lexer.specs.LanguageText.{AreTokens, IsTokenIn, Mode}
 use Rattle.rustc_lexer.specs.LiteralGrammar as lit
 use Rattle.rustc_lexer.specs.LiteralGrammar.{IsLiteralBefore, IsRaw}
-use Rattle.rustc_lexer.specs.NumberGrammar as number
-use Rattle.rustc_lexer.specs.NumberGrammar.{IsExponent, HasNumberForm, IsTailBefore}
+use Rattle.rustc_lexer.specs.NumberGrammar.{HasNumberForm}
 use Rattle.rustc_lexer.specs.State.{HasSuffixWithin}
 use Rattle.rustc_lexer.specs.Tables.{symbol_kind, symbols}
 use Rattle.rustc_lexer.specs.Tokens.{is_faulty, HasSuffix, HasText}
@@ -24,6 +23,7 @@ use Rattle.rustc_lexer.specs.laws.Choice.{by_symbol}
 use Rattle.rustc_lexer.specs.laws.LanguageFront.{split}
 use Rattle.rustc_lexer.specs.laws.LanguageLiterals.{bytes-append}
 use Rattle.rustc_lexer.specs.laws.LanguageRaw.{raw-read, raw_seen}
+use Rattle.rustc_lexer.specs.laws.LanguageReach.{number-kind, raw-alike}
 use Rattle.rustc_lexer.specs.laws.Language.{lexeme-sound}
 use Rattle.rustc_lexer.specs.laws.TheAnswers.{the_raw}
 use Rattle.rustc_lexer.specs.means.Lexeme.{first_token}
@@ -36,18 +36,8 @@ use Rattle.rustc_lexer.specs.means.Scan.{next_is}
 abbrev IsQuietLiteral : LiteralKind → Type 0
 IsQuietLiteral kind = (is_faulty kind ≡ false) × ((n : ℕ) (text : Utf8) → HasText (Literal kind n) text)
 
-exponent-quiet : {base : Base} {kind : LiteralKind} {w : Chars} → IsExponent base kind w → IsQuietLiteral kind
-exponent-quiet (number.signed letter sign are) = (refl, λ n text. tt)
-exponent-quiet (number.unsigned letter are) = (refl, λ n text. tt)
-
-tail-quiet : {next w : Chars} {base : Base} {kind : LiteralKind} → IsTailBefore next base kind w → IsQuietLiteral kind
-tail-quiet (number.of_exponent none p) = exponent-quiet p
-tail-quiet (number.of_both ds one are p) = exponent-quiet p
-tail-quiet p = (refl, λ n text. tt)
-
 number-quiet : {next w : Chars} {kind : LiteralKind} → HasNumberForm next kind w → IsQuietLiteral kind
-number-quiet (number.of_prefix whole) = (refl, λ n text. tt)
-number-quiet (number.of_parts whole tail) = tail-quiet tail
+number-quiet is = number-kind IsQuietLiteral (λ base empty. (refl, λ n text. tt)) (λ base empty. (refl, λ n text. tt)) is
 
 -- a literal that may have a suffix is not faulty
 suffixed : {next w : Chars} {kind : LiteralKind} {may : Bool} → IsLiteralBefore next kind may w → may ≡ true → is_faulty kind ≡ false
@@ -62,15 +52,7 @@ suffixed (lit.raw_c_str p) e = ap not e
 suffixed (lit.number p) e = (number-quiet p.form).0
 suffixed p e = refl
 
--- a raw string that is not refused is one whatever follows it
-raw-before : {next : Chars} {o : Option ℕ} {w : Chars} → IsRaw next o w → (rest : Chars) → (o ≡ None → rest ≡ []) → IsRaw rest o w
-raw-before (lit.closed n w le lacks) rest end = lit.closed n w le lacks
-raw-before (lit.too_many n w lt lacks) rest end = lit.too_many n w lt lacks
-raw-before (lit.unclosed n w none lacks) rest end = lit.unclosed n w (end refl) lacks
-raw-before (lit.no_quote n c out) rest end = lit.no_quote n c out
-raw-before (lit.no_more n none) rest end = lit.no_more n (end refl)
-
--- and is what the check of raw strings accepts
+-- a raw string that is not refused is what the check of raw strings accepts
 accepted : {rest cs w : Chars} {o : Option ℕ} {p : ℕ} {r : Result Unit RawStrError} → IsRaw rest o w → IsRawAnswer p cs r → r ≡ Ok tt → cs ≡ w ++ rest → IsSome o
 accepted is (call.good {n = n} q) e f =
     let same : Some n ≡ _ = sym (ap (λ (r : Option ℕ × ℕ). r.0) (raw-read q)) ∙ (ap (λ (s : Chars). (raw_seen s).0) f ∙ ap (λ (r : Option ℕ × ℕ). r.0) (raw-read is)) in
@@ -84,7 +66,7 @@ accepts p None is some = absurd (true≢false (sym some))
 checked : {next rest w : Chars} {o : Option ℕ} → IsRaw next o w → (o ≡ None → rest ≡ []) → (p : ℕ) (text : Utf8) → drop p (chars text) ≡ w ++ rest → (raw_check text p ≡ Ok tt) ↔ IsSome o
 checked {rest = rest} {o = o} is end p text e =
     let answers = (the_raw text p).only tt (Ok tt) in
-    let here = raw-before is rest end in
+    let here = raw-alike is rest (λ none over. end none) in
     (λ f. accepted here (answers.1 (sym f)) refl e, λ some. sym (answers.0 (subst (λ (cs : Chars). IsRawAnswer p cs (Ok tt)) (sym e) (accepts p o here some))))
 
 -- the text of a literal is as its kind says

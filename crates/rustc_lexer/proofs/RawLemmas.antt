@@ -1,19 +1,17 @@
 -- The loop over the text of a raw string.
-use Rattle.std.proofs.Common.{◌≡◌, ℕ, zero, suc, ◌+◌, ◌-◌, ◌≤◌, ◌<◌, ◌==◌, ◌&&◌, max, nat_le, Bool, true, false, true≢false, if◌then◌else◌, List, [], ◌∷◌, length, drop, refl, sym, ap, ◌∙◌, subst, arith, Option, Some, None, Result, Err, MatchOption}
-use Rattle.std.specs.Char.{encode_utf8}
+use Rattle.std.proofs.Common.{◌≡◌, ℕ, suc, ◌+◌, ◌-◌, ◌≤◌, ◌<◌, ◌==◌, ◌&&◌, max, nat_le, Bool, true, false, true≢false, if◌then◌else◌, List, [], ◌∷◌, length, drop, refl, sym, ap, ◌∙◌, subst, arith, Option, Some, None, Result, Err, MatchOption}
 use Rattle.std.specs.Str.{chars, encode_utf8_all, IsUtf8, IsCharBoundary}
 use Rattle.std.proofs.lemmas.Bool.{eqb-true, eq-eqb, ne_eqb, le-leb, lt-leb, not-false, and_parts, not-true}
-use Rattle.std.proofs.lemmas.Str.{encode_ascii, IsCharBoundary-from_drop}
+use Rattle.std.proofs.lemmas.Str.{IsCharBoundary-from_drop}
 use Rattle.std.proofs.Math.Seq.{drop-length}
 use Rattle.std.proofs.lemmas.Grind.{common_steps}
 use Rattle.rustc_lexer.specs.{RawStrError, NoTerminator}
 use Rattle.rustc_lexer.specs.means.Least.{one_more, more}
 use Rattle.rustc_lexer.specs.laws.Choice.{by_either}
-use Rattle.rustc_lexer.specs.laws.Least.{place-here, place-on, more-zero}
+use Rattle.rustc_lexer.specs.laws.Least.{place-here, place-on, more-more, more-zero}
 use Rattle.rustc_lexer.specs.means.Raw.{least_place, is_hash, is_quote, is_no_quote, hash_run, closes, close, quote_hashes, most_hashes, quote_with, quote_if, best_quote, quote_end, hash_count, raw_closed, raw_text}
 use Rattle.rustc_lexer.specs.means.Scan.{begins, bytes_of, past, run_len, scanned}
-use Rattle.rustc_lexer.specs.laws.CharSteps.{bytes_of-suc}
-use Rattle.rustc_lexer.specs.laws.Scan.{run_len-stop, more-more}
+use Rattle.rustc_lexer.specs.laws.Scan.{bytes-run, length-run, run_len-stop}
 use Rattle.rustc_lexer.specs.laws.Past.{past-zero, past-past, past-drop, chars-past, IsUtf8-past, length-past}
 use Rattle.rustc_lexer.specs.laws.Fences.{skip_run}
 
@@ -39,9 +37,6 @@ module _ (p : ℕ → Bool) (none : (c : ℕ) → p c ≡ true → is_quote c �
 
 hash-no_quote : (c : ℕ) → is_hash c ≡ true → is_quote c ≡ false
 hash-no_quote c e = rw (eqb-true c 35 e) refl
-
-other-no_quote : (c : ℕ) → is_no_quote c ≡ true → is_quote c ≡ false
-other-no_quote c e = not-true (is_quote c) e
 
 -- a quote in front, and what follows it
 pub quote_front : (s left : List ℕ) → begins (34 ∷ []) s ≡ true → left ≡ drop 1 s → s ≡ 34 ∷ left
@@ -73,7 +68,7 @@ module _ (v w : List ℕ) (at_quote : drop (run_len is_no_quote v) v ≡ 34 ∷ 
   -- a test that fails at each other character
   module _ (test : List ℕ → Bool) (fails : (c : ℕ) (s : List ℕ) → is_quote c ≡ false → test (c ∷ s) ≡ false) where
     to-quote : least_place test v ≡ more (run_len is_no_quote v) (least_place test (34 ∷ w))
-    to-quote = skip-place is_no_quote other-no_quote test fails v ∙ ap (λ s. more (run_len is_no_quote v) (least_place test s)) at_quote
+    to-quote = skip-place is_no_quote (λ c. not-true (is_quote c)) test fails v ∙ ap (λ s. more (run_len is_no_quote v) (least_place test s)) at_quote
 
     pub place-at : test (34 ∷ w) ≡ true → least_place test v ≡ Some (run_len is_no_quote v)
     place-at e = to-quote ∙ (ap (more (run_len is_no_quote v)) (place-here test 34 w e) ∙ ap Some (omega arith))
@@ -85,7 +80,7 @@ module _ (v w : List ℕ) (at_quote : drop (run_len is_no_quote v) v ≡ 34 ∷ 
         ∙ more-quote (run_len is_no_quote v) (hash_run w) (least_place test (drop (hash_run w) w)))
 
   pub most-past : most_hashes v ≡ max (hash_run w) (most_hashes (drop (hash_run w) w))
-  most-past = skip-most is_no_quote other-no_quote v ∙ (ap most_hashes at_quote ∙ ap (max (hash_run w)) (skip-most is_hash hash-no_quote w))
+  most-past = skip-most is_no_quote (λ c. not-true (is_quote c)) v ∙ (ap most_hashes at_quote ∙ ap (max (hash_run w)) (skip-most is_hash hash-no_quote w))
 
 closes-fails : (n c : ℕ) (s : List ℕ) → is_quote c ≡ false → closes n (c ∷ s) ≡ false
 closes-fails n c s e = ap (λ b. b && nat_le n (hash_run s)) e
@@ -108,23 +103,10 @@ search_start n before text is = grind (arith, common_steps, past-zero, more-zero
 
 -- the hashes at the front are one byte each
 pub hash_bytes : (n : ℕ) (w : List ℕ) → n ≤ hash_run w → bytes_of n w ≡ n
-hash_bytes zero w le = refl
-hash_bytes (suc n) [] le = absurd (omega arith)
-hash_bytes (suc n) (c ∷ w) le = by_hash (λ f. hash_bytes n w f) (is_hash c) refl le
-  where
-    by_hash : (n ≤ hash_run w → bytes_of n w ≡ n) → (b : Bool) → is_hash c ≡ b → suc n ≤ (if b then suc (hash_run w) else 0) → bytes_of (suc n) (c ∷ w) ≡ suc n
-    by_hash ih true e le =
-        let one : length (encode_utf8 c) ≡ 1 = ap length (encode_ascii c (let f = eqb-true c 35 e in omega arith)) in
-        let rest : bytes_of n w ≡ n = ih (omega arith) in
-        bytes_of-suc n c w ∙ omega arith
-    by_hash ih false e le = absurd (omega arith)
+hash_bytes = bytes-run is_hash (λ c e. let f = eqb-true c 35 e in omega arith)
 
 pub hash_len : (text rest : List ℕ) → IsUtf8 text → rest ≡ past (hash_run (chars text)) text → length text - length rest ≡ hash_run (chars text)
-hash_len text rest is e =
-    let n : ℕ = hash_run (chars text) in
-    let one : bytes_of n (chars text) ≡ n = hash_bytes n (chars text) (omega arith) in
-    let all : n + length rest ≡ length text = ap (λ (k : ℕ). k + length rest) (sym one) ∙ (ap (λ (xs : List ℕ). bytes_of n (chars text) + length xs) e ∙ length-past n text is) in
-    omega arith
+hash_len = length-run is_hash (λ c e. let f = eqb-true c 35 e in omega arith)
 
 -- one turn of the loop: `tail` follows the next quote, and `next` its hashes
 module _ (n before : ℕ) (text left tail next : List ℕ) (found : ℕ) (end : Option ℕ) (is : IsUtf8 text) (at : Searching n before text left found end)
@@ -224,8 +206,8 @@ pub never_closed : (n before : ℕ) (text left : List ℕ) (found : ℕ) (end : 
 never_closed n before text left found end at none =
     let u : List ℕ = chars text in
     let k : ℕ = run_len is_no_quote (chars left) in
-    let no_close : close n u ≡ None = at.closes_at ∙ ap (more at.taken) (skip-place is_no_quote other-no_quote (closes n) (closes-fails n) (chars left) ∙ ap (λ s. more k (close n s)) none) in
-    let no_more : most_hashes (chars left) ≡ 0 = skip-most is_no_quote other-no_quote (chars left) ∙ ap most_hashes none in
+    let no_close : close n u ≡ None = at.closes_at ∙ ap (more at.taken) (skip-place is_no_quote (λ c. not-true (is_quote c)) (closes n) (closes-fails n) (chars left) ∙ ap (λ s. more k (close n s)) none) in
+    let no_more : most_hashes (chars left) ≡ 0 = skip-most is_no_quote (λ c. not-true (is_quote c)) (chars left) ∙ ap most_hashes none in
     let most : found ≡ most_hashes u = let m = at.most in omega arith in
     ap (λ (o : Option ℕ). let r : Result ℕ RawStrError × List ℕ = (Err (NoTerminator n found o), []) in r) at.ends
     ∙ (ap (λ (m : ℕ). let r : Result ℕ RawStrError × List ℕ = (Err (NoTerminator n m (quote_end before u (quote_if m u))), []) in r) most

@@ -28,31 +28,24 @@ least_from-passes test (suc n) k pass = elim (cases_Bool (test k)) [
 -- and none before it does
 pub least_from-none : (test : ℕ → Bool) (n k i : ℕ) → k ≤ i → i < least_from test n k → test i ≡ false
 least_from-none test zero k i le less = absurd (omega arith)
-least_from-none test (suc n) k i le less = by_test (least_from-none test n (suc k) i) (test k) refl less
-  where
-    by_test : (suc k ≤ i → i < least_from test n (suc k) → test i ≡ false) → (b : Bool) → test k ≡ b → i < cond b k (least_from test n (suc k)) → test i ≡ false
-    by_test ih true e l = absurd (omega arith)
-    by_test ih false e l = elim (eq-or-lt_of_le le) [
-      | inl same ↦ subst (λ m. test m ≡ false) same e
-      | inr more ↦ ih more l
-    ]
+least_from-none test (suc n) k i le less = elim (cases_Bool (test k)) [
+  | inl hit ↦ let here : least_from test (suc n) k ≡ k = rw hit refl in absurd (omega arith)
+  | inr miss ↦
+      let on : least_from test (suc n) k ≡ least_from test n (suc k) = rw miss refl in
+      elim (eq-or-lt_of_le le) [ inl same ↦ subst (λ m. test m ≡ false) same miss | inr more ↦ least_from-none test n (suc k) i more (omega arith) ]
+]
 
 pub least_from-le : (test : ℕ → Bool) (n k : ℕ) → least_from test n k ≤ k + n
 least_from-le test zero k = omega arith
-least_from-le test (suc n) k = by_test (least_from-le test n (suc k)) (test k)
-  where
-    by_test : least_from test n (suc k) ≤ suc k + n → (b : Bool) → cond b k (least_from test n (suc k)) ≤ k + suc n
-    by_test ih true = omega arith
-    by_test ih false = omega arith
+least_from-le test (suc n) k = elim (cases_Bool (test k)) [ inl hit ↦ rw hit (omega arith) | inr miss ↦ rw miss (omega (arith, least_from-le test n (suc k))) ]
 
 -- it passes, if it is not past the last
 pub least_from-hit : (test : ℕ → Bool) (n k : ℕ) → least_from test n k < k + n → test (least_from test n k) ≡ true
 least_from-hit test zero k less = absurd (omega arith)
-least_from-hit test (suc n) k less = by_test (least_from-hit test n (suc k)) (test k) refl less
-  where
-    by_test : (least_from test n (suc k) < suc k + n → test (least_from test n (suc k)) ≡ true) → (b : Bool) → test k ≡ b → cond b k (least_from test n (suc k)) < k + suc n → test (cond b k (least_from test n (suc k))) ≡ true
-    by_test ih true e less = e
-    by_test ih false e less = ih (omega arith)
+least_from-hit test (suc n) k less = elim (cases_Bool (test k)) [
+  | inl hit ↦ rw hit hit
+  | inr miss ↦ let on : least_from test (suc n) k ≡ least_from test n (suc k) = rw miss refl in rw miss (least_from-hit test n (suc k) (omega arith))
+]
 
 -- ---- a meeting passes the test of the search, and what passes it is one
 

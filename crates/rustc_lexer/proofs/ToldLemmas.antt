@@ -1,5 +1,5 @@
 -- What an iterator knows of the ends of runs past its place, and the tokens that it takes by them.
-use Rattle.std.proofs.Common.{◌≡◌, ℕ, ◌+◌, ◌-◌, ◌^◌, ◌<◌, ◌≤◌, ◌==◌, false, true, true≢false, List, length, length-drop, drop, take, get_or, sym, ap, subst, ◌∙◌, arith, drop-drop, Some}
+use Rattle.std.proofs.Common.{◌≡◌, ℕ, ◌+◌, ◌-◌, ◌^◌, ◌<◌, ◌≤◌, ◌==◌, false, true, List, length, length-drop, drop, take, get_or, sym, ap, subst, ◌∙◌, arith, drop-drop, Some}
 use Rattle.std.specs.Str.{chars, IsCharBoundary, IsUtf8}
 use Rattle.std.proofs.lemmas.Bool.{ne_eqb}
 use Rattle.std.proofs.lemmas.List.{get_or-drop, take_rest}
@@ -12,18 +12,10 @@ use Rattle.rustc_lexer.specs.State.{State}
 use Rattle.rustc_lexer.specs.Tokens.{TakesToken}
 use Rattle.rustc_lexer.specs.laws.State.{state}
 use Rattle.rustc_lexer.specs.means.Edition.{changed, first_token_in}
-use Rattle.rustc_lexer.specs.means.Ends.{bit, classified, AreEndsPast, IsEnds, IsLowest, IsUntold, StaysWithin, TellEndsPast}
+use Rattle.rustc_lexer.specs.means.Ends.{bit, classified, AreEndsPast, IsEnds, IsLowest, IsUntold, StaysWithin}
 use Rattle.rustc_lexer.specs.means.Quick.{IsFirstToken}
-use Rattle.rustc_lexer.proofs.BitLemmas.{bit-zero}
 use Rattle.rustc_lexer.proofs.EndsLemmas.{all_past, classified_behind, classified_same, past_end}
 use Rattle.rustc_lexer.proofs.TokensLemmas.{takes_part}
-
--- no bits tell of every end
-pub none_tell : (text : List ℕ) (from : ℕ) → TellEndsPast text from 0
-none_tell text from j after set = absurd (true≢false (sym set ∙ bit-zero j))
-
-pub all_tell : (text : List ℕ) (from m : ℕ) → AreEndsPast text from m → TellEndsPast text from m
-all_tell text from m are j after set = let r = are j set in (r.1, r.2)
 
 -- found anew at a place
 pub found_at : (text : List ℕ) (at m : ℕ) → IsEnds (drop at text) m → AreEndsPast (drop at text) (at - at) m

@@ -27,7 +27,6 @@ pub mod LanguageTokens
 pub mod LanguageWords
 pub mod Least
 pub mod Lifetime
-pub mod Number
 pub mod NumberGrammar
 pub mod NumberLongest
 pub mod Past

@@ -61,6 +61,3 @@ allowed (suc fuel) (c ∷ cs) n e = by_mark (allowed fuel) (at_closing (c ∷ cs
         let found_it : end_within (suc fuel) (47 ∷ 42 ∷ m.rest) ≡ Some n = subst (λ (s : List ℕ). end_within (suc fuel) s ≡ Some n) m.whole e in
         subst (λ (s : List ℕ). Closes s n) (sym m.whole) (two ih m.rest (end_within fuel m.rest) refl found_it)
     by_mark ih false false x y = one ih (end_within fuel cs) x y refl (rw (x, y) at e)
-
-pub comment_end-allowed : (s : List ℕ) (n : ℕ) → comment_end s ≡ Some n → Closes s n
-comment_end-allowed s n e = allowed (length s) s n e

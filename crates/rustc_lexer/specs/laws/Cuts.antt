@@ -1,7 +1,7 @@
 -- Cutting a text: locality of lists of tokens, and what follows a bound.
 use Rattle.std.proofs.Common.{◌≡◌, ℕ, zero, suc, ◌+◌, ◌<◌, ◌≤◌, List, [], ◌∷◌, ◌++◌, length, take, drop, refl, sym, ap, ◌∙◌, arith, length-drop, IsUtf8, chars, drop-drop, take-add, take-take, take-append-drop}
 use Rattle.std.proofs.lemmas.List.{drop-take}
-use Rattle.std.proofs.lemmas.Str.{chars-append, IsUtf8-append, IsUtf8-drop, IsUtf8-nil, IsUtf8-take}
+use Rattle.std.proofs.lemmas.Str.{chars-append, IsUtf8-append, IsUtf8-nil, IsUtf8-take}
 use Rattle.rustc_lexer.specs.{Token}
 use Rattle.rustc_lexer.specs.Locality.{AgreePast, IsGrammar}
 use Rattle.rustc_lexer.specs.Partition.{bound, cut_by, tokens_by}
@@ -14,10 +14,7 @@ look text = take 2 (chars text)
 
 -- what is left of a text past its first token
 pub past_first : {first : List ℕ → Token} (law : IsGrammar first) (text : List ℕ) → IsText text → 0 < length text → IsText (drop (first text).len text)
-past_first {first} law text is some = record {
-  utf8 = IsUtf8-drop text _ is.utf8 (law.boundary text is some);
-  fits = let f = is.fits in omega (arith, length-drop (first text).len text);
-}
+past_first law text is some = left_text text _ is (law.boundary text is some).0 (IsUtf8-take text _ is.utf8 (law.boundary text is some))
 
 pub shorter : {first : List ℕ → Token} (law : IsGrammar first) (text : List ℕ) → IsText text → 0 < length text → length (drop (first text).len text) < length text
 shorter {first} law text is some = omega (arith, length-drop (first text).len text, law.not_empty text is some)

@@ -67,20 +67,12 @@ module _ (hay pattern : List ℕ) (some : 0 < length pattern) where
 -- the run up to the first newline, as a search answers it
 run-none : (s : List ℕ) → ((k : ℕ) → k < length s → is_newline (get_or s k 0) ≡ true → ⊥) → run_len is_inline s ≡ length s
 run-none [] none = refl
-run-none (c ∷ s) none = by_test (run-none s (λ k l e. none (suc k) (omega arith) e)) (is_newline c) refl
-  where
-    by_test : run_len is_inline s ≡ length s → (b : Bool) → is_newline c ≡ b → run_len is_inline (c ∷ s) ≡ suc (length s)
-    by_test ih true e = absurd (none 0 (omega arith) e)
-    by_test ih false e = rw e (ap suc ih)
+run-none (c ∷ s) none = by_either (is_newline c) (λ e. absurd (none 0 (omega arith) e)) (λ e. rw e (ap suc (run-none s (λ k l f. none (suc k) (omega arith) f))))
 
 run-some : (s : List ℕ) (k : ℕ) → k < length s → is_newline (get_or s k 0) ≡ true → ((j : ℕ) → j < k → is_newline (get_or s j 0) ≡ true → ⊥) → run_len is_inline s ≡ k
 run-some [] k l e none = absurd (omega arith)
 run-some (c ∷ s) zero l e none = rw e refl
-run-some (c ∷ s) (suc k) l e none = by_test (run-some s k (omega arith) e (λ j m f. none (suc j) (omega arith) f)) (is_newline c) refl
-  where
-    by_test : run_len is_inline s ≡ k → (b : Bool) → is_newline c ≡ b → run_len is_inline (c ∷ s) ≡ suc k
-    by_test ih true f = absurd (none 0 (omega arith) f)
-    by_test ih false f = rw f (ap suc ih)
+run-some (c ∷ s) (suc k) l e none = by_either (is_newline c) (λ f. absurd (none 0 (omega arith) f)) (λ f. rw f (ap suc (run-some s k (omega arith) e (λ j m g. none (suc j) (omega arith) g))))
 
 pub line-none : (s : List ℕ) → IsFirstByte (is_byte 10) s None → run_len is_inline s ≡ length s
 line-none s none = run-none s (λ k l e. none k (omega arith) l e)
@@ -113,20 +105,16 @@ module _ (p : ℕ → Bool) (test : List ℕ → Bool) (fails : (c : ℕ) (s : L
 pub begins-enough : (n : ℕ) (s : List ℕ) → n ≤ run_len is_dash s → begins (fence n) s ≡ true
 begins-enough zero s le = refl
 begins-enough (suc n) [] le = absurd (omega arith)
-begins-enough (suc n) (c ∷ s) le = by_test (begins-enough n s) (is_dash c) refl le
-  where
-    by_test : (n ≤ run_len is_dash s → begins (fence n) s ≡ true) → (b : Bool) → is_dash c ≡ b → suc n ≤ (if b then suc (run_len is_dash s) else 0) → begins (fence (suc n)) (c ∷ s) ≡ true
-    by_test ih true e le = rw (e, ih (omega arith)) refl
-    by_test ih false e le = absurd (omega arith)
+begins-enough (suc n) (c ∷ s) le = by_either (is_dash c)
+    (λ e. let more : run_len is_dash (c ∷ s) ≡ suc (run_len is_dash s) = rw e refl in rw (e, begins-enough n s (omega arith)) refl)
+    (λ e. let none : run_len is_dash (c ∷ s) ≡ 0 = rw e refl in absurd (omega arith))
 
 pub begins-few : (n : ℕ) (s : List ℕ) → run_len is_dash s < n → begins (fence n) s ≡ false
 begins-few zero s less = absurd (omega arith)
 begins-few (suc n) [] less = refl
-begins-few (suc n) (c ∷ s) less = by_test (begins-few n s) (is_dash c) refl less
-  where
-    by_test : (run_len is_dash s < n → begins (fence n) s ≡ false) → (b : Bool) → is_dash c ≡ b → (if b then suc (run_len is_dash s) else 0) < suc n → begins (fence (suc n)) (c ∷ s) ≡ false
-    by_test ih true e less = rw (e, ih (omega arith)) refl
-    by_test ih false e less = rw e refl
+begins-few (suc n) (c ∷ s) less = by_either (is_dash c)
+    (λ e. let more : run_len is_dash (c ∷ s) ≡ suc (run_len is_dash s) = rw e refl in rw (e, begins-few n s (omega arith)) refl)
+    (λ e. rw e refl)
 
 pub begins-dashes : (n : ℕ) (s : List ℕ) → begins (fence n) s ≡ true → n ≤ run_len is_dash s
 begins-dashes n s e = elim (cases_lt (run_len is_dash s) n) [ inl few ↦ absurd (true≢false (sym e ∙ begins-few n s few)) | inr enough ↦ enough ]

@@ -1,5 +1,5 @@
 -- The opening of a frontmatter, and where the token ends.
-use Rattle.std.proofs.Common.{◌≡◌, ℕ, zero, suc, ◌+◌, ◌-◌, ◌<◌, ◌≤◌, ◌&&◌, ◌||◌, nat_lt, not, Bool, true, false, if◌then◌else◌, List, [], ◌∷◌, ◌++◌, codes, length, take, drop, get_or, refl, sym, ap, ◌∙◌, subst, arith, Option, Some, None, length-append, length-drop, length-take, append_assoc}
+use Rattle.std.proofs.Common.{◌≡◌, ℕ, ◌+◌, ◌-◌, ◌<◌, ◌≤◌, ◌&&◌, ◌||◌, nat_lt, not, Bool, true, false, if◌then◌else◌, List, [], ◌∷◌, ◌++◌, codes, length, take, drop, get_or, refl, sym, ap, ◌∙◌, subst, arith, Option, Some, None, length-append, length-drop, length-take, append_assoc}
 use Rattle.std.specs.Char.{encode_utf8}
 use Rattle.std.specs.Str.{chars, encode_utf8_all, IsUtf8, IsCharBoundary}
 use Rattle.std.proofs.Math.Seq.{drop-append_seam}
@@ -20,9 +20,10 @@ use Rattle.rustc_lexer.specs.laws.Reach.{run_len_le}
 use Rattle.rustc_lexer.specs.means.Scan.{begins, bytes_of, next_is, past, run_len}
 use Rattle.rustc_lexer.specs.State.{HasSuffixWithin}
 use Rattle.rustc_lexer.specs.means.Taking.{token_at}
-use Rattle.rustc_lexer.specs.laws.CharSteps.{bytes_of-suc, bytes_of-add}
+use Rattle.rustc_lexer.specs.laws.CharSteps.{bytes_of-add}
 use Rattle.rustc_lexer.specs.laws.Fences.{begins-enough, begins-few, begins-dashes}
 use Rattle.rustc_lexer.specs.laws.LanguageClosing.{closing-encode}
+use Rattle.rustc_lexer.specs.laws.Scan.{length-run}
 use Rattle.rustc_lexer.specs.laws.Past.{past-zero, split_past, past-past, past-drop, chars-past, IsUtf8-past, length-past}
 
 -- past one length, and then another
@@ -40,19 +41,6 @@ module _ (rest : List ℕ) (is : IsUtf8 rest) where
 pub opens-other : (s : List ℕ) → next_is (λ c. is_dash c || is_whitespace c) s ≡ false → opens s ≡ false
 opens-other [] none = refl
 opens-other (c ∷ cs) none = let parts = or_parts (is_dash c) (is_whitespace c) none in rw (parts.1, parts.0) refl
-
--- dashes are one byte each
-dash_bytes : (n : ℕ) (s : List ℕ) → n ≤ run_len is_dash s → bytes_of n s ≡ n
-dash_bytes zero s le = refl
-dash_bytes (suc n) [] le = absurd (omega arith)
-dash_bytes (suc n) (c ∷ s) le = by_dash (dash_bytes n s) (is_dash c) refl le
-  where
-    by_dash : (n ≤ run_len is_dash s → bytes_of n s ≡ n) → (b : Bool) → is_dash c ≡ b → suc n ≤ (if b then suc (run_len is_dash s) else 0) → bytes_of (suc n) (c ∷ s) ≡ suc n
-    by_dash ih true e le =
-        let one : length (encode_utf8 c) ≡ 1 = ap length (encode_ascii c (let f = eqb-true c 45 e in omega arith)) in
-        let rest : bytes_of n s ≡ n = ih (omega arith) in
-        bytes_of-suc n c s ∙ omega arith
-    by_dash ih false e le = absurd (omega arith)
 
 -- the byte before a place is a newline where the last character before it is
 last_byte : (cs text rest : List ℕ) → text ≡ encode_utf8_all cs ++ rest → (nat_lt 0 (length (encode_utf8_all cs)) && is_newline (get_or text (length (encode_utf8_all cs) - 1) 0)) ≡ ends_line cs
@@ -106,12 +94,7 @@ module _ (text fence label : List ℕ) (is : IsUtf8 text) (fence_is : fence ≡ 
   fence_utf8 = subst IsUtf8 (sym fence_is) (IsUtf8-past (spaces_len (chars text)) text is)
 
   pub dashes_are : length fence - length label ≡ fence_len (chars text)
-  unfolding count
-  dashes_are =
-      let n : ℕ = run_len is_dash (chars fence) in
-      let one : bytes_of n (chars fence) ≡ n = dash_bytes n (chars fence) (omega arith) in
-      let all : n + length label ≡ length fence = ap (λ (k : ℕ). k + length label) (sym one) ∙ (ap (λ (xs : List ℕ). bytes_of n (chars fence) + length xs) label_is ∙ length-past n fence fence_utf8) in
-      omega (arith, count)
+  dashes_are = length-run is_dash (λ c e. let f = eqb-true c 45 e in omega arith) fence label fence_utf8 label_is ∙ count
 
   spaces_are : length text - length fence ≡ bytes_of (spaces_len (chars text)) (chars text)
   spaces_are = grind (arith, common_steps, length-past)

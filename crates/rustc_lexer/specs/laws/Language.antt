@@ -3,16 +3,15 @@ use Rattle.std.proofs.Common.{◌≡◌, ℕ, Bool, true, false, List, [], ◌�
 use Rattle.std.proofs.Math.Seq.{take-append_seam}
 use Rattle.std.proofs.lemmas.Bool.{and_parts, eqb-true}
 use Rattle.std.proofs.lemmas.Grind.{common_steps}
-use Rattle.unicode_ident.proofs.Computing.{unicode_ident}
 use Rattle.rustc_lexer.specs.declared.lexemes.raw.RawPrefix.TheVariants.{Br, Cr}
 use Rattle.rustc_lexer.specs.{LiteralKind, TokenKind, ForcedKeywordIdent}
 use Rattle.rustc_lexer.specs.Classes.{is_id_start, is_id_continue, NextIs}
 use Rattle.rustc_lexer.specs.means.Ident.{ident_or_unknown_prefix, marks_ident}
 use Rattle.rustc_lexer.specs.laws.Choice.{by_test}
-use Rattle.rustc_lexer.specs.laws.LanguageComments.{space-sound, space-read, hash-sound, pound-read, guarded-read, symbol-sound, symbol-read, slash-sound, slash-read, line-read, block-read, open-read}
+use Rattle.rustc_lexer.specs.laws.LanguageComments.{space-sound, space-read, hash-sound, pound-read, guarded-read, symbol-read, slash-sound, slash-read, line-read, block-read, open-read}
 use Rattle.rustc_lexer.specs.laws.LanguageLifetimes.{quote-sound, lifetime-read, prefix-read, raw_lifetime-read, char-reads, one-reads, name-reads}
 use Rattle.rustc_lexer.specs.laws.LanguageLiterals.{str-sound, byte-sound, byte_str-sound, c_str-sound, raw_str-sound, raw_byte_str-sound, raw_c_str-sound, number-sound, ReadsLiteral, plain-read, with_suffix-read, str-reads, byte-reads, byte_str-reads, c_str-reads, raw_str-reads, raw_byte_str-reads, raw_c_str-reads, number-reads}
-use Rattle.rustc_lexer.specs.laws.LanguageRuns.{Sound, EachChosen, each_chosen}
+use Rattle.rustc_lexer.specs.laws.LanguageRuns.{Sound, EachChosen, each_chosen, letters-start}
 use Rattle.rustc_lexer.specs.laws.LanguageWords.{by_letter, no-opening, raw_mark-none, none-raw, ident-sound, invalid-sound, raw_ident-sound, keyword-sound, ident-is_read, prefix-read as word_prefix-read, invalid-read, raw_ident-read, keyword-read}
 use Rattle.rustc_lexer.specs.Language as the
 use Rattle.rustc_lexer.specs.LiteralGrammar as lit
@@ -30,10 +29,6 @@ use Rattle.rustc_lexer.specs.means.Scan.{after, begins, run}
 
 abbrev SoundAll : ℕ → (List ℕ → TokenKind × ℕ) → Type 0
 SoundAll c scan = (s : List ℕ) → Sound c s (scan s)
-
-letters-start : (is_id_start 114 ≡ true) × (is_id_start 107 ≡ true) × (is_id_start 98 ≡ true) × (is_id_start 99 ≡ true)
-unfolding unicode_ident
-letters-start = (refl, refl, refl, refl)
 
 r-sound : SoundAll 114 letter_r
 r-sound s =
@@ -79,7 +74,7 @@ families-sound = record {
   of_str = str-sound;
   of_emoji = invalid-sound;
   of_hash = hash-sound;
-  of_symbol = symbol-sound;
+  of_symbol = λ c e s. the.symbol e;
 }
 
 pub lexeme-sound : (s : List ℕ) → IsTokenBefore (drop (lexeme s).1 s) (lexeme s).0 (take (lexeme s).1 s)

@@ -7,6 +7,7 @@ use Rattle.std.proofs.lemmas.Str.{encode_ascii, encodes-append, inside_one, leng
 use Rattle.std.specs.Char.{encode_utf8}
 use Rattle.std.specs.List.{list_all}
 use Rattle.std.specs.Str.{encode_utf8_all}
+use Rattle.std.proofs.lemmas.Grind.{common_steps}
 use Rattle.rustc_lexer.specs.Classes.{is_inline, bytes, Chars, AreAll, NextIsNot}
 use Rattle.rustc_lexer.specs.FrontmatterGrammar as the
 use Rattle.rustc_lexer.specs.FrontmatterGrammar.{fence, IsFirstPlaceOf, IsNowhere, IsAt, IsLone, endings, IsBodyBefore}
@@ -68,7 +69,7 @@ is_pattern pattern = begins (codes "\n") pattern && list_all is_ascii pattern
 abbrev are_patterns : List (Chars × Bool) → Bool
 are_patterns es = list_all (λ (ending : Chars × Bool). is_pattern ending.0) es
 
-endings-patterns : (n : ℕ) → are_patterns (endings n) ≡ true
+pub endings-patterns : (n : ℕ) → are_patterns (endings n) ≡ true
 endings-patterns n = rw (fence-ascii n) refl
   where
     fence-ascii : (n : ℕ) → list_all is_ascii (fence n) ≡ true
@@ -80,10 +81,7 @@ pattern-tells [] is = absurd (true≢false (sym is))
 pattern-tells (d ∷ ds) is = record { told = λ u v e. ap (begins (d ∷ ds)) (drop-append_seam u v) ∙ e; some = λ u v e. omega (arith, begins-length (d ∷ ds) v e); is = λ s i e. e }
 
 lone-tells : Tells IsLone (λ s i. lone_at [] i s)
-lone-tells = record { told = lone-told; some = lone-some; is = told-lone }
-  where
-    lone-some : (u v : Chars) → IsLone u v → 0 < length v
-    lone-some u v (the.lone edge blanks after is all here) = omega (arith, begins-length (fence 3) after here)
+lone-tells = grind (arith, common_steps, lone-told, told-lone, begins-length)
 
 -- ---- what the language has is found
 
@@ -134,15 +132,9 @@ pub record Body (es : List (Chars × Bool)) (s : Chars) : Type 0 where
   pub is : IsBodyBefore next es body
 
 newline-first : (pattern s : Chars) → is_pattern pattern ≡ true → begins pattern s ≡ true → s ≡ 10 ∷ drop 1 s
-newline-first [] s is e = absurd (true≢false (sym is))
-newline-first (d ∷ ds) s is e =
-    begins-whole (d ∷ []) s (front s e) ∙ ap (λ (x : ℕ). x ∷ drop 1 s) (eqb-true d 10 (and_parts (d == 10) true (and_parts (begins (codes "\n") (d ∷ ds)) (list_all is_ascii (d ∷ ds)) is).0).0)
-  where
-    front : (s : Chars) → begins (d ∷ ds) s ≡ true → begins (d ∷ []) s ≡ true
-    front [] e = e
-    front (c ∷ s) e = rw (and_parts (c == d) (begins ds s) e).0 refl
+newline-first pattern s w0 w1 = grind (arith, common_steps, begins-whole, eqb-true, and_parts)
 
-body-at : (es : List (Chars × Bool)) (s : Chars) → are_patterns es ≡ true → Body es s
+pub body-at : (es : List (Chars × Bool)) (s : Chars) → are_patterns es ≡ true → Body es s
 body-at [] s good = by_found (first_lone true 0 s)
     (λ j e.
     let l = lined (drop j s) in
@@ -174,9 +166,6 @@ body-at ((pattern, takes_line) ∷ others) s good =
           whole = append_assoc (take j s) (10 ∷ l.line) l.next ∙ (ap (λ (t : Chars). take j s ++ t) (sym back) ∙ take-append-drop j s);
           is = the.with_line pattern (take j s) l.line (subst (IsFirstPlaceOf (IsAt pattern) (take j s)) back at) l.inline l.stop;
         }
-
-pub any-body : (n : ℕ) (s : Chars) → Body (endings n) s
-any-body n s = body-at (endings n) s (endings-patterns n)
 
 -- ---- in bytes it ends at the same place
 

@@ -1,5 +1,5 @@
 -- Comments, white space and symbols are in their languages, and what is there is read so.
-use Rattle.std.proofs.Common.{◌≡◌, ℕ, suc, ◌+◌, ◌≤◌, ◌==◌, ◌&&◌, ◌||◌, not, Bool, true, false, true≢false, if◌then◌else◌, List, [], ◌∷◌, ◌++◌, length, take, drop, codes, refl, sym, ap, ◌∙◌, subst, arith, append_assoc, length-append, length-take-le, take-add, take-append-drop, take_all, Option, Some, None}
+use Rattle.std.proofs.Common.{◌≡◌, ℕ, suc, ◌+◌, ◌≤◌, ◌==◌, ◌&&◌, not, Bool, true, false, true≢false, if◌then◌else◌, List, [], ◌∷◌, ◌++◌, length, take, drop, codes, refl, sym, ap, ◌∙◌, subst, arith, append_assoc, length-append, length-take-le, take-add, take-append-drop, take_all, Option, Some, None}
 use Rattle.std.proofs.Math.Seq.{take-append_seam, drop-append_seam, drop-length}
 use Rattle.std.proofs.lemmas.Bool.{and_parts, eqb-true, or_parts, or_from}
 use Rattle.std.proofs.lemmas.List.{append-nil}
@@ -7,11 +7,11 @@ use Rattle.std.proofs.lemmas.Grind.{common_steps}
 use Rattle.rustc_lexer.specs.{DocStyle, TokenKind, Outer, Inner, LineComment, BlockComment, Whitespace, GuardedStrPrefix, Pound, Slash}
 use Rattle.rustc_lexer.specs.means.BlockComment.{at_closing, at_opening, block_doc_style, block_comment_to, block_comment, comment_end}
 use Rattle.rustc_lexer.specs.means.BlockGrammar.{Closes as ClosesIn, at_mark, nested as nested_in, past_one}
-use Rattle.rustc_lexer.specs.Classes.{is_among, is_whitespace, NextIn, NextNotIn, AreAll, NextIsNot, is_inline}
+use Rattle.rustc_lexer.specs.Classes.{is_among, is_whitespace, NextNotIn, AreAll, NextIsNot, is_inline}
 use Rattle.rustc_lexer.specs.means.Comment.{line_doc_style, line_comment, slash}
 use Rattle.rustc_lexer.specs.means.Hash.{is_guarded_mark, hash}
 use Rattle.rustc_lexer.specs.laws.BlockComment.{two_at_least, closes-inside, at_closing_told, at_opening_told, style_told}
-use Rattle.rustc_lexer.specs.laws.BlockGrammar.{comment_end-found, comment_end-allowed}
+use Rattle.rustc_lexer.specs.laws.BlockGrammar.{allowed, comment_end-found}
 use Rattle.rustc_lexer.specs.laws.Choice.{by_test}
 use Rattle.rustc_lexer.specs.laws.LanguageRuns.{run_len-here, run-stops, Sound, Read, read-first, sound-after, told-front, begins-next, chooses-slash, chooses-space, chooses-hash, chooses-symbol, pair}
 use Rattle.rustc_lexer.specs.laws.Reach.{run_all}
@@ -41,16 +41,36 @@ pound-read next stop = read-first 35 hash next Pound 0 1 chooses-hash (rw stop r
 pub guarded-read : (c : ℕ) (next : List ℕ) → is_among (codes "\"#") c ≡ true → Read GuardedStrPrefix 2 (35 ∷ c ∷ next)
 guarded-read c next is = read-first 35 hash (c ∷ next) GuardedStrPrefix 1 2 chooses-hash (rw is refl) refl
 
-pub symbol-sound : (c : ℕ) → has_rule c ≡ false → (s : List ℕ) → Sound c s (symbol c s)
-symbol-sound c e s = the.symbol e
-
 pub symbol-read : (c : ℕ) (next : List ℕ) → has_rule c ≡ false → Read (symbol_kind c) 1 (c ∷ next)
 symbol-read c next e = read-first c (symbol c) next (symbol_kind c) 0 1 (chooses-symbol c e) refl refl
+
+-- ---- the doc style of a comment
+
+abbrev doc_style : ℕ → List ℕ → List ℕ → Option DocStyle
+doc_style again undocs s = if begins (codes "!") s then Some Inner else (if begins (again ∷ []) s && not (next_is (is_among undocs) (drop 1 s)) then Some Outer else None)
+
+styled : (again : ℕ) (undocs w : List ℕ) → IsStyle again undocs (doc_style again undocs w) w
+styled again undocs [] = neither refl
+styled again undocs (c ∷ s) = by_test (λ style. IsStyle again undocs style (c ∷ s)) (begins (codes "!") (c ∷ s)) (Some Inner) _ inner_here (λ e. by_next e (c == again) (next_is (is_among undocs) s) refl refl)
+  where
+    inner_here : begins (codes "!") (c ∷ s) ≡ true → IsStyle again undocs (Some Inner) (c ∷ s)
+    inner_here e = subst (λ (x : ℕ). IsStyle again undocs (Some Inner) (x ∷ s)) (sym (eqb-true c 33 (and_parts (c == 33) true e).0)) inner
+
+    by_next : begins (codes "!") (c ∷ s) ≡ false → (a b : Bool) → (c == again) ≡ a → next_is (is_among undocs) s ≡ b → IsStyle again undocs (if (a && true) && not b then Some Outer else None) (c ∷ s)
+    by_next e true true f g = subst (λ (x : ℕ). IsStyle again undocs None (x ∷ s)) (sym (eqb-true c again f)) (no_outer g)
+    by_next e true false f g = subst (λ (x : ℕ). IsStyle again undocs (Some Outer) (x ∷ s)) (sym (eqb-true c again f)) (outer g)
+    by_next e false b f g = neither (rw f (sym (begins-next 33 (c ∷ s)) ∙ e))
+
+style-is : {again : ℕ} {undocs w : List ℕ} {style : Option DocStyle} → (again == 33) ≡ false → (again == again) ≡ true → IsStyle again undocs style w → doc_style again undocs w ≡ style
+style-is w0 w1 w2 = grind (arith, common_steps, or_parts)
 
 -- ---- line comments
 
 abbrev pub IsLineStyle : Option DocStyle → List ℕ → Type 0
 IsLineStyle style w = IsStyle 47 (codes "/") style w
+
+line-style : (w : List ℕ) → line_doc_style w ≡ doc_style 47 (codes "/") w
+line-style w0 = grind (arith, common_steps)
 
 -- the style of a comment is told by the comment
 line_doc_style-own : (s : List ℕ) → line_doc_style (take (run_len is_inline s) s) ≡ line_doc_style s
@@ -58,39 +78,7 @@ line_doc_style-own w0 = grind (arith, common_steps, eqb-true)
 
 -- the style that is told is the one of the language
 line-styled : (w : List ℕ) → IsLineStyle (line_doc_style w) w
-line-styled [] = neither refl
-line-styled (c ∷ s) = by_test (λ style. IsLineStyle style (c ∷ s)) (begins (codes "!") (c ∷ s)) (Some Inner) _ inner_here
-    (λ e. by_test (λ style. IsLineStyle style (c ∷ s)) (begins (codes "/") (c ∷ s) && not (begins (codes "//") (c ∷ s))) (Some Outer) None outer_here (none_here e (c == 47) (begins (codes "/") s) refl refl))
-  where
-    inner_here : begins (codes "!") (c ∷ s) ≡ true → IsLineStyle (Some Inner) (c ∷ s)
-    inner_here e = subst (λ (x : ℕ). IsLineStyle (Some Inner) (x ∷ s)) (sym (eqb-true c 33 (and_parts (c == 33) true e).0)) inner
-
-    by_slash : (b : Bool) → (c == 47) ≡ true → begins (codes "/") s ≡ b → IsStyle 47 (codes "/") (if b then None else Some Outer) (c ∷ s)
-    by_slash true f g = subst (λ (x : ℕ). IsLineStyle None (x ∷ s)) (sym (eqb-true c 47 f)) (no_outer (sym (begins-next 47 s) ∙ g))
-    by_slash false f g = subst (λ (x : ℕ). IsLineStyle (Some Outer) (x ∷ s)) (sym (eqb-true c 47 f)) (outer (sym (begins-next 47 s) ∙ g))
-
-    outer_by : (b d : Bool) → (c == 47) ≡ b → begins (codes "/") s ≡ d → ((b && true) && not (b && d)) ≡ true → IsLineStyle (Some Outer) (c ∷ s)
-    outer_by true false f g e = by_slash false f g
-    outer_by true true f g e = absurd (true≢false (sym e))
-    outer_by false d f g e = absurd (true≢false (sym e))
-
-    outer_here : (begins (codes "/") (c ∷ s) && not (begins (codes "//") (c ∷ s))) ≡ true → IsLineStyle (Some Outer) (c ∷ s)
-    outer_here e = outer_by (c == 47) (begins (codes "/") s) refl refl e
-
-    none_here : begins (codes "!") (c ∷ s) ≡ false → (b d : Bool) → (c == 47) ≡ b → begins (codes "/") s ≡ d → ((b && true) && not (b && d)) ≡ false → IsLineStyle None (c ∷ s)
-    none_here e true true f g h = by_slash true f g
-    none_here e true false f g h = absurd (true≢false h)
-    none_here e false d f g h = neither (rw f (sym (begins-next 33 (c ∷ s)) ∙ e))
-
-line-style-is : {style : Option DocStyle} {w : List ℕ} → IsLineStyle style w → line_doc_style w ≡ style
-line-style-is inner = refl
-line-style-is (outer {w} stop) = rw (begins-next 47 w ∙ stop) refl
-line-style-is (no_outer {w} goes) = rw (begins-next 47 w ∙ goes) refl
-line-style-is (neither {w} stop) = by_first w stop
-  where
-    by_first : (w : List ℕ) → NextNotIn (47 ∷ 33 ∷ []) w → line_doc_style w ≡ None
-    by_first [] stop = refl
-    by_first (c ∷ s) stop = let parts = or_parts (c == 47) _ stop in let more = or_parts (c == 33) _ parts.1 in rw (parts.0, more.0) refl
+line-styled w = subst (λ (style : Option DocStyle). IsLineStyle style w) (sym (line-style w)) (styled 47 (codes "/") w)
 
 line-sound : (s : List ℕ) → IsTokenBefore (drop (line_comment s).1 s) (line_comment s).0 (47 ∷ 47 ∷ take (line_comment s).1 s)
 line-sound s =
@@ -98,11 +86,7 @@ line-sound s =
     the.line_comment (run_all is_inline s) (run-stops is_inline s) (subst (λ (style : Option DocStyle). IsLineStyle style (take n s)) (line_doc_style-own s) (line-styled (take n s)))
 
 pub line-read : (style : Option DocStyle) (w next : List ℕ) → AreAll is_inline w → NextIsNot is_inline next → IsLineStyle style w → Read (LineComment style) (suc (suc (length w))) (47 ∷ 47 ∷ w ++ next)
-line-read style w next all stop is =
-    let len : run_len is_inline (w ++ next) ≡ length w = run_len-here is_inline w next all stop in
-    let own : line_doc_style w ≡ line_doc_style (w ++ next) = ap line_doc_style (sym (ap (λ (n : ℕ). take n (w ++ next)) len ∙ take-append_seam w next)) ∙ line_doc_style-own (w ++ next) in
-    read-first 47 slash (47 ∷ w ++ next) (LineComment style) (1 + length w) _ chooses-slash
-    (pair _ _ _ _ (ap LineComment (sym own ∙ line-style-is is)) (ap (λ (n : ℕ). 1 + n) len)) (omega arith)
+line-read style w next all stop is = grind (arith, common_steps, run_len-here, take-append_seam, line_doc_style-own, read-first, chooses-slash, pair, line-style, style-is)
 
 -- ---- block comments
 
@@ -143,54 +127,14 @@ closes-text (past_one {c} {m} {u} e f p) =
 abbrev pub IsBlockStyle : Option DocStyle → List ℕ → Type 0
 IsBlockStyle style w = IsStyle 42 (codes "*/") style w
 
+block-style : (w : List ℕ) → block_doc_style w ≡ doc_style 42 (codes "*/") w
+block-style w0 = grind (arith, common_steps)
+
 block-styled : (w : List ℕ) → IsBlockStyle (block_doc_style w) w
-block-styled [] = neither refl
-block-styled (c ∷ s) = by_test (λ style. IsBlockStyle style (c ∷ s)) (begins (codes "!") (c ∷ s)) (Some Inner) _ inner_here (λ e. by_star e (c == 42) (begins (codes "*") s) (begins (codes "/") s) refl refl refl)
-  where
-    inner_here : begins (codes "!") (c ∷ s) ≡ true → IsBlockStyle (Some Inner) (c ∷ s)
-    inner_here e = subst (λ (x : ℕ). IsBlockStyle (Some Inner) (x ∷ s)) (sym (eqb-true c 33 (and_parts (c == 33) true e).0)) inner
-
-    next : (xs : List ℕ) → next_is (is_among (codes "*/")) xs ≡ (begins (codes "*") xs || begins (codes "/") xs)
-    next [] = refl
-    next (d ∷ xs) = by_bool (d == 42) (d == 47)
-      where
-        by_bool : (a b : Bool) → (a || (b || false)) ≡ ((a && true) || (b && true))
-        by_bool true b = refl
-        by_bool false true = refl
-        by_bool false false = refl
-
-    goes : (style : Option DocStyle) → (c == 42) ≡ true → IsBlockStyle style (42 ∷ s) → IsBlockStyle style (c ∷ s)
-    goes style f is = subst (λ (x : ℕ). IsBlockStyle style (x ∷ s)) (sym (eqb-true c 42 f)) is
-
-    by_star : begins (codes "!") (c ∷ s) ≡ false → (a b d : Bool) → (c == 42) ≡ a → begins (codes "*") s ≡ b → begins (codes "/") s ≡ d
-        → IsBlockStyle (if (a && true) && (not (a && b) && not (a && d)) then Some Outer else None) (c ∷ s)
-    by_star e true true d f g h = goes None f (no_outer (next s ∙ rw g refl))
-    by_star e true false true f g h = goes None f (no_outer (next s ∙ rw (g, h) refl))
-    by_star e true false false f g h = goes (Some Outer) f (outer (next s ∙ rw (g, h) refl))
-    by_star e false b d f g h = neither (rw f (sym (begins-next 33 (c ∷ s)) ∙ e))
+block-styled w = subst (λ (style : Option DocStyle). IsBlockStyle style w) (sym (block-style w)) (styled 42 (codes "*/") w)
 
 block-style-is : {style : Option DocStyle} {w : List ℕ} → IsBlockStyle style w → block_doc_style w ≡ style
-block-style-is inner = refl
-block-style-is (outer {w} stop) = by_first w stop
-  where
-    by_first : (w : List ℕ) → NextNotIn (codes "*/") w → block_doc_style (42 ∷ w) ≡ Some Outer
-    by_first [] stop = refl
-    by_first (c ∷ s) stop = let parts = or_parts (c == 42) _ stop in let more = or_parts (c == 47) _ parts.1 in rw (parts.0, more.0) refl
-block-style-is (no_outer {w} goes) = by_first w goes
-  where
-    by_two : (a b : Bool) → (a || (b || false)) ≡ true → (if (not (a && true) && not (b && true)) then Some Outer else None) ≡ None
-    by_two true b e = refl
-    by_two false true e = refl
-    by_two false false e = absurd (true≢false (sym e))
-
-    by_first : (w : List ℕ) → NextIn (codes "*/") w → block_doc_style (42 ∷ w) ≡ None
-    by_first [] goes = absurd (true≢false (sym goes))
-    by_first (c ∷ s) goes = by_two (c == 42) (c == 47) goes
-block-style-is (neither {w} stop) = by_first w stop
-  where
-    by_first : (w : List ℕ) → NextNotIn (42 ∷ 33 ∷ []) w → block_doc_style w ≡ None
-    by_first [] stop = refl
-    by_first (c ∷ s) stop = let parts = or_parts (c == 42) _ stop in let more = or_parts (c == 33) _ parts.1 in rw (parts.0, more.0) refl
+block-style-is {w = w} is = block-style w ∙ style-is refl refl is
 
 block-sound : (s : List ℕ) → IsTokenBefore (drop (block_comment s).1 s) (block_comment s).0 (47 ∷ 42 ∷ take (block_comment s).1 s)
 block-sound s = by_end (comment_end s) refl
@@ -204,7 +148,7 @@ block-sound s = by_end (comment_end s) refl
         never : (n : ℕ) → ClosesIn s (length (take n s)) → ⊥
         never n p = let found : comment_end s ≡ Some (length (take n s)) = comment_end-found p in absurd (cc)
     by_end (Some n) e =
-        let p : ClosesIn s n = comment_end-allowed s n e in
+        let p : ClosesIn s n = allowed (length s) s n e in
         let own : block_doc_style (take n s) ≡ block_doc_style s = style_told-front s n p in
         the.block_comment (closes-text p) (subst (λ (style : Option DocStyle). IsBlockStyle style (take n s)) own (block-styled (take n s)))
       where
@@ -227,7 +171,7 @@ open-read style w next none never is =
   where
     not_found : (o : Option ℕ) → comment_end w ≡ o → comment_end w ≡ None
     not_found None e = e
-    not_found (Some n) e = absurd (never n (closes-text (comment_end-allowed w n e)))
+    not_found (Some n) e = absurd (never n (closes-text (allowed (length w) w n e)))
 
 -- ---- a slash
 

@@ -1,10 +1,11 @@
 -- The opening of a frontmatter is in its language, and what is there is read so.
-use Rattle.std.proofs.Common.{◌≡◌, ℕ, zero, suc, ◌+◌, ◌≤◌, ◌==◌, not, Bool, true, false, true≢false, if◌then◌else◌, List, [], ◌∷◌, ◌++◌, length, take, drop, codes, refl, sym, ap, ◌∙◌, arith, append_assoc, length-append, take-append-drop}
+use Rattle.std.proofs.Common.{◌≡◌, ℕ, zero, suc, ◌+◌, ◌≤◌, ◌==◌, not, Bool, true, false, true≢false, List, [], ◌∷◌, ◌++◌, length, take, drop, codes, refl, sym, ap, ◌∙◌, arith, append_assoc, length-append, take-append-drop}
 use Rattle.std.proofs.Math.Seq.{take-append_seam, drop-append_seam}
 use Rattle.std.proofs.lemmas.Bool.{and_parts, eqb-true, or_parts, not-true, false_from_ne_true}
 use Rattle.unicode_ident.proofs.Computing.{unicode_ident}
 use Rattle.rustc_lexer.specs.Classes.{is_among, is_whitespace, is_horizontal_whitespace, is_id_start, AreAll, NextIsNot, is_info}
 use Rattle.rustc_lexer.specs.means.Frontmatter.{is_dash, then_len, spaces_len, fence_len, blanks_len, infostring_len, label_len, opening_len, ends_line, opens}
+use Rattle.rustc_lexer.specs.laws.Choice.{by_test}
 use Rattle.rustc_lexer.specs.laws.LanguageRuns.{run_len-here, run-stops, either-way, none-among}
 use Rattle.rustc_lexer.specs.laws.Reach.{run_all, run_len-out}
 use Rattle.rustc_lexer.specs.laws.Fences.{begins-dashes, begins-enough}
@@ -52,11 +53,8 @@ fence-run (suc n) v stop = ap suc (fence-run n v stop)
 
 run-fence : (s : List ℕ) → take (run_len is_dash s) s ≡ fence (run_len is_dash s)
 run-fence [] = refl
-run-fence (c ∷ s) = by_dash (is_dash c) refl (run-fence s)
-  where
-    by_dash : (b : Bool) → is_dash c ≡ b → take (run_len is_dash s) s ≡ fence (run_len is_dash s) → take (if b then suc (run_len is_dash s) else 0) (c ∷ s) ≡ fence (if b then suc (run_len is_dash s) else 0)
-    by_dash true e ih = ap (λ (x : ℕ). x ∷ take (run_len is_dash s) s) (eqb-true c 45 e) ∙ ap (λ (xs : List ℕ). 45 ∷ xs) ih
-    by_dash false e ih = refl
+run-fence (c ∷ s) =
+    by_test (λ (n : ℕ). take n (c ∷ s) ≡ fence n) (is_dash c) (suc (run_len is_dash s)) 0 (λ e. ap (λ (x : ℕ). x ∷ take (run_len is_dash s) s) (eqb-true c 45 e) ∙ ap (λ (xs : List ℕ). 45 ∷ xs) (run-fence s)) (λ e. refl)
 
 dash-stops : (s : List ℕ) → NextIsNot (is_among (codes "-")) s → NextIsNot is_dash s
 dash-stops [] e = refl

@@ -137,11 +137,5 @@ taken s = let g = guarded (chars s.rest) in by_left g.count g.left (sym g.whole)
         (λ f. record { answer = _; is = holds.none n (c ∷ u) e (or_from (c == 34) _ f (or_from (c == 35) false stop refl)) })
 
 -- this and nothing else
-pub guarded-answer : (s t : State) (answer : Option GuardedStr) → answer ≡ (spec.take_guarded s).0 → t ≡ (spec.take_guarded s).1 → (other : Option GuardedStr × State) → TakesGuarded s other ↔ (other ≡ (answer, t))
-guarded-answer s t answer e f other = (
-  λ is. takes-read is ∙ whole,
-  λ g. let h = taken s in subst (TakesGuarded s) (takes-read h.is ∙ sym (g ∙ sym whole)) h.is,
-)
-  where
-    whole : spec.take_guarded s ≡ (answer, t)
-    whole = ap (λ (a : Option GuardedStr). let r : Option GuardedStr × State = (a, (spec.take_guarded s).1) in r) (sym e) ∙ ap (λ (x : State). let r : Option GuardedStr × State = (answer, x) in r) (sym f)
+pub guarded-answer : (s : State) (other : Option GuardedStr × State) → TakesGuarded s other ↔ (other ≡ spec.take_guarded s)
+guarded-answer s other = (λ is. takes-read is, λ e. let h = taken s in subst (TakesGuarded s) (takes-read h.is ∙ sym e) h.is)

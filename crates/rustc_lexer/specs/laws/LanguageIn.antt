@@ -65,22 +65,14 @@ view whole = other refl
 
 -- what no hash begins is in 2021 as in 2024
 pub unhashed : {next : List ℕ} {kind : TokenKind} {c : ℕ} {w : List ℕ} → IsTokenBefore next kind (c ∷ w) → c ≢ 35 → (len : ℕ) → before_2024 kind len ≡ token kind len
-unhashed p none len = by_view (view p) none
-  where
-    by_view : {next : List ℕ} {kind : TokenKind} {c : ℕ} {w : List ℕ} → View next kind (c ∷ w) → c ≢ 35 → before_2024 kind len ≡ token kind len
-    by_view cut_hash none = absurd (none refl)
-    by_view {kind = kind} (other old) none = kept_2021 kind len (omega (arith, old))
-    by_view v none = refl
+unhashed p none len = grind (arith, common_steps, view, kept_2021)
 
 -- whether a name is marked
 name-marked : (c : ℕ) (w next : List ℕ) → AreAll is_word_continue w → NextIs (is_among (codes "#")) next → has_marked_name (39 ∷ c ∷ w ++ next) ≡ is_bad_name (c ∷ w)
 name-marked c w next all hash = grind (arith, common_steps, run_len-here, hash-stops, take-append_seam)
 
 lifetime-marked : {next : List ℕ} {kind : TokenKind} {c : ℕ} {w : List ℕ} → View next kind (39 ∷ c ∷ w) → kind ≡ UnknownPrefixLifetime → has_marked_name (39 ∷ c ∷ w ++ next) ≡ is_bad_name (c ∷ w)
-lifetime-marked {next} {kind} {c} {w} (cut_raw is) e = absurd (cc e)
-lifetime-marked {next} {kind} {c} {w} (name start all hash) e = name-marked c w next all hash
-lifetime-marked {next} {kind} {c} {w} prefix e = absurd (cc e)
-lifetime-marked {next} {kind} {c} {w} (other old) e = absurd (let n : 2021 ≡ 2015 = sym (ap lexed_since e) ∙ old in omega (arith, n))
+lifetime-marked w0 w1 = grind (arith, common_steps, name-marked)
 
 -- ---- a token of an edition is what is read in it
 
@@ -135,8 +127,11 @@ pub record Front (edition : Edition) (cs : List ℕ) (t : Token) : Type 0 where
 abbrev Fronts : Edition → List ℕ → TokenKind → ℕ → List ℕ → Type 0
 Fronts edition next kind c w = Front edition (c ∷ w ++ next) (changed edition (c ∷ w ++ next) (token kind (bytes (c ∷ w))))
 
+front-is : {edition : Edition} {cs : List ℕ} {t : Token} (kind : TokenKind) (c : ℕ) (w next : List ℕ) → c ∷ w ++ next ≡ cs → t ≡ token kind (bytes (c ∷ w)) → IsTokenIn edition next kind (c ∷ w) → Front edition cs t
+front-is kind c w next whole same is = record { kind = kind; c = c; w = w; next = next; whole = whole; same = same; is = is }
+
 keep : (edition : Edition) (next : List ℕ) (kind : TokenKind) (c : ℕ) (w : List ℕ) → lexed_since kind ≤ year edition → IsTokenBefore next kind (c ∷ w) → Fronts edition next kind c w
-keep edition next kind c w le p = record { kind = kind; c = c; w = w; next = next; whole = refl; same = keeps edition (c ∷ w ++ next) kind (bytes (c ∷ w)) le; is = kept le p }
+keep edition next kind c w le p = front-is kind c w next refl (keeps edition (c ∷ w ++ next) kind (bytes (c ∷ w)) le) (kept le p)
 
 goes-name : (w next : List ℕ) → is_ident w ≡ true → begins_ident_after (codes "#") (35 ∷ w ++ next) ≡ true
 goes-name [] next is = absurd (true≢false (sym is))
@@ -148,42 +143,14 @@ by_year {A} a b le lt = grind (arith, common_steps, leb-true, leb-false)
 
 fronts : {next : List ℕ} {kind : TokenKind} {c : ℕ} {w : List ℕ} (edition : Edition) → View next kind (c ∷ w) → IsTokenBefore next kind (c ∷ w) → Fronts edition next kind c w
 fronts {next} {kind} {c} {w} edition (other old) p = keep edition next kind c w (let le = oldest edition in omega (arith, old)) p
-fronts {next} edition (cut_hash {c}) p = by_year 2024 (year edition) (λ le. keep edition next GuardedStrPrefix 35 (c ∷ []) le p) (λ lt. record {
-  kind = Pound;
-  c = 35;
-  w = [];
-  next = c ∷ next;
-  whole = refl;
-  same = guarded-cut edition (35 ∷ c ∷ next) (bytes (35 ∷ c ∷ [])) lt ∙ ap (token Pound) (sym hash-one);
-  is = pound lt;
-})
-fronts {next} edition (cut_raw {w} is) p = by_year 2021 (year edition) (λ le. keep edition next RawLifetime 39 (114 ∷ 35 ∷ w) le p) (λ lt. record {
-  kind = Lifetime false;
-  c = 39;
-  w = 114 ∷ [];
-  next = 35 ∷ w ++ next;
-  whole = refl;
-  same = before edition (39 ∷ 114 ∷ 35 ∷ w ++ next) (token RawLifetime (bytes (39 ∷ 114 ∷ 35 ∷ w))) lt ∙ ap (token (Lifetime false)) (sym r-two);
-  is = lifetime_r lt (goes-name w next is);
-})
-fronts {next} edition (name {c} {w} start all hash) p = by_year 2021 (year edition) (λ le. keep edition next UnknownPrefixLifetime 39 (c ∷ w) le p) (λ lt. record {
-  kind = Lifetime (is_bad_name (c ∷ w));
-  c = 39;
-  w = c ∷ w;
-  next = next;
-  whole = refl;
-  same = before edition (39 ∷ c ∷ w ++ next) (token UnknownPrefixLifetime (bytes (39 ∷ c ∷ w))) lt ∙ ap (λ (b : Bool). token (Lifetime b) (bytes (39 ∷ c ∷ w))) (name-marked c w next all hash);
-  is = lifetime lt p;
-})
-fronts {next} {kind} {c} {w} edition prefix p = by_year 2021 (year edition) (λ le. keep edition next UnknownPrefix c w le p) (λ lt. record {
-  kind = Ident;
-  c = c;
-  w = w;
-  next = next;
-  whole = refl;
-  same = before edition (c ∷ w ++ next) (token UnknownPrefix (bytes (c ∷ w))) lt;
-  is = ident lt p;
-})
+fronts {next} edition (cut_hash {c}) p = by_year 2024 (year edition) (λ le. keep edition next GuardedStrPrefix 35 (c ∷ []) le p)
+    (λ lt. front-is Pound 35 [] (c ∷ next) refl (guarded-cut edition (35 ∷ c ∷ next) (bytes (35 ∷ c ∷ [])) lt ∙ ap (token Pound) (sym hash-one)) (pound lt))
+fronts {next} edition (cut_raw {w} is) p = by_year 2021 (year edition) (λ le. keep edition next RawLifetime 39 (114 ∷ 35 ∷ w) le p)
+    (λ lt. front-is (Lifetime false) 39 (114 ∷ []) (35 ∷ w ++ next) refl (before edition (39 ∷ 114 ∷ 35 ∷ w ++ next) (token RawLifetime (bytes (39 ∷ 114 ∷ 35 ∷ w))) lt ∙ ap (token (Lifetime false)) (sym r-two)) (lifetime_r lt (goes-name w next is)))
+fronts {next} edition (name {c} {w} start all hash) p = by_year 2021 (year edition) (λ le. keep edition next UnknownPrefixLifetime 39 (c ∷ w) le p)
+    (λ lt. front-is (Lifetime (is_bad_name (c ∷ w))) 39 (c ∷ w) next refl (before edition (39 ∷ c ∷ w ++ next) (token UnknownPrefixLifetime (bytes (39 ∷ c ∷ w))) lt ∙ ap (λ (b : Bool). token (Lifetime b) (bytes (39 ∷ c ∷ w))) (name-marked c w next all hash)) (lifetime lt p))
+fronts {next} {kind} {c} {w} edition prefix p = by_year 2021 (year edition) (λ le. keep edition next UnknownPrefix c w le p)
+    (λ lt. front-is Ident c w next refl (before edition (c ∷ w ++ next) (token UnknownPrefix (bytes (c ∷ w))) lt) (ident lt p))
 
 pub first-front : (edition : Edition) (text cs : List ℕ) → IsText text → 0 < length text → chars text ≡ cs → Front edition (chars text) (first_token_in edition text)
 unfolding first_token

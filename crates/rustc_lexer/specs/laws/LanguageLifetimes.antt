@@ -34,13 +34,10 @@ backslash-none : (is_name_start 92 ≡ false) × (is_name_start 47 ≡ false) ×
 unfolding unicode_ident is_emoji emoji_ranges
 backslash-none = (refl, refl, refl)
 
-mark-in : (c d : ℕ) → ends_prefix d ≡ true → (c == d) ≡ true → ends_prefix c ≡ true
-mark-in c d is e = ap ends_prefix (eqb-true c d e) ∙ is
-
 -- a word does not begin with a mark, nor does what follows it
 word-begins : (d : ℕ) (w next : List ℕ) → ends_prefix d ≡ true → AreAll is_word_continue w → begins (d ∷ []) next ≡ false → begins (d ∷ []) (w ++ next) ≡ false
 word-begins d [] next mark all none = none
-word-begins d (c ∷ w) next mark all none = false_from_ne_true (begins (d ∷ []) (c ∷ w ++ next)) (λ e. either-way (ends_prefix c) (mark-in c d mark (and_parts (c == d) true e).0) (word-no_mark c (and_parts (is_word_continue c) (list_all is_word_continue w) all).0))
+word-begins d (c ∷ w) next mark all none = false_from_ne_true (begins (d ∷ []) (c ∷ w ++ next)) (λ e. either-way (ends_prefix c) (ap ends_prefix (eqb-true c d (and_parts (c == d) true e).0) ∙ mark) (word-no_mark c (and_parts (is_word_continue c) (list_all is_word_continue w) all).0))
 
 -- ---- lifetimes
 
@@ -49,9 +46,6 @@ plain-read : (c : ℕ) (w next : List ℕ) (kind : TokenKind) (n : ℕ) → is_n
 plain-read c w next kind n start none no_raw all stop e =
     grind (arith, common_steps, read-first, chooses-quote, run_len-here, take-append_seam, drop-append_seam)
 
-begins-none : (d : ℕ) (s : List ℕ) → NextIsNot (is_among (d ∷ [])) s → begins (d ∷ []) s ≡ false
-begins-none d s e = begins-next d s ∙ e
-
 -- `r` is raw before a hash and the start of an identifier alone
 no_raw-word : (c : ℕ) (w next : List ℕ) → AreAll is_word_continue w → (begins (codes "#") next ≡ true → (c == 114) ≡ false) → is_raw c (w ++ next) ≡ false
 no_raw-word c w next all other = grind (arith, common_steps, word-begins)
@@ -59,8 +53,8 @@ no_raw-word c w next all other = grind (arith, common_steps, word-begins)
 pub lifetime-read : (c : ℕ) (w next : List ℕ) → is_name_start c ≡ true → AreAll is_word_continue w → NextIsNot is_word_continue next → NextIsNot (is_among (codes "'")) next → (NextIs (is_among (codes "#")) next → is_ascii_digit c ≡ true)
     → Read (Lifetime (is_ascii_digit c || is_emoji c || not (list_all is_id_continue w))) (suc (suc (length w))) (39 ∷ c ∷ w ++ next)
 lifetime-read c w next start all stop quote hash =
-    plain-read c w next (Lifetime (is_bad_name (c ∷ w))) 0 start (word-begins 39 w next refl all (begins-none 39 next quote)) (no_raw-word c w next all (λ e. other_than is_ascii_digit 114 c refl (hash (sym (begins-next 35 next) ∙ e)))) all stop
-    (rw (begins-none 39 next quote) (by_either (begins (codes "#") next)
+    plain-read c w next (Lifetime (is_bad_name (c ∷ w))) 0 start (word-begins 39 w next refl all (begins-next 39 next ∙ quote)) (no_raw-word c w next all (λ e. other_than is_ascii_digit 114 c refl (hash (sym (begins-next 35 next) ∙ e)))) all stop
+    (rw (begins-next 39 next ∙ quote) (by_either (begins (codes "#") next)
     (λ e. let digit : is_ascii_digit c ≡ true = hash (sym (begins-next 35 next) ∙ e) in rw (e, digit) refl)
     (λ e. rw e refl)))
     ∙ pair _ _ _ _ refl (omega arith)
@@ -207,7 +201,7 @@ pub name-reads : (next : List ℕ) (c d : ℕ) (w : List ℕ) → is_name_start 
 name-reads next c d w start all =
     let text : 39 ∷ c ∷ d ∷ w ++ 39 ∷ next ≡ 39 ∷ c ∷ d ∷ w ++ 39 ∷ [] ++ next = ap (λ (u : List ℕ). 39 ∷ c ∷ d ∷ u) (sym (append_assoc w (39 ∷ []) next)) in
     let first_word : is_word_continue d ≡ true = (and_parts (is_word_continue d) (list_all is_word_continue w) all).0 in
-    let none : (d == 39) ≡ false = false_from_ne_true (d == 39) (λ e. either-way (ends_prefix d) (mark-in d 39 refl e) (word-no_mark d first_word)) in
+    let none : (d == 39) ≡ false = false_from_ne_true (d == 39) (λ e. either-way (ends_prefix d) (ap ends_prefix (eqb-true d 39 e)) (word-no_mark d first_word)) in
     let size : 2 + length (encode_utf8_all (c ∷ d ∷ w)) ≡ bytes (39 ∷ c ∷ d ∷ w ++ 39 ∷ []) = omega (arith, bytes-one 39 (c ∷ d ∷ w ++ 39 ∷ []) refl, bytes-append (c ∷ d ∷ w) (39 ∷ []), bytes-one 39 [] refl) in
     subst (λ (s : List ℕ). Read (Literal (Char true) (bytes (39 ∷ c ∷ d ∷ w ++ 39 ∷ []))) (length (39 ∷ c ∷ d ∷ w ++ 39 ∷ []) + 0) s) text
     (plain-read c (d ∷ w) (39 ∷ next) (Literal (Char true) (2 + length (encode_utf8_all (c ∷ d ∷ w)))) 1 start (rw none refl) (no_raw-word c (d ∷ w) (39 ∷ next) all (λ e. absurd (true≢false (sym e)))) all (mark-stops (39 ∷ next) refl) refl

@@ -8,7 +8,6 @@ use Rattle.std.specs.Char.{encode_utf8, len_utf8, is_ascii_digit}
 use Rattle.std.specs.Option.{is_some}
 use Rattle.std.specs.Str.{encode_utf8_all}
 use Rattle.std.proofs.lemmas.Grind.{common_steps}
-use Rattle.unicode_ident.proofs.Computing.{unicode_ident}
 use Rattle.rustc_lexer.specs.declared.lexemes.raw.RawPrefix.{RawPrefix}
 use Rattle.rustc_lexer.specs.declared.lexemes.raw.RawPrefix.TheVariants.{R, Br, Cr}
 use Rattle.rustc_lexer.specs.{Base, LiteralKind, RawStrError, TokenKind, Byte, Str, ByteStr, CStr, RawStr, RawByteStr, RawCStr, Literal}
@@ -18,7 +17,7 @@ use Rattle.rustc_lexer.specs.laws.Choice.{by_test}
 use Rattle.rustc_lexer.specs.laws.Ident.{marks_ident-told}
 use Rattle.rustc_lexer.specs.laws.LanguageQuoted.{double-read, double-sound, single-read, single-sound}
 use Rattle.rustc_lexer.specs.laws.LanguageRaw.{raw-read, raw-sound}
-use Rattle.rustc_lexer.specs.laws.LanguageRuns.{run_len-here, run-stops, either-way, Sound, Read, pair, read-first, sound-after, told-front, digit-small, chooses-word, chooses-number, chooses-str}
+use Rattle.rustc_lexer.specs.laws.LanguageRuns.{run_len-here, run-stops, either-way, Sound, Read, pair, read-first, sound-after, told-front, digit-small, letters-start, chooses-word, chooses-number, chooses-str}
 use Rattle.rustc_lexer.specs.laws.NumberLongest.{number-read, number-is}
 use Rattle.rustc_lexer.specs.laws.Reach.{run_all}
 use Rattle.rustc_lexer.specs.Language as the
@@ -131,10 +130,6 @@ lettered-reads c d kind scan next t w start one is e =
     read-first c (word c) (d ∷ w ++ next) _ _ _ (chooses-word c start)
     (is ∙ past-read (c ∷ []) (d ∷ w) next 1 (kind t) t (after 1 (quoted_body kind scan) (d ∷ w ++ next)) (ap (λ (r : Bool × ℕ). let b : Body = record { kind = kind r.0; takes_suffix = r.0 } in (b, 1 + r.1)) e ∙ pair _ _ _ _ refl (omega arith)) (bytes-letter c one)) (omega arith)
 
-letters-start : (is_id_start 98 ≡ true) × (is_id_start 99 ≡ true) × (is_id_start 114 ≡ true)
-unfolding unicode_ident
-letters-start = (refl, refl, refl)
-
 -- ---- raw strings
 
 accepts : (r : Result ℕ RawStrError) → is_accepted r ≡ is_some (accepted r)
@@ -198,7 +193,7 @@ raw-body kind next o w q = grind (arith, common_steps, accepts, raw-read)
 pub raw_str-reads : (next : List ℕ) (o : Option ℕ) (w : List ℕ) → IsRaw next o w → begins_ident_after (codes "#") w ≡ false → ReadsLiteral next (RawStr o) (is_some o) (114 ∷ w)
 raw_str-reads next o w q free =
     let no_ident : marks_ident (w ++ next) ≡ false = raw-marks q ∙ free in
-    read-first 114 (word 114) (w ++ next) (Literal (RawStr o) (bytes (114 ∷ w))) (length w + suffixed (is_some o) next) _ (chooses-word 114 letters-start.2)
+    read-first 114 (word 114) (w ++ next) (Literal (RawStr o) (bytes (114 ∷ w))) (length w + suffixed (is_some o) next) _ (chooses-word 114 letters-start.0)
     (rw (no_ident, raw-mark q) (past-read (114 ∷ []) w next 1 (RawStr o) (is_some o) (raw_body RawStr (w ++ next)) (raw-body RawStr next o w q) (bytes-letter 114 refl))) (omega arith)
 
 raw_past-reads : (c : ℕ) (prefix : RawPrefix) (next : List ℕ) (o : Option ℕ) (w : List ℕ) → is_id_start c ≡ true → len_utf8 c ≡ 1 → prefix_len prefix ≡ 2 → word c (114 ∷ w ++ next) ≡ after 1 (raw_literal prefix) (114 ∷ w ++ next) → IsRaw next o w
@@ -244,16 +239,16 @@ number-reads next kind w is = grind (arith, common_steps, number-digit, first-re
 -- ---- all but characters
 
 pub byte-reads : {next : List ℕ} (t : Bool) (w : List ℕ) → IsSingleQuoted next t w → ReadsLiteral next (Byte t) t (98 ∷ 39 ∷ w)
-byte-reads {next} t w q = lettered-reads 98 39 Byte single_quoted_string next t w letters-start.0 refl refl (single-read q)
+byte-reads {next} t w q = lettered-reads 98 39 Byte single_quoted_string next t w letters-start.2 refl refl (single-read q)
 
 pub byte_str-reads : {next : List ℕ} (t : Bool) (w : List ℕ) → IsDoubleQuoted next t w → ReadsLiteral next (ByteStr t) t (98 ∷ 34 ∷ w)
-byte_str-reads {next} t w q = lettered-reads 98 34 ByteStr double_quoted_string next t w letters-start.0 refl refl (double-read q)
+byte_str-reads {next} t w q = lettered-reads 98 34 ByteStr double_quoted_string next t w letters-start.2 refl refl (double-read q)
 
 pub c_str-reads : {next : List ℕ} (t : Bool) (w : List ℕ) → IsDoubleQuoted next t w → ReadsLiteral next (CStr t) t (99 ∷ 34 ∷ w)
-c_str-reads {next} t w q = lettered-reads 99 34 CStr double_quoted_string next t w letters-start.1 refl refl (double-read q)
+c_str-reads {next} t w q = lettered-reads 99 34 CStr double_quoted_string next t w letters-start.3 refl refl (double-read q)
 
 pub raw_byte_str-reads : {next : List ℕ} (o : Option ℕ) (w : List ℕ) → IsRaw next o w → ReadsLiteral next (RawByteStr o) (is_some o) (98 ∷ 114 ∷ w)
-raw_byte_str-reads {next} o w q = let mark : NextIs is_raw_mark (w ++ next) = raw-mark q in raw_past-reads 98 Br next o w letters-start.0 refl refl (rw mark refl) q
+raw_byte_str-reads {next} o w q = let mark : NextIs is_raw_mark (w ++ next) = raw-mark q in raw_past-reads 98 Br next o w letters-start.2 refl refl (rw mark refl) q
 
 pub raw_c_str-reads : {next : List ℕ} (o : Option ℕ) (w : List ℕ) → IsRaw next o w → ReadsLiteral next (RawCStr o) (is_some o) (99 ∷ 114 ∷ w)
-raw_c_str-reads {next} o w q = let mark : NextIs is_raw_mark (w ++ next) = raw-mark q in raw_past-reads 99 Cr next o w letters-start.1 refl refl (rw mark refl) q
+raw_c_str-reads {next} o w q = let mark : NextIs is_raw_mark (w ++ next) = raw-mark q in raw_past-reads 99 Cr next o w letters-start.3 refl refl (rw mark refl) q

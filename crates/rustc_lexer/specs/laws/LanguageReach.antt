@@ -1,5 +1,5 @@
 -- How far a token of each kind looks can be read off the conditions of the language on what follows.
-use Rattle.std.proofs.Common.{◌≡◌, ℕ, zero, suc, ◌<◌, ◌==◌, ◌&&◌, if◌then◌else◌, not, Bool, true, false, true≢false, List, [], ◌∷◌, ◌++◌, length, take, drop, codes, refl, sym, ap, ◌∙◌, subst, arith, Option, bytes_eq}
+use Rattle.std.proofs.Common.{◌≡◌, ℕ, zero, suc, ◌<◌, ◌==◌, ◌&&◌, if◌then◌else◌, not, Bool, true, false, true≢false, List, [], ◌∷◌, ◌++◌, length, take, drop, codes, refl, sym, ap, ◌∙◌, subst, arith, Option, None, bytes_eq}
 use Rattle.std.proofs.lemmas.Bool.{and_parts, or_parts, or_from, eqb-true}
 use Rattle.std.proofs.lemmas.List.{append-nil}
 use Rattle.std.specs.List.{list_all, list_any}
@@ -7,14 +7,14 @@ use Rattle.std.proofs.Math.Bool.{and-false, and-true}
 use Rattle.std.proofs.lemmas.Grind.{common_steps}
 use Rattle.rustc_lexer.specs.Classes.{is_among, is_ident, AreAll, NextIs, NextIsNot, is_word_continue, is_name_start, begins_ident_after, ends_prefix}
 use Rattle.unicode_ident.proofs.Computing.{unicode_ident}
-use Rattle.rustc_lexer.specs.{Base, LiteralKind, TokenKind, Int, Char, Byte, Literal, UnknownPrefix}
+use Rattle.rustc_lexer.specs.{Base, LiteralKind, TokenKind, Int, Float, Char, Literal, UnknownPrefix}
 use Rattle.rustc_lexer.specs.Language as the
 use Rattle.rustc_lexer.specs.LiteralGrammar as lit
 use Rattle.rustc_lexer.specs.LiteralGrammar.{IsDoubleQuoted, SingleTo, IsSingleQuoted, IsRaw, IsLiteralBefore, IsSuffixBefore}
 use Rattle.rustc_lexer.specs.Language.{known_prefixes, begins_prefixed, IsTokenBefore}
 use Rattle.rustc_lexer.specs.GrammarLaws.{reach}
 use Rattle.rustc_lexer.specs.NumberGrammar as number
-use Rattle.rustc_lexer.specs.NumberGrammar.{IsExponent, IsTailBefore, HasNumberForm, IsNumberBefore}
+use Rattle.rustc_lexer.specs.NumberGrammar.{HasNumberForm, IsNumberBefore}
 use Rattle.rustc_lexer.specs.means.Scan.{begins, next_is}
 use Rattle.rustc_lexer.specs.laws.LanguageLiterals.{HasDigit, number-digit}
 use Rattle.rustc_lexer.specs.laws.LanguageRuns.{either-way, word-no_mark}
@@ -22,8 +22,7 @@ use Rattle.rustc_lexer.specs.laws.LanguageLifetimes.{end-stops}
 use Rattle.rustc_lexer.specs.laws.LanguageWords.{continue-word}
 use Rattle.rustc_lexer.specs.laws.Ident.{marks_ident-told}
 use Rattle.rustc_lexer.specs.means.Ident.{marks_ident}
-use Rattle.rustc_lexer.specs.laws.Number.{is_float, number_reach}
-use Rattle.rustc_lexer.specs.laws.NumberLongest.{number-alike}
+use Rattle.rustc_lexer.specs.laws.NumberLongest.{number-looks, number_reach, number-alike}
 use Rattle.rustc_lexer.specs.laws.Reach.{begins-told, cut, told_same, next_is-told}
 
 -- ---- one character, and the end
@@ -57,30 +56,22 @@ abbrev literal_reach : LiteralKind → List ℕ → ℕ
 literal_reach kind w = reach (Literal kind 0) w
 
 reach-literal : (kind : LiteralKind) (suffix_start : ℕ) (w : List ℕ) → reach (Literal kind suffix_start) w ≡ literal_reach kind w
-reach-literal (Int base empty) n w = refl
-reach-literal (Char false) n w = refl
-reach-literal (Char true) n w = refl
-reach-literal (Byte false) n w = refl
-reach-literal kind n w = refl
+reach-literal kind suffix_start w = grind (arith, common_steps)
+
+-- of each number, what is of an integer and of a float
+pub number-kind : (P : LiteralKind → Type 0) → ((base : Base) (empty : Bool) → P (Int base empty)) → ((base : Base) (empty : Bool) → P (Float base empty)) → {next : List ℕ} {kind : LiteralKind} {w : List ℕ} → HasNumberForm next kind w → P kind
+number-kind P int float (number.of_prefix {base} whole) = int base true
+number-kind P int float (number.of_parts whole (number.nothing {base = base})) = int base false
+number-kind P int float (number.of_parts whole (number.dot {base = base} free)) = float base false
+number-kind P int float (number.of_parts whole (number.of_fraction {base = base} digit are)) = float base false
+number-kind P int float (number.of_parts whole (number.of_exponent no_digit (number.signed letter sign are))) = float _ _
+number-kind P int float (number.of_parts whole (number.of_exponent no_digit (number.unsigned letter are))) = float _ _
+number-kind P int float (number.of_parts whole (number.of_both ds digit are (number.signed letter sign all))) = float _ _
+number-kind P int float (number.of_parts whole (number.of_both ds digit are (number.unsigned letter all))) = float _ _
 
 -- how far a number looks
-exponent-reach : {base : Base} {kind : LiteralKind} {w : List ℕ} → IsExponent base kind w → (v : List ℕ) → literal_reach kind v ≡ number_reach kind
-exponent-reach (number.signed e g ds) v = refl
-exponent-reach (number.unsigned e ds) v = refl
-
-tail-reach : {next : List ℕ} {base : Base} {kind : LiteralKind} {w : List ℕ} → IsTailBefore next base kind w → (v : List ℕ) → literal_reach kind v ≡ number_reach kind
-tail-reach w0 v = grind (arith, common_steps, exponent-reach)
-
 number-reach : {next : List ℕ} {kind : LiteralKind} {w : List ℕ} → HasNumberForm next kind w → (v : List ℕ) → literal_reach kind v ≡ number_reach kind
-number-reach (number.of_prefix is) v = refl
-number-reach (number.of_parts is tail) v = tail-reach tail v
-
-number-looks : (kind : LiteralKind) → 0 < number_reach kind
-number-looks kind = by_looks (is_float kind)
-  where
-    by_looks : (b : Bool) → 0 < (if b then 1 else 2)
-    by_looks true = omega arith
-    by_looks false = omega arith
+number-reach is v = number-kind (λ kind. literal_reach kind v ≡ number_reach kind) (λ base empty. refl) (λ base empty. refl) is
 
 number-stays : {next : List ℕ} {kind : LiteralKind} (w : List ℕ) → HasDigit w → IsNumberBefore next kind w → (other : List ℕ) → take (number_reach kind) other ≡ take (number_reach kind) next → IsNumberBefore other kind w
 number-stays {next} {kind} w d is other e = subst (IsNumberBefore other kind) (sym d.whole) (number-alike d.first d.rest d.digit (subst (IsNumberBefore next kind) d.whole is) other e)
@@ -111,12 +102,13 @@ open-alike {next} (lit.at_newline {w} q go f) other e = lit.at_newline q (goes _
 open-alike {next} (lit.unclosed none q) other e = lit.unclosed (ends next other (cut 1 2 other next (omega arith) e) none) q
 open-alike {next} (lit.unclosed_escape none q) other e = lit.unclosed_escape (ends next other (cut 1 2 other next (omega arith) e) none) q
 
-raw-alike : {next : List ℕ} {o : Option ℕ} {w : List ℕ} → IsRaw next o w → (other : List ℕ) → take 1 other ≡ take 1 next → IsRaw other o w
-raw-alike {next} (lit.closed n w le lacks) other e = lit.closed n w le lacks
-raw-alike {next} (lit.too_many n w lt lacks) other e = lit.too_many n w lt lacks
-raw-alike {next} (lit.unclosed n w none lacks) other e = lit.unclosed n w (ends next other e none) lacks
-raw-alike {next} (lit.no_quote n c out) other e = lit.no_quote n c out
-raw-alike {next} (lit.no_more n none) other e = lit.no_more n (ends next other e none)
+-- of what follows a raw string, at most the end matters
+pub raw-alike : {next : List ℕ} {o : Option ℕ} {w : List ℕ} → IsRaw next o w → (other : List ℕ) → (o ≡ None → next ≡ [] → other ≡ []) → IsRaw other o w
+raw-alike (lit.closed n w le lacks) other ended = lit.closed n w le lacks
+raw-alike (lit.too_many n w lt lacks) other ended = lit.too_many n w lt lacks
+raw-alike (lit.unclosed n w none lacks) other ended = lit.unclosed n w (ended refl none) lacks
+raw-alike (lit.no_quote n c out) other ended = lit.no_quote n c out
+raw-alike (lit.no_more n none) other ended = lit.no_more n (ended refl none)
 
 suffix-alike : {next w : List ℕ} → IsSuffixBefore next w → (other : List ℕ) → take 1 other ≡ take 1 next → IsSuffixBefore other w
 suffix-alike {next} (lit.none stop) other e = lit.none (stops _ next other e stop)
@@ -135,12 +127,7 @@ closed-reach w q stop s = let first : next_is is_name_start (w ++ s) ≡ false =
 
 -- what may have a suffix looks at something
 literal-looks : {next : List ℕ} {kind : LiteralKind} {takes : Bool} {w : List ℕ} → IsLiteralBefore next kind takes w → takes ≡ true → (s : List ℕ) → 0 < literal_reach kind (w ++ s)
-literal-looks (lit.number {kind} {w} is) t s = let reach = number-reach is.form (w ++ s) in omega (arith, reach, number-looks kind)
-literal-looks (lit.char_of_one {c} out) t s = omega (arith, one-reach c s)
-literal-looks (lit.char {t = true} {w} q stop) t s = omega (arith, closed-reach w q stop s)
-literal-looks (lit.byte_char {t = true} q) t s = omega arith
-literal-looks (lit.char_of_name w start all) t s = absurd (true≢false (sym t))
-literal-looks other t s = omega arith
+literal-looks w0 w1 s = grind (arith, common_steps, number-reach, number-looks, one-reach, closed-reach)
 
 literal-alike : {next : List ℕ} {kind : LiteralKind} {takes : Bool} {w : List ℕ} → IsLiteralBefore next kind takes w → (s other : List ℕ) → take (literal_reach kind (w ++ s)) other ≡ take (literal_reach kind (w ++ s)) next → IsLiteralBefore other kind takes w
 literal-alike {next} (lit.number {kind} {w} is) s other e = lit.number (number-stays w (number-digit is) is other (subst (λ (k : ℕ). take k other ≡ take k next) (number-reach is.form (w ++ s)) e))
@@ -153,9 +140,9 @@ literal-alike {next} (lit.char_of_one out) s other e = lit.char_of_one out
 literal-alike {next} (lit.char {t = true} {w} q stop) s other e = lit.char (single-alike q refl other (subst (λ (k : ℕ). take k other ≡ take k next) (closed-reach w q stop s) e)) stop
 literal-alike {next} (lit.char {t = false} q stop) s other e = lit.char (open-alike q other e) stop
 literal-alike {next} (lit.char_of_name w start all) s other e = lit.char_of_name w start all
-literal-alike {next} (lit.raw_str q free) s other e = lit.raw_str (raw-alike q other e) free
-literal-alike {next} (lit.raw_byte_str q) s other e = lit.raw_byte_str (raw-alike q other e)
-literal-alike {next} (lit.raw_c_str q) s other e = lit.raw_c_str (raw-alike q other e)
+literal-alike {next} (lit.raw_str q free) s other e = lit.raw_str (raw-alike q other (λ refused. ends next other e)) free
+literal-alike {next} (lit.raw_byte_str q) s other e = lit.raw_byte_str (raw-alike q other (λ refused. ends next other e))
+literal-alike {next} (lit.raw_c_str q) s other e = lit.raw_c_str (raw-alike q other (λ refused. ends next other e))
 
 -- ---- prefixes
 
@@ -242,6 +229,3 @@ token-alike {next} (the.slash stop) other e = the.slash (stops _ next other e st
 token-alike {next} (the.pound stop) other e = the.pound (stops _ next other e stop)
 token-alike {next} (the.guarded_prefix is) other e = the.guarded_prefix is
 token-alike {next} (the.symbol is) other e = the.symbol is
-
-pub looks_no_further : (next other w : List ℕ) (kind : TokenKind) → IsTokenBefore next kind w → take (reach kind w) other ≡ take (reach kind w) next → IsTokenBefore other kind w
-looks_no_further next other w kind p e = token-alike p other e

@@ -174,9 +174,6 @@ has-answer p s = let g = guarded s in subst (HasAnswer p) g.whole (by_left g.cou
         (λ e. record { answer = Err (InvalidStarter c); is = the.no_quote n c u (or_from (c == 34) _ e (or_from (c == 35) false stop refl)) })
 
 -- this one and no other
-pub raw-answer : (text : List ℕ) (p : ℕ) (result : Result Unit RawStrError) → result ≡ check_raw text p → (other : Result Unit RawStrError) → IsRawAnswer p (drop p (chars text)) other ↔ (other ≡ result)
+pub raw-answer : (text : List ℕ) (p : ℕ) (other : Result Unit RawStrError) → IsRawAnswer p (drop p (chars text)) other ↔ (other ≡ check_raw text p)
 unfolding check_raw
-raw-answer text p result e other = (
-  λ is. answer-read is ∙ sym e,
-  λ f. let h = has-answer p (drop p (chars text)) in subst (IsRawAnswer p (drop p (chars text))) (answer-read h.is ∙ sym (f ∙ e)) h.is,
-)
+raw-answer text p other = (λ is. answer-read is, λ e. let h = has-answer p (drop p (chars text)) in subst (IsRawAnswer p (drop p (chars text))) (answer-read h.is ∙ sym e) h.is)

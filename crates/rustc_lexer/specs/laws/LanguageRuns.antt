@@ -86,6 +86,11 @@ mark-stops s = apart ends_prefix is_word_continue s mark-no_word
 pub start-word_start : (c : ℕ) → is_id_start c ≡ true → is_word_start c ≡ true
 start-word_start c e = or_left (is_id_start c) (is_emoji c) e
 
+-- letters that more than a word may begin with
+pub letters-start : (is_id_start 114 ≡ true) × (is_id_start 107 ≡ true) × (is_id_start 98 ≡ true) × (is_id_start 99 ≡ true)
+unfolding unicode_ident
+letters-start = (refl, refl, refl, refl)
+
 -- ---- families
 
 slash-no_start : is_word_start 47 ≡ false

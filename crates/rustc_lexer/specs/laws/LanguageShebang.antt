@@ -1,5 +1,5 @@
 -- What is taken for a shebang line is what the language says, and nothing else is.
-use Rattle.std.proofs.Common.{◌≡◌, ◌↔◌, ℕ, zero, suc, ◌+◌, ◌-◌, ◌<◌, ◌≤◌, ◌==◌, ◌&&◌, ◌||◌, not, Bool, true, false, true≢false, if◌then◌else◌, List, [], ◌∷◌, ◌++◌, length, get_or, take, drop, codes, refl, sym, ap, ◌∙◌, subst, arith, take-append-drop, length-append, Option, Some, None}
+use Rattle.std.proofs.Common.{◌≡◌, ◌↔◌, ℕ, zero, suc, ◌+◌, ◌-◌, ◌<◌, ◌≤◌, ◌==◌, ◌&&◌, ◌||◌, not, Bool, true, false, true≢false, if◌then◌else◌, List, [], ◌∷◌, ◌++◌, length, get_or, take, drop, codes, refl, sym, ap, ◌∙◌, subst, arith, length-append, Option, Some, None}
 use lib.Utf8.{encode}
 use Rattle.std.proofs.lemmas.Bool.{and_parts, eqb-true}
 use Rattle.std.proofs.lemmas.List.{append-nil}
@@ -10,22 +10,22 @@ use Rattle.std.proofs.Math.Seq.{drop-append_seam}
 use Rattle.std.proofs.Math.Bool.{and-false}
 use Rattle.std.proofs.lemmas.Grind.{common_steps}
 use Rattle.unicode_ident.proofs.Computing.{unicode_ident}
-use Rattle.rustc_lexer.specs.{Token, TokenKind, LineComment, BlockComment, Whitespace, OpenBracket}
+use Rattle.rustc_lexer.specs.{Token, TokenKind, E2024, LineComment, BlockComment, Whitespace, OpenBracket}
 use Rattle.rustc_lexer.specs.Partition.{tokens_by}
 use Rattle.rustc_lexer.specs.Tables.{is_emoji, emoji_ranges}
 use Rattle.rustc_lexer.specs.Language as grammar
 use Rattle.rustc_lexer.specs.Language.{has_rule, IsTokenBefore}
 use Rattle.rustc_lexer.specs.LanguageCalls as the
 use Rattle.rustc_lexer.specs.LanguageCalls.{IsAttributeRest, IsLineBefore, IsShebang}
-use Rattle.rustc_lexer.specs.means.Lexeme.{past_first, first_token, symbols, kind_among}
+use Rattle.rustc_lexer.specs.means.Lexeme.{first_token, symbols, kind_among}
 use Rattle.rustc_lexer.specs.means.Scan.{begins}
 use Rattle.rustc_lexer.specs.means.Shebang.{is_passed, is_open_bracket, is_attribute, before_newline, line_len, shebang_past, read_shebang}
 use Rattle.rustc_lexer.specs.Classes.{AreAll, is_inline, IsText}
 use Rattle.rustc_lexer.specs.laws.Choice.{by_either, by_test}
-use Rattle.rustc_lexer.specs.laws.Language.{lexeme-sound}
 use Rattle.rustc_lexer.specs.laws.Edition.{first_token_grammar}
 use Rattle.rustc_lexer.specs.laws.Cuts.{past_first as text_past, shorter, tokens-nil, tokens-cons}
-use Rattle.rustc_lexer.specs.laws.LanguageFront.{empty-text, split, first-is}
+use Rattle.rustc_lexer.specs.laws.LanguageFront.{split, first-is}
+use Rattle.rustc_lexer.specs.laws.LanguageIn.{first-front, in_grammar}
 
 -- what begins with `#!`
 pub front-is : (s : List ℕ) → begins (codes "#!") s ≡ true → s ≡ 35 ∷ 33 ∷ drop 2 s
@@ -69,11 +69,7 @@ abbrev passed_kinds : List TokenKind
 passed_kinds = Whitespace ∷ LineComment None ∷ BlockComment None true ∷ BlockComment None false ∷ []
 
 passes : (kind : TokenKind) → Contains passed_kinds kind → is_passed kind ≡ true
-passes kind (zero, few, e) = ap is_passed (sym e)
-passes kind (suc zero, few, e) = ap is_passed (sym e)
-passes kind (suc (suc zero), few, e) = ap is_passed (sym e)
-passes kind (suc (suc (suc zero)), few, e) = ap is_passed (sym e)
-passes kind (suc (suc (suc (suc k))), few, e) = absurd (omega (arith, few))
+passes kind w0 = grind (arith, common_steps)
 
 attribute-read : {cs : List ℕ} → IsAttributeRest cs → (text : List ℕ) → IsText text → chars text ≡ cs → is_attribute (ts text) ≡ true
 attribute-read (the.bracket next) text is e = first-step text OpenBracket 91 [] next is e (grammar.symbol {c = 91} bracket-alone)
@@ -104,18 +100,17 @@ attribute-first (BlockComment (Some style) terminated) c w next tokens p e rest 
 attribute-first OpenBracket c w next tokens p e rest = subst (λ (v : List ℕ). IsAttributeRest (v ++ next)) (sym (bracket-view p refl)) (the.bracket next)
 attribute-first kind c w next tokens p e rest = absurd (true≢false (sym e))
 
-attribute-is : (n : ℕ) (text cs : List ℕ) → IsText text → chars text ≡ cs → length text ≤ n → is_attribute (ts text) ≡ true → IsAttributeRest cs
-attribute-is n text [] is e le t = absurd (true≢false (sym t ∙ (ap (λ (x : List ℕ). is_attribute (ts x)) (empty-text text is e) ∙ ap is_attribute (tokens-nil first_token))))
-attribute-is zero text (c ∷ s) is e le t = absurd (let some : 0 < length text = (split text (c ∷ s) [] is (e ∙ sym (append-nil (c ∷ s)))).some (omega arith) in omega (arith, some, le))
-attribute-is (suc n) text (c ∷ s) is e le t =
-    let m : ℕ = (past_first c s).1 in
-    let kind : TokenKind = (past_first c s).0 in
-    let p : IsTokenBefore (drop m s) kind (c ∷ take m s) = lexeme-sound (c ∷ s) in
-    let here : chars text ≡ c ∷ take m s ++ drop m s = e ∙ ap (λ (x : List ℕ). c ∷ x) (sym (take-append-drop m s)) in
-    let r = rest-is text kind c (take m s) (drop m s) is here p in
+attribute-is : (n : ℕ) (text : List ℕ) → IsText text → length text ≤ n → is_attribute (ts text) ≡ true → IsAttributeRest (chars text)
+attribute-is n [] is le t = absurd (true≢false (sym t ∙ ap is_attribute (tokens-nil first_token)))
+attribute-is zero (b ∷ bs) is le t = absurd (omega arith)
+attribute-is (suc n) (b ∷ bs) is le t =
+    let text : List ℕ = b ∷ bs in
+    let f = first-front E2024 text (chars text) is (omega arith) refl in
+    let p : IsTokenBefore f.next f.kind (f.c ∷ f.w) = in_grammar refl f.is in
+    let r = rest-is text f.kind f.c f.w f.next is (sym f.whole) p in
     let left : List ℕ = drop (first_token text).len text in
-    subst (λ (x : List ℕ). IsAttributeRest (c ∷ x)) (take-append-drop m s)
-    (attribute-first kind c (take m s) (drop m s) (ts left) p (sym (first-step text kind c (take m s) (drop m s) is here p) ∙ t) (λ f. attribute-is n left (drop m s) r.text_left r.left (let less = r.less in omega (arith, le)) f))
+    subst IsAttributeRest f.whole
+    (attribute-first f.kind f.c f.w f.next (ts left) p (sym (first-step text f.kind f.c f.w f.next is (sym f.whole) p) ∙ t) (λ g. subst IsAttributeRest r.left (attribute-is n left r.text_left (let less = r.less in omega (arith, le)) g)))
 
 -- ---- a line
 
@@ -162,18 +157,7 @@ no_return-before (c ∷ []) next e free = by_either (c == 13)
 no_return-before (c ∷ d ∷ w) next e free = one_less c d w (w ++ next) ∙ no_return-before (d ∷ w) next e (λ u f. free (c ∷ u) (ap (λ (x : List ℕ). c ∷ x) f))
 
 line-read : {next w : List ℕ} → IsLineBefore next w → line_len (w ++ next) ≡ length w
-line-read {next} {w} (the.to_newline all e free) =
-    ap (line_to (w ++ next)) (prefix-here w next all e) ∙ ap (λ (b : Bool). if b then length w - 1 else length w) (no_return-before w next e free)
-line-read {next} {w} (the.to_return all e) =
-    let past : begins (codes "\r\n") (drop (suc (length w) - 1) (w ++ next)) ≡ true = ap (λ (k : ℕ). begins (codes "\r\n") (drop k (w ++ next))) (less (length w)) ∙ (ap (begins (codes "\r\n")) (drop-append_seam w next) ∙ e) in
-    ap (line_to (w ++ next)) (prefix-return w next all e) ∙ (ap (λ (b : Bool). if b then suc (length w) - 1 else suc (length w)) past ∙ less (length w))
-line-read {next} {w} (the.to_end all none) =
-    ap (λ (x : List ℕ). line_len (w ++ x)) none ∙ (ap line_len (append-nil w) ∙ (ap (line_to w) (prefix-all w all) ∙ ap (λ (b : Bool). if b then length w - 1 else length w) (at_end w)))
-  where
-    at_end : (w : List ℕ) → begins (codes "\r\n") (drop (length w - 1) w) ≡ false
-    at_end [] = refl
-    at_end (c ∷ []) = short (c ∷ []) (omega arith)
-    at_end (c ∷ d ∷ w) = one_less c d w w ∙ at_end (d ∷ w)
+line-read w0 = grind (arith, common_steps, prefix-here, no_return-before, less, drop-append_seam, prefix-return, append-nil, prefix-all, short, one_less)
 
 record HasLine (text : List ℕ) : Type 0 where
   w : List ℕ
@@ -234,7 +218,7 @@ answer-read {text} is (the.shebang w next e free line) = sym (past-mark text (w 
     two k = omega arith
 
     by_attribute : (b : Bool) → is_attribute (ts (w ++ next)) ≡ b → (if is_attribute (ts (w ++ next)) then None else Some (2 + line_len (w ++ next))) ≡ Some (2 + line_len (w ++ next))
-    by_attribute true f = absurd (free (attribute-is (length (w ++ next)) (w ++ next) (chars (w ++ next)) (tail-text text (w ++ next) is e) refl (omega arith) f))
+    by_attribute true f = absurd (free (attribute-is (length (w ++ next)) (w ++ next) (tail-text text (w ++ next) is e) (omega arith) f))
     by_attribute false f = rw f refl
 answer-read {text} is (the.none free) = by_either (begins (codes "#!") text)
     (λ e.
@@ -255,7 +239,7 @@ has-shebang text is = by_either (begins (codes "#!") text)
     past : (rest : List ℕ) → text ≡ 35 ∷ 33 ∷ rest → HasShebang text
     past rest e = by_either (is_attribute (ts rest))
         (λ f.
-        let attribute : IsAttributeRest (chars rest) = attribute-is (length rest) rest (chars rest) (tail-text text rest is e) refl (omega arith) f in
+        let attribute : IsAttributeRest (chars rest) = attribute-is (length rest) rest (tail-text text rest is e) (omega arith) f in
         record { answer = None; is = the.none (λ other g. subst (λ r. IsAttributeRest (chars r)) (ap (drop 2) (sym e ∙ g)) attribute) })
         (λ f.
         let l = has-line rest in
@@ -266,8 +250,5 @@ has-shebang text is = by_either (begins (codes "#!") text)
         })
 
 -- this one and no other
-pub shebang-answer : (text : List ℕ) (answer : Option ℕ) → IsText text → answer ≡ read_shebang text → (other : Option ℕ) → IsShebang text other ↔ (other ≡ answer)
-shebang-answer text answer is e other = (
-  λ s. answer-read is s ∙ sym e,
-  λ f. let h = has-shebang text is in subst (IsShebang text) (answer-read is h.is ∙ sym (f ∙ e)) h.is,
-)
+pub shebang-answer : (text : List ℕ) → IsText text → (other : Option ℕ) → IsShebang text other ↔ (other ≡ read_shebang text)
+shebang-answer text is other = (λ s. answer-read is s, λ e. let h = has-shebang text is in subst (IsShebang text) (answer-read is h.is ∙ sym e) h.is)

@@ -9,7 +9,7 @@ use Rattle.rustc_lexer.specs.Classes.{is_among, is_whitespace, bytes, IsText}
 use Rattle.rustc_lexer.specs.means.Tokens.{read_tokens}
 use Rattle.rustc_lexer.specs.means.Edition.{token, first_token_in}
 use Rattle.rustc_lexer.specs.means.Frontmatter.{is_newline, fence_len, opening_len, opens, closing_end, past_opening, frontmatter}
-use Rattle.rustc_lexer.specs.laws.LanguageClosing.{body-read, any-body}
+use Rattle.rustc_lexer.specs.laws.LanguageClosing.{body-at, body-read, endings-patterns}
 use Rattle.rustc_lexer.specs.laws.LanguageFrontmatter.{fence-length, opening-read, Opened, opened, opens-none, none-opens}
 use Rattle.rustc_lexer.specs.laws.LanguageLiterals.{bytes-append}
 use Rattle.rustc_lexer.specs.FrontmatterGrammar.{fence, IsOpeningBefore, opening}
@@ -112,7 +112,7 @@ frontmatter-first edition text is some opened_here rest_are = put (opened (chars
     put : Opened (chars text) → AreTokens (document edition) (chars text) (frontmatter text ∷ tokens)
     put o =
         let n : ℕ = o.count in
-        let b = any-body n o.rest in
+        let b = body-at _ o.rest (endings-patterns n) in
         let body : List ℕ = b.body in
         let next : List ℕ = b.next in
         let is_opening : IsOpeningBefore (body ++ next) n o.front = subst (λ (u : List ℕ). IsOpeningBefore u n o.front) (sym b.whole) o.is in

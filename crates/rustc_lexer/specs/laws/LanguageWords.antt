@@ -10,7 +10,7 @@ use Rattle.rustc_lexer.specs.Classes.{is_id_start, is_id_continue, is_ident, is_
 use Rattle.rustc_lexer.specs.Tables.{is_emoji, emoji_ranges}
 use Rattle.rustc_lexer.specs.means.Ident.{ident_kind, ident_or_unknown_prefix, invalid_ident, marks_ident, marked}
 use Rattle.rustc_lexer.specs.laws.Choice.{by_either}
-use Rattle.rustc_lexer.specs.laws.LanguageRuns.{run_len-here, run-stops, either-way, Sound, Read, read-first, begins-next, chooses-word, chooses-emoji, word-no_mark, mark-stops, start-word_start}
+use Rattle.rustc_lexer.specs.laws.LanguageRuns.{run_len-here, run-stops, either-way, Sound, Read, read-first, begins-next, chooses-word, chooses-emoji, word-no_mark, mark-stops, start-word_start, letters-start}
 use Rattle.rustc_lexer.specs.laws.Reach.{run_all}
 use Rattle.rustc_lexer.specs.Language as the
 use Rattle.rustc_lexer.specs.Language.{IsTokenBefore, begins_prefixed}
@@ -160,15 +160,11 @@ invalid-read c w next start all wrong stop = by_either (is_id_start c)
 marked-read : (kind : TokenKind) (other : List ℕ → TokenKind × ℕ) (w next : List ℕ) → is_ident w ≡ true → NextIsNot is_id_continue next → marked kind other (35 ∷ w ++ next) ≡ (kind, suc (length w))
 marked-read kind other w2 next is stop = grind (arith, common_steps, and_parts, run_len-here)
 
-letter-start : (is_id_start 114 ≡ true) × (is_id_start 107 ≡ true)
-unfolding unicode_ident
-letter-start = (refl, refl)
-
 pub raw_ident-read : (w next : List ℕ) → is_ident w ≡ true → NextIsNot is_id_continue next → Read RawIdent (suc (suc (length w))) (114 ∷ 35 ∷ w ++ next)
-raw_ident-read w next is stop = read-first 114 (word 114) (35 ∷ w ++ next) RawIdent (suc (length w)) _ (chooses-word 114 letter-start.0) (marked-read RawIdent raw_or_ident w next is stop) refl
+raw_ident-read w next is stop = read-first 114 (word 114) (35 ∷ w ++ next) RawIdent (suc (length w)) _ (chooses-word 114 letters-start.0) (marked-read RawIdent raw_or_ident w next is stop) refl
 
 pub keyword-read : (w next : List ℕ) → is_ident w ≡ true → NextIsNot is_id_continue next → Read ForcedKeywordIdent (suc (suc (length w))) (107 ∷ 35 ∷ w ++ next)
-keyword-read w next is stop = read-first 107 (word 107) (35 ∷ w ++ next) ForcedKeywordIdent (suc (length w)) _ (chooses-word 107 letter-start.1) (marked-read ForcedKeywordIdent ident_or_unknown_prefix w next is stop) refl
+keyword-read w next is stop = read-first 107 (word 107) (35 ∷ w ++ next) ForcedKeywordIdent (suc (length w)) _ (chooses-word 107 letters-start.1) (marked-read ForcedKeywordIdent ident_or_unknown_prefix w next is stop) refl
 
 -- ---- and what is read is one of these
 

@@ -5,6 +5,7 @@ use Rattle.std.proofs.lemmas.List.{append-nil}
 use Rattle.std.specs.Char.{is_ascii_digit}
 use Rattle.std.specs.List.{list_any}
 use Rattle.std.specs.Str.{byte}
+use Rattle.std.proofs.lemmas.Grind.{common_steps}
 use Rattle.rustc_lexer.specs.{Base, LiteralKind, Binary, Octal, Hexadecimal, Int, Float}
 use Rattle.rustc_lexer.specs.laws.Choice.{by_test}
 use Rattle.rustc_lexer.specs.laws.Reach.{run_all}
@@ -88,13 +89,7 @@ run-stops is_digit (c ∷ s) = by_test (λ n. next_is is_digit (drop n (c ∷ s)
 -- a prefix of a base and its digits
 past_prefix-is : (letter : ℕ) (base : Base) → ((ds : List ℕ) → AreDigits (is_digit_of base) ds → IsWholePart base (not (list_any (is_digit_of base) ds)) (48 ∷ letter ∷ ds)) → (s : List ℕ) → begins (letter ∷ []) s ≡ true
     → Whole s (after 1 (read_as (prefixed base) (digits (is_digit_of base))) s)
-past_prefix-is letter base of [] t = absurd (true≢false (sym t))
-past_prefix-is letter base of (c ∷ s) t =
-    let n : ℕ = run_len (or_underscore (is_digit_of base)) s in
-    let same : c ≡ letter = eqb-true c letter (and_parts (c == letter) true t).0 in (
-      subst (λ (xs : List ℕ). IsWholePart base (not (list_any (is_digit_of base) (take n s))) (48 ∷ xs)) (ap (λ x. x ∷ take n s) (sym same) ∙ take-one c n s) (of (take n s) (run_all (or_underscore (is_digit_of base)) s)),
-      subst (λ (next : List ℕ). next_is (is_digit_of base) next ≡ false) (drop-one c n s) (run-stops (is_digit_of base) s),
-    )
+past_prefix-is letter base w0 s w1 = grind (arith, common_steps, eqb-true, and_parts, take-one, run_all, drop-one, run-stops)
 
 front-is : (first : ℕ) (s : List ℕ) → is_ascii_digit first ≡ true → IsWholePart (front first s).0.base (front first s).0.empty (first ∷ take (front first s).1 s) × (next_is (is_digit_of (front first s).0.base) (drop (front first s).1 s) ≡ false)
 front-is first s digit =

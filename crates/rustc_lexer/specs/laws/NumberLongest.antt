@@ -1,16 +1,16 @@
 -- The number that is read is the longest that stands at the front of its text.
-use Rattle.std.proofs.Common.{◌≡◌, ℕ, suc, ◌+◌, ◌==◌, ◌&&◌, ◌||◌, inl, inr, not, Bool, true, false, true≢false, List, [], ◌∷◌, ◌++◌, length, take, drop, refl, sym, ap, ◌∙◌, subst, arith, codes, append_assoc, length-append, take-append-drop, length-take-le}
-use Rattle.std.proofs.lemmas.Bool.{agree_below_at, and_parts, eqb-true, or_cases, or_right}
-use Rattle.std.specs.Char.{is_ascii_digit}
+use Rattle.std.proofs.Common.{◌≡◌, ℕ, zero, suc, ◌+◌, ◌≤◌, ◌<◌, ◌==◌, ◌&&◌, ◌||◌, ◌⊎◌, inl, inr, not, Bool, true, false, true≢false, if◌then◌else◌, List, [], ◌∷◌, ◌++◌, length, get_or, take, drop, refl, sym, ap, ◌∙◌, subst, arith, codes, append_assoc, length-append, length-drop, take-append-drop, length-take-le}
+use Rattle.std.proofs.lemmas.Bool.{agree_below_at, and_parts, cases_lt, eqb-true, or_cases, or_right}
+use Rattle.std.proofs.lemmas.List.{append-nil}
+use Rattle.std.specs.Char.{is_ascii_digit, is_ascii_hexdigit}
 use Rattle.std.specs.List.{list_all, list_any}
 use Rattle.std.specs.Str.{byte}
 use Rattle.std.proofs.lemmas.Grind.{common_steps}
 use Rattle.unicode_ident.proofs.Computing.{unicode_ident}
 use Rattle.rustc_lexer.specs.{Base, LiteralKind, Binary, Octal, Decimal, Hexadecimal, Int, Float}
 use Rattle.rustc_lexer.specs.laws.Choice.{by_test}
-use Rattle.std.proofs.Math.Seq.{take-append_seam, drop-append_seam}
-use Rattle.rustc_lexer.specs.laws.Number.{number_kind_local, number_reach, kind-local}
-use Rattle.rustc_lexer.specs.laws.Reach.{seam}
+use Rattle.std.proofs.Math.Seq.{take-append_seam}
+use Rattle.rustc_lexer.specs.laws.Reach.{begins-length, next_is-length, cut, cut_past, told_same, next_is-told, run_len_le}
 use Rattle.rustc_lexer.specs.laws.NumberGrammar.{number-form}
 use Rattle.rustc_lexer.specs.laws.Within.{Within, within-suc, within-one, within-any, then-within, run-within}
 use Rattle.rustc_lexer.specs.means.Number.{or_underscore, digits, Front, front_of, prefixed, binary, octal, hexadecimal, decimal, front_past_zero, front, float, is_exponent_letter, is_sign, past_sign, float_exponent, optional_exponent, fraction_digits, fraction, is_no_fraction, begins_fraction, past_digits, tail, number_kind}
@@ -232,19 +232,38 @@ form-within first s {next} {v} {kind} text form =
     subst (λ (r : LiteralKind × ℕ). Within (Unit {0}) r kind (length v)) (number_all-is first s)
     (subst (λ (xs : List ℕ). Within (Unit {0}) (number_all xs) kind (length v)) text (number-within next form))
 
+-- ---- what is read stands in its text
+
+abbrev Fits : {A : Type 0} → List ℕ → A × ℕ → Type 0
+Fits s r = r.1 ≤ length s
+
+exponent-fits : (base : Base) (s : List ℕ) → Fits s (float_exponent base s)
+exponent-fits base s = grind (arith, common_steps, run_len_le, length-drop, next_is-length)
+
+optional-fits : (base : Base) (kind : LiteralKind) (s : List ℕ) → Fits s (if next_is is_exponent_letter s then after 1 (float_exponent base) s else gives kind s)
+optional-fits base kind s = grind (arith, common_steps, run_len_le, length-drop, next_is-length)
+
+fraction-fits : (base : Base) (s : List ℕ) → Fits s (fraction base s)
+unfolding fraction
+fraction-fits base s = grind (arith, common_steps, run_len_le, length-drop, optional-fits)
+
+tail-fits : (front : Front) (s : List ℕ) → Fits s (tail front s)
+tail-fits front s = grind (arith, common_steps, length-drop, begins-length, next_is-length, fraction-fits, optional-fits, exponent-fits)
+
+front-fits : (first : ℕ) (s : List ℕ) → Fits s (front first s)
+front-fits first s = grind (arith, common_steps, run_len_le, length-drop, begins-length)
+
+number-fits : (first : ℕ) (s : List ℕ) → Fits s (number_kind first s)
+unfolding number_kind
+number-fits first s = omega (arith, front-fits first s, tail-fits (front first s).0 (drop (front first s).1 s), length-drop (front first s).1 s)
+
 -- how long it is
 read-length : (first : ℕ) (s : List ℕ) → length (first ∷ take (number_kind first s).1 s) ≡ 1 + (number_kind first s).1
-read-length first s = let at = number_kind_local first s in omega (arith, length-take-le (number_kind first s).1 s at.inside)
+read-length first s = omega (arith, length-take-le (number_kind first s).1 s (number-fits first s))
 
 -- what is read is a number
 pub number-read : (first : ℕ) (s : List ℕ) → is_ascii_digit first ≡ true → IsNumberBefore (drop (number_kind first s).1 s) (number_kind first s).0 (first ∷ take (number_kind first s).1 s)
-number-read first s digit = record {
-  form = number-form first s digit;
-  longest = λ other v rest text form. elim (form-within first s (text ∙ ap (λ (xs : List ℕ). first ∷ xs) (take-append-drop (number_kind first s).1 s)) form) [
-    | inl h ↦ omega (arith, h.1, read-length first s)
-    | inr e ↦ omega (arith, ap (λ (r : LiteralKind × ℕ). r.1) e, read-length first s)
-  ];
-}
+number-read first s digit = grind (arith, common_steps, number-form, form-within, take-append-drop, read-length)
 
 -- and a number is what is read
 pub number-is : {next : List ℕ} {kind : LiteralKind} (first : ℕ) (v : List ℕ) → is_ascii_digit first ≡ true → IsNumberBefore next kind (first ∷ v) → number_kind first (v ++ next) ≡ (kind, length v)
@@ -259,11 +278,129 @@ number-is {next} {kind} first v digit is = elim (form-within first s refl is.for
     m : ℕ
     m = (number_kind first s).1
 
+-- ---- what a number begins with
+
+run-front : (p : ℕ → Bool) (n : ℕ) (ds : List ℕ) → list_all p ds ≡ true → list_all p (take n ds) ≡ true
+run-front p zero ds all = refl
+run-front p (suc n) [] all = refl
+run-front p (suc n) (d ∷ ds) all = let both = and_parts (p d) (list_all p ds) all in ap (λ (b : Bool). b && list_all p (take n ds)) both.0 ∙ run-front p n ds both.1
+
+-- the form of a number of some kind
+abbrev HasForm : List ℕ → List ℕ → Type 0
+HasForm next w = (kind : LiteralKind) × HasNumberForm next kind w
+
+whole-form : (base : Base) (empty : Bool) (w next : List ℕ) → IsWholePart base empty w → HasForm next w
+whole-form base true w next is = (Int base true, of_prefix is)
+whole-form base false w next is = (Int base false, subst (HasNumberForm next (Int base false)) (append-nil w) (of_parts is nothing))
+
+-- the first characters of an integer part, of an exponent, and of a tail
+whole-front : {base : Base} {empty : Bool} {w : List ℕ} → IsWholePart base empty w → (n : ℕ) (next : List ℕ) → HasForm next (take (suc (suc n)) w)
+whole-front (plain {d} {ds} digit are) n next = whole-form Decimal false (d ∷ take (suc n) ds) next (plain digit (run-front (or_underscore is_ascii_digit) (suc n) ds are))
+whole-front (with_b {ds} are) n next = whole-form Binary (not (list_any is_ascii_digit (take n ds))) (48 ∷ 98 ∷ take n ds) next (with_b (run-front (or_underscore is_ascii_digit) n ds are))
+whole-front (with_o {ds} are) n next = whole-form Octal (not (list_any is_ascii_digit (take n ds))) (48 ∷ 111 ∷ take n ds) next (with_o (run-front (or_underscore is_ascii_digit) n ds are))
+whole-front (with_x {ds} are) n next = whole-form Hexadecimal (not (list_any is_ascii_hexdigit (take n ds))) (48 ∷ 120 ∷ take n ds) next (with_x (run-front (or_underscore is_ascii_hexdigit) n ds are))
+
+exponent-front : {base : Base} {kind : LiteralKind} {t : List ℕ} → IsExponent base kind t → (n : ℕ) → (k : LiteralKind) × IsExponent base k (take (suc n) t)
+exponent-front (signed {base} {e} {g} {ds} letter sign are) zero = (Float base true, unsigned {ds = []} letter refl)
+exponent-front (signed {base} {e} {g} {ds} letter sign are) (suc n) = (Float base (not (list_any is_ascii_digit (take n ds))), signed letter sign (run-front (or_underscore is_ascii_digit) n ds are))
+exponent-front (unsigned {base} {e} {ds} letter are) n = (Float base (not (list_any is_ascii_digit (take n ds))), unsigned letter (run-front (or_underscore is_ascii_digit) n ds are))
+
+-- the first characters of two texts end in the first one, or go on in the second
+split : (n : ℕ) (a b : List ℕ) → (take n (a ++ b) ≡ take n a) ⊎ ((m : ℕ) × (take n (a ++ b) ≡ a ++ take m b) × (drop n (a ++ b) ≡ drop m b))
+split zero a b = inl refl
+split (suc n) [] b = inr (suc n, refl, refl)
+split (suc n) (x ∷ a) b = elim (split n a b) [ inl e ↦ inl (ap (λ (xs : List ℕ). x ∷ xs) e) | inr e ↦ inr (e.0, ap (λ (xs : List ℕ). x ∷ xs) e.1, e.2) ]
+
+tail-front : {next : List ℕ} {base : Base} {kind : LiteralKind} {t : List ℕ} → IsTailBefore next base kind t → (n : ℕ) → (k : LiteralKind) × IsTailBefore (drop n t ++ next) base k (take n t)
+tail-front {base = base} is zero = (Int base false, nothing)
+tail-front (nothing {base = base}) (suc n) = (Int base false, nothing)
+tail-front (dot {base = base} free) (suc zero) = (Float base false, dot free)
+tail-front (dot {base = base} free) (suc (suc n)) = (Float base false, dot free)
+tail-front (of_fraction {base = base} {d = d} {ds = ds} digit are) (suc zero) = (Float base false, dot (digit-fraction d digit))
+tail-front (of_fraction {base = base} {d = d} {ds = ds} digit are) (suc (suc n)) = (Float base false, of_fraction digit (run-front (or_underscore is_ascii_digit) n ds are))
+tail-front (of_exponent no_digit is) (suc n) = let x = exponent-front is n in (x.0, of_exponent no_digit x.1)
+tail-front (of_both {base = base} {d = d} ds digit are is) (suc zero) = (Float base false, dot (digit-fraction d digit))
+tail-front {next} (of_both {base = base} {d = d} {e = e} ds digit are is) (suc (suc n)) = elim (split n ds e) [
+  | inl same ↦ subst Tail (sym same) (Float base false, of_fraction digit (run-front (or_underscore is_ascii_digit) n ds are))
+  | inr on ↦ subst Tail (sym on.1) (longer on.0)
+]
+  where
+    Tail : List ℕ → Type 0
+    Tail xs = (k : LiteralKind) × IsTailBefore (drop n (ds ++ e) ++ next) base k (46 ∷ d ∷ xs)
+
+    longer : (m : ℕ) → Tail (ds ++ take m e)
+    longer zero = subst Tail (sym (append-nil ds)) (Float base false, of_fraction digit are)
+    longer (suc m) = let x = exponent-front is m in (x.0, of_both ds digit are x.1)
+
+form-front : {next : List ℕ} {kind : LiteralKind} {w : List ℕ} → HasNumberForm next kind w → (n : ℕ) → HasForm (drop (suc (suc n)) w ++ next) (take (suc (suc n)) w)
+form-front {next} (of_prefix {whole = w} is) n = whole-front is n (drop (suc (suc n)) w ++ next)
+form-front {next} (of_parts {whole = w} {tail = t} is past) n = elim (split (suc (suc n)) w t) [
+  | inl e ↦ subst (HasForm (drop (suc (suc n)) (w ++ t) ++ next)) (sym e) (whole-front is n (drop (suc (suc n)) (w ++ t) ++ next))
+  | inr e ↦ (let x = tail-front past e.0 in (x.0, rw (e.1, e.2) (of_parts is x.1)))
+]
+
+-- what follows matters only behind a dot
+form-alike : {next : List ℕ} {kind : LiteralKind} {w : List ℕ} → HasNumberForm next kind w → (other : List ℕ)
+    → ((base : Base) (whole : List ℕ) → IsWholePart base false whole → w ≡ whole ++ (46 ∷ []) → next_is is_no_fraction other ≡ next_is is_no_fraction next) → HasNumberForm other kind w
+form-alike (of_prefix is) other same = of_prefix is
+form-alike (of_parts is nothing) other same = of_parts is nothing
+form-alike (of_parts {base = base} {whole = w} is (dot free)) other same = of_parts is (dot (same base w is refl ∙ free))
+form-alike (of_parts is (of_fraction digit are)) other same = of_parts is (of_fraction digit are)
+form-alike (of_parts is (of_exponent no_digit e)) other same = of_parts is (of_exponent no_digit e)
+form-alike (of_parts is (of_both ds digit are e)) other same = of_parts is (of_both ds digit are e)
+
+-- the longer of two fronts of a text goes on with a character
+one-more : (w x other rest : List ℕ) → x ++ rest ≡ w ++ other → length w < length x → (c : ℕ) × (other ≡ c ∷ drop 1 other) × (take (suc (length w)) x ≡ w ++ (c ∷ [])) × (drop (suc (length w)) x ++ rest ≡ drop 1 other)
+one-more [] [] other rest text lt = absurd (omega arith)
+one-more [] (c ∷ x) other rest text lt = let left : x ++ rest ≡ drop 1 other = ap (drop 1) text in (c, sym text ∙ ap (λ (xs : List ℕ). c ∷ xs) left, refl, left)
+one-more (d ∷ w) [] other rest text lt = absurd (omega arith)
+one-more (d ∷ w) (b ∷ x) other rest text lt =
+    let more = one-more w x other rest (ap (drop 1) text) (omega arith) in
+    (more.0, more.1, ap (λ (xs : List ℕ). b ∷ xs) more.2 ∙ ap (λ (y : ℕ). y ∷ w ++ (more.0 ∷ [])) (ap (λ (xs : List ℕ). get_or xs 0 0) text), more.3)
+
+-- how far a number looks
+abbrev pub number_reach : LiteralKind → ℕ
+number_reach (Float base empty_exponent) = 1
+number_reach kind = 2
+
+pub number-looks : (kind : LiteralKind) → 0 < number_reach kind
+number-looks (Float base empty_exponent) = omega arith
+number-looks kind = omega arith
+
+-- what has the form of an integer part is no float
+whole-looks : {next : List ℕ} {kind : LiteralKind} (base : Base) (first : ℕ) (v : List ℕ) → is_ascii_digit first ≡ true → IsNumberBefore next kind (first ∷ v) → IsWholePart base false (first ∷ v) → 2 ≤ number_reach kind
+whole-looks {next} {kind} base first v digit is whole =
+    let int : IsNumberBefore next (Int base false) (first ∷ v) = record { form = subst (HasNumberForm next (Int base false)) (append-nil (first ∷ v)) (of_parts whole nothing); longest = is.longest } in
+    let same : (kind, length v) ≡ (Int base false, length v) = sym (number-is first v digit is) ∙ number-is first v digit int in
+    subst (λ (r : LiteralKind × ℕ). 2 ≤ number_reach r.0) (sym same) (omega arith)
+
 -- a number stays one before a text that begins alike
 pub number-alike : {next : List ℕ} {kind : LiteralKind} (first : ℕ) (v : List ℕ) → is_ascii_digit first ≡ true → IsNumberBefore next kind (first ∷ v) → (other : List ℕ) → take (number_reach kind) other ≡ take (number_reach kind) next → IsNumberBefore other kind (first ∷ v)
-number-alike {next} {kind} first v digit is other a =
-    let begin : take (length v + number_reach kind) (v ++ other) ≡ take (length v + number_reach kind) (v ++ next) = seam (number_reach kind) v other ∙ (ap (λ (xs : List ℕ). v ++ xs) a ∙ sym (seam (number_reach kind) v next)) in
-    let at = subst (λ (r : LiteralKind × ℕ). (u : List ℕ) → take (r.1 + number_reach r.0) u ≡ take (r.1 + number_reach r.0) (v ++ next) → number_kind first u ≡ number_kind first (v ++ next)) (number-is first v digit is) (λ u e. let local = kind-local first (v ++ next) in local.local u e) in
-    let read : number_kind first (v ++ other) ≡ (kind, length v) = at (v ++ other) begin ∙ number-is first v digit is in
-    let there = subst (λ (r : LiteralKind × ℕ). IsNumberBefore (drop r.1 (v ++ other)) r.0 (first ∷ take r.1 (v ++ other))) read (number-read first (v ++ other) digit) in
-    subst (λ (xs : List ℕ). IsNumberBefore xs kind (first ∷ v)) (drop-append_seam v other) (subst (λ (xs : List ℕ). IsNumberBefore (drop (length v) (v ++ other)) kind (first ∷ xs)) (take-append_seam v other) there)
+number-alike {next} {kind} first v digit is other alike = record {
+  form = form-alike is.form other (λ base whole part e. told_same 1 (number_reach kind) (next_is is_no_fraction) other next (next_is-told is_no_fraction) (number-looks kind) alike);
+  longest = λ k x rest text form. elim (cases_lt (length w) (length x)) [ inl lt ↦ absurd (longer k x rest text form lt) | inr le ↦ le ];
+}
+  where
+    w : List ℕ
+    w = first ∷ v
+
+    begins_so : (c : ℕ) (s : List ℕ) → take 1 s ≡ c ∷ [] → s ≡ c ∷ drop 1 s
+    begins_so c [] e = absurd (let no : 0 ≡ 1 = ap length e in omega arith)
+    begins_so c (d ∷ s) e = ap (λ (y : ℕ). y ∷ s) (ap (λ (xs : List ℕ). get_or xs 0 0) e)
+
+    dotted : (c : ℕ) (base : Base) (whole : List ℕ) → IsWholePart base false whole → w ++ (c ∷ []) ≡ whole ++ (46 ∷ []) → next_is is_no_fraction (drop 1 next) ≡ next_is is_no_fraction (drop 1 other)
+    dotted c base whole part e =
+        let size : length whole ≡ length w = omega (arith, ap length e, length-append w (c ∷ []), length-append whole (46 ∷ [])) in
+        let same : whole ≡ w = sym (take-append_seam whole (46 ∷ [])) ∙ (ap (take (length whole)) (sym e) ∙ (ap (λ (n : ℕ). take n (w ++ (c ∷ []))) size ∙ take-append_seam w (c ∷ []))) in
+        let far : 2 ≤ number_reach kind = whole-looks base first v digit is (subst (IsWholePart base false) same part) in
+        told_same 1 1 (next_is is_no_fraction) (drop 1 next) (drop 1 other) (next_is-told is_no_fraction) (omega arith) (sym (cut_past 1 1 (number_reach kind) other next far alike))
+
+    longer : (k : LiteralKind) (x rest : List ℕ) → x ++ rest ≡ w ++ other → HasNumberForm rest k x → length w < length x → ⊥
+    longer k x rest text form lt =
+        let more = one-more w x other rest text lt in
+        let c : ℕ = more.0 in
+        let cut_off : HasForm (drop (suc (length w)) x ++ rest) (take (suc (length w)) x) = form-front form (length v) in
+        let there : HasForm (drop 1 other) (w ++ (c ∷ [])) = subst (λ (xs : List ℕ). HasForm xs (w ++ (c ∷ []))) more.3 (subst (HasForm (drop (suc (length w)) x ++ rest)) more.2 cut_off) in
+        let here = form-alike there.1 (drop 1 next) (dotted c) in
+        let goes_on : next ≡ c ∷ drop 1 next = begins_so c next (sym (cut 1 (number_reach kind) other next (number-looks kind) alike) ∙ ap (take 1) more.1) in
+        omega (arith, is.longest there.0 (w ++ (c ∷ [])) (drop 1 next) (append_assoc w (c ∷ []) (drop 1 next) ∙ ap (λ (xs : List ℕ). w ++ xs) (sym goes_on)) here, length-append w (c ∷ []))

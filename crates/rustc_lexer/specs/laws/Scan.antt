@@ -1,11 +1,13 @@
 -- What scanners read of a text and leave of it.
-use Rattle.std.proofs.Common.{◌≡◌, ℕ, suc, ◌+◌, ◌≤◌, Bool, true, false, if◌then◌else◌, List, [], ◌∷◌, length, drop, refl, sym, ap, ◌∙◌, arith, Option, Some, None}
+use Rattle.std.proofs.Common.{◌≡◌, ℕ, zero, suc, ◌+◌, ◌-◌, ◌≤◌, ◌<◌, Bool, true, false, if◌then◌else◌, List, [], ◌∷◌, length, drop, refl, sym, ap, ◌∙◌, arith}
+use Rattle.std.specs.Char.{encode_utf8}
 use Rattle.std.specs.Str.{chars, IsUtf8}
+use Rattle.std.proofs.lemmas.Str.{encode_ascii}
 use Rattle.std.proofs.lemmas.Grind.{common_steps}
-use Rattle.rustc_lexer.specs.means.Scan.{after, and_then, gives, next_is, past, read_as, run_len, scanned}
+use Rattle.rustc_lexer.specs.means.Scan.{bytes_of, after, and_then, gives, next_is, past, read_as, run_len, scanned}
 use Rattle.rustc_lexer.specs.Classes.{is_id_start, is_id_continue}
-use Rattle.rustc_lexer.specs.means.Least.{more}
 use Rattle.rustc_lexer.specs.means.Literal.{suffix_len}
+use Rattle.rustc_lexer.specs.laws.CharSteps.{bytes_of-suc}
 use Rattle.rustc_lexer.specs.laws.Choice.{by_either}
 use Rattle.rustc_lexer.specs.laws.Past.{past-zero, past-past, chars-past, length-past}
 
@@ -51,10 +53,25 @@ run_len-stop p (d ∷ s) c u e = by_either (p d)
     let head : d ≡ c = cc in
     ap p (sym head) ∙ f)
 
--- what is found so much further on, and so much further
-pub more-more : (a b : ℕ) (o : Option ℕ) → more a (more b o) ≡ more (a + b) o
-more-more a b None = refl
-more-more a b (Some n) = ap Some (omega arith)
+-- the characters of a class in ASCII take as many bytes
+module _ (p : ℕ → Bool) (small : (c : ℕ) → p c ≡ true → c < 128) where
+  pub bytes-run : (n : ℕ) (s : List ℕ) → n ≤ run_len p s → bytes_of n s ≡ n
+  bytes-run zero s le = refl
+  bytes-run (suc n) [] le = absurd (omega arith)
+  bytes-run (suc n) (c ∷ s) le = by_either (p c)
+      (λ e.
+      let more : run_len p (c ∷ s) ≡ suc (run_len p s) = rw e refl in
+      let one : length (encode_utf8 c) ≡ 1 = ap length (encode_ascii c (small c e)) in
+      let rest : bytes_of n s ≡ n = bytes-run n s (omega arith) in
+      bytes_of-suc n c s ∙ omega arith)
+      (λ e. let none : run_len p (c ∷ s) ≡ 0 = rw e refl in absurd (omega arith))
+
+  pub length-run : (text rest : List ℕ) → IsUtf8 text → rest ≡ past (run_len p (chars text)) text → length text - length rest ≡ run_len p (chars text)
+  length-run text rest is e =
+      let n : ℕ = run_len p (chars text) in
+      let one : bytes_of n (chars text) ≡ n = bytes-run n (chars text) (omega arith) in
+      let all : n + length rest ≡ length text = ap (λ (k : ℕ). k + length rest) (sym one) ∙ (ap (λ (xs : List ℕ). bytes_of n (chars text) + length xs) e ∙ length-past n text is) in
+      omega arith
 
 -- the next character of a text
 pub next_is-cons : (p : ℕ → Bool) (c : ℕ) (s cs : List ℕ) → cs ≡ c ∷ s → next_is p cs ≡ p c

@@ -95,17 +95,17 @@ the_next s = record {
 abbrev pub the_guarded : (s : State) → TheOnly (Unit {0}) (TakesGuarded s)
 the_guarded s = record {
   answer = means_guarded.take_guarded s;
-  only = λ always. guarded-answer s (means_guarded.take_guarded s).1 (means_guarded.take_guarded s).0 refl refl;
+  only = λ always. guarded-answer s;
 }
 
 abbrev pub the_raw : (text : List ℕ) (prefix : ℕ) → TheOnly (Unit {0}) (IsRawAnswer prefix (drop prefix (chars text)))
 the_raw text prefix = record {
   answer = means_raw.check_raw text prefix;
-  only = λ always. raw-answer text prefix (means_raw.check_raw text prefix) refl;
+  only = λ always. raw-answer text prefix;
 }
 
 abbrev pub the_shebang : (text : List ℕ) → TheOnly (IsText text) (IsShebang text)
 the_shebang text = record {
   answer = means_shebang.read_shebang text;
-  only = λ is. shebang-answer text (means_shebang.read_shebang text) is refl;
+  only = λ is. shebang-answer text is;
 }

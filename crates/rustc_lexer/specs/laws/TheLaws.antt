@@ -3,7 +3,7 @@ use Rattle.std.proofs.Common.{refl}
 use Rattle.rustc_lexer.specs.GrammarLaws.{TheLaws}
 use Rattle.rustc_lexer.specs.laws.Language.{begins-one}
 use Rattle.rustc_lexer.specs.laws.LanguageIn.{newest_has}
-use Rattle.rustc_lexer.specs.laws.LanguageReach.{looks_no_further}
+use Rattle.rustc_lexer.specs.laws.LanguageReach.{token-alike}
 use Rattle.rustc_lexer.specs.laws.TheAnswers.{the_tokens, the_first}
 
 abbrev pub the_laws : TheLaws
@@ -13,5 +13,5 @@ the_laws = record {
   cut = λ edition text. refl;
   one_token = begins-one;
   newest = newest_has;
-  looks_no_further = looks_no_further;
+  looks_no_further = λ next other w kind p. token-alike p other;
 }

@@ -1,7 +1,7 @@
 -- The tokens of a whole text as they are read: one by one, and their bounds.
 use Rattle.std.proofs.Common.{◌≡◌, ℕ, zero, suc, ◌<◌, ◌≤◌, List, [], ◌∷◌, length, take, drop, refl, ap, arith, length-drop, take-add, All}
-use Rattle.std.specs.Str.{IsUtf8}
-use Rattle.std.proofs.lemmas.Str.{IsUtf8-append, IsUtf8-drop, IsUtf8-nil, IsUtf8-take, IsCharBoundary-from_take}
+use Rattle.std.specs.Str.{IsCharBoundary, IsUtf8}
+use Rattle.std.proofs.lemmas.Str.{IsUtf8-append, IsUtf8-nil, IsUtf8-take, IsCharBoundary-from_take}
 use Rattle.std.proofs.lemmas.List.Elements.{All-nil, All-cons}
 use Rattle.std.proofs.lemmas.Grind.{common_steps}
 use Rattle.rustc_lexer.specs.{Token}
@@ -10,10 +10,10 @@ use Rattle.rustc_lexer.specs.means.Tokens.{cut, tokens_of_document, read_tokens}
 use Rattle.rustc_lexer.specs.LanguageText.{Mode, document, part, mode_after}
 use Rattle.rustc_lexer.specs.laws.Edition.{edition_grammar}
 use Rattle.rustc_lexer.specs.means.Edition.{first_token_in}
-use Rattle.rustc_lexer.specs.means.Frontmatter.{frontmatter}
 use Rattle.rustc_lexer.specs.means.Taking.{token_at}
 use Rattle.rustc_lexer.specs.laws.Cuts.{tokens-nil as part-nil, tokens-cons as part-cons}
 use Rattle.rustc_lexer.specs.laws.Frontmatter.{frontmatter-cut, token_at-either}
+use Rattle.rustc_lexer.specs.laws.Texts.{left_text}
 use Rattle.rustc_lexer.specs.Classes.{IsText}
 
 -- the token at the front of a text leaves a shorter text, and is one itself
@@ -23,25 +23,13 @@ pub record CutsOff (text : List ℕ) (token : Token) : Type 0 where
   pub front : IsUtf8 (take token.len text)
   pub left : IsText (drop token.len text)
 
+cuts-off : (text : List ℕ) (token : Token) → IsText text → 0 < token.len → IsCharBoundary text token.len → CutsOff text token
+cuts-off text token is some bound = let front = IsUtf8-take text _ is.utf8 bound in record { not_empty = some; inside = bound.0; front = front; left = left_text text _ is bound.0 front }
+
 pub token_at-cuts : (mode : Mode) (text : List ℕ) → IsText text → 0 < length text → CutsOff text (token_at mode text)
 token_at-cuts mode text is some = token_at-either (λ (t : Token). CutsOff text t) mode text
-    (λ edition.
-    let law = edition_grammar edition in
-    record {
-      not_empty = law.not_empty text is some;
-      inside = (law.boundary text is some).0;
-      front = IsUtf8-take text _ is.utf8 (law.boundary text is some);
-      left = record { utf8 = IsUtf8-drop text _ is.utf8 (law.boundary text is some); fits = let f = is.fits in omega (arith, length-drop (first_token_in edition text).len text) };
-    })
-    (λ opened.
-    let cut = frontmatter-cut text is.utf8 opened in
-    let n : ℕ = (frontmatter text).len in
-    record {
-      not_empty = cut.not_empty;
-      inside = cut.inside;
-      front = IsUtf8-take text n is.utf8 cut.boundary;
-      left = record { utf8 = IsUtf8-drop text n is.utf8 cut.boundary; fits = let f = is.fits in omega (arith, length-drop n text) };
-    })
+    (λ edition. let law = edition_grammar edition in cuts-off text _ is (law.not_empty text is some) (law.boundary text is some))
+    (λ opened. let off = frontmatter-cut text is.utf8 opened in cuts-off text _ is off.not_empty off.boundary)
 
 pub shorter : (text : List ℕ) (token : Token) → CutsOff text token → length (drop token.len text) < length text
 shorter text token cuts = let n = cuts.not_empty in let i = cuts.inside in omega (arith, length-drop token.len text)

@@ -1,19 +1,9 @@
 -- Means, by how it is read: scanners. A scanner reads a prefix of a list of characters, and returns what it read and
 -- how many characters it took.
-use Rattle.std.specs.Prelude.{ℕ, suc, ◌≡◌, ◌+◌, ◌≤◌, Bool, true, false, if◌then◌else◌, List, [], ◌∷◌, length, take, drop, Option, Some, None}
+use Rattle.std.specs.Prelude.{ℕ, suc, ◌+◌, Bool, true, false, if◌then◌else◌, List, [], ◌∷◌, length, take, drop, Option, Some, None}
 use Rattle.std.specs.Str.{chars, encode_utf8_all}
 use Rattle.rustc_lexer.specs.{Token, TokenKind}
 pub use Rattle.rustc_lexer.specs.Classes.{begins, next_is}
-
--- what the scanner reads in this text depends on at most `reach` characters after those that it takes. It reads the
--- same in every text that has the same characters up to there, or that ends where this one ends before that
-pub record IsLocalAt (A : Type 0) (reach : ℕ) (scan : List ℕ → A × ℕ) (s : List ℕ) : Type 0 where
-  pub inside : (scan s).1 ≤ length s
-  pub local : (u : List ℕ) → take ((scan s).1 + reach) u ≡ take ((scan s).1 + reach) s → scan u ≡ scan s
-
--- the same for every text
-abbrev pub IsLocal : (A : Type 0) → ℕ → (List ℕ → A × ℕ) → Type 0
-IsLocal A reach scan = (s : List ℕ) → IsLocalAt A reach scan s
 
 -- one scanner, and then the next one on the text that it left
 abbrev pub then_by : {A B : Type 0} → (A × ℕ) → List ℕ → (A → List ℕ → B × ℕ) → B × ℕ

@@ -1,4 +1,4 @@
-use Rattle.std.proofs.Common.{refl, arith}
+use Rattle.std.proofs.Common.{refl, sym, ◌∙◌, true≢false, arith}
 use Rattle.std.proofs.lemmas.Option.{none-some}
 use Rattle.std.proofs.lemmas.Str.{IsCharBoundary-start}
 use Rattle.rustc_lexer.specs.Classes.{IsText}
@@ -6,7 +6,7 @@ use Rattle.rustc_lexer.specs.LanguageText.{Mode, mode_in}
 use Rattle.rustc_lexer.proofs.TextLemmas.{suffixes, texts}
 use Rattle.rustc_lexer.specs.laws.Tokens.{partitions}
 use Rattle.rustc_lexer.proofs.TokensLemmas.{restarts}
-use Rattle.rustc_lexer.proofs.ToldLemmas.{none_tell}
+use Rattle.rustc_lexer.proofs.BitLemmas.{bit-zero}
 use Rattle.rustc_lexer.proofs.entry.tokenize_as.Goals as goal
 
 pub returns : goal.returns
@@ -28,7 +28,7 @@ invariant_of-result c = record {
     bound = IsCharBoundary-start c.args.text.now c.utf8.text;
     behind = omega arith;
     small = omega arith;
-    past = none_tell c.args.text.now 0;
+    past = λ j after set. absurd (true≢false (sym set ∙ bit-zero j));
     next = λ kind e. absurd (none-some kind e);
   };
   part = λ kind e. absurd (none-some kind e);

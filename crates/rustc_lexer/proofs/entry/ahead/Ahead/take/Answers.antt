@@ -1,10 +1,10 @@
-use Rattle.std.proofs.Common.{◌≡◌, ◌+◌, ◌-◌, ℕ, List, length-drop, drop, get_or, sym, ap, subst, ◌∙◌, arith, is_some}
+use Rattle.std.proofs.Common.{◌≡◌, ◌+◌, ℕ, List, length-drop, get_or, sym, ap, subst, ◌∙◌, arith, is_some}
 use Rattle.std.specs.ControlFlow.{continue_value}
 use lib.Count.{count_trailing_zeros}
 use Rattle.rustc_lexer.specs.means.Ends.{IsLowest, StaysWithin, classified}
 use Rattle.rustc_lexer.proofs.BitLemmas.{lowest_is}
 use Rattle.rustc_lexer.proofs.EndsLemmas.{classified_stays}
-use Rattle.rustc_lexer.proofs.ToldLemmas.{TellsNext, all_tell, told_after, told_ahead, told_bound, told_in, told_inside}
+use Rattle.rustc_lexer.proofs.ToldLemmas.{TellsNext, told_after, told_ahead, told_bound, told_in, told_inside}
 use Rattle.rustc_lexer.proofs.entry.ahead.Ahead.take.Goals as goal
 use Rattle.rustc_lexer.proofs.entry.ahead.Ahead.take.Goals.{then-is_some-via-then-is_some, then-is_some-via-else-is_some+then-not-may_continue}
 
@@ -59,7 +59,7 @@ returns-then-is_some c =
         bound = told_bound text at block ends low c.in_ok-kind.kind next;
         behind = omega arith;
         small = omega arith;
-        past = all_tell (drop block text) (block + low - block) c.past_lowest-self.result ahead;
+        past = λ j after set. let r = ahead j set in (r.1, r.2);
         next = λ kind e. record {
           tells = ap classified (sym byte) ∙ (sym c.classified_by-told.ensures ∙ e);
           ahead = ahead;
