@@ -13,7 +13,7 @@ use Rattle.std.proofs.lemmas.Grind.{common_steps}
 use lib.Lanes.{chunk, mask_l}
 use Rattle.unicode_ident.proofs.Computing.{unicode_ident}
 use Rattle.rustc_lexer.specs.{Edition, TokenKind, Ident, Whitespace}
-use Rattle.rustc_lexer.specs.declared.lexemes.classified.TheConstants.{CLASSIFIED}
+use Rattle.rustc_lexer.specs.declared.lexemes.family.TheConstants.{CLASSIFIED}
 use Rattle.rustc_lexer.specs.declared.lexemes.family.Family.{Family}
 use Rattle.rustc_lexer.specs.declared.lexemes.family.Family.TheVariants.{Space, Word, Symbol}
 use Rattle.rustc_lexer.specs.means.Edition.{changed}

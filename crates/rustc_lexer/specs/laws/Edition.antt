@@ -11,7 +11,7 @@ use Rattle.rustc_lexer.specs.Language.{IsTokenBefore}
 use Rattle.rustc_lexer.specs.LanguageText.{IsTokenIn, kept, pound, ident, lifetime, lifetime_r}
 use Rattle.rustc_lexer.specs.laws.Ident.{marks_ident-told}
 use Rattle.rustc_lexer.specs.laws.LanguageIn.{Front, first-front, token-read-in}
-use Rattle.rustc_lexer.specs.laws.LanguageReach.{token-alike}
+use Rattle.rustc_lexer.specs.laws.Language.{token-alike}
 use Rattle.rustc_lexer.specs.laws.Reach.{cut, told_same}
 use Rattle.rustc_lexer.specs.laws.LanguageFront.{split, split-boundary, split-same, Split}
 use Rattle.rustc_lexer.specs.means.Edition.{first_token_in}

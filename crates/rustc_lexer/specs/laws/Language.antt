@@ -1,25 +1,33 @@
--- What is read at the front of a text is a token of the language, and a token of the language is what is read.
-use Rattle.std.proofs.Common.{◌≡◌, ℕ, Bool, true, false, List, [], ◌∷◌, ◌++◌, length, take, drop, codes, refl, sym, ap, ◌∙◌, subst, take-append-drop, arith}
+-- What is read at the front of a text is a token of the language, a token of the language is what is read, and how far it
+-- looks.
+use Rattle.std.proofs.Common.{◌≡◌, ℕ, ◌==◌, Bool, true, false, List, [], ◌∷◌, ◌++◌, length, take, drop, codes, refl, sym, ap, ◌∙◌, subst, take-append-drop, arith, bytes_eq}
 use Rattle.std.proofs.Math.Seq.{take-append_seam}
-use Rattle.std.proofs.lemmas.Bool.{and_parts, eqb-true}
+use Rattle.std.proofs.lemmas.Bool.{and_parts, or_parts, or_from, eqb-true}
+use Rattle.std.proofs.lemmas.List.{append-nil}
+use Rattle.std.specs.Char.{is_ascii_digit}
 use Rattle.std.proofs.lemmas.Grind.{common_steps}
+use Rattle.rustc_lexer.specs.declared.lexemes.family.Family.{Family}
+use Rattle.rustc_lexer.specs.declared.lexemes.family.Family.TheVariants.{Slash, Space, Word, Number, Quote, Str, Emoji, Hash, Symbol}
 use Rattle.rustc_lexer.specs.declared.lexemes.raw.RawPrefix.TheVariants.{Br, Cr}
 use Rattle.rustc_lexer.specs.{LiteralKind, TokenKind, ForcedKeywordIdent}
-use Rattle.rustc_lexer.specs.Classes.{is_id_start, is_id_continue, NextIs}
+use Rattle.rustc_lexer.specs.Classes.{is_whitespace, is_id_start, is_id_continue, NextIs}
+use Rattle.rustc_lexer.specs.Tables.{is_emoji}
 use Rattle.rustc_lexer.specs.means.Ident.{ident_or_unknown_prefix, marks_ident}
 use Rattle.rustc_lexer.specs.laws.Choice.{by_test}
 use Rattle.rustc_lexer.specs.laws.LanguageComments.{space-sound, space-read, hash-sound, pound-read, guarded-read, symbol-read, slash-sound, slash-read, line-read, block-read, open-read}
 use Rattle.rustc_lexer.specs.laws.LanguageLifetimes.{quote-sound, lifetime-read, prefix-read, raw_lifetime-read, char-reads, one-reads, name-reads}
 use Rattle.rustc_lexer.specs.laws.LanguageLiterals.{str-sound, byte-sound, byte_str-sound, c_str-sound, raw_str-sound, raw_byte_str-sound, raw_c_str-sound, number-sound, ReadsLiteral, plain-read, with_suffix-read, str-reads, byte-reads, byte_str-reads, c_str-reads, raw_str-reads, raw_byte_str-reads, raw_c_str-reads, number-reads}
-use Rattle.rustc_lexer.specs.laws.LanguageRuns.{Sound, EachChosen, each_chosen, letters-start}
-use Rattle.rustc_lexer.specs.laws.LanguageWords.{by_letter, no-opening, raw_mark-none, none-raw, ident-sound, invalid-sound, raw_ident-sound, keyword-sound, ident-is_read, prefix-read as word_prefix-read, invalid-read, raw_ident-read, keyword-read}
+use Rattle.rustc_lexer.specs.laws.LanguageReach.{ends, same, stops, goes, past, literal_reach, reach-literal, suffix-alike, literal-looks, literal-alike, no-hash, known-told, by_only, marked_word, mark-told_by}
+use Rattle.rustc_lexer.specs.laws.LanguageRuns.{Sound, letters-start}
+use Rattle.rustc_lexer.specs.laws.LanguageWords.{by_letter, continue-word, no-opening, raw_mark-none, none-raw, ident-sound, invalid-sound, raw_ident-sound, keyword-sound, ident-is_read, prefix-read as word_prefix-read, invalid-read, raw_ident-read, keyword-read}
+use Rattle.rustc_lexer.specs.laws.Reach.{cut}
 use Rattle.rustc_lexer.specs.Language as the
 use Rattle.rustc_lexer.specs.LiteralGrammar as lit
 use Rattle.rustc_lexer.specs.Language.{begins_prefixed, IsTokenBefore}
 use Rattle.rustc_lexer.specs.LiteralGrammar.{IsLiteralBefore}
 use Rattle.rustc_lexer.specs.LanguageText.{TheOnly}
-use Rattle.rustc_lexer.specs.GrammarLaws.{BeginsWith}
-use Rattle.rustc_lexer.specs.means.Lexeme.{is_raw_mark, begins_raw, raw_past_or_ident, letter_r, letter_k, letter_b, letter_c, word, lexeme}
+use Rattle.rustc_lexer.specs.GrammarLaws.{reach, BeginsWith}
+use Rattle.rustc_lexer.specs.means.Lexeme.{is_raw_mark, begins_raw, raw_past_or_ident, letter_r, letter_k, letter_b, letter_c, word, past_first, read_by, lexeme}
 use Rattle.rustc_lexer.specs.means.Literal.{literal}
 use Rattle.rustc_lexer.specs.means.Quoted.{byte_body, byte_str_body, c_str_body}
 use Rattle.rustc_lexer.specs.means.Raw.{raw_literal}
@@ -64,22 +72,29 @@ c-sound s = by_test (Sound 99 s) (begins (codes "\"") s) (literal (after 1 c_str
 word-sound : (c : ℕ) → is_id_start c ≡ true → SoundAll c (word c)
 word-sound c start = by_letter SoundAll c r-sound k-sound b-sound c-sound (λ r k b d s. ident-sound c start s (rw (r, k, b, d) refl))
 
-families-sound : EachChosen SoundAll
-families-sound = record {
-  of_slash = slash-sound;
-  of_space = space-sound;
-  of_word = word-sound;
-  of_number = number-sound;
-  of_quote = quote-sound;
-  of_str = str-sound;
-  of_emoji = invalid-sound;
-  of_hash = hash-sound;
-  of_symbol = λ c e s. the.symbol e;
-}
+-- what is read past a character that chooses this family
+abbrev Reads : ℕ → Family → Type 0
+Reads c f = SoundAll c (read_by f c)
+
+at : (c d : ℕ) (f : Family) → Reads d f → (c == d) ≡ true → Reads c f
+at c d f is e = subst (λ (x : ℕ). Reads x f) (sym (eqb-true c d e)) is
+
+each-sound : (c : ℕ) → SoundAll c (past_first c)
+unfolding past_first
+each-sound c =
+    by_test (Reads c) (c == 47) Slash _ (at c 47 Slash slash-sound)
+    (λ a. by_test (Reads c) (is_whitespace c) Space _ (space-sound c)
+    (λ b. by_test (Reads c) (is_id_start c) Word _ (word-sound c)
+    (λ d. by_test (Reads c) (is_ascii_digit c) Number _ (number-sound c)
+    (λ e. by_test (Reads c) (c == 39) Quote _ (at c 39 Quote quote-sound)
+    (λ f. by_test (Reads c) (c == 34) Str _ (at c 34 Str str-sound)
+    (λ g. by_test (Reads c) (is_emoji c) Emoji _ (invalid-sound c d)
+    (λ h. by_test (Reads c) (c == 35) Hash Symbol (at c 35 Hash hash-sound)
+    (λ i. λ s. the.symbol (rw (a, b, d, e, f, g, h, i) refl)))))))))
 
 pub lexeme-sound : (s : List ℕ) → IsTokenBefore (drop (lexeme s).1 s) (lexeme s).0 (take (lexeme s).1 s)
 lexeme-sound [] = the.end refl
-lexeme-sound (c ∷ s) = each_chosen SoundAll families-sound c s
+lexeme-sound (c ∷ s) = each-sound c s
 
 -- ---- a token is what is read
 
@@ -116,6 +131,37 @@ token-read {next} (the.slash stop) = slash-read next stop
 token-read {next} (the.pound stop) = pound-read next stop
 token-read {next} (the.guarded_prefix {c} is) = guarded-read c next is
 token-read {next} (the.symbol {c} is) = symbol-read c next is
+
+-- ---- how far a token looks
+
+pub token-alike : {next : List ℕ} {kind : TokenKind} {w : List ℕ} → IsTokenBefore next kind w → (other : List ℕ) → take (reach kind w) other ≡ take (reach kind w) next → IsTokenBefore other kind w
+token-alike {next} (the.end none) other e = the.end (ends next other e none)
+token-alike {next} (the.whitespace all stop) other e = the.whitespace all (stops _ next other e stop)
+token-alike {next} (the.line_comment all stop is) other e = the.line_comment all (stops _ next other e stop) is
+token-alike {next} (the.block_comment p is) other e = the.block_comment p is
+token-alike {next} (the.open_comment none never is) other e = the.open_comment (ends next other e none) never is
+token-alike {next} (the.ident is stop none) other e = the.ident is (stops _ next other e stop) (stops _ next other e none)
+token-alike {next} (the.unknown_prefix {w} is go free) other e = by_only (bytes_eq w (codes "k")) other next e
+    (λ is_k two. marked_word next other w is_k is (goes _ next other (cut 1 2 other next (omega arith) two) go) two free)
+    (λ no_k one. the.unknown_prefix is (goes _ next other one go) (grind (arith, common_steps, same, known-told, or_parts, continue-word, and_parts, or_from, no-hash)))
+token-alike {next} (the.invalid_ident start all wrong stop) other e = the.invalid_ident start all wrong (stops _ next other e stop)
+token-alike {next} (the.raw_ident is stop) other e = the.raw_ident is (stops _ next other e stop)
+token-alike {next} (the.forced_keyword is stop) other e = the.forced_keyword is (stops _ next other e stop)
+token-alike {next} (the.lifetime start all stop quote hash) other e = the.lifetime start all (stops _ next other e stop) (stops _ next other e quote) (λ go. hash (goes _ other next (sym e) go))
+token-alike {next} (the.unknown_prefix_lifetime {c} {w} start all hash free) other e = by_only (bytes_eq (c ∷ w) (codes "r")) other next e
+    (λ is_r two. the.unknown_prefix_lifetime start all (goes _ next other (cut 1 2 other next (omega arith) two) hash) (mark-told_by (c ∷ w) is_r next other two free))
+    (λ no_r one. the.unknown_prefix_lifetime start all (goes _ next other one hash) (no-hash 114 c w other all no_r))
+token-alike {next} (the.raw_lifetime is stop) other e = the.raw_lifetime is (stops _ next other e stop)
+token-alike {next} (the.literal {kind} {w} is) other far =
+    let e = subst (λ (k : ℕ). take k other ≡ take k next) (reach-literal kind _ w ∙ ap (literal_reach kind) (sym (append-nil w))) far in the.literal (literal-alike is [] other e)
+token-alike {next} (the.literal_with {kind} {w} {suffix} is suffix_is) other far =
+    let e = subst (λ (k : ℕ). take k other ≡ take k next) (reach-literal kind _ (w ++ suffix)) far in
+    let k : ℕ = literal_reach kind (w ++ suffix) in
+    the.literal_with (literal-alike is suffix (suffix ++ other) (past k suffix next other e)) (suffix-alike suffix_is other (cut 1 k other next (literal-looks is refl suffix) e))
+token-alike {next} (the.slash stop) other e = the.slash (stops _ next other e stop)
+token-alike {next} (the.pound stop) other e = the.pound (stops _ next other e stop)
+token-alike {next} (the.guarded_prefix is) other e = the.guarded_prefix is
+token-alike {next} (the.symbol is) other e = the.symbol is
 
 -- ---- both
 

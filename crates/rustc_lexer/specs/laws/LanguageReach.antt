@@ -1,13 +1,12 @@
 -- How far a token of each kind looks can be read off the conditions of the language on what follows.
 use Rattle.std.proofs.Common.{◌≡◌, ℕ, zero, suc, ◌<◌, ◌==◌, ◌&&◌, if◌then◌else◌, not, Bool, true, false, true≢false, List, [], ◌∷◌, ◌++◌, length, take, drop, codes, refl, sym, ap, ◌∙◌, subst, arith, Option, None, bytes_eq}
-use Rattle.std.proofs.lemmas.Bool.{and_parts, or_parts, or_from, eqb-true}
-use Rattle.std.proofs.lemmas.List.{append-nil}
+use Rattle.std.proofs.lemmas.Bool.{and_parts, or_parts, eqb-true}
 use Rattle.std.specs.List.{list_all, list_any}
 use Rattle.std.proofs.Math.Bool.{and-false, and-true}
 use Rattle.std.proofs.lemmas.Grind.{common_steps}
 use Rattle.rustc_lexer.specs.Classes.{is_among, is_ident, AreAll, NextIs, NextIsNot, is_word_continue, is_name_start, begins_ident_after, ends_prefix}
 use Rattle.unicode_ident.proofs.Computing.{unicode_ident}
-use Rattle.rustc_lexer.specs.{Base, LiteralKind, TokenKind, Int, Float, Char, Literal, UnknownPrefix}
+use Rattle.rustc_lexer.specs.{Base, LiteralKind, Int, Float, Char, Literal, UnknownPrefix}
 use Rattle.rustc_lexer.specs.Language as the
 use Rattle.rustc_lexer.specs.LiteralGrammar as lit
 use Rattle.rustc_lexer.specs.LiteralGrammar.{IsDoubleQuoted, SingleTo, IsSingleQuoted, IsRaw, IsLiteralBefore, IsSuffixBefore}
@@ -19,7 +18,6 @@ use Rattle.rustc_lexer.specs.means.Scan.{begins, next_is}
 use Rattle.rustc_lexer.specs.laws.LanguageLiterals.{HasDigit, number-digit}
 use Rattle.rustc_lexer.specs.laws.LanguageRuns.{either-way, word-no_mark}
 use Rattle.rustc_lexer.specs.laws.LanguageLifetimes.{end-stops}
-use Rattle.rustc_lexer.specs.laws.LanguageWords.{continue-word}
 use Rattle.rustc_lexer.specs.laws.Ident.{marks_ident-told}
 use Rattle.rustc_lexer.specs.means.Ident.{marks_ident}
 use Rattle.rustc_lexer.specs.laws.NumberLongest.{number-looks, number_reach, number-alike}
@@ -27,20 +25,20 @@ use Rattle.rustc_lexer.specs.laws.Reach.{begins-told, cut, told_same, next_is-to
 
 -- ---- one character, and the end
 
-ends : (s u : List ℕ) → take 1 u ≡ take 1 s → s ≡ [] → u ≡ []
+pub ends : (s u : List ℕ) → take 1 u ≡ take 1 s → s ≡ [] → u ≡ []
 ends s [] e none = refl
 ends s (c ∷ u) e none = absurd (let no : 1 ≡ 0 = ap length e ∙ ap (λ (x : List ℕ). length (take 1 x)) none in omega (arith, no))
 
-same : (p : ℕ → Bool) (s u : List ℕ) → take 1 u ≡ take 1 s → next_is p u ≡ next_is p s
+pub same : (p : ℕ → Bool) (s u : List ℕ) → take 1 u ≡ take 1 s → next_is p u ≡ next_is p s
 same p s u e = told_same 1 1 (next_is p) u s (next_is-told p) (omega arith) e
 
-stops : (p : ℕ → Bool) (s u : List ℕ) → take 1 u ≡ take 1 s → NextIsNot p s → NextIsNot p u
+pub stops : (p : ℕ → Bool) (s u : List ℕ) → take 1 u ≡ take 1 s → NextIsNot p s → NextIsNot p u
 stops p s u e stop = same p s u e ∙ stop
 
-goes : (p : ℕ → Bool) (s u : List ℕ) → take 1 u ≡ take 1 s → NextIs p s → NextIs p u
+pub goes : (p : ℕ → Bool) (s u : List ℕ) → take 1 u ≡ take 1 s → NextIs p s → NextIs p u
 goes p s u e go = same p s u e ∙ go
 
-past : (k : ℕ) (w s u : List ℕ) → take k u ≡ take k s → take k (w ++ u) ≡ take k (w ++ s)
+pub past : (k : ℕ) (w s u : List ℕ) → take k u ≡ take k s → take k (w ++ u) ≡ take k (w ++ s)
 past k [] s u e = e
 past zero (c ∷ w) s u e = refl
 past (suc k) (c ∷ w) s u e = ap (λ (xs : List ℕ). c ∷ xs) (past k w s u (cut k (suc k) u s (omega arith) e))
@@ -52,10 +50,10 @@ abbrev is_long_char : List ℕ → Bool
 is_long_char w = next_is is_name_start (drop 1 w) && not (next_is (is_among (codes "'")) (drop 2 w))
 
 -- how far a literal looks, wherever its suffix begins
-abbrev literal_reach : LiteralKind → List ℕ → ℕ
+abbrev pub literal_reach : LiteralKind → List ℕ → ℕ
 literal_reach kind w = reach (Literal kind 0) w
 
-reach-literal : (kind : LiteralKind) (suffix_start : ℕ) (w : List ℕ) → reach (Literal kind suffix_start) w ≡ literal_reach kind w
+pub reach-literal : (kind : LiteralKind) (suffix_start : ℕ) (w : List ℕ) → reach (Literal kind suffix_start) w ≡ literal_reach kind w
 reach-literal kind suffix_start w = grind (arith, common_steps)
 
 -- of each number, what is of an integer and of a float
@@ -110,7 +108,7 @@ raw-alike (lit.unclosed n w none lacks) other ended = lit.unclosed n w (ended re
 raw-alike (lit.no_quote n c out) other ended = lit.no_quote n c out
 raw-alike (lit.no_more n none) other ended = lit.no_more n (ended refl none)
 
-suffix-alike : {next w : List ℕ} → IsSuffixBefore next w → (other : List ℕ) → take 1 other ≡ take 1 next → IsSuffixBefore other w
+pub suffix-alike : {next w : List ℕ} → IsSuffixBefore next w → (other : List ℕ) → take 1 other ≡ take 1 next → IsSuffixBefore other w
 suffix-alike {next} (lit.none stop) other e = lit.none (stops _ next other e stop)
 suffix-alike {next} (lit.some is stop) other e = lit.some is (stops _ next other e stop)
 
@@ -126,10 +124,10 @@ closed-reach : {next : List ℕ} (w : List ℕ) → IsSingleQuoted next true w �
 closed-reach w q stop s = let first : next_is is_name_start (w ++ s) ≡ false = closed-first q refl stop s in rw first refl
 
 -- what may have a suffix looks at something
-literal-looks : {next : List ℕ} {kind : LiteralKind} {takes : Bool} {w : List ℕ} → IsLiteralBefore next kind takes w → takes ≡ true → (s : List ℕ) → 0 < literal_reach kind (w ++ s)
+pub literal-looks : {next : List ℕ} {kind : LiteralKind} {takes : Bool} {w : List ℕ} → IsLiteralBefore next kind takes w → takes ≡ true → (s : List ℕ) → 0 < literal_reach kind (w ++ s)
 literal-looks w0 w1 s = grind (arith, common_steps, number-reach, number-looks, one-reach, closed-reach)
 
-literal-alike : {next : List ℕ} {kind : LiteralKind} {takes : Bool} {w : List ℕ} → IsLiteralBefore next kind takes w → (s other : List ℕ) → take (literal_reach kind (w ++ s)) other ≡ take (literal_reach kind (w ++ s)) next → IsLiteralBefore other kind takes w
+pub literal-alike : {next : List ℕ} {kind : LiteralKind} {takes : Bool} {w : List ℕ} → IsLiteralBefore next kind takes w → (s other : List ℕ) → take (literal_reach kind (w ++ s)) other ≡ take (literal_reach kind (w ++ s)) next → IsLiteralBefore other kind takes w
 literal-alike {next} (lit.number {kind} {w} is) s other e = lit.number (number-stays w (number-digit is) is other (subst (λ (k : ℕ). take k other ≡ take k next) (number-reach is.form (w ++ s)) e))
 literal-alike {next} (lit.str q) s other e = lit.str (double-alike q other e)
 literal-alike {next} (lit.byte_str q) s other e = lit.byte_str (double-alike q other e)
@@ -147,7 +145,7 @@ literal-alike {next} (lit.raw_c_str q) s other e = lit.raw_c_str (raw-alike q ot
 -- ---- prefixes
 
 -- in a word of two characters or more, or of another one, no hash stands behind this character
-no-hash : (d c : ℕ) (w s : List ℕ) → AreAll is_word_continue w → bytes_eq (c ∷ w) (d ∷ []) ≡ false → begins_ident_after (d ∷ 35 ∷ []) (c ∷ w ++ s) ≡ false
+pub no-hash : (d c : ℕ) (w s : List ℕ) → AreAll is_word_continue w → bytes_eq (c ∷ w) (d ∷ []) ≡ false → begins_ident_after (d ∷ 35 ∷ []) (c ∷ w ++ s) ≡ false
 no-hash d c [] s all e = rw (sym (and-true (c == d)) ∙ e) refl
 no-hash d c (x ∷ w) s all e =
     let none : (x == 35) ≡ false = (or_parts (x == 35) _ (word-no_mark x (and_parts (is_word_continue x) (list_all is_word_continue w) all).0)).0 in
@@ -164,7 +162,7 @@ mark-told (l ∷ ls) [] m c u v all mark = by_letter (c == l) refl
     by_letter false e = refl
 mark-told (l ∷ ls) (x ∷ w) m c u v all mark = ap (λ (b : Bool). (x == l) && b) (mark-told ls w m c u v (and_parts (is_word_continue l) (list_all is_word_continue ls) all).1 mark)
 
-known-told : (w : List ℕ) (c : ℕ) (u v : List ℕ) → ends_prefix c ≡ true → list_any (λ prefix. begins prefix (w ++ c ∷ v)) known_prefixes ≡ list_any (λ prefix. begins prefix (w ++ c ∷ u)) known_prefixes
+pub known-told : (w : List ℕ) (c : ℕ) (u v : List ℕ) → ends_prefix c ≡ true → list_any (λ prefix. begins prefix (w ++ c ∷ v)) known_prefixes ≡ list_any (λ prefix. begins prefix (w ++ c ∷ u)) known_prefixes
 unfolding unicode_ident
 known-told w c u v mark = rw (
   mark-told (codes "r") w 34 c u v refl mark,
@@ -179,7 +177,7 @@ known-told w c u v mark = rw (
 ) refl
 
 -- by whether a prefix is the one that looks further
-by_only : {A : Type 0} (b : Bool) (other next : List ℕ) → take (if b then 2 else 1) other ≡ take (if b then 2 else 1) next → (b ≡ true → take 2 other ≡ take 2 next → A) → (b ≡ false → take 1 other ≡ take 1 next → A) → A
+pub by_only : {A : Type 0} (b : Bool) (other next : List ℕ) → take (if b then 2 else 1) other ≡ take (if b then 2 else 1) next → (b ≡ true → take 2 other ≡ take 2 next → A) → (b ≡ false → take 1 other ≡ take 1 next → A) → A
 by_only true other next e two one = two refl e
 by_only false other next e two one = one refl e
 
@@ -189,43 +187,12 @@ one-letter [] d e = absurd (true≢false (sym e))
 one-letter (c ∷ []) d e = ap (λ (x : ℕ). x ∷ []) (eqb-true c d (and_parts (c == d) true e).0)
 one-letter (c ∷ x ∷ w) d e = absurd (true≢false (sym (and_parts (c == d) false e).1))
 
-marked_word : (next other w : List ℕ) → bytes_eq w (codes "k") ≡ true → is_ident w ≡ true → NextIs ends_prefix other → take 2 other ≡ take 2 next → begins_prefixed (w ++ next) ≡ false → IsTokenBefore other UnknownPrefix w
+pub marked_word : (next other w : List ℕ) → bytes_eq w (codes "k") ≡ true → is_ident w ≡ true → NextIs ends_prefix other → take 2 other ≡ take 2 next → begins_prefixed (w ++ next) ≡ false → IsTokenBefore other UnknownPrefix w
 marked_word next other w is_k is go two free =
     let k : w ≡ 107 ∷ [] = one-letter w 107 is_k in
     the.unknown_prefix is go (ap (λ (xs : List ℕ). begins_prefixed (xs ++ other)) k ∙ (told_same 2 2 marks_ident other next marks_ident-told (omega arith) two ∙ (ap (λ (xs : List ℕ). begins_prefixed (xs ++ next)) (sym k) ∙ free)))
 
-mark-told_by : (w : List ℕ) → bytes_eq w (114 ∷ []) ≡ true → (next other : List ℕ) → take 2 other ≡ take 2 next → begins_ident_after (codes "r#") (w ++ next) ≡ false → begins_ident_after (codes "r#") (w ++ other) ≡ false
+pub mark-told_by : (w : List ℕ) → bytes_eq w (114 ∷ []) ≡ true → (next other : List ℕ) → take 2 other ≡ take 2 next → begins_ident_after (codes "r#") (w ++ next) ≡ false → begins_ident_after (codes "r#") (w ++ other) ≡ false
 mark-told_by w is_r next other two free =
     let r : w ≡ 114 ∷ [] = one-letter w 114 is_r in
     ap (λ (xs : List ℕ). begins_ident_after (codes "r#") (xs ++ other)) r ∙ (told_same 2 2 marks_ident other next marks_ident-told (omega arith) two ∙ (ap (λ (xs : List ℕ). begins_ident_after (codes "r#") (xs ++ next)) (sym r) ∙ free))
-
--- ---- tokens
-
-pub token-alike : {next : List ℕ} {kind : TokenKind} {w : List ℕ} → IsTokenBefore next kind w → (other : List ℕ) → take (reach kind w) other ≡ take (reach kind w) next → IsTokenBefore other kind w
-token-alike {next} (the.end none) other e = the.end (ends next other e none)
-token-alike {next} (the.whitespace all stop) other e = the.whitespace all (stops _ next other e stop)
-token-alike {next} (the.line_comment all stop is) other e = the.line_comment all (stops _ next other e stop) is
-token-alike {next} (the.block_comment p is) other e = the.block_comment p is
-token-alike {next} (the.open_comment none never is) other e = the.open_comment (ends next other e none) never is
-token-alike {next} (the.ident is stop none) other e = the.ident is (stops _ next other e stop) (stops _ next other e none)
-token-alike {next} (the.unknown_prefix {w} is go free) other e = by_only (bytes_eq w (codes "k")) other next e
-    (λ is_k two. marked_word next other w is_k is (goes _ next other (cut 1 2 other next (omega arith) two) go) two free)
-    (λ no_k one. the.unknown_prefix is (goes _ next other one go) (grind (arith, common_steps, same, known-told, or_parts, continue-word, and_parts, or_from, no-hash)))
-token-alike {next} (the.invalid_ident start all wrong stop) other e = the.invalid_ident start all wrong (stops _ next other e stop)
-token-alike {next} (the.raw_ident is stop) other e = the.raw_ident is (stops _ next other e stop)
-token-alike {next} (the.forced_keyword is stop) other e = the.forced_keyword is (stops _ next other e stop)
-token-alike {next} (the.lifetime start all stop quote hash) other e = the.lifetime start all (stops _ next other e stop) (stops _ next other e quote) (λ go. hash (goes _ other next (sym e) go))
-token-alike {next} (the.unknown_prefix_lifetime {c} {w} start all hash free) other e = by_only (bytes_eq (c ∷ w) (codes "r")) other next e
-    (λ is_r two. the.unknown_prefix_lifetime start all (goes _ next other (cut 1 2 other next (omega arith) two) hash) (mark-told_by (c ∷ w) is_r next other two free))
-    (λ no_r one. the.unknown_prefix_lifetime start all (goes _ next other one hash) (no-hash 114 c w other all no_r))
-token-alike {next} (the.raw_lifetime is stop) other e = the.raw_lifetime is (stops _ next other e stop)
-token-alike {next} (the.literal {kind} {w} is) other far =
-    let e = subst (λ (k : ℕ). take k other ≡ take k next) (reach-literal kind _ w ∙ ap (literal_reach kind) (sym (append-nil w))) far in the.literal (literal-alike is [] other e)
-token-alike {next} (the.literal_with {kind} {w} {suffix} is suffix_is) other far =
-    let e = subst (λ (k : ℕ). take k other ≡ take k next) (reach-literal kind _ (w ++ suffix)) far in
-    let k : ℕ = literal_reach kind (w ++ suffix) in
-    the.literal_with (literal-alike is suffix (suffix ++ other) (past k suffix next other e)) (suffix-alike suffix_is other (cut 1 k other next (literal-looks is refl suffix) e))
-token-alike {next} (the.slash stop) other e = the.slash (stops _ next other e stop)
-token-alike {next} (the.pound stop) other e = the.pound (stops _ next other e stop)
-token-alike {next} (the.guarded_prefix is) other e = the.guarded_prefix is
-token-alike {next} (the.symbol is) other e = the.symbol is

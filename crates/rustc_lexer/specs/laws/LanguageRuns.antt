@@ -1,5 +1,5 @@
 -- What the language says of runs, and which family the first character of a text chooses.
-use Rattle.std.proofs.Common.{◌≡◌, ℕ, suc, ◌≤◌, ◌<◌, ◌==◌, ◌&&◌, ◌||◌, inl, inr, nat_le, not, Bool, true, false, true≢false, if◌then◌else◌, List, [], ◌∷◌, ◌++◌, length, take, drop, codes, refl, sym, ap, ◌∙◌, subst, arith, take_all}
+use Rattle.std.proofs.Common.{◌≡◌, ℕ, suc, ◌≤◌, ◌<◌, ◌==◌, ◌&&◌, ◌||◌, inl, inr, nat_le, not, Bool, true, false, true≢false, if◌then◌else◌, List, [], ◌∷◌, ◌++◌, length, take, drop, codes, refl, sym, ap, ◌∙◌, arith, take_all}
 use Rattle.std.proofs.Math.Seq.{take-append_seam, drop-append_seam}
 use Rattle.std.proofs.lemmas.Bool.{agree_below_at, and_parts, eqb-true, leb-true, ne_eqb, or_cases, or_parts, or_left, or_right, not-true, false_from_ne_true}
 use Rattle.std.specs.Char.{is_ascii_digit}
@@ -97,7 +97,7 @@ slash-no_start : is_word_start 47 ≡ false
 unfolding unicode_ident is_emoji emoji_ranges
 slash-no_start = refl
 
-chooses : (c : ℕ) (f : Family) → family_of c ≡ f → past_first c ≡ read_by f c
+pub chooses : (c : ℕ) (f : Family) → family_of c ≡ f → past_first c ≡ read_by f c
 unfolding past_first
 chooses c f e = ap (λ g. read_by g c) e
 
@@ -148,38 +148,6 @@ chooses-emoji c f e =
 
 pub chooses-symbol : (c : ℕ) → has_rule c ≡ false → past_first c ≡ read_by Symbol c
 chooses-symbol c e = grind (arith, common_steps, or_parts, chooses)
-
--- what holds of each family, at each character that chooses it
-pub record EachChosen (P : ℕ → (List ℕ → TokenKind × ℕ) → Type 0) : Type 0 where
-  pub of_slash : P 47 (read_by Slash 47)
-  pub of_space : (c : ℕ) → is_whitespace c ≡ true → P c (read_by Space c)
-  pub of_word : (c : ℕ) → is_id_start c ≡ true → P c (read_by Word c)
-  pub of_number : (c : ℕ) → is_ascii_digit c ≡ true → P c (read_by Number c)
-  pub of_quote : P 39 (read_by Quote 39)
-  pub of_str : P 34 (read_by Str 34)
-  pub of_emoji : (c : ℕ) → is_id_start c ≡ false → is_emoji c ≡ true → P c (read_by Emoji c)
-  pub of_hash : P 35 (read_by Hash 35)
-  pub of_symbol : (c : ℕ) → has_rule c ≡ false → P c (read_by Symbol c)
-
-branch : (P : ℕ → (List ℕ → TokenKind × ℕ) → Type 0) (c : ℕ) (test : Bool) (f g : Family) → (test ≡ true → P c (read_by f c)) → (test ≡ false → P c (read_by g c)) → P c (read_by (if test then f else g) c)
-branch P c true f g here there = here refl
-branch P c false f g here there = there refl
-
-at : (P : ℕ → (List ℕ → TokenKind × ℕ) → Type 0) (c d : ℕ) (f : Family) → P d (read_by f d) → (c == d) ≡ true → P c (read_by f c)
-at P c d f is e = subst (λ (x : ℕ). P x (read_by f x)) (sym (eqb-true c d e)) is
-
-pub each_chosen : (P : ℕ → (List ℕ → TokenKind × ℕ) → Type 0) → EachChosen P → (c : ℕ) → P c (past_first c)
-unfolding past_first
-each_chosen P each c =
-    branch P c (c == 47) Slash _ (at P c 47 Slash each.of_slash)
-    (λ a. branch P c (is_whitespace c) Space _ (each.of_space c)
-    (λ b. branch P c (is_id_start c) Word _ (each.of_word c)
-    (λ d. branch P c (is_ascii_digit c) Number _ (each.of_number c)
-    (λ e. branch P c (c == 39) Quote _ (at P c 39 Quote each.of_quote)
-    (λ f. branch P c (c == 34) Str _ (at P c 34 Str each.of_str)
-    (λ g. branch P c (is_emoji c) Emoji _ (each.of_emoji c d)
-    (λ h. branch P c (c == 35) Hash Symbol (at P c 35 Hash each.of_hash)
-    (λ i. each.of_symbol c (rw (a, b, d, e, f, g, h, i) refl)))))))))
 
 -- ---- tokens
 

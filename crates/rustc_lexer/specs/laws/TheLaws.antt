@@ -1,9 +1,8 @@
 -- The laws of the grammar, and where each is proved.
 use Rattle.std.proofs.Common.{refl}
 use Rattle.rustc_lexer.specs.GrammarLaws.{TheLaws}
-use Rattle.rustc_lexer.specs.laws.Language.{begins-one}
+use Rattle.rustc_lexer.specs.laws.Language.{begins-one, token-alike}
 use Rattle.rustc_lexer.specs.laws.LanguageIn.{newest_has}
-use Rattle.rustc_lexer.specs.laws.LanguageReach.{token-alike}
 use Rattle.rustc_lexer.specs.laws.TheAnswers.{the_tokens, the_first}
 
 abbrev pub the_laws : TheLaws

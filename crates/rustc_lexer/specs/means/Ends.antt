@@ -9,7 +9,7 @@ use Rattle.rustc_lexer.specs.{Edition, FrontmatterAllowed, Token, TokenKind, Ide
 use Rattle.rustc_lexer.specs.Classes.{Fits}
 use Rattle.rustc_lexer.specs.means.ByteRuns.{is_continue_byte, is_space_byte}
 use Rattle.rustc_lexer.specs.means.Edition.{first_token_in}
-use Rattle.rustc_lexer.specs.means.Lexeme.{family_of, symbol_kind}
+pub use Rattle.rustc_lexer.specs.means.Lexeme.{family_of, symbol_kind}
 use Rattle.rustc_lexer.specs.means.Quick.{is_space_lead, turns_word}
 
 unfoldable pub bit : ℕ → ℕ → Bool

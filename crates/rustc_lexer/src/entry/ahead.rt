@@ -3,7 +3,8 @@ ghost use Rattle.std.specs.Prelude.{◌≡◌, ◌+◌, ◌≤◌, ◌-◌, drop
 ghost use Rattle.rustc_lexer.specs.means.Ends.{AreEndsPast, IsUntold, TakesTold, TellsAhead};
 
 use crate::kernels::ends_of_runs;
-use crate::lexemes::classified::{classified_by, ends_after, may_continue, past_lowest};
+use crate::lexemes::classified::{ends_after, may_continue, past_lowest};
+use crate::lexemes::family::classified_by;
 use crate::token::{Token, TokenKind};
 
 /// How many bytes are searched at once for the ends of runs. For fewer bytes the search costs more than it saves.

@@ -6,8 +6,7 @@ ghost use Rattle.rustc_lexer.specs.means.Quick.{BeginsWithNoHash, IsFirstBy};
 ghost use Rattle.rustc_lexer.specs.means.Scan;
 
 use crate::kernels::{Continue, Space, ends_space, ends_word, run_end, short_run_end};
-use crate::lexemes::classified::symbol_kind;
-use crate::lexemes::family::{Family, family_of_byte};
+use crate::lexemes::family::{Family, family_of_byte, symbol_kind};
 use crate::token::{Token, TokenKind};
 
 /// Returns the first token of the text if the bytes of one run and the byte after it determine its kind. For a hash they

@@ -1,8 +1,7 @@
 //! The first token of a text: its first character chooses it, and most families of tokens have a function.
 
-use crate::erased::lexemes::classified::symbol_kind;
 use crate::erased::lexemes::comment::slash;
-use crate::erased::lexemes::family::{Family, family_of};
+use crate::erased::lexemes::family::{Family, family_of, symbol_kind};
 use crate::erased::lexemes::ident::invalid_ident;
 use crate::erased::lexemes::lifetime::lifetime_or_char;
 use crate::erased::lexemes::number::number;
@@ -15,7 +14,7 @@ use crate::erased::token::{Token, TokenKind};
 mod block_comment;
 pub(crate) mod classified;
 mod comment;
-mod family;
+pub(crate) mod family;
 pub(crate) mod ident;
 mod lifetime;
 pub(crate) mod literal;

@@ -1,7 +1,8 @@
 //! The place of the iterator in its text, and the tokens past it that the ends of runs tell, 64 bytes at a time.
 
 use crate::erased::kernels::ends_of_runs;
-use crate::erased::lexemes::classified::{classified_by, ends_after, may_continue, past_lowest};
+use crate::erased::lexemes::classified::{ends_after, may_continue, past_lowest};
+use crate::erased::lexemes::family::classified_by;
 use crate::erased::token::{Token, TokenKind};
 
 /// How many bytes are searched at once for the ends of runs. For fewer bytes the search costs more than it saves.

@@ -1,8 +1,7 @@
 //! The most common tokens, found by their bytes alone: identifiers, white space, hashes and symbols.
 
 use crate::erased::kernels::{Continue, Space, ends_space, ends_word, run_end, short_run_end};
-use crate::erased::lexemes::classified::symbol_kind;
-use crate::erased::lexemes::family::{Family, family_of_byte};
+use crate::erased::lexemes::family::{Family, family_of_byte, symbol_kind};
 use crate::erased::token::{Token, TokenKind};
 
 /// Returns the first token of the text if the bytes of one run and the byte after it determine its kind. For a hash they

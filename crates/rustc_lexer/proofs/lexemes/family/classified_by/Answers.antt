@@ -1,5 +1,5 @@
 use Rattle.rustc_lexer.proofs.EndsLemmas.{classified_table}
-use Rattle.rustc_lexer.proofs.lexemes.classified.classified_by.Goals as goal
+use Rattle.rustc_lexer.proofs.lexemes.family.classified_by.Goals as goal
 
 pub returns : goal.returns
 returns c = classified_table c.args.first _ c.ranges.first.fits
