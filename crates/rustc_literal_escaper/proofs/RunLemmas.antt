@@ -52,9 +52,7 @@ pub ruleset simple_lemmas = (passes-simple, simple-all-fine)
 module _ (raw : Bool) (total : ℕ) where
   -- each is one byte
   place-run : (run s : List ℕ) → list_all (is_simple raw) run ≡ true → place total (run ++ s) ≡ place total s - length run
-  place-run run s e =
-      let n = ap length (encodes-append run s ∙ ap (λ xs. xs ++ encode_utf8_all s) (encodes-IsAscii run (simple-ascii raw run e))) ∙ length-append run (encode_utf8_all s) in
-      omega arith
+  place-run run s e = grind (arith, common_steps, encodes-append run s, encodes-IsAscii run (simple-ascii raw run e), length-append run (encode_utf8_all s))
 
   items-run : (run s : List ℕ) → list_all (is_simple raw) run ≡ true → items_from (front_by raw) total (run ++ s) ≡ plain_items (place total s) run ++ items_from (front_by raw) total s
   items-run [] s e = refl

@@ -18,10 +18,7 @@ use Rattle.rustc_literal_escaper.specs.means.Escape.{braced, closed, closed_at_r
 pub run-is : (p : ℕ → Bool) (w s : List ℕ) → list_all p w ≡ true → next_is p s ≡ false → (front_run p (w ++ s) ≡ w) × (past_run p (w ++ s) ≡ s)
 run-is p [] [] all stops = (refl, refl)
 run-is p [] (c ∷ s) all stops = (rw stops refl, rw stops refl)
-run-is p (c ∷ w) s all stops =
-    let parts = and_parts (p c) (list_all p w) all in
-    let rest = run-is p w s parts.1 stops in
-    (rw parts.0 (ap (λ xs. c ∷ xs) rest.0), rw parts.0 rest.1)
+run-is p (c ∷ w) s all stops = grind (arith, common_steps, and_parts, run-is p w s)
 
 pub run-cut : (p : ℕ → Bool) (s : List ℕ) → s ≡ front_run p s ++ past_run p s
 run-cut p [] = refl

@@ -1,4 +1,4 @@
-use Rattle.std.proofs.Common.{sym, true, List, arith, ◌++◌, ap, ◌∙◌}
+use Rattle.std.proofs.Common.{sym, List, arith, ◌++◌, ap, ◌∙◌}
 use Rattle.std.proofs.lemmas.Bool.{cond-true}
 use Rattle.std.proofs.lemmas.List.{append-nil}
 use Rattle.std.specs.Str.{chars}
