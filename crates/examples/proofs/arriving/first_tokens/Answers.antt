@@ -1,7 +1,8 @@
-use Rattle.std.proofs.Common.{rules, ap, length, arith}
-use Rattle.std.proofs.lemmas.Grind.{common_steps}
+use Rattle.std.proofs.lemmas.Str.{IsCharBoundary-start}
+use Rattle.std.proofs.Common.{ap, sym, ◌∙◌, length, arith}
 use Rattle.rustc_lexer.specs.declared.edition.Edition.TheVariants.{E2024}
 use Rattle.rustc_lexer.specs.LanguageText.{part}
+use Rattle.rustc_lexer.specs.State.{State}
 use Rattle.rustc_lexer.specs.Tokens.{tokens_of, tokens_left}
 use Rattle.rustc_lexer.proofs.PlaceLemmas.{stands_past}
 use Rattle.examples.proofs.ArrivingLemmas.{taken_more, taken_none, taken_start}
@@ -9,7 +10,12 @@ use Rattle.examples.proofs.arriving.first_tokens.Goals as goal
 use Rattle.examples.proofs.arriving.first_tokens.Goals.{in-None, in-Some+then-start-place}
 
 pub loop-token-init : goal.loop-token-init
-loop-token-init c = grind (arith, common_steps, rules, taken_start)
+loop-token-init c =
+    let start = c.into_iter-token-iterator.ensures.into_iter_gives ∙ c.tokenize-token-items.ensures.state in
+    record {
+      place = (IsCharBoundary-start c.args.text.now c.utf8.text, sym (ap (λ (s : State). s.rest) start));
+      taken = taken_start _ _ _ _ c.new-first.ensures.items (ap tokens_left start);
+    }
 
 pub loop-token-preserved : goal.loop-token-preserved
 loop-token-preserved c =
