@@ -1,5 +1,5 @@
 -- How far a text is relexed, as numbers and back.
-use Rattle.std.proofs.Common.{◌≡◌, ◌≢◌, ℕ, ◌+◌, ◌-◌, ◌<◌, ◌≤◌, Bool, true, if◌then◌else◌, eqb, List, ◌++◌, length, map, take, drop, sym, ap, ◌∙◌, subst, arith, take-add}
+use Rattle.std.proofs.Common.{◌≡◌, ◌≢◌, ℕ, ◌+◌, ◌-◌, ◌<◌, ◌≤◌, true, List, ◌++◌, length, map, take, drop, sym, ap, ◌∙◌, subst, arith, take-add}
 use Rattle.std.proofs.lemmas.Grind.{common_steps}
 use Rattle.std.proofs.lemmas.List.{length-map, length-take-le, drop_at, take-map, drop-map}
 use Rattle.rustc_lexer.specs.declared.edition.Edition.{Edition}
@@ -24,19 +24,9 @@ use Rattle.rustc_lexer_c.specs.declared.token.CToken.{CToken}
 use Rattle.rustc_lexer_c.specs.Numbers.{token_numbers}
 use Rattle.rustc_lexer_c.specs.Relex.{IsPassed, IsRelexBatch, change_of, front_of, lexed_before, numbers_of, relexing_of, written}
 
--- the stage tells whether it is over
-abbrev pub stage_of : Bool → ℕ
-stage_of over = if over then 2 else 1
-
-pub stage_over : (over : Bool) → eqb (stage_of over) 2 ≡ over
-stage_over over = grind (arith, common_steps)
-
-pub stage_met : (over : Bool) → stage_of over ≡ 2 → over ≡ true
-stage_met over e = grind (arith, common_steps)
-
 -- the numbers are those of where it stands
 relex_back : (text : List ℕ) (n : ℕ) (at : Relexing) → at.back.number ≤ n → is_over text at ≡ at.met → relexing_of n (numbers_of text n at) ≡ at
-relex_back text n at few over = grind (arith, common_steps, stage_over)
+relex_back text n at few over = grind (arith, common_steps)
 
 -- what this call wrote comes behind what was written
 written_more : (new : List Token) (front before count lexed : ℕ) (buffer filled : List CToken) → lexed ≡ before + count → front + lexed ≤ length new → filled ≡ map token_numbers (take count (drop (front + before) new)) ++ drop count buffer → written new front lexed ≡ written new front before ++ take count filled
@@ -93,10 +83,10 @@ module _ (edition : Edition) (text : List ℕ) (old : List CToken) (change : CEd
           more = written_more (tokens_of (part edition) text) at.front.number (lexed_before c) count at.lexed buffer filled (omega arith) so.0.inside filled_is;
           few = (relexed_of first before change.start change.old_stop insert, found, few_lexed law before lens insert text (change_of change) is at at_stands);
           counts = λ e.
-              let met = counts_met law before lens insert text (change_of change) is at at_stands (sym over ∙ stage_met (is_over text at) e) in
+              let met = counts_met law before lens insert text (change_of change) is at at_stands (grind (arith, common_steps)) in
               subst (IsRelexed (part_by first) before change.start change.old_stop insert) (met.1 ∙ ap (λ (n : ℕ). let r : Relexed = record { kept_front = at.front.number; lexed = at.lexed; kept_back = n - at.back.number } in r) (sym met.0 ∙ many)) found;
           list = λ e are.
-              let met = counts_met law before lens insert text (change_of change) is at at_stands (sym over ∙ stage_met (is_over text at) e) in
+              let met = counts_met law before lens insert text (change_of change) is at at_stands (grind (arith, common_steps)) in
               list_whole (tokens_by first before) (tokens_by first text) at (length old - (length old - at.back.number)) old back are met.2;
         };
   }
