@@ -7,9 +7,7 @@ use Rattle.rustc_lexer.specs.laws.Reach.{IsToldBy}
 
 -- a mark has two characters, so each closed comment has
 pub two_at_least : {s : List ℕ} {n : ℕ} → Closes s n → 2 ≤ n
-two_at_least at_mark = omega arith
-two_at_least (nested p q) = omega arith
-two_at_least (past_one e f p) = omega (arith, two_at_least p)
+two_at_least w0 = grind (arith, common_steps)
 
 pub closes-inside : {s : List ℕ} {n : ℕ} → Closes s n → n ≤ length s
 closes-inside at_mark = omega arith

@@ -22,7 +22,6 @@ use Rattle.rustc_lexer.specs.laws.LanguageRuns.{Sound, letters-start}
 use Rattle.rustc_lexer.specs.laws.LanguageWords.{by_letter, continue-word, no-opening, raw_mark-none, none-raw, ident-sound, invalid-sound, raw_ident-sound, keyword-sound, ident-is_read, prefix-read as word_prefix-read, invalid-read, raw_ident-read, keyword-read}
 use Rattle.rustc_lexer.specs.laws.Reach.{cut}
 use Rattle.rustc_lexer.specs.Language as the
-use Rattle.rustc_lexer.specs.LiteralGrammar as lit
 use Rattle.rustc_lexer.specs.Language.{begins_prefixed, IsTokenBefore}
 use Rattle.rustc_lexer.specs.LiteralGrammar.{IsLiteralBefore}
 use Rattle.rustc_lexer.specs.LanguageText.{TheOnly}
@@ -99,17 +98,7 @@ lexeme-sound (c ∷ s) = each-sound c s
 -- ---- a token is what is read
 
 literal-reads : {next : List ℕ} {kind : LiteralKind} {takes : Bool} {w : List ℕ} → IsLiteralBefore next kind takes w → ReadsLiteral next kind takes w
-literal-reads {next} (lit.number {kind} {w} is) = number-reads next kind w is
-literal-reads {next} (lit.str {t} {w} q) = str-reads next t w q
-literal-reads {next} (lit.byte_str {t} {w} q) = byte_str-reads t w q
-literal-reads {next} (lit.c_str {t} {w} q) = c_str-reads t w q
-literal-reads {next} (lit.byte_char {t} {w} q) = byte-reads t w q
-literal-reads {next} (lit.char_of_one {c} out) = one-reads next c out
-literal-reads {next} (lit.char {t} {w} q stop) = char-reads t w q stop
-literal-reads {next} (lit.char_of_name {c} {d} w start all) = name-reads next c d w start all
-literal-reads {next} (lit.raw_str {n} {w} q free) = raw_str-reads next n w q free
-literal-reads {next} (lit.raw_byte_str {n} {w} q) = raw_byte_str-reads n w q
-literal-reads {next} (lit.raw_c_str {n} {w} q) = raw_c_str-reads n w q
+literal-reads w0 = search (arith, number-reads, str-reads, byte_str-reads, c_str-reads, byte-reads, one-reads, char-reads, name-reads, raw_str-reads, raw_byte_str-reads, raw_c_str-reads)
 
 pub token-read : {next : List ℕ} {kind : TokenKind} {w : List ℕ} → IsTokenBefore next kind w → lexeme (w ++ next) ≡ (kind, length w)
 token-read {next} (the.end none) = ap lexeme none

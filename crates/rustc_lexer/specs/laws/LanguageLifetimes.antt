@@ -182,9 +182,7 @@ empty-or [] next e f = f
 empty-or (c ∷ w) next e f = e
 
 pub end-stops : (d : ℕ) (end next : List ℕ) {w : List ℕ} → lit.SingleTo (d ∷ end) w → NextIsNot is_name_start w → NextIsNot is_name_start (w ++ next)
-end-stops d end next ends e = e
-end-stops d end next (plain out q) e = e
-end-stops d end next (escape q) e = e
+end-stops d end next w0 w1 = grind (arith, common_steps)
 
 -- nor does what follows it, if it is empty
 next-stops : {next : List ℕ} {t : Bool} {w : List ℕ} → IsSingleQuoted next t w → NextIsNot is_name_start w → NextIsNot is_name_start (w ++ next)

@@ -26,7 +26,7 @@ use Rattle.rustc_lexer.specs.LiteralGrammar.{hashes, IsDoubleQuoted, IsSingleQuo
 use Rattle.rustc_lexer.specs.Language.{IsTokenBefore}
 use Rattle.rustc_lexer.specs.means.Lexeme.{is_raw_mark, word}
 use Rattle.rustc_lexer.specs.means.Literal.{Body, suffix_len, suffixed, literal_past, literal}
-use Rattle.rustc_lexer.specs.means.Number.{with_suffix, number_kind, number_body, number}
+use Rattle.rustc_lexer.specs.means.Number.{number_kind, number}
 use Rattle.rustc_lexer.specs.NumberGrammar.{IsWholePart, HasNumberForm, of_prefix, of_parts, IsNumberBefore}
 use Rattle.rustc_lexer.specs.means.Quoted.{double_quoted_string, single_quoted_string, quoted_body, str_body, byte_str_body, c_str_body, byte_body}
 use Rattle.rustc_lexer.specs.means.Raw.{raw_read, accepted, is_accepted, raw_body, prefix_kind, prefix_len, raw_literal}
@@ -226,9 +226,7 @@ form-digit (of_prefix whole) = whole-digit whole
 form-digit (of_parts {whole = w} {tail = t} whole is) = let d = whole-digit whole in record { first = d.first; rest = d.rest ++ t; whole = ap (λ (xs : List ℕ). xs ++ t) d.whole; digit = d.digit }
 
 first-reads : (next : List ℕ) (kind : LiteralKind) (c : ℕ) (v : List ℕ) → is_ascii_digit c ≡ true → IsNumberBefore next kind (c ∷ v) → ReadsLiteral next kind true (c ∷ v)
-first-reads next kind c v digit is =
-    read-first c (number c) (v ++ next) _ _ _ (chooses-number c digit)
-    (past-read (c ∷ []) v next 1 kind true (number_body c (v ++ next)) (ap (λ (r : LiteralKind × ℕ). let b : Body × ℕ = (with_suffix r.0, r.1) in b) (number-is c v digit is)) (bytes-letter c (digit-one c digit))) (omega arith)
+first-reads next kind c v digit is = grind (arith, common_steps, read-first, chooses-number, past-read, number-is, bytes-letter, digit-one)
 
 pub number-digit : {next : List ℕ} {kind : LiteralKind} {w : List ℕ} → IsNumberBefore next kind w → HasDigit w
 number-digit is = form-digit is.form

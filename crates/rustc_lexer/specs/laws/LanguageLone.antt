@@ -1,11 +1,12 @@
 -- Lone dashes: the pass over a text finds the first that the language has.
-use Rattle.std.proofs.Common.{◌≡◌, ℕ, zero, suc, ◌≤◌, ◌==◌, ◌&&◌, ◌||◌, not, inl, inr, Bool, true, false, true≢false, List, [], ◌∷◌, ◌++◌, reverse, length, take, drop, codes, refl, sym, ap, ◌∙◌, subst, arith, append_assoc, length-drop, Option}
+use Rattle.std.proofs.Common.{◌≡◌, ℕ, zero, suc, ◌≤◌, ◌==◌, ◌&&◌, ◌||◌, not, inl, inr, Bool, true, false, true≢false, List, [], ◌∷◌, ◌++◌, reverse, length, take, drop, codes, refl, sym, ap, ◌∙◌, subst, arith, append_assoc, length-drop}
 use Rattle.std.proofs.Math.Bool.{and-false}
 use Rattle.std.proofs.Math.Seq.{take-append_seam, drop-append_seam}
 use Rattle.std.proofs.lemmas.Bool.{and_parts, eqb-true, or_cases, not-true, false_from_ne_true}
 use Rattle.std.proofs.lemmas.List.{append-nil, reverse-append, reverse-reverse}
 use Rattle.std.proofs.lemmas.List.Folds.{list_all-append}
 use Rattle.std.specs.List.{list_all}
+use Rattle.std.proofs.lemmas.Grind.{common_steps}
 use Rattle.rustc_lexer.specs.Classes.{is_horizontal_whitespace, Chars, AreAll}
 use Rattle.rustc_lexer.specs.FrontmatterGrammar as the
 use Rattle.rustc_lexer.specs.FrontmatterGrammar.{fence, IsEdge, IsLone}
@@ -89,10 +90,7 @@ blanks-stand (c ∷ w) r all e =
     ap standing (ap (λ (u : Chars). u ++ r) (reverse-append (c ∷ []) w) ∙ append_assoc (reverse w) (c ∷ []) r) ∙ blanks-stand w (c ∷ r) parts.1 (by_either (c == 10) (λ f. rw f refl) (λ f. rw (f, parts.0, e) refl))
 
 pub lone-told : (u v : Chars) → IsLone u v → lone_at [] (length u) (u ++ v) ≡ true
-lone-told u v (the.lone edge blanks after is all here) =
-    let w : Chars = edge ++ blanks in
-    let stands : standing (reverse (edge ++ blanks)) ≡ true = ap standing (reverse-append edge blanks) ∙ blanks-stand blanks (reverse edge) all (edge-stands is) in
-    lone_at-text ((edge ++ blanks) ++ after) (length (edge ++ blanks)) ∙ rw (take-append_seam (edge ++ blanks) after, drop-append_seam (edge ++ blanks) after, stands, here) refl
+lone-told u v w0 = search (arith, reverse-append, blanks-stand, edge-stands, lone_at-text, take-append_seam, drop-append_seam)
 
 pub told-lone : (s : Chars) (i : ℕ) → lone_at [] i s ≡ true → IsLone (take i s) (drop i s)
 told-lone s i e =
@@ -130,9 +128,7 @@ over blank c r s none at = record {
 -- over three dashes that are not lone
 past_three : (r s : List ℕ) → standing r ≡ false → begins (fence 1) r ≡ false → first_lone true 0 s ≡ least (λ i. lone_at (45 ∷ 45 ∷ 45 ∷ r) i s) (length s)
     → first_lone false 0 (fence 3 ++ s) ≡ least (λ i. lone_at r i (fence 3 ++ s)) (length (fence 3 ++ s))
-past_three r s told fresh e =
-    let two : begins (fence 2) r ≡ false = false_from_ne_true _ (λ t. either-way (begins (fence 1) r) (fewer 1 r t) fresh) in
-    rw (told, two, fresh) (ap (λ (o : Option ℕ). one_more (one_more (one_more o))) e)
+past_three r s told fresh e = grind (arith, common_steps, false_from_ne_true, fewer)
 
 lone-least : (fuel : ℕ) (blank : Bool) (r s : List ℕ) → length s ≤ fuel → IsAt blank r s → first_lone blank 0 s ≡ least (λ i. lone_at r i s) (length s)
 lone-least fuel blank r [] le at = refl

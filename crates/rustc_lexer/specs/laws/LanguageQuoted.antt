@@ -96,9 +96,7 @@ single-free : (s : List ℕ) → is_lone_stop s ≡ false → single_quoted_stri
 single-free s none = by_either (is_lone s) (λ e. rw e (sym (lone-passed s none e))) (λ e. rw e refl)
 
 no-lone_stop : {end w : List ℕ} → SingleTo end w → (next : List ℕ) → (w ≡ end → is_lone_stop (w ++ next) ≡ false) → is_lone_stop (w ++ next) ≡ false
-no-lone_stop ends next at_end = at_end refl
-no-lone_stop (plain {c} out q) next at_end = let parts = or_parts (c == 39) _ out in rw (parts.0, (or_parts (c == 47) _ parts.1).0) refl
-no-lone_stop (escape q) next at_end = refl
+no-lone_stop w0 next w1 = grind (arith, common_steps, or_parts)
 
 -- up to an end
 single-to : {end w : List ℕ} → SingleTo end w → (next : List ℕ) (t : Bool) → (w ≡ end → is_lone_stop (w ++ next) ≡ false) → past_quote (end ++ next) ≡ (t, length end) → single_quoted_string (w ++ next) ≡ (t, length w)

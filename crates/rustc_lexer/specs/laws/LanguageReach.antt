@@ -193,6 +193,4 @@ marked_word next other w is_k is go two free =
     the.unknown_prefix is go (ap (λ (xs : List ℕ). begins_prefixed (xs ++ other)) k ∙ (told_same 2 2 marks_ident other next marks_ident-told (omega arith) two ∙ (ap (λ (xs : List ℕ). begins_prefixed (xs ++ next)) (sym k) ∙ free)))
 
 pub mark-told_by : (w : List ℕ) → bytes_eq w (114 ∷ []) ≡ true → (next other : List ℕ) → take 2 other ≡ take 2 next → begins_ident_after (codes "r#") (w ++ next) ≡ false → begins_ident_after (codes "r#") (w ++ other) ≡ false
-mark-told_by w is_r next other two free =
-    let r : w ≡ 114 ∷ [] = one-letter w 114 is_r in
-    ap (λ (xs : List ℕ). begins_ident_after (codes "r#") (xs ++ other)) r ∙ (told_same 2 2 marks_ident other next marks_ident-told (omega arith) two ∙ (ap (λ (xs : List ℕ). begins_ident_after (codes "r#") (xs ++ next)) (sym r) ∙ free))
+mark-told_by w is_r next other two free = grind (arith, common_steps, one-letter, told_same, marks_ident-told)

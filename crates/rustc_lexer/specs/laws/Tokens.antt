@@ -9,7 +9,6 @@ use Rattle.rustc_lexer.specs.Partition.{bound, Partitions}
 use Rattle.rustc_lexer.specs.means.Tokens.{cut, tokens_of_document, read_tokens}
 use Rattle.rustc_lexer.specs.LanguageText.{Mode, document, part, mode_after}
 use Rattle.rustc_lexer.specs.laws.Edition.{edition_grammar}
-use Rattle.rustc_lexer.specs.means.Edition.{first_token_in}
 use Rattle.rustc_lexer.specs.means.Taking.{token_at}
 use Rattle.rustc_lexer.specs.laws.Cuts.{tokens-nil as part-nil, tokens-cons as part-cons}
 use Rattle.rustc_lexer.specs.laws.Frontmatter.{frontmatter-cut, token_at-either}
@@ -51,13 +50,11 @@ cut-enough (document edition) (suc m) (suc n) (c ∷ cs) is a b =
 
 cut-all : (mode : Mode) (n : ℕ) (text : List ℕ) → IsText text → length text ≤ n → cut mode n text ≡ read_tokens mode text
 unfolding tokens_of_document
-cut-all (part edition) n text is le = refl
-cut-all (document edition) n text is le = cut-enough (document edition) n (length text) text is le (omega arith)
+cut-all mode n text w0 w1 = grind (arith, common_steps, cut-enough)
 
 pub tokens-nil : (mode : Mode) → read_tokens mode [] ≡ []
 unfolding tokens_of_document
-tokens-nil (part edition) = part-nil (first_token_in edition)
-tokens-nil (document edition) = refl
+tokens-nil mode = grind (arith, common_steps, part-nil)
 
 -- the tokens of a text: its first one, and those of what is left
 pub tokens-cons : (mode : Mode) (text : List ℕ) → IsText text → 0 < length text
