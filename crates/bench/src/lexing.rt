@@ -110,11 +110,7 @@ fn with_fields(kind: u8, fields: u64) -> u64 {
 
 /// Returns the number of two fields: that of the first, and so much more if the second is set.
 fn two_numbers(first: u64, weight: u64, second: bool) -> u64 {
-    if second {
-        first.wrapping_add(weight)
-    } else {
-        first
-    }
+    first.wrapping_add(if second { weight } else { 0 })
 }
 
 fn style_number(style: Option<DocStyle>) -> u64 {
@@ -127,8 +123,5 @@ fn style_number(style: Option<DocStyle>) -> u64 {
 
 /// Returns how many hashes there are, or 256 if their number is not valid.
 fn hashes_number(hashes: Option<u8>) -> u64 {
-    match hashes {
-        None => 256,
-        Some(n) => u64::from(n),
-    }
+    hashes.map_or(256, u64::from)
 }

@@ -1,5 +1,5 @@
 //! Documents that are kept with their tokens: what is left of them after memory is refused.
-use crate::{EditRow, are_pieces, are_tokens, edit, relexed};
+use crate::{EditRow, are_pieces, edit, relexed};
 use lex_vectors::steppers::Counting;
 use rustc_lexer::{
     EditStop, Edition, LexedDocument, Relexed, Stepper, fits, strip_shebang, tokenize_document,
@@ -35,7 +35,7 @@ fn is_held<S: Stepper>(held: &LexedDocument<S>, edition: Edition, text: &str) ->
     let rest = &text[start..];
     held.shebang_len() == start
         && are_pieces(held.pieces(), tokenize_document(text, edition), rest)
-        && are_tokens(held.tokens(), tokenize_document(text, edition))
+        && tokenize_document(text, edition).eq(held.tokens().iter().copied())
 }
 
 /// Returns whether an edit had these counts and made this text, or was refused memory and left the other text.

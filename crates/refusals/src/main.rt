@@ -19,7 +19,7 @@ use crate::lexing::lexing_holds;
 use ends::past_name;
 use lex_vectors::steppers::Counting;
 use rustc_lexer::{
-    EditStop, Edition, LexedText, Pieces, Relexed, Stepper, Steps, Token, Tokens, fits, tokenize_in,
+    EditStop, Edition, LexedText, Pieces, Relexed, Stepper, Steps, Tokens, fits, tokenize_in,
 };
 use std::alloc::{AllocError, Global};
 use std::{env, io};
@@ -76,23 +76,12 @@ fn are_pieces(pieces: Pieces<'_>, tokens: Tokens<'_>, text: &str) -> bool {
     left.is_empty() && tokens.next().is_none()
 }
 
-/// Returns whether a list has these tokens.
-fn are_tokens(list: &[Token], tokens: Tokens<'_>) -> bool {
-    let mut tokens = tokens;
-    for token in list {
-        if tokens.next() != Some(*token) {
-            return false;
-        }
-    }
-    tokens.next().is_none()
-}
-
 /// Returns whether the text is kept with its tokens of the edition, and its pieces make it up.
 fn is_held<S: Stepper>(lexed: &LexedText<S>, edition: Edition, text: &str) -> bool {
     lexed.text() == text
         && fits(text)
         && are_pieces(lexed.pieces(), tokenize_in(text, edition), text)
-        && are_tokens(lexed.tokens(), tokenize_in(text, edition))
+        && tokenize_in(text, edition).eq(lexed.tokens().iter().copied())
 }
 
 /// Returns whether the edit makes what it should, or leaves all as it was if memory is refused.
