@@ -72,7 +72,7 @@ static void check_edits(relex_call *relex) {
         CHECK(edit_held(relex, &held, 12, 13, "- 1 -", 2024, buffer_len) == RUSTC_LEXER_OK);
         CHECK(is_from_scratch(&held) && held.count == 16);
         CHECK(held.relexing.kept_front == 6 && held.relexing.lexed == 7 && held.relexing.kept_back == 3);
-        CHECK(held.relexing.front_place == 9 && held.relexing.back_place == 13 && held.relexing.at == 17);
+        CHECK(held.relexing.front_offset == 9 && held.relexing.back_offset == 13 && held.relexing.at == 17);
         CHECK(held.relexing.stage == RUSTC_LEXER_STAGE_DONE);
         CHECK(edit_held(relex, &held, 0, 0, "/*", 2024, buffer_len) == RUSTC_LEXER_OK);
         CHECK(is_from_scratch(&held) && held.count == 1 && held.relexing.kept_back == 0);
@@ -107,7 +107,7 @@ static void check_long_edit(relex_call *relex) {
         CHECK(written == 301 && memcmp(lexed, whole, written * sizeof whole[0]) == 0);
         CHECK(memcmp(&old[1], &whole[301], sizeof old[1]) == 0);
         CHECK(relexing.kept_front == 0 && relexing.lexed == 301 && relexing.kept_back == 1);
-        CHECK(relexing.front_place == 0 && relexing.back_place == 1 && relexing.at == 301);
+        CHECK(relexing.front_offset == 0 && relexing.back_offset == 1 && relexing.at == 301);
         CHECK(relexing.stage == RUSTC_LEXER_STAGE_DONE);
     }
 }

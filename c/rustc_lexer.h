@@ -194,10 +194,10 @@ enum {
 /* How far an edited text is lexed again. Begin with all zeros. */
 struct rustc_lexer_relexing {
     size_t kept_front;  /* how many old tokens stay at the front; at STAGE_BEGIN, see rustc_lexer_relex */
-    size_t front_place; /* where they end, in bytes from the start of the text */
+    size_t front_offset; /* where they end, in bytes from the start of the text */
     size_t lexed;       /* how many tokens all calls together have written */
     size_t kept_back;   /* at STAGE_DONE: how many old tokens stay at the back */
-    size_t back_place;  /* at STAGE_DONE: where those begin, in bytes from the start of the old text */
+    size_t back_offset;  /* at STAGE_DONE: where those begin, in bytes from the start of the old text */
     size_t at;          /* where what was written ends, in bytes from the start of the present text; at STAGE_DONE
                            the tokens at the back begin there */
     size_t stage;       /* RUSTC_LEXER_STAGE_.. */
@@ -317,7 +317,7 @@ struct rustc_lexer_token rustc_lexer_first_token_unchecked(const uint8_t *text, 
  * tokens this call wrote; at _MORE it is `buffer_len`. With `buffer_len` 0 a call writes no token, so such calls alone
  * may never reach _DONE.
  *
- * At _BEGIN the search for the kept front begins at token `kept_front` of `old`, which begins at `front_place`. Pass 0
+ * At _BEGIN the search for the kept front begins at token `kept_front` of `old`, which begins at `front_offset`. Pass 0
  * and 0, or what the call for the edit before left there: the nearer to the edit, the faster.
  *
  * Of `old` only the lengths are read. If they are not those of the tokens of the text before the edit, in the edition,
@@ -332,7 +332,7 @@ struct rustc_lexer_token rustc_lexer_first_token_unchecked(const uint8_t *text, 
  * that `start` is greater than one of the others, that `start` or `new_stop` is past the end of the text or inside a
  * character, or that at a later stage relexing cannot continue from the numbers: `at` is past the end of the text or
  * inside a character, `lexed` is more than `at`, `kept_front` and `kept_back` together are more than `old_len`, or
- * `back_place` is 2 to the power of 63 or more. Numbers that a call left for this text are never refused. A stage
+ * `back_offset` is 2 to the power of 63 or more. Numbers that a call left for this text are never refused. A stage
  * greater than _DONE counts as _MORE.
  *
  * Each call tests the whole text. */

@@ -55,7 +55,7 @@ int main(void) {
     if (edit_held(&held, 0, 0, "#!/bin/sh\nlet ab = cd + ef;") != RUSTC_LEXER_OK ||
         edit_held(&held, 22, 23, "- 1 -") != RUSTC_LEXER_OK)
         return 1;
-    size_t start = held.head.body + held.relexing.front_place;
+    size_t start = held.head.body + held.relexing.front_offset;
     size_t front = held.head.count + held.relexing.kept_front;
     for (size_t i = front; i < front + held.relexing.lexed; i++) {
         printf("%zu %u %s\n", start, held.tokens[i].len, rustc_lexer_kind_name(held.tokens[i].kind));

@@ -142,7 +142,7 @@ impl Source {
             Held::Document(texts) => texts[edition].token_at(byte),
         };
         found.map_or((self.tokens(edition).len(), self.text().len()), |at| {
-            (at.number, at.place)
+            (at.number, at.offset)
         })
     }
 

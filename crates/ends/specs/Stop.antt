@@ -53,15 +53,15 @@ exit_status status (Ok done) = 0
 exit_status status (Err stop) = status stop
 
 -- what is printed about an outcome: the line of its stop, if it has one
-abbrev pub told : {S : Type 0} → (S → List ℕ) → Result (Unit {0}) S → List ℕ
-told line (Ok done) = []
-told line (Err stop) = line stop
+abbrev pub reported : {S : Type 0} → (S → List ℕ) → Result (Unit {0}) S → List ℕ
+reported line (Ok done) = []
+reported line (Err stop) = line stop
 
 -- an outcome was reported, by the statuses and the lines of its stops. If the writer is `sound`, which means that it
 -- has never failed, all of the line was written. The known bytes of the writer grew from `old` to `new`
 pub record Told {S : Type 0} (status_of : S → ℕ) (line_of : S → List ℕ) (outcome : Result (Unit {0}) S) (answer : ℕ) (sound : Type 0) (flushed : Bool) (old new : Option (List ℕ)) : Type 0 where
   pub status : answer ≡ exit_status status_of outcome
-  pub line : sound → Appends old new (told line_of outcome)
-  pub front : AppendsFront old new (told line_of outcome)
+  pub line : sound → Appends old new (reported line_of outcome)
+  pub front : AppendsFront old new (reported line_of outcome)
   -- after a stop, the last call of the writer was a flush that succeeded
   pub heard : OnErr outcome (sound → flushed ≡ true)

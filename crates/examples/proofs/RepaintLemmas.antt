@@ -77,7 +77,7 @@ module _ {first : List ℕ → Token} (law : IsGrammar first) (text : List ℕ) 
       let i : ℕ = at.old_number in
       let order = edit.inside.start_le_stop in
       let past : start + length insert ≤ bound new met = at.past_edit in
-      let place = at.same_place in
+      let place = at.same_offset in
       let there : bound old i ≡ bound new met - (start + length insert) + stop = omega arith in
       let a : bound old i ≡ 0 + bound old i = omega arith in
       let b : bound new met ≡ 0 + bound new met = omega arith in

@@ -96,7 +96,7 @@ fn heads(rt: HostRuntime) -> Result<(), AllocError> {
         let lexed = LexedDocument::new(rt.alloc(), text)?;
         let body = Bound {
             number: *number,
-            place: *place,
+            offset: *place,
         };
         assert!(rt;
             lexed.shebang_len() == *shebang && lexed.body() == body,

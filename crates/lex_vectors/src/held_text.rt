@@ -36,9 +36,9 @@ fn pieces_of_a_text(rt: HostRuntime) -> Result<(), AllocError> {
 }
 
 /// Returns whether the token at the offset has this number and this start.
-fn is_at<S: Stepper>(lexed: &LexedText<S>, offset: usize, number: usize, place: usize) -> bool {
+fn is_at<S: Stepper>(lexed: &LexedText<S>, offset: usize, number: usize, start: usize) -> bool {
     match lexed.token_at(offset) {
-        Some(at) => at.number == number && at.place == place,
+        Some(at) => at.number == number && at.offset == start,
         None => false,
     }
 }

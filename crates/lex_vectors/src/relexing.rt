@@ -17,7 +17,7 @@ fn a_list_of_the_caller(rt: HostRuntime) {
     assert!(rt; change.may_make(text));
     let front = Bound {
         number: 0,
-        place: 0,
+        offset: 0,
     };
     let mut steps = Steps::new();
     let mut buffer = [token(Eof, 0); 2];

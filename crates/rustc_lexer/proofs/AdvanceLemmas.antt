@@ -35,8 +35,8 @@ nothing_left mode (b ∷ bs) is none = let some = ap length (sym none ∙ tokens
 module _ (pending : ℕ) (tokens : State) (is : IsCursor pending tokens) (s : State) (view : state pending tokens.rest tokens.mode ≡ s) where
   -- past some of the text that is left, with at most these bytes pending as well
   pub passed : (rest : List ℕ) → rest ≡ s.rest → (len left : ℕ) → IsCharBoundary rest len → left ≤ pending + len → (t : State) → t ≡ record tokens { rest = drop len tokens.rest } → IsCursor left t
-  passed rest place len left boundary few t e =
-      let within : IsCharBoundary tokens.rest len = subst (λ xs. IsCharBoundary xs len) (place ∙ sym (ap (λ (x : State). x.rest) view)) boundary in
+  passed rest offset len left boundary few t e =
+      let within : IsCharBoundary tokens.rest len = subst (λ xs. IsCharBoundary xs len) (offset ∙ sym (ap (λ (x : State). x.rest) view)) boundary in
       let shorter = length-drop len tokens.rest in
       let fits = is.fits in
       subst (IsCursor left) (sym e) record {

@@ -122,7 +122,7 @@ followed-at q h n few k l = bit-and q _ k ∙ ap (λ t. bit q k && t) (bit-or (h
     any (suc zero) le = bit-zero k
     any (suc (suc n)) le = absurd (omega arith)
 
--- ---- bits past a place, of a word of 64 bits
+-- ---- bits past an offset, of a word of 64 bits
 
 module _ (x n : ℕ) where
   pub past-first : bit (bit_and (x / 2 ^ n) high) 0 ≡ false

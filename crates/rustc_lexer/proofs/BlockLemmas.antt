@@ -14,7 +14,7 @@ use Rattle.rustc_lexer.proofs.BoundLemmas.{bound_mono, rises}
 use Rattle.rustc_lexer.proofs.BufferLemmas.{filled_all}
 use Rattle.rustc_lexer.specs.laws.Cuts.{at_bound, tokens-cons}
 use Rattle.rustc_lexer.proofs.FrontLemmas.{bound-shift}
-use Rattle.rustc_lexer.proofs.ProgressLemmas.{IsLexedTo, IsPlace, lexed_place}
+use Rattle.rustc_lexer.proofs.ProgressLemmas.{IsLexedTo, IsOffset, lexed_offset}
 
 -- what stands at the front of a buffer that was filled with tokens as they are
 pub record IsFront (tokens : List Token) (filled : List Token) (count : ℕ) : Type 0 where
@@ -50,35 +50,35 @@ module _ {first : List ℕ → Token} (law : IsGrammar first) where
       omega (arith, rises law text is 0 many, bound_mono tokens 1 count one)
 
   -- the tokens of a block stand behind those that were lexed before it
-  pub lexed_block : (text left : List ℕ) (items block : List Token) (place count bytes : ℕ) → IsText text → IsLexedTo first text items place → left ≡ drop place text → count ≤ length (tokens_by first left)
-      → block ≡ take count (tokens_by first left) → bytes ≡ bound (tokens_by first left) count → IsLexedTo first text (items ++ block) (place + bytes)
-  lexed_block text left items block place count bytes is at here few block_is bytes_is =
+  pub lexed_block : (text left : List ℕ) (items block : List Token) (offset count bytes : ℕ) → IsText text → IsLexedTo first text items offset → left ≡ drop offset text → count ≤ length (tokens_by first left)
+      → block ≡ take count (tokens_by first left) → bytes ≡ bound (tokens_by first left) count → IsLexedTo first text (items ++ block) (offset + bytes)
+  lexed_block text left items block offset count bytes is at here few block_is bytes_is =
       grind (arith, common_steps, at_bound, length-append, length-take-le, length-drop, take-add, bound-shift)
 
 -- one block more
-pub record IsBlock (first : List ℕ → Token) (text : List ℕ) (items filled : List Token) (place count bytes : ℕ) : Type 0 where
-  pub more : IsLexedTo first text (items ++ take count filled) (place + bytes)
+pub record IsBlock (first : List ℕ → Token) (text : List ℕ) (items filled : List Token) (offset count bytes : ℕ) : Type 0 where
+  pub more : IsLexedTo first text (items ++ take count filled) (offset + bytes)
   pub number : length (take count filled) ≡ count
-  pub few : place + bytes ≤ length text
+  pub few : offset + bytes ≤ length text
   pub some : 0 < bytes
 
 -- a stepper whose grammar is the one that it had at first fills the buffer with the tokens of what is left
-pub block_more : {first now : List ℕ → Token} (law : IsGrammar first) (text left : List ℕ) (items buffer filled : List Token) (place count bytes : ℕ) → now ≡ first → IsText text → IsLexedTo first text items place → place < length text → left ≡ drop place text → 0 < length buffer
-    → (end : ℕ) → end ≡ length text - place → IsFilledTo (λ (t : Token). t) end (tokens_by now left) buffer filled count → bytes ≡ bound (tokens_by now left) count → IsBlock first text items filled place count bytes
-block_more {first} {now} law text left items buffer filled place count bytes same is at more here places end whole fills long =
+pub block_more : {first now : List ℕ → Token} (law : IsGrammar first) (text left : List ℕ) (items buffer filled : List Token) (offset count bytes : ℕ) → now ≡ first → IsText text → IsLexedTo first text items offset → offset < length text → left ≡ drop offset text → 0 < length buffer
+    → (end : ℕ) → end ≡ length text - offset → IsFilledTo (λ (t : Token). t) end (tokens_by now left) buffer filled count → bytes ≡ bound (tokens_by now left) count → IsBlock first text items filled offset count bytes
+block_more {first} {now} law text left items buffer filled offset count bytes same is at more here places end whole fills long =
     let tokens : List Token = tokens_by first left in
-    let spot : IsPlace text place = lexed_place law text items place is at in
+    let spot : IsOffset text offset = lexed_offset law text items offset is at in
     let left_is : IsText left = subst IsText (sym here) spot.past in
-    let all : end ≡ length left = omega (arith, whole, ap length here, length-drop place text) in
+    let all : end ≡ length left = omega (arith, whole, ap length here, length-drop offset text) in
     let full : IsFilled (λ (t : Token). t) tokens buffer filled count =
     filled_all law (λ (t : Token). t) left left_is end all buffer filled count (subst (λ (f : List ℕ → Token). IsFilledTo (λ (t : Token). t) end (tokens_by f left) buffer filled count) same fills) in
     let bytes_is : bytes ≡ bound tokens count = long ∙ ap (λ (f : List ℕ → Token). bound (tokens_by f left) count) same in
     let front : IsFront tokens filled count = filled_front tokens buffer filled count full in
-    let some_left : 0 < length left = omega (arith, ap length here, length-drop place text) in
-    let next = lexed_block law text left items (take count filled) place count bytes is at here front.few front.front bytes_is in
+    let some_left : 0 < length left = omega (arith, ap length here, length-drop offset text) in
+    let next = lexed_block law text left items (take count filled) offset count bytes is at here front.few front.front bytes_is in
     record {
       more = next;
       number = length-take-le count filled front.within;
-      few = (lexed_place law text _ _ is next).inside;
+      few = (lexed_offset law text _ _ is next).inside;
       some = subst (λ n. 0 < n) (sym bytes_is) (some_bytes law left left_is some_left (length buffer) count places full.as_many);
     }

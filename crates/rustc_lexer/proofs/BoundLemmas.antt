@@ -17,9 +17,9 @@ use Rattle.rustc_lexer.specs.laws.Choice.{by_either}
 use Rattle.rustc_lexer.specs.laws.Cuts.{IsCutAt, at_bound, tokens-cons, tokens-nil}
 use Rattle.rustc_lexer.proofs.ProgressLemmas.{IsNext, next-from_drop}
 
--- whether the place is 0 or the end of a token
+-- whether the offset is 0 or the end of a token
 abbrev pub is_bound : List Token → ℕ → Bool
-is_bound tokens place = list_any (eqb place) (0 ∷ ends_from 0 tokens)
+is_bound tokens offset = list_any (eqb offset) (0 ∷ ends_from 0 tokens)
 
 bound_among : (from : ℕ) (ts : List Token) (i p : ℕ) → from + bound ts i ≡ p → list_any (eqb p) (from ∷ ends_from from ts) ≡ true
 bound_among from ts zero p e = rw (eq-eqb p from (omega arith)) refl
@@ -52,7 +52,7 @@ among-bound from ts p e = by_either (eqb p from)
 pub is_bound-elim : (ts : List Token) (p : ℕ) → is_bound ts p ≡ true → (i : ℕ) × (i ≤ length ts) × (bound ts i ≡ p)
 is_bound-elim ts p e = let at = among-bound 0 ts p e in let there = at.2 in (at.0, at.1, omega arith)
 
--- where every bound before number n is below the place, and number n is not, the place is a bound only if it is that one
+-- where every bound before number n is below the offset, and number n is not, the offset is a bound only if it is that one
 pub is_bound-decide : (ts : List Token) (n p : ℕ) → n ≤ length ts → ((i : ℕ) → i < n → bound ts i < p) → (n < length ts → p ≤ bound ts n) → is_bound ts p ≡ eqb (bound ts n) p
 is_bound-decide ts n p few below reached =
     grind (arith, common_steps, is_bound-intro, eqb-true, is_bound-elim, eq-eqb, leb_tells, eq-or-lt_of_le, bound_mono)
@@ -77,7 +77,7 @@ number_le_bound ts (suc k) few up = omega (arith, up k (omega arith), number_le_
 pub count-cons : {X : Type 0} (test : X → Bool) (x : X) (xs : List X) → count_by test (x ∷ xs) ≡ cond (test x) 1 0 + count_by test xs
 count-cons test x xs = grind (arith, common_steps, sum_by_from)
 
--- how many of the tokens end past the place: all that begin past it, and all behind the bound that it is
+-- how many of the tokens end past the offset: all that begin past it, and all behind the bound that it is
 ends_past-all : (from : ℕ) (ts : List Token) (p : ℕ) → p < from → count_by (ltb p) (ends_from from ts) ≡ length ts
 ends_past-all from [] p less = refl
 ends_past-all from (t ∷ ts) p less =

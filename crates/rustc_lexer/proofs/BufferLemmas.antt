@@ -17,7 +17,7 @@ use Rattle.rustc_lexer.specs.means.Edition.{first_token_in}
 use Rattle.rustc_lexer.specs.means.Taking.{token_at, advance_by, take_next}
 use Rattle.rustc_lexer.specs.laws.Edition.{edition_grammar}
 use Rattle.rustc_lexer.specs.laws.Cuts.{IsCutAt, at_bound, tokens-cons, tokens-nil}
-use Rattle.rustc_lexer.proofs.ProgressLemmas.{IsPlace, next-from_drop}
+use Rattle.rustc_lexer.proofs.ProgressLemmas.{IsOffset, next-from_drop}
 use Rattle.rustc_lexer.specs.laws.State.{state, edition-after}
 
 -- the first `count` tokens are written, and the rest of the buffer is as it was
@@ -43,33 +43,33 @@ whole_buffer written tokens buffer filled count is = sym (take-append-drop count
 pub all_written : {X : Type 0} (written : Token → X) (tokens : List Token) (buffer filled : List X) (count : ℕ) → IsWritten written tokens buffer filled count → length tokens ≤ count → IsFilled written tokens buffer filled count
 all_written written tokens buffer filled count is all = grind (arith, common_steps, min-eq_right, whole_buffer)
 
--- the tokens that begin before a place are written, and no other is left to be, or no room
+-- the tokens that begin before an offset are written, and no other is left to be, or no room
 pub begun_more : (tokens : List Token) (count at end : ℕ) → at ≡ bound tokens count → at < end → ((k : ℕ) → k < count → bound tokens k < end) → (k : ℕ) → k < count + 1 → bound tokens k < end
-begun_more tokens count at end place more begun k less = grind (arith, common_steps, cases_lt)
+begun_more tokens count at end offset more begun k less = grind (arith, common_steps, cases_lt)
 
 pub written_to : {X : Type 0} (written : Token → X) (end : ℕ) (tokens : List Token) (buffer filled : List X) (count at : ℕ) → IsWritten written tokens buffer filled count → at ≡ bound tokens count → ((k : ℕ) → k < count → bound tokens k < end) → (count < length filled → end ≤ at) → IsFilledTo written end tokens buffer filled count
-written_to written end tokens buffer filled count at is place begun done = grind (arith, common_steps, whole_buffer)
+written_to written end tokens buffer filled count at is offset begun done = grind (arith, common_steps, whole_buffer)
 
 -- ---- where the tokens end in the text
 
-module _ {first : List ℕ → Token} (law : IsGrammar first) (text : List ℕ) (is : IsText text) (count at : ℕ) (place : at ≡ bound (tokens_by first text) count) where
+module _ {first : List ℕ → Token} (law : IsGrammar first) (text : List ℕ) (is : IsText text) (count at : ℕ) (offset : at ≡ bound (tokens_by first text) count) where
   cut : IsCutAt first text (tokens_by first text) count
   cut = at_bound law count text is
 
-  pub stands : IsPlace text at
-  stands = rw place record { inside = cut.inside; boundary = IsCharBoundary-from_drop text _ cut.inside cut.past.utf8; front = cut.front; past = cut.past }
+  pub stands : IsOffset text at
+  stands = rw offset record { inside = cut.inside; boundary = IsCharBoundary-from_drop text _ cut.inside cut.past.utf8; front = cut.front; past = cut.past }
 
   pub next_token : at < length text → drop count (tokens_by first text) ≡ first (drop at text) ∷ tokens_by first (drop (first (drop at text)).len (drop at text))
   next_token more =
       let some : 0 < length (drop at text) = omega (arith, length-drop at text) in
-      cut.rest ∙ (ap (λ p. tokens_by first (drop p text)) (sym place) ∙ tokens-cons law (drop at text) stands.past some)
+      cut.rest ∙ (ap (λ p. tokens_by first (drop p text)) (sym offset) ∙ tokens-cons law (drop at text) stands.past some)
 
-  pub next_place : at < length text → at + (first (drop at text)).len ≡ bound (tokens_by first text) (count + 1)
-  next_place more = grind (arith, common_steps, next_token, next-from_drop _ count _ _ (next_token more))
+  pub next_offset : at < length text → at + (first (drop at text)).len ≡ bound (tokens_by first text) (count + 1)
+  next_offset more = grind (arith, common_steps, next_token, next-from_drop _ count _ _ (next_token more))
 
   pub over : length text ≤ at → length (tokens_by first text) ≤ count
   over all =
-      let none : drop (bound (tokens_by first text) count) text ≡ [] = drop_all _ text (omega (arith, place)) in
+      let none : drop (bound (tokens_by first text) count) text ≡ [] = drop_all _ text (omega (arith, offset)) in
       let gone : drop count (tokens_by first text) ≡ [] = cut.rest ∙ (ap (tokens_by first) none ∙ tokens-nil first) in
       let no : length (drop count (tokens_by first text)) ≡ 0 = ap length gone in
       omega (arith, length-drop count (tokens_by first text))

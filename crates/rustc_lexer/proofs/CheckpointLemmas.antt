@@ -28,13 +28,13 @@ module _ (old new : List Token) (kept met now : Bound) (is : IsReplaced old new 
   kept_stays = front_stays kept (omega arith) is.kept_bound
 
   -- a bound of the kept back moves with the one that was met
-  pub back_moves : (at : Bound) → met.number ≤ at.number → IsBound old at → IsBound new (record { number = at.number - met.number + now.number; place = at.place - met.place + now.place })
+  pub back_moves : (at : Bound) → met.number ≤ at.number → IsBound old at → IsBound new (record { number = at.number - met.number + now.number; offset = at.offset - met.offset + now.offset })
   back_moves at past here =
       let m : ℕ = at.number - met.number in
       let there : met.number + m ≡ at.number = omega arith in
       let turned : now.number + m ≡ m + now.number = omega arith in
       let long : length (drop now.number new) ≡ length (drop met.number old) = ap length is.back in
-      let before : at.place ≡ bound old met.number + bound (drop met.number old) m = here.1 ∙ (ap (bound old) (sym there) ∙ bound-shift old met.number m) in
+      let before : at.offset ≡ bound old met.number + bound (drop met.number old) m = here.1 ∙ (ap (bound old) (sym there) ∙ bound-shift old met.number m) in
       let after : bound new (m + now.number) ≡ bound new now.number + bound (drop met.number old) m =
       ap (bound new) (sym turned) ∙ (bound-shift new now.number m ∙ ap (λ ts. bound new now.number + bound ts m) is.back) in (
         omega (arith, long, here.0, is.met_bound.0, is.now_bound.0, length-drop now.number new, length-drop met.number old),
@@ -50,9 +50,9 @@ module _ {first : List ℕ → Token} (law : IsGrammar first) (text : List ℕ) 
   -- what an edit puts in place of the tokens between, of which there are `size`: the checkpoints can be moved, and stay
   -- checkpoints
   pub replaced_for : (old : List Token) (new : List ℕ) (lexed list : List Token) (kept met : Bound) (size end : ℕ) (checkpoints : Checkpoints) → old ≡ tokens_by first text → new ≡ apply text start stop insert → list ≡ take kept.number old ++ (lexed ++ drop met.number old) → size ≡ length lexed
-      → kept.number ≤ length old → kept.place ≡ bound old kept.number → met.place ≡ bound old met.number → end ≡ bound (tokens_by first new) (kept.number + length lexed)
+      → kept.number ≤ length old → kept.offset ≡ bound old kept.number → met.offset ≡ bound old met.number → end ≡ bound (tokens_by first new) (kept.number + length lexed)
       → IsMet first old new stop (start + length insert) kept.number (take kept.number old ++ lexed) met.number → AreBounds old checkpoints
-      → All (IsMovable met (record { number = kept.number + size; place = end })) checkpoints.bounds × IsReplaced old list kept met (record { number = kept.number + size; place = end })
+      → All (IsMovable met (record { number = kept.number + size; offset = end })) checkpoints.bounds × IsReplaced old list kept met (record { number = kept.number + size; offset = end })
   replaced_for old new lexed list kept met size end checkpoints e f made size_is few kept_at met_at end_is is_met are =
       let front : List Token = take kept.number old in
       let short : length front ≡ kept.number = length-take-le kept.number old few in
@@ -61,11 +61,11 @@ module _ {first : List ℕ → Token} (law : IsGrammar first) (text : List ℕ) 
       let count = ap length split in
       let whole : list ≡ tokens_by first (apply text start stop insert) = made ∙ put_together law text is start stop insert its edit old new lexed met.number kept.number e f is_met in
       let number_is : kept.number + length lexed ≡ kept.number + size = omega (arith, size_is) in
-      let place_is : end ≡ bound list (kept.number + size) = end_is ∙ (ap (bound (tokens_by first new)) number_is ∙ ap (λ ts. bound ts (kept.number + size)) (ap (tokens_by first) f ∙ sym whole)) in
-      let replaced : IsReplaced old list kept met (record { number = kept.number + size; place = end }) = record {
+      let offset_is : end ≡ bound list (kept.number + size) = end_is ∙ (ap (bound (tokens_by first new)) number_is ∙ ap (λ ts. bound ts (kept.number + size)) (ap (tokens_by first) f ∙ sym whole)) in
+      let replaced : IsReplaced old list kept met (record { number = kept.number + size; offset = end }) = record {
         kept_bound = (few, kept_at);
         met_bound = (is_met.number_bound, met_at);
-        now_bound = (omega (arith, count, long, length-append (front ++ lexed) (drop met.number old)), place_is);
+        now_bound = (omega (arith, count, long, length-append (front ++ lexed) (drop met.number old)), offset_is);
         kept_le = omega arith;
         front = ap (take kept.number) made ∙ take_at front (lexed ++ drop met.number old) kept.number short;
         back = ap (drop (kept.number + size)) split ∙ drop_at (front ++ lexed) (drop met.number old) (kept.number + size) long;

@@ -197,8 +197,8 @@ module _ {heads : List ℕ → Head} {first : List ℕ → Token} (law : IsGramm
 
     back_with : (k : ℕ) → k ≡ length (tokens_of_head now) + (at.front.number + at.lexed) → drop k new ≡ drop (length tokens - (c - at.back.number)) tokens
     back_with k e =
-        let place : n + at.back.number ≡ length tokens - (c - at.back.number) = omega (arith, c_is, r.renewed.lexed_is.stands.back_bound.0, ap length b.old_body, sizes.2, b.inside) in
-        ap₂ drop e new_is ∙ (drop-append-add (tokens_of_head now) r.behind (at.front.number + at.lexed) ∙ (renewed_back law b.old_body whole_made whole_renewed ∙ (drop-drop at.back.number n tokens ∙ ap (λ i. drop i tokens) place)))
+        let offset : n + at.back.number ≡ length tokens - (c - at.back.number) = omega (arith, c_is, r.renewed.lexed_is.stands.back_bound.0, ap length b.old_body, sizes.2, b.inside) in
+        ap₂ drop e new_is ∙ (drop-append-add (tokens_of_head now) r.behind (at.front.number + at.lexed) ∙ (renewed_back law b.old_body whole_made whole_renewed ∙ (drop-drop at.back.number n tokens ∙ ap (λ i. drop i tokens) offset)))
 
     pub counted_back : drop ((counted kept n m counts).kept_front + (counted kept n m counts).lexed) new ≡ drop (length tokens - (counted kept n m counts).kept_back) tokens
     counted_back = rw counts_are (by_kept kept refl)

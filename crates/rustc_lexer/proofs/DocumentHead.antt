@@ -1,9 +1,9 @@
 -- The head of a document by its tokens: those up to the frontmatter.
 use Rattle.std.proofs.Common.{◌≡◌, ℕ, zero, suc, ◌+◌, ◌-◌, Bool, not, true, false, true≢false, List, [], ◌∷◌, ◌++◌, length, length-drop, drop, refl, sym, ap, ◌∙◌, arith, chars, Option, None, Some, IsCharBoundary}
 use Rattle.std.proofs.lemmas.Bool.{not-true}
-use Rattle.rustc_lexer.specs.{Edition, Token, TokenKind}
+use Rattle.rustc_lexer.specs.{Edition, Token, TokenKind, Whitespace}
 use Rattle.rustc_lexer.specs.declared.relex.head.Head.{Head}
-use Rattle.rustc_lexer.specs.Classes.{IsText}
+use Rattle.rustc_lexer.specs.Classes.{IsText, bytes}
 use Rattle.rustc_lexer.specs.Document.{is_frontmatter, shebang_len, document_tokens, head_count}
 use Rattle.rustc_lexer.specs.means.Document.{front_tokens, head_of, tokens_of_head}
 use Rattle.rustc_lexer.specs.Language as the
@@ -36,9 +36,19 @@ stays-part : (mode : Mode) (kind : TokenKind) → is_document mode ≡ false →
 stays-part (part edition) kind e = refl
 stays-part (document edition) kind e = absurd (true≢false e)
 
+-- where the frontmatter is the first token, the second one, or none
+head_count-first : (t : Token) (ts : List Token) → is_frontmatter t.kind ≡ true → head_count (t ∷ ts) ≡ 1
+head_count-first t ts is = grind (arith, common_steps)
+
+head_count-second : (s t : Token) (ts : List Token) → is_frontmatter s.kind ≡ false → is_frontmatter t.kind ≡ true → head_count (s ∷ t ∷ ts) ≡ 2
+head_count-second s t ts other is = grind (arith, common_steps)
+
+head_count-later : (t : Token) (ts : List Token) → is_frontmatter t.kind ≡ false → head_count ts ≡ 0 → head_count (t ∷ ts) ≡ 0
+head_count-later t ts other none = grind (arith, common_steps)
+
 no-front : {mode : Mode} {cs : List ℕ} {tokens : List Token} → AreTokens mode cs tokens → is_document mode ≡ false → head_count tokens ≡ 0
 no-front grammar.nothing e = refl
-no-front (grammar.something {mode} {kind} p free rest) e = rw (none-in p, no-front rest (stays-part mode kind e)) refl
+no-front (grammar.something {mode} {kind} {c} {w} {next} {tokens} p free rest) e = head_count-later (record { kind = kind; len = bytes (c ∷ w) }) tokens (none-in p) (no-front rest (stays-part mode kind e))
 no-front (grammar.frontmatter_first body is_opening ends rest) e = absurd (true≢false e)
 
 part-none : (edition : Edition) (text : List ℕ) → IsText text → head_count (read_tokens (part edition) text) ≡ 0
@@ -81,8 +91,8 @@ module _ (text : List ℕ) where
 
 count-front : (space : ℕ) (front : Option Token) (tokens : List Token) → ((t : Token) → front ≡ Some t → is_frontmatter t.kind ≡ true) → head_count tokens ≡ 0 → head_count (front_tokens space front ++ tokens) ≡ length (front_tokens space front)
 count-front space None tokens is none = none
-count-front zero (Some t) tokens is none = rw (is t refl) refl
-count-front (suc n) (Some t) tokens is none = rw (is t refl) refl
+count-front zero (Some t) tokens is none = head_count-first t tokens (is t refl)
+count-front (suc n) (Some t) tokens is none = head_count-second (record { kind = Whitespace; len = suc n }) t tokens refl (is t refl)
 
 pub bound-append : (ts us : List Token) → bound (ts ++ us) (length ts) ≡ bound ts (length ts)
 bound-append [] us = refl

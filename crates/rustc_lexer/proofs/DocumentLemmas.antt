@@ -16,7 +16,7 @@ use Rattle.rustc_lexer.specs.Locality.{IsGrammar}
 use Rattle.rustc_lexer.specs.Tokens.{tokens_by}
 use Rattle.rustc_lexer.proofs.EditLemmas.{IsEdited, edited, same_rest}
 
--- a place past another is between characters of what follows that one
+-- an offset past another is between characters of what follows that one
 pub boundary-past : (xs : List ℕ) (from p : ℕ) → IsUtf8 xs → from ≤ p → IsCharBoundary xs p → IsCharBoundary (drop from xs) (p - from)
 boundary-past xs from p is le at =
     grind (arith, common_steps, drop-drop, IsUtf8-drop, IsCharBoundary-from_drop, length-drop)
@@ -35,7 +35,7 @@ by_max P a b pa pb = elim (cases_lt a b) [
       subst P same pa
 ]
 
--- a place, and how far another is past it: one of the two
+-- an offset, and how far another is past it: one of the two
 by_past : (P : ℕ → Type 0) (a b : ℕ) → P a → P b → P (a + (b - a))
 by_past P a b pa pb = elim (cases_lt a b) [
   | inl less ↦ let same : b ≡ a + (b - a) = omega arith in subst P same pb

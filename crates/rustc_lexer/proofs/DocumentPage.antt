@@ -7,7 +7,7 @@ use Rattle.rustc_lexer.specs.declared.relex.head.Head.{Head}
 use Rattle.rustc_lexer.specs.declared.relex.relexing.Change.{Change}
 use Rattle.rustc_lexer.specs.declared.relex.relexing.Relexed.{Relexed}
 use Rattle.rustc_lexer.specs.Classes.{IsText}
-use Rattle.rustc_lexer.specs.Document.{body_start, document_tokens_by, head_tokens, is_frontmatter, more_unless_zero, head_count, shebang_len, whole_by}
+use Rattle.rustc_lexer.specs.Document.{body_start, document_tokens_by, head_tokens, is_frontmatter, head_count, shebang_len, whole_by}
 use Rattle.rustc_lexer.specs.means.Document.{body_change, body_insert, counted, document_by, front_tokens, head_of, HeadStays, IsRelexedWith, tokens_of_head}
 use Rattle.rustc_lexer.specs.Edits.{apply, body_in, KeepsHead}
 use Rattle.rustc_lexer.specs.Tokens.{bound, tokens_by}
@@ -63,13 +63,7 @@ same-parts (suc n) zero (Some t) (Some u) bare bare' e = absurd (omega (arith, a
 same-parts (suc n) (suc m) (Some t) (Some u) bare bare' e = (ap (λ (x : Token). x.len) (ap (λ (ts : List Token). get_or ts 0 t) e), ap (λ (x : Token). Some x) (ap (λ (ts : List Token). get_or ts 1 t) e))
 
 up_few : (ts : List Token) → head_count ts ≤ length ts
-up_few [] = omega arith
-up_few (t ∷ ts) = by_test (is_frontmatter t.kind) (head_count ts) (up_few ts)
-  where
-    by_test : (b : Bool) (n : ℕ) → n ≤ length ts → (if b then 1 else more_unless_zero n) ≤ suc (length ts)
-    by_test true n le = omega arith
-    by_test false zero le = omega arith
-    by_test false (suc n) le = omega arith
+up_few ts = grind (arith, common_steps)
 
 pub body_by : (text : List ℕ) → body_start text ≡ shebang_len text + bound (head_tokens text) (length (head_tokens text))
 body_by text = grind (arith, common_steps, length-take-le, up_few, bound-take)

@@ -57,8 +57,8 @@ module _ {first : List ℕ → Token} (law : IsGrammar first) (text : List ℕ) 
       let behind : drop (length heads) tokens ≡ tokens_by first body = ap (drop (length heads)) e ∙ drop-append_seam heads (tokens_by first body) in
       let inside : j ≤ length (tokens_by first body) = omega (arith, ap length e, length-append heads (tokens_by first body)) in
       let there : IsCharBoundary body (bound (tokens_by first body) j) = cuts law body body_text j inside in
-      let place : (head_of text).body + bound (tokens_by first body) j ≡ shebang_len text + bound tokens (length heads + j) = omega (arith, body_bound j, ap (λ ts. bound ts j) behind) in
-      subst (IsCharBoundary text) place (IsCharBoundary-from_rest text (head_of text).body (bound (tokens_by first body) j) (ahead text is).boundary.0 there)
+      let offset : (head_of text).body + bound (tokens_by first body) j ≡ shebang_len text + bound tokens (length heads + j) = omega (arith, body_bound j, ap (λ ts. bound ts j) behind) in
+      subst (IsCharBoundary text) offset (IsCharBoundary-from_rest text (head_of text).body (bound (tokens_by first body) j) (ahead text is).boundary.0 there)
 
   pub document_cuts : AreBoundariesFrom text (shebang_len text) tokens
   document_cuts k few = elim (cases_lt k (suc (length heads))) [

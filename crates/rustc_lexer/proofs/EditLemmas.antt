@@ -52,34 +52,34 @@ positive : (n : ℕ) (xs : List ℕ) → 2 ≤ length (chars (take n xs)) → 0 
 positive zero xs h = absurd (let none : length (chars []) ≡ 0 = ap length chars-nil in omega arith)
 positive (suc n) xs h = omega arith
 
-pub has_two-before : (text : List ℕ) (place start : ℕ) → has_two text place start ≡ true → place < start
+pub has_two-before : (text : List ℕ) (offset start : ℕ) → has_two text offset start ≡ true → offset < start
 unfolding has_two
-has_two-before text place start two =
-    let some = positive (start - place) (drop place text) (leb-true 2 (length (chars (take (start - place) (drop place text)))) two) in omega arith
+has_two-before text offset start two =
+    let some = positive (start - offset) (drop offset text) (leb-true 2 (length (chars (take (start - offset) (drop offset text)))) two) in omega arith
 
-pub has_two-count : (text : List ℕ) (place to : ℕ) → has_two text place to ≡ true → 2 ≤ length (chars (take (to - place) (drop place text)))
+pub has_two-count : (text : List ℕ) (offset to : ℕ) → has_two text offset to ≡ true → 2 ≤ length (chars (take (to - offset) (drop offset text)))
 unfolding has_two
-has_two-count text place to two = leb-true 2 (length (chars (take (to - place) (drop place text)))) two
+has_two-count text offset to two = leb-true 2 (length (chars (take (to - offset) (drop offset text)))) two
 
-pub has_two-intro : (text : List ℕ) (place to : ℕ) → 2 ≤ length (chars (take (to - place) (drop place text))) → has_two text place to ≡ true
+pub has_two-intro : (text : List ℕ) (offset to : ℕ) → 2 ≤ length (chars (take (to - offset) (drop offset text))) → has_two text offset to ≡ true
 unfolding has_two
-has_two-intro text place to two = le-leb 2 (length (chars (take (to - place) (drop place text)))) two
+has_two-intro text offset to two = le-leb 2 (length (chars (take (to - offset) (drop offset text)))) two
 
 -- where two characters stand before the edit, both texts agree
-pub has_two-agree : (text new : List ℕ) (place start : ℕ) → IsUtf8 (take (start - place) (drop place text)) → take start new ≡ take start text → has_two text place start ≡ true → AgreePast place text new
+pub has_two-agree : (text new : List ℕ) (offset start : ℕ) → IsUtf8 (take (start - offset) (drop offset text)) → take start new ≡ take start text → has_two text offset start ≡ true → AgreePast offset text new
 unfolding has_two
-has_two-agree text new place start is same two =
-    let middle : List ℕ = take (start - place) (drop place text) in
+has_two-agree text new offset start is same two =
+    let middle : List ℕ = take (start - offset) (drop offset text) in
     let enough : 2 ≤ length (chars middle) = leb-true 2 (length (chars middle)) two in
-    let before : place < start = (let some = positive (start - place) (drop place text) enough in omega arith) in
-    let there : start ≡ place + (start - place) = omega arith in
-    let below : take place text ≡ take place new = sym (take-take place start text (omega arith)) ∙ (ap (take place) (sym same) ∙ take-take place start new (omega arith)) in
-    let its_middle : take (start - place) (drop place new) ≡ middle =
-    sym (drop-take place (start - place) new) ∙ (ap (λ n. drop place (take n new)) (sym there) ∙ (ap (drop place) same ∙ (ap (λ n. drop place (take n text)) there ∙ drop-take place (start - place) text))) in
-    let here : look (middle ++ drop (start - place) (drop place text)) ≡ look (middle ++ drop (start - place) (drop place new)) = look-enough _ _ _ is enough in
+    let before : offset < start = (let some = positive (start - offset) (drop offset text) enough in omega arith) in
+    let there : start ≡ offset + (start - offset) = omega arith in
+    let below : take offset text ≡ take offset new = sym (take-take offset start text (omega arith)) ∙ (ap (take offset) (sym same) ∙ take-take offset start new (omega arith)) in
+    let its_middle : take (start - offset) (drop offset new) ≡ middle =
+    sym (drop-take offset (start - offset) new) ∙ (ap (λ n. drop offset (take n new)) (sym there) ∙ (ap (drop offset) same ∙ (ap (λ n. drop offset (take n text)) there ∙ drop-take offset (start - offset) text))) in
+    let here : look (middle ++ drop (start - offset) (drop offset text)) ≡ look (middle ++ drop (start - offset) (drop offset new)) = look-enough _ _ _ is enough in
     record {
       below = below;
-      past = sym (ap look (take-append-drop (start - place) (drop place text))) ∙ (here ∙ (ap (λ xs. look (xs ++ drop (start - place) (drop place new))) (sym its_middle) ∙ ap look (take-append-drop (start - place) (drop place new))));
+      past = sym (ap look (take-append-drop (start - offset) (drop offset text))) ∙ (here ∙ (ap (λ xs. look (xs ++ drop (start - offset) (drop offset new))) (sym its_middle) ∙ ap look (take-append-drop (start - offset) (drop offset new))));
     }
 
 pub bound-take : (k : ℕ) (ts : List Token) → bound (take k ts) k ≡ bound ts k
@@ -98,12 +98,12 @@ module _ {first : List ℕ → Token} (law : IsGrammar first) (text : List ℕ) 
   pub kept_same : (k : ℕ) → k ≤ length (tokens_by first text) → (0 < k → has_two text (bound (tokens_by first text) k) start ≡ true) → take k (tokens_by first new) ≡ take k (tokens_by first text)
   kept_same zero few two = refl
   kept_same (suc k) few two =
-      let place : ℕ = bound (tokens_by first text) (suc k) in
+      let offset : ℕ = bound (tokens_by first text) (suc k) in
       let cut : IsCutAt first text (tokens_by first text) (suc k) = at_bound law (suc k) text is in
-      let has : has_two text place start ≡ true = two (omega arith) in
-      let before : place < start = has_two-before text place start has in
-      let middle : IsUtf8 (take (start - place) (drop place text)) = IsUtf8-between text place start is.utf8 (omega arith) (IsCharBoundary-from_drop text place cut.inside cut.past.utf8) edit.inside.start_boundary in
-      tokens_local law (suc k) text new is ed.text_is few (has_two-agree text new place start middle ed.front has)
+      let has : has_two text offset start ≡ true = two (omega arith) in
+      let before : offset < start = has_two-before text offset start has in
+      let middle : IsUtf8 (take (start - offset) (drop offset text)) = IsUtf8-between text offset start is.utf8 (omega arith) (IsCharBoundary-from_drop text offset cut.inside cut.past.utf8) edit.inside.start_boundary in
+      tokens_local law (suc k) text new is ed.text_is few (has_two-agree text new offset start middle ed.front has)
 
   -- past the edit both texts have the same rest
   pub same_rest : (p : ℕ) → start + length insert ≤ p → drop p new ≡ drop (p - (start + length insert) + stop) text
@@ -128,28 +128,28 @@ drop_of-take (suc p) zero xs = grind (arith, common_steps)
 drop_of-take (suc p) (suc n) [] = grind (arith, common_steps)
 drop_of-take (suc p) (suc n) (x ∷ xs) = grind (arith, common_steps, drop_of-take p n xs)
 
--- what stands from a place up to another is in the text up to that one
-pub has_two-same : (text other : List ℕ) (place to : ℕ) → take to text ≡ take to other → has_two text place to ≡ has_two other place to
+-- what stands from an offset up to another is in the text up to that one
+pub has_two-same : (text other : List ℕ) (offset to : ℕ) → take to text ≡ take to other → has_two text offset to ≡ has_two other offset to
 unfolding has_two
-has_two-same text other place to same =
-    ap (λ xs. leb 2 (length (chars xs))) (sym (drop_of-take place to text) ∙ (ap (drop place) same ∙ drop_of-take place to other))
+has_two-same text other offset to same =
+    ap (λ xs. leb 2 (length (chars xs))) (sym (drop_of-take offset to text) ∙ (ap (drop offset) same ∙ drop_of-take offset to other))
 
-pub has_two-late : (text : List ℕ) (place to : ℕ) → to ≤ place → has_two text place to ≡ false
-has_two-late text place to late = grind (arith, common_steps, has_two-before)
+pub has_two-late : (text : List ℕ) (offset to : ℕ) → to ≤ offset → has_two text offset to ≡ false
+has_two-late text offset to late = grind (arith, common_steps, has_two-before)
 
--- a place before another has no fewer characters past it
-pub has_two-mono : (text : List ℕ) (place later to : ℕ) → IsUtf8 text → place ≤ later → IsCharBoundary text place → IsCharBoundary text later → has_two text later to ≡ true → has_two text place to ≡ true
-has_two-mono text place later to is le b c two =
+-- an offset before another has no fewer characters past it
+pub has_two-mono : (text : List ℕ) (offset later to : ℕ) → IsUtf8 text → offset ≤ later → IsCharBoundary text offset → IsCharBoundary text later → has_two text later to ≡ true → has_two text offset to ≡ true
+has_two-mono text offset later to is le b c two =
     let before : later < to = has_two-before text later to two in
-    let whole : to - place ≡ (later - place) + (to - later) = omega arith in
-    let next : place + (later - place) ≡ later = omega arith in
-    let xs : List ℕ = take (later - place) (drop place text) in
+    let whole : to - offset ≡ (later - offset) + (to - later) = omega arith in
+    let next : offset + (later - offset) ≡ later = omega arith in
+    let xs : List ℕ = take (later - offset) (drop offset text) in
     let ys : List ℕ = take (to - later) (drop later text) in
-    let split : take (to - place) (drop place text) ≡ xs ++ ys =
-    ap (λ n. take n (drop place text)) whole ∙ (take-add (later - place) (to - later) (drop place text) ∙
-    ap (λ zs. xs ++ take (to - later) zs) (drop-drop (later - place) place text ∙ ap (λ n. drop n text) next)) in
+    let split : take (to - offset) (drop offset text) ≡ xs ++ ys =
+    ap (λ n. take n (drop offset text)) whole ∙ (take-add (later - offset) (to - later) (drop offset text) ∙
+    ap (λ zs. xs ++ take (to - later) zs) (drop-drop (later - offset) offset text ∙ ap (λ n. drop n text) next)) in
     let enough = has_two-count text later to two in
-    has_two-intro text place to (rw (split, chars-append xs ys (IsUtf8-between text place later is le b c)) (omega (arith, length-append (chars xs) (chars ys), enough)))
+    has_two-intro text offset to (rw (split, chars-append xs ys (IsUtf8-between text offset later is le b c)) (omega (arith, length-append (chars xs) (chars ys), enough)))
 
 -- how many of the tokens end at least two characters before `to`; the first begins at `from`
 abbrev pub kept_front_from : List ℕ → ℕ → ℕ → List Token → ℕ
@@ -188,14 +188,14 @@ length-encodes [] = omega arith
 length-encodes (c ∷ cs) = omega (arith, length-append (encode_utf8 c) (encodes cs), length-encode c, (len_utf8_bounds c).1, length-encodes cs)
 
 -- a character has four bytes at most, so eight bytes hold two characters
-pub has_two-long : (text : List ℕ) (place to : ℕ) → IsUtf8 text → IsCharBoundary text place → IsCharBoundary text to → 8 ≤ to - place → has_two text place to ≡ true
-has_two-long text place to is from until long =
-    let xs : List ℕ = take (to - place) (drop place text) in
+pub has_two-long : (text : List ℕ) (offset to : ℕ) → IsUtf8 text → IsCharBoundary text offset → IsCharBoundary text to → 8 ≤ to - offset → has_two text offset to ≡ true
+has_two-long text offset to is from until long =
+    let xs : List ℕ = take (to - offset) (drop offset text) in
     let inside : to ≤ length text = until.0 in
-    let its : IsUtf8 xs = IsUtf8-between text place to is (omega arith) from until in
-    let bytes : length xs ≡ to - place = length-take-le (to - place) (drop place text) (omega (arith, length-drop place text)) in
+    let its : IsUtf8 xs = IsUtf8-between text offset to is (omega arith) from until in
+    let bytes : length xs ≡ to - offset = length-take-le (to - offset) (drop offset text) (omega (arith, length-drop offset text)) in
     let enough : 2 ≤ length (chars xs) = omega (arith, bytes, ap length (encodes-chars xs its), length-encodes (chars xs)) in
-    has_two-intro text place to enough
+    has_two-intro text offset to enough
 
 -- what is put in place, where there is room for it
 pub put_is : {E : Type 0} (result : Result Unit E) (text insert new : List ℕ) (start stop len room : ℕ) → len + length insert ≤ room

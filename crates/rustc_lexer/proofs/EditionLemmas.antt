@@ -1,5 +1,5 @@
 -- What an edition has in place of some tokens.
-use Rattle.std.proofs.Common.{◌≡◌, ◌≢◌, ◌<◌, ℕ, suc, Bool, true, false, true≢false, List, [], ◌∷◌, length, nat_le, ◌⊎◌, inl, inr, refl, sym, ap, ◌∙◌, IsCharBoundary, arith}
+use Rattle.std.proofs.Common.{◌≡◌, ◌≢◌, ◌<◌, ℕ, suc, Bool, true, false, true≢false, List, [], ◌∷◌, length, nat_le, ◌⊎◌, inl, inr, refl, codes, sym, ap, ◌∙◌, IsCharBoundary, arith}
 use Rattle.rustc_lexer.specs.{Edition, FrontmatterAllowed, Token, TokenKind, E2015, E2018, E2021, E2024, Yes, No, Pound, GuardedStrPrefix, RawLifetime, UnknownPrefix, UnknownPrefixLifetime}
 use Rattle.rustc_lexer.specs.LanguageText.{mode_in, year}
 use Rattle.rustc_lexer.specs.laws.Choice.{by_either}
@@ -18,6 +18,26 @@ use Rattle.rustc_lexer.specs.means.Frontmatter.{frontmatter, opens}
 use Rattle.rustc_lexer.specs.means.Taking.{token_at}
 use Rattle.std.specs.Str.{chars}
 use Rattle.std.proofs.lemmas.Grind.{common_steps}
+use Rattle.std.specs.Fmt.{decimal, digits}
+
+-- the years as words
+pub word_2015 : decimal 2015 ≡ codes "2015"
+unfolding digits
+word_2015 = refl
+
+pub word_2018 : decimal 2018 ≡ codes "2018"
+unfolding digits
+word_2018 = refl
+
+pub word_2021 : decimal 2021 ≡ codes "2021"
+unfolding digits
+word_2021 = refl
+
+pub word_2024 : decimal 2024 ≡ codes "2024"
+unfolding digits
+word_2024 = refl
+
+pub ruleset year_words = (word_2015, word_2018, word_2021, word_2024)
 
 -- whether an older edition has another token in place of one of this kind
 abbrev pub is_newer : TokenKind → Bool

@@ -226,7 +226,7 @@ pub record TellsAt (text : List ℕ) (from ends end : ℕ) (kind : TokenKind) : 
   pub lowest : IsLowest ends end
   pub stays : StaysWithin kind (get_or text end 0)
 
--- the same behind a place, up to which no end is classified
+-- the same behind an offset, up to which no end is classified
 module _ (text : List ℕ) (from ends end : ℕ) (kind : TokenKind) (at : TellsAt text from ends end kind) where
   abbrev late : ℕ
   late = bit_and (ends / 2 ^ from) high

@@ -60,8 +60,8 @@ module _ (stops : ℕ → Bool) (small : (b : ℕ) → stops b ≡ true → b < 
           ap stops (further (n - length (encode_utf8 c)) ∙ ap (λ k. get_or text k 0) same) ∙ at.here (omega (arith, long));
     }
 
-    same_place : stops c ≡ false → drop (n - length (encode_utf8 c)) rest ≡ drop n text
-    same_place f = grind (arith, common_steps, past_it, rest_is, drop-drop)
+    same_offset : stops c ≡ false → drop (n - length (encode_utf8 c)) rest ≡ drop n text
+    same_offset f = grind (arith, common_steps, past_it, rest_is, drop-drop)
 
   by_chars : (cs text : List ℕ) (n : ℕ) → text ≡ encode_utf8_all cs → IsStop stops text n → past_run others cs ≡ drop n text
   by_chars [] text n e at = sym (drop_of_length-le text (omega (arith, ap length e)))
@@ -70,7 +70,7 @@ module _ (stops : ℕ → Bool) (small : (b : ℕ) → stops b ≡ true → b < 
       past_run-out others c cs (not_from_true (stops c) f) ∙ (sym e ∙ ap (λ k. drop k text) (sym (at_front c (encode_utf8_all cs) text n e at f))))
       (λ f.
       past_run-in others c cs (not_from_false (stops c) f)
-      ∙ (by_chars cs (encode_utf8_all cs) (n - length (encode_utf8 c)) refl (in_rest c (encode_utf8_all cs) text n e at f) ∙ same_place c (encode_utf8_all cs) text n e at f))
+      ∙ (by_chars cs (encode_utf8_all cs) (n - length (encode_utf8 c)) refl (in_rest c (encode_utf8_all cs) text n e at f) ∙ same_offset c (encode_utf8_all cs) text n e at f))
 
   module _ (text : List ℕ) (n : ℕ) (is : IsUtf8 text) (at : IsStop stops text n) where
     pub up_to : past (run_len others (chars text)) text ≡ drop n text

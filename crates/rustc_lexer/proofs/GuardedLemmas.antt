@@ -101,9 +101,9 @@ module _ (rest front : List ℕ) (n : ℕ) (is : IsUtf8 rest) (count : n ≡ has
     string_here e = grind (arith, common_steps, read_is, taken_is, quote_next)
 
 -- a cursor with bytes pending before what is left, where n hashes are next
-module _ (pending : ℕ) (left : List ℕ) (mode : Mode) (s : State) (rest : List ℕ) (view : state pending left mode ≡ s) (place : rest ≡ s.rest) (n : ℕ) (count : n ≡ hash_run (chars rest)) where
+module _ (pending : ℕ) (left : List ℕ) (mode : Mode) (s : State) (rest : List ℕ) (view : state pending left mode ≡ s) (offset : rest ≡ s.rest) (n : ℕ) (count : n ≡ hash_run (chars rest)) where
   here : rest ≡ left
-  here = place ∙ sym (ap (λ (x : State). x.rest) view)
+  here = offset ∙ sym (ap (λ (x : State). x.rest) view)
 
   abbrev here_is : State
   here_is = state pending rest mode

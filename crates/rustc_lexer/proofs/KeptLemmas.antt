@@ -51,11 +51,11 @@ module _ {first : List ℕ → Token} (law : IsGrammar first) (whole : Bool) (te
       omega (arith, ends, at, bound-shift tokens (length fronts) k)
 
   -- a bound of the body's tokens is one of all
-  pub near_at : (near : Bound) (n : ℕ) → n ≡ length fronts → IsBound (drop (length fronts) tokens) near → head.body + near.place ≡ head.shebang_len + bound tokens (n + near.number)
+  pub near_at : (near : Bound) (n : ℕ) → n ≡ length fronts → IsBound (drop (length fronts) tokens) near → head.body + near.offset ≡ head.shebang_len + bound tokens (n + near.number)
   near_at near n e at = omega (arith, at.1, body_at near.number, ap (λ m. bound tokens (m + near.number)) e)
 
   -- the same, with its offset in the text
-  pub near_from : (near : Bound) (n : ℕ) → n ≡ length fronts → IsBound (drop (length fronts) tokens) near → IsBoundFrom head.shebang_len tokens (record { number = n + near.number; place = head.body + near.place })
+  pub near_from : (near : Bound) (n : ℕ) → n ≡ length fronts → IsBound (drop (length fronts) tokens) near → IsBoundFrom head.shebang_len tokens (record { number = n + near.number; offset = head.body + near.offset })
   near_from near n e at = grind (arith, common_steps, all_are, length-append, length-drop, near_at)
 
   -- the last bound is the text's end
@@ -69,8 +69,8 @@ module _ {first : List ℕ → Token} (law : IsGrammar first) (whole : Bool) (te
       let all : length tokens ≡ length fronts + n = ap length all_are ∙ length-append fronts (tokens_by first body) in
       omega (arith, ap (bound tokens) all, body_at n, last, length-drop head.body text, are.3.0)
 
-  pub place_fits : (k : ℕ) → k ≤ length tokens → head.shebang_len + bound tokens k < 2 ^ 32
-  place_fits k few = let fits = are.0.fits in omega (arith, bound_mono tokens k (length tokens) few, end_is)
+  pub offset_fits : (k : ℕ) → k ≤ length tokens → head.shebang_len + bound tokens k < 2 ^ 32
+  offset_fits k few = let fits = are.0.fits in omega (arith, bound_mono tokens k (length tokens) few, end_is)
 
   -- the tokens that are read are cut between characters
   pub kept_cuts : (read : List ℕ) (slice : List Token) → read ≡ text → slice ≡ tokens → (length read < 2 ^ 32) × AreBoundariesFrom read head.shebang_len slice

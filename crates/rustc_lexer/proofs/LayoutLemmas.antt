@@ -5,15 +5,15 @@ use Rattle.std.proofs.lemmas.Bool.{cases_lt, eqb-false, eqb-true}
 use Rattle.std.proofs.lemmas.Grind.{common_steps}
 use Rattle.rustc_lexer.specs.{Token}
 use Rattle.rustc_lexer.specs.declared.relex.relexing.Relexed.{Relexed}
-use Rattle.rustc_lexer.specs.Edits.{apply, body_in, IsMeeting, IsRelexed, KeepsHead, Layout, part_by, place_in}
+use Rattle.rustc_lexer.specs.Edits.{apply, body_in, IsMeeting, IsRelexed, KeepsHead, Layout, part_by, offset_in}
 use Rattle.rustc_lexer.specs.Tokens.{bound}
 use Rattle.rustc_lexer.specs.laws.Same.{is_same, same_token, token_same}
 use Rattle.rustc_lexer.specs.means.Relexing.{IsBodyMeeting, IsBodyRelexed}
 use Rattle.rustc_lexer.proofs.BoundLemmas.{bound_mono}
 use Rattle.rustc_lexer.proofs.FrontLemmas.{bound-shift}
 
-pub place-behind : (of : Layout) (k : ℕ) → place_in of (length of.head + k) ≡ body_in of + bound of.body k
-place-behind of k = grind (arith, common_steps, drop-append_seam, bound-shift)
+pub offset-behind : (of : Layout) (k : ℕ) → offset_in of (length of.head + k) ≡ body_in of + bound of.body k
+offset-behind of k = grind (arith, common_steps, drop-append_seam, bound-shift)
 
 -- ---- a text without a head
 
@@ -29,7 +29,7 @@ module _ {old new : List Token} {old_stop new_stop number back : ℕ} where
     old_number = m.old_number;
     past_old_head = omega arith;
     back_is = m.back_is;
-    same_place = omega (arith, m.same_place);
+    same_offset = omega (arith, m.same_offset);
   }
 
   pub body_meets : IsMeeting (bare old) (bare new) old_stop new_stop number back → IsBodyMeeting old new old_stop new_stop number back
@@ -38,7 +38,7 @@ module _ {old new : List Token} {old_stop new_stop number back : ℕ} where
     past_edit = omega (arith, m.past_edit);
     old_number = m.old_number;
     back_is = m.back_is;
-    same_place = omega (arith, m.same_place);
+    same_offset = omega (arith, m.same_offset);
   }
 
 module _ (first : List ℕ → Token) (text : List ℕ) (start stop : ℕ) (insert : List ℕ) (r : Relexed) where
@@ -64,9 +64,9 @@ module _ (old new : Layout) (stop new_stop more body_stop new_body_stop : ℕ) (
   pub meets : (number back : ℕ) → IsBodyMeeting old.body new.body body_stop new_body_stop number back → IsMeeting old new stop new_stop (length new.head + number) back
   meets number back m =
       let past = m.past_edit in
-      let same = m.same_place in
-      let at = place-behind new number in
-      let old_at = place-behind old m.old_number in
+      let same = m.same_offset in
+      let at = offset-behind new number in
+      let old_at = offset-behind old m.old_number in
       record {
         number_inside = (let few = m.number_inside in omega (arith, few, length-append new.head new.body));
         past_edit = omega (arith, at, past, new_more);
@@ -74,25 +74,25 @@ module _ (old new : Layout) (stop new_stop more body_stop new_body_stop : ℕ) (
         old_number = length old.head + m.old_number;
         past_old_head = omega arith;
         back_is = omega (arith, m.back_is, length-append old.head old.body);
-        same_place = omega (arith, at, old_at, same, old_more, new_more);
+        same_offset = omega (arith, at, old_at, same, old_more, new_more);
       }
 
   pub meets_behind : (number back : ℕ) → IsMeeting old new stop new_stop number back → IsBodyMeeting old.body new.body body_stop new_body_stop (number - length new.head) back
   meets_behind number back m =
       let old_head = m.past_old_head in
       let past = m.past_edit in
-      let same = m.same_place in
+      let same = m.same_offset in
       let n : length new.head + (number - length new.head) ≡ number = omega (arith, m.past_head) in
       let i : length old.head + (m.old_number - length old.head) ≡ m.old_number = omega arith in
-      let at : place_in new number ≡ body_in new + bound new.body (number - length new.head) = ap (place_in new) (sym n) ∙ place-behind new (number - length new.head) in
-      let old_at : place_in old m.old_number ≡ body_in old + bound old.body (m.old_number - length old.head) = ap (place_in old) (sym i) ∙ place-behind old (m.old_number - length old.head) in
-      let far : more ≤ place_in new number - new_stop = least (place_in new number - new_stop) (omega (arith, same, past, old_at)) (omega (arith, past, at)) in
+      let at : offset_in new number ≡ body_in new + bound new.body (number - length new.head) = ap (offset_in new) (sym n) ∙ offset-behind new (number - length new.head) in
+      let old_at : offset_in old m.old_number ≡ body_in old + bound old.body (m.old_number - length old.head) = ap (offset_in old) (sym i) ∙ offset-behind old (m.old_number - length old.head) in
+      let far : more ≤ offset_in new number - new_stop = least (offset_in new number - new_stop) (omega (arith, same, past, old_at)) (omega (arith, past, at)) in
       record {
         number_inside = (let few = m.number_inside in omega (arith, few, length-append new.head new.body));
         past_edit = omega (arith, far, past, at, new_more);
         old_number = m.old_number - length old.head;
         back_is = omega (arith, m.back_is, old_head, length-append old.head old.body);
-        same_place = omega (arith, at, old_at, same, old_more, new_more);
+        same_offset = omega (arith, at, old_at, same, old_more, new_more);
       }
 
 -- ---- whether the head is kept
@@ -152,14 +152,14 @@ module _ (layout : List ℕ → Layout) (text : List ℕ) (start stop : ℕ) (in
     ]
   ]
 
-  same_place : (i j : ℕ) → length old.head ≤ i → length old.head ≤ j → i ≤ length (old.head ++ old.body) → j ≤ length (old.head ++ old.body) → place_in old i ≡ place_in old j → i ≡ j
-  same_place i j past_i past_j few_i few_j e =
+  same_offset : (i j : ℕ) → length old.head ≤ i → length old.head ≤ j → i ≤ length (old.head ++ old.body) → j ≤ length (old.head ++ old.body) → offset_in old i ≡ offset_in old j → i ≡ j
+  same_offset i j past_i past_j few_i few_j e =
       let h : ℕ = length old.head in
       let size = length-append old.head old.body in
       let n : h + (i - h) ≡ i = omega arith in
       let m : h + (j - h) ≡ j = omega arith in
-      let at : place_in old i ≡ body_in old + bound old.body (i - h) = ap (place_in old) (sym n) ∙ place-behind old (i - h) in
-      let to : place_in old j ≡ body_in old + bound old.body (j - h) = ap (place_in old) (sym m) ∙ place-behind old (j - h) in
+      let at : offset_in old i ≡ body_in old + bound old.body (i - h) = ap (offset_in old) (sym n) ∙ offset-behind old (i - h) in
+      let to : offset_in old j ≡ body_in old + bound old.body (j - h) = ap (offset_in old) (sym m) ∙ offset-behind old (j - h) in
       let same : i - h ≡ j - h = same_bound (i - h) (j - h) (omega (arith, few_i, size)) (omega (arith, few_j, size)) (omega (arith, at, to, e)) in
       omega (arith, same, past_i, past_j)
 
@@ -181,7 +181,7 @@ module _ (layout : List ℕ → Layout) (text : List ℕ) (start stop : ℕ) (in
     ]
 
     backs : r.kept_back ≡ s.kept_back
-    backs = grind (arith, common_steps, fronts, lexed, same_place, a.meeting, b.meeting)
+    backs = grind (arith, common_steps, fronts, lexed, same_offset, a.meeting, b.meeting)
 
     pub one_relexed : r ≡ s
     one_relexed = λ i. record { kept_front = fronts i; lexed = lexed i; kept_back = backs i }

@@ -22,17 +22,17 @@ module _ {X : Type 0} (f : X → ℕ) (xs : List X) (ts : List Token) (are : Has
       let fewer : i < length ts = omega (arith, as_many) in
       its ∙ (ap f at ∙ (sym (get_or-map f xs i x 0 few) ∙ (ap (λ (ns : List ℕ). get_or ns i 0) are ∙ get_or-map (λ (t : Token). t.len) ts i no_token 0 fewer)))
 
--- texts that are the same up to a place are cut alike before it
-pub cut_alike : (old text : List ℕ) (place start : ℕ) → IsUtf8 old → IsUtf8 text → take start text ≡ take start old → place ≤ start → start ≤ length text → IsCharBoundary old place → IsCharBoundary text place
-cut_alike old text place start is its same before inside cut =
-    let front : take place text ≡ take place old = sym (take-take place start text before) ∙ (ap (take place) same ∙ take-take place start old before) in
-    IsCharBoundary-from_take text place its (omega arith) (subst IsUtf8 (sym front) (IsUtf8-take old place is cut))
+-- texts that are the same up to an offset are cut alike before it
+pub cut_alike : (old text : List ℕ) (offset start : ℕ) → IsUtf8 old → IsUtf8 text → take start text ≡ take start old → offset ≤ start → start ≤ length text → IsCharBoundary old offset → IsCharBoundary text offset
+cut_alike old text offset start is its same before inside cut =
+    let front : take offset text ≡ take offset old = sym (take-take offset start text before) ∙ (ap (take offset) same ∙ take-take offset start old before) in
+    IsCharBoundary-from_take text offset its (omega arith) (subst IsUtf8 (sym front) (IsUtf8-take old offset is cut))
 
--- whether two characters stand before a place is told by the text up to there
-pub stand_alike : (old text : List ℕ) (place start : ℕ) (two : Bool) → IsUtf8 old → IsUtf8 text → take start text ≡ take start old → start ≤ length text → IsCharBoundary old place → (start ≤ place → two ≡ false) → (IsCharBoundary text place → two ≡ has_two text place start) → two ≡ has_two old place start
-stand_alike old text place start two is its same inside cut late here =
+-- whether two characters stand before an offset is told by the text up to there
+pub stand_alike : (old text : List ℕ) (offset start : ℕ) (two : Bool) → IsUtf8 old → IsUtf8 text → take start text ≡ take start old → start ≤ length text → IsCharBoundary old offset → (start ≤ offset → two ≡ false) → (IsCharBoundary text offset → two ≡ has_two text offset start) → two ≡ has_two old offset start
+stand_alike old text offset start two is its same inside cut late here =
     grind (arith, common_steps, leb_tells, has_two-late, cut_alike, has_two-same)
 
--- where two characters stand before a place, it is past them
-pub stood_before : (place start : ℕ) (two : Bool) → (start ≤ place → two ≡ false) → two ≡ true → place ≤ start
-stood_before place start two late hit = grind (arith, common_steps, leb_tells)
+-- where two characters stand before an offset, it is past them
+pub stood_before : (offset start : ℕ) (two : Bool) → (start ≤ offset → two ≡ false) → two ≡ true → offset ≤ start
+stood_before offset start two late hit = grind (arith, common_steps, leb_tells)

@@ -16,13 +16,13 @@ use Rattle.rustc_lexer.specs.laws.Choice.{by_either}
 use Rattle.rustc_lexer.specs.laws.Fences.{begins-enough, begins-few, begins-whole, line-none, line-some, skip_run}
 use Rattle.rustc_lexer.specs.laws.Frontmatter.{closing_end-full}
 use Rattle.rustc_lexer.specs.laws.LanguageRuns.{either-way}
-use Rattle.rustc_lexer.specs.laws.Least.{more-more, more-zero, one_more-more, place-here, place-on}
+use Rattle.rustc_lexer.specs.laws.Least.{more-more, more-zero, one_more-more, offset-here, offset-on}
 use Rattle.rustc_lexer.specs.laws.Reach.{least-some}
 use Rattle.rustc_lexer.proofs.SearchLemmas.{begins-front}
 
--- a place that is found is inside
-pub place_inside : (pattern rest : List ℕ) (place : ℕ) → Some place ≡ first pattern rest → place < length rest
-place_inside pattern rest place e = (least-some (λ k. begins pattern (drop k rest)) (length rest) place (sym e)).below
+-- an offset that is found is inside
+pub offset_inside : (pattern rest : List ℕ) (offset : ℕ) → Some offset ≡ first pattern rest → offset < length rest
+offset_inside pattern rest offset e = (least-some (λ k. begins pattern (drop k rest)) (length rest) offset (sym e)).below
 
 -- what was found before, or else what is found later
 abbrev pub or_later : Option ℕ → Option ℕ → Option ℕ
@@ -83,7 +83,7 @@ module _ (d : ℕ) (ds : List ℕ) (other : (10 == d) ≡ false) where
       let is : c ≡ 10 = eqb-true c 10 e in
       let not_here : begins (10 ∷ d ∷ ds) (10 ∷ c ∷ s) ≡ false = ap (λ (x : ℕ). begins (d ∷ ds) (x ∷ s)) is ∙ rw other refl in
       let more_of : suc (run_len is_newline s) ≡ run_len is_newline (c ∷ s) = rw e refl in
-      (place-on (begins (10 ∷ d ∷ ds)) 10 (c ∷ s) not_here ∙ (ap one_more (ap (λ (x : ℕ). first (10 ∷ d ∷ ds) (x ∷ s)) is ∙ last-newline s) ∙ one_more-more (run_len is_newline s) (first (10 ∷ d ∷ ds) (10 ∷ drop (run_len is_newline s) s))))
+      (offset-on (begins (10 ∷ d ∷ ds)) 10 (c ∷ s) not_here ∙ (ap one_more (ap (λ (x : ℕ). first (10 ∷ d ∷ ds) (x ∷ s)) is ∙ last-newline s) ∙ one_more-more (run_len is_newline s) (first (10 ∷ d ∷ ds) (10 ∷ drop (run_len is_newline s) s))))
       ∙ ap (λ (n : ℕ). more n (first (10 ∷ d ∷ ds) (10 ∷ drop n (c ∷ s)))) more_of)
       (λ e. more-zero (first (10 ∷ d ∷ ds) (10 ∷ c ∷ s)) ∙ ap (λ (n : ℕ). more n (first (10 ∷ d ∷ ds) (10 ∷ drop n (c ∷ s)))) (let none : 0 ≡ run_len is_newline (c ∷ s) = rw e refl in none))
 
@@ -112,11 +112,11 @@ module _ (d : ℕ) (ds : List ℕ) (other : (10 == d) ≡ false) where
         (λ e. rw e (ap (more (line - 1)) (past-front e) ∙ (more-more (line - 1) (suc (run_len is_dash (drop line rest))) (later end) ∙ ap (λ (k : ℕ). more k (later end)) (omega (arith, at.lines, at.ends)))))
       where
         at-front : begins (10 ∷ d ∷ ds) (drop (line - 1) rest) ≡ true → later (line - 1) ≡ Some 0
-        at-front e = ap (first (10 ∷ d ∷ ds)) at.back ∙ place-here (begins (10 ∷ d ∷ ds)) 10 (drop line rest) (ap (begins (10 ∷ d ∷ ds)) (sym at.back) ∙ e)
+        at-front e = ap (first (10 ∷ d ∷ ds)) at.back ∙ offset-here (begins (10 ∷ d ∷ ds)) 10 (drop line rest) (ap (begins (10 ∷ d ∷ ds)) (sym at.back) ∙ e)
 
         past-front : begins (10 ∷ d ∷ ds) (drop (line - 1) rest) ≡ false → later (line - 1) ≡ more (suc (run_len is_dash (drop line rest))) (later end)
         past-front e =
-            ap (first (10 ∷ d ∷ ds)) at.back ∙ (place-on (begins (10 ∷ d ∷ ds)) 10 (drop line rest) (ap (begins (10 ∷ d ∷ ds)) (sym at.back) ∙ e)
+            ap (first (10 ∷ d ∷ ds)) at.back ∙ (offset-on (begins (10 ∷ d ∷ ds)) 10 (drop line rest) (ap (begins (10 ∷ d ∷ ds)) (sym at.back) ∙ e)
             ∙ (ap one_more (skip_run is_dash (begins (10 ∷ d ∷ ds)) not-dash (drop line rest) ∙ ap (λ (u : List ℕ). more (run_len is_dash (drop line rest)) (first (10 ∷ d ∷ ds) u)) (drop-drop (run_len is_dash (drop line rest)) line rest ∙ ap (λ (k : ℕ). drop k rest) (sym at.ends)))
             ∙ one_more-more (run_len is_dash (drop line rest)) (later end)))
 
@@ -198,15 +198,15 @@ starts-begins tail pattern answer is = by_either (begins pattern tail)
     (λ e. (starts_is Decides-eqb tail pattern answer is).1 _ (begins-whole pattern tail e) ∙ sym e)
     (λ e. false_from_ne_true answer (λ t. either-way (begins pattern tail) (ap (begins pattern) ((starts_is Decides-eqb tail pattern answer is).0 t) ∙ begins-front pattern _) e) ∙ sym e)
 
-module _ (found : Option ℕ) (pattern rest : List ℕ) (place : ℕ) (tail : List ℕ) (answer : Bool) (none : found ≡ None) (left : tail ≡ drop place rest) (is : answer ≡ starts_with (λ x y. x == y) tail pattern) where
-  starts_here : begins pattern (drop place rest) ≡ answer
+module _ (found : Option ℕ) (pattern rest : List ℕ) (offset : ℕ) (tail : List ℕ) (answer : Bool) (none : found ≡ None) (left : tail ≡ drop offset rest) (is : answer ≡ starts_with (λ x y. x == y) tail pattern) where
+  starts_here : begins pattern (drop offset rest) ≡ answer
   starts_here = ap (begins pattern) (sym left) ∙ sym (starts-begins tail pattern answer is)
 
-  pub starts_some : answer ≡ true → Some place ≡ or_here found (begins pattern (drop place rest)) place
-  starts_some stands = sym (ap (λ (o : Option ℕ). or_here o (begins pattern (drop place rest)) place) none ∙ ap (λ (b : Bool). or_here None b place) (starts_here ∙ stands))
+  pub starts_some : answer ≡ true → Some offset ≡ or_here found (begins pattern (drop offset rest)) offset
+  starts_some stands = sym (ap (λ (o : Option ℕ). or_here o (begins pattern (drop offset rest)) offset) none ∙ ap (λ (b : Bool). or_here None b offset) (starts_here ∙ stands))
 
-  pub starts_none : answer ≡ false → None ≡ or_here found (begins pattern (drop place rest)) place
-  starts_none stands = sym (ap (λ (o : Option ℕ). or_here o (begins pattern (drop place rest)) place) none ∙ ap (λ (b : Bool). or_here None b place) (starts_here ∙ stands))
+  pub starts_none : answer ≡ false → None ≡ or_here found (begins pattern (drop offset rest)) offset
+  starts_none stands = sym (ap (λ (o : Option ℕ). or_here o (begins pattern (drop offset rest)) offset) none ∙ ap (λ (b : Bool). or_here None b offset) (starts_here ∙ stands))
 
 -- a line that begins with none of these bytes has none of the patterns
 pub unfit : (d : ℕ) (ds rest : List ℕ) (line : ℕ) (found : Option ℕ) → 0 < line → is_among (codes "-u/#") d ≡ true → next_is (is_among (codes "-u/#")) (drop line rest) ≡ false

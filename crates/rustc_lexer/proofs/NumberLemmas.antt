@@ -8,7 +8,7 @@ use Rattle.std.proofs.Math.Bool.{and-true}
 use Rattle.std.proofs.lemmas.Grind.{common_steps}
 use Rattle.unicode_ident.proofs.IdentLemmas.{is_xid_start-ascii}
 use Rattle.rustc_lexer.specs.{Base, LiteralKind, Decimal, Int}
-use Rattle.rustc_lexer.specs.means.Number.{is_underscore, or_underscore, digits, Front, front_of, binary, octal, hexadecimal, decimal, front_past_zero, is_exponent_letter, float_exponent, fraction, is_no_fraction, begins_fraction, past_digits, front, tail, number_kind}
+use Rattle.rustc_lexer.specs.means.Number.{is_underscore, or_underscore, digits, IntegerPart, part_of, binary, octal, hexadecimal, decimal, part_past_zero, is_exponent_letter, float_exponent, fraction, is_no_fraction, begins_fraction, past_digits, integer_part, tail, number_kind}
 use Rattle.rustc_lexer.specs.means.Scan.{after, begins, gives, next_is, past, run_len, scanned}
 use Rattle.rustc_lexer.specs.laws.Past.{IsUtf8-past, chars-past, past-past}
 use Rattle.rustc_lexer.specs.laws.Scan.{scanned-and_then, scanned-read_as, next_is-cons, next_is-nil, scanned-after, scanned-gives, scanned-same, scanned-yes, scanned-no}
@@ -46,26 +46,26 @@ module _ {A : Type 0} (scan other : List ℕ → A × ℕ) (text tail : List ℕ
 pub next-end : {A : Type 0} (scan other : List ℕ → A × ℕ) (text : List ℕ) (p : ℕ → Bool) → chars text ≡ [] → scanned (λ s. if next_is p s then after 1 scan s else other s) text ≡ scanned other text
 next-end scan other text p e = scanned-no (next_is p) (after 1 scan) other text (next_is-nil p (chars text) e)
 
-abbrev not_binary : List ℕ → Front × ℕ
+abbrev not_binary : List ℕ → IntegerPart × ℕ
 not_binary s = if begins (codes "o") s then after 1 octal s else (if begins (codes "x") s then after 1 hexadecimal s else decimal s)
 
-abbrev not_octal : List ℕ → Front × ℕ
+abbrev not_octal : List ℕ → IntegerPart × ℕ
 not_octal s = if begins (codes "x") s then after 1 hexadecimal s else decimal s
 
--- the front of a number, by what follows a first digit 0
+-- the integer part of a number, by what follows a first digit 0
 module _ (text tail : List ℕ) (c : ℕ) (is : IsUtf8 text) (cs : chars text ≡ c ∷ chars tail) (at : tail ≡ past 1 text) where
-  pub pick-binary : c ≡ 98 → scanned front_past_zero text ≡ scanned binary tail
+  pub pick-binary : c ≡ 98 → scanned part_past_zero text ≡ scanned binary tail
   pick-binary e = begins-in binary not_binary text tail c is cs at 98 e
 
-  pub pick-octal : c ≢ 98 → c ≡ 111 → scanned front_past_zero text ≡ scanned octal tail
+  pub pick-octal : c ≢ 98 → c ≡ 111 → scanned part_past_zero text ≡ scanned octal tail
   pick-octal e f = begins-out binary not_binary text tail c is cs at 98 e ∙ begins-in octal not_octal text tail c is cs at 111 f
 
-  pub pick-hexadecimal : c ≢ 98 → c ≢ 111 → c ≡ 120 → scanned front_past_zero text ≡ scanned hexadecimal tail
+  pub pick-hexadecimal : c ≢ 98 → c ≢ 111 → c ≡ 120 → scanned part_past_zero text ≡ scanned hexadecimal tail
   pick-hexadecimal e f g =
       begins-out binary not_binary text tail c is cs at 98 e ∙ (begins-out octal not_octal text tail c is cs at 111 f ∙ begins-in hexadecimal decimal text tail c is cs at 120 g)
 
-pub front_past_zero-end : (text : List ℕ) → IsUtf8 text → chars text ≡ [] → scanned front_past_zero text ≡ (front_of Decimal false, text)
-front_past_zero-end text is e = scanned-same front_past_zero (gives (front_of Decimal false)) text (ap front_past_zero e) ∙ scanned-gives _ text is
+pub part_past_zero-end : (text : List ℕ) → IsUtf8 text → chars text ≡ [] → scanned part_past_zero text ≡ (part_of Decimal false, text)
+part_past_zero-end text is e = scanned-same part_past_zero (gives (part_of Decimal false)) text (ap part_past_zero e) ∙ scanned-gives _ text is
 
 -- U+0000, which the code sees at the end, goes with a fraction
 pub is_no_fraction-zero : is_no_fraction 0 ≡ false
@@ -110,20 +110,20 @@ module _ (base : Base) (text tail : List ℕ) (c : ℕ) (is : IsUtf8 text) (cs :
 pub past_digits-end : (base : Base) (text : List ℕ) → IsUtf8 text → chars text ≡ [] → scanned (past_digits base) text ≡ (Int base false, text)
 past_digits-end base text is e = scanned-same (past_digits base) (gives (Int base false)) text (ap (past_digits base) e) ∙ scanned-gives _ text is
 
--- a number, once its front is known
-module _ (first : ℕ) (text rest : List ℕ) (base : Base) (empty : Bool) (is : IsUtf8 text) (e : (front_of base empty, rest) ≡ scanned (front first) text) where
-  by_front : scanned (number_kind first) text ≡ scanned (tail (front_of base empty)) rest
+-- a number, once its integer part is known
+module _ (first : ℕ) (text rest : List ℕ) (base : Base) (empty : Bool) (is : IsUtf8 text) (e : (part_of base empty, rest) ≡ scanned (integer_part first) text) where
+  by_integer_part : scanned (number_kind first) text ≡ scanned (tail (part_of base empty)) rest
   unfolding number_kind
-  by_front = scanned-and_then (front first) tail text rest (front_of base empty) is e
+  by_integer_part = scanned-and_then (integer_part first) tail text rest (part_of base empty) is e
 
   pub pick-tail : empty ≡ false → scanned (number_kind first) text ≡ scanned (past_digits base) rest
-  pick-tail f = by_front ∙ ap (λ b. scanned (tail (front_of base b)) rest) f
+  pick-tail f = by_integer_part ∙ ap (λ b. scanned (tail (part_of base b)) rest) f
 
   pub pick-empty : empty ≡ true → scanned (number_kind first) text ≡ (Int base true, rest)
   pick-empty f =
-      let left : rest ≡ past (front first (chars text)).1 text = ap (λ (r : Front × List ℕ). r.1) e in
+      let left : rest ≡ past (integer_part first (chars text)).1 text = ap (λ (r : IntegerPart × List ℕ). r.1) e in
       let utf8 : IsUtf8 rest = rw left (IsUtf8-past _ text is) in
-      by_front ∙ (ap (λ b. scanned (tail (front_of base b)) rest) f ∙ scanned-gives _ rest utf8)
+      by_integer_part ∙ (ap (λ b. scanned (tail (part_of base b)) rest) f ∙ scanned-gives _ rest utf8)
 
 -- a run of digits and underscores is the underscores at its front, and what follows them
 module _ (is_digit : ℕ → Bool) (none : is_digit 95 ≡ false) where
@@ -154,4 +154,4 @@ module _ (is_digit : ℕ → Bool) (none : is_digit 95 ≡ false) where
   digits-is text middle rest some w4 is e f g =
       grind (arith, common_steps, chars-past, next_is-first, list_any-past, run_len-past, past-past)
 
-pub ruleset number_lemmas = (pick-tail, pick-binary, pick-octal, pick-hexadecimal, front_past_zero-end, next_is-first, is_no_fraction-zero, pick-fraction, pick-int_before_dot, pick-exponent, pick-int, past_digits-end, scanned-read_as)
+pub ruleset number_lemmas = (pick-tail, pick-binary, pick-octal, pick-hexadecimal, part_past_zero-end, next_is-first, is_no_fraction-zero, pick-fraction, pick-int_before_dot, pick-exponent, pick-int, past_digits-end, scanned-read_as)

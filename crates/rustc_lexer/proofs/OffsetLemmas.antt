@@ -10,40 +10,40 @@ use Rattle.rustc_lexer.proofs.BoundLemmas.{bound_mono}
 use Rattle.rustc_lexer.proofs.FrontLemmas.{bound-next}
 
 -- a bound that is past the first one has a token before it
-pub some_before : (tokens : List Token) (first n place offset : ℕ) → place ≡ first + bound tokens n → first ≤ offset → offset < place → 0 < n
-some_before tokens first zero place offset is le past = absurd (omega arith)
-some_before tokens first (suc n) place offset is le past = omega arith
+pub some_before : (tokens : List Token) (first n here offset : ℕ) → here ≡ first + bound tokens n → first ≤ offset → offset < here → 0 < n
+some_before tokens first zero here offset is le past = absurd (omega arith)
+some_before tokens first (suc n) here offset is le past = omega arith
 
 -- one token back
-module _ (tokens : List Token) (first n place : ℕ) (d : Token) (is : place ≡ first + bound tokens n) (some : 0 < n) (few : n ≤ length tokens) where
-  pub back_is : place - (get_or tokens (n - 1) d).len ≡ first + bound tokens (n - 1)
+module _ (tokens : List Token) (first n here : ℕ) (d : Token) (is : here ≡ first + bound tokens n) (some : 0 < n) (few : n ≤ length tokens) where
+  pub back_is : here - (get_or tokens (n - 1) d).len ≡ first + bound tokens (n - 1)
   back_is = grind (arith, common_steps, bound-next)
 
-  pub back_le : (get_or tokens (n - 1) d).len ≤ place
+  pub back_le : (get_or tokens (n - 1) d).len ≤ here
   back_le = grind (arith, common_steps, bound-next)
 
 -- one token ahead
-module _ (tokens : List Token) (first n place : ℕ) (d : Token) (is : place ≡ first + bound tokens n) (few : n < length tokens) where
-  pub ahead_is : place + (get_or tokens n d).len ≡ first + bound tokens (n + 1)
+module _ (tokens : List Token) (first n here : ℕ) (d : Token) (is : here ≡ first + bound tokens n) (few : n < length tokens) where
+  pub ahead_is : here + (get_or tokens n d).len ≡ first + bound tokens (n + 1)
   ahead_is = omega (arith, is, bound-next tokens n d few)
 
-  pub ahead_fits : first + bound tokens (length tokens) < 2 ^ 32 → place + (get_or tokens n d).len < 2 ^ 64
+  pub ahead_fits : first + bound tokens (length tokens) < 2 ^ 32 → here + (get_or tokens n d).len < 2 ^ 64
   ahead_fits fits = omega (arith, ahead_is, fits, bound_mono tokens (n + 1) (length tokens) (omega arith))
 
-  pub ends_past : (offset : ℕ) → offset < place + (get_or tokens n d).len → offset < first + bound tokens (n + 1)
+  pub ends_past : (offset : ℕ) → offset < here + (get_or tokens n d).len → offset < first + bound tokens (n + 1)
   ends_past offset past = omega (arith, ahead_is, past)
 
 module _ (first : ℕ) (tokens : List Token) (offset : ℕ) (at : Bound) (has : ContainsByte first tokens offset at) where
   -- the tokens before the one at the offset end there or before it, and it and those after it do not
   pub ended : (k : ℕ) → k < at.number → first + bound tokens (k + 1) ≤ offset
-  ended k less = omega (arith, has.place, has.begins, bound_mono tokens (k + 1) at.number (omega arith))
+  ended k less = omega (arith, has.start, has.begins, bound_mono tokens (k + 1) at.number (omega arith))
 
   pub not_ended : (k : ℕ) → at.number ≤ k → offset < first + bound tokens (k + 1)
   not_ended k le = omega (arith, has.ends, bound_mono tokens (at.number + 1) (k + 1) (omega arith))
 
   -- those up to it begin before the next offset, and those after it do not
   pub begun : (k : ℕ) → k < at.number + 1 → first + bound tokens k ≤ offset
-  begun k less = omega (arith, has.place, has.begins, bound_mono tokens k at.number (omega arith))
+  begun k less = omega (arith, has.start, has.begins, bound_mono tokens k at.number (omega arith))
 
   pub not_begun : (k : ℕ) → at.number + 1 ≤ k → offset < first + bound tokens k
   not_begun k le = omega (arith, has.ends, bound_mono tokens (at.number + 1) k le)
@@ -69,6 +69,6 @@ touched_from first tokens start stop from to some few inside ended later begun a
 pub answered : (result : Option Bound) (first : ℕ) (tokens : List Token) (offset len : ℕ) → first + bound tokens (length tokens) ≡ len → IfSome result (ContainsByte first tokens offset) → (IsNone result → first ≤ offset → len ≤ offset) → IsSome result ↔ ((first ≤ offset) × (offset < len))
 answered None first tokens offset len end has none = (λ some. absurd (true≢false (sym some)), λ inside. absurd (omega (arith, none refl inside.0, inside.1)))
 answered (Some at) first tokens offset len end has none = (
-  λ some. (omega (arith, has.place, has.begins), omega (arith, has.ends, end, bound_mono tokens (at.number + 1) (length tokens) (omega (arith, has.number)))),
+  λ some. (omega (arith, has.start, has.begins), omega (arith, has.ends, end, bound_mono tokens (at.number + 1) (length tokens) (omega (arith, has.number)))),
   λ inside. refl,
 )

@@ -45,12 +45,12 @@ pub as_many_left : (text : List ℕ) (start : ℕ) (tokens : List Token) {left :
 as_many_left text start tokens is = sym (length-pieces text start tokens) ∙ ap (λ (ps : List Placed). length ps) is
 
 -- the bounds of some of the tokens are bounds of all
-pub cuts_part : (text : List ℕ) (start place : ℕ) (tokens : List Token) (from n : ℕ) → from ≤ length tokens → place ≡ start + bound tokens from → AreBoundariesFrom text start tokens → AreBoundariesFrom text place (take n (drop from tokens))
-cuts_part text start place tokens from n few at are k less =
+pub cuts_part : (text : List ℕ) (start offset : ℕ) (tokens : List Token) (from n : ℕ) → from ≤ length tokens → offset ≡ start + bound tokens from → AreBoundariesFrom text start tokens → AreBoundariesFrom text offset (take n (drop from tokens))
+cuts_part text start offset tokens from n few at are k less =
     let within : k ≤ n = omega (arith, length-take n (drop from tokens)) in
     let inside : from + k ≤ length tokens = omega (arith, length-take n (drop from tokens), length-drop from tokens) in
     let short : bound (take n (drop from tokens)) k ≡ bound (drop from tokens) k = bound-same k (take n (drop from tokens)) (drop from tokens) (take-take k n (drop from tokens) within) in
-    let same : start + bound tokens (from + k) ≡ place + bound (take n (drop from tokens)) k = omega (arith, at, bound-shift tokens from k, short) in
+    let same : start + bound tokens (from + k) ≡ offset + bound (take n (drop from tokens)) k = omega (arith, at, bound-shift tokens from k, short) in
     subst (IsCharBoundary text) same (are (from + k) inside)
 
 pub drop-pieces : (text : List ℕ) (start k : ℕ) (ts : List Token) → drop k (pieces_from text start ts) ≡ pieces_from text (start + bound ts k) (drop k ts)
@@ -63,8 +63,8 @@ take-pieces text start zero ts = refl
 take-pieces text start (suc k) [] = refl
 take-pieces text start (suc k) (t ∷ ts) = ap (λ ps. record { start = start; token = t; text = take t.len (drop start text) } ∷ ps) (take-pieces text (start + t.len) k ts)
 
-pub pieces-part : (text : List ℕ) (start place : ℕ) (tokens : List Token) (from n : ℕ) → place ≡ start + bound tokens from → pieces_from text place (take n (drop from tokens)) ≡ take n (drop from (pieces_from text start tokens))
-pieces-part text start place tokens from n at = grind (arith, common_steps, drop-pieces, take-pieces)
+pub pieces-part : (text : List ℕ) (start offset : ℕ) (tokens : List Token) (from n : ℕ) → offset ≡ start + bound tokens from → pieces_from text offset (take n (drop from tokens)) ≡ take n (drop from (pieces_from text start tokens))
+pieces-part text start offset tokens from n at = grind (arith, common_steps, drop-pieces, take-pieces)
 
 -- ---- where a token begins, from a bound before it on
 
@@ -76,8 +76,8 @@ pub end_fits : (tokens : List Token) (i start end : ℕ) (d : Token) → i < len
 end_fits tokens i start end d few at fits = omega (arith, bound-next tokens i d few, bound_mono tokens (i + 1) (length tokens) (omega arith), at, fits)
 
 -- the place of a bound, and the tokens from there up to another
-pub bound-part : (tokens items : List Token) (from to place : ℕ) → from ≤ to → to ≤ length tokens → items ≡ slice_range tokens from to → place ≡ bound tokens from → place + bound items (length items) ≡ bound tokens to
-bound-part tokens items from to place le inside is at =
+pub bound-part : (tokens items : List Token) (from to offset : ℕ) → from ≤ to → to ≤ length tokens → items ≡ slice_range tokens from to → offset ≡ bound tokens from → offset + bound items (length items) ≡ bound tokens to
+bound-part tokens items from to offset le inside is at =
     let all : from + (to - from) ≡ to = omega arith in
     let enough : to - from ≤ length (drop from tokens) = omega (arith, length-drop from tokens) in
     let long : length items ≡ to - from = ap length is ∙ length-take-le (to - from) (drop from tokens) enough in

@@ -9,8 +9,8 @@ use Rattle.rustc_lexer.specs.State.{State}
 use Rattle.rustc_lexer.specs.Tokens.{TakesToken}
 
 -- past a token it stands where the token ends
-pub stands_past : (text : List ℕ) (place : ℕ) (s t : State) (token : Token) → StandsAt text place s → TakesToken s token t → StandsAt text (place + token.len) t
-stands_past text place s t token at takes = grind (arith, common_steps, IsCharBoundary-from_rest, drop-drop)
+pub stands_past : (text : List ℕ) (offset : ℕ) (s t : State) (token : Token) → StandsAt text offset s → TakesToken s token t → StandsAt text (offset + token.len) t
+stands_past text offset s t token at takes = grind (arith, common_steps, IsCharBoundary-from_rest, drop-drop)
 
 -- the slice from `start` to the end of the token is the front of what is left
 pub piece_is : (text rest piece : List ℕ) (start n : ℕ) → piece ≡ take (start + n - start) (drop start text) → drop start text ≡ rest → piece ≡ take n rest
@@ -20,6 +20,6 @@ piece_is text rest piece start n e left = grind (arith, common_steps)
 pub document_start : (text rest : List ℕ) (s : State) → IsCharBoundary text (shebang_len text) → rest ≡ s.rest → s.rest ≡ drop (shebang_len text) text → length text - length rest ≡ shebang_len text
 document_start text rest s boundary left is = let b = boundary.0 in omega (arith, ap length (left ∙ is), length-drop (shebang_len text) text)
 
-pub document_place : (text rest : List ℕ) (s : State) → IsCharBoundary text (shebang_len text) → rest ≡ s.rest → s.rest ≡ drop (shebang_len text) text → StandsAt text (length text - length rest) s
-document_place text rest s boundary left is =
+pub document_offset : (text rest : List ℕ) (s : State) → IsCharBoundary text (shebang_len text) → rest ≡ s.rest → s.rest ≡ drop (shebang_len text) text → StandsAt text (length text - length rest) s
+document_offset text rest s boundary left is =
     let begins = document_start text rest s boundary left is in (subst (λ (n : ℕ). IsCharBoundary text n) (sym begins) boundary, ap (λ (n : ℕ). drop n text) begins ∙ sym is)

@@ -25,46 +25,46 @@ next-from_drop (t ∷ ts) (suc n) x rest e = let ih = next-from_drop ts n x rest
   end = let i = ih.end in omega arith;
 }
 
--- the items are the first tokens of the text, and end at `place`
-pub record IsLexedTo (first : List ℕ → Token) (text : List ℕ) (items : List Token) (place : ℕ) : Type 0 where
+-- the items are the first tokens of the text, and end at `offset`
+pub record IsLexedTo (first : List ℕ → Token) (text : List ℕ) (items : List Token) (offset : ℕ) : Type 0 where
   pub number : length items ≤ length (tokens_by first text)
   pub items_are : items ≡ take (length items) (tokens_by first text)
-  pub place_is : place ≡ bound (tokens_by first text) (length items)
+  pub offset_is : offset ≡ bound (tokens_by first text) (length items)
 
-pub record IsPlace (text : List ℕ) (place : ℕ) : Type 0 where
-  pub inside : place ≤ length text
-  pub boundary : IsCharBoundary text place
-  pub front : IsUtf8 (take place text)
-  pub past : IsText (drop place text)
+pub record IsOffset (text : List ℕ) (offset : ℕ) : Type 0 where
+  pub inside : offset ≤ length text
+  pub boundary : IsCharBoundary text offset
+  pub front : IsUtf8 (take offset text)
+  pub past : IsText (drop offset text)
 
-pub lexed_place : {first : List ℕ → Token} (law : IsGrammar first) (text : List ℕ) (items : List Token) (place : ℕ) → IsText text → IsLexedTo first text items place → IsPlace text place
-lexed_place law text items place is at = grind (arith, common_steps, at_bound, IsCharBoundary-from_drop)
+pub lexed_offset : {first : List ℕ → Token} (law : IsGrammar first) (text : List ℕ) (items : List Token) (offset : ℕ) → IsText text → IsLexedTo first text items offset → IsOffset text offset
+lexed_offset law text items offset is at = grind (arith, common_steps, at_bound, IsCharBoundary-from_drop)
 
-pub lexed_more : {first : List ℕ → Token} (law : IsGrammar first) (text : List ℕ) (items : List Token) (place : ℕ) → IsText text → IsLexedTo first text items place → place < length text → IsLexedTo first text (items ++ first (drop place text) ∷ []) (place + (first (drop place text)).len)
-lexed_more {first} law text items place is at more =
+pub lexed_more : {first : List ℕ → Token} (law : IsGrammar first) (text : List ℕ) (items : List Token) (offset : ℕ) → IsText text → IsLexedTo first text items offset → offset < length text → IsLexedTo first text (items ++ first (drop offset text) ∷ []) (offset + (first (drop offset text)).len)
+lexed_more {first} law text items offset is at more =
     let n : ℕ = length items in
-    let x : Token = first (drop place text) in
+    let x : Token = first (drop offset text) in
     let cut : IsCutAt first text (tokens_by first text) n = at_bound law n text is in
-    let spot : IsPlace text place = lexed_place law text items place is at in
-    let some : 0 < length (drop place text) = omega (arith, length-drop place text) in
-    let here : drop n (tokens_by first text) ≡ x ∷ tokens_by first (drop x.len (drop place text)) = cut.rest ∙ (ap (λ p. tokens_by first (drop p text)) (sym at.place_is) ∙ tokens-cons law (drop place text) spot.past some) in
+    let spot : IsOffset text offset = lexed_offset law text items offset is at in
+    let some : 0 < length (drop offset text) = omega (arith, length-drop offset text) in
+    let here : drop n (tokens_by first text) ≡ x ∷ tokens_by first (drop x.len (drop offset text)) = cut.rest ∙ (ap (λ p. tokens_by first (drop p text)) (sym at.offset_is) ∙ tokens-cons law (drop offset text) spot.past some) in
     let next : IsNext (tokens_by first text) n x = next-from_drop _ n x _ here in
     let long : length (items ++ x ∷ []) ≡ suc n = omega (arith, length-append items (x ∷ [])) in
     record {
       number = let i = next.number in omega arith;
       items_are = ap (λ ts. ts ++ x ∷ []) at.items_are ∙ (sym next.more ∙ ap (λ k. take k (tokens_by first text)) (sym long));
-      place_is = rw (long, next.end, at.place_is) refl;
+      offset_is = rw (long, next.end, at.offset_is) refl;
     }
 
-pub lexed_whole : {first : List ℕ → Token} (law : IsGrammar first) (text : List ℕ) (items : List Token) (place : ℕ) → IsText text → IsLexedTo first text items place → length text ≤ place → items ≡ tokens_by first text
-lexed_whole {first} law text items place is at all =
+pub lexed_whole : {first : List ℕ → Token} (law : IsGrammar first) (text : List ℕ) (items : List Token) (offset : ℕ) → IsText text → IsLexedTo first text items offset → length text ≤ offset → items ≡ tokens_by first text
+lexed_whole {first} law text items offset is at all =
     let n : ℕ = length items in
     let cut : IsCutAt first text (tokens_by first text) n = at_bound law n text is in
-    let none : drop (bound (tokens_by first text) n) text ≡ [] = drop_all _ text (omega (arith, at.place_is)) in
+    let none : drop (bound (tokens_by first text) n) text ≡ [] = drop_all _ text (omega (arith, at.offset_is)) in
     let over : drop n (tokens_by first text) ≡ [] = cut.rest ∙ (ap (tokens_by first) none ∙ tokens-nil first) in
     let long : length (tokens_by first text) ≤ n = let no : length (drop n (tokens_by first text)) ≡ 0 = ap length over in omega (arith, length-drop n (tokens_by first text)) in
     at.items_are ∙ take_all n (tokens_by first text) long
 
 -- what a step on the rest of a text gives, by the grammar that the stepper had at first
-pub stepped : {first now : List ℕ → Token} (text : List ℕ) (place : ℕ) {left : List ℕ} {token : Token} → token ≡ now left → now ≡ first → left ≡ drop place text → token ≡ first (drop place text)
-stepped {first} {now} text place {left} {token} e f h = e ∙ (ap (λ (g : List ℕ → Token). g left) f ∙ ap first h)
+pub stepped : {first now : List ℕ → Token} (text : List ℕ) (offset : ℕ) {left : List ℕ} {token : Token} → token ≡ now left → now ≡ first → left ≡ drop offset text → token ≡ first (drop offset text)
+stepped {first} {now} text offset {left} {token} e f h = e ∙ (ap (λ (g : List ℕ → Token). g left) f ∙ ap first h)

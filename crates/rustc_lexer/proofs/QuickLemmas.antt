@@ -106,10 +106,10 @@ word_first text b rest end is e small family counted ends = first text b rest Id
         let left : List ℕ = drop end rest in
         let whole : IsUtf8 left = subst (λ k. IsUtf8 (drop k rest)) (sym counted) (skips is_continue_byte is_id_continue continue_part rest inner).utf8 in
         let next = turned-emoji left whole (not-true _ ends) in
-        let place : left ≡ past (run_len is_id_continue (chars rest)) rest = stops_here is_continue_byte is_id_continue continue_part rest rest end inner refl counted left refl next.1.1 in
+        let offset : left ≡ past (run_len is_id_continue (chars rest)) rest = stops_here is_continue_byte is_id_continue continue_part rest rest end inner refl counted left refl next.1.1 in
         let unmarked : next_is ends_prefix (drop (run_len is_id_continue (chars rest)) (chars rest)) ≡ false =
-        sym (ap (next_is ends_prefix) (ap chars place ∙ chars-past (run_len is_id_continue (chars rest)) rest inner)) ∙ next.1.0 in
-        by_family Word b rest _ family (ap (λ (t : Bool). let k : TokenKind = if t then UnknownPrefix else Ident in (k, left)) (sym next.1.0) ∙ (ident_or_unknown_prefix-valid rest left inner place next.0 ∙ sym (scanned-same (word b) ident_or_unknown_prefix rest (word-plain b (chars rest) unmarked))))
+        sym (ap (next_is ends_prefix) (ap chars offset ∙ chars-past (run_len is_id_continue (chars rest)) rest inner)) ∙ next.1.0 in
+        by_family Word b rest _ family (ap (λ (t : Bool). let k : TokenKind = if t then UnknownPrefix else Ident in (k, left)) (sym next.1.0) ∙ (ident_or_unknown_prefix-valid rest left inner offset next.0 ∙ sym (scanned-same (word b) ident_or_unknown_prefix rest (word-plain b (chars rest) unmarked))))
 
 pub space_first : (text : List ℕ) (b : ℕ) (rest : List ℕ) (end : ℕ) → IsUtf8 text → text ≡ b ∷ rest → b < 128 → Space ≡ family_of b → end ≡ prefix_len is_space_byte rest → not (next_is is_space_lead (drop end rest)) ≡ true
     → IsFirstToken text record { kind = Whitespace; len = 1 + end }
@@ -133,6 +133,6 @@ symbol_by guards text b rest kind is e small family same = first_by guards text 
 
 -- an identifier, by the byte after it
 pub ident_or_unknown_prefix_ends : (tail rest bytes : List ℕ) → IsUtf8 tail → IsUtf8 rest → rest ≡ past (run_len is_id_continue (chars tail)) tail → bytes ≡ rest → not (next_is turns_word bytes) ≡ true → (Ident, rest) ≡ scanned ident_or_unknown_prefix tail
-ident_or_unknown_prefix_ends tail rest bytes is whole place read ends =
+ident_or_unknown_prefix_ends tail rest bytes is whole offset read ends =
     let next = turned-emoji rest whole (sym (ap (next_is turns_word) read) ∙ not-true _ ends) in
-    ap (λ (t : Bool). let k : TokenKind = if t then UnknownPrefix else Ident in (k, rest)) (sym next.1.0) ∙ ident_or_unknown_prefix-valid tail rest is place next.0
+    ap (λ (t : Bool). let k : TokenKind = if t then UnknownPrefix else Ident in (k, rest)) (sym next.1.0) ∙ ident_or_unknown_prefix-valid tail rest is offset next.0

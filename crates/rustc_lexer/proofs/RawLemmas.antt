@@ -8,8 +8,8 @@ use Rattle.std.proofs.lemmas.Grind.{common_steps}
 use Rattle.rustc_lexer.specs.{RawStrError, NoTerminator}
 use Rattle.rustc_lexer.specs.means.Least.{one_more, more}
 use Rattle.rustc_lexer.specs.laws.Choice.{by_either}
-use Rattle.rustc_lexer.specs.laws.Least.{place-here, place-on, more-more, more-zero}
-use Rattle.rustc_lexer.specs.means.Raw.{least_place, is_hash, is_quote, is_no_quote, hash_run, closes, close, quote_hashes, most_hashes, quote_with, quote_if, best_quote, quote_end, hash_count, raw_closed, raw_text}
+use Rattle.rustc_lexer.specs.laws.Least.{offset-here, offset-on, more-more, more-zero}
+use Rattle.rustc_lexer.specs.means.Raw.{least_offset, is_hash, is_quote, is_no_quote, hash_run, closes, close, quote_hashes, most_hashes, quote_with, quote_if, best_quote, quote_end, hash_count, raw_closed, raw_text}
 use Rattle.rustc_lexer.specs.means.Scan.{begins, bytes_of, past, run_len, scanned}
 use Rattle.rustc_lexer.specs.laws.Scan.{bytes-run, length-run, run_len-stop}
 use Rattle.rustc_lexer.specs.laws.Past.{past-zero, past-past, past-drop, chars-past, IsUtf8-past, length-past}
@@ -22,8 +22,8 @@ more-quote k h (Some n) = ap Some (omega arith)
 
 -- the characters of a class without quotes are passed over
 module _ (p : ℕ → Bool) (none : (c : ℕ) → p c ≡ true → is_quote c ≡ false) where
-  skip-place : (test : List ℕ → Bool) → ((c : ℕ) (s : List ℕ) → is_quote c ≡ false → test (c ∷ s) ≡ false) → (s : List ℕ) → least_place test s ≡ more (run_len p s) (least_place test (drop (run_len p s) s))
-  skip-place test fails = skip_run p test (λ c s e. fails c s (none c e))
+  skip-offset : (test : List ℕ → Bool) → ((c : ℕ) (s : List ℕ) → is_quote c ≡ false → test (c ∷ s) ≡ false) → (s : List ℕ) → least_offset test s ≡ more (run_len p s) (least_offset test (drop (run_len p s) s))
+  skip-offset test fails = skip_run p test (λ c s e. fails c s (none c e))
 
   skip-most : (s : List ℕ) → most_hashes s ≡ most_hashes (drop (run_len p s) s)
   skip-most [] = refl
@@ -67,17 +67,17 @@ past_quote-is now rest mid (Some tail) is e le h =
 module _ (v w : List ℕ) (at_quote : drop (run_len is_no_quote v) v ≡ 34 ∷ w) where
   -- a test that fails at each other character
   module _ (test : List ℕ → Bool) (fails : (c : ℕ) (s : List ℕ) → is_quote c ≡ false → test (c ∷ s) ≡ false) where
-    to-quote : least_place test v ≡ more (run_len is_no_quote v) (least_place test (34 ∷ w))
-    to-quote = skip-place is_no_quote (λ c. not-true (is_quote c)) test fails v ∙ ap (λ s. more (run_len is_no_quote v) (least_place test s)) at_quote
+    to-quote : least_offset test v ≡ more (run_len is_no_quote v) (least_offset test (34 ∷ w))
+    to-quote = skip-offset is_no_quote (λ c. not-true (is_quote c)) test fails v ∙ ap (λ s. more (run_len is_no_quote v) (least_offset test s)) at_quote
 
-    pub place-at : test (34 ∷ w) ≡ true → least_place test v ≡ Some (run_len is_no_quote v)
-    place-at e = to-quote ∙ (ap (more (run_len is_no_quote v)) (place-here test 34 w e) ∙ ap Some (omega arith))
+    pub offset-at : test (34 ∷ w) ≡ true → least_offset test v ≡ Some (run_len is_no_quote v)
+    offset-at e = to-quote ∙ (ap (more (run_len is_no_quote v)) (offset-here test 34 w e) ∙ ap Some (omega arith))
 
-    pub place-past : test (34 ∷ w) ≡ false → least_place test v ≡ more (suc (run_len is_no_quote v) + hash_run w) (least_place test (drop (hash_run w) w))
-    place-past e =
+    pub offset-past : test (34 ∷ w) ≡ false → least_offset test v ≡ more (suc (run_len is_no_quote v) + hash_run w) (least_offset test (drop (hash_run w) w))
+    offset-past e =
         to-quote
-        ∙ (ap (more (run_len is_no_quote v)) (place-on test 34 w e ∙ ap one_more (skip-place is_hash hash-no_quote test fails w))
-        ∙ more-quote (run_len is_no_quote v) (hash_run w) (least_place test (drop (hash_run w) w)))
+        ∙ (ap (more (run_len is_no_quote v)) (offset-on test 34 w e ∙ ap one_more (skip-offset is_hash hash-no_quote test fails w))
+        ∙ more-quote (run_len is_no_quote v) (hash_run w) (least_offset test (drop (hash_run w) w)))
 
   pub most-past : most_hashes v ≡ max (hash_run w) (most_hashes (drop (hash_run w) w))
   most-past = skip-most is_no_quote (λ c. not-true (is_quote c)) v ∙ (ap most_hashes at_quote ∙ ap (max (hash_run w)) (skip-most is_hash hash-no_quote w))
@@ -92,7 +92,7 @@ counts-fails m c s some e = ap (λ (b : Bool). (if b then hash_run s else 0) == 
 pub record Searching (n before : ℕ) (text left : List ℕ) (found : ℕ) (end : Option ℕ) : Type 0 where
   pub taken : ℕ
   pub inside : length left ≤ length text
-  pub place : left ≡ past taken text
+  pub offset : left ≡ past taken text
   pub closes_at : close n (chars text) ≡ more taken (close n (chars left))
   pub most : most_hashes (chars text) ≡ max found (most_hashes (chars left))
   pub more : (m : ℕ) → found < m → quote_with m (chars text) ≡ more taken (quote_with m (chars left))
@@ -113,7 +113,7 @@ module _ (n before : ℕ) (text left tail next : List ℕ) (found : ℕ) (end : 
     (quote : drop (run_len is_no_quote (chars left)) (chars left) ≡ 34 ∷ chars tail) (tail_is : tail ≡ past (suc (run_len is_no_quote (chars left))) left)
     (next_is : next ≡ past (run_len is_hash (chars tail)) tail) where
   tail_at : tail ≡ past (at.taken + suc (run_len is_no_quote (chars left))) text
-  tail_at = tail_is ∙ (ap (past (suc (run_len is_no_quote (chars left)))) at.place ∙ past-past (suc (run_len is_no_quote (chars left))) at.taken text is)
+  tail_at = tail_is ∙ (ap (past (suc (run_len is_no_quote (chars left)))) at.offset ∙ past-past (suc (run_len is_no_quote (chars left))) at.taken text is)
 
   tail_utf8 : IsUtf8 tail
   tail_utf8 = subst IsUtf8 (sym tail_at) (IsUtf8-past (at.taken + suc (run_len is_no_quote (chars left))) text is)
@@ -127,14 +127,14 @@ module _ (n before : ℕ) (text left tail next : List ℕ) (found : ℕ) (end : 
   next_at : next ≡ past (at.taken + (suc (run_len is_no_quote (chars left)) + hash_run (chars tail))) text
   next_at = grind (arith, common_steps, tail_at, past-past)
 
-  place_on : (test : List ℕ → Bool) → ((c : ℕ) (s : List ℕ) → is_quote c ≡ false → test (c ∷ s) ≡ false) → test (34 ∷ chars tail) ≡ false → least_place test (chars text) ≡ more at.taken (least_place test (chars left))
-      → least_place test (chars text) ≡ more (at.taken + (suc (run_len is_no_quote (chars left)) + hash_run (chars tail))) (least_place test (chars next))
-  place_on test fails e f =
+  offset_on : (test : List ℕ → Bool) → ((c : ℕ) (s : List ℕ) → is_quote c ≡ false → test (c ∷ s) ≡ false) → test (34 ∷ chars tail) ≡ false → least_offset test (chars text) ≡ more at.taken (least_offset test (chars left))
+      → least_offset test (chars text) ≡ more (at.taken + (suc (run_len is_no_quote (chars left)) + hash_run (chars tail))) (least_offset test (chars next))
+  offset_on test fails e f =
       let d : ℕ = suc (run_len is_no_quote (chars left)) + hash_run (chars tail) in
       f
-      ∙ (ap (more at.taken) (place-past (chars left) (chars tail) quote test fails e)
-      ∙ (more-more at.taken d (least_place test (drop (hash_run (chars tail)) (chars tail)))
-      ∙ ap (λ s. more (at.taken + d) (least_place test s)) (sym next_reads)))
+      ∙ (ap (more at.taken) (offset-past (chars left) (chars tail) quote test fails e)
+      ∙ (more-more at.taken d (least_offset test (drop (hash_run (chars tail)) (chars tail)))
+      ∙ ap (λ s. more (at.taken + d) (least_offset test s)) (sym next_reads)))
 
   most_on : most_hashes (chars text) ≡ max found (max (hash_run (chars tail)) (most_hashes (chars next)))
   most_on = at.most ∙ ap (max found) (most-past (chars left) (chars tail) quote ∙ ap (λ s. max (hash_run (chars tail)) (most_hashes s)) (sym next_reads))
@@ -148,10 +148,10 @@ module _ (n before : ℕ) (text left tail next : List ℕ) (found : ℕ) (end : 
         record {
           taken = at.taken + (suc (run_len is_no_quote (chars left)) + h);
           inside = shorter;
-          place = next_at;
-          closes_at = place_on (closes n) (closes-fails n) (lt-leb n h (omega arith)) at.closes_at;
+          offset = next_at;
+          closes_at = offset_on (closes n) (closes-fails n) (lt-leb n h (omega arith)) at.closes_at;
           most = most_on ∙ omega arith;
-          more = λ m less. place_on (λ s. quote_hashes s == m) (λ c s f. counts-fails m c s (omega arith) f) (ne_eqb h m (λ f. omega arith)) (at.more m (omega arith));
+          more = λ m less. offset_on (λ s. quote_hashes s == m) (λ c s f. counts-fails m c s (omega arith) f) (ne_eqb h m (λ f. omega arith)) (at.more m (omega arith));
           ends = e;
         }
 
@@ -165,7 +165,7 @@ module _ (n before : ℕ) (text left tail next : List ℕ) (found : ℕ) (end : 
         let is_count = count in
         let some : (h == 0) ≡ false = ne_eqb h 0 (λ f. omega arith) in
         let first : quote_with h (chars text) ≡ Some (at.taken + k) =
-        at.more h (omega arith) ∙ ap (more at.taken) (place-at (chars left) (chars tail) quote (λ s. quote_hashes s == h) (λ c s f. counts-fails h c s (omega arith) f) (eq-eqb h h refl)) in
+        at.more h (omega arith) ∙ ap (more at.taken) (offset-at (chars left) (chars tail) quote (λ s. quote_hashes s == h) (λ c s f. counts-fails h c s (omega arith) f) (eq-eqb h h refl)) in
         let same : suc (at.taken + k) ≡ at.taken + suc k = omega arith in
         let bytes : bytes_of (at.taken + suc k) (chars text) + length tail ≡ length text = ap (λ (xs : List ℕ). bytes_of (at.taken + suc k) (chars text) + length xs) tail_at ∙ length-past (at.taken + suc k) text is in
         let ends : Some (before + (length text - length tail)) ≡ quote_end before (chars text) (quote_if h (chars text)) =
@@ -189,7 +189,7 @@ module _ (n before : ℕ) (text left tail next : List ℕ) (found : ℕ) (end : 
     closed_here read cut e f =
         let k : ℕ = run_len is_no_quote (chars left) in
         let closes_here : close n (chars text) ≡ Some (at.taken + k) =
-        at.closes_at ∙ ap (more at.taken) (place-at (chars left) (chars tail) quote (closes n) (closes-fails n) (le-leb n (hash_run (chars tail)) (let is_count = count in omega arith))) in
+        at.closes_at ∙ ap (more at.taken) (offset-at (chars left) (chars tail) quote (closes n) (closes-fails n) (le-leb n (hash_run (chars tail)) (let is_count = count in omega arith))) in
         let same : (at.taken + suc k) + n ≡ suc (at.taken + k) + n = omega arith in
         let left_is : cut ≡ past (suc (at.taken + k) + n) text = f ∙ (cut_is ∙ (ap (past n) tail_at ∙ (past-past n (at.taken + suc k) text is ∙ ap (λ (m : ℕ). past m text) same))) in
         ap (λ (r : Result ℕ RawStrError). (r, cut)) e
@@ -206,7 +206,7 @@ pub never_closed : (n before : ℕ) (text left : List ℕ) (found : ℕ) (end : 
 never_closed n before text left found end at none =
     let u : List ℕ = chars text in
     let k : ℕ = run_len is_no_quote (chars left) in
-    let no_close : close n u ≡ None = at.closes_at ∙ ap (more at.taken) (skip-place is_no_quote (λ c. not-true (is_quote c)) (closes n) (closes-fails n) (chars left) ∙ ap (λ s. more k (close n s)) none) in
+    let no_close : close n u ≡ None = at.closes_at ∙ ap (more at.taken) (skip-offset is_no_quote (λ c. not-true (is_quote c)) (closes n) (closes-fails n) (chars left) ∙ ap (λ s. more k (close n s)) none) in
     let no_more : most_hashes (chars left) ≡ 0 = skip-most is_no_quote (λ c. not-true (is_quote c)) (chars left) ∙ ap most_hashes none in
     let most : found ≡ most_hashes u = let m = at.most in omega arith in
     ap (λ (o : Option ℕ). let r : Result ℕ RawStrError × List ℕ = (Err (NoTerminator n found o), []) in r) at.ends

@@ -28,7 +28,7 @@ module _ {first : List ℕ → Token} (law : IsGrammar first) (text : List ℕ) 
   bounds_fit k few = omega (arith, (cuts k few).0, is.fits)
 
   module _ (start stop : ℕ) (insert new : List ℕ) (edit : IsEdit text start stop insert) (ed : IsEdited text start stop insert new) where
-    pub ready : (kept : Bound) → kept.number ≤ length (tokens_by first text) → kept.place ≡ bound (tokens_by first text) kept.number → (0 < kept.number → has_two text kept.place start ≡ true) → IsReady first (tokens_by first text) new kept start
+    pub ready : (kept : Bound) → kept.number ≤ length (tokens_by first text) → kept.offset ≡ bound (tokens_by first text) kept.number → (0 < kept.number → has_two text kept.offset start ≡ true) → IsReady first (tokens_by first text) new kept start
     ready kept few at two =
         let two_past : 0 < kept.number → has_two text (bound (tokens_by first text) kept.number) start ≡ true = λ some. subst (λ p. has_two text p start ≡ true) at (two some) in
         let same : take kept.number (tokens_by first new) ≡ take kept.number (tokens_by first text) = kept_same law text start stop insert new is edit ed kept.number few two_past in
@@ -50,10 +50,10 @@ counts {first} law text is start stop insert items number kept kept_is met =
 
 -- the same, for a list and a text that are known by equations
 module _ {first : List ℕ → Token} (law : IsGrammar first) (text : List ℕ) (is : IsText text) (start stop : ℕ) (insert : List ℕ) (its : IsUtf8 insert) (edit : IsEdit text start stop insert) where
-  pub ready_for : (old : List Token) (new : List ℕ) (kept : Bound) → old ≡ tokens_by first text → new ≡ apply text start stop insert → kept.number ≤ length old → kept.place ≡ bound old kept.number → (0 < kept.number → has_two text kept.place start ≡ true) → IsReady first old new kept start
+  pub ready_for : (old : List Token) (new : List ℕ) (kept : Bound) → old ≡ tokens_by first text → new ≡ apply text start stop insert → kept.number ≤ length old → kept.offset ≡ bound old kept.number → (0 < kept.number → has_two text kept.offset start ≡ true) → IsReady first old new kept start
   ready_for old new kept e f few at two =
       let few' : kept.number ≤ length (tokens_by first text) = rw e at few in
-      let at' : kept.place ≡ bound (tokens_by first text) kept.number = at ∙ ap (λ ts. bound ts kept.number) e in
+      let at' : kept.offset ≡ bound (tokens_by first text) kept.number = at ∙ ap (λ ts. bound ts kept.number) e in
       rw (e, f) (ready law text is start stop insert (apply text start stop insert) edit (edited text start stop insert is its edit) kept few' at' two)
 
   pub whole_for : (old : List Token) (new : List ℕ) (items : List Token) (number kept : ℕ) → old ≡ tokens_by first text → new ≡ apply text start stop insert → IsMet first old new stop (start + length insert) kept items number → items ++ drop number old ≡ tokens_by first (apply text start stop insert)

@@ -12,7 +12,7 @@ use Rattle.rustc_lexer.specs.Classes.{IsText}
 use Rattle.rustc_lexer.specs.Edits.{known}
 use Rattle.rustc_lexer.specs.Relexing.{IsMadeOf, TakesSteps, is_over}
 use Rattle.rustc_lexer.specs.Locality.{IsGrammar}
-use Rattle.rustc_lexer.proofs.BufferLemmas.{next_place, next_token, over}
+use Rattle.rustc_lexer.proofs.BufferLemmas.{next_offset, next_token, over}
 use Rattle.rustc_lexer.specs.laws.Cuts.{IsCutAt, at_bound}
 use Rattle.rustc_lexer.proofs.RelexingLemmas.{made_text}
 
@@ -20,7 +20,7 @@ use Rattle.rustc_lexer.proofs.RelexingLemmas.{made_text}
 pub left_at : {first : List ℕ → Token} (law : IsGrammar first) (before lengths insert text : List ℕ) (change : Change) (is : IsMadeOf first before lengths change insert text) (at : Relexing) (stands : Stands first before change text at) → tokens_by first (drop at.at text) ≡ drop (known at) (tokens_by first text)
 left_at {first} law before lengths insert text change is at stands =
     let cut : IsCutAt first text (tokens_by first text) (known at) = at_bound law (known at) text (made_text law before lengths insert text change is) in
-    sym (cut.rest ∙ ap (λ p. tokens_by first (drop p text)) (sym stands.place))
+    sym (cut.rest ∙ ap (λ p. tokens_by first (drop p text)) (sym stands.offset))
 
 -- no step
 pub no_step : (first : List ℕ → Token) (text : List ℕ) (past : ℕ) (at : Relexing) → TakesSteps first text past at 0 at
@@ -33,7 +33,7 @@ pub record IsStepTo (first : List ℕ → Token) (text : List ℕ) (past : ℕ) 
   pub not_empty : 0 < token.len
   pub front : at'.front ≡ at.front
   pub lexed : at'.lexed ≡ at.lexed + 1
-  pub place : at'.at ≡ at.at + token.len
+  pub offset : at'.at ≡ at.at + token.len
   pub same_back : at'.at < past → at'.back ≡ at.back
   pub not_met : at'.at < past → at'.met ≡ false
 
@@ -49,16 +49,16 @@ module _ {first : List ℕ → Token} (law : IsGrammar first) (text : List ℕ) 
   rest_is = record { utf8 = IsUtf8-drop text begin.at is.utf8 boundary; fits = let f = is.fits in omega (arith, length-drop begin.at text) }
 
   more : bound left count < length rest
-  more = let inside = step.inside in let b = boundary.0 in omega (arith, steps.place, length-drop begin.at text)
+  more = let inside = step.inside in let b = boundary.0 in omega (arith, steps.offset, length-drop begin.at text)
 
   token_is : first (drop (bound left count) rest) ≡ token
-  token_is = sym (step.token_is ∙ ap first (ap (λ n. drop n text) steps.place ∙ sym (drop-drop (bound left count) begin.at text)))
+  token_is = sym (step.token_is ∙ ap first (ap (λ n. drop n text) steps.offset ∙ sym (drop-drop (bound left count) begin.at text)))
 
   pub next_left : drop count left ≡ token ∷ tokens_by first (drop token.len (drop (bound left count) rest))
   next_left = subst (λ (t : Token). drop count left ≡ t ∷ tokens_by first (drop t.len (drop (bound left count) rest))) token_is (next_token law rest rest_is count (bound left count) refl more)
 
   pub step_more : TakesSteps first text past begin (count + 1) at'
-  step_more = grind (arith, common_steps, next_left, length-drop, next_place, rest_is, token_is)
+  step_more = grind (arith, common_steps, next_left, length-drop, next_offset, rest_is, token_is)
 
 -- so one step is such steps, one in number
 pub one_step : {first : List ℕ → Token} (law : IsGrammar first) (text : List ℕ) → IsText text → (past : ℕ) (at : Relexing) (token : Token) (at' : Relexing) → IsCharBoundary text at.at → IsStepTo first text past at token at' → TakesSteps first text past at 1 at'
@@ -81,7 +81,7 @@ step_of {first} law text is past count at token count' at' boundary step =
       not_empty = omega (arith, len, law.not_empty rest rest_is more);
       front = steps.front;
       lexed = steps.lexed;
-      place = omega (arith, steps.place, next_place law rest rest_is 0 0 refl more, len);
+      offset = omega (arith, steps.offset, next_offset law rest rest_is 0 0 refl more, len);
       same_back = steps.same_back;
       not_met = steps.not_met (omega arith);
     }

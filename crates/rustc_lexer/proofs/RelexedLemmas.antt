@@ -61,7 +61,7 @@ module _ (old new : List Token) (stop new_stop number : ℕ) where
       let past = leb-true new_stop (bound new number) both.0 in
       let inside = at.1 in
       let there = at.2 in
-      (at.0, there, inside, record { number_inside = few; past_edit = past; old_number = at.0; back_is = omega arith; same_place = omega arith })
+      (at.0, there, inside, record { number_inside = few; past_edit = past; old_number = at.0; back_is = omega arith; same_offset = omega arith })
 
 -- ---- the kept front
 

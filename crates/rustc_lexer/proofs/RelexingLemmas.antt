@@ -108,22 +108,22 @@ module _ {first : List ℕ → Token} (law : IsGrammar first) (before lengths in
       grind (arith, common_steps, start_inside, bound-last, ed.len, is.edit_of.is_edit.inside.start_le_stop, is.edit_of.is_edit.inside.stop_inside, is.edit_of.new_stop)
 
   -- the end of the text, moved back, is the end of the old tokens
-  pub end_last : (place : ℕ) → place ≡ length text → IsLast old (place - change.new_stop + old_stop_of (damage_of text change))
-  end_last place at =
-      let ends : bound old (length old) ≡ place - change.new_stop + old_stop_of (damage_of text change) = omega (arith, damage_stop text change made_change, text_end.0, text_end.1) in
+  pub end_last : (offset : ℕ) → offset ≡ length text → IsLast old (offset - change.new_stop + old_stop_of (damage_of text change))
+  end_last offset at =
+      let ends : bound old (length old) ≡ offset - change.new_stop + old_stop_of (damage_of text change) = omega (arith, damage_stop text change made_change, text_end.0, text_end.1) in
       (ends, λ k less. omega (arith, ends, rises law before is.edit_of.is_text k less, bound_mono old (suc k) (length old) less))
 
   -- what lexing from the kept front asks
-  ready : (kept : Bound) → IsBound old kept → (0 < kept.number → has_two before kept.place change.start ≡ true) → IsReady first old text kept change.start
+  ready : (kept : Bound) → IsBound old kept → (0 < kept.number → has_two before kept.offset change.start ≡ true) → IsReady first old text kept change.start
   ready kept at two =
       ready_for law before is.edit_of.is_text change.start change.old_stop insert is.edit_of.inserted is.edit_of.is_edit old text kept refl is.edit_of.made at.0 at.1 two
 
   -- each bound before the kept front is before the edit
-  pub front_below : (kept : Bound) → IsBound old kept → (0 < kept.number → has_two before kept.place change.start ≡ true) → (k : ℕ) → k < kept.number → bound old k + change.new_stop < max change.new_stop kept.place + change.old_stop
+  pub front_below : (kept : Bound) → IsBound old kept → (0 < kept.number → has_two before kept.offset change.start ≡ true) → (k : ℕ) → k < kept.number → bound old k + change.new_stop < max change.new_stop kept.offset + change.old_stop
   front_below kept at two k less =
-      omega (arith, le-max_left change.new_stop kept.place, is.edit_of.is_edit.inside.start_le_stop, (ready kept at two).kept_before k less)
+      omega (arith, le-max_left change.new_stop kept.offset, is.edit_of.is_edit.inside.start_le_stop, (ready kept at two).kept_before k less)
 
-  pub stands_first : (kept : Bound) (to : Meeting) → kept.number ≡ kept_front before old change.start → IsBound old kept → (0 < kept.number → has_two before kept.place change.start ≡ true) → IsFollowed old change.old_stop change.new_stop kept.place to.at to.met → (kept.place < change.new_stop → to.at ≡ kept) → Stands first before change text record { front = kept; lexed = 0; back = to.at; at = kept.place; met = to.met }
+  pub stands_first : (kept : Bound) (to : Meeting) → kept.number ≡ kept_front before old change.start → IsBound old kept → (0 < kept.number → has_two before kept.offset change.start ≡ true) → IsFollowed old change.old_stop change.new_stop kept.offset to.at to.met → (kept.offset < change.new_stop → to.at ≡ kept) → Stands first before change text record { front = kept; lexed = 0; back = to.at; at = kept.offset; met = to.met }
   stands_first kept to number at two followed stays =
       let r = ready kept at two in
       let none : kept.number + 0 ≡ kept.number = omega arith in
@@ -132,7 +132,7 @@ module _ {first : List ℕ → Token} (law : IsGrammar first) (before lengths in
         front_bound = at;
         front_same = r.kept_same;
         inside = omega (arith, r.kept_new);
-        place = at.1 ∙ (bound-same kept.number old new r.kept_same ∙ ap (bound new) (sym none));
+        offset = at.1 ∙ (bound-same kept.number old new r.kept_same ∙ ap (bound new) (sym none));
         not_past = omega (arith, meet_ge old new change.old_stop change.new_stop kept.number);
         met_is = followed.met_is;
         back_bound = followed.bound_is;
@@ -151,14 +151,14 @@ module _ {first : List ℕ → Token} (law : IsGrammar first) (before lengths in
     to : IsLexedTo first text items at.at
     to = grind (arith, common_steps, long)
 
-    going : IsGoing first old text change.old_stop change.new_stop at.front.number items at.at at.back.number at.back.place at.met
+    going : IsGoing first old text change.old_stop change.new_stop at.front.number items at.at at.back.number at.back.offset at.met
     going = record {
       to = to;
       kept_le = omega (arith, long);
       search = ap (λ n. least_from (test first old text change.old_stop change.new_stop at.front.number) (length new - n) n) long
           ∙ meet-skip old new change.old_stop change.new_stop at.front.number (known at) (omega arith) stands.inside stands.not_past;
       number_bound = stands.back_bound.0;
-      place_is = stands.back_bound.1;
+      offset_is = stands.back_bound.1;
       below = stands.below;
       reached = stands.reached;
       met_is = stands.met_is;
@@ -167,18 +167,18 @@ module _ {first : List ℕ → Token} (law : IsGrammar first) (before lengths in
     -- where the old tokens are not met, more text is left
     pub stands_inside : at.met ≡ false → at.at < length text
     stands_inside out =
-        going_inside first old text change.old_stop change.new_stop at.front.number law made_text items at.at at.back.number at.back.place at.met going text_end.1 text_end.0 out
+        going_inside first old text change.old_stop change.new_stop at.front.number law made_text items at.at at.back.number at.back.offset at.met going text_end.1 text_end.0 out
 
     -- at the end of the text they are met
     pub over_met : at.met ≡ false → eqb at.at (length text) ≡ at.met
     over_met out = grind (arith, common_steps, stands_inside, eqb-true)
 
-    -- each bound that was passed is before a later place too
+    -- each bound that was passed is before a later offset too
     pub below_later : (later : ℕ) → at.at ≤ later → (k : ℕ) → k < at.back.number → bound old k + change.new_stop < max change.new_stop later + change.old_stop
     below_later later le k less = grind (arith, common_steps, max-le, le-max_left, le-max_right, stands.below k less)
 
     pub is_met : at.met ≡ true → IsMet first old text change.old_stop change.new_stop at.front.number items at.back.number
-    is_met hit = going_met first old text change.old_stop change.new_stop at.front.number items at.at at.back.number at.back.place at.met going hit
+    is_met hit = going_met first old text change.old_stop change.new_stop at.front.number items at.at at.back.number at.back.offset at.met going hit
 
     met_by : at.met ≡ true → IsMet first old text change.old_stop (change.start + length insert) at.front.number items at.back.number
     met_by hit = subst (λ end. IsMet first old text change.old_stop end at.front.number items at.back.number) is.edit_of.new_stop (is_met hit)
@@ -226,8 +226,8 @@ module _ {first : List ℕ → Token} (law : IsGrammar first) (before lengths in
             front_bound = stands.front_bound;
             front_same = stands.front_same;
             inside = omega (arith, count, more.number);
-            place = len ∙ (more.place_is ∙ ap (bound new) count);
-            not_past = omega (arith, long, going_least first old text change.old_stop change.new_stop at.front.number law made_text items at.at at.back.number at.back.place at.met going out (stands_inside out));
+            offset = len ∙ (more.offset_is ∙ ap (bound new) count);
+            not_past = omega (arith, long, going_least first old text change.old_stop change.new_stop at.front.number law made_text items at.at at.back.number at.back.offset at.met going out (stands_inside out));
             met_is = followed.met_is;
             back_bound = followed.bound_is;
             not_begun = λ early. stays early ∙ stands.not_begun (omega arith);
@@ -239,16 +239,16 @@ module _ {first : List ℕ → Token} (law : IsGrammar first) (before lengths in
       gives_next =
           let cut : IsCutAt first text new (known at) = at_bound law (known at) text made_text in
           let left : List ℕ = drop at.at text in
-          let here : drop (known at) new ≡ tokens_by first left = cut.rest ∙ ap (λ p. tokens_by first (drop p text)) (sym stands.place) in
-          let past : IsText left = subst (λ p. IsText (drop p text)) (sym stands.place) cut.past in
+          let here : drop (known at) new ≡ tokens_by first left = cut.rest ∙ ap (λ p. tokens_by first (drop p text)) (sym stands.offset) in
+          let past : IsText left = subst (λ p. IsText (drop p text)) (sym stands.offset) cut.past in
           let some : 0 < length left = omega (arith, stands_inside out, length-drop at.at text) in
           let cons : drop (known at) new ≡ token ∷ tokens_by first (drop (first left).len left) = here ∙ (tokens-cons law left past some ∙ ap (λ (t : Token). t ∷ tokens_by first (drop (first left).len left)) (sym token_is)) in
           let count : known at + 1 ≡ known past_token = omega arith in
           cons ∙ ap (λ (ts : List Token). token ∷ ts) (ap (drop 1) (sym cons) ∙ (drop-drop 1 (known at) new ∙ ap (λ n. drop n new) count))
 
--- the place past a token
-pub step_place : {first : List ℕ → Token} (law : IsGrammar first) (text : List ℕ) (at : ℕ) (token : Token) → IsText text → IsCharBoundary text at → at < length text → token ≡ first (drop at text) → (0 < token.len) × IsCharBoundary text (at + token.len)
-step_place {first} law text at token is cut more token_is =
+-- the offset past a token
+pub step_offset : {first : List ℕ → Token} (law : IsGrammar first) (text : List ℕ) (at : ℕ) (token : Token) → IsText text → IsCharBoundary text at → at < length text → token ≡ first (drop at text) → (0 < token.len) × IsCharBoundary text (at + token.len)
+step_offset {first} law text at token is cut more token_is =
     let left : List ℕ = drop at text in
     let past : IsText left = record { utf8 = IsUtf8-drop text at is.utf8 cut; fits = (let f = is.fits in omega (arith, length-drop at text)) } in
     let some : 0 < length left = omega (arith, length-drop at text) in

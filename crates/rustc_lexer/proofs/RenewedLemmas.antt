@@ -50,5 +50,5 @@ module _ {first : List ℕ → Token} (law : IsGrammar first) {text insert made 
       let l = renewed.lexed_is in
       let front : IsBound tokens at.front = rw e l.stands.front_bound in
       let back : IsBound tokens at.back = rw e l.stands.back_bound in
-      let place : at.at ≡ bound (tokens_by first made) (at.front.number + length renewed.lexed) = l.stands.place ∙ ap (λ n. bound (tokens_by first made) (at.front.number + n)) l.lexed in
-      replaced_for law text is.edit_of.is_text start stop insert is.edit_of.inserted is.edit_of.is_edit tokens made renewed.lexed now at.front at.back at.lexed at.at checkpoints e is.edit_of.made renewed.now_is l.lexed front.0 front.1 back.1 place is_met are
+      let offset : at.at ≡ bound (tokens_by first made) (at.front.number + length renewed.lexed) = l.stands.offset ∙ ap (λ n. bound (tokens_by first made) (at.front.number + n)) l.lexed in
+      replaced_for law text is.edit_of.is_text start stop insert is.edit_of.inserted is.edit_of.is_edit tokens made renewed.lexed now at.front at.back at.lexed at.at checkpoints e is.edit_of.made renewed.now_is l.lexed front.0 front.1 back.1 offset is_met are

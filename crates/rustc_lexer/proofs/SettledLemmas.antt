@@ -13,36 +13,36 @@ use Rattle.rustc_lexer.specs.laws.Cuts.{at_bound, tokens_local}
 use Rattle.rustc_lexer.proofs.EditLemmas.{has_two-agree, has_two-mono}
 use Rattle.rustc_lexer.proofs.ProgressLemmas.{IsLexedTo, lexed_more}
 
--- the place is a bound of the text, with two characters past it unless it is 0
-pub record IsSureTo (first : List ℕ → Token) (text : List ℕ) (place : ℕ) : Type 0 where
+-- the offset is a bound of the text, with two characters past it unless it is 0
+pub record IsSureTo (first : List ℕ → Token) (text : List ℕ) (offset : ℕ) : Type 0 where
   pub items : List Token
-  pub to : IsLexedTo first text items place
-  pub two : 0 < place → has_two text place (length text) ≡ true
+  pub to : IsLexedTo first text items offset
+  pub two : 0 < offset → has_two text offset (length text) ≡ true
 
 module _ {first : List ℕ → Token} (law : IsGrammar first) (text : List ℕ) (is : IsText text) where
-  pub sure_next : (place next : ℕ) (token : Token) → IsSureTo first text place → place < length text → token ≡ first (drop place text) → next ≡ place + token.len → has_two text next (length text) ≡ true → IsSureTo first text next
-  sure_next place next token at more token_is next_is two =
-      let to : IsLexedTo first text (at.items ++ first (drop place text) ∷ []) (place + (first (drop place text)).len) = lexed_more law text at.items place is at.to more in
-      let same : place + (first (drop place text)).len ≡ next = ap (λ (t : Token). place + t.len) (sym token_is) ∙ sym next_is in
-      record { items = at.items ++ first (drop place text) ∷ []; to = subst (IsLexedTo first text (at.items ++ first (drop place text) ∷ [])) same to; two = λ some. two }
+  pub sure_next : (offset next : ℕ) (token : Token) → IsSureTo first text offset → offset < length text → token ≡ first (drop offset text) → next ≡ offset + token.len → has_two text next (length text) ≡ true → IsSureTo first text next
+  sure_next offset next token at more token_is next_is two =
+      let to : IsLexedTo first text (at.items ++ first (drop offset text) ∷ []) (offset + (first (drop offset text)).len) = lexed_more law text at.items offset is at.to more in
+      let same : offset + (first (drop offset text)).len ≡ next = ap (λ (t : Token). offset + t.len) (sym token_is) ∙ sym next_is in
+      record { items = at.items ++ first (drop offset text) ∷ []; to = subst (IsLexedTo first text (at.items ++ first (drop offset text) ∷ [])) same to; two = λ some. two }
 
   boundary : (k : ℕ) → (bound (tokens_by first text) k ≤ length text) × IsCharBoundary text (bound (tokens_by first text) k)
   boundary k = let cut = at_bound law k text is in (cut.inside, IsCharBoundary-from_drop text _ cut.inside cut.past.utf8)
 
-  pub sure_end : (place : ℕ) → IsSureTo first text place → length text ≤ place → IsSettled text (tokens_by first text) place
-  sure_end place at all = grind (arith, common_steps, at_bound, boundary)
+  pub sure_end : (offset : ℕ) → IsSureTo first text offset → length text ≤ offset → IsSettled text (tokens_by first text) offset
+  sure_end offset at all = grind (arith, common_steps, at_bound, boundary)
 
-  pub sure_stop : (place next : ℕ) (token : Token) → IsSureTo first text place → place < length text → token ≡ first (drop place text) → next ≡ place + token.len → has_two text next (length text) ≡ false → IsSettled text (tokens_by first text) place
-  sure_stop place next token at more token_is next_is out =
+  pub sure_stop : (offset next : ℕ) (token : Token) → IsSureTo first text offset → offset < length text → token ≡ first (drop offset text) → next ≡ offset + token.len → has_two text next (length text) ≡ false → IsSettled text (tokens_by first text) offset
+  sure_stop offset next token at more token_is next_is out =
       let n : ℕ = length at.items in
-      let to : IsLexedTo first text (at.items ++ first (drop place text) ∷ []) (place + (first (drop place text)).len) = lexed_more law text at.items place is at.to more in
-      let long : length (at.items ++ first (drop place text) ∷ []) ≡ suc n = omega (arith, length-append at.items (first (drop place text) ∷ [])) in
-      let same : next ≡ bound (tokens_by first text) (suc n) = next_is ∙ (ap (λ (t : Token). place + t.len) token_is ∙ (to.place_is ∙ ap (bound (tokens_by first text)) long)) in
+      let to : IsLexedTo first text (at.items ++ first (drop offset text) ∷ []) (offset + (first (drop offset text)).len) = lexed_more law text at.items offset is at.to more in
+      let long : length (at.items ++ first (drop offset text) ∷ []) ≡ suc n = omega (arith, length-append at.items (first (drop offset text) ∷ [])) in
+      let same : next ≡ bound (tokens_by first text) (suc n) = next_is ∙ (ap (λ (t : Token). offset + t.len) token_is ∙ (to.offset_is ∙ ap (bound (tokens_by first text)) long)) in
       record {
-        at_bound = (n, at.to.number, sym at.to.place_is);
+        at_bound = (n, at.to.number, sym at.to.offset_is);
         two = at.two;
         last = λ k few has. elim (leb_tells k n) [
-          | inl before ↦ omega (arith, bound_mono (tokens_by first text) k n before.1, at.to.place_is)
+          | inl before ↦ omega (arith, bound_mono (tokens_by first text) k n before.1, at.to.offset_is)
           | inr after ↦ absurd (
               let here : has_two text (bound (tokens_by first text) (suc n)) (length text) ≡ true =
               has_two-mono text (bound (tokens_by first text) (suc n)) (bound (tokens_by first text) k) (length text) is.utf8 (bound_mono (tokens_by first text) (suc n) k after.1) (boundary (suc n)).1 (boundary k).1 has in
@@ -50,21 +50,21 @@ module _ {first : List ℕ → Token} (law : IsGrammar first) (text : List ℕ) 
         ];
       }
 
-  pub next_boundary : (place : ℕ) (token : Token) → IsSureTo first text place → place < length text → token ≡ first (drop place text) → (place + token.len ≤ length text) × IsCharBoundary text (place + token.len)
-  next_boundary place token at more token_is =
+  pub next_boundary : (offset : ℕ) (token : Token) → IsSureTo first text offset → offset < length text → token ≡ first (drop offset text) → (offset + token.len ≤ length text) × IsCharBoundary text (offset + token.len)
+  next_boundary offset token at more token_is =
       let n : ℕ = length at.items in
-      let to : IsLexedTo first text (at.items ++ first (drop place text) ∷ []) (place + (first (drop place text)).len) = lexed_more law text at.items place is at.to more in
-      let same : place + token.len ≡ bound (tokens_by first text) (length (at.items ++ first (drop place text) ∷ [])) = ap (λ (t : Token). place + t.len) token_is ∙ to.place_is in
-      rw same (boundary (length (at.items ++ first (drop place text) ∷ [])))
+      let to : IsLexedTo first text (at.items ++ first (drop offset text) ∷ []) (offset + (first (drop offset text)).len) = lexed_more law text at.items offset is at.to more in
+      let same : offset + token.len ≡ bound (tokens_by first text) (length (at.items ++ first (drop offset text) ∷ [])) = ap (λ (t : Token). offset + t.len) token_is ∙ to.offset_is in
+      rw same (boundary (length (at.items ++ first (drop offset text) ∷ [])))
 
-  pub stays : (place : ℕ) → IsSettled text (tokens_by first text) place → StaysUpTo place text (tokens_by first)
-  stays place settled more zero its few le = refl
-  stays place settled more (suc k) its few le =
+  pub stays : (offset : ℕ) → IsSettled text (tokens_by first text) offset → StaysUpTo offset text (tokens_by first)
+  stays offset settled more zero its few le = refl
+  stays offset settled more (suc k) its few le =
       let b : ℕ = bound (tokens_by first text) (suc k) in
       let positive : 0 < b = omega (arith, rises law text is 0 (omega arith), bound_mono (tokens_by first text) 1 (suc k) (omega arith)) in
-      let two : has_two text place (length text) ≡ true = settled.two (omega arith) in
-      let at_place : IsCharBoundary text place = subst (IsCharBoundary text) settled.at_bound.2 (boundary settled.at_bound.0).1 in
-      let here : has_two text b (length text) ≡ true = has_two-mono text b place (length text) is.utf8 le (boundary (suc k)).1 at_place two in
+      let two : has_two text offset (length text) ≡ true = settled.two (omega arith) in
+      let at_offset : IsCharBoundary text offset = subst (IsCharBoundary text) settled.at_bound.2 (boundary settled.at_bound.0).1 in
+      let here : has_two text b (length text) ≡ true = has_two-mono text b offset (length text) is.utf8 le (boundary (suc k)).1 at_offset two in
       let middle : IsUtf8 (take (length text - b) (drop b text)) = IsUtf8-between text b (length text) is.utf8 (boundary (suc k)).0 (boundary (suc k)).1 (IsCharBoundary-end text) in
       let agree : AgreePast b text (text ++ more) = has_two-agree text (text ++ more) b (length text) middle (take_at text more (length text) refl ∙ sym (take-length text)) here in
       tokens_local law (suc k) text (text ++ more) is its few agree

@@ -56,8 +56,8 @@ module _ (text : List ℕ) where
 
   -- the first newline stands at k
   module _ (k : ℕ) (inside : k < length text) (newline : get_or text k 0 ≡ 10) (first : (i : ℕ) → i < k → get_or text i 0 ≢ 10) where
-    place : before_newline text ≡ k
-    place = elim (cases_lt (before_newline text) k) [
+    offset : before_newline text ≡ k
+    offset = elim (cases_lt (before_newline text) k) [
       | inl less ↦ absurd (first (before_newline text) less (stop-newline (before_newline text) (prefix_len_stops is_inline text 0 (omega arith))))
       | inr more ↦ elim (cases_lt k (before_newline text)) [
         | inl less ↦ absurd (true≢false (sym (prefix_len_passes is_inline text k 0 less) ∙ newline-stops k newline))
@@ -66,7 +66,7 @@ module _ (text : List ℕ) where
     ]
 
     line_is : line_len text ≡ line_to k
-    line_is = ap line_to place
+    line_is = ap line_to offset
 
     -- what stands before it
     two : (j : ℕ) → k ≡ suc j → begins (codes "\r\n") (drop (k - 1) text) ≡ (get_or text (k - 1) 0 == 13)

@@ -64,17 +64,17 @@ escaped e left is small =
       read = found ∙ single-free text (rw reads refl);
     }
 
-module _ (text bytes : List ℕ) (place : ℕ) (is : IsUtf8 text) (same : bytes ≡ text) (some : 3 ≤ length bytes) (place_is : place ≡ 1 + from_bool (slice_index bytes 0 == 92)) (small : slice_index bytes (place - 1) < 128) (quote : slice_index bytes place ≡ 39) where
-  pub short_char : ShortChar text (drop (place + 1) text)
-  short_char = subst (λ s. ShortChar s (drop (place + 1) s)) same (by_text bytes (subst IsUtf8 (sym same) is) some place_is small quote)
+module _ (text bytes : List ℕ) (offset : ℕ) (is : IsUtf8 text) (same : bytes ≡ text) (some : 3 ≤ length bytes) (offset_is : offset ≡ 1 + from_bool (slice_index bytes 0 == 92)) (small : slice_index bytes (offset - 1) < 128) (quote : slice_index bytes offset ≡ 39) where
+  pub short_char : ShortChar text (drop (offset + 1) text)
+  short_char = subst (λ s. ShortChar s (drop (offset + 1) s)) same (by_text bytes (subst IsUtf8 (sym same) is) some offset_is small quote)
     where
-      by_text : (s : List ℕ) → IsUtf8 s → 3 ≤ length s → place ≡ 1 + from_bool (slice_index s 0 == 92) → slice_index s (place - 1) < 128 → slice_index s place ≡ 39 → ShortChar s (drop (place + 1) s)
+      by_text : (s : List ℕ) → IsUtf8 s → 3 ≤ length s → offset ≡ 1 + from_bool (slice_index s 0 == 92) → slice_index s (offset - 1) < 128 → slice_index s offset ≡ 39 → ShortChar s (drop (offset + 1) s)
       by_text [] u l p m q = absurd (omega arith)
       by_text (b ∷ []) u l p m q = absurd (omega arith)
       by_text (b ∷ c ∷ []) u l p m q = absurd (omega arith)
       by_text (b ∷ c ∷ d ∷ ds) u l p m q = by_either (b == 92)
           (λ e.
-          let at : place ≡ 2 = p ∙ ap (λ (t : Bool). 1 + from_bool t) e in
+          let at : offset ≡ 2 = p ∙ ap (λ (t : Bool). 1 + from_bool t) e in
           let mark : b ≡ 92 = eqb-true b 92 e in
           let first : c < 128 = subst (λ n. slice_index (b ∷ c ∷ d ∷ ds) (n - 1) < 128) at m in
           let closes : d ≡ 39 = subst (λ n. slice_index (b ∷ c ∷ d ∷ ds) n ≡ 39) at q in
@@ -82,14 +82,14 @@ module _ (text bytes : List ℕ) (place : ℕ) (is : IsUtf8 text) (same : bytes 
           (subst (λ x. ShortChar (x ∷ c ∷ d ∷ ds) ds) (sym mark)
           (subst (λ x. ShortChar (92 ∷ c ∷ x ∷ ds) ds) (sym closes) (escaped c ds (subst (λ x. IsUtf8 (92 ∷ c ∷ x ∷ ds)) closes (subst (λ x. IsUtf8 (x ∷ c ∷ d ∷ ds)) mark u)) first))))
           (λ e.
-          let at : place ≡ 1 = p ∙ ap (λ (t : Bool). 1 + from_bool t) e in
+          let at : offset ≡ 1 = p ∙ ap (λ (t : Bool). 1 + from_bool t) e in
           let first : b < 128 = subst (λ n. slice_index (b ∷ c ∷ d ∷ ds) (n - 1) < 128) at m in
           let closes : c ≡ 39 = subst (λ n. slice_index (b ∷ c ∷ d ∷ ds) n ≡ 39) at q in
           subst (λ n. ShortChar (b ∷ c ∷ d ∷ ds) (drop (n + 1) (b ∷ c ∷ d ∷ ds))) (sym at)
           (subst (λ x. ShortChar (b ∷ x ∷ d ∷ ds) (d ∷ ds)) (sym closes) (lone b (d ∷ ds) (subst (λ x. IsUtf8 (b ∷ x ∷ d ∷ ds)) closes u) first e)))
 
-  pub short_cut : place + 1 ≤ length text → IsCharBoundary text (place + 1)
-  short_cut le = IsCharBoundary-from_drop text (place + 1) le short_char.utf8
+  pub short_cut : offset + 1 ≤ length text → IsCharBoundary text (offset + 1)
+  short_cut le = IsCharBoundary-from_drop text (offset + 1) le short_char.utf8
 
 pub byte_le : (b : Bool) → from_bool b ≤ 1
 byte_le true = omega arith

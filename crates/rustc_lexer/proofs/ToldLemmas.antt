@@ -17,7 +17,7 @@ use Rattle.rustc_lexer.specs.means.Quick.{IsFirstToken}
 use Rattle.rustc_lexer.proofs.EndsLemmas.{all_past, classified_behind, classified_same, past_end}
 use Rattle.rustc_lexer.proofs.TokensLemmas.{takes_part}
 
--- found anew at a place
+-- found anew at an offset
 pub found_at : (text : List ℕ) (at m : ℕ) → IsEnds (drop at text) m → AreEndsPast (drop at text) (at - at) m
 found_at text at m are = let none : 0 ≡ at - at = omega arith in subst (λ n. AreEndsPast (drop at text) n m) none (all_past (drop at text) m are)
 

@@ -28,13 +28,13 @@ module _ {first : List ℕ → Token} (law : IsGrammar first) (before lengths in
     front = s.front_number;
     front_bound = s.front_bound;
     inside = s.inside;
-    place = s.place;
+    offset = s.offset;
     none_before = λ number back more less m.
         true≢false (sym (meeting-passes old new change.old_stop change.new_stop number (body_meets m))
         ∙ least_from-none test (length new - at.front.number) at.front.number number more (let far = s.not_past in omega (arith, far, less)));
     met = (
-      λ hit. let m = passes-meeting old new change.old_stop change.new_stop (known at) s.inside (ap (meets_at old change.old_stop change.new_stop) (sym s.place) ∙ (sym s.met_is ∙ hit)) in (length old - m.0, part_meets m.3),
-      λ m. s.met_is ∙ (ap (meets_at old change.old_stop change.new_stop) s.place ∙ meeting-passes old new change.old_stop change.new_stop (known at) (body_meets m.1)),
+      λ hit. let m = passes-meeting old new change.old_stop change.new_stop (known at) s.inside (ap (meets_at old change.old_stop change.new_stop) (sym s.offset) ∙ (sym s.met_is ∙ hit)) in (length old - m.0, part_meets m.3),
+      λ m. s.met_is ∙ (ap (meets_at old change.old_stop change.new_stop) s.offset ∙ meeting-passes old new change.old_stop change.new_stop (known at) (body_meets m.1)),
     );
     back_bound = s.back_bound;
     not_begun = s.not_begun;
@@ -49,9 +49,9 @@ module _ {first : List ℕ → Token} (law : IsGrammar first) (before lengths in
     front_bound = u.front_bound;
     front_same = front;
     inside = u.inside;
-    place = u.place;
+    offset = u.offset;
     not_past = not_past;
-    met_is = by_test (test (known at)) refl at.met refl ∙ ap (meets_at old change.old_stop change.new_stop) (sym u.place);
+    met_is = by_test (test (known at)) refl at.met refl ∙ ap (meets_at old change.old_stop change.new_stop) (sym u.offset);
     back_bound = u.back_bound;
     not_begun = u.not_begun;
     below = u.passed;

@@ -1,5 +1,6 @@
 -- A whole document: its tokens; its head, which is a shebang line and a frontmatter; and its body, which is the rest.
-use Rattle.std.specs.Prelude.{ℕ, zero, suc, ◌+◌, if◌then◌else◌, List, [], ◌∷◌, ◌++◌, take, drop, Bool, true, false, unwrap_or}
+use Rattle.std.specs.Prelude.{ℕ, suc, ◌+◌, List, ◌++◌, take, drop, Bool, true, false, unwrap_or}
+use Rattle.std.specs.{List.position, Option.option_map_or}
 use Rattle.rustc_lexer.specs.{Edition, Token, TokenKind, E2024, Frontmatter}
 use Rattle.rustc_lexer.specs.Answers.{shebang, tokens_of}
 use Rattle.rustc_lexer.specs.LanguageText.{document}
@@ -21,15 +22,9 @@ abbrev pub is_frontmatter : TokenKind → Bool
 is_frontmatter (Frontmatter has_invalid_preceding_whitespace invalid_infostring) = true
 is_frontmatter kind = false
 
--- one more than a number, or 0 if the number is 0
-abbrev pub more_unless_zero : ℕ → ℕ
-more_unless_zero zero = zero
-more_unless_zero (suc n) = suc (suc n)
-
 -- how many tokens there are up to the frontmatter, which is counted too, or 0 if there is none
 abbrev pub head_count : List Token → ℕ
-head_count [] = 0
-head_count (token ∷ tokens) = if is_frontmatter token.kind then 1 else more_unless_zero (head_count tokens)
+head_count tokens = option_map_or (λ before. suc before) (position (λ token. is_frontmatter token.kind) tokens) 0
 
 -- the tokens of the head: the frontmatter, and the white space before it. They are the same in all editions
 abbrev pub head_tokens : List ℕ → List Token

@@ -41,11 +41,11 @@ abbrev pub part_by : (List ℕ → Token) → List ℕ → Layout
 part_by first text = record { start = 0; head = []; body = tokens_by first text }
 
 -- the offset of token boundary k, where the tokens of the head count too, and that of the start of the body
-abbrev pub place_in : Layout → ℕ → ℕ
-place_in of k = of.start + bound (of.head ++ of.body) k
+abbrev pub offset_in : Layout → ℕ → ℕ
+offset_in of k = of.start + bound (of.head ++ of.body) k
 
 abbrev pub body_in : Layout → ℕ
-body_in of = place_in of (length of.head)
+body_in of = offset_in of (length of.head)
 
 -- an edit that begins at `start` keeps the head: it begins in the body, and the head is the same before and after it
 abbrev pub KeepsHead : Layout → Layout → ℕ → Type 0
@@ -56,12 +56,12 @@ KeepsHead old new start = (body_in old ≤ start) × (old.start ≡ new.start) �
 -- `old_stop`, the end of the removed text
 pub record IsMeeting (old new : Layout) (old_stop new_stop number back : ℕ) : Type 0 where
   pub number_inside : number ≤ length (new.head ++ new.body)
-  pub past_edit : new_stop ≤ place_in new number
+  pub past_edit : new_stop ≤ offset_in new number
   pub past_head : length new.head ≤ number
   pub old_number : ℕ
   pub past_old_head : length old.head ≤ old_number
   pub back_is : old_number + back ≡ length (old.head ++ old.body)
-  pub same_place : place_in new number + old_stop ≡ place_in old old_number + new_stop
+  pub same_offset : offset_in new number + old_stop ≡ offset_in old old_number + new_stop
 
 -- the counts of an edit. It keeps the tokens of the head, and of the body those that end at least two characters before
 -- it; but if it does not keep the head, it keeps none in front. From there on, tokens are new up to the first boundary
@@ -177,8 +177,8 @@ YieldsPiece s (Some piece) t =
 -- the token with this number and this start contains the byte at `offset`, if the first token begins at `first`
 pub record ContainsByte (first : ℕ) (tokens : List Token) (offset : ℕ) (at : Bound) : Type 0 where
   pub number : at.number < length tokens
-  pub place : at.place ≡ first + bound tokens at.number
-  pub begins : at.place ≤ offset
+  pub start : at.offset ≡ first + bound tokens at.number
+  pub begins : at.offset ≤ offset
   pub ends : offset < first + bound tokens (at.number + 1)
 
 -- the tokens from number `from` up to number `to` are those that contain a byte of the range from `start` up to `stop`:
@@ -193,7 +193,7 @@ pub record AreTouched (first : ℕ) (tokens : List Token) (start stop from to : 
 
 -- `at` is a boundary of the tokens, by its number and its offset
 abbrev pub IsBound : List Token → Bound → Type 0
-IsBound tokens at = (at.number ≤ length tokens) × (at.place ≡ bound tokens at.number)
+IsBound tokens at = (at.number ≤ length tokens) × (at.offset ≡ bound tokens at.number)
 
 -- how many of the new tokens are known: those that are kept at the front, and those that were lexed
 abbrev pub known : Relexing → ℕ

@@ -48,7 +48,7 @@ OpensNone s = (n : ℕ) (w next : Chars) → s ≡ w ++ next → IsOpeningBefore
 
 -- a position in a text is given by the text before it and the text after it. `IsSuch` holds of the position between u
 -- and v, and of no earlier one in `u ++ v`; below, it holds of no position in s
-pub record IsFirstPlaceOf (IsSuch : Chars → Chars → Type 0) (u v : Chars) : Type 0 where
+pub record IsFirstPositionOf (IsSuch : Chars → Chars → Type 0) (u v : Chars) : Type 0 where
   pub here : IsSuch u v
   pub first : (x y : Chars) → x ++ y ≡ u ++ v → IsSuch x y → length u ≤ length x
 
@@ -64,9 +64,7 @@ IsAt pattern before after = begins pattern after ≡ true
 pub data IsEdge : Chars → Type 0 where
   front : IsEdge []
   line : (u : Chars) → IsEdge (u ++ codes "\n")
-  dashes : (u : Chars)
-      → ((v : Chars) → u ≡ v ++ codes "-" → ⊥)
-      → IsEdge (u ++ fence 3)
+  dashes : (u : Chars) → ((v : Chars) → u ≡ v ++ codes "-" → ⊥) → IsEdge (u ++ fence 3)
 
 -- a position of three dashes with only spaces and tabs between such an edge and them. In `! ------` and in `! --- ---`
 -- it is that of the second three
@@ -90,12 +88,12 @@ pub data IsBodyBefore (next : Chars) : List (Chars × Bool) → Chars → Type 0
   -- the body ends at the first occurrence of the first ending in the list that occurs at all, even if another ending
   -- occurs earlier: in `\n//!\nuse x`, before the `use` item
   with_line : (pattern u line : Chars) {others : List (Chars × Bool)}
-      → IsFirstPlaceOf (IsAt pattern) u (byte "\n" ∷ line ++ next)
+      → IsFirstPositionOf (IsAt pattern) u (byte "\n" ∷ line ++ next)
       → AreAll is_inline line
       → NextIsNot is_inline next
       → IsBodyBefore next ((pattern, true) ∷ others) (u ++ byte "\n" ∷ line)
   before_line : (pattern w : Chars) {others : List (Chars × Bool)}
-      → IsFirstPlaceOf (IsAt pattern) w next
+      → IsFirstPositionOf (IsAt pattern) w next
       → IsBodyBefore next ((pattern, false) ∷ others) w
   other : (pattern : Chars) {takes_line : Bool} {w : Chars} {others : List (Chars × Bool)}
       → IsNowhere (IsAt pattern) (w ++ next)
@@ -103,7 +101,7 @@ pub data IsBodyBefore (next : Chars) : List (Chars × Bool) → Chars → Type 0
       → IsBodyBefore next ((pattern, takes_line) ∷ others) w
   -- if no ending occurs, the body ends with the line of the first lone dashes; if there are none, with the text
   lone_dashes : (u line : Chars)
-      → IsFirstPlaceOf IsLone u (line ++ next)
+      → IsFirstPositionOf IsLone u (line ++ next)
       → AreAll is_inline line
       → NextIsNot is_inline next
       → IsBodyBefore next [] (u ++ line)

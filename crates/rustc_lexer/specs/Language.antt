@@ -159,8 +159,6 @@ pub data IsTokenBefore (next : Chars) : TokenKind → Chars → Type 0 where
   slash : NextNotIn (codes "/*") next → IsTokenBefore next Slash (codes "/")
   pound : NextNotIn (codes "\"#") next → IsTokenBefore next Pound (codes "#")
   -- the first two characters of RESERVED_GUARDED_STRING_LITERAL and RESERVED_POUNDS: `#"`, `##`
-  guarded_prefix : {c : ℕ}
-      → is_among (codes "\"#") c ≡ true
-      → IsTokenBefore next GuardedStrPrefix (byte "#" ∷ c ∷ [])
+  guarded_prefix : {c : ℕ} → is_among (codes "\"#") c ≡ true → IsTokenBefore next GuardedStrPrefix (byte "#" ∷ c ∷ [])
   -- PUNCTUATION, one character at a time: `+`, `;`. Not in the Reference: any other character is Unknown, such as `\`
   symbol : {c : ℕ} → has_rule c ≡ false → IsTokenBefore next (symbol_kind c) (c ∷ [])

@@ -1,7 +1,7 @@
 -- What the calls that return no tokens answer, in terms of the grammar: errors in raw strings, guarded strings, shebang
 -- lines and editions. `w`, `next` and names in capitals are as in Language.antt; texts are lists of characters if
 -- nothing else is said, and offsets are in bytes.
-use Rattle.std.specs.Prelude.{◌≡◌, ◌==◌, ◌+◌, ◌-◌, ◌<◌, ◌≤◌, ℕ, suc, Bool, true, false, [], ◌∷◌, ◌++◌, length, drop, codes, Contains, Option, Some, None, Result, Ok, Err, List, bytes_eq, chars, find, if◌then◌else◌, nat_eq}
+use Rattle.std.specs.Prelude.{◌≡◌, ◌==◌, ◌+◌, ◌-◌, ◌<◌, ◌≤◌, ℕ, suc, Bool, true, false, [], ◌∷◌, ◌++◌, length, drop, codes, Contains, Option, Some, None, Result, Ok, Err, List, bytes_eq, chars, decimal, find, nat_eq}
 use Rattle.std.specs.Str.{byte}
 use Rattle.rustc_lexer.specs.{Edition, RawStrError, TokenKind, E2015, E2018, E2021, E2024, InvalidStarter, NoTerminator, TooManyDelimiters, LineComment, BlockComment, Whitespace}
 use Rattle.rustc_lexer.specs.Classes.{is_among, Chars, Utf8, begins, next_is, AreAll, NextNotIn, bytes, is_inline}
@@ -16,9 +16,9 @@ abbrev pub StartsRaw : Utf8 → ℕ → Type 0
 StartsRaw text p = (0 < p) × (next_is (λ c. c == byte "r") (drop (p - 1) (chars text)) ≡ true)
 
 -- where a raw string that is not closed was probably meant to end. `found` is the largest number of hashes that follow
--- a quote of w, and `place` is the offset at which the first quote with that many hashes ends. In front of w stand p
--- bytes and the characters `before`. In `abc"#`, `found` is 1, and `place` is directly after the quote
-pub data IsLikelyEnd (p : ℕ) (before w : Chars) : (found : ℕ) → (place : Option ℕ) → Type 0 where
+-- a quote of w, and `offset` is the offset at which the first quote with that many hashes ends. In front of w stand p
+-- bytes and the characters `before`. In `abc"#`, `found` is 1, and `offset` is directly after the quote
+pub data IsLikelyEnd (p : ℕ) (before w : Chars) : (found : ℕ) → (offset : Option ℕ) → Type 0 where
   none : NoQuoteWith 1 w → IsLikelyEnd p before w 0 None
   best : {n : ℕ} (u v : Chars) → 0 < n → w ≡ u ++ (byte "\"" ∷ hashes n ++ v) → NoQuoteWith n u → NoQuoteWith (suc n) w
       → IsLikelyEnd p before w n (Some (p + bytes (before ++ (u ++ codes "\""))))
@@ -31,9 +31,9 @@ pub data IsRawAnswer (p : ℕ) : Chars → Result Unit RawStrError → Type 0 wh
   too_many : (n : ℕ) (w next : Chars) → 255 < n → NoQuoteWith n w
       → IsRawAnswer p (hashes n ++ (byte "\"" ∷ w ++ (byte "\"" ∷ hashes n ++ next))) (Err (TooManyDelimiters n))
   -- `##"abc"#`
-  unclosed : (n : ℕ) (w : Chars) {found : ℕ} {place : Option ℕ}
-      → NoQuoteWith n w → IsLikelyEnd p (hashes n ++ codes "\"") w found place
-      → IsRawAnswer p (hashes n ++ byte "\"" ∷ w) (Err (NoTerminator n found place))
+  unclosed : (n : ℕ) (w : Chars) {found : ℕ} {offset : Option ℕ}
+      → NoQuoteWith n w → IsLikelyEnd p (hashes n ++ codes "\"") w found offset
+      → IsRawAnswer p (hashes n ++ byte "\"" ∷ w) (Err (NoTerminator n found offset))
   -- `#~`; if the text ends there, the error has U+0000
   no_quote : (n c : ℕ) (next : Chars) → is_among (codes "\"#") c ≡ false
       → IsRawAnswer p (hashes n ++ c ∷ next) (Err (InvalidStarter c))
@@ -73,15 +73,12 @@ pub data IsShebang (text : Utf8) : Option ℕ → Type 0 where
 
 -- ---- editions, by their years
 
--- the edition of a year
-abbrev pub edition_of_year : ℕ → Option Edition
-edition_of_year number = find (λ edition. nat_eq number (year edition)) (E2015 ∷ E2018 ∷ E2021 ∷ E2024 ∷ [])
+abbrev pub editions : List Edition
+editions = E2015 ∷ E2018 ∷ E2021 ∷ E2024 ∷ []
 
--- the edition whose year is this word
+-- the edition of a year, given as a number or as a word
+abbrev pub edition_of_year : ℕ → Option Edition
+edition_of_year number = find (λ edition. nat_eq number (year edition)) editions
+
 abbrev pub edition_of : List ℕ → Option Edition
-edition_of word =
-    if bytes_eq word (codes "2015") then Some E2015
-    else (if bytes_eq word (codes "2018") then Some E2018
-    else (if bytes_eq word (codes "2021") then Some E2021
-    else (if bytes_eq word (codes "2024") then Some E2024
-    else None)))
+edition_of word = find (λ edition. bytes_eq word (decimal (year edition))) editions

@@ -16,16 +16,12 @@ pub data QuotedTo (close : Chars) (special : ℕ → Bool) : Chars → Type 0 wh
       → special c ≡ false
       → QuotedTo close special w
       → QuotedTo close special (c ∷ w)
-  escape : {c : ℕ} {w : Chars}
-      → QuotedTo close special w
-      → QuotedTo close special (byte "\\" ∷ c ∷ w)
+  escape : {c : ℕ} {w : Chars} → QuotedTo close special w → QuotedTo close special (byte "\\" ∷ c ∷ w)
 
 -- the rest of STRING_LITERAL, BYTE_STRING_LITERAL or C_STRING_LITERAL after its opening quote, and whether a quote
 -- closes it: `a"`, `\""`. If none does, it is the rest of the text, which may end in a lone backslash: `a\`
 pub data IsDoubleQuoted (next : Chars) : (terminated : Bool) → Chars → Type 0 where
-  closed : {w : Chars}
-      → QuotedTo (codes "\"") (is_among (codes "\"\\")) w
-      → IsDoubleQuoted next true w
+  closed : {w : Chars} → QuotedTo (codes "\"") (is_among (codes "\"\\")) w → IsDoubleQuoted next true w
   unclosed : {w : Chars}
       → next ≡ []
       → QuotedTo [] (is_among (codes "\"\\")) w
@@ -43,18 +39,14 @@ SingleTo close w = QuotedTo close (is_among (codes "'/\n\\")) w
 -- there is one character or one escape between the quotes
 pub data IsSingleQuoted (next : Chars) : (terminated : Bool) → Chars → Type 0 where
   -- any character but a backslash, and a quote: `a'`, `/'` and `''`
-  one : {c : ℕ}
-      → (c == byte "\\") ≡ false
-      → IsSingleQuoted next true (c ∷ codes "'")
+  one : {c : ℕ} → (c == byte "\\") ≡ false → IsSingleQuoted next true (c ∷ codes "'")
   -- text up to a quote: `ab'`, `\''`; also the quote alone, unless another one follows it
   closed : {w : Chars}
       → SingleTo (codes "'") w
       → begins (codes "''") (w ++ next) ≡ false
       → IsSingleQuoted next true w
   -- the closing quote comes directly after a newline: `ab`, the newline and `'`
-  closed_line : {w : Chars}
-      → SingleTo (codes "\n'") w
-      → IsSingleQuoted next true w
+  closed_line : {w : Chars} → SingleTo (codes "\n'") w → IsSingleQuoted next true w
   -- no quote closes it, and it ends before a slash: `ab` before `/c'`; but not the empty text before `/'` (see `one`)
   at_slash : {w : Chars}
       → SingleTo [] w
@@ -105,21 +97,15 @@ pub data IsRaw (next : Chars) : (n_hashes : Option ℕ) → Chars → Type 0 whe
       → next ≡ []
       → NoQuoteWith n w
       → IsRaw next None (hashes n ++ byte "\"" ∷ w)
-  no_quote : (n c : ℕ)
-      → is_among (codes "\"#") c ≡ false
-      → IsRaw next None (hashes (suc n) ++ c ∷ [])
-  no_more : (n : ℕ)
-      → next ≡ []
-      → IsRaw next None (hashes (suc n))
+  no_quote : (n c : ℕ) → is_among (codes "\"#") c ≡ false → IsRaw next None (hashes (suc n) ++ c ∷ [])
+  no_more : (n : ℕ) → next ≡ [] → IsRaw next None (hashes (suc n))
 
 -- ---- literals
 
 -- w is a literal of this kind, without its suffix, if `next` follows it; `may_suffix` says whether it may have a suffix
 pub data IsLiteralBefore (next : Chars) : LiteralKind → (may_suffix : Bool) → Chars → Type 0 where
   -- CHAR_LITERAL: `'/'`, and `'a'`, although `a` may begin the name of a lifetime. Not in the Reference: `'''`
-  char_of_one : {c : ℕ}
-      → (c == byte "\\") ≡ false
-      → IsLiteralBefore next (Char true) true (byte "'" ∷ c ∷ codes "'")
+  char_of_one : {c : ℕ} → (c == byte "\\") ≡ false → IsLiteralBefore next (Char true) true (byte "'" ∷ c ∷ codes "'")
   -- CHAR_LITERAL: `'\n'`. Not in the Reference: `'+-'`, `'+` at the end. Not `'ab'`, whose `a` may begin a name
   char : {t : Bool} {w : Chars}
       → IsSingleQuoted next t w
@@ -132,19 +118,11 @@ pub data IsLiteralBefore (next : Chars) : LiteralKind → (may_suffix : Bool) �
       → AreAll is_word_continue (d ∷ w)
       → IsLiteralBefore next (Char true) false (byte "'" ∷ c ∷ d ∷ w ++ codes "'")
   -- BYTE_LITERAL: `b'a'`. Not in the Reference: `b'ab'`
-  byte_char : {t : Bool} {w : Chars}
-      → IsSingleQuoted next t w
-      → IsLiteralBefore next (Byte t) t (codes "b'" ++ w)
+  byte_char : {t : Bool} {w : Chars} → IsSingleQuoted next t w → IsLiteralBefore next (Byte t) t (codes "b'" ++ w)
   -- STRING_LITERAL, BYTE_STRING_LITERAL, C_STRING_LITERAL: `"a"`, `b"a"`, `c"a"`
-  str : {t : Bool} {w : Chars}
-      → IsDoubleQuoted next t w
-      → IsLiteralBefore next (Str t) t (codes "\"" ++ w)
-  byte_str : {t : Bool} {w : Chars}
-      → IsDoubleQuoted next t w
-      → IsLiteralBefore next (ByteStr t) t (codes "b\"" ++ w)
-  c_str : {t : Bool} {w : Chars}
-      → IsDoubleQuoted next t w
-      → IsLiteralBefore next (CStr t) t (codes "c\"" ++ w)
+  str : {t : Bool} {w : Chars} → IsDoubleQuoted next t w → IsLiteralBefore next (Str t) t (codes "\"" ++ w)
+  byte_str : {t : Bool} {w : Chars} → IsDoubleQuoted next t w → IsLiteralBefore next (ByteStr t) t (codes "b\"" ++ w)
+  c_str : {t : Bool} {w : Chars} → IsDoubleQuoted next t w → IsLiteralBefore next (CStr t) t (codes "c\"" ++ w)
   -- RAW_STRING_LITERAL: `r"a"`, `r#"a"#`. Not in the Reference: `r#1`. Not `r#a`, which is a raw identifier
   raw_str : {n : Option ℕ} {w : Chars}
       → IsRaw next n w
@@ -158,9 +136,7 @@ pub data IsLiteralBefore (next : Chars) : LiteralKind → (may_suffix : Bool) �
       → IsRaw next n w
       → IsLiteralBefore next (RawCStr n) (is_some n) (codes "cr" ++ w)
   -- INTEGER_LITERAL, FLOAT_LITERAL, RESERVED_NUMBER: `1`, `0x1F`, `1.5e3`
-  number : {kind : LiteralKind} {w : Chars}
-      → IsNumberBefore next kind w
-      → IsLiteralBefore next kind true w
+  number : {kind : LiteralKind} {w : Chars} → IsNumberBefore next kind w → IsLiteralBefore next kind true w
 
 -- the suffix of a literal if `next` follows it: SUFFIX, or nothing if no identifier begins there. `_` is a suffix here,
 -- but not in the Reference

@@ -4,11 +4,11 @@ use Rattle.rustc_lexer.specs.{Token}
 use Rattle.rustc_lexer.specs.Classes.{IsText}
 use Rattle.rustc_lexer.specs.Partition.{bound}
 
--- the two texts agree before the offset `place`, and in the two characters after it; if fewer than two follow in one
+-- the two texts agree before `offset`, and in the two characters after it; if fewer than two follow in one
 -- text, the other ends there too
-pub record AgreePast (place : ℕ) (text other : List ℕ) : Type 0 where
-  pub below : take place text ≡ take place other
-  pub past : take 2 (chars (drop place text)) ≡ take 2 (chars (drop place other))
+pub record AgreePast (offset : ℕ) (text other : List ℕ) : Type 0 where
+  pub below : take offset text ≡ take offset other
+  pub past : take 2 (chars (drop offset text)) ≡ take 2 (chars (drop offset other))
 
 -- the law of a grammar: a first token is not empty, ends between characters, and is also the first token of every text
 -- that agrees with this one past the token's end
@@ -21,15 +21,15 @@ pub record IsGrammar (first : List ℕ → Token) : Type 0 where
 unfoldable pub has_two : List ℕ → ℕ → ℕ → Bool
 has_two text from to = nat_le 2 (length (chars (take (to - from) (drop from text))))
 
--- `place` is the last token boundary that at least two characters follow, or 0 if there is none
-pub record IsSettled (text : List ℕ) (tokens : List Token) (place : ℕ) : Type 0 where
-  pub at_bound : (k : ℕ) × (k ≤ length tokens) × (bound tokens k ≡ place)
-  pub two : 0 < place → has_two text place (length text) ≡ true
-  pub last : (k : ℕ) → k ≤ length tokens → has_two text (bound tokens k) (length text) ≡ true → bound tokens k ≤ place
+-- `offset` is the last token boundary that at least two characters follow, or 0 if there is none
+pub record IsSettled (text : List ℕ) (tokens : List Token) (offset : ℕ) : Type 0 where
+  pub at_bound : (k : ℕ) × (k ≤ length tokens) × (bound tokens k ≡ offset)
+  pub two : 0 < offset → has_two text offset (length text) ≡ true
+  pub last : (k : ℕ) → k ≤ length tokens → has_two text (bound tokens k) (length text) ≡ true → bound tokens k ≤ offset
 
--- whatever is appended to the text, its tokens up to the offset `place` remain the first tokens
+-- whatever is appended to the text, its tokens up to `offset` remain the first tokens
 abbrev pub StaysUpTo : ℕ → List ℕ → (List ℕ → List Token) → Type 0
-StaysUpTo place text tokens = (more : List ℕ) (k : ℕ) → IsText (text ++ more) → k ≤ length (tokens text) → bound (tokens text) k ≤ place
+StaysUpTo offset text tokens = (more : List ℕ) (k : ℕ) → IsText (text ++ more) → k ≤ length (tokens text) → bound (tokens text) k ≤ offset
     → take k (tokens (text ++ more)) ≡ take k (tokens text)
 
 -- if two texts agree past token boundary k of one of them, their first k tokens are the same

@@ -70,9 +70,7 @@ pub data IsTailBefore (next : Chars) : Base → LiteralKind → Chars → Type 0
   -- `1`
   nothing : {base : Base} → IsTailBefore next base (Int base false) []
   -- `1.`; not `1.` before `.` or `max`
-  dot : {base : Base}
-      → next_is is_no_fraction next ≡ false
-      → IsTailBefore next base (Float base false) (byte "." ∷ [])
+  dot : {base : Base} → next_is is_no_fraction next ≡ false → IsTailBefore next base (Float base false) (byte "." ∷ [])
   -- `1.5`; not `1._5`
   of_fraction : {base : Base} {d : ℕ} {ds : Chars}
       → is_ascii_digit d ≡ true
@@ -94,9 +92,7 @@ pub data IsTailBefore (next : Chars) : Base → LiteralKind → Chars → Type 0
 
 -- w has the form of a number if `next` follows it. It is an integer part that is empty, or one that is not and a tail
 pub data HasNumberForm (next : Chars) : LiteralKind → Chars → Type 0 where
-  of_prefix : {base : Base} {whole : Chars}
-      → IsWholePart base true whole
-      → HasNumberForm next (Int base true) whole
+  of_prefix : {base : Base} {whole : Chars} → IsWholePart base true whole → HasNumberForm next (Int base true) whole
   of_parts : {base : Base} {kind : LiteralKind} {whole tail : Chars}
       → IsWholePart base false whole
       → IsTailBefore next base kind tail

@@ -31,8 +31,8 @@ pub record IsMadeOf (first : List ℕ → Token) (before lengths : List ℕ) (ed
 pub record MayGoOn (text : List ℕ) (count : ℕ) (at : Relexing) : Type 0 where
   pub boundary : IsCharBoundary text at.at
   pub number : at.back.number ≤ count
-  pub apart : at.front.number ≤ at.back.number
-  pub small : at.back.place < 2 ^ 63
+  pub order : at.front.number ≤ at.back.number
+  pub small : at.back.offset < 2 ^ 63
   pub few : at.lexed ≤ at.at
 
 -- relexing is over: the old tokens are met, or no text is left
@@ -47,7 +47,7 @@ pub record TakesSteps (first : List ℕ → Token) (text : List ℕ) (past : ℕ
   pub none : count ≡ 0 → at' ≡ at
   pub front : at'.front ≡ at.front
   pub lexed : at'.lexed ≡ at.lexed + count
-  pub place : at'.at ≡ at.at + bound (tokens_by first (drop at.at text)) count
+  pub offset : at'.at ≡ at.at + bound (tokens_by first (drop at.at text)) count
   pub same_back : at'.at < past → at'.back ≡ at.back
   pub not_met : 0 < count → at'.at < past → at'.met ≡ false
 
@@ -58,14 +58,14 @@ pub record IsUnderWay (first : List ℕ → Token) (old : List ℕ) (change : Ch
   pub front : at.front.number ≡ count_by (λ end. has_two old end change.start) (ends_from 0 (tokens_by first old))
   pub front_bound : IsBound (tokens_by first old) at.front
   pub inside : known at ≤ length (tokens_by first text)
-  pub place : at.at ≡ bound (tokens_by first text) (known at)
+  pub offset : at.at ≡ bound (tokens_by first text) (known at)
   pub none_before : (number back : ℕ) → at.front.number ≤ number → number < known at
       → IsMeeting (part_by first old) (part_by first text) change.old_stop change.new_stop number back → ⊥
   pub met : (at.met ≡ true) ↔ ((back : ℕ) × IsMeeting (part_by first old) (part_by first text) change.old_stop change.new_stop (known at) back)
   pub back_bound : IsBound (tokens_by first old) at.back
   pub not_begun : at.at < change.new_stop → at.back ≡ at.front
   pub passed : (k : ℕ) → k < at.back.number → bound (tokens_by first old) k + change.new_stop < max change.new_stop at.at + change.old_stop
-  pub reached : change.new_stop ≤ at.at → at.back.number < length (tokens_by first old) → at.at + change.old_stop ≤ at.back.place + change.new_stop
+  pub reached : change.new_stop ≤ at.at → at.back.number < length (tokens_by first old) → at.at + change.old_stop ≤ at.back.offset + change.new_stop
 
 -- for each old text whose tokens have these lengths, and of which the change made this text: relexing that was under
 -- way before is still so after, and the text that was left had exactly the tokens that were still to come

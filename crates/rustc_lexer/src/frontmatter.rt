@@ -175,18 +175,18 @@ fn may_end(rest: &[u8], line: usize) -> bool
     line < rest.len() && matches!(rest[line], b'-' | b'u' | b'/' | b'#')
 }
 
-/// Returns the place that was found before, or this one if the pattern is here.
+/// Returns the offset that was found before, or this one if the pattern is here.
 #[inline(always)]
 #[tactic(auto, using(std::proofs::lemmas::List::take_rest, crate::proofs::LineLemmas::starts_none, crate::proofs::LineLemmas::starts_some, std::proofs::lemmas::Grind::common_steps))]
-fn or_here(found: Option<usize>, rest: &[u8], place: usize, pattern: &[u8]) -> Option<usize>
-    requires { place ≤ length rest.now }
-    ensures { result ≡ spec.or_here found (begins pattern.now (drop place rest.now)) place }
+fn or_here(found: Option<usize>, rest: &[u8], offset: usize, pattern: &[u8]) -> Option<usize>
+    requires { offset ≤ length rest.now }
+    ensures { result ≡ spec.or_here found (begins pattern.now (drop offset rest.now)) offset }
 {
     match found {
         Some(before) => Some(before),
         None => {
-            if rest[place..].starts_with(pattern) {
-                return Some(place);
+            if rest[offset..].starts_with(pattern) {
+                return Some(offset);
             }
             None
         }
@@ -194,7 +194,7 @@ fn or_here(found: Option<usize>, rest: &[u8], place: usize, pattern: &[u8]) -> O
 }
 
 /// Returns where a frontmatter ends that no line of enough dashes closes: the best guess of where Rust begins.
-#[tactic(auto, using(crate::specs::laws::Frontmatter::recovery_is, crate::specs::laws::Frontmatter::if_found_some, crate::specs::laws::Frontmatter::if_found_none, crate::proofs::LineLemmas::place_inside, std::proofs::lemmas::Grind::common_steps))]
+#[tactic(auto, using(crate::specs::laws::Frontmatter::recovery_is, crate::specs::laws::Frontmatter::if_found_some, crate::specs::laws::Frontmatter::if_found_none, crate::proofs::LineLemmas::offset_inside, std::proofs::lemmas::Grind::common_steps))]
 fn recovery(rest: &[u8], guesses: Guesses) -> usize
     requires short_fence { guesses.short_fence ≡ spec.first (spec.newline ∷ fence 3) rest.now }
     requires use_item { guesses.use_item ≡ spec.first (codes "\nuse ") rest.now }
@@ -203,20 +203,20 @@ fn recovery(rest: &[u8], guesses: Guesses) -> usize
     ensures end { result ≡ spec.recovery rest.now }
     ensures inside { result ≤ length rest.now }
 {
-    if let Some(place) = guesses.short_fence {
-        return line_end(rest, place + 1);
+    if let Some(offset) = guesses.short_fence {
+        return line_end(rest, offset + 1);
     }
-    if let Some(place) = guesses.use_item {
-        return place;
+    if let Some(offset) = guesses.use_item {
+        return offset;
     }
-    if let Some(place) = guesses.inner_doc {
-        return place;
+    if let Some(offset) = guesses.inner_doc {
+        return offset;
     }
-    if let Some(place) = guesses.inner_attribute {
-        return place;
+    if let Some(offset) = guesses.inner_attribute {
+        return offset;
     }
     match find_lone_dashes(rest) {
-        Some(place) => line_end(rest, place),
+        Some(offset) => line_end(rest, offset),
         None => rest.len(),
     }
 }
@@ -238,49 +238,49 @@ fn byte_run_end(rest: &[u8], from: usize, byte: u8) -> usize
 /// Returns the first place of three dashes with only blanks before them, on their line and past the dashes before.
 #[tactic(auto, using(std::proofs::lemmas::List::take_rest, crate::specs::laws::Fences::walk_end, crate::specs::laws::Fences::walk_found, crate::specs::laws::Fences::walk_on, std::proofs::lemmas::Grind::common_steps))]
 fn find_lone_dashes(rest: &[u8]) -> Option<usize>
-    ensures place { result ≡ spec.first_lone true 0 rest.now }
-    ensures inside { IfSome result (λ place. place < length rest.now) }
+    ensures offset { result ≡ spec.first_lone true 0 rest.now }
+    ensures inside { IfSome result (λ offset. offset < length rest.now) }
 {
     let mut end = 0;
     'places: while let Some(step) = find_pattern(&rest[end..], b"---") {
-        let place = end + step;
-        if stands_alone(rest, end, place) {
-            return Some(place);
+        let offset = end + step;
+        if stands_alone(rest, end, offset) {
+            return Some(offset);
         }
-        end = place + 3;
+        end = offset + 3;
     }
     None
 }
 
-/// Returns whether only blanks come before `place`, on its line and past `end`.
-fn stands_alone(rest: &[u8], end: usize, place: usize) -> bool
-    requires order { end ≤ place }
-    requires inside { place ≤ length rest.now }
-    ensures { result ≡ spec.blank_over true (take (place - end) (drop end rest.now)) }
+/// Returns whether only blanks come before `offset`, on its line and past `end`.
+fn stands_alone(rest: &[u8], end: usize, offset: usize) -> bool
+    requires order { end ≤ offset }
+    requires inside { offset ≤ length rest.now }
+    ensures { result ≡ spec.blank_over true (take (offset - end) (drop end rest.now)) }
 {
-    let mut start = place;
+    let mut start = offset;
     'blanks: while start > end && is_horizontal_whitespace(rest[start - 1] as char) {
         start -= 1;
     }
     start == end || follows_newline(rest, start)
 }
 
-/// Returns whether a newline comes right before a place.
-fn follows_newline(bytes: &[u8], place: usize) -> bool
-    requires { place ≤ length bytes.now }
-    ensures { result ≡ (nat_lt 0 place && spec.is_newline (slice_index bytes.now (place - 1))) }
+/// Returns whether a newline comes right before an offset.
+fn follows_newline(bytes: &[u8], offset: usize) -> bool
+    requires { offset ≤ length bytes.now }
+    ensures { result ≡ (nat_lt 0 offset && spec.is_newline (slice_index bytes.now (offset - 1))) }
 {
-    place > 0 && bytes[place - 1] == b'\n'
+    offset > 0 && bytes[offset - 1] == b'\n'
 }
 
-/// Returns the place of the first newline at or past `place`, or the end of the text.
-fn line_end(rest: &[u8], place: usize) -> usize
-    requires { place ≤ length rest.now }
-    ensures end { result ≡ spec.line_end place rest.now }
+/// Returns the place of the first newline at or past `offset`, or the end of the text.
+fn line_end(rest: &[u8], offset: usize) -> usize
+    requires { offset ≤ length rest.now }
+    ensures end { result ≡ spec.line_end offset rest.now }
     ensures inside { result ≤ length rest.now }
 {
-    match memchr(b'\n', &rest[place..]) {
-        Some(step) => place + step,
+    match memchr(b'\n', &rest[offset..]) {
+        Some(step) => offset + step,
         None => rest.len(),
     }
 }
@@ -289,16 +289,16 @@ fn line_end(rest: &[u8], place: usize) -> usize
 /// searcher, which would allocate on the heap.
 fn find_pattern(rest: &[u8], pattern: &[u8]) -> Option<usize>
     requires { 0 < length pattern.now }
-    ensures place { result ≡ spec.first pattern.now rest.now }
-    ensures inside { IfSome result (λ place. place + length pattern.now ≤ length rest.now) }
+    ensures offset { result ≡ spec.first pattern.now rest.now }
+    ensures inside { IfSome result (λ offset. offset + length pattern.now ≤ length rest.now) }
 {
     let mut from = 0;
     'places: while let Some(step) = memchr(pattern[0], &rest[from..]) {
-        let place = from + step;
-        if rest[place..].starts_with(pattern) {
-            return Some(place);
+        let offset = from + step;
+        if rest[offset..].starts_with(pattern) {
+            return Some(offset);
         }
-        from = place + 1;
+        from = offset + 1;
     }
     None
 }

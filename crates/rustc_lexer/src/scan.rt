@@ -190,7 +190,7 @@ pub(crate) fn eat_until(rest: &str, stop: u8) -> &str
         ≡ past (run_len (λ c. not (is_byte stop c)) (chars rest.now)) rest.now }
 {
     match find_byte(stop, rest.as_bytes()) {
-        Some(place) => &rest[place..],
+        Some(offset) => &rest[offset..],
         None => "",
     }
 }
@@ -205,7 +205,7 @@ pub(crate) fn eat_until_either(rest: &str, one: u8, two: u8) -> &str
         ≡ past (run_len (λ c. not (is_byte2 one two c)) (chars rest.now)) rest.now }
 {
     match find_either(one, two, rest.as_bytes()) {
-        Some(place) => &rest[place..],
+        Some(offset) => &rest[offset..],
         None => "",
     }
 }

@@ -23,14 +23,14 @@ change_of c = record { start = c.start; old_stop = c.old_stop; new_stop = c.new_
 
 -- the token boundary that the fields for the front give
 abbrev pub front_of : CRelexing → Bound
-front_of c = record { number = c.kept_front; place = c.front_place }
+front_of c = record { number = c.kept_front; offset = c.front_offset }
 
 -- the state of relexing that the fields give, if there are `count` old tokens
 abbrev pub relexing_of : ℕ → CRelexing → Relexing
 relexing_of count c = record {
   front = front_of c;
   lexed = c.lexed;
-  back = record { number = count - c.kept_back; place = c.back_place };
+  back = record { number = count - c.kept_back; offset = c.back_offset };
   at = c.at;
   met = nat_eq c.stage 2;
 }
@@ -95,10 +95,10 @@ pub record Relexes (text : List ℕ) (old : List CToken) (edit : CEdit) (year : 
 abbrev pub numbers_of : List ℕ → ℕ → Relexing → CRelexing
 numbers_of text count at = record {
   kept_front = at.front.number;
-  front_place = at.front.place;
+  front_offset = at.front.offset;
   lexed = at.lexed;
   kept_back = count - at.back.number;
-  back_place = at.back.place;
+  back_offset = at.back.offset;
   at = at.at;
   stage = if is_over text at then 2 else 1;
 }

@@ -105,7 +105,7 @@ macro_rules! kept_calls {
             #[doc = concat!("use rustc_lexer::{Bound, ", stringify!($Kept), "};")]
             ///
             #[doc = concat!("let lexed = ", stringify!($Kept), "::new(\"let abc;\");")]
-            /// assert_eq!(lexed.token_at(6), Some(Bound { number: 2, place: 4 }));
+            /// assert_eq!(lexed.token_at(6), Some(Bound { number: 2, offset: 4 }));
             /// assert_eq!(lexed.token_at(8), None);
             /// ```
             #[must_use]

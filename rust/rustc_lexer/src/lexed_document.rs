@@ -75,7 +75,7 @@ impl LexedDocument {
     /// use rustc_lexer::LexedDocument;
     ///
     /// let body = LexedDocument::new("#!/bin/sh\n---\n---\nfn").body();
-    /// assert_eq!((body.number, body.place), (2, 17));
+    /// assert_eq!((body.number, body.offset), (2, 17));
     /// ```
     #[must_use]
     pub fn body(&self) -> Bound {
@@ -84,11 +84,11 @@ impl LexedDocument {
         match first_two.find(|(_, piece)| is_front(piece.token.kind)) {
             Some((number, front)) => Bound {
                 number: number + 1,
-                place: front.start as usize + front.text.len(),
+                offset: front.start as usize + front.text.len(),
             },
             None => Bound {
                 number: 0,
-                place: self.shebang_len(),
+                offset: self.shebang_len(),
             },
         }
     }

@@ -144,7 +144,7 @@ pub use erased::Record;
 /// let mut tokens: Vec<Token> = tokenize(old, FrontmatterAllowed::No).collect();
 /// // A `c` was inserted at 6.
 /// let change = Change { start: 6, old_stop: 6, new_stop: 7 };
-/// let first = Bound { number: 0, place: 0 };
+/// let first = Bound { number: 0, offset: 0 };
 ///
 /// let mut steps = Steps::new();
 /// let mut relexing = Relexing::begin(new, &tokens, change, first);

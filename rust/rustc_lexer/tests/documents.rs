@@ -55,7 +55,7 @@ fn check(lexed: &LexedDocument, edition: Edition, context: &str) {
     for (number, (piece, token)) in lexed.pieces().zip(&scratch).enumerate() {
         if number == head {
             let body = lexed.body();
-            assert_eq!((body.number, body.place), (head, start), "{context}");
+            assert_eq!((body.number, body.offset), (head, start), "{context}");
         }
         let end = start + token.len as usize;
         let told = (piece.start as usize, piece.token, piece.text);
@@ -76,9 +76,9 @@ fn of_body(
     let stays = old == new
         && before.shebang_len() == after.shebang_len()
         && before.tokens()[..old.number] == after.tokens()[..new.number];
-    (stays && old.place <= range.start).then(|| {
-        let mut body = LexedText::new_in(&before.text()[old.place..], before.edition());
-        let relexed = body.edit(range.start - old.place..range.end - old.place, insert);
+    (stays && old.offset <= range.start).then(|| {
+        let mut body = LexedText::new_in(&before.text()[old.offset..], before.edition());
+        let relexed = body.edit(range.start - old.offset..range.end - old.offset, insert);
         Relexed {
             kept_front: old.number + relexed.kept_front,
             ..relexed
@@ -164,7 +164,7 @@ fn edits_of_the_head() {
     ] {
         let mut lexed = LexedDocument::new(SCRIPT);
         let relexed = lexed.try_edit(range.clone(), insert).unwrap();
-        let told = (relexed.kept_front, lexed.body().place);
+        let told = (relexed.kept_front, lexed.body().offset);
         assert_eq!(told, (front, body), "{insert:?} at {range:?}");
         check(&lexed, Edition::E2024, "an edit of the head");
     }
@@ -177,7 +177,7 @@ fn an_edit_right_behind_the_head() {
     let kinds = |lexed: &LexedDocument| lexed.tokens()[0].kind;
     let before = kinds(&lexed);
     edit_and_check(&mut lexed, 3..3, "\nuse a;");
-    assert_eq!(lexed.body().place, 3);
+    assert_eq!(lexed.body().offset, 3);
     assert!(kinds(&lexed) != before);
 }
 
@@ -264,7 +264,7 @@ fn what_is_held() {
     assert_eq!(pieces, [(10, "---\na\n---"), (19, "\n")]);
     let empty = LexedDocument::default();
     assert_eq!((empty.text(), empty.tokens().len()), ("", 0));
-    assert_eq!(empty.body().place, 0);
+    assert_eq!(empty.body().offset, 0);
     let shown = format!("{:?}", LexedDocument::new("#!a+"));
     let wanted = r##"LexedDocument { text: "#!a+", tokens: [], .. }"##;
     assert_eq!(shown, wanted);
@@ -318,7 +318,7 @@ fn lists_of_the_caller() {
         let counts = held.edit(range.clone(), &insert);
         let (head, now) = (Head::find(&old), Head::find(held.text()));
         assert_eq!(now.shebang_len, held.shebang_len());
-        assert_eq!(now.body, held.body().place);
+        assert_eq!(now.body, held.body().offset);
         let edit = Change {
             start: range.start,
             old_stop: range.end,
@@ -327,8 +327,8 @@ fn lists_of_the_caller() {
         let of_body = head.change_to(now, edit);
         let (body, old_body) = (&held.text()[now.body..], &tokens[head.count()..]);
         let change = of_body.change;
-        let (number, place) = (0, 0);
-        let first = Bound { number, place };
+        let (number, offset) = (0, 0);
+        let first = Bound { number, offset };
         assert!(change.may_make(body));
         let mut steps = Steps::new();
         let mut relexing = Relexing::begin(body, old_body, change, first);
@@ -338,7 +338,7 @@ fn lists_of_the_caller() {
         while let Some(token) = relexing.next(&mut steps, body, old_body, change) {
             made.push(token);
             let passed = relexing.at.checked_sub(change.new_stop);
-            assert!(passed.is_none_or(|passed| relexing.back.place >= change.old_stop + passed));
+            assert!(passed.is_none_or(|passed| relexing.back.offset >= change.old_stop + passed));
         }
         let mut wanted = relexing.counts(old_body.len());
         assert_eq!(made.len(), kept + wanted.lexed);

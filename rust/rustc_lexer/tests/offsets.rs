@@ -27,8 +27,8 @@ fn starts(tokens: &[Token], mut start: usize) -> Vec<usize> {
 fn found(starts: &[usize], offset: usize) -> Option<Bound> {
     let mut ends = starts.windows(2);
     let number = ends.position(|ends| (ends[0]..ends[1]).contains(&offset))?;
-    let place = starts[number];
-    Some(Bound { number, place })
+    let offset = starts[number];
+    Some(Bound { number, offset })
 }
 
 /// The numbers of the tokens that contain a byte of the range, by looking at each.
@@ -108,7 +108,7 @@ fn offsets_of_a_text() {
         (11, None),
         (usize::MAX, None),
     ] {
-        let found = text.token_at(offset).map(|at| (at.number, at.place));
+        let found = text.token_at(offset).map(|at| (at.number, at.offset));
         assert_eq!(found, wanted, "{offset}");
     }
     assert_eq!(LexedText::new("").token_at(0), None);
@@ -127,7 +127,7 @@ fn offsets_of_a_document() {
         (21, Some((3, 20))),
         (22, None),
     ] {
-        let found = document.token_at(offset).map(|at| (at.number, at.place));
+        let found = document.token_at(offset).map(|at| (at.number, at.offset));
         assert_eq!(found, wanted, "{offset}");
     }
     assert_eq!(LexedDocument::new("#!a").token_at(1), None);

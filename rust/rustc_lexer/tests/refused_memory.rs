@@ -38,19 +38,19 @@ fn each_request_of_an_edit() {
 fn heads_of_documents() {
     let text = format!("#!/bin/sh\n---\na\n---\nb{}", " + 'c".repeat(200));
     let insert = " + d".repeat(200);
-    let body = LexedDocument::new(&*text).body().place;
+    let body = LexedDocument::new(&*text).body().offset;
     let mut refused = 0;
     for count in 0..99 {
         let mut lexed = LexedDocument::new(&*text);
         let before = lexed.tokens().to_vec();
         let answer = given(count, || lexed.try_edit(0..0, &insert));
         if answer.is_ok() {
-            assert_eq!(lexed.body().place, 0);
+            assert_eq!(lexed.body().offset, 0);
             break;
         }
         refused += 1;
         assert_eq!(answer, Err(EditError::Memory));
-        assert_eq!((lexed.text(), lexed.body().place), (&*text, body));
+        assert_eq!((lexed.text(), lexed.body().offset), (&*text, body));
         assert_eq!(lexed.tokens(), before);
         lexed.edit(10..10, "\n");
         assert_eq!(lexed.tokens(), LexedDocument::new(lexed.text()).tokens());

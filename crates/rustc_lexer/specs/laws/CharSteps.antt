@@ -10,7 +10,7 @@ use Rattle.rustc_lexer.specs.means.Scan.{bytes_of}
 pub record Stands (text left : List ℕ) (end : ℕ) : Type 0 where
   pub utf8 : IsUtf8 left
   pub len : end + length left ≡ length text
-  pub place : drop end text ≡ left
+  pub offset : drop end text ≡ left
 
 pub record Step (text left next : List ℕ) (c w end : ℕ) : Type 0 where
   pub reads : chars left ≡ c ∷ chars next
@@ -24,7 +24,7 @@ step text left next c w end at e is = record {
   stands = record {
     utf8 = IsUtf8-past_char left next c at.utf8 e;
     len = let l = at.len in omega (arith, ap length e, length-append (encode_utf8 c) next, length-encode c);
-    place = rw is (drop_past_char text next end c (at.place ∙ e));
+    offset = rw is (drop_past_char text next end c (at.offset ∙ e));
   };
 }
 
@@ -36,4 +36,4 @@ bytes_of-add k m s = ap (λ (t : List ℕ). length (encode_utf8_all t)) (take-ad
 
 -- a text may be cut where the loop stands
 pub cut_here : (text left : List ℕ) (end : ℕ) → Stands text left end → IsCharBoundary text end
-cut_here text left end at = IsCharBoundary-from_drop text end (let l = at.len in omega arith) (rw at.place at.utf8)
+cut_here text left end at = IsCharBoundary-from_drop text end (let l = at.len in omega arith) (rw at.offset at.utf8)

@@ -76,7 +76,7 @@ look-append xs ys zs is same = rw (chars-append xs ys is, chars-append xs zs is)
     two (w ∷ []) bs cs same = ap (λ zs. w ∷ zs) (sym (take-take 1 2 bs (omega arith)) ∙ (ap (take 1) same ∙ take-take 1 2 cs (omega arith)))
     two (w ∷ v ∷ ws) bs cs same = refl
 
--- texts that agree past a place agree past each place before it
+-- texts that agree past an offset agree past each offset before it
 pub agree_before : (n m : ℕ) (text other : List ℕ) → IsUtf8 (take m (drop n text)) → AgreePast (n + m) text other → AgreePast n text other
 agree_before n m text other front agree =
     let same : take m (drop n text) ≡ take m (drop n other) = sym (drop-take n m text) ∙ (ap (drop n) agree.below ∙ drop-take n m other) in

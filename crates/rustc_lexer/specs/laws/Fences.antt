@@ -9,10 +9,10 @@ use Rattle.memchr.specs.Find.{FindsNeedle, IsFirstByte, OccursAt, is_byte}
 use Rattle.rustc_lexer.specs.FrontmatterGrammar.{fence}
 use Rattle.rustc_lexer.specs.means.Frontmatter.{first, blank_past, blank_over, first_lone, is_dash, is_newline, line_end}
 use Rattle.rustc_lexer.specs.means.Least.{more, one_more}
-use Rattle.rustc_lexer.specs.means.Raw.{least_place}
+use Rattle.rustc_lexer.specs.means.Raw.{least_offset}
 use Rattle.rustc_lexer.specs.means.Scan.{begins, run_len}
 use Rattle.rustc_lexer.specs.laws.Choice.{by_either}
-use Rattle.rustc_lexer.specs.laws.Least.{more-more, more-zero, one_more-more, place-here, place-on, one_more-none}
+use Rattle.rustc_lexer.specs.laws.Least.{more-more, more-zero, one_more-more, offset-here, offset-on, one_more-none}
 use Rattle.rustc_lexer.specs.laws.Reach.{least-is, least-none, one_more-some}
 
 -- a text begins with a pattern where it has the pattern's bytes
@@ -26,11 +26,11 @@ begins-reads (c ∷ cs) [] e = absurd (true≢false (sym e))
 begins-reads (c ∷ cs) (d ∷ s) e =
     let parts = and_parts (d == c) (begins cs s) e in
     let rest : Reads cs s = begins-reads cs s parts.1 in
-    record { long = let l = rest.long in omega arith; same = by_place (eqb-true d c parts.0) rest }
+    record { long = let l = rest.long in omega arith; same = by_offset (eqb-true d c parts.0) rest }
   where
-    by_place : d ≡ c → Reads cs s → (j : ℕ) → j < suc (length cs) → get_or (d ∷ s) j 0 ≡ get_or (c ∷ cs) j 0
-    by_place f rest zero l = f
-    by_place f rest (suc j) l = rest.same j (omega arith)
+    by_offset : d ≡ c → Reads cs s → (j : ℕ) → j < suc (length cs) → get_or (d ∷ s) j 0 ≡ get_or (c ∷ cs) j 0
+    by_offset f rest zero l = f
+    by_offset f rest (suc j) l = rest.same j (omega arith)
 
 reads-begins : (pattern s : List ℕ) → Reads pattern s → begins pattern s ≡ true
 reads-begins [] s r = refl
@@ -80,26 +80,26 @@ line-none s none = run-none s (λ k l e. none k (omega arith) l e)
 pub line-some : (s : List ℕ) (k : ℕ) → IsFirstByte (is_byte 10) s (Some k) → run_len is_inline s ≡ k
 line-some s k at = run-some s k at.0.high at.1 (λ j l e. at.0.before j (omega arith) l e)
 
--- the same from a place on
-pub line_end-none : (rest cut : List ℕ) (place : ℕ) → place ≤ length rest → cut ≡ drop place rest → IsFirstByte (is_byte 10) cut None → length rest ≡ line_end place rest
-line_end-none rest cut place inside e none = grind (arith, common_steps, line-none, length-drop)
+-- the same from an offset on
+pub line_end-none : (rest cut : List ℕ) (offset : ℕ) → offset ≤ length rest → cut ≡ drop offset rest → IsFirstByte (is_byte 10) cut None → length rest ≡ line_end offset rest
+line_end-none rest cut offset inside e none = grind (arith, common_steps, line-none, length-drop)
 
-pub line_end-some : (rest cut : List ℕ) (place step : ℕ) → cut ≡ drop place rest → IsFirstByte (is_byte 10) cut (Some step) → place + step ≡ line_end place rest
-line_end-some rest cut place step e at = ap (λ n. place + n) (sym (line-some cut step at) ∙ ap (run_len is_inline) e)
+pub line_end-some : (rest cut : List ℕ) (offset step : ℕ) → cut ≡ drop offset rest → IsFirstByte (is_byte 10) cut (Some step) → offset + step ≡ line_end offset rest
+line_end-some rest cut offset step e at = ap (λ n. offset + n) (sym (line-some cut step at) ∙ ap (run_len is_inline) e)
 
 -- places that no match begins at are passed over
 module _ (p : ℕ → Bool) (test : List ℕ → Bool) (fails : (c : ℕ) (s : List ℕ) → p c ≡ true → test (c ∷ s) ≡ false) where
-  pub skip_run : (s : List ℕ) → least_place test s ≡ more (run_len p s) (least_place test (drop (run_len p s) s))
+  pub skip_run : (s : List ℕ) → least_offset test s ≡ more (run_len p s) (least_offset test (drop (run_len p s) s))
   skip_run [] = refl
   skip_run (c ∷ s) = by_class (skip_run s) (p c) refl
     where
-      by_class : least_place test s ≡ more (run_len p s) (least_place test (drop (run_len p s) s)) → (b : Bool) → p c ≡ b
-          → least_place test (c ∷ s) ≡ more (run_len p (c ∷ s)) (least_place test (drop (run_len p (c ∷ s)) (c ∷ s)))
+      by_class : least_offset test s ≡ more (run_len p s) (least_offset test (drop (run_len p s) s)) → (b : Bool) → p c ≡ b
+          → least_offset test (c ∷ s) ≡ more (run_len p (c ∷ s)) (least_offset test (drop (run_len p (c ∷ s)) (c ∷ s)))
       by_class ih true e =
           let n : ℕ = run_len p s in
-          place-on test c s (fails c s e) ∙ (ap one_more ih
-          ∙ (one_more-more n (least_place test (drop n s)) ∙ ap (λ (b : Bool). let m : ℕ = if b then suc n else 0 in more m (least_place test (drop m (c ∷ s)))) (sym e)))
-      by_class ih false e = more-zero (least_place test (c ∷ s)) ∙ ap (λ (b : Bool). let m : ℕ = if b then suc (run_len p s) else 0 in more m (least_place test (drop m (c ∷ s)))) (sym e)
+          offset-on test c s (fails c s e) ∙ (ap one_more ih
+          ∙ (one_more-more n (least_offset test (drop n s)) ∙ ap (λ (b : Bool). let m : ℕ = if b then suc n else 0 in more m (least_offset test (drop m (c ∷ s)))) (sym e)))
+      by_class ih false e = more-zero (least_offset test (c ∷ s)) ∙ ap (λ (b : Bool). let m : ℕ = if b then suc (run_len p s) else 0 in more m (least_offset test (drop m (c ∷ s)))) (sym e)
 
 -- so many dashes at the front, or more
 pub begins-enough : (n : ℕ) (s : List ℕ) → n ≤ run_len is_dash s → begins (fence n) s ≡ true
@@ -148,19 +148,19 @@ module _ (end start : ℕ) (rest : List ℕ) (past_end : end < start) (inside : 
 pub lone-none : (blank : Bool) (s : List ℕ) → first (fence 3) s ≡ None → first_lone blank 0 s ≡ None
 lone-none blank [] e = refl
 lone-none blank (c ∷ s) e = by_either (begins (fence 3) (c ∷ s))
-    (λ t. absurd (let no : None ≡ Some 0 = sym e ∙ place-here (begins (fence 3)) c s t in cc))
-    (λ t. rw t (ap one_more (lone-none (blank_past blank c) s (one_more-none (first (fence 3) s) (sym (place-on (begins (fence 3)) c s t) ∙ e)))))
+    (λ t. absurd (let no : None ≡ Some 0 = sym e ∙ offset-here (begins (fence 3)) c s t in cc))
+    (λ t. rw t (ap one_more (lone-none (blank_past blank c) s (one_more-none (first (fence 3) s) (sym (offset-on (begins (fence 3)) c s t) ∙ e)))))
 
 -- by the first three dashes
 pub lone-three : (blank : Bool) (k : ℕ) (s : List ℕ) → first (fence 3) s ≡ Some k → first_lone blank 0 s ≡ (if blank_over blank (take k s) then Some k else more (k + 3) (first_lone true 0 (drop (k + 3) s)))
 lone-three blank k [] e = absurd (let no : None ≡ Some k = e in cc)
 lone-three blank k (c ∷ s) e = by_either (begins (fence 3) (c ∷ s))
     (λ t.
-    let some : Some 0 ≡ Some k = sym (place-here (begins (fence 3)) c s t) ∙ e in
+    let some : Some 0 ≡ Some k = sym (offset-here (begins (fence 3)) c s t) ∙ e in
     let none : 0 ≡ k = cc in
     subst (λ (n : ℕ). first_lone blank 0 (c ∷ s) ≡ (if blank_over blank (take n (c ∷ s)) then Some n else more (n + 3) (first_lone true 0 (drop (n + 3) (c ∷ s))))) none
     (ap (first_lone blank 0) (begins-whole (fence 3) (c ∷ s) t) ∙ by_either blank (λ b. rw b refl) (λ b. rw b (three (first_lone true 0 (drop 2 s))))))
-    (λ t. let m = one_more-some (first (fence 3) s) k (sym (place-on (begins (fence 3)) c s t) ∙ e) in on m.0 m.2 t (lone-three (blank_past blank c) m.0 s m.1))
+    (λ t. let m = one_more-some (first (fence 3) s) k (sym (offset-on (begins (fence 3)) c s t) ∙ e) in on m.0 m.2 t (lone-three (blank_past blank c) m.0 s m.1))
   where
     three : (o : Option ℕ) → one_more (one_more (one_more o)) ≡ more 3 o
     three None = refl

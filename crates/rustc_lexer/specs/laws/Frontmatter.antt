@@ -42,7 +42,7 @@ pub opens-other : (s : List ℕ) → next_is (λ c. is_dash c || is_whitespace c
 opens-other [] none = refl
 opens-other (c ∷ cs) none = let parts = or_parts (is_dash c) (is_whitespace c) none in rw (parts.1, parts.0) refl
 
--- the byte before a place is a newline where the last character before it is
+-- the byte before an offset is a newline where the last character before it is
 last_byte : (cs text rest : List ℕ) → text ≡ encode_utf8_all cs ++ rest → (nat_lt 0 (length (encode_utf8_all cs)) && is_newline (get_or text (length (encode_utf8_all cs) - 1) 0)) ≡ ends_line cs
 last_byte [] text rest e = refl
 last_byte (c ∷ []) text rest e = by_newline (is_newline (get_or text (n - 1) 0)) refl
@@ -68,8 +68,8 @@ last_byte (c ∷ []) text rest e = by_newline (is_newline (get_or text (n - 1) 0
         (λ g.
         let is : c ≡ 10 = eqb-true c 10 g in
         let one : length (encode_utf8 c) ≡ 1 = ap length (encode_ascii c (omega arith)) in
-        let first_place : length (encode_utf8_all (c ∷ [])) - 1 ≡ 0 = omega (arith, long) in
-        let byte : get_or text (length (encode_utf8_all (c ∷ [])) - 1) 0 ≡ c = ap (λ k. get_or text k 0) first_place ∙ byte_from_char text rest c split (omega arith) in
+        let first_offset : length (encode_utf8_all (c ∷ [])) - 1 ≡ 0 = omega (arith, long) in
+        let byte : get_or text (length (encode_utf8_all (c ∷ [])) - 1) 0 ≡ c = ap (λ k. get_or text k 0) first_offset ∙ byte_from_char text rest c split (omega arith) in
         sym f ∙ ap is_newline byte)
         (λ g. sym g))
 last_byte (c ∷ d ∷ s) text rest e =
@@ -107,9 +107,9 @@ module _ (text fence label : List ℕ) (is : IsUtf8 text) (fence_is : fence ≡ 
   pub opens-few : length fence - length label < 3 → opens (chars text) ≡ false
   opens-few few = rw (begins-few 3 (drop (spaces_len (chars text)) (chars text)) (omega (arith, dashes_are))) refl
 
-  module _ (bytes : List ℕ) (read : bytes ≡ text) (place : ℕ) (at : place ≡ length text - length fence) (newline_there : Bool) (told : newline_there ≡ (nat_lt 0 place && is_newline (get_or bytes (place - 1) 0))) where
+  module _ (bytes : List ℕ) (read : bytes ≡ text) (offset : ℕ) (at : offset ≡ length text - length fence) (newline_there : Bool) (told : newline_there ≡ (nat_lt 0 offset && is_newline (get_or bytes (offset - 1) 0))) where
     told_so : newline_there ≡ ends_line (take (spaces_len (chars text)) (chars text))
-    told_so = told ∙ (ap (λ xs. nat_lt 0 place && is_newline (get_or xs (place - 1) 0)) read ∙ (ap (λ n. nat_lt 0 n && is_newline (get_or text (n - 1) 0)) at ∙ newline_before))
+    told_so = told ∙ (ap (λ xs. nat_lt 0 offset && is_newline (get_or xs (offset - 1) 0)) read ∙ (ap (λ n. nat_lt 0 n && is_newline (get_or text (n - 1) 0)) at ∙ newline_before))
 
     pub opens-line : newline_there ≡ true → opens (chars text) ≡ false
     opens-line before = ap (λ b. begins (the.fence 3) (drop (spaces_len (chars text)) (chars text)) && not b) (sym told_so ∙ before) ∙ and-false (begins (the.fence 3) (drop (spaces_len (chars text)) (chars text)))
@@ -129,22 +129,22 @@ module _ (text fence label : List ℕ) (is : IsUtf8 text) (fence_is : fence ≡ 
         grind (arith, common_steps, past_opening-is, length-past, dashes_are)
 
 -- the closing, by what the searches answer
-pub closing_end-full : (n place : ℕ) (rest : List ℕ) → Some place ≡ first (newline ∷ fence n) rest → line_end (place + 1) rest ≡ closing_end n rest
+pub closing_end-full : (n offset : ℕ) (rest : List ℕ) → Some offset ≡ first (newline ∷ fence n) rest → line_end (offset + 1) rest ≡ closing_end n rest
 unfolding closing_end
-closing_end-full n place rest e = ap (λ (o : Option ℕ). if_found o (λ place. line_end (place + 1) rest) (end_by (drop 1 (endings n)) rest)) e
+closing_end-full n offset rest e = ap (λ (o : Option ℕ). if_found o (λ offset. line_end (offset + 1) rest) (end_by (drop 1 (endings n)) rest)) e
 
 pub closing_end-none : (n : ℕ) (rest : List ℕ) → None ≡ first (newline ∷ fence n) rest → recovery rest ≡ closing_end n rest
 unfolding closing_end recovery
-closing_end-none n rest e = ap (λ (o : Option ℕ). if_found o (λ place. line_end (place + 1) rest) (end_by (drop 1 (endings n)) rest)) e
+closing_end-none n rest e = ap (λ (o : Option ℕ). if_found o (λ offset. line_end (offset + 1) rest) (end_by (drop 1 (endings n)) rest)) e
 
-pub if_found_some : (place : ℕ) (end : ℕ → ℕ) (otherwise : ℕ) → if_found (Some place) end otherwise ≡ end place
-if_found_some place end otherwise = refl
+pub if_found_some : (offset : ℕ) (end : ℕ → ℕ) (otherwise : ℕ) → if_found (Some offset) end otherwise ≡ end offset
+if_found_some offset end otherwise = refl
 
 pub if_found_none : (end : ℕ → ℕ) (otherwise : ℕ) → if_found None end otherwise ≡ otherwise
 if_found_none end otherwise = refl
 
-pub recovery_is : (rest : List ℕ) → recovery rest ≡ if_found (first (codes "\n---") rest) (λ place. line_end (place + 1) rest) (if_found (first (codes "\nuse ") rest) (λ place. place) (if_found (first (codes "\n//!") rest) (λ place. place)
-    (if_found (first (codes "\n#![") rest) (λ place. place) (if_found (first_lone true 0 rest) (λ place. line_end place rest) (length rest)))))
+pub recovery_is : (rest : List ℕ) → recovery rest ≡ if_found (first (codes "\n---") rest) (λ offset. line_end (offset + 1) rest) (if_found (first (codes "\nuse ") rest) (λ offset. offset) (if_found (first (codes "\n//!") rest) (λ offset. offset)
+    (if_found (first (codes "\n#![") rest) (λ offset. offset) (if_found (first_lone true 0 rest) (λ offset. line_end offset rest) (length rest)))))
 unfolding recovery
 recovery_is rest = refl
 

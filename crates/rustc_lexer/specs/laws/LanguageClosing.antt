@@ -10,7 +10,7 @@ use Rattle.std.specs.Str.{encode_utf8_all}
 use Rattle.std.proofs.lemmas.Grind.{common_steps}
 use Rattle.rustc_lexer.specs.Classes.{is_inline, bytes, Chars, AreAll, NextIsNot}
 use Rattle.rustc_lexer.specs.FrontmatterGrammar as the
-use Rattle.rustc_lexer.specs.FrontmatterGrammar.{fence, IsFirstPlaceOf, IsNowhere, IsAt, IsLone, endings, IsBodyBefore}
+use Rattle.rustc_lexer.specs.FrontmatterGrammar.{fence, IsFirstPositionOf, IsNowhere, IsAt, IsLone, endings, IsBodyBefore}
 use Rattle.rustc_lexer.specs.means.Frontmatter.{first, line_end, blank_past, first_lone, if_found, end_by, closing_end}
 use Rattle.rustc_lexer.specs.means.Least.{one_more, more, least}
 use Rattle.rustc_lexer.specs.means.Scan.{begins, bytes_of, run_len}
@@ -18,7 +18,7 @@ use Rattle.rustc_lexer.specs.laws.CharSteps.{bytes_of-suc, bytes_of-add}
 use Rattle.rustc_lexer.specs.laws.Choice.{by_either, by_found}
 use Rattle.rustc_lexer.specs.laws.Fences.{begins-whole}
 use Rattle.rustc_lexer.specs.laws.LanguageRuns.{run_len-here, run-stops, either-way}
-use Rattle.rustc_lexer.specs.laws.Least.{place-here, place-on, more-zero, one_more-more}
+use Rattle.rustc_lexer.specs.laws.Least.{offset-here, offset-on, more-zero, one_more-more}
 use Rattle.rustc_lexer.specs.laws.LanguageLone.{lone_at, lone-told, told-lone, lone-first}
 use Rattle.rustc_lexer.specs.laws.Reach.{begins-length, run_all, run_len-in, least-is, least-none, least-some, none-least}
 
@@ -34,8 +34,8 @@ module _ {IsSuch : Chars → Chars → Type 0} {test : Chars → ℕ → Bool} (
   told-at : (s x y : Chars) → x ++ y ≡ s → IsSuch x y → test s (length x) ≡ true
   told-at s x y e such = subst (λ (t : Chars). test t (length x) ≡ true) e (tells.told x y such)
 
-  first-place : (s : Chars) (k : ℕ) → least (test s) (length s) ≡ Some k → IsFirstPlaceOf IsSuch (take k s) (drop k s)
-  first-place s k e =
+  first-offset : (s : Chars) (k : ℕ) → least (test s) (length s) ≡ Some k → IsFirstPositionOf IsSuch (take k s) (drop k s)
+  first-offset s k e =
       let l = least-some (test s) (length s) k e in
       record {
         here = tells.is s k l.here;
@@ -45,11 +45,11 @@ module _ {IsSuch : Chars → Chars → Type 0} {test : Chars → ℕ → Bool} (
         ];
       }
 
-  no-place : (s : Chars) → least (test s) (length s) ≡ None → IsNowhere IsSuch s
-  no-place s e x y f such =
+  no-offset : (s : Chars) → least (test s) (length s) ≡ None → IsNowhere IsSuch s
+  no-offset s e x y f such =
       either-way (test s (length x)) (told-at s x y f such) (none-least (test s) (length s) e (length x) (omega (arith, tells.some x y such, length-append x y, ap length f)))
 
-  first-read : (u v : Chars) → IsFirstPlaceOf IsSuch u v → least (test (u ++ v)) (length (u ++ v)) ≡ Some (length u)
+  first-read : (u v : Chars) → IsFirstPositionOf IsSuch u v → least (test (u ++ v)) (length (u ++ v)) ≡ Some (length u)
   first-read u v at = least-is (test (u ++ v)) (length (u ++ v)) (length u) record {
     below = omega (arith, length-append u v, tells.some u v at.here);
     here = tells.told u v at.here;
@@ -76,7 +76,7 @@ endings-patterns n = rw (fence-ascii n) refl
     fence-ascii zero = refl
     fence-ascii (suc n) = fence-ascii n
 
-pattern-tells : (pattern : List ℕ) → is_pattern pattern ≡ true → Tells (IsAt pattern) (λ s place. begins pattern (drop place s))
+pattern-tells : (pattern : List ℕ) → is_pattern pattern ≡ true → Tells (IsAt pattern) (λ s offset. begins pattern (drop offset s))
 pattern-tells [] is = absurd (true≢false (sym is))
 pattern-tells (d ∷ ds) is = record { told = λ u v e. ap (begins (d ∷ ds)) (drop-append_seam u v) ∙ e; some = λ u v e. omega (arith, begins-length (d ∷ ds) v e); is = λ s i e. e }
 
@@ -85,32 +85,32 @@ lone-tells = grind (arith, common_steps, lone-told, told-lone, begins-length)
 
 -- ---- what the language has is found
 
--- where the line of a place ends
+-- where the line of an offset ends
 at-line : (u line next : Chars) → AreAll is_inline line → NextIsNot is_inline next → line_end (length u) (u ++ (line ++ next)) ≡ length (u ++ line)
 at-line u line next all stop = ap (λ (t : Chars). length u + run_len is_inline t) (drop-append_seam u (line ++ next)) ∙ omega (arith, run_len-here is_inline line next all stop, length-append u line)
 
 past-line : (u line next : Chars) → AreAll is_inline line → NextIsNot is_inline next → line_end (length u + 1) (u ++ (10 ∷ line ++ next)) ≡ length (u ++ (10 ∷ line))
 past-line u line next all stop =
-    let place : length u + 1 ≡ length (u ++ codes "\n") = omega (arith, length-append u (codes "\n")) in
-    ap (λ (k : ℕ). line_end k (u ++ (10 ∷ line ++ next))) place
+    let offset : length u + 1 ≡ length (u ++ codes "\n") = omega (arith, length-append u (codes "\n")) in
+    ap (λ (k : ℕ). line_end k (u ++ (10 ∷ line ++ next))) offset
     ∙ (ap (line_end (length (u ++ codes "\n"))) (sym (append_assoc u (codes "\n") (line ++ next))) ∙ (at-line (u ++ codes "\n") line next all stop ∙ ap length (append_assoc u (codes "\n") line)))
 
 end-read : {next w : Chars} {es : List (Chars × Bool)} → IsBodyBefore next es w → are_patterns es ≡ true → end_by es (w ++ next) ≡ length w
 end-read {next} (the.with_line pattern u line {others} is all stop) good =
     let parts = and_parts (is_pattern pattern) (are_patterns others) good in
     ap (end_by ((pattern, true) ∷ others)) (append_assoc u (10 ∷ line) next)
-    ∙ (ap (λ (o : Option ℕ). if_found o (λ place. line_end (place + 1) (u ++ (10 ∷ line ++ next))) (end_by others (u ++ (10 ∷ line ++ next)))) (first-read (pattern-tells pattern parts.0) u (10 ∷ line ++ next) is) ∙ past-line u line next all stop)
+    ∙ (ap (λ (o : Option ℕ). if_found o (λ offset. line_end (offset + 1) (u ++ (10 ∷ line ++ next))) (end_by others (u ++ (10 ∷ line ++ next)))) (first-read (pattern-tells pattern parts.0) u (10 ∷ line ++ next) is) ∙ past-line u line next all stop)
 end-read {next} (the.before_line pattern w {others} is) good =
     let parts = and_parts (is_pattern pattern) (are_patterns others) good in
-    ap (λ (o : Option ℕ). if_found o (λ place. place) (end_by others (w ++ next))) (first-read (pattern-tells pattern parts.0) w next is)
+    ap (λ (o : Option ℕ). if_found o (λ offset. offset) (end_by others (w ++ next))) (first-read (pattern-tells pattern parts.0) w next is)
 end-read {next} (the.other pattern {takes_line} {w} {others} none rest) good =
     let parts = and_parts (is_pattern pattern) (are_patterns others) good in
-    ap (λ (o : Option ℕ). if_found o (λ place. if takes_line then line_end (place + 1) (w ++ next) else place) (end_by others (w ++ next))) (nowhere-read (pattern-tells pattern parts.0) (w ++ next) none) ∙ end-read rest parts.1
+    ap (λ (o : Option ℕ). if_found o (λ offset. if takes_line then line_end (offset + 1) (w ++ next) else offset) (end_by others (w ++ next))) (nowhere-read (pattern-tells pattern parts.0) (w ++ next) none) ∙ end-read rest parts.1
 end-read {next} (the.lone_dashes u line is all stop) good =
     ap (end_by []) (append_assoc u line next)
-    ∙ (ap (λ (o : Option ℕ). if_found o (λ place. line_end place (u ++ (line ++ next))) (length (u ++ (line ++ next)))) (lone-first (u ++ (line ++ next)) ∙ first-read lone-tells u (line ++ next) is) ∙ at-line u line next all stop)
+    ∙ (ap (λ (o : Option ℕ). if_found o (λ offset. line_end offset (u ++ (line ++ next))) (length (u ++ (line ++ next)))) (lone-first (u ++ (line ++ next)) ∙ first-read lone-tells u (line ++ next) is) ∙ at-line u line next all stop)
 end-read {next} (the.all {w} ends none) good =
-    ap (end_by []) (ap (λ (t : Chars). w ++ t) ends ∙ append-nil w) ∙ ap (λ (o : Option ℕ). if_found o (λ place. line_end place w) (length w)) (lone-first w ∙ nowhere-read lone-tells w none)
+    ap (end_by []) (ap (λ (t : Chars). w ++ t) ends ∙ append-nil w) ∙ ap (λ (o : Option ℕ). if_found o (λ offset. line_end offset w) (length w)) (lone-first w ∙ nowhere-read lone-tells w none)
 
 -- ---- and each text has such a body
 
@@ -142,20 +142,20 @@ body-at [] s good = by_found (first_lone true 0 s)
       body = take j s ++ l.line;
       next = l.next;
       whole = append_assoc (take j s) l.line l.next ∙ (ap (λ (t : Chars). take j s ++ t) l.whole ∙ take-append-drop j s);
-      is = the.lone_dashes (take j s) l.line (subst (IsFirstPlaceOf IsLone (take j s)) (sym l.whole) (first-place lone-tells s j (sym (lone-first s) ∙ e))) l.inline l.stop;
+      is = the.lone_dashes (take j s) l.line (subst (IsFirstPositionOf IsLone (take j s)) (sym l.whole) (first-offset lone-tells s j (sym (lone-first s) ∙ e))) l.inline l.stop;
     })
-    (λ e. record { body = s; next = []; whole = append-nil s; is = the.all refl (no-place lone-tells s (sym (lone-first s) ∙ e)) })
+    (λ e. record { body = s; next = []; whole = append-nil s; is = the.all refl (no-offset lone-tells s (sym (lone-first s) ∙ e)) })
 body-at ((pattern, takes_line) ∷ others) s good =
     let parts = and_parts (is_pattern pattern) (are_patterns others) good in
-    by_found (first pattern s) (λ j e. by_kind takes_line j (first-place (pattern-tells pattern parts.0) s j e) parts.0)
+    by_found (first pattern s) (λ j e. by_kind takes_line j (first-offset (pattern-tells pattern parts.0) s j e) parts.0)
     (λ e. let rest = body-at others s parts.1 in record {
       body = rest.body;
       next = rest.next;
       whole = rest.whole;
-      is = the.other pattern (subst (IsNowhere (IsAt pattern)) (sym rest.whole) (no-place (pattern-tells pattern parts.0) s e)) rest.is;
+      is = the.other pattern (subst (IsNowhere (IsAt pattern)) (sym rest.whole) (no-offset (pattern-tells pattern parts.0) s e)) rest.is;
     })
   where
-    by_kind : (b : Bool) (j : ℕ) → IsFirstPlaceOf (IsAt pattern) (take j s) (drop j s) → is_pattern pattern ≡ true → Body ((pattern, b) ∷ others) s
+    by_kind : (b : Bool) (j : ℕ) → IsFirstPositionOf (IsAt pattern) (take j s) (drop j s) → is_pattern pattern ≡ true → Body ((pattern, b) ∷ others) s
     by_kind false j at is = record { body = take j s; next = drop j s; whole = take-append-drop j s; is = the.before_line pattern (take j s) at }
     by_kind true j at is =
         let l = lined (drop 1 (drop j s)) in
@@ -164,10 +164,10 @@ body-at ((pattern, takes_line) ∷ others) s good =
           body = take j s ++ (10 ∷ l.line);
           next = l.next;
           whole = append_assoc (take j s) (10 ∷ l.line) l.next ∙ (ap (λ (t : Chars). take j s ++ t) (sym back) ∙ take-append-drop j s);
-          is = the.with_line pattern (take j s) l.line (subst (IsFirstPlaceOf (IsAt pattern) (take j s)) back at) l.inline l.stop;
+          is = the.with_line pattern (take j s) l.line (subst (IsFirstPositionOf (IsAt pattern) (take j s)) back at) l.inline l.stop;
         }
 
--- ---- in bytes it ends at the same place
+-- ---- in bytes it ends at the same offset
 
 abbrev is_high : ℕ → Bool
 is_high b = not (nat_lt b 128)
@@ -204,7 +204,7 @@ first-high : (d : ℕ) (ds w s : List ℕ) → is_ascii d ≡ true → AreAll is
 first-high d ds [] s f all = more-zero (first (d ∷ ds) s)
 first-high d ds (b ∷ w) s f all =
     let parts = and_parts (is_high b) (list_all is_high w) all in
-    place-on (begins (d ∷ ds)) b (w ++ s) (begins-high b d ds (w ++ s) parts.0 f) ∙ (ap one_more (first-high d ds w s f parts.1) ∙ one_more-more (length w) (first (d ∷ ds) s))
+    offset-on (begins (d ∷ ds)) b (w ++ s) (begins-high b d ds (w ++ s) parts.0 f) ∙ (ap one_more (first-high d ds w s f parts.1) ∙ one_more-more (length w) (first (d ∷ ds) s))
 
 lone-step : (blank : Bool) (b : ℕ) (s : List ℕ) → is_high b ≡ true → first_lone blank 0 (b ∷ s) ≡ one_more (first_lone false 0 s)
 lone-step blank b s e = rw (high-other b 45 e (omega arith), high-other b 10 e (omega arith), high-other b 9 e (omega arith), high-other b 32 e (omega arith)) refl
@@ -253,11 +253,11 @@ first-encode d ds (c ∷ s) ascii =
       | one lt e ↦
           let same : begins (d ∷ ds) (c ∷ encode_utf8_all s) ≡ begins (d ∷ ds) (c ∷ s) = ap (begins (d ∷ ds)) (sym e) ∙ begins-encode (d ∷ ds) (c ∷ s) ascii in
           ap (first (d ∷ ds)) e ∙ by_either (begins (d ∷ ds) (c ∷ s))
-          (λ t. place-here (begins (d ∷ ds)) c (encode_utf8_all s) (same ∙ t) ∙ ap (in_bytes (c ∷ s)) (sym (place-here (begins (d ∷ ds)) c s t)))
-          (λ t. place-on (begins (d ∷ ds)) c (encode_utf8_all s) (same ∙ t) ∙ (ap one_more (first-encode d ds s ascii) ∙ (sym (in_bytes-one c s (first (d ∷ ds) s) lt) ∙ ap (in_bytes (c ∷ s)) (sym (place-on (begins (d ∷ ds)) c s t)))))
+          (λ t. offset-here (begins (d ∷ ds)) c (encode_utf8_all s) (same ∙ t) ∙ ap (in_bytes (c ∷ s)) (sym (offset-here (begins (d ∷ ds)) c s t)))
+          (λ t. offset-on (begins (d ∷ ds)) c (encode_utf8_all s) (same ∙ t) ∙ (ap one_more (first-encode d ds s ascii) ∙ (sym (in_bytes-one c s (first (d ∷ ds) s) lt) ∙ ap (in_bytes (c ∷ s)) (sym (offset-on (begins (d ∷ ds)) c s t)))))
       | high ge all some ↦
           first-high d ds (encode_utf8 c) (encode_utf8_all s) f all
-          ∙ (ap (more (length (encode_utf8 c))) (first-encode d ds s ascii) ∙ (sym (in_bytes-suc c s (first (d ∷ ds) s)) ∙ ap (in_bytes (c ∷ s)) (sym (place-on (begins (d ∷ ds)) c s (begins-high c d ds s (ge-high c ge) f)))))
+          ∙ (ap (more (length (encode_utf8 c))) (first-encode d ds s ascii) ∙ (sym (in_bytes-suc c s (first (d ∷ ds) s)) ∙ ap (in_bytes (c ∷ s)) (sym (offset-on (begins (d ∷ ds)) c s (begins-high c d ds s (ge-high c ge) f)))))
     ]
 
 lone-encode : (blank : Bool) (skip : ℕ) (s : List ℕ) → begins (fence skip) s ≡ true → first_lone blank skip (encode_utf8_all s) ≡ in_bytes s (first_lone blank skip s)
@@ -302,24 +302,24 @@ past_newline-encode pattern k s is e =
 
 end-encode : (es : List (Chars × Bool)) (s : Chars) → are_patterns es ≡ true → end_by es (encode_utf8_all s) ≡ bytes_of (end_by es s) s
 end-encode [] s good =
-    ap (λ (o : Option ℕ). if_found o (λ place. line_end place (encode_utf8_all s)) (length (encode_utf8_all s))) (lone-encode true 0 s refl) ∙ by_found (first_lone true 0 s)
+    ap (λ (o : Option ℕ). if_found o (λ offset. line_end offset (encode_utf8_all s)) (length (encode_utf8_all s))) (lone-encode true 0 s refl) ∙ by_found (first_lone true 0 s)
     (λ k e. rw e (line-encode k s))
     (λ e. rw e (ap bytes (sym (take-length s))))
 end-encode (([], takes_line) ∷ others) s good = absurd (true≢false (sym good))
 end-encode ((d ∷ ds, takes_line) ∷ others) s good =
     let parts = and_parts (is_pattern (d ∷ ds)) (are_patterns others) good in
     let ascii : list_all is_ascii (d ∷ ds) ≡ true = (and_parts (begins (codes "\n") (d ∷ ds)) (list_all is_ascii (d ∷ ds)) parts.0).1 in
-    ap (λ (o : Option ℕ). if_found o (λ place. if takes_line then line_end (place + 1) (encode_utf8_all s) else place) (end_by others (encode_utf8_all s))) (first-encode d ds s ascii) ∙ by_found (first (d ∷ ds) s)
-    (λ k e. let at = least-some (λ place. begins (d ∷ ds) (drop place s)) (length s) k e in by_kind takes_line k (past_newline-encode (d ∷ ds) k s parts.0 at.here) e)
-    (λ e. ap (λ (o : Option ℕ). if_found (in_bytes s o) (λ place. if takes_line then line_end (place + 1) (encode_utf8_all s) else place) (end_by others (encode_utf8_all s))) e ∙ (end-encode others s parts.1 ∙ ap (λ (o : Option ℕ). bytes_of (if_found o (λ place. if takes_line then line_end (place + 1) s else place) (end_by others s)) s) (sym e)))
+    ap (λ (o : Option ℕ). if_found o (λ offset. if takes_line then line_end (offset + 1) (encode_utf8_all s) else offset) (end_by others (encode_utf8_all s))) (first-encode d ds s ascii) ∙ by_found (first (d ∷ ds) s)
+    (λ k e. let at = least-some (λ offset. begins (d ∷ ds) (drop offset s)) (length s) k e in by_kind takes_line k (past_newline-encode (d ∷ ds) k s parts.0 at.here) e)
+    (λ e. ap (λ (o : Option ℕ). if_found (in_bytes s o) (λ offset. if takes_line then line_end (offset + 1) (encode_utf8_all s) else offset) (end_by others (encode_utf8_all s))) e ∙ (end-encode others s parts.1 ∙ ap (λ (o : Option ℕ). bytes_of (if_found o (λ offset. if takes_line then line_end (offset + 1) s else offset) (end_by others s)) s) (sym e)))
   where
     by_kind : (b : Bool) (k : ℕ) → bytes_of (k + 1) s ≡ bytes_of k s + 1 → first (d ∷ ds) s ≡ Some k
-        → if_found (in_bytes s (first (d ∷ ds) s)) (λ place. if b then line_end (place + 1) (encode_utf8_all s) else place) (end_by others (encode_utf8_all s)) ≡ bytes_of (end_by ((d ∷ ds, b) ∷ others) s) s
+        → if_found (in_bytes s (first (d ∷ ds) s)) (λ offset. if b then line_end (offset + 1) (encode_utf8_all s) else offset) (end_by others (encode_utf8_all s)) ≡ bytes_of (end_by ((d ∷ ds, b) ∷ others) s) s
     by_kind true k more e =
-        ap (λ (o : Option ℕ). if_found (in_bytes s o) (λ place. line_end (place + 1) (encode_utf8_all s)) (end_by others (encode_utf8_all s))) e
-        ∙ (ap (λ (n : ℕ). line_end n (encode_utf8_all s)) (sym more) ∙ (line-encode (k + 1) s ∙ ap (λ (o : Option ℕ). bytes_of (if_found o (λ place. line_end (place + 1) s) (end_by others s)) s) (sym e)))
+        ap (λ (o : Option ℕ). if_found (in_bytes s o) (λ offset. line_end (offset + 1) (encode_utf8_all s)) (end_by others (encode_utf8_all s))) e
+        ∙ (ap (λ (n : ℕ). line_end n (encode_utf8_all s)) (sym more) ∙ (line-encode (k + 1) s ∙ ap (λ (o : Option ℕ). bytes_of (if_found o (λ offset. line_end (offset + 1) s) (end_by others s)) s) (sym e)))
     by_kind false k more e =
-        ap (λ (o : Option ℕ). if_found (in_bytes s o) (λ place. place) (end_by others (encode_utf8_all s))) e ∙ ap (λ (o : Option ℕ). bytes_of (if_found o (λ place. place) (end_by others s)) s) (sym e)
+        ap (λ (o : Option ℕ). if_found (in_bytes s o) (λ offset. offset) (end_by others (encode_utf8_all s))) e ∙ ap (λ (o : Option ℕ). bytes_of (if_found o (λ offset. offset) (end_by others s)) s) (sym e)
 
 pub closing-encode : (n : ℕ) (s : Chars) → closing_end n (encode_utf8_all s) ≡ bytes_of (closing_end n s) s
 unfolding closing_end

@@ -19,7 +19,7 @@ use Rattle.rustc_lexer.specs.laws.LanguageRuns.{either-way}
 
 -- ---- what the language says, of a text read backwards
 
--- whether an edge and blanks stand before a place: `r` is what stands there, backwards
+-- whether an edge and blanks stand before an offset: `r` is what stands there, backwards
 abbrev pub standing : List ℕ → Bool
 standing [] = true
 standing (c ∷ r) = c == 10 || ((is_horizontal_whitespace c && standing r) || (begins (fence 3) (c ∷ r) && not (begins (fence 1) (drop 2 r))))
@@ -100,7 +100,7 @@ told-lone s i e =
 
 -- ---- the pass finds the first
 
--- the pass comes to a place: it knows what stands before, and three dashes begin neither one place before nor two
+-- the pass comes to an offset: it knows what stands before, and three dashes begin neither one place before nor two
 pub record IsAt (blank : Bool) (r s : List ℕ) : Type 0 where
   told : standing r ≡ blank
   fresh : blank ≡ false → begins (fence 3) s ≡ true → begins (fence 1) r ≡ false

@@ -143,7 +143,7 @@ answer-read {p} (the.good {next = next} (lit.closed n w le lacks)) =
     sym (ap (λ (s : List ℕ). checked (raw_read p s).0) (whole-text n w next) ∙ (past-quote p n (w ++ (34 ∷ hashes n ++ next)) ∙ (ap (λ (o : Option ℕ). checked (raw_closed n (p + suc n) (w ++ (34 ∷ hashes n ++ next)) o).0) (close-read n w next lacks) ∙ few n le)))
 answer-read {p} (the.too_many n w next lt lacks) =
     sym (past-quote p n (w ++ (34 ∷ hashes n ++ next)) ∙ (ap (λ (o : Option ℕ). checked (raw_closed n (p + suc n) (w ++ (34 ∷ hashes n ++ next)) o).0) (close-read n w next lacks) ∙ many n lt))
-answer-read {p} (the.unclosed n w {found = m} {place = end} lacks is_best) =
+answer-read {p} (the.unclosed n w {found = m} {offset = end} lacks is_best) =
     let b = best-read p n is_best in
     sym (past-quote p n w ∙ (ap (λ (o : Option ℕ). checked (raw_closed n (p + suc n) w o).0) (unclosed-read n w lacks)
     ∙ (ap (λ (k : ℕ). let r : Result Unit RawStrError = Err (NoTerminator n k (quote_end (p + suc n) w (best_quote w))) in r) b.most ∙ ap (λ (o : Option ℕ). let r : Result Unit RawStrError = Err (NoTerminator n m o) in r) b.at)))

@@ -1,15 +1,15 @@
--- The least place at which a test passes.
+-- The least offset at which a test passes.
 use Rattle.std.proofs.Common.{◌≡◌, ℕ, suc, ◌+◌, Bool, true, false, List, ◌∷◌, Option, Some, None, refl, ap, arith}
 use Rattle.rustc_lexer.specs.means.Least.{one_more, more}
-use Rattle.rustc_lexer.specs.means.Raw.{least_place}
+use Rattle.rustc_lexer.specs.means.Raw.{least_offset}
 
--- the place where a test passes
+-- the offset where a test passes
 module _ (test : List ℕ → Bool) where
-  pub place-here : (c : ℕ) (s : List ℕ) → test (c ∷ s) ≡ true → least_place test (c ∷ s) ≡ Some 0
-  place-here c s e = rw e refl
+  pub offset-here : (c : ℕ) (s : List ℕ) → test (c ∷ s) ≡ true → least_offset test (c ∷ s) ≡ Some 0
+  offset-here c s e = rw e refl
 
-  pub place-on : (c : ℕ) (s : List ℕ) → test (c ∷ s) ≡ false → least_place test (c ∷ s) ≡ one_more (least_place test s)
-  place-on c s e = rw e refl
+  pub offset-on : (c : ℕ) (s : List ℕ) → test (c ∷ s) ≡ false → least_offset test (c ∷ s) ≡ one_more (least_offset test s)
+  offset-on c s e = rw e refl
 
 pub more-zero : (o : Option ℕ) → o ≡ more 0 o
 more-zero None = refl

@@ -9,7 +9,7 @@ use Rattle.std.proofs.lemmas.Grind.{common_steps}
 use Rattle.rustc_lexer.specs.{Base, LiteralKind, Binary, Octal, Hexadecimal, Int, Float}
 use Rattle.rustc_lexer.specs.laws.Choice.{by_test}
 use Rattle.rustc_lexer.specs.laws.Reach.{run_all}
-use Rattle.rustc_lexer.specs.means.Number.{or_underscore, is_underscore, digits, Front, prefixed, binary, octal, hexadecimal, decimal, front_past_zero, front, is_exponent_letter, is_sign, past_sign, float_exponent, optional_exponent, fraction_digits, fraction, is_no_fraction, begins_fraction, past_digits, tail, number_kind}
+use Rattle.rustc_lexer.specs.means.Number.{or_underscore, is_underscore, digits, IntegerPart, prefixed, binary, octal, hexadecimal, decimal, part_past_zero, integer_part, is_exponent_letter, is_sign, past_sign, float_exponent, optional_exponent, fraction_digits, fraction, is_no_fraction, begins_fraction, past_digits, tail, number_kind}
 use Rattle.rustc_lexer.specs.NumberGrammar.{AreDigits, is_digit_of, IsWholePart, plain, with_b, with_o, with_x, IsExponent, signed, unsigned, IsTailBefore, nothing, dot, of_fraction, of_exponent, of_both, HasNumberForm, of_prefix, of_parts}
 use Rattle.rustc_lexer.specs.means.Scan.{after, begins, gives, next_is, read_as, run_len}
 
@@ -78,7 +78,7 @@ past_digits-is base s stops = by_test (λ (r : LiteralKind × ℕ). IsTailBefore
 -- ---- the whole part
 
 -- with its first digit, where no digit of the base goes on
-abbrev Whole : List ℕ → Front × ℕ → Type 0
+abbrev Whole : List ℕ → IntegerPart × ℕ → Type 0
 Whole s r = IsWholePart r.0.base r.0.empty (48 ∷ take r.1 s) × (next_is (is_digit_of r.0.base) (drop r.1 s) ≡ false)
 
 -- past a run of digits and underscores is no digit
@@ -91,19 +91,19 @@ past_prefix-is : (letter : ℕ) (base : Base) → ((ds : List ℕ) → AreDigits
     → Whole s (after 1 (read_as (prefixed base) (digits (is_digit_of base))) s)
 past_prefix-is letter base w0 s w1 = grind (arith, common_steps, eqb-true, and_parts, take-one, run_all, drop-one, run-stops)
 
-front-is : (first : ℕ) (s : List ℕ) → is_ascii_digit first ≡ true → IsWholePart (front first s).0.base (front first s).0.empty (first ∷ take (front first s).1 s) × (next_is (is_digit_of (front first s).0.base) (drop (front first s).1 s) ≡ false)
-front-is first s digit =
-    by_test (λ (r : Front × ℕ). IsWholePart r.0.base r.0.empty (first ∷ take r.1 s) × (next_is (is_digit_of r.0.base) (drop r.1 s) ≡ false)) (first == byte "0") (front_past_zero s) (decimal s)
+integer_part-is : (first : ℕ) (s : List ℕ) → is_ascii_digit first ≡ true → IsWholePart (integer_part first s).0.base (integer_part first s).0.empty (first ∷ take (integer_part first s).1 s) × (next_is (is_digit_of (integer_part first s).0.base) (drop (integer_part first s).1 s) ≡ false)
+integer_part-is first s digit =
+    by_test (λ (r : IntegerPart × ℕ). IsWholePart r.0.base r.0.empty (first ∷ take r.1 s) × (next_is (is_digit_of r.0.base) (drop r.1 s) ≡ false)) (first == byte "0") (part_past_zero s) (decimal s)
     at_zero (λ t. (plain digit (run_all (or_underscore is_ascii_digit) s), run-stops is_ascii_digit s))
   where
-    past_zero-is : Whole s (front_past_zero s)
+    past_zero-is : Whole s (part_past_zero s)
     past_zero-is =
         by_test (Whole s) (begins (codes "b") s) (after 1 binary s) _ (past_prefix-is 98 Binary (λ ds. with_b) s)
         (λ t. by_test (Whole s) (begins (codes "o") s) (after 1 octal s) _ (past_prefix-is 111 Octal (λ ds. with_o) s)
         (λ t. by_test (Whole s) (begins (codes "x") s) (after 1 hexadecimal s) (decimal s) (past_prefix-is 120 Hexadecimal (λ ds. with_x) s) (λ t. (plain refl (run_all (or_underscore is_ascii_digit) s), run-stops is_ascii_digit s))))
 
-    at_zero : (first == byte "0") ≡ true → IsWholePart (front_past_zero s).0.base (front_past_zero s).0.empty (first ∷ take (front_past_zero s).1 s) × (next_is (is_digit_of (front_past_zero s).0.base) (drop (front_past_zero s).1 s) ≡ false)
-    at_zero t = (subst (λ (x : ℕ). IsWholePart (front_past_zero s).0.base (front_past_zero s).0.empty (x ∷ take (front_past_zero s).1 s)) (sym (eqb-true first 48 t)) past_zero-is.0, past_zero-is.1)
+    at_zero : (first == byte "0") ≡ true → IsWholePart (part_past_zero s).0.base (part_past_zero s).0.empty (first ∷ take (part_past_zero s).1 s) × (next_is (is_digit_of (part_past_zero s).0.base) (drop (part_past_zero s).1 s) ≡ false)
+    at_zero t = (subst (λ (x : ℕ). IsWholePart (part_past_zero s).0.base (part_past_zero s).0.empty (x ∷ take (part_past_zero s).1 s)) (sym (eqb-true first 48 t)) past_zero-is.0, past_zero-is.1)
 
 -- ---- a number
 
@@ -112,13 +112,13 @@ pub number-form : (first : ℕ) (s : List ℕ) → is_ascii_digit first ≡ true
 unfolding number_kind
 number-form first s digit =
     subst (λ (xs : List ℕ). HasNumberForm (drop (n + m) s) (tail f left).0 (first ∷ xs)) (sym (take-add n m s))
-    (subst (λ (next : List ℕ). HasNumberForm next (tail f left).0 (first ∷ take n s ++ take m left)) (drop-drop m n s) (by_empty f.empty (front-is first s digit).0))
+    (subst (λ (next : List ℕ). HasNumberForm next (tail f left).0 (first ∷ take n s ++ take m left)) (drop-drop m n s) (by_empty f.empty (integer_part-is first s digit).0))
   where
-    f : Front
-    f = (front first s).0
+    f : IntegerPart
+    f = (integer_part first s).0
 
     n : ℕ
-    n = (front first s).1
+    n = (integer_part first s).1
 
     left : List ℕ
     left = drop n s
@@ -129,4 +129,4 @@ number-form first s digit =
     by_empty : (b : Bool) → IsWholePart f.base b (first ∷ take n s)
         → HasNumberForm (drop (if b then gives (Int f.base true) left else past_digits f.base left).1 left) (if b then gives (Int f.base true) left else past_digits f.base left).0 (first ∷ take n s ++ take (if b then gives (Int f.base true) left else past_digits f.base left).1 left)
     by_empty true whole = subst (λ (xs : List ℕ). HasNumberForm left (Int f.base true) (first ∷ xs)) (sym (append-nil (take n s))) (of_prefix whole)
-    by_empty false whole = of_parts whole (past_digits-is f.base left (front-is first s digit).1)
+    by_empty false whole = of_parts whole (past_digits-is f.base left (integer_part-is first s digit).1)

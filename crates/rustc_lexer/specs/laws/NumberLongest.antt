@@ -13,7 +13,7 @@ use Rattle.std.proofs.Math.Seq.{take-append_seam}
 use Rattle.rustc_lexer.specs.laws.Reach.{begins-length, next_is-length, cut, cut_past, told_same, next_is-told, run_len_le}
 use Rattle.rustc_lexer.specs.laws.NumberGrammar.{number-form}
 use Rattle.rustc_lexer.specs.laws.Within.{Within, within-suc, within-one, within-any, then-within, run-within}
-use Rattle.rustc_lexer.specs.means.Number.{or_underscore, digits, Front, front_of, prefixed, binary, octal, hexadecimal, decimal, front_past_zero, front, float, is_exponent_letter, is_sign, past_sign, float_exponent, optional_exponent, fraction_digits, fraction, is_no_fraction, begins_fraction, past_digits, tail, number_kind}
+use Rattle.rustc_lexer.specs.means.Number.{or_underscore, digits, IntegerPart, part_of, prefixed, binary, octal, hexadecimal, decimal, part_past_zero, integer_part, float, is_exponent_letter, is_sign, past_sign, float_exponent, optional_exponent, fraction_digits, fraction, is_no_fraction, begins_fraction, past_digits, tail, number_kind}
 use Rattle.rustc_lexer.specs.NumberGrammar.{AreDigits, is_digit_of, IsWholePart, plain, with_b, with_o, with_x, IsExponent, signed, unsigned, IsTailBefore, nothing, dot, of_fraction, of_exponent, of_both, HasNumberForm, of_prefix, of_parts, IsNumberBefore}
 use Rattle.rustc_lexer.specs.means.Scan.{and_then, after, begins, gives, next_is, read_as, run}
 use Rattle.rustc_lexer.specs.laws.LanguageRuns.{digit-small, other_than, pair}
@@ -42,12 +42,12 @@ exponent-within (signed {base} {e} {g} {ds} letter sign are) left =
     let past = past_sign base (ds ++ left) in
     let kind : LiteralKind = Float base (not (list_any is_ascii_digit ds)) in
     let within : Within (Unit {0}) (after 1 (past_sign base) (g ∷ ds ++ left)) kind (suc (length ds)) =
-    within-one past kind (length ds) (within-any past kind (length ds) (run-within (λ front. float base (list_any is_ascii_digit front)) (or_underscore is_ascii_digit) ds left are)) in
+    within-one past kind (length ds) (within-any past kind (length ds) (run-within (λ w. float base (list_any is_ascii_digit w)) (or_underscore is_ascii_digit) ds left are)) in
     within-one (float_exponent base (g ∷ ds ++ left)) kind (suc (length ds)) (subst (λ (r : LiteralKind × ℕ). Within (Unit {0}) r kind (suc (length ds))) (sym read) within)
 exponent-within (unsigned {base} {e} {ds} letter are) left =
     within-one (float_exponent base (ds ++ left)) kind (length ds)
     (by_test (λ (r : LiteralKind × ℕ). Within (Unit {0}) r kind (length ds)) (next_is is_sign (ds ++ left)) (after 1 (past_sign base) (ds ++ left)) (past_sign base (ds ++ left)) (at_sign ds are)
-    (λ t. within-any (past_sign base (ds ++ left)) kind (length ds) (run-within (λ front. float base (list_any is_ascii_digit front)) (or_underscore is_ascii_digit) ds left are)))
+    (λ t. within-any (past_sign base (ds ++ left)) kind (length ds) (run-within (λ w. float base (list_any is_ascii_digit w)) (or_underscore is_ascii_digit) ds left are)))
   where
     kind : LiteralKind
     kind = Float base (not (list_any is_ascii_digit ds))
@@ -78,7 +78,7 @@ digits-within base kind d ds left m digit are past none =
     let read : fraction base (d ∷ ds ++ left) ≡ fraction_digits base (d ∷ ds ++ left) = rw digit refl in
     let all : AreDigits is_ascii_digit (d ∷ ds) = rw digit are in
     subst (λ (r : LiteralKind × ℕ). Within (Unit {0}) r kind (suc (length ds) + m)) (sym read)
-    (then-within (run base (or_underscore is_ascii_digit)) optional_exponent (d ∷ ds) left base kind m (run-within (λ front. base) (or_underscore is_ascii_digit) (d ∷ ds) left all) past none)
+    (then-within (run base (or_underscore is_ascii_digit)) optional_exponent (d ∷ ds) left base kind m (run-within (λ _. base) (or_underscore is_ascii_digit) (d ∷ ds) left all) past none)
 
 -- no exponent
 none-within : (base : Base) (left : List ℕ) → Within (Unit {0}) (optional_exponent base left) (Float base false) 0
@@ -138,21 +138,21 @@ next-or_right : (p q : ℕ → Bool) (s : List ℕ) → next_is q s ≡ true →
 next-or_right p q [] t = absurd (true≢false (sym t))
 next-or_right p q (c ∷ s) t = or_right (p c) (q c) t
 
--- the front of a number, with its first digit
-abbrev front_all : List ℕ → Front × ℕ
-front_all [] = (front_of Decimal false, 0)
-front_all (c ∷ s) = ((front c s).0, suc (front c s).1)
+-- the integer part of a number, with its first digit
+abbrev integer_part_all : List ℕ → IntegerPart × ℕ
+integer_part_all [] = (part_of Decimal false, 0)
+integer_part_all (c ∷ s) = ((integer_part c s).0, suc (integer_part c s).1)
 
 -- what goes on as a run does
 within-goes : {A : Type 0} (base : Base) (left : List ℕ) (r : A × ℕ) (a : A) (n : ℕ) → Within (next_is (or_underscore (is_digit_of base)) left ≡ true) r a n → Within (next_is (goes_on base) left ≡ true) r a n
 within-goes base left r a n w = elim w [ inl h ↦ inl (next-or_right is_prefix_letter (or_underscore (is_digit_of base)) left h.0, h.1) | inr e ↦ inr e ]
 
 -- past the first digit and a prefix
-prefix-within : (base : Base) (ds left : List ℕ) → AreDigits (is_digit_of base) ds → Within (next_is (goes_on base) left ≡ true) (let r = digits (is_digit_of base) (ds ++ left) in (prefixed base r.0, suc (1 + r.1))) (front_of base (not (list_any (is_digit_of base) ds))) (suc (suc (length ds)))
+prefix-within : (base : Base) (ds left : List ℕ) → AreDigits (is_digit_of base) ds → Within (next_is (goes_on base) left ≡ true) (let r = digits (is_digit_of base) (ds ++ left) in (prefixed base r.0, suc (1 + r.1))) (part_of base (not (list_any (is_digit_of base) ds))) (suc (suc (length ds)))
 prefix-within base ds left are =
-    let r : Front × ℕ = read_as (prefixed base) (digits (is_digit_of base)) (ds ++ left) in
-    let f : Front = front_of base (not (list_any (is_digit_of base) ds)) in
-    within-suc (r.0, 1 + r.1) f (suc (length ds)) (within-one r f (length ds) (within-goes base left r f (length ds) (run-within (λ front. prefixed base (list_any (is_digit_of base) front)) (or_underscore (is_digit_of base)) ds left are)))
+    let r : IntegerPart × ℕ = read_as (prefixed base) (digits (is_digit_of base)) (ds ++ left) in
+    let f : IntegerPart = part_of base (not (list_any (is_digit_of base) ds)) in
+    within-suc (r.0, 1 + r.1) f (suc (length ds)) (within-one r f (length ds) (within-goes base left r f (length ds) (run-within (λ w. prefixed base (list_any (is_digit_of base) w)) (or_underscore (is_digit_of base)) ds left are)))
 
 dot-stops : (base : Base) → goes_on base 46 ≡ false
 dot-stops w0 = grind (arith, common_steps)
@@ -161,7 +161,7 @@ letter-stops : (base : Base) (e : ℕ) → is_digit_of base e ≡ false → is_e
 letter-stops base e no_digit letter = grind (arith, common_steps, of_two, other_than)
 
 -- what is past a first digit 0
-past_zero : (P : Front × ℕ → Type 0) (s : List ℕ) → (begins (codes "b") s ≡ true → P (after 1 binary s)) → (begins (codes "o") s ≡ true → P (after 1 octal s)) → (begins (codes "x") s ≡ true → P (after 1 hexadecimal s)) → P (decimal s) → P (front_past_zero s)
+past_zero : (P : IntegerPart × ℕ → Type 0) (s : List ℕ) → (begins (codes "b") s ≡ true → P (after 1 binary s)) → (begins (codes "o") s ≡ true → P (after 1 octal s)) → (begins (codes "x") s ≡ true → P (after 1 hexadecimal s)) → P (decimal s) → P (part_past_zero s)
 past_zero P s at_b at_o at_x at_none =
     by_test P (begins (codes "b") s) (after 1 binary s) _ at_b (λ t. by_test P (begins (codes "o") s) (after 1 octal s) _ at_o (λ t. by_test P (begins (codes "x") s) (after 1 hexadecimal s) (decimal s) at_x (λ t. at_none)))
 
@@ -170,18 +170,18 @@ begins-letter letter [] is t = absurd (true≢false (sym t))
 begins-letter letter (c ∷ s) is t = ap is_prefix_letter (eqb-true c letter (and_parts (c == letter) true t).0) ∙ is
 
 -- digits past the first one, with no prefix
-abbrev IsPlainWithin : List ℕ → List ℕ → Front × ℕ → Type 0
-IsPlainWithin left ds r = Within (next_is (goes_on Decimal) left ≡ true) (r.0, suc r.1) (front_of Decimal false) (suc (length ds))
+abbrev IsPlainWithin : List ℕ → List ℕ → IntegerPart × ℕ → Type 0
+IsPlainWithin left ds r = Within (next_is (goes_on Decimal) left ≡ true) (r.0, suc r.1) (part_of Decimal false) (suc (length ds))
 
-whole-within : {base : Base} {empty : Bool} {w : List ℕ} → IsWholePart base empty w → (left : List ℕ) → Within (next_is (goes_on base) left ≡ true) (front_all (w ++ left)) (front_of base empty) (length w)
-whole-within (plain {d} {ds} digit are) left = by_test (IsPlainWithin left ds) (d == byte "0") (front_past_zero (ds ++ left)) (decimal (ds ++ left)) (λ t. at_zero ds are) (λ t. at_run ds are)
+whole-within : {base : Base} {empty : Bool} {w : List ℕ} → IsWholePart base empty w → (left : List ℕ) → Within (next_is (goes_on base) left ≡ true) (integer_part_all (w ++ left)) (part_of base empty) (length w)
+whole-within (plain {d} {ds} digit are) left = by_test (IsPlainWithin left ds) (d == byte "0") (part_past_zero (ds ++ left)) (decimal (ds ++ left)) (λ t. at_zero ds are) (λ t. at_run ds are)
   where
     at_run : (ds : List ℕ) → AreDigits is_ascii_digit ds → IsPlainWithin left ds (decimal (ds ++ left))
     at_run ds are =
         let r = decimal (ds ++ left) in
-        within-suc r (front_of Decimal false) (length ds) (within-goes Decimal left r (front_of Decimal false) (length ds) (run-within (λ front. front_of Decimal false) (or_underscore is_ascii_digit) ds left are))
+        within-suc r (part_of Decimal false) (length ds) (within-goes Decimal left r (part_of Decimal false) (length ds) (run-within (λ _. part_of Decimal false) (or_underscore is_ascii_digit) ds left are))
 
-    at_letter : (letter : ℕ) (m : Front × ℕ) → is_prefix_letter letter ≡ true → begins (letter ∷ []) left ≡ true → IsPlainWithin left [] (m.0, 1 + m.1)
+    at_letter : (letter : ℕ) (m : IntegerPart × ℕ) → is_prefix_letter letter ≡ true → begins (letter ∷ []) left ≡ true → IsPlainWithin left [] (m.0, 1 + m.1)
     at_letter letter m is t = inl (next-or is_prefix_letter (or_underscore is_ascii_digit) left (begins-letter letter left is t), omega arith)
 
     no_letter : (letter d : ℕ) (ds : List ℕ) → or_underscore is_ascii_digit letter ≡ false → AreDigits is_ascii_digit (d ∷ ds) → begins (letter ∷ []) (d ∷ ds ++ left) ≡ true → ⊥
@@ -189,7 +189,7 @@ whole-within (plain {d} {ds} digit are) left = by_test (IsPlainWithin left ds) (
         let digit : or_underscore is_ascii_digit d ≡ true = (and_parts (or_underscore is_ascii_digit d) (list_all (or_underscore is_ascii_digit) ds) are).0 in
         true≢false (sym (and_parts (d == letter) true t).0 ∙ other_than (or_underscore is_ascii_digit) letter d out digit)
 
-    at_zero : (ds : List ℕ) → AreDigits is_ascii_digit ds → IsPlainWithin left ds (front_past_zero (ds ++ left))
+    at_zero : (ds : List ℕ) → AreDigits is_ascii_digit ds → IsPlainWithin left ds (part_past_zero (ds ++ left))
     at_zero [] are = past_zero (IsPlainWithin left []) left (at_letter 98 (binary (drop 1 left)) refl) (at_letter 111 (octal (drop 1 left)) refl) (at_letter 120 (hexadecimal (drop 1 left)) refl) (at_run [] are)
     at_zero (d ∷ ds) are =
         past_zero (IsPlainWithin left (d ∷ ds)) (d ∷ ds ++ left) (λ t. absurd (no_letter 98 d ds refl are t)) (λ t. absurd (no_letter 111 d ds refl are t)) (λ t. absurd (no_letter 120 d ds refl are t)) (at_run (d ∷ ds) are)
@@ -209,7 +209,7 @@ tail-none left (of_both {base = base} ds digit are is) t = absurd (true≢false 
 
 -- up to a suffix, with its first digit
 abbrev number_all : List ℕ → LiteralKind × ℕ
-number_all s = and_then front_all tail s
+number_all s = and_then integer_part_all tail s
 
 number_all-is : (first : ℕ) (s : List ℕ) → number_all (first ∷ s) ≡ ((number_kind first s).0, 1 + (number_kind first s).1)
 unfolding number_kind
@@ -218,13 +218,13 @@ number_all-is first s = grind (arith, common_steps)
 number-within : (left : List ℕ) {kind : LiteralKind} {t : List ℕ} → HasNumberForm left kind t → Within (Unit {0}) (number_all (t ++ left)) kind (length t)
 number-within left (of_prefix {base = base} {whole = w} whole) =
     let sum : length w + 0 ≡ length w = omega arith in
-    subst (λ (n : ℕ). Within (Unit {0}) (number_all (w ++ left)) (Int base true) n) sum (then-within front_all tail w left (front_of base true) (Int base true) 0 (whole-within whole left) (inr refl) (λ t. refl))
+    subst (λ (n : ℕ). Within (Unit {0}) (number_all (w ++ left)) (Int base true) n) sum (then-within integer_part_all tail w left (part_of base true) (Int base true) 0 (whole-within whole left) (inr refl) (λ t. refl))
 number-within left (of_parts {base = base} {kind = kind} {whole = w} {tail = t} whole is) =
     let text : w ++ t ++ left ≡ w ++ (t ++ left) = append_assoc w t left in
     let sum : length w + length t ≡ length (w ++ t) = sym (length-append w t) in
     subst (λ (n : ℕ). Within (Unit {0}) (number_all (w ++ t ++ left)) kind n) sum
     (subst (λ (xs : List ℕ). Within (Unit {0}) (number_all xs) kind (length w + length t)) (sym text)
-    (then-within front_all tail w (t ++ left) (front_of base false) kind (length t) (whole-within whole (t ++ left)) (tail-within left is) (tail-none left is)))
+    (then-within integer_part_all tail w (t ++ left) (part_of base false) kind (length t) (whole-within whole (t ++ left)) (tail-within left is) (tail-none left is)))
 
 -- what has the form of a number at the front of a text is what is read, or shorter
 form-within : (first : ℕ) (s : List ℕ) {next v : List ℕ} {kind : LiteralKind} → v ++ next ≡ first ∷ s → HasNumberForm next kind v → Within (Unit {0}) ((number_kind first s).0, 1 + (number_kind first s).1) kind (length v)
@@ -247,15 +247,15 @@ fraction-fits : (base : Base) (s : List ℕ) → Fits s (fraction base s)
 unfolding fraction
 fraction-fits base s = grind (arith, common_steps, run_len_le, length-drop, optional-fits)
 
-tail-fits : (front : Front) (s : List ℕ) → Fits s (tail front s)
-tail-fits front s = grind (arith, common_steps, length-drop, begins-length, next_is-length, fraction-fits, optional-fits, exponent-fits)
+tail-fits : (part : IntegerPart) (s : List ℕ) → Fits s (tail part s)
+tail-fits part s = grind (arith, common_steps, length-drop, begins-length, next_is-length, fraction-fits, optional-fits, exponent-fits)
 
-front-fits : (first : ℕ) (s : List ℕ) → Fits s (front first s)
-front-fits first s = grind (arith, common_steps, run_len_le, length-drop, begins-length)
+integer_part-fits : (first : ℕ) (s : List ℕ) → Fits s (integer_part first s)
+integer_part-fits first s = grind (arith, common_steps, run_len_le, length-drop, begins-length)
 
 number-fits : (first : ℕ) (s : List ℕ) → Fits s (number_kind first s)
 unfolding number_kind
-number-fits first s = omega (arith, front-fits first s, tail-fits (front first s).0 (drop (front first s).1 s), length-drop (front first s).1 s)
+number-fits first s = omega (arith, integer_part-fits first s, tail-fits (integer_part first s).0 (drop (integer_part first s).1 s), length-drop (integer_part first s).1 s)
 
 -- how long it is
 read-length : (first : ℕ) (s : List ℕ) → length (first ∷ take (number_kind first s).1 s) ≡ 1 + (number_kind first s).1

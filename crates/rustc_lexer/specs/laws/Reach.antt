@@ -1,4 +1,4 @@
--- What is told by the first characters of a text; runs, and the least place at which a test passes.
+-- What is told by the first characters of a text; runs, and the least offset at which a test passes.
 use Rattle.std.proofs.Common.{◌≡◌, ℕ, zero, suc, ◌+◌, ◌≤◌, ◌<◌, ◌==◌, ◌&&◌, Bool, true, false, true≢false, if◌then◌else◌, List, [], ◌∷◌, length, take, drop, refl, sym, ap, ◌∙◌, subst, arith, take-take, Option, Some, None}
 use Rattle.std.proofs.lemmas.List.{drop-take}
 use Rattle.std.specs.List.{list_all}

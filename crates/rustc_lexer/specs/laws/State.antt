@@ -10,9 +10,9 @@ use Rattle.rustc_lexer.specs.means.Taking.{token_at, take_next}
 abbrev pub state : ℕ → List ℕ → Mode → State
 state pending rest mode = record { pending = pending; rest = rest; mode = mode }
 
--- the text that is left is what follows `place`, which is between characters
+-- the text that is left is what follows `offset`, which is between characters
 abbrev pub StandsAt : List ℕ → ℕ → State → Type 0
-StandsAt text place s = IsCharBoundary text place × (drop place text ≡ s.rest)
+StandsAt text offset s = IsCharBoundary text offset × (drop offset text ≡ s.rest)
 
 abbrev pub past_token : List ℕ → Mode → Token → State
 past_token rest mode token = state 0 (drop token.len rest) (mode_after mode token.kind)

@@ -7,9 +7,9 @@ use Rattle.std.proofs.lemmas.Grind.{common_steps}
 use Rattle.rustc_lexer.specs.Classes.{IsText}
 use Rattle.rustc_lexer.specs.Locality.{AgreePast}
 
--- a place inside one of them is inside the other
-pub agree_inside : (place : ℕ) (text other : List ℕ) → place ≤ length text → AgreePast place text other → place ≤ length other
-agree_inside place text other inside agree = let same = ap length agree.below in omega (arith, same, length-take place text, length-take place other)
+-- an offset inside one of them is inside the other
+pub agree_inside : (offset : ℕ) (text other : List ℕ) → offset ≤ length text → AgreePast offset text other → offset ≤ length other
+agree_inside offset text other inside agree = let same = ap length agree.below in omega (arith, same, length-take offset text, length-take offset other)
 
 -- what is left of a text past a front that may be cut off
 pub left_text : (other : List ℕ) (n : ℕ) → IsText other → n ≤ length other → IsUtf8 (take n other) → IsText (drop n other)

@@ -10,7 +10,7 @@ use Rattle.rustc_lexer.specs.Partition.{bound}
 
 -- a boundary of the tokens, by its number and its offset, if the first of them begins at `first`
 abbrev pub IsBoundFrom : ℕ → List Token → Bound → Type 0
-IsBoundFrom first tokens at = (at.number ≤ length tokens) × (at.place ≡ first + bound tokens at.number)
+IsBoundFrom first tokens at = (at.number ≤ length tokens) × (at.offset ≡ first + bound tokens at.number)
 
 -- all of them are bounds of the tokens
 abbrev pub AreBounds : List Token → Checkpoints → Type 0
@@ -27,8 +27,8 @@ pub record IsReplaced (old new : List Token) (kept met now : Bound) : Type 0 whe
 
 -- a bound at or past `met` can be moved to where `now` is
 abbrev pub IsMovable : Bound → Bound → Bound → Type 0
-IsMovable met now at = met.number ≤ at.number → (met.place ≤ at.place) × (at.number + now.number < 2 ^ 64) × (at.place + now.place < 2 ^ 64)
+IsMovable met now at = met.number ≤ at.number → (met.offset ≤ at.offset) × (at.number + now.number < 2 ^ 64) × (at.offset + now.offset < 2 ^ 64)
 
 -- where the last token ends that was lexed
 abbrev pub end_of : Relexing → Bound
-end_of at = record { number = known at; place = at.at }
+end_of at = record { number = known at; offset = at.at }

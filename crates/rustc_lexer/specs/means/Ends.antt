@@ -81,7 +81,7 @@ pub record TakesTold (text : List ℕ) (old new : Ahead) (token : Token) : Type 
   pub told : old.told ≡ Some token.kind
   pub some : old.at < length text
   pub first : (edition : Edition) → token ≡ first_token_in edition (drop old.at text)
-  pub place : new.at ≡ old.at + token.len
+  pub offset : new.at ≡ old.at + token.len
   pub tells : TellsAhead text new
 
 -- tokens are determined in advance only in a part

@@ -5,7 +5,7 @@ use Rattle.rustc_lexer.specs.{Token, Frontmatter}
 use Rattle.rustc_lexer.specs.Classes.{is_whitespace, is_horizontal_whitespace, is_info, is_id_start, is_inline, Chars}
 use Rattle.rustc_lexer.specs.FrontmatterGrammar.{fence, endings}
 use Rattle.rustc_lexer.specs.means.Least.{one_more}
-use Rattle.rustc_lexer.specs.means.Raw.{least_place}
+use Rattle.rustc_lexer.specs.means.Raw.{least_offset}
 use Rattle.rustc_lexer.specs.means.Scan.{begins, bytes_of, next_is, past, run_len}
 
 abbrev pub newline : ℕ
@@ -60,16 +60,16 @@ opens s = begins (fence 3) (drop (spaces_len s) s) && not (ends_line (take (spac
 
 -- the offset of the first occurrence of the pattern
 abbrev pub first : List ℕ → List ℕ → Option ℕ
-first pattern s = least_place (begins pattern) s
+first pattern s = least_offset (begins pattern) s
 
 -- an offset that was found before, or this one if the test holds here
 abbrev pub or_here : Option ℕ → Bool → ℕ → Option ℕ
-or_here (Some found) here place = Some found
-or_here None here place = if here then Some place else None
+or_here (Some found) here offset = Some found
+or_here None here offset = if here then Some offset else None
 
 -- the offset of the first newline that is not before this offset, or the end of the text
 abbrev pub line_end : ℕ → List ℕ → ℕ
-line_end place s = place + run_len is_inline (drop place s)
+line_end offset s = offset + run_len is_inline (drop offset s)
 
 -- whether only blanks come before, on the line: past this character, if told of what comes before it; and past these
 abbrev pub blank_past : Bool → ℕ → Bool
@@ -90,12 +90,12 @@ first_lone blank zero (c ∷ s) =
 
 abbrev pub if_found : Option ℕ → (ℕ → ℕ) → ℕ → ℕ
 if_found None end otherwise = otherwise
-if_found (Some place) end otherwise = end place
+if_found (Some offset) end otherwise = end offset
 
 -- the end by the first of these endings that occurs. If none does, it is that of the line of lone dashes
 abbrev pub end_by : List (Chars × Bool) → List ℕ → ℕ
-end_by [] s = if_found (first_lone true 0 s) (λ place. line_end place s) (length s)
-end_by ((pattern, takes_line) ∷ others) s = if_found (first pattern s) (λ place. if takes_line then line_end (place + 1) s else place) (end_by others s)
+end_by [] s = if_found (first_lone true 0 s) (λ offset. line_end offset s) (length s)
+end_by ((pattern, takes_line) ∷ others) s = if_found (first pattern s) (λ offset. if takes_line then line_end (offset + 1) s else offset) (end_by others s)
 
 unfoldable pub closing_end : ℕ → List ℕ → ℕ
 closing_end n s = end_by (endings n) s

@@ -13,45 +13,45 @@ is_underscore c = c == byte "_"
 
 -- a run of digits and underscores, and whether a digit is among them
 abbrev pub digits : (ℕ → Bool) → List ℕ → Bool × ℕ
-digits is_digit s = run_as (λ front rest. list_any is_digit front) (or_underscore is_digit) s
+digits is_digit s = run_as (λ ds rest. list_any is_digit ds) (or_underscore is_digit) s
 
--- the front of a number: its base, and whether that has a prefix with no digit after it
-pub record Front : Type 0 where
+-- the integer part of a number: its base, and whether that has a prefix with no digit after it
+pub record IntegerPart : Type 0 where
   pub base : Base
   pub empty : Bool
 
-abbrev pub front_of : Base → Bool → Front
-front_of base empty = record { base = base; empty = empty }
+abbrev pub part_of : Base → Bool → IntegerPart
+part_of base empty = record { base = base; empty = empty }
 
--- a front with a prefix, by whether a digit follows that
-abbrev pub prefixed : Base → Bool → Front
-prefixed base has_digit = front_of base (not has_digit)
+-- an integer part with a prefix, by whether a digit follows that
+abbrev pub prefixed : Base → Bool → IntegerPart
+prefixed base has_digit = part_of base (not has_digit)
 
 -- past the letter of a prefix
-abbrev pub binary : List ℕ → Front × ℕ
+abbrev pub binary : List ℕ → IntegerPart × ℕ
 binary = read_as (prefixed Binary) (digits is_ascii_digit)
 
-abbrev pub octal : List ℕ → Front × ℕ
+abbrev pub octal : List ℕ → IntegerPart × ℕ
 octal = read_as (prefixed Octal) (digits is_ascii_digit)
 
-abbrev pub hexadecimal : List ℕ → Front × ℕ
+abbrev pub hexadecimal : List ℕ → IntegerPart × ℕ
 hexadecimal = read_as (prefixed Hexadecimal) (digits is_ascii_hexdigit)
 
 -- with no prefix
-abbrev pub decimal : List ℕ → Front × ℕ
-decimal = run (front_of Decimal false) (or_underscore is_ascii_digit)
+abbrev pub decimal : List ℕ → IntegerPart × ℕ
+decimal = run (part_of Decimal false) (or_underscore is_ascii_digit)
 
--- the front of a number whose first digit is `0`, past that
-abbrev pub front_past_zero : List ℕ → Front × ℕ
-front_past_zero s =
+-- the integer part of a number whose first digit is `0`, past that
+abbrev pub part_past_zero : List ℕ → IntegerPart × ℕ
+part_past_zero s =
     if begins (codes "b") s then after 1 binary s
     else (if begins (codes "o") s then after 1 octal s
     else (if begins (codes "x") s then after 1 hexadecimal s
     else decimal s))
 
--- the front of a number, past its first digit
-abbrev pub front : ℕ → List ℕ → Front × ℕ
-front first s = if first == byte "0" then front_past_zero s else decimal s
+-- the integer part of a number, past its first digit
+abbrev pub integer_part : ℕ → List ℕ → IntegerPart × ℕ
+integer_part first s = if first == byte "0" then part_past_zero s else decimal s
 
 -- a float with an exponent, by whether a digit stands in that
 abbrev pub float : Base → Bool → LiteralKind
@@ -87,13 +87,13 @@ past_digits base s =
     else (if next_is is_exponent_letter s then after 1 (float_exponent base) s
     else gives (Int base false) s)
 
--- what follows the front of a number
-abbrev pub tail : Front → List ℕ → LiteralKind × ℕ
-tail front s = if front.empty then gives (Int front.base true) s else past_digits front.base s
+-- what follows the integer part of a number
+abbrev pub tail : IntegerPart → List ℕ → LiteralKind × ℕ
+tail integer_part s = if integer_part.empty then gives (Int integer_part.base true) s else past_digits integer_part.base s
 
 -- a number past its first digit, up to where a suffix may stand
 unfoldable pub number_kind : ℕ → List ℕ → LiteralKind × ℕ
-number_kind first s = and_then (front first) tail s
+number_kind first s = and_then (integer_part first) tail s
 
 -- any number may have a suffix
 abbrev pub with_suffix : LiteralKind → Body

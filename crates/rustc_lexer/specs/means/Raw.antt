@@ -10,8 +10,8 @@ use Rattle.rustc_lexer.specs.means.Scan.{after, bytes_of, gives, next_is, run_le
 pub use Rattle.rustc_lexer.specs.LanguageCalls.{StartsRaw}
 
 -- the least offset from which on the text passes a test
-abbrev pub least_place : (List ℕ → Bool) → List ℕ → Option ℕ
-least_place test s = least (λ place. test (drop place s)) (length s)
+abbrev pub least_offset : (List ℕ → Bool) → List ℕ → Option ℕ
+least_offset test s = least (λ offset. test (drop offset s)) (length s)
 
 -- the greatest value of f for a number less than `count`, or 0
 abbrev pub greatest : (ℕ → ℕ) → ℕ → ℕ
@@ -40,7 +40,7 @@ closes n s = next_is is_quote s && nat_le n (hash_run (drop 1 s))
 
 -- the offset of the first quote that at least n hashes follow
 abbrev pub close : ℕ → List ℕ → Option ℕ
-close n u = least_place (closes n) u
+close n u = least_offset (closes n) u
 
 -- how many hashes come directly after the quote with which the text begins, or 0 if it begins with none
 abbrev pub quote_hashes : List ℕ → ℕ
@@ -48,11 +48,11 @@ quote_hashes s = if next_is is_quote s then hash_run (drop 1 s) else 0
 
 -- the largest number of hashes directly after a quote
 abbrev pub most_hashes : List ℕ → ℕ
-most_hashes u = greatest (λ place. quote_hashes (drop place u)) (length u)
+most_hashes u = greatest (λ offset. quote_hashes (drop offset u)) (length u)
 
 -- the offset of the first quote with m hashes, for an m that is not 0
 abbrev pub quote_with : ℕ → List ℕ → Option ℕ
-quote_with m u = least_place (λ s. quote_hashes s == m) u
+quote_with m u = least_offset (λ s. quote_hashes s == m) u
 
 abbrev pub quote_if : ℕ → List ℕ → Option ℕ
 quote_if m u = if m == 0 then None else quote_with m u
@@ -64,7 +64,7 @@ best_quote u = quote_if (most_hashes u) u
 -- the offset at which the quote at this place ends, in bytes, if `before` bytes come before u
 abbrev pub quote_end : ℕ → List ℕ → Option ℕ → Option ℕ
 quote_end before u None = None
-quote_end before u (Some place) = Some (before + bytes_of (suc place) u)
+quote_end before u (Some offset) = Some (before + bytes_of (suc offset) u)
 
 -- a string that closes has at most 255 hashes on each side
 abbrev pub hash_count : ℕ → Result ℕ RawStrError
@@ -73,7 +73,7 @@ hash_count n = if nat_le n 255 then Ok n else Err (TooManyDelimiters n)
 -- a string that is closed by the quote at this place ends after the n hashes that follow it. One that is not closed
 -- takes the whole text
 abbrev pub raw_closed : ℕ → ℕ → List ℕ → Option ℕ → Result ℕ RawStrError × ℕ
-raw_closed n before u (Some place) = (hash_count n, suc place + n)
+raw_closed n before u (Some offset) = (hash_count n, suc offset + n)
 raw_closed n before u None = (Err (NoTerminator n (most_hashes u) (quote_end before u (best_quote u))), length u)
 
 -- the text after n hashes and a quote. An offset counts `before` bytes in front of it

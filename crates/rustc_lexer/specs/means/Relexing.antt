@@ -25,7 +25,7 @@ pub record IsBodyMeeting (old new : List Token) (old_stop new_stop number back :
   pub past_edit : new_stop ≤ bound new number
   pub old_number : ℕ
   pub back_is : old_number + back ≡ length old
-  pub same_place : bound new number + old_stop ≡ bound old old_number + new_stop
+  pub same_offset : bound new number + old_stop ≡ bound old old_number + new_stop
 
 -- the counts of an edit
 pub record IsBodyRelexed (first : List ℕ → Token) (text : List ℕ) (start stop : ℕ) (insert : List ℕ) (r : Relexed) : Type 0 where
@@ -39,7 +39,7 @@ pub record IsBodyRelexed (first : List ℕ → Token) (text : List ℕ) (start s
 -- whether an offset of the new text is not before the end of the edit, which is `new_stop` there and `old_stop` in the
 -- old text, and, moved back by the edit, is a boundary of the old tokens
 abbrev pub meets_at : List Token → ℕ → ℕ → ℕ → Bool
-meets_at old old_stop new_stop place = nat_le new_stop place && list_any (nat_eq (place - new_stop + old_stop)) (0 ∷ ends_from 0 old)
+meets_at old old_stop new_stop offset = nat_le new_stop offset && list_any (nat_eq (offset - new_stop + old_stop)) (0 ∷ ends_from 0 old)
 
 -- the first number from j on that passes the test, or j + n if none of the n numbers from j on does
 abbrev pub least_from : (ℕ → Bool) → ℕ → ℕ → ℕ
@@ -69,7 +69,7 @@ pub record Stands (first : List ℕ → Token) (old : List ℕ) (change : Change
   pub front_bound : IsBound (tokens_by first old) at.front
   pub front_same : take at.front.number (tokens_by first old) ≡ take at.front.number (tokens_by first text)
   pub inside : known at ≤ length (tokens_by first text)
-  pub place : at.at ≡ bound (tokens_by first text) (known at)
+  pub offset : at.at ≡ bound (tokens_by first text) (known at)
   pub not_past : known at
       ≤ meet (tokens_by first old) (tokens_by first text) change.old_stop change.new_stop at.front.number
   pub met_is : at.met ≡ meets_at (tokens_by first old) change.old_stop change.new_stop at.at
@@ -78,7 +78,7 @@ pub record Stands (first : List ℕ → Token) (old : List ℕ) (change : Change
   pub below : (k : ℕ) → k < at.back.number
       → bound (tokens_by first old) k + change.new_stop < max change.new_stop at.at + change.old_stop
   pub reached : change.new_stop ≤ at.at → at.back.number < length (tokens_by first old)
-      → at.at - change.new_stop + change.old_stop ≤ at.back.place
+      → at.at - change.new_stop + change.old_stop ≤ at.back.offset
 
 -- ---- the parts
 
@@ -107,15 +107,15 @@ old_stop_of damage = damage.past - damage.added + damage.removed
 
 -- the last boundary of the tokens, and no other, is at this offset
 abbrev pub IsLast : List Token → ℕ → Type 0
-IsLast tokens place = (bound tokens (length tokens) ≡ place) × ((k : ℕ) → k < length tokens → bound tokens k < place)
+IsLast tokens offset = (bound tokens (length tokens) ≡ offset) × ((k : ℕ) → k < length tokens → bound tokens k < offset)
 
 -- the old tokens were followed to boundary `back` for an offset of the new text, and `met` says whether that offset
 -- meets the old tokens
-pub record IsFollowed (old : List Token) (old_stop new_stop place : ℕ) (back : Bound) (met : Bool) : Type 0 where
+pub record IsFollowed (old : List Token) (old_stop new_stop offset : ℕ) (back : Bound) (met : Bool) : Type 0 where
   pub bound_is : IsBound old back
-  pub below : (k : ℕ) → k < back.number → bound old k + new_stop < max new_stop place + old_stop
-  pub reached : new_stop ≤ place → back.number < length old → place - new_stop + old_stop ≤ back.place
-  pub met_is : met ≡ meets_at old old_stop new_stop place
+  pub below : (k : ℕ) → k < back.number → bound old k + new_stop < max new_stop offset + old_stop
+  pub reached : new_stop ≤ offset → back.number < length old → offset - new_stop + old_stop ≤ back.offset
+  pub met_is : met ≡ meets_at old old_stop new_stop offset
 
 -- relexing has met the old tokens, and these are the tokens that were lexed for it
 pub record IsLexed (first : List ℕ → Token) (old : List ℕ) (change : Change) (text : List ℕ) (tokens : List Token) (at : Relexing) : Type 0 where

@@ -5,13 +5,13 @@ ghost use Rattle.rustc_lexer.specs.means.Quick.{turns_word};
 
 use crate::token::TokenKind;
 
-/// Returns the known ends of runs past a place.
+/// Returns the known ends of runs past an offset.
 #[inline(always)]
-pub(crate) fn ends_after(ends: u64, place: usize) -> u64
-    ensures gone { (k : ℕ) → k ≤ place → bit result k ≡ false }
-    ensures others { (k : ℕ) → place < k → bit result k ≡ bit ends k }
+pub(crate) fn ends_after(ends: u64, offset: usize) -> u64
+    ensures gone { (k : ℕ) → k ≤ offset → bit result k ≡ false }
+    ensures others { (k : ℕ) → offset < k → bit result k ≡ bit ends k }
 {
-    if place < 64 { ends & (!1 << place) } else { 0 }
+    if offset < 64 { ends & (!1 << offset) } else { 0 }
 }
 
 /// Returns the ends of runs without the lowest one.

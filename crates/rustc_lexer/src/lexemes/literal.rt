@@ -1,4 +1,4 @@
-//! The suffix of a literal, and the place where it begins.
+//! The suffix of a literal, and the offset where it begins.
 ghost use Rattle.std.specs.Prelude.{◌≡◌, ◌+◌, ◌-◌, ◌≤◌, ◌<◌, ◌^◌, length};
 ghost use Rattle.std.specs.Str.{chars};
 ghost use Rattle.rustc_lexer.specs.{Literal};

@@ -32,7 +32,7 @@ pub(crate) fn number(first_digit: char, tail: &str) -> (TokenKind, &str)
 fn number_kind(first_digit: char, tail: &str) -> (LiteralKind, &str)
     ensures { (result.0, result.1.now) ≡ scanned (spec.number_kind first_digit) tail.now }
 {
-    let (base, empty_int, rest) = front(first_digit, tail);
+    let (base, empty_int, rest) = integer_part(first_digit, tail);
     if empty_int {
         return (LiteralKind::Int { base, empty_int }, rest);
     }
@@ -42,12 +42,12 @@ fn number_kind(first_digit: char, tail: &str) -> (LiteralKind, &str)
 /// Returns the base, whether the number has a prefix without a digit after it, and the text after its digits up to
 /// a point or an exponent.
 #[inline(always)]
-fn front(first_digit: char, tail: &str) -> (Base, bool, &str)
-    ensures { (spec.front_of result.0 result.1, result.2.now)
-        ≡ scanned (spec.front first_digit) tail.now }
+fn integer_part(first_digit: char, tail: &str) -> (Base, bool, &str)
+    ensures { (spec.part_of result.0 result.1, result.2.now)
+        ≡ scanned (spec.integer_part first_digit) tail.now }
 {
     if first_digit == '0' {
-        front_past_zero(tail)
+        part_past_zero(tail)
     } else {
         (Base::Decimal, false, eat_decimal(tail))
     }
@@ -57,9 +57,9 @@ fn front(first_digit: char, tail: &str) -> (Base, bool, &str)
 /// after its digits.
 #[inline(always)]
 #[tactic(auto, using(crate::proofs::NumberLemmas::number_lemmas, std::proofs::lemmas::Grind::common_steps))]
-fn front_past_zero(tail: &str) -> (Base, bool, &str)
-    ensures { (spec.front_of result.0 result.1, result.2.now)
-        ≡ scanned spec.front_past_zero tail.now }
+fn part_past_zero(tail: &str) -> (Base, bool, &str)
+    ensures { (spec.part_of result.0 result.1, result.2.now)
+        ≡ scanned spec.part_past_zero tail.now }
 {
     let Some((letter, digits)) = split_first(tail) else {
         return (Base::Decimal, false, tail);
@@ -78,7 +78,7 @@ fn front_past_zero(tail: &str) -> (Base, bool, &str)
     }
 }
 
-/// Returns the kind of a number of this base, and the text after it. The text after its front makes it a number
+/// Returns the kind of a number of this base, and the text after it. The text after its integer part makes it a number
 /// with a fraction, with an exponent or with neither.
 #[inline(always)]
 #[tactic(auto, using(crate::proofs::NumberLemmas::number_lemmas, std::proofs::lemmas::Grind::common_steps))]

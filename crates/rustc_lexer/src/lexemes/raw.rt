@@ -125,11 +125,11 @@ fn raw_text(text: &str, n_hashes: u32, before: u32) -> (Result<u8, RawStrError>,
 /// Returns the text after its first quote.
 #[inline(always)]
 fn past_quote(rest: &str) -> Option<&str>
-    ensures { let place = run_len spec.is_no_quote (chars rest.now) in
+    ensures { let offset = run_len spec.is_no_quote (chars rest.now) in
         MatchOption result
-        (drop place (chars rest.now) ≡ [])
-        (λ tail. (drop place (chars rest.now) ≡ byte "\"" ∷ chars tail.now)
-        × (tail.now ≡ past (suc place) rest.now) × (length tail.now < length rest.now)) }
+        (drop offset (chars rest.now) ≡ [])
+        (λ tail. (drop offset (chars rest.now) ≡ byte "\"" ∷ chars tail.now)
+        × (tail.now ≡ past (suc offset) rest.now) × (length tail.now < length rest.now)) }
 {
     strip(eat_until(rest, b'"'), b'"')
 }

@@ -35,13 +35,13 @@ pub struct Bound {
     /// How many tokens come before it.
     pub number: usize,
     /// Its offset, in bytes from the start of the text.
-    pub place: usize,
+    pub offset: usize,
 }
 
 /// The first boundary, which each list has.
 pub(crate) const FIRST: Bound = Bound {
     number: 0,
-    place: 0,
+    offset: 0,
 };
 
 /// Returns whether there are at least two characters between the two offsets.
@@ -81,24 +81,24 @@ fn stand_before(text: &str, from: usize, to: usize) -> bool
 fn walk_back<T: Measured>(text: &str, tokens: &[T], start: usize, from: Bound) -> Bound
     requires boundary { IsCharBoundary text.now start }
     ensures number { result.number ≤ length tokens.now }
-    ensures boundary { IsCharBoundary text.now result.place }
-    ensures before { result.place ≤ start }
+    ensures boundary { IsCharBoundary text.now result.offset }
+    ensures before { result.offset ≤ start }
     ensures bound { (old : List ℕ) (ts : List Token)
         → IsFront old ts (map T.bytes tokens.now) text.now start → IsBound ts from
-        → IsBound ts result × (0 < result.number → has_two old result.place start ≡ true) }
+        → IsBound ts result × (0 < result.number → has_two old result.offset start ≡ true) }
 {
     if from.number > tokens.len() {
         return FIRST;
     }
     let mut at = from;
     while at.number > 0 {
-        if stand_before(text, at.place, start) {
+        if stand_before(text, at.offset, start) {
             return at;
         }
         let number = at.number - 1;
         at = Bound {
             number,
-            place: at.place.saturating_sub(tokens[number].len() as usize),
+            offset: at.offset.saturating_sub(tokens[number].len() as usize),
         };
     }
     FIRST
@@ -109,21 +109,21 @@ fn walk_back<T: Measured>(text: &str, tokens: &[T], start: usize, from: Bound) -
 pub(crate) fn kept_front<T: Measured>(text: &str, tokens: &[T], start: usize, near: Bound) -> Bound
     requires boundary { IsCharBoundary text.now start }
     ensures number { result.number ≤ length tokens.now }
-    ensures boundary { IsCharBoundary text.now result.place }
-    ensures before { result.place ≤ start }
+    ensures boundary { IsCharBoundary text.now result.offset }
+    ensures before { result.offset ≤ start }
     ensures front { (old : List ℕ) (ts : List Token)
         → IsFront old ts (map T.bytes tokens.now) text.now start → IsBound ts near
         → (result.number ≡ kept_front old ts start)
         × IsBound ts result
-        × (0 < result.number → has_two old result.place start ≡ true) }
+        × (0 < result.number → has_two old result.offset start ≡ true) }
 {
     let mut at = walk_back(text, tokens, start, near);
     while at.number < tokens.len() {
         let next = Bound {
             number: at.number + 1,
-            place: at.place + tokens[at.number].len() as usize,
+            offset: at.offset + tokens[at.number].len() as usize,
         };
-        if !stand_before(text, next.place, start) {
+        if !stand_before(text, next.offset, start) {
             break;
         }
         at = next;
@@ -134,22 +134,22 @@ pub(crate) fn kept_front<T: Measured>(text: &str, tokens: &[T], start: usize, ne
 /// Returns the first boundary from `from` on that is not before `target`, or the last boundary.
 fn next_bound<T: Measured>(tokens: &[T], from: Bound, target: usize) -> Bound
     requires number { from.number ≤ length tokens.now }
-    requires small { from.place < 2 ^ 63 }
+    requires small { from.offset < 2 ^ 63 }
     requires target_small { target < 2 ^ 34 }
     ensures number { result.number ≤ length tokens.now }
     ensures ahead { from.number ≤ result.number }
-    ensures small { result.place < 2 ^ 63 }
+    ensures small { result.offset < 2 ^ 63 }
     ensures bound { (ts : List Token) → HasLengths ts (map T.bytes tokens.now) → IsBound ts from
         → ((k : ℕ) → k < from.number → bound ts k < target)
         → IsBound ts result
         × ((k : ℕ) → k < result.number → bound ts k < target)
-        × (result.number < length tokens.now → target ≤ result.place) }
+        × (result.number < length tokens.now → target ≤ result.offset) }
 {
     let mut at = from;
-    while at.number < tokens.len() && at.place < target {
+    while at.number < tokens.len() && at.offset < target {
         at = Bound {
             number: at.number + 1,
-            place: at.place + tokens[at.number].len() as usize,
+            offset: at.offset + tokens[at.number].len() as usize,
         };
     }
     at
@@ -173,47 +173,47 @@ pub(crate) struct Damage {
 }
 
 /// Returns how far the old tokens are followed, and whether the new ones meet them there: whether the new boundary at
-/// offset `place` is after the edit and, moved back by it, is a boundary of the old tokens. The end of the new text
+/// `offset` is after the edit and, moved back by it, is a boundary of the old tokens. The end of the new text
 /// always is one, the last one, so no length is read there.
 pub(crate) fn follow<T: Measured>(
     tokens: &[T],
     from: Bound,
-    place: usize,
+    offset: usize,
     damage: Damage,
 ) -> Meeting
     requires number { from.number ≤ length tokens.now }
-    requires small { from.place < 2 ^ 63 }
+    requires small { from.offset < 2 ^ 63 }
     requires added_le { damage.added ≤ damage.past }
-    requires place_fits { place + damage.removed < 2 ^ 34 }
+    requires offset_fits { offset + damage.removed < 2 ^ 34 }
 
     // It is not before `from`, and is among the old tokens.
     ensures number { result.at.number ≤ length tokens.now }
     ensures ahead { from.number ≤ result.at.number }
-    ensures small { result.at.place < 2 ^ 63 }
+    ensures small { result.at.offset < 2 ^ 63 }
 
     // Before the end of the edit, no old token is met.
-    ensures stays { place < damage.past → result.at ≡ from }
-    ensures early { place < damage.past → result.met ≡ false }
+    ensures stays { offset < damage.past → result.at ≡ from }
+    ensures early { offset < damage.past → result.met ≡ false }
 
     // After it, how far exactly they are followed, and whether they are met there.
     ensures followed { (ts : List Token) → HasLengths ts (map T.bytes tokens.now) → IsBound ts from
         → ((k : ℕ) → k < from.number
-        → bound ts k + damage.past < max damage.past place + old_stop_of damage)
-        → (place ≡ damage.end → IsLast ts (place - damage.past + old_stop_of damage))
-        → IsFollowed ts (old_stop_of damage) damage.past place result.at result.met }
+        → bound ts k + damage.past < max damage.past offset + old_stop_of damage)
+        → (offset ≡ damage.end → IsLast ts (offset - damage.past + old_stop_of damage))
+        → IsFollowed ts (old_stop_of damage) damage.past offset result.at result.met }
 {
-    if place < damage.past {
+    if offset < damage.past {
         return Meeting {
             at: from,
             met: false,
         };
     }
-    let target = place - damage.added + damage.removed;
-    if place == damage.end {
+    let target = offset - damage.added + damage.removed;
+    if offset == damage.end {
         return Meeting {
             at: Bound {
                 number: tokens.len(),
-                place: target,
+                offset: target,
             },
             met: true,
         };
@@ -221,6 +221,6 @@ pub(crate) fn follow<T: Measured>(
     let at = next_bound(tokens, from, target);
     Meeting {
         at,
-        met: at.place == target,
+        met: at.offset == target,
     }
 }

@@ -120,7 +120,7 @@ impl<S: Stepper, E: Extent> Kept<S, E> {
             (means.start_in E.whole (string_bytes self.now.text)) self.now.tokens.items)) }
         ensures number { length result ≡ to - from }
     {
-        let start = self.place_of(from);
+        let start = self.offset_of(from);
         let tokens = &self.tokens.as_slice()[from..to];
         Pieces {
             text: self.text.as_str(),

@@ -99,18 +99,18 @@ impl Relexing {
         requires change { IsChange text.now change }
         ensures may_go_on { MayGoOn text.now (length old.now) result }
         ensures none { result.lexed ≡ 0 }
-        ensures stands { (first : List ℕ → Token) (before insert : List ℕ) → IsGrammar first
+        ensures under_way { (first : List ℕ → Token) (before insert : List ℕ) → IsGrammar first
             → IsMadeOf first before (map T.bytes old.now) change insert text.now
             → IsBound (tokens_by first before) near
             → IsUnderWay first before change text.now result }
     {
         let front = kept_front(text, old, change.start, near);
-        let to = follow(old, front, front.place, change.damage(text));
+        let to = follow(old, front, front.offset, change.damage(text));
         Relexing {
             front,
             lexed: 0,
             back: to.at,
-            at: front.place,
+            at: front.offset,
             met: to.met,
         }
     }
@@ -123,7 +123,7 @@ impl Relexing {
         text.is_char_boundary(self.at)
             && self.back.number <= old_count
             && self.front.number <= self.back.number
-            && self.back.place <= MOST
+            && self.back.offset <= MOST
             && self.lexed <= self.at
     }
 
@@ -167,7 +167,7 @@ impl Relexing {
             × (is_over text.now self.old ≡ false)) }
 
         // If the old tokens are those of an old text, it is the next token of the present one.
-        ensures stands { (before insert : List ℕ)
+        ensures under_way { (before insert : List ℕ)
             → IsMadeOf (S.grammar stepper.old) before (map T.bytes old.now) change insert text.now
             → IsUnderWay (S.grammar stepper.old) before change text.now self.old
             → IsUnderWay (S.grammar stepper.old) before change text.now self.new
@@ -227,7 +227,7 @@ impl Relexing {
         ensures over { result < length buffer.old → is_over text.now self.new ≡ true }
 
         // If the old tokens are those of an old text, these are the next tokens of the present one.
-        ensures stands { GoesOn (S.grammar stepper.old) (map T.bytes old.now) text.now change
+        ensures under_way { GoesOn (S.grammar stepper.old) (map T.bytes old.now) text.now change
             self.old self.new }
     {
         let mut count = 0;

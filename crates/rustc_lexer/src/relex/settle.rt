@@ -26,14 +26,14 @@ fn settled_by<S: Stepper>(stepper: &mut S, text: &str) -> usize
     requires fits { Fits text.now }
     ensures { IsSettled text.now (tokens_by (S.grammar stepper.old) text.now) result }
 {
-    let mut place = 0;
-    while place < text.len() {
-        let token = stepper.step(&text[place..]);
-        let next = place + token.len as usize;
+    let mut offset = 0;
+    while offset < text.len() {
+        let token = stepper.step(&text[offset..]);
+        let next = offset + token.len as usize;
         if !two_stand(text, next, text.len()) {
             break;
         }
-        place = next;
+        offset = next;
     }
-    place
+    offset
 }

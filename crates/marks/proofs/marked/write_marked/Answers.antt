@@ -3,7 +3,7 @@ use Rattle.std.specs.Fmt.{WritesInCalls}
 use Rattle.rustc_lexer.specs.Document.{shebang_len}
 use Rattle.rustc_lexer.specs.State.{State}
 use Rattle.rustc_lexer.specs.Tokens.{tokens_left}
-use Rattle.rustc_lexer.proofs.PlaceLemmas.{document_place, document_start, piece_is, stands_past}
+use Rattle.rustc_lexer.proofs.PlaceLemmas.{document_offset, document_start, piece_is, stands_past}
 use Rattle.marks.specs.declared.class.Class.TheVariants.{Comment}
 use Rattle.marks.specs.Marked.{marked_tokens}
 use Rattle.marks.specs.Part.{Own, with_marks}
@@ -32,7 +32,7 @@ loop-token-init g c =
     let begins = document_start text c.as_str.result.now c.into_iter-token-iterator.result tokens.ensures.boundary rest left in
     let line : c.range.result.now ≡ take (shebang_len text) text = c.range.ensures.value ∙ ap (λ (n : ℕ). take n text) (let e : length text - length c.as_str.result.now - 0 ≡ shebang_len text = omega (arith, begins) in e) in
     record {
-      place = document_place text c.as_str.result.now c.into_iter-token-iterator.result tokens.ensures.boundary rest left;
+      place = document_offset text c.as_str.result.now c.into_iter-token-iterator.result tokens.ensures.boundary rest left;
       left = λ w more. writes_past g.W.Write.write_str_gives c.args.style c.args.edition c.args.output.now c.write_in_class.new.output w text
           (subst (λ (bs : List ℕ). WritesInCalls g.W.Write.write_str_gives c.args.output.now (with_marks c.args.style (Own Comment bs ∷ [])) c.write_in_class.new.output) line c.in_ok-write_in_class.ensures)
           (subst (λ (s : State). WritesInCalls g.W.Write.write_str_gives c.write_in_class.new.output (marked_tokens c.args.style s.rest (tokens_left s)) w) state more);

@@ -62,15 +62,15 @@ impl LexedDocument<Steps> {
     /// including the frontmatter, or none if there is no frontmatter.
     pub fn body(&self) -> Bound
         ensures number { result.number ≡ spec.head_count self.now.tokens }
-        ensures place { result.place ≡ spec.body_start self.now.text }
+        ensures offset { result.offset ≡ spec.body_start self.now.text }
         ensures tokens { (edition : Edition)
             → ⟦<Steps as Stepper>⟧.number self.now.stepper ≡ year edition
             → drop result.number self.now.tokens
-            ≡ tokens_of (part edition) (drop result.place self.now.text) }
+            ≡ tokens_of (part edition) (drop result.offset self.now.text) }
     {
         Bound {
             number: self.kept.head.count(),
-            place: self.kept.head.body,
+            offset: self.kept.head.body,
         }
     }
 

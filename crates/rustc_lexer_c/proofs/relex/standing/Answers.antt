@@ -6,5 +6,5 @@ returns-then-relexing-eq0-clause-some c =
       c.begin.ensures.may_go_on,
       rw zero_stage c.begin.ensures.none,
       λ later. absurd (later zero_stage),
-      λ first before insert law is passed. c.begin.ensures.stands first before insert law is (passed.near zero_stage),
+      λ first before insert law is passed. c.begin.ensures.under_way first before insert law is (passed.near zero_stage),
     )

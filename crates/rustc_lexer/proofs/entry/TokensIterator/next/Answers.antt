@@ -23,7 +23,7 @@ returns-in-Some c =
     let mode : Mode = mode_in c.self.inside.frontmatter_allowed c.self.inside.edition in
     let never = inv.part c.in-Some.token.kind told.told in
     let takes = takes_at _ _ text (drop at text) at c.args.self.now never c.self.view_is told.utf8 refl inv.tells.bound inv.tells.fits (left_some text _ at refl told.some) c.in-Some.token (told.first c.self.inside.edition) in
-    let taken : TakesToken c.args.self.now c.in-Some.token (state 0 (drop c.take.new.self.at text) mode) = subst (λ p. TakesToken c.args.self.now c.in-Some.token (state 0 (drop p text) mode)) (sym told.place) takes in
+    let taken : TakesToken c.args.self.now c.in-Some.token (state 0 (drop c.take.new.self.at text) mode) = subst (λ p. TakesToken c.args.self.now c.in-Some.token (state 0 (drop p text) mode)) (sym told.offset) takes in
     record { steps = taken; goes = goes _ _ _ taken }
 
 pub returns-then-self-clause-steps : goal.returns-then-self-clause-steps

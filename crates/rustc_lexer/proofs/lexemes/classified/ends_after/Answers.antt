@@ -2,14 +2,14 @@ use Rattle.std.proofs.Common.{sym, ◌∙◌, arith}
 use Rattle.rustc_lexer.proofs.BitLemmas.{after-gone, after-others, bit-above, bit-zero}
 use Rattle.rustc_lexer.proofs.lexemes.classified.ends_after.Goals as goal
 
-pub returns-then-place-lt64-clause-gone : goal.returns-then-place-lt64-clause-gone
-returns-then-place-lt64-clause-gone c = after-gone c.args.ends c.args.place c.if-place-lt64.true
+pub returns-then-offset-lt64-clause-gone : goal.returns-then-offset-lt64-clause-gone
+returns-then-offset-lt64-clause-gone c = after-gone c.args.ends c.args.offset c.if-offset-lt64.true
 
-pub returns-then-place-lt64-clause-others : goal.returns-then-place-lt64-clause-others
-returns-then-place-lt64-clause-others c = after-others c.args.ends c.args.place c.if-place-lt64.true c.ranges.ends.fits
+pub returns-then-offset-lt64-clause-others : goal.returns-then-offset-lt64-clause-others
+returns-then-offset-lt64-clause-others c = after-others c.args.ends c.args.offset c.if-offset-lt64.true c.ranges.ends.fits
 
-pub returns-else-place-lt64-clause-gone : goal.returns-else-place-lt64-clause-gone
-returns-else-place-lt64-clause-gone c = λ k le. bit-zero k
+pub returns-else-offset-lt64-clause-gone : goal.returns-else-offset-lt64-clause-gone
+returns-else-offset-lt64-clause-gone c = λ k le. bit-zero k
 
-pub returns-else-place-lt64-clause-others : goal.returns-else-place-lt64-clause-others
-returns-else-place-lt64-clause-others c = λ k more. bit-zero k ∙ sym (bit-above c.args.ends k c.ranges.ends.fits (omega (arith, c.if-place-lt64.false)))
+pub returns-else-offset-lt64-clause-others : goal.returns-else-offset-lt64-clause-others
+returns-else-offset-lt64-clause-others c = λ k more. bit-zero k ∙ sym (bit-above c.args.ends k c.ranges.ends.fits (omega (arith, c.if-offset-lt64.false)))

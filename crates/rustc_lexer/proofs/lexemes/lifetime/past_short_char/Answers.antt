@@ -2,7 +2,7 @@ use Rattle.std.proofs.Common.{◌+◌, ap, arith, length-drop}
 use Rattle.rustc_lexer.proofs.ShortCharLemmas.{short_char}
 use Rattle.rustc_lexer.proofs.lexemes.lifetime.past_short_char.Goals as goal
 
-pub returns-then-bytes-place-eq39 : goal.returns-then-bytes-place-eq39
-returns-then-bytes-place-eq39 c =
-    let found = short_char c.args.tail.now _ (1 + c.from-place.result) c.utf8.tail c.as_bytes-bytes.ensures.value c.if-bytes-lt3.false (ap (λ n. 1 + n) c.from-place.ensures) c.if-bytes-place-lt128.true c.if-bytes-place-eq39.true in
-    rw c.range_from.ensures.value (found.character, found.read, omega (arith, length-drop (1 + c.from-place.result + 1) c.args.tail.now))
+pub returns-then-bytes-offset-eq39 : goal.returns-then-bytes-offset-eq39
+returns-then-bytes-offset-eq39 c =
+    let found = short_char c.args.tail.now _ (1 + c.from-offset.result) c.utf8.tail c.as_bytes-bytes.ensures.value c.if-bytes-lt3.false (ap (λ n. 1 + n) c.from-offset.ensures) c.if-bytes-offset-lt128.true c.if-bytes-offset-eq39.true in
+    rw c.range_from.ensures.value (found.character, found.read, omega (arith, length-drop (1 + c.from-offset.result + 1) c.args.tail.now))

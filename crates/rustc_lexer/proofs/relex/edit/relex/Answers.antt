@@ -23,14 +23,14 @@ loop-token-init g c =
       λ before insert is near.
           let first = g.S.Stepper.grammar c.args.stepper.now in
           let law = g.S.Stepper.law c.args.stepper.now in
-          let stands = to_stands law before _ insert _ c.args.change is _ (c.begin-at.ensures.stands first before insert law is near) in
+          let stands = to_stands law before _ insert _ c.args.change is _ (c.begin-at.ensures.under_way first before insert law is near) in
           (stands, all_lexed (tokens_by first c.args.text.now) c.begin-at.result c.new-tokens.result.items none zero_lexed),
     )
 
 pub loop-token-smaller : goal.loop-token-smaller
 loop-token-smaller g c =
     let step = step_of (g.S.Stepper.law c.loop-token.stepper) c.args.text.now record { utf8 = c.utf8.text; fits = c.requires.fits } c.args.change.new_stop _ c.loop-token.at c.in-Some.token _ c.next.new.self c.loop-token.invariant.0.boundary c.in-Some.ensures.step in
-    omega (arith, step.place, step.not_empty, step.inside)
+    omega (arith, step.offset, step.not_empty, step.inside)
 
 pub loop-token-preserved : goal.loop-token-preserved
 loop-token-preserved g c =
@@ -56,7 +56,7 @@ loop-token-preserved g c =
       λ before insert is near.
           let law = g.S.Stepper.law c.args.stepper.now in
           let so = inv.5 before insert is near in
-          let next = subst (Next before insert) inv.1 (c.in-Some.ensures.stands before insert) is (of_stands law before _ insert _ c.args.change is at so.0) in
+          let next = subst (Next before insert) inv.1 (c.in-Some.ensures.under_way before insert) is (of_stands law before _ insert _ c.args.change is at so.0) in
           let pushed = one_lexed new at past c.loop-token.tokens.items c.push.new.self.items token step.front so.1 next.1 more in
           (to_stands law before _ insert _ c.args.change is past next.0, pushed),
     )
@@ -71,7 +71,7 @@ returns-in_err-push-clause-few g c =
     IfErr-always c.from_residual.result (λ before insert is near.
     let law = g.S.Stepper.law c.args.stepper.now in
     let so = c.loop-token.invariant.5 before insert is near in
-    let next = subst (λ (f : List ℕ → Token). IsMadeOf f before (map (λ (t : Token). t.len) c.args.old.now) c.args.change insert c.args.text.now → IsUnderWay f before c.args.change c.args.text.now at → IsUnderWay f before c.args.change c.args.text.now past × (drop (known at) (tokens_by f c.args.text.now) ≡ c.in-Some.token ∷ drop (known past) (tokens_by f c.args.text.now))) c.loop-token.invariant.1 (c.in-Some.ensures.stands before insert) is (of_stands law before _ insert _ c.args.change is at so.0) in
+    let next = subst (λ (f : List ℕ → Token). IsMadeOf f before (map (λ (t : Token). t.len) c.args.old.now) c.args.change insert c.args.text.now → IsUnderWay f before c.args.change c.args.text.now at → IsUnderWay f before c.args.change c.args.text.now past × (drop (known at) (tokens_by f c.args.text.now) ≡ c.in-Some.token ∷ drop (known past) (tokens_by f c.args.text.now))) c.loop-token.invariant.1 (c.in-Some.ensures.under_way before insert) is (of_stands law before _ insert _ c.args.change is at so.0) in
     omega (arith, c.in-Some.ensures.step.2, lexed, c.loop-token.invariant.3, c.loop-token.invariant.4, few_lexed law before _ insert _ c.args.change is past (to_stands law before _ insert _ c.args.change is past next.0)))
 
 pub returns-clause-lexed : goal.returns-clause-lexed
@@ -84,7 +84,7 @@ returns-clause-lexed g c = λ before insert is near.
     let so = inv.5 before insert is near in
     let same : end ≡ at = c.in_default.ensures.step.0 in
     let Last : (List ℕ → Token) → Type 0 = λ f. IsMadeOf f before (map (λ (t : Token). t.len) c.args.old.now) c.args.change insert c.args.text.now → IsUnderWay f before c.args.change c.args.text.now at → IsUnderWay f before c.args.change c.args.text.now end × (end.met ≡ true) in
-    let last = subst Last inv.1 (c.in_default.ensures.stands before insert) is (of_stands law before _ insert _ c.args.change is at so.0) in
+    let last = subst Last inv.1 (c.in_default.ensures.under_way before insert) is (of_stands law before _ insert _ c.args.change is at so.0) in
     record {
       stands = to_stands law before _ insert _ c.args.change is end last.0;
       met = last.1;

@@ -15,8 +15,8 @@ loop-at-preserved g c =
           let so = c.loop-at.invariant.3 ts are from before in
           let many = as_many g.T.Measured.bytes c.args.tokens.now ts are in
           let fewer : number < length ts = omega (arith, many) in
-          let test : c.loop-at.at.place < c.args.target = c.if-at-target.true in
-          let place : c.loop-at.at.place ≡ bound ts number = so.0.1 in
+          let test : c.loop-at.at.offset < c.args.target = c.if-at-target.true in
+          let offset : c.loop-at.at.offset ≡ bound ts number = so.0.1 in
           let long = as_long g.T.Measured.bytes c.args.tokens.now ts are number _ _ c.len.ensures c.index-tokens-at.is few in
-          ((omega (arith, many), ap (λ n. c.loop-at.at.place + n) long ∙ bound-more ts number c.loop-at.at.place no_token place fewer), below_more _ _ so.1 (omega arith)),
+          ((omega (arith, many), ap (λ n. c.loop-at.at.offset + n) long ∙ bound-more ts number c.loop-at.at.offset no_token offset fewer), below_more _ _ so.1 (omega arith)),
     )

@@ -8,7 +8,7 @@ use Rattle.rustc_lexer.proofs.relex.front.next_bound.Given as goal
 abbrev pub invariant-loop-at : goal.invariant-loop-at
 invariant-loop-at g l = (l.at.number ≤ length l.tokens)
     × (l.fn.from.number ≤ l.at.number)
-    × (l.at.place < 2 ^ 63)
+    × (l.at.offset < 2 ^ 63)
     × ((ts : List Token) → HasLengths ts (map g.T.Measured.bytes l.tokens) → IsBound ts l.fn.from → ((k : ℕ) → k < l.fn.from.number → bound ts k < l.target)
     → IsBound ts l.at × ((k : ℕ) → k < l.at.number → bound ts k < l.target))
 

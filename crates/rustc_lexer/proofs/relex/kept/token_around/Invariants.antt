@@ -9,7 +9,7 @@ abbrev pub decreases-loop-back : goal.decreases-loop-back
 decreases-loop-back l = l.back.number
 
 abbrev pub invariant-loop-at : goal.invariant-loop-at
-invariant-loop-at l = IsBoundFrom l.fn.first l.tokens l.at × (l.at.place ≤ l.offset)
+invariant-loop-at l = IsBoundFrom l.fn.first l.tokens l.at × (l.at.offset ≤ l.offset)
 
 abbrev pub decreases-loop-at : goal.decreases-loop-at
 decreases-loop-at l = length l.tokens - l.at.number

@@ -4,7 +4,7 @@ use Rattle.rustc_lexer.specs.{Token}
 use Rattle.rustc_lexer.specs.Tokens.{bound, tokens_by}
 use Rattle.rustc_lexer.specs.Classes.{IsText}
 use Rattle.rustc_lexer.proofs.BlockLemmas.{block_more}
-use Rattle.rustc_lexer.proofs.ProgressLemmas.{IsLexedTo, lexed_place, lexed_whole}
+use Rattle.rustc_lexer.proofs.ProgressLemmas.{IsLexedTo, lexed_offset, lexed_whole}
 use Rattle.rustc_lexer.proofs.relex.lex.lex_all.Goals as goal
 
 -- a list that grew behind its old items is not shorter than these
@@ -30,7 +30,7 @@ overflow_sub-number g c = omega (arith, grown c.args.tokens.now.items c.left.tok
 pub range_from-requires : goal.range_from-requires
 range_from-requires g c =
     let is : IsText c.args.text.now = record { utf8 = c.utf8.text; fits = c.requires.fits } in
-    λ some. (lexed_place (g.S.Stepper.law c.args.stepper.now) _ _ _ is c.left.invariant.1).boundary
+    λ some. (lexed_offset (g.S.Stepper.law c.args.stepper.now) _ _ _ is c.left.invariant.1).boundary
 
 pub returns-clause-tokens : goal.returns-clause-tokens
 returns-clause-tokens g c =
@@ -42,12 +42,12 @@ returns-clause-count g c =
     let is : IsText c.args.text.now = record { utf8 = c.utf8.text; fits = c.requires.fits } in
     omega (arith, c.left.invariant.4, ap (λ (ts : List Token). length ts) (lexed_whole (g.S.Stepper.law c.args.stepper.now) _ _ _ is c.left.invariant.1 (omega arith)))
 
-pub overflow_add-place : goal.overflow_add-place
-overflow_add-place g c =
+pub overflow_add-offset : goal.overflow_add-offset
+overflow_add-offset g c =
     let is : IsText c.args.text.now = record { utf8 = c.utf8.text; fits = c.requires.fits } in
     let some_buffer : 0 < length c.left.buffer = omega arith in
     let behind : List Token = drop (length c.args.tokens.now.items) c.left.tokens.items in
-    let next = block_more (g.S.Stepper.law c.args.stepper.now) c.args.text.now c.range_from.result.now behind c.left.buffer c.fill-count.new.buffer c.left.place c.fill-count.result.0 c.fill-count.result.1
+    let next = block_more (g.S.Stepper.law c.args.stepper.now) c.args.text.now c.range_from.result.now behind c.left.buffer c.fill-count.new.buffer c.left.offset c.fill-count.result.0 c.fill-count.result.1
     c.left.invariant.2 is c.left.invariant.1 (omega arith) c.range_from.ensures.value some_buffer _ (omega arith) c.fill-count.ensures.filled c.fill-count.ensures.bytes in
     omega (arith, next.few)
 
@@ -56,7 +56,7 @@ left-smaller g c =
     let is : IsText c.args.text.now = record { utf8 = c.utf8.text; fits = c.requires.fits } in
     let some_buffer : 0 < length c.left.buffer = omega arith in
     let behind : List Token = drop (length c.args.tokens.now.items) c.left.tokens.items in
-    let next = block_more (g.S.Stepper.law c.args.stepper.now) c.args.text.now c.range_from.result.now behind c.left.buffer c.fill-count.new.buffer c.left.place c.fill-count.result.0 c.fill-count.result.1
+    let next = block_more (g.S.Stepper.law c.args.stepper.now) c.args.text.now c.range_from.result.now behind c.left.buffer c.fill-count.new.buffer c.left.offset c.fill-count.result.0 c.fill-count.result.1
     c.left.invariant.2 is c.left.invariant.1 (omega arith) c.range_from.ensures.value some_buffer _ (omega arith) c.fill-count.ensures.filled c.fill-count.ensures.bytes in
     omega (arith, next.some, next.few)
 
@@ -65,7 +65,7 @@ left-preserved g c =
     let is : IsText c.args.text.now = record { utf8 = c.utf8.text; fits = c.requires.fits } in
     let some_buffer : 0 < length c.left.buffer = omega arith in
     let behind : List Token = drop (length c.args.tokens.now.items) c.left.tokens.items in
-    let next = block_more (g.S.Stepper.law c.args.stepper.now) c.args.text.now c.range_from.result.now behind c.left.buffer c.fill-count.new.buffer c.left.place c.fill-count.result.0 c.fill-count.result.1
+    let next = block_more (g.S.Stepper.law c.args.stepper.now) c.args.text.now c.range_from.result.now behind c.left.buffer c.fill-count.new.buffer c.left.offset c.fill-count.result.0 c.fill-count.result.1
     c.left.invariant.2 is c.left.invariant.1 (omega arith) c.range_from.ensures.value some_buffer _ (omega arith) c.fill-count.ensures.filled c.fill-count.ensures.bytes in
     let old : List Token = c.args.tokens.now.items in
     let written : List Token = take c.fill-count.result.0 c.fill-count.new.buffer in
@@ -73,9 +73,9 @@ left-preserved g c =
     let more : drop (length old) c.extend_from_slice.new.self.items ≡ behind ++ written = ap (drop (length old)) c.in_ok-extend_from_slice.ensures.items ∙ drop-append-le (length old) c.left.tokens.items written long in
     let number : c.len.result - c.len-old_count.result ≡ length behind = omega (arith, length-drop (length old) c.left.tokens.items, long) in (
       c.in_ok-extend_from_slice.ensures.items ∙ (ap (λ ts. ts ++ written) c.left.invariant.0 ∙ (append_assoc old behind written ∙ ap (λ ts. old ++ ts) (sym more))),
-      subst (λ (ts : List Token). IsLexedTo (g.S.Stepper.grammar c.args.stepper.now) c.args.text.now ts (c.left.place + c.fill-count.result.1)) (sym more) next.more,
+      subst (λ (ts : List Token). IsLexedTo (g.S.Stepper.grammar c.args.stepper.now) c.args.text.now ts (c.left.offset + c.fill-count.result.1)) (sym more) next.more,
       c.fill-count.ensures.grammar ∙ c.left.invariant.2,
       c.fill-count.ensures.number ∙ c.left.invariant.3,
       omega (arith, ap (λ (ts : List Token). length ts) more, next.number, c.fill-count.ensures.count, c.left.invariant.4, length-append behind written),
-      c.remember.ensures _ c.left.invariant.5 (omega (arith, number, c.left.invariant.1.number), c.left.invariant.1.place_is ∙ ap (bound (tokens_by (g.S.Stepper.grammar c.args.stepper.now) c.args.text.now)) (sym number)),
+      c.remember.ensures _ c.left.invariant.5 (omega (arith, number, c.left.invariant.1.number), c.left.invariant.1.offset_is ∙ ap (bound (tokens_by (g.S.Stepper.grammar c.args.stepper.now) c.args.text.now)) (sym number)),
     )

@@ -53,7 +53,7 @@ returns-then-is_some c =
       told = is;
       some = let inside = told_inside text at block ends low c.in_ok-kind.kind next in omega (arith, after, inside);
       first = told_in text at block ends low c.in_ok-kind.kind next;
-      place = omega (arith, after);
+      offset = omega (arith, after);
       tells = record {
         fits = known.fits;
         bound = told_bound text at block ends low c.in_ok-kind.kind next;

@@ -2,12 +2,12 @@ use Rattle.std.proofs.Common.{◌≡◌, ◌+◌, ◌<◌, List, ℕ, length, dr
 use Rattle.rustc_lexer.specs.{Token}
 use Rattle.rustc_lexer.specs.Classes.{IsText}
 use Rattle.rustc_lexer.specs.Tokens.{tokens_by}
-use Rattle.rustc_lexer.proofs.BufferLemmas.{begun_more, one_written, stands, next_token, next_place, written_to}
+use Rattle.rustc_lexer.proofs.BufferLemmas.{begun_more, one_written, stands, next_token, next_offset, written_to}
 use Rattle.rustc_lexer.proofs.ProgressLemmas.{stepped}
 use Rattle.rustc_lexer.proofs.entry.stepper.Stepper.fill.Goals as goal
 
 pub range_from-requires : goal.range_from-requires
-range_from-requires g c = λ some. (stands (g.Self.Stepper.law c.args.self.now) c.args.text.now record { utf8 = c.utf8.text; fits = c.requires.fits } c.places.written c.places.at c.places.invariant.place).boundary
+range_from-requires g c = λ some. (stands (g.Self.Stepper.law c.args.self.now) c.args.text.now record { utf8 = c.utf8.text; fits = c.requires.fits } c.places.written c.places.at c.places.invariant.offset).boundary
 
 pub places-preserved : goal.places-preserved
 places-preserved g c =
@@ -21,16 +21,16 @@ places-preserved g c =
     let token : c.step-token.result ≡ first (drop c.places.at text) = stepped text c.places.at c.step-token.ensures.token inv.grammar c.range_from.ensures.value in
     record {
       written = one_written g.R.Record.written (tokens_by first text) _ c.args.buffer.now c.places.buffer c.places.written (first (drop c.places.at text)) inv.written
-          (next_token law text is c.places.written c.places.at inv.place more) buffer c.of.result (c.of.ensures ∙ ap g.R.Record.written token);
-      begun = begun_more (tokens_by first text) c.places.written c.places.at c.args.end inv.place (omega arith) inv.begun;
-      place = ap (λ (t : Token). c.places.at + t.len) token ∙ next_place law text is c.places.written c.places.at inv.place more;
+          (next_token law text is c.places.written c.places.at inv.offset more) buffer c.of.result (c.of.ensures ∙ ap g.R.Record.written token);
+      begun = begun_more (tokens_by first text) c.places.written c.places.at c.args.end inv.offset (omega arith) inv.begun;
+      offset = ap (λ (t : Token). c.places.at + t.len) token ∙ next_offset law text is c.places.written c.places.at inv.offset more;
       count = omega (arith, c.step-token.ensures.count, inv.count);
       grammar = c.step-token.ensures.grammar ∙ inv.grammar;
       number = c.step-token.ensures.number ∙ inv.number;
     }
 
 pub returns-else-at-end-clause-filled : goal.returns-else-at-end-clause-filled
-returns-else-at-end-clause-filled g c = written_to g.R.Record.written c.args.end (tokens_by (g.Self.Stepper.grammar c.args.self.now) c.args.text.now) c.args.buffer.now c.places.buffer c.places.written c.places.at c.places.invariant.written c.places.invariant.place c.places.invariant.begun (λ _. omega arith)
+returns-else-at-end-clause-filled g c = written_to g.R.Record.written c.args.end (tokens_by (g.Self.Stepper.grammar c.args.self.now) c.args.text.now) c.args.buffer.now c.places.buffer c.places.written c.places.at c.places.invariant.written c.places.invariant.offset c.places.invariant.begun (λ _. omega arith)
 
 pub returns-after-places-clause-filled : goal.returns-after-places-clause-filled
-returns-after-places-clause-filled g c = written_to g.R.Record.written c.args.end (tokens_by (g.Self.Stepper.grammar c.args.self.now) c.args.text.now) c.args.buffer.now c.places.buffer c.places.written c.places.at c.places.invariant.written c.places.invariant.place c.places.invariant.begun (λ more. omega arith)
+returns-after-places-clause-filled g c = written_to g.R.Record.written c.args.end (tokens_by (g.Self.Stepper.grammar c.args.self.now) c.args.text.now) c.args.buffer.now c.places.buffer c.places.written c.places.at c.places.invariant.written c.places.invariant.offset c.places.invariant.begun (λ more. omega arith)

@@ -7,7 +7,7 @@ abbrev pub invariant-places : goal.invariant-places
 invariant-places g l = record {
   written : IsWritten g.R.Record.written (tokens_by (g.Self.Stepper.grammar l.fn.self) l.text) l.fn.buffer l.buffer l.written;
   begun : (k : ℕ) → k < l.written → bound (tokens_by (g.Self.Stepper.grammar l.fn.self) l.text) k < l.end;
-  place : l.at ≡ bound (tokens_by (g.Self.Stepper.grammar l.fn.self) l.text) l.written;
+  offset : l.at ≡ bound (tokens_by (g.Self.Stepper.grammar l.fn.self) l.text) l.written;
   count : g.Self.Stepper.count l.self ≡ g.Self.Stepper.count l.fn.self + l.written;
   grammar : g.Self.Stepper.grammar l.self ≡ g.Self.Stepper.grammar l.fn.self;
   number : g.Self.Stepper.number l.self ≡ g.Self.Stepper.number l.fn.self;

@@ -6,7 +6,7 @@ use Rattle.rustc_lexer.specs.Tokens.{bound, tokens_by}
 use Rattle.rustc_lexer.specs.State.{State}
 use Rattle.rustc_lexer.specs.laws.Edition.{edition_grammar}
 use Rattle.rustc_lexer.specs.means.Edition.{first_token_in}
-use Rattle.rustc_lexer.proofs.BufferLemmas.{begun_more, next_place, next_token, one_written, some_left, stands, token_taken, written_to}
+use Rattle.rustc_lexer.proofs.BufferLemmas.{begun_more, next_offset, next_token, one_written, some_left, stands, token_taken, written_to}
 use Rattle.rustc_lexer.proofs.entry.stepper.StepsStepper.fill.Goals as goal
 use Rattle.rustc_lexer.proofs.entry.stepper.StepsStepper.fill.Goals.{then-places-test+else-left-past_end, else-places-test, then-places-test+then-left-past_end+in_default}
 
@@ -27,10 +27,10 @@ places-preserved g c =
     let past = (stands law text is count at refl).past in
     let room : c.places.count < length c.places.buffer = omega arith in
     let token_is : token ≡ first (drop at text) = token_taken edition (drop at text) past c.places.tokens inv.mode inv.rest (omega (arith, length-drop at text)) c.next.new.self token takes in
-    let place = next_place law text is count at refl more in
+    let offset = next_offset law text is count at refl more in
     record {
       mode = takes.mode ∙ ap (λ (m : Mode). mode_after m token.kind) inv.mode;
-      rest = takes.rest ∙ (ap (drop token.len) inv.rest ∙ (drop-drop token.len at text ∙ ap (λ n. drop n text) (ap (λ (t : Token). at + t.len) token_is ∙ place)));
+      rest = takes.rest ∙ (ap (drop token.len) inv.rest ∙ (drop-drop token.len at text ∙ ap (λ n. drop n text) (ap (λ (t : Token). at + t.len) token_is ∙ offset)));
       written = one_written g.R.Record.written (tokens_by first text) _ c.args.buffer.now c.places.buffer count (first (drop at text)) inv.written
           (next_token law text is count at refl more) room c.of.result (c.of.ensures ∙ ap g.R.Record.written token_is);
       begun = begun_more (tokens_by first text) count at c.args.end refl early inv.begun;
@@ -45,13 +45,13 @@ returns-clause-filled g c =
     let inv = c.places.invariant in
     let count : ℕ = c.places.count in
     let at : ℕ = bound (tokens_by first text) count in
-    let place = stands (edition_grammar edition) text is count at refl in
+    let offset = stands (edition_grammar edition) text is count at refl in
     let left : length c.places.tokens.rest ≡ length text - at = ap length inv.rest ∙ length-drop at text in
     let done : count < length c.places.buffer → c.args.end ≤ at = elim c.places-test.branch [
-      | then-places-test+else-left-past_end w ↦ λ more. omega (arith, left, place.inside, w.left.ensures, w.if-left-past_end.false)
+      | then-places-test+else-left-past_end w ↦ λ more. omega (arith, left, offset.inside, w.left.ensures, w.if-left-past_end.false)
       | else-places-test w ↦ λ more. absurd (omega arith)
       | then-places-test+then-left-past_end+in_default w ↦
-          let some = some_left edition (drop at text) place.past c.places.tokens inv.mode inv.rest (omega (arith, left, length-drop at text, w.left.ensures, w.if-left-past_end.true)) in
+          let some = some_left edition (drop at text) offset.past c.places.tokens inv.mode inv.rest (omega (arith, left, length-drop at text, w.left.ensures, w.if-left-past_end.true)) in
           let none = ap (λ (ts : List Token). length ts) w.in_default.ensures.steps.0 in
           λ more. absurd (omega (arith, some, none))
     ] in
@@ -65,10 +65,10 @@ returns-clause-bytes g c =
     let is : IsText text = record { utf8 = c.utf8.text; fits = c.requires.fits } in
     let inv = c.places.invariant in
     let at : ℕ = bound (tokens_by first text) c.places.count in
-    let place = stands (edition_grammar edition) text is c.places.count at refl in
+    let offset = stands (edition_grammar edition) text is c.places.count at refl in
     let rest : c.places-test.tokens.rest ≡ drop at text = elim c.places-test.branch [
       | then-places-test+else-left-past_end w ↦ ap (λ (s : State). s.rest) w.tokens-is ∙ inv.rest
       | else-places-test w ↦ ap (λ (s : State). s.rest) w.tokens-is ∙ inv.rest
       | then-places-test+then-left-past_end+in_default w ↦ ap (λ (s : State). s.rest) w.tokens-is ∙ (ap (λ (s : State). s.rest) w.in_default.ensures.steps.1 ∙ inv.rest)
     ] in
-    omega (arith, c.left-2.ensures, ap length rest, length-drop at text, place.inside)
+    omega (arith, c.left-2.ensures, ap length rest, length-drop at text, offset.inside)

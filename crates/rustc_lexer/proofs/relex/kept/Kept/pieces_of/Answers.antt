@@ -11,17 +11,17 @@ invariant_of-result g c =
     let tokens : List Token = c.as_slice.result.now in
     let all = kept_cuts (g.S.Stepper.law c.args.self.now.stepper) g.E.Extent.whole (string_bytes c.args.self.now.text) c.args.self.now.tokens.items c.args.self.now.head c.args.self.now.checkpoints c.requires.kept c.as_str.result.now c.as_slice.result.now c.as_str.ensures.value c.as_slice.ensures.value in
     let few : c.args.from ≤ length tokens = omega (arith, c.requires.from_le_to, c.requires.to_inside, ap length c.as_slice.ensures.value) in
-    let start : c.place_of-start.result ≡ c.args.self.now.head.shebang_len + bound tokens c.args.from = omega (arith, c.place_of-start.ensures, ap (λ (ts : List Token). bound ts c.args.from) c.as_slice.ensures.value) in
-    (all.0, cuts_part c.as_str.result.now c.args.self.now.head.shebang_len c.place_of-start.result tokens c.args.from (c.args.to - c.args.from) few start all.1)
+    let start : c.offset_of-start.result ≡ c.args.self.now.head.shebang_len + bound tokens c.args.from = omega (arith, c.offset_of-start.ensures, ap (λ (ts : List Token). bound ts c.args.from) c.as_slice.ensures.value) in
+    (all.0, cuts_part c.as_str.result.now c.args.self.now.head.shebang_len c.offset_of-start.result tokens c.args.from (c.args.to - c.args.from) few start all.1)
 
 pub returns : goal.returns
 returns g c = record {
   pieces =
       let text : List ℕ = string_bytes c.args.self.now.text in
-      let start : c.place_of-start.result ≡ start_in g.E.Extent.whole text + bound c.args.self.now.tokens.items c.args.from = omega (arith, c.place_of-start.ensures, (start_is g.E.Extent.whole (string_bytes c.args.self.now.text) c.args.self.now.head c.requires.kept.2)) in
-      rw (c.as_str.ensures.value, c.as_slice.ensures.value) (pieces-part text (start_in g.E.Extent.whole text) c.place_of-start.result c.args.self.now.tokens.items c.args.from (c.args.to - c.args.from) start);
+      let start : c.offset_of-start.result ≡ start_in g.E.Extent.whole text + bound c.args.self.now.tokens.items c.args.from = omega (arith, c.offset_of-start.ensures, (start_is g.E.Extent.whole (string_bytes c.args.self.now.text) c.args.self.now.head c.requires.kept.2)) in
+      rw (c.as_str.ensures.value, c.as_slice.ensures.value) (pieces-part text (start_in g.E.Extent.whole text) c.offset_of-start.result c.args.self.now.tokens.items c.args.from (c.args.to - c.args.from) start);
   number =
       let tokens : List Token = c.as_slice.result.now in
       let enough : c.args.to - c.args.from ≤ length (drop c.args.from tokens) = omega (arith, length-drop c.args.from tokens, c.requires.to_inside, ap length c.as_slice.ensures.value) in
-      length-pieces c.as_str.result.now c.place_of-start.result (slice_range tokens c.args.from c.args.to) ∙ length-take-le (c.args.to - c.args.from) (drop c.args.from tokens) enough;
+      length-pieces c.as_str.result.now c.offset_of-start.result (slice_range tokens c.args.from c.args.to) ∙ length-take-le (c.args.to - c.args.from) (drop c.args.from tokens) enough;
 }

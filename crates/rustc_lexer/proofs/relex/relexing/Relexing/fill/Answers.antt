@@ -18,7 +18,7 @@ places-init g c = record {
   steps = no_step (g.S.Stepper.grammar c.args.stepper.now) c.args.text.now c.args.change.new_stop c.args.self.now;
   written = none_written g.R.Record.written _ c.args.buffer.now;
   begins = λ some. absurd (omega arith);
-  stands = λ before insert made begun. begun;
+  under_way = λ before insert made begun. begun;
 }
 
 pub places-preserved : goal.places-preserved
@@ -47,17 +47,17 @@ places-preserved g c =
         | inl some ↦ inv.begins some
         | inr none ↦ (let e : c.places.count ≡ 0 = omega arith in ap (is_over text) (sym (inv.steps.none e)) ∙ c.in-Some.ensures.step.3)
       ];
-      stands = λ before insert made begun.
+      under_way = λ before insert made begun.
           let Next : (List ℕ → Token) → Type 0 = λ f. IsMadeOf f before (map g.T.Measured.bytes c.args.old.now) c.args.change insert text → IsUnderWay f before c.args.change text at → IsUnderWay f before c.args.change text past in
-          subst Next inv.grammar (λ m s. (c.in-Some.ensures.stands before insert m s).0) made (inv.stands before insert made begun);
+          subst Next inv.grammar (λ m s. (c.in-Some.ensures.under_way before insert m s).0) made (inv.under_way before insert made begun);
     }
 
-pub returns-after-places-clause-stands : goal.returns-after-places-clause-stands
-returns-after-places-clause-stands g c = λ before insert made begun.
-    (c.places.invariant.stands before insert made begun, left_at (g.S.Stepper.law c.args.stepper.now) before _ insert c.args.text.now c.args.change made c.args.self.now (to_stands (g.S.Stepper.law c.args.stepper.now) before _ insert c.args.text.now c.args.change made c.args.self.now begun))
+pub returns-after-places-clause-under_way : goal.returns-after-places-clause-under_way
+returns-after-places-clause-under_way g c = λ before insert made begun.
+    (c.places.invariant.under_way before insert made begun, left_at (g.S.Stepper.law c.args.stepper.now) before _ insert c.args.text.now c.args.change made c.args.self.now (to_stands (g.S.Stepper.law c.args.stepper.now) before _ insert c.args.text.now c.args.change made c.args.self.now begun))
 
-pub returns-in_default-clause-stands : goal.returns-in_default-clause-stands
-returns-in_default-clause-stands g c = λ before insert made begun. (
-  subst (λ at. IsUnderWay (g.S.Stepper.grammar c.args.stepper.now) before c.args.change c.args.text.now at) (sym c.in_default.ensures.step.0) (c.places.invariant.stands before insert made begun),
+pub returns-in_default-clause-under_way : goal.returns-in_default-clause-under_way
+returns-in_default-clause-under_way g c = λ before insert made begun. (
+  subst (λ at. IsUnderWay (g.S.Stepper.grammar c.args.stepper.now) before c.args.change c.args.text.now at) (sym c.in_default.ensures.step.0) (c.places.invariant.under_way before insert made begun),
   left_at (g.S.Stepper.law c.args.stepper.now) before _ insert c.args.text.now c.args.change made c.args.self.now (to_stands (g.S.Stepper.law c.args.stepper.now) before _ insert c.args.text.now c.args.change made c.args.self.now begun),
 )

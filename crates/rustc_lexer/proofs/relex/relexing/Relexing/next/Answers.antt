@@ -4,7 +4,7 @@ use Rattle.rustc_lexer.specs.Tokens.{tokens_by}
 use Rattle.rustc_lexer.specs.means.Relexing.{IsFollowed, old_stop_of}
 use Rattle.rustc_lexer.specs.Classes.{IsText}
 use Rattle.rustc_lexer.proofs.RelexStepLemmas.{one_step}
-use Rattle.rustc_lexer.proofs.RelexingLemmas.{damage_stop, end_last, stands_next, gives_next, below_later, not_over, step_place}
+use Rattle.rustc_lexer.proofs.RelexingLemmas.{damage_stop, end_last, stands_next, gives_next, below_later, not_over, step_offset}
 use Rattle.rustc_lexer.proofs.UnderWayLemmas.{of_stands, to_stands}
 use Rattle.rustc_lexer.proofs.relex.relexing.Relexing.next.Goals as goal
 
@@ -16,8 +16,8 @@ step-token-requires-clause-not_empty g c =
     let more = (not_over c.args.self.now.met c.args.self.now.at (length c.args.text.now) c.requires.may_go_on.boundary.0 (sym c.is_over.ensures.over ∙ c.if-is_over.false)).1 in
     rw c.range_from.ensures.value (omega (arith, length-drop c.args.self.now.at c.args.text.now))
 
-pub returns-then-is_over-clause-stands : goal.returns-then-is_over-clause-stands
-returns-then-is_over-clause-stands g c = λ before insert is stands.
+pub returns-then-is_over-clause-under_way : goal.returns-then-is_over-clause-under_way
+returns-then-is_over-clause-under_way g c = λ before insert is stands.
     (stands, sym (c.is_over.ensures.met (g.S.Stepper.grammar c.args.stepper.now) before _ insert c.args.change (g.S.Stepper.law c.args.stepper.now) is stands) ∙ c.if-is_over.true)
 
 pub returns-clause-may_go_on : goal.returns-clause-may_go_on
@@ -27,11 +27,11 @@ returns-clause-may_go_on g c =
     let inside = may.boundary.0 in
     let token = c.step-token.ensures.token ∙ ap (g.S.Stepper.grammar c.args.stepper.now) c.range_from.ensures.value in
     let more = (not_over c.args.self.now.met c.args.self.now.at (length c.args.text.now) inside (sym c.is_over.ensures.over ∙ c.if-is_over.false)).1 in
-    let step = step_place (g.S.Stepper.law c.args.stepper.now) c.args.text.now c.args.self.now.at c.step-token.result is may.boundary more token in
+    let step = step_offset (g.S.Stepper.law c.args.stepper.now) c.args.text.now c.args.self.now.at c.step-token.result is may.boundary more token in
     record {
       boundary = step.1;
       number = c.follow-to.ensures.number;
-      apart = (let apart = may.apart in let ahead = c.follow-to.ensures.ahead in omega arith);
+      order = (let order = may.order in let ahead = c.follow-to.ensures.ahead in omega arith);
       small = c.follow-to.ensures.small;
       few = (let some = step.0 in let few = may.few in omega arith);
     }
@@ -43,7 +43,7 @@ returns-clause-step g c =
     let law = g.S.Stepper.law c.args.stepper.now in
     let token = c.step-token.ensures.token ∙ ap (g.S.Stepper.grammar c.args.stepper.now) c.range_from.ensures.value in
     let more = (not_over c.args.self.now.met c.args.self.now.at (length c.args.text.now) may.boundary.0 (sym c.is_over.ensures.over ∙ c.if-is_over.false)).1 in
-    let step = step_place law c.args.text.now c.args.self.now.at c.step-token.result is may.boundary more token in (
+    let step = step_offset law c.args.text.now c.args.self.now.at c.step-token.result is may.boundary more token in (
       token,
       one_step law c.args.text.now is c.args.change.new_stop c.args.self.now c.step-token.result _ may.boundary record {
         token_is = token;
@@ -51,7 +51,7 @@ returns-clause-step g c =
         not_empty = step.0;
         front = refl;
         lexed = refl;
-        place = refl;
+        offset = refl;
         same_back = λ less. c.follow-to.ensures.stays (rw c.damage.ensures less);
         not_met = λ less. c.follow-to.ensures.early (rw c.damage.ensures less);
       },
@@ -59,8 +59,8 @@ returns-clause-step g c =
       sym c.is_over.ensures.over ∙ c.if-is_over.false,
     )
 
-pub returns-clause-stands : goal.returns-clause-stands
-returns-clause-stands g c = λ before insert is under_way.
+pub returns-clause-under_way : goal.returns-clause-under_way
+returns-clause-under_way g c = λ before insert is under_way.
     let law = g.S.Stepper.law c.args.stepper.now in
     let at = c.args.self.now in
     let stands = to_stands law before _ insert _ c.args.change is at under_way in

@@ -16,7 +16,7 @@ returns-clause-number c =
     let at = subst (λ (h : Head). IsCharBoundary text h.body) c.self.invariant.2 c.self.invariant.3 in
     subst (λ l. c.count.result ≡ head_count l.tokens) c.self.view_is (c.count.ensures ∙ (ap (λ (h : Head). length (tokens_of_head h)) c.self.invariant.2 ∙ (sym (head_count-tokens edition text is at) ∙ ap head_count (sym tokens))))
 
-pub returns-clause-place : goal.returns-clause-place
-returns-clause-place c =
+pub returns-clause-offset : goal.returns-clause-offset
+returns-clause-offset c =
     let text : List ℕ = string_bytes c.self.inside.kept.text in
     subst (λ l. c.self.inside.kept.head.body ≡ body_start l.text) c.self.view_is (ap (λ (h : Head). h.body) c.self.invariant.2 ∙ end_is text c.self.invariant.0)

@@ -4,7 +4,7 @@ use Rattle.rustc_lexer.specs.{Token}
 use Rattle.rustc_lexer.specs.Tokens.{tokens_by}
 use Rattle.rustc_lexer.specs.means.Checkpoints.{AreBounds}
 use Rattle.rustc_lexer.specs.means.Document.{tokens_of_head}
-use Rattle.rustc_lexer.proofs.relex.kept.lex_behind.Goals as goal
+use Rattle.rustc_lexer.proofs.relex.kept.lex_body.Goals as goal
 
 pub returns-clause-checkpoints : goal.returns-clause-checkpoints
 returns-clause-checkpoints g c =
