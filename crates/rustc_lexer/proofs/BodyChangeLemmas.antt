@@ -6,9 +6,8 @@ use Rattle.rustc_lexer.specs.declared.relex.relexing.{Change.Change, Relexed.Rel
 use Rattle.rustc_lexer.specs.Classes.{IsText}
 use Rattle.rustc_lexer.specs.Document.{body_start, head_tokens, whole_by}
 use Rattle.rustc_lexer.specs.Edits.{apply, IsEdit, IsRelexed, KeepsHead, part_by}
-use Rattle.rustc_lexer.specs.Head.{body_change, counted, IsBodyChange, IsHeadOf}
 use Rattle.rustc_lexer.specs.Locality.{IsGrammar}
-use Rattle.rustc_lexer.specs.Relexing.{IsEditOf, IsMadeOf}
+use Rattle.rustc_lexer.specs.Relexing.{IsEditOf, IsMadeOf, body_change, counted, IsBodyChange, IsHeadOf}
 use Rattle.rustc_lexer.specs.Tokens.{tokens_by}
 use Rattle.rustc_lexer.specs.means.Document.{body_insert, head_of, HeadStays}
 use Rattle.rustc_lexer.specs.means.Relexing.{IsBodyRelexed}

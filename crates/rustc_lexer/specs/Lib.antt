@@ -6,7 +6,6 @@ pub mod Document
 pub mod Edits
 pub mod FrontmatterGrammar
 pub mod GrammarLaws
-pub mod Head
 pub mod Kinds
 pub mod Language
 pub mod LanguageCalls

@@ -10,9 +10,8 @@ use Rattle.rustc_lexer.specs.declared.token.TokenKind.TheVariants.{Frontmatter}
 use Rattle.rustc_lexer.specs.Answers.{first_in}
 use Rattle.rustc_lexer.specs.Classes.{IsText}
 use Rattle.rustc_lexer.specs.Document.{is_frontmatter}
-use Rattle.rustc_lexer.specs.Head.{IsBodyChange, IsHeadOf}
 use Rattle.rustc_lexer.specs.Locality.{IsGrammar}
-use Rattle.rustc_lexer.specs.Relexing.{IsChange, IsEditOf, IsMadeOf}
+use Rattle.rustc_lexer.specs.Relexing.{IsChange, IsEditOf, IsMadeOf, IsBodyChange, IsHeadOf}
 use Rattle.rustc_lexer.specs.Tokens.{tokens_by}
 use Rattle.rustc_lexer.specs.laws.Edition.{edition_grammar}
 use Rattle.rustc_lexer.proofs.BodyChangeLemmas.{is_head}

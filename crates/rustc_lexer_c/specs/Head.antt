@@ -6,9 +6,8 @@ use Rattle.rustc_lexer.specs.declared.token.Token.{Token}
 use Rattle.rustc_lexer.specs.declared.token.TokenKind.TheVariants.{Frontmatter}
 use Rattle.rustc_lexer.specs.Classes.{IsText}
 use Rattle.rustc_lexer.specs.Document.{body_start, head_tokens, shebang_len}
-use Rattle.rustc_lexer.specs.Head.{IsBodyChange, tokens_of_head}
 use Rattle.rustc_lexer.specs.Locality.{IsGrammar}
-use Rattle.rustc_lexer.specs.Relexing.{IsChange, IsEditOf}
+use Rattle.rustc_lexer.specs.Relexing.{IsChange, IsEditOf, IsBodyChange, tokens_of_head}
 use Rattle.rustc_lexer_c.specs.declared.head.CHead.{CHead}
 use Rattle.rustc_lexer_c.specs.declared.relex.CEdit.{CEdit}
 use Rattle.rustc_lexer_c.specs.declared.token.CToken.{CToken}

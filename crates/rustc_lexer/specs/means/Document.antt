@@ -6,7 +6,7 @@ use Rattle.rustc_lexer.specs.declared.relex.relexing.{Change.Change, Relexed.Rel
 use Rattle.rustc_lexer.specs.{Token}
 use Rattle.rustc_lexer.specs.Classes.{IsText}
 use Rattle.rustc_lexer.specs.Document.{shebang_len, whole_by}
-pub use Rattle.rustc_lexer.specs.Head.{body_change, counted, front_tokens, tokens_of_head}
+pub use Rattle.rustc_lexer.specs.Relexing.{body_change, counted, front_tokens, tokens_of_head}
 use Rattle.rustc_lexer.specs.Edits.{apply, Layout, part_by}
 use Rattle.rustc_lexer.specs.Partition.{tokens_by}
 use Rattle.rustc_lexer.specs.means.Checkpoints.{AreBounds}

@@ -1,10 +1,9 @@
 //! What an edit of a document changes in its body.
 ghost use Rattle.std.specs.Prelude.{◌≡◌, ◌<◌, ◌≤◌, ◌^◌, ◌↔◌, IsTrue, List, ℕ};
 ghost use Rattle.rustc_lexer.specs.{Token};
-ghost use Rattle.rustc_lexer.specs.Head as spec;
-ghost use Rattle.rustc_lexer.specs.Head.{IsBodyChange, IsHeadOf};
 ghost use Rattle.rustc_lexer.specs.Locality.{IsGrammar};
-ghost use Rattle.rustc_lexer.specs.Relexing.{IsEditOf};
+ghost use Rattle.rustc_lexer.specs.Relexing.{IsBodyChange, IsEditOf, IsHeadOf};
+ghost use Rattle.rustc_lexer.specs.Relexing as spec;
 
 use crate::relex::document_edit::{body_change, keeps_head};
 use crate::relex::head::Head;

@@ -2,7 +2,7 @@
 ghost use Rattle.std.specs.Prelude.{◌≡◌, ◌++◌, Bool, OnOk, false, length, true};
 ghost use Rattle.std.specs.Str.{IsCharBoundary};
 ghost use Rattle.rustc_lexer.specs.Classes.{Fits};
-ghost use Rattle.rustc_lexer.specs.Head as spec;
+ghost use Rattle.rustc_lexer.specs.Relexing as spec;
 ghost use Rattle.rustc_lexer.specs.means.Document as means;
 
 use crate::frontmatter::frontmatter;
