@@ -1,5 +1,5 @@
 //! Times each use of the crates beside the originals, in one process, and prints a table of nanoseconds:
-//! `cargo run --release --bin times -- FILE [ROUNDS]`. `tools/compare/measure` makes the table of the notes.
+//! `cargo run --release --bin times -- FILE [ROUNDS]`. `tools/compare/measure` writes some into the notes.
 //!
 //! First each way to take the tokens of the file's first 256 KB, for each token: the times of the consumer that reads all
 //! fields, and a ratio. If the ratios of two consumers differ by more than 0.1, it shows the least and the greatest. Then
