@@ -7,7 +7,7 @@ use core::iter::Iterator;
 
 mod guarded;
 
-/// A cursor over a text, which takes the next token from the place that it has reached.
+/// A cursor over a text, which takes the next token from the offset that it has reached.
 ///
 /// Its state is the text that is left, the number of bytes taken since the last token, and whether a frontmatter
 /// may come in front. The bytes taken since the last token are pending: they are part of the next token.

@@ -111,7 +111,7 @@ impl<'a> Tokens<'a> {
         self.text.len() - self.ahead.at
     }
 
-    /// Returns an iterator that is at the same place.
+    /// Returns an iterator that is at the same offset.
     #[inline(always)]
     fn copy(&self) -> Tokens<'a> {
         Tokens {

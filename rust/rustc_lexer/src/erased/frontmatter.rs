@@ -128,14 +128,14 @@ fn may_end(rest: &[u8], line: usize) -> bool {
     line < rest.len() && matches!(rest[line], b'-' | b'u' | b'/' | b'#')
 }
 
-/// Returns the place that was found before, or this one if the pattern is here.
+/// Returns the offset that was found before, or this one if the pattern is here.
 #[inline(always)]
-fn or_here(found: Option<usize>, rest: &[u8], place: usize, pattern: &[u8]) -> Option<usize> {
+fn or_here(found: Option<usize>, rest: &[u8], offset: usize, pattern: &[u8]) -> Option<usize> {
     match found {
         Some(before) => Some(before),
         None => {
-            if rest[place..].starts_with(pattern) {
-                return Some(place);
+            if rest[offset..].starts_with(pattern) {
+                return Some(offset);
             }
             None
         }
@@ -144,20 +144,20 @@ fn or_here(found: Option<usize>, rest: &[u8], place: usize, pattern: &[u8]) -> O
 
 /// Returns where a frontmatter ends that no line of enough dashes closes: the best guess of where Rust begins.
 fn recovery(rest: &[u8], guesses: Guesses) -> usize {
-    if let Some(place) = guesses.short_fence {
-        return line_end(rest, place + 1);
+    if let Some(offset) = guesses.short_fence {
+        return line_end(rest, offset + 1);
     }
-    if let Some(place) = guesses.use_item {
-        return place;
+    if let Some(offset) = guesses.use_item {
+        return offset;
     }
-    if let Some(place) = guesses.inner_doc {
-        return place;
+    if let Some(offset) = guesses.inner_doc {
+        return offset;
     }
-    if let Some(place) = guesses.inner_attribute {
-        return place;
+    if let Some(offset) = guesses.inner_attribute {
+        return offset;
     }
     match find_lone_dashes(rest) {
-        Some(place) => line_end(rest, place),
+        Some(offset) => line_end(rest, offset),
         None => rest.len(),
     }
 }
@@ -176,33 +176,33 @@ fn byte_run_end(rest: &[u8], from: usize, byte: u8) -> usize {
 fn find_lone_dashes(rest: &[u8]) -> Option<usize> {
     let mut end = 0;
     while let Some(step) = find_pattern(&rest[end..], b"---") {
-        let place = end + step;
-        if stands_alone(rest, end, place) {
-            return Some(place);
+        let offset = end + step;
+        if stands_alone(rest, end, offset) {
+            return Some(offset);
         }
-        end = place + 3;
+        end = offset + 3;
     }
     None
 }
 
-/// Returns whether only blanks come before `place`, on its line and past `end`.
-fn stands_alone(rest: &[u8], end: usize, place: usize) -> bool {
-    let mut start = place;
+/// Returns whether only blanks come before `offset`, on its line and past `end`.
+fn stands_alone(rest: &[u8], end: usize, offset: usize) -> bool {
+    let mut start = offset;
     while start > end && is_horizontal_whitespace(rest[start - 1] as char) {
         start -= 1;
     }
     start == end || follows_newline(rest, start)
 }
 
-/// Returns whether a newline comes right before a place.
-fn follows_newline(bytes: &[u8], place: usize) -> bool {
-    place > 0 && bytes[place - 1] == b'\n'
+/// Returns whether a newline comes right before an offset.
+fn follows_newline(bytes: &[u8], offset: usize) -> bool {
+    offset > 0 && bytes[offset - 1] == b'\n'
 }
 
-/// Returns the place of the first newline at or past `place`, or the end of the text.
-fn line_end(rest: &[u8], place: usize) -> usize {
-    match memchr(b'\n', &rest[place..]) {
-        Some(step) => place + step,
+/// Returns the place of the first newline at or past `offset`, or the end of the text.
+fn line_end(rest: &[u8], offset: usize) -> usize {
+    match memchr(b'\n', &rest[offset..]) {
+        Some(step) => offset + step,
         None => rest.len(),
     }
 }
@@ -212,11 +212,11 @@ fn line_end(rest: &[u8], place: usize) -> usize {
 fn find_pattern(rest: &[u8], pattern: &[u8]) -> Option<usize> {
     let mut from = 0;
     while let Some(step) = memchr(pattern[0], &rest[from..]) {
-        let place = from + step;
-        if rest[place..].starts_with(pattern) {
-            return Some(place);
+        let offset = from + step;
+        if rest[offset..].starts_with(pattern) {
+            return Some(offset);
         }
-        from = place + 1;
+        from = offset + 1;
     }
     None
 }

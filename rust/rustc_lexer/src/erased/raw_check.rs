@@ -21,7 +21,7 @@ pub fn starts_raw(input: &str, prefix_len: u32) -> bool {
 /// `prefix_len` is the length of the prefix in characters, with its `r`: 1 for `r`, 2 for `br` and `cr`. The text
 /// has to pass [`starts_raw`], and may have at most `u32::MAX` bytes.
 ///
-/// An offset in the answer counts the bytes past the prefix, plus `prefix_len`. So it is a place in the text if
+/// An offset in the answer counts the bytes past the prefix, plus `prefix_len`. So it is an offset in the text if
 /// each character of the prefix is one byte long.
 ///
 /// ```ignore

@@ -131,7 +131,7 @@ pub(crate) fn eat_whitespace(rest: &str) -> &str {
 #[inline(always)]
 pub(crate) fn eat_until(rest: &str, stop: u8) -> &str {
     match find_byte(stop, rest.as_bytes()) {
-        Some(place) => &rest[place..],
+        Some(offset) => &rest[offset..],
         None => "",
     }
 }
@@ -140,7 +140,7 @@ pub(crate) fn eat_until(rest: &str, stop: u8) -> &str {
 #[inline(always)]
 pub(crate) fn eat_until_either(rest: &str, one: u8, two: u8) -> &str {
     match find_either(one, two, rest.as_bytes()) {
-        Some(place) => &rest[place..],
+        Some(offset) => &rest[offset..],
         None => "",
     }
 }

@@ -22,13 +22,13 @@ pub struct CRelexing {
     /// search for the front begins.
     pub kept_front: usize,
     /// Where the tokens at the front end, in bytes.
-    pub front_place: usize,
+    pub front_offset: usize,
     /// How many tokens all calls have written.
     pub lexed: usize,
     /// How many old tokens stay at the back, at stage 2.
     pub kept_back: usize,
     /// Where the tokens at the back begin in the old text.
-    pub back_place: usize,
+    pub back_offset: usize,
     /// Where the tokens that were written end in the present text. At stage 2 those at the back begin there.
     pub at: usize,
     /// 0 before the first call, 1 if there are more tokens to write, 2 if there are none.
@@ -122,7 +122,7 @@ pub(crate) fn change_of(edit: &CEdit) -> Change {
 fn standing(text: &str, old: &[CToken], change: Change, relexing: &CRelexing) -> Option<Relexing> {
     let front = Bound {
         number: relexing.kept_front,
-        place: relexing.front_place,
+        offset: relexing.front_offset,
     };
     if relexing.stage == 0 {
         return Some(Relexing::begin(text, old, change, front));
@@ -135,7 +135,7 @@ fn standing(text: &str, old: &[CToken], change: Change, relexing: &CRelexing) ->
         lexed: relexing.lexed,
         back: Bound {
             number: old.len() - relexing.kept_back,
-            place: relexing.back_place,
+            offset: relexing.back_offset,
         },
         at: relexing.at,
         met: relexing.stage == 2,
@@ -147,10 +147,10 @@ fn standing(text: &str, old: &[CToken], change: Change, relexing: &CRelexing) ->
 fn relexing_numbers(at: &Relexing, text: &str, old_count: usize) -> CRelexing {
     CRelexing {
         kept_front: at.front.number,
-        front_place: at.front.place,
+        front_offset: at.front.offset,
         lexed: at.lexed,
         kept_back: old_count - at.back.number,
-        back_place: at.back.place,
+        back_offset: at.back.offset,
         at: at.at,
         stage: if at.is_over(text) { 2 } else { 1 },
     }

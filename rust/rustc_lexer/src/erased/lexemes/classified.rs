@@ -2,10 +2,14 @@
 
 use crate::erased::token::TokenKind;
 
-/// Returns the known ends of runs past a place.
+/// Returns the known ends of runs past an offset.
 #[inline(always)]
-pub(crate) fn ends_after(ends: u64, place: usize) -> u64 {
-    if place < 64 { ends & (!1 << place) } else { 0 }
+pub(crate) fn ends_after(ends: u64, offset: usize) -> u64 {
+    if offset < 64 {
+        ends & (!1 << offset)
+    } else {
+        0
+    }
 }
 
 /// Returns the ends of runs without the lowest one.

@@ -36,9 +36,9 @@ fn past_short_char(tail: &str) -> Option<&str> {
     if bytes.len() < 3 {
         return None;
     }
-    let place = 1 + usize::from(bytes[0] == b'\\');
-    if bytes[place - 1] < 128 && bytes[place] == b'\'' {
-        Some(&tail[place + 1..])
+    let offset = 1 + usize::from(bytes[0] == b'\\');
+    if bytes[offset - 1] < 128 && bytes[offset] == b'\'' {
+        Some(&tail[offset + 1..])
     } else {
         None
     }

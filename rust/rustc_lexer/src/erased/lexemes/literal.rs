@@ -1,4 +1,4 @@
-//! The suffix of a literal, and the place where it begins.
+//! The suffix of a literal, and the offset where it begins.
 
 use crate::erased::classes::is_id_start;
 use crate::erased::scan::{eat_continue, split_first};

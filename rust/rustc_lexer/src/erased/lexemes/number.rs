@@ -21,7 +21,7 @@ pub(crate) fn number(first_digit: char, tail: &str) -> (TokenKind, &str) {
 /// Returns the kind of the number, and the text from its suffix on.
 #[inline(always)]
 fn number_kind(first_digit: char, tail: &str) -> (LiteralKind, &str) {
-    let (base, empty_int, rest) = front(first_digit, tail);
+    let (base, empty_int, rest) = integer_part(first_digit, tail);
     if empty_int {
         return (LiteralKind::Int { base, empty_int }, rest);
     }
@@ -31,9 +31,9 @@ fn number_kind(first_digit: char, tail: &str) -> (LiteralKind, &str) {
 /// Returns the base, whether the number has a prefix without a digit after it, and the text after its digits up to
 /// a point or an exponent.
 #[inline(always)]
-fn front(first_digit: char, tail: &str) -> (Base, bool, &str) {
+fn integer_part(first_digit: char, tail: &str) -> (Base, bool, &str) {
     if first_digit == '0' {
-        front_past_zero(tail)
+        part_past_zero(tail)
     } else {
         (Base::Decimal, false, eat_decimal(tail))
     }
@@ -42,7 +42,7 @@ fn front(first_digit: char, tail: &str) -> (Base, bool, &str) {
 /// Returns the base of a number whose first digit is 0, whether its prefix has no digit after it, and the text
 /// after its digits.
 #[inline(always)]
-fn front_past_zero(tail: &str) -> (Base, bool, &str) {
+fn part_past_zero(tail: &str) -> (Base, bool, &str) {
     let Some((letter, digits)) = split_first(tail) else {
         return (Base::Decimal, false, tail);
     };
@@ -60,7 +60,7 @@ fn front_past_zero(tail: &str) -> (Base, bool, &str) {
     }
 }
 
-/// Returns the kind of a number of this base, and the text after it. The text after its front makes it a number
+/// Returns the kind of a number of this base, and the text after it. The text after its integer part makes it a number
 /// with a fraction, with an exponent or with neither.
 #[inline(always)]
 fn past_digits(base: Base, rest: &str) -> (LiteralKind, &str) {

@@ -22,15 +22,15 @@ impl Checkpoints {
     /// Remembers the boundary, instead of the one for the same share of a text of `len` bytes.
     pub(crate) fn remember(&mut self, bound: Bound, len: usize) {
         let share = len / COUNT + 1;
-        let index = (bound.place / share).min(COUNT - 1);
+        let index = (bound.offset / share).min(COUNT - 1);
         self.bounds[index] = bound;
     }
 
-    /// Returns the checkpoint that is nearest to the offset `place`.
-    pub(crate) fn nearest(&self, place: usize) -> Bound {
+    /// Returns the checkpoint that is nearest to `offset`.
+    pub(crate) fn nearest(&self, offset: usize) -> Bound {
         let mut nearest = self.bounds[0];
         for bound in &self.bounds {
-            if bound.place.abs_diff(place) < nearest.place.abs_diff(place) {
+            if bound.offset.abs_diff(offset) < nearest.offset.abs_diff(offset) {
                 nearest = *bound;
             }
         }
@@ -67,7 +67,7 @@ fn move_bound(bound: Bound, kept: Bound, met: Bound, now: Bound) -> Bound {
     } else if bound.number >= met.number {
         Bound {
             number: bound.number - met.number + now.number,
-            place: bound.place - met.place + now.place,
+            offset: bound.offset - met.offset + now.offset,
         }
     } else {
         kept

@@ -64,7 +64,7 @@ pub(crate) fn relex<S: Stepper>(
 pub(crate) fn past_edit(checkpoints: &Checkpoints, at: Relexing, len: usize) -> Checkpoints {
     let now = Bound {
         number: at.front.number + at.lexed,
-        place: at.at,
+        offset: at.at,
     };
     let mut checkpoints = checkpoints.after(at.front, at.back, now);
     checkpoints.remember(at.front, len);

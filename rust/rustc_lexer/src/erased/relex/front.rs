@@ -23,13 +23,13 @@ pub struct Bound {
     /// How many tokens come before it.
     pub number: usize,
     /// Its offset, in bytes from the start of the text.
-    pub place: usize,
+    pub offset: usize,
 }
 
 /// The first boundary, which each list has.
 pub(crate) const FIRST: Bound = Bound {
     number: 0,
-    place: 0,
+    offset: 0,
 };
 
 /// Returns whether there are at least two characters between the two offsets.
@@ -61,13 +61,13 @@ fn walk_back<T: Measured>(text: &str, tokens: &[T], start: usize, from: Bound) -
     }
     let mut at = from;
     while at.number > 0 {
-        if stand_before(text, at.place, start) {
+        if stand_before(text, at.offset, start) {
             return at;
         }
         let number = at.number - 1;
         at = Bound {
             number,
-            place: at.place.saturating_sub(tokens[number].len() as usize),
+            offset: at.offset.saturating_sub(tokens[number].len() as usize),
         };
     }
     FIRST
@@ -85,9 +85,9 @@ pub(crate) fn kept_front<T: Measured>(
     while at.number < tokens.len() {
         let next = Bound {
             number: at.number + 1,
-            place: at.place + tokens[at.number].len() as usize,
+            offset: at.offset + tokens[at.number].len() as usize,
         };
-        if !stand_before(text, next.place, start) {
+        if !stand_before(text, next.offset, start) {
             break;
         }
         at = next;
@@ -98,10 +98,10 @@ pub(crate) fn kept_front<T: Measured>(
 /// Returns the first boundary from `from` on that is not before `target`, or the last boundary.
 fn next_bound<T: Measured>(tokens: &[T], from: Bound, target: usize) -> Bound {
     let mut at = from;
-    while at.number < tokens.len() && at.place < target {
+    while at.number < tokens.len() && at.offset < target {
         at = Bound {
             number: at.number + 1,
-            place: at.place + tokens[at.number].len() as usize,
+            offset: at.offset + tokens[at.number].len() as usize,
         };
     }
     at
@@ -125,26 +125,26 @@ pub(crate) struct Damage {
 }
 
 /// Returns how far the old tokens are followed, and whether the new ones meet them there: whether the new boundary at
-/// offset `place` is after the edit and, moved back by it, is a boundary of the old tokens. The end of the new text
+/// `offset` is after the edit and, moved back by it, is a boundary of the old tokens. The end of the new text
 /// always is one, the last one, so no length is read there.
 pub(crate) fn follow<T: Measured>(
     tokens: &[T],
     from: Bound,
-    place: usize,
+    offset: usize,
     damage: Damage,
 ) -> Meeting {
-    if place < damage.past {
+    if offset < damage.past {
         return Meeting {
             at: from,
             met: false,
         };
     }
-    let target = place - damage.added + damage.removed;
-    if place == damage.end {
+    let target = offset - damage.added + damage.removed;
+    if offset == damage.end {
         return Meeting {
             at: Bound {
                 number: tokens.len(),
-                place: target,
+                offset: target,
             },
             met: true,
         };
@@ -152,6 +152,6 @@ pub(crate) fn follow<T: Measured>(
     let at = next_bound(tokens, from, target);
     Meeting {
         at,
-        met: at.place == target,
+        met: at.offset == target,
     }
 }

@@ -38,7 +38,7 @@ impl<S: Stepper, E: Extent> Kept<S, E> {
         let mut stepper = stepper;
         let held = String::from_str(alloc, text)?;
         let head = extent.find_head(text);
-        let (tokens, checkpoints) = lex_behind(alloc, head, &mut stepper, text)?;
+        let (tokens, checkpoints) = lex_body(alloc, head, &mut stepper, text)?;
         Ok(Kept {
             alloc,
             extent,
@@ -54,7 +54,7 @@ impl<S: Stepper, E: Extent> Kept<S, E> {
     pub(crate) fn lex_again(&mut self, stepper: S) -> Result<(), AllocError> {
         let mut stepper = stepper;
         let text = self.text.as_str();
-        let (tokens, checkpoints) = lex_behind(self.alloc, self.head, &mut stepper, text)?;
+        let (tokens, checkpoints) = lex_body(self.alloc, self.head, &mut stepper, text)?;
         self.tokens = tokens;
         self.stepper = stepper;
         self.checkpoints = checkpoints;
@@ -118,20 +118,20 @@ impl<S: Stepper, E: Extent> Kept<S, E> {
         if number < count {
             return Bound {
                 number: 0,
-                place: self.head.shebang_len,
+                offset: self.head.shebang_len,
             };
         }
         let near = self.checkpoints.before_number(number - count);
         Bound {
             number: count + near.number,
-            place: self.head.body + near.place,
+            offset: self.head.body + near.offset,
         }
     }
 
     /// Returns the offset of token boundary `number`, in bytes from the start of the text.
-    pub(crate) fn place_of(&self, number: usize) -> u32 {
+    pub(crate) fn offset_of(&self, number: usize) -> u32 {
         let near = self.bound_before(number);
-        let start = near.place as u32;
+        let start = near.offset as u32;
         end_from(start, &self.tokens.as_slice()[near.number..number])
     }
 
@@ -141,13 +141,13 @@ impl<S: Stepper, E: Extent> Kept<S, E> {
         if offset < self.head.body {
             return Bound {
                 number: 0,
-                place: self.head.shebang_len,
+                offset: self.head.shebang_len,
             };
         }
         let near = self.checkpoints.nearest(offset - self.head.body);
         Bound {
             number: self.head.count() + near.number,
-            place: self.head.body + near.place,
+            offset: self.head.body + near.offset,
         }
     }
 
@@ -189,7 +189,7 @@ impl<S: Stepper, E: Extent> Kept<S, E> {
 }
 
 /// Lexes the tokens of a text: those of its head, which is known, and those of its body with the stepper.
-fn lex_behind<S: Stepper>(
+fn lex_body<S: Stepper>(
     alloc: Global,
     head: Head,
     stepper: &mut S,
@@ -217,22 +217,22 @@ fn token_around(tokens: &[Token], first: usize, near: Bound, offset: usize) -> O
         return None;
     }
     let mut back = near;
-    while offset < back.place {
+    while offset < back.offset {
         let number = back.number - 1;
         back = Bound {
             number,
-            place: back.place - tokens[number].len as usize,
+            offset: back.offset - tokens[number].len as usize,
         };
     }
     let mut at = back;
     while at.number < tokens.len() {
-        let end = at.place + tokens[at.number].len as usize;
+        let end = at.offset + tokens[at.number].len as usize;
         if offset < end {
             return Some(at);
         }
         at = Bound {
             number: at.number + 1,
-            place: end,
+            offset: end,
         };
     }
     None

@@ -22,13 +22,13 @@ pub(crate) fn lex_all<S: Stepper>(
         kind: TokenKind::Eof,
         len: 0,
     }; BUFFER_LEN];
-    let mut place = 0;
-    while place < text.len() {
+    let mut offset = 0;
+    while offset < text.len() {
         let number = tokens.len() - old_count;
-        checkpoints.remember(Bound { number, place }, text.len());
-        let (count, bytes) = stepper.fill(&text[place..], text.len() - place, &mut buffer);
+        checkpoints.remember(Bound { number, offset }, text.len());
+        let (count, bytes) = stepper.fill(&text[offset..], text.len() - offset, &mut buffer);
         tokens.extend_from_slice(&buffer[..count])?;
-        place += bytes;
+        offset += bytes;
     }
     Ok(checkpoints)
 }

@@ -74,7 +74,7 @@ impl<S: Stepper, E: Extent> Kept<S, E> {
     /// Returns an iterator over the pieces of the tokens from number `from` up to number `to`. It reads few of the
     /// tokens before them.
     pub(crate) fn pieces_of(&self, from: usize, to: usize) -> Pieces<'_> {
-        let start = self.place_of(from);
+        let start = self.offset_of(from);
         let tokens = &self.tokens.as_slice()[from..to];
         Pieces {
             text: self.text.as_str(),

@@ -81,12 +81,12 @@ impl Relexing {
     /// is not tested: otherwise the result means nothing, or the call panics.
     pub fn begin<T: Measured>(text: &str, old: &[T], change: Change, near: Bound) -> Relexing {
         let front = kept_front(text, old, change.start, near);
-        let to = follow(old, front, front.place, change.damage(text));
+        let to = follow(old, front, front.offset, change.damage(text));
         Relexing {
             front,
             lexed: 0,
             back: to.at,
-            at: front.place,
+            at: front.offset,
             met: to.met,
         }
     }
@@ -97,7 +97,7 @@ impl Relexing {
         text.is_char_boundary(self.at)
             && self.back.number <= old_count
             && self.front.number <= self.back.number
-            && self.back.place <= MOST
+            && self.back.offset <= MOST
             && self.lexed <= self.at
     }
 

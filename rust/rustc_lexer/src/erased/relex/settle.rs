@@ -13,14 +13,14 @@ pub fn settled(text: &str) -> usize {
 
 /// Returns where the last token that at least two characters follow ends, in bytes, or 0 if there is none.
 fn settled_by<S: Stepper>(stepper: &mut S, text: &str) -> usize {
-    let mut place = 0;
-    while place < text.len() {
-        let token = stepper.step(&text[place..]);
-        let next = place + token.len as usize;
+    let mut offset = 0;
+    while offset < text.len() {
+        let token = stepper.step(&text[offset..]);
+        let next = offset + token.len as usize;
         if !two_stand(text, next, text.len()) {
             break;
         }
-        place = next;
+        offset = next;
     }
-    place
+    offset
 }

@@ -33,7 +33,7 @@ impl LexedDocument<Steps> {
     pub fn body(&self) -> Bound {
         Bound {
             number: self.kept.head.count(),
-            place: self.kept.head.body,
+            offset: self.kept.head.body,
         }
     }
 
