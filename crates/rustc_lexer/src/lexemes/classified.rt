@@ -11,7 +11,11 @@ pub(crate) fn ends_after(ends: u64, offset: usize) -> u64
     ensures gone { (k : ℕ) → k ≤ offset → bit result k ≡ false }
     ensures others { (k : ℕ) → offset < k → bit result k ≡ bit ends k }
 {
-    if offset < 64 { ends & (!1 << offset) } else { 0 }
+    if offset < 64 {
+        ends & (!1 << offset)
+    } else {
+        0
+    }
 }
 
 /// Returns the ends of runs without the lowest one.

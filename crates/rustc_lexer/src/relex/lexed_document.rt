@@ -201,7 +201,7 @@ impl<S: Stepper> LexedDocument<S> {
     /// [accepted](LexedDocument::accepts).
     ///
     /// Returns how many tokens it kept at the front, how many it lexed, and how many it kept at the back. The
-    /// tokens of a frontmatter count too: an edit behind an unchanged frontmatter keeps them, and a frontmatter
+    /// tokens of a frontmatter count too: an edit after an unchanged frontmatter keeps them, and a frontmatter
     /// that the edit changes counts as lexed. `Err` means that an allocation failed, and then text and tokens are as
     /// before.
     pub fn edit(&mut self, start: usize, stop: usize, insert: &str) -> Result<Relexed, AllocError>
