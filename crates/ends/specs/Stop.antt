@@ -59,7 +59,7 @@ reported line (Err stop) = line stop
 
 -- an outcome was reported, by the statuses and the lines of its stops. If the writer is `sound`, which means that it
 -- has never failed, all of the line was written. The known bytes of the writer grew from `old` to `new`
-pub record Told {S : Type 0} (status_of : S → ℕ) (line_of : S → List ℕ) (outcome : Result (Unit {0}) S) (answer : ℕ) (sound : Type 0) (flushed : Bool) (old new : Option (List ℕ)) : Type 0 where
+pub record IsReported {S : Type 0} (status_of : S → ℕ) (line_of : S → List ℕ) (outcome : Result (Unit {0}) S) (answer : ℕ) (sound : Type 0) (flushed : Bool) (old new : Option (List ℕ)) : Type 0 where
   pub status : answer ≡ exit_status status_of outcome
   pub line : sound → Appends old new (reported line_of outcome)
   pub front : AppendsFront old new (reported line_of outcome)

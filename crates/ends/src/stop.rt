@@ -1,7 +1,7 @@
 //! Why a program stops, and what it says then.
 ghost use Rattle.std.specs.Prelude.{◌≡◌, false};
 ghost use Rattle.std.specs.Option.{option_map};
-ghost use Rattle.ends.specs.Stop.{read_stop, status_of, stop_line, stop_text, write_stop, Told};
+ghost use Rattle.ends.specs.Stop.{read_stop, status_of, stop_line, stop_text, write_stop, IsReported};
 ghost use Rattle.ends.specs.declared.stop.Stop.TheVariants.{Memory};
 
 use crate::reading::ReadStop;
@@ -65,7 +65,7 @@ impl Stop {
 /// If the run did not stop, it writes nothing. If the writer fails, it has written a beginning of the line, and the status
 /// is the same.
 pub fn report<E: Write>(name: &str, outcome: &Result<(), Stop>, errors: &mut Watched<E>) -> u8
-    ensures { Told status_of (stop_line name.now) outcome.now result
+    ensures { IsReported status_of (stop_line name.now) outcome.now result
         ((errors.new.faulty ≡ false) × (errors.new.closed ≡ false)) errors.new.flushed
         (E.contents errors.old.inner) (E.contents errors.new.inner) }
 {

@@ -1,7 +1,7 @@
 //! The whole program, for any reader and writers.
 ghost use Rattle.std.specs.Prelude.{◌≡◌, false, codes, Result};
 ghost use Rattle.ends.specs.Run.{Leaves};
-ghost use Rattle.ends.specs.Stop.{status_of, stop_line, Told};
+ghost use Rattle.ends.specs.Stop.{status_of, stop_line, IsReported};
 ghost use Rattle.ends.specs.Words.{words_of};
 ghost use Rattle.ends.specs.declared.stop.Stop.{Stop as TheStop};
 ghost use Rattle.highlight_run.specs.Program.{colours_of, Ran};
@@ -55,7 +55,7 @@ pub fn program<R: Read, W: Write, E: Write>(
         (W.contents output.new.inner) outcome
         × Leaves input.new output.new (W.contents output.old.inner)
         (W.contents output.new.inner) outcome
-        × Told status_of (stop_line (codes "highlight: ")) outcome result
+        × IsReported status_of (stop_line (codes "highlight: ")) outcome result
         ((errors.new.faulty ≡ false) × (errors.new.closed ≡ false)) errors.new.flushed
         (E.contents errors.old.inner) (E.contents errors.new.inner) }
 {

@@ -1,6 +1,6 @@
 //! The whole program, for any reader and writers.
 ghost use Rattle.std.specs.Prelude.{◌≡◌, false, Result};
-ghost use Rattle.ends.specs.Stop.{Told};
+ghost use Rattle.ends.specs.Stop.{IsReported};
 ghost use Rattle.ends.specs.Words.{words_of};
 ghost use Rattle.lexdump_run.specs.Fault.{fault_line, status_of};
 ghost use Rattle.lexdump_run.specs.Program.{Leaves, Ran};
@@ -31,7 +31,7 @@ pub fn program<R: Read, W: Write, E: Write>(
         (W.contents output.new.inner) outcome
         × Leaves input.new output.new (W.contents output.old.inner)
         (W.contents output.new.inner) outcome
-        × Told status_of fault_line outcome result (errors.new.failed ≡ false)
+        × IsReported status_of fault_line outcome result (errors.new.failed ≡ false)
         errors.new.flushed (E.contents errors.old.inner) (E.contents errors.new.inner) }
 {
     let outcome = dump(alloc, args, input, output);

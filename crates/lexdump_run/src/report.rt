@@ -1,6 +1,6 @@
 //! The error message of a run, and its exit status.
 ghost use Rattle.std.specs.Prelude.{◌≡◌, ◌++◌, false};
-ghost use Rattle.ends.specs.Stop.{Told};
+ghost use Rattle.ends.specs.Stop.{IsReported};
 ghost use Rattle.lexdump_run.specs.Fault.{fault_line, number_text, status_of};
 
 use crate::fault::{Fault, status};
@@ -12,7 +12,7 @@ use std::io::Write;
 ///
 /// If the writer fails, part of the message may have been written. The status is the same.
 pub fn report<E: Write>(outcome: &Result<(), Fault>, errors: &mut Watched<E>) -> u8
-    ensures { Told status_of fault_line outcome.now result (errors.new.failed ≡ false)
+    ensures { IsReported status_of fault_line outcome.now result (errors.new.failed ≡ false)
         errors.new.flushed (E.contents errors.old.inner) (E.contents errors.new.inner) }
 {
     let Err(fault) = outcome else {

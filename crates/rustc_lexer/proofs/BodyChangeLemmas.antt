@@ -43,15 +43,15 @@ module _ {first : List ℕ → Token} (law : IsGrammar first) (text insert : Lis
   whole_is : edit ≡ whole
   whole_is = ap (λ (p : ℕ). let ch : Change = record { start = edit.start; old_stop = edit.old_stop; new_stop = p } in ch) sum
 
-  module _ (old now : Head) (kept : Bool) (change : Change) (old_head : IsHeadOf text old) (now_head : IsHeadOf made now) (told : IsTrue kept ↔ ((old ≡ now) × (old.body ≤ edit.start))) (change_is : change ≡ body_change kept old.body now.body edit) where
+  module _ (old now : Head) (kept : Bool) (change : Change) (old_head : IsHeadOf text old) (now_head : IsHeadOf made now) (decided : IsTrue kept ↔ ((old ≡ now) × (old.body ≤ edit.start))) (change_is : change ≡ body_change kept old.body now.body edit) where
     here : change ≡ body_change kept (body_start text) (body_start made) whole
     here = change_is ∙ (ap₂ (λ from to. body_change kept from to edit) old_head.end_is now_head.end_is ∙ ap (body_change kept (body_start text) (body_start made)) whole_is)
 
     stays : kept ≡ true → HeadStays head_of text edit.start edit.old_stop insert
-    stays e = (sym (head_is text is old old_head) ∙ ((told.0 e).0 ∙ head_is made now_is now now_head), (let p = (told.0 e).1 in omega (arith, p, ap (λ (h : Head). h.body) (head_is text is old old_head))))
+    stays e = (sym (head_is text is old old_head) ∙ ((decided.0 e).0 ∙ head_is made now_is now now_head), (let p = (decided.0 e).1 in omega (arith, p, ap (λ (h : Head). h.body) (head_is text is old old_head))))
 
     stayed : HeadStays head_of text edit.start edit.old_stop insert → kept ≡ true
-    stayed k = told.1 (head_is text is old old_head ∙ (k.0 ∙ sym (head_is made now_is now now_head)), (let p = k.1 in omega (arith, p, ap (λ (h : Head). h.body) (head_is text is old old_head))))
+    stayed k = decided.1 (head_is text is old old_head ∙ (k.0 ∙ sym (head_is made now_is now now_head)), (let p = k.1 in omega (arith, p, ap (λ (h : Head). h.body) (head_is text is old old_head))))
 
     abbrev body : List ℕ
     body = drop (body_start text) text
@@ -60,7 +60,7 @@ module _ {first : List ℕ → Token} (law : IsGrammar first) (text insert : Lis
     new_body = drop (body_start made) made
 
     ends_at : kept ≡ true → (body_start text ≡ body_start made) × (body_start text ≤ edit.start)
-    ends_at e = (sym old_head.end_is ∙ (ap (λ (h : Head). h.body) (told.0 e).0 ∙ now_head.end_is), (let p = (told.0 e).1 in omega (arith, p, old_head.end_is)))
+    ends_at e = (sym old_head.end_is ∙ (ap (λ (h : Head). h.body) (decided.0 e).0 ∙ now_head.end_is), (let p = (decided.0 e).1 in omega (arith, p, old_head.end_is)))
 
     made_here : IsMadeOf first body (map (λ (t : Token). t.len) (tokens_by first body)) change (body_insert kept change insert new_body) new_body
     made_here =
@@ -88,7 +88,7 @@ module _ {first : List ℕ → Token} (law : IsGrammar first) (text insert : Lis
 
 pub body_is : {first : List ℕ → Token} (law : IsGrammar first) (before insert text : List ℕ) (edit : Change) (old now : Head) (kept : Bool) (change : Change) → IsEditOf before edit insert text → IsHeadOf before old → IsHeadOf text now
     → IsTrue kept ↔ ((old ≡ now) × (old.body ≤ edit.start)) → change ≡ body_change kept old.body now.body edit → IsBodyChange first before edit insert text kept change
-body_is {first} law before insert text edit old now kept change e old_head now_head told change_is =
+body_is {first} law before insert text edit old now kept change e old_head now_head decided change_is =
     let there : IsHeadOf (apply before edit.start edit.old_stop insert) now = subst (λ (bytes : List ℕ). IsHeadOf bytes now) e.made now_head in
     subst (λ (bytes : List ℕ). IsBodyChange first before edit insert bytes kept change) (sym e.made)
-    (body_here law before insert edit e.is_text e.inserted e.is_edit e.new_stop old now kept change old_head there told change_is)
+    (body_here law before insert edit e.is_text e.inserted e.is_edit e.new_stop old now kept change old_head there decided change_is)

@@ -119,7 +119,7 @@ part-stays edition (suc count) s is = part-advanced edition (state_past count s)
 pub part-left : (s t : State) (count : ℕ) (rest : List ℕ) → s.pending ≡ 0 → t ≡ state_past count s → t.rest ≡ rest → s.mode ≡ part (mode_edition s.mode) → t ≡ state s.pending rest s.mode
 part-left s t count rest none past cut is = grind (arith, common_steps, part-stays)
 
--- how an iterator reads is told by the flag and the edition that it holds
+-- how an iterator reads is decided by the flag and the edition that it holds
 pub mode_held : (allowed : FrontmatterAllowed) (edition : Edition) (mode : Mode) → mode_in allowed edition ≡ mode → mode ≡ mode_in allowed (mode_edition mode)
 mode_held Yes edition mode e = sym e ∙ ap document (ap mode_edition e)
 mode_held No edition mode e = sym e ∙ ap part (ap mode_edition e)

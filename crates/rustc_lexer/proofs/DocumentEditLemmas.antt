@@ -35,7 +35,7 @@ pub record IsBodyEdit (heads : List ℕ → Head) (first : List ℕ → Token) (
   pub made_is : made ≡ apply text start stop insert
   pub old_is : old ≡ heads text
   pub now_is : now ≡ heads made
-  pub told : IsTrue kept ↔ ((old ≡ now) × (old.body ≤ start))
+  pub decided : IsTrue kept ↔ ((old ≡ now) × (old.body ≤ start))
   pub n_is : n ≡ length (tokens_of_head old)
   pub body_is : body ≡ drop now.body made
   pub change_is : change ≡ body_change kept old.body now.body (edit_change start stop insert)
@@ -48,7 +48,7 @@ pub body_edit : (heads : List ℕ → Head) {first : List ℕ → Token} (law : 
     → IsText text → IsUtf8 insert → IsEdit text start stop insert → made ≡ put → put ≡ apply reserved start stop insert → reserved ≡ text → old ≡ heads text → IsCharBoundary text old.body → now ≡ heads made → IsCharBoundary made now.body
     → IsTrue kept ↔ ((old ≡ now) × (old.body ≤ start)) → n ≡ length (tokens_of_head old) → tokens ≡ document_by heads first text → body ≡ drop now.body made → change ≡ body_change kept old.body now.body (edit_change start stop insert)
     → IsBodyEdit heads first text made insert start stop old now kept n tokens body change
-body_edit heads {first} law {text} {made} {insert} {put} {reserved} {start} {stop} {old} {now} {kept} {n} {tokens} {body} {change} is its edit as_str put_in reserve old_is old_at now_is now_at told n_is scratch body_is change_is =
+body_edit heads {first} law {text} {made} {insert} {put} {reserved} {start} {stop} {old} {now} {kept} {n} {tokens} {body} {change} is its edit as_str put_in reserve old_is old_at now_is now_at decided n_is scratch body_is change_is =
     let e : made ≡ apply text start stop insert = as_str ∙ (put_in ∙ ap (λ (bytes : List ℕ). apply bytes start stop insert) reserve) in
     let all : tokens ≡ tokens_of_head old ++ tokens_by first (drop old.body text) = scratch ∙ ap (λ (h : Head). tokens_of_head h ++ tokens_by first (drop h.body text)) (sym old_is) in
     let behind : drop n tokens ≡ tokens_by first (drop old.body text) = ap₂ drop n_is all ∙ drop-append_seam (tokens_of_head old) (tokens_by first (drop old.body text)) in
@@ -56,14 +56,14 @@ body_edit heads {first} law {text} {made} {insert} {put} {reserved} {start} {sto
       made_is = e;
       old_is = old_is;
       now_is = now_is;
-      told = told;
+      decided = decided;
       n_is = n_is;
       body_is = body_is;
       change_is = change_is;
       old_body = behind;
       old_front = ap₂ take n_is all ∙ take-append_seam (tokens_of_head old) (tokens_by first (drop old.body text));
       inside = omega (arith, n_is, ap length all, length-append (tokens_of_head old) (tokens_by first (drop old.body text)));
-      made_of = rw change_is (made_body law text insert made start stop is its edit e old.body now.body old_at now_at (drop n tokens) behind body body_is kept (λ t. (ap (λ (h : Head). h.body) (told.0 t).0, (told.0 t).1)));
+      made_of = rw change_is (made_body law text insert made start stop is its edit e old.body now.body old_at now_at (drop n tokens) behind body body_is kept (λ t. (ap (λ (h : Head). h.body) (decided.0 t).0, (decided.0 t).1)));
     }
 
 -- the lengths are those of the tokens that are read
@@ -89,10 +89,10 @@ relexed-front {first} {text} is = is.front ∙ kept_none text (tokens_by first t
 -- whether the head stays
 module _ {heads : List ℕ → Head} {first : List ℕ → Token} {text made insert : List ℕ} {start stop : ℕ} {old now : Head} {kept : Bool} {n : ℕ} {tokens : List Token} {body : List ℕ} {change : Change} (b : IsBodyEdit heads first text made insert start stop old now kept n tokens body change) where
   stays : kept ≡ true → HeadStays heads text start stop insert
-  stays e = (sym b.old_is ∙ ((b.told.0 e).0 ∙ (b.now_is ∙ ap heads b.made_is)), (let p = (b.told.0 e).1 in omega (arith, p, ap (λ (h : Head). h.body) b.old_is)))
+  stays e = (sym b.old_is ∙ ((b.decided.0 e).0 ∙ (b.now_is ∙ ap heads b.made_is)), (let p = (b.decided.0 e).1 in omega (arith, p, ap (λ (h : Head). h.body) b.old_is)))
 
   keeps : HeadStays heads text start stop insert → kept ≡ true
-  keeps k = b.told.1 (b.old_is ∙ (k.0 ∙ (ap heads (sym b.made_is) ∙ sym b.now_is)), (let e = k.1 in omega (arith, e, ap (λ (h : Head). h.body) b.old_is)))
+  keeps k = b.decided.1 (b.old_is ∙ (k.0 ∙ (ap heads (sym b.made_is) ∙ sym b.now_is)), (let e = k.1 in omega (arith, e, ap (λ (h : Head). h.body) b.old_is)))
 
   changes : (HeadStays heads text start stop insert → ⊥) → kept ≡ false
   changes none = false_from_ne_true kept (λ e. none (stays e))
@@ -147,7 +147,7 @@ module _ {heads : List ℕ → Head} {first : List ℕ → Token} (law : IsGramm
   head_are = ap (head_put (take n tokens)) head_is ∙ by_kept kept refl
     where
       by_kept : (k : Bool) → kept ≡ k → head_put (take n tokens) (head_unless k now) ≡ tokens_of_head now
-      by_kept true e = b.old_front ∙ ap tokens_of_head (b.told.0 e).0
+      by_kept true e = b.old_front ∙ ap tokens_of_head (b.decided.0 e).0
       by_kept false e = refl
 
   new_is : new ≡ tokens_of_head now ++ r.behind
@@ -176,7 +176,7 @@ module _ {heads : List ℕ → Head} {first : List ℕ → Token} (law : IsGramm
         grind (arith, common_steps, length-drop, whole_made, whole_renewed, new_is, length-append, renewed_all law b.old_body whole_made whole_renewed)
 
     same_count : kept ≡ true → n ≡ m
-    same_count e = b.n_is ∙ (ap (λ (h : Head). length (tokens_of_head h)) (b.told.0 e).0 ∙ sym m_is)
+    same_count e = b.n_is ∙ (ap (λ (h : Head). length (tokens_of_head h)) (b.decided.0 e).0 ∙ sym m_is)
 
     -- the counts are those of all tokens
     pub counted_all : (counted kept n m counts).kept_front + (counted kept n m counts).lexed + (counted kept n m counts).kept_back ≡ length new
@@ -192,7 +192,7 @@ module _ {heads : List ℕ → Head} {first : List ℕ → Token} (law : IsGramm
         by_kept : (k : Bool) → kept ≡ k → take (counted k n m (record { kept_front = at.front.number; lexed = at.lexed; kept_back = c - at.back.number })).kept_front new ≡ take (counted k n m (record { kept_front = at.front.number; lexed = at.lexed; kept_back = c - at.back.number })).kept_front tokens
         by_kept true e =
             let number : n + at.front.number ≡ length (tokens_of_head now) + at.front.number = omega (arith, same_count e, m_is) in
-            ap₂ take number new_is ∙ (take-append-add (tokens_of_head now) r.behind at.front.number ∙ (ap₂ (λ xs ys. xs ++ ys) (sym (b.old_front ∙ ap tokens_of_head (b.told.0 e).0)) (renewed_front law b.old_body whole_made whole_renewed) ∙ sym (take-add n at.front.number tokens)))
+            ap₂ take number new_is ∙ (take-append-add (tokens_of_head now) r.behind at.front.number ∙ (ap₂ (λ xs ys. xs ++ ys) (sym (b.old_front ∙ ap tokens_of_head (b.decided.0 e).0)) (renewed_front law b.old_body whole_made whole_renewed) ∙ sym (take-add n at.front.number tokens)))
         by_kept false e = rw (front_none e) refl
 
     back_with : (k : ℕ) → k ≡ length (tokens_of_head now) + (at.front.number + at.lexed) → drop k new ≡ drop (length tokens - (c - at.back.number)) tokens

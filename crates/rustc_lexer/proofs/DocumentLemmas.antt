@@ -156,8 +156,8 @@ module _ {first : List ℕ → Token} (law : IsGrammar first) (text insert made 
 
     -- what an edit is to the body
     pub made_body : (kept : Bool) → (kept ≡ true → (from ≡ to) × (from ≤ start)) → IsMadeOf first (drop from text) (map (λ (t : Token). t.len) tokens) (body_change kept from to as_change) (body_insert kept (body_change kept from to as_change) insert body) body
-    made_body true told = kept_body (told refl).0 (told refl).1
-    made_body false told = front_body
+    made_body true decided = kept_body (decided refl).0 (decided refl).1
+    made_body false decided = front_body
 
 -- the tokens behind the first ones are replaced
 put_is : (tokens lexed : List Token) (n f b : ℕ) → f ≤ b → n + b ≤ length tokens → take (n + f) tokens ++ (lexed ++ drop (n + b) tokens) ≡ take n tokens ++ (take f (drop n tokens) ++ (lexed ++ drop b (drop n tokens)))

@@ -255,7 +255,7 @@ module _ (text : List ℕ) (from ends end : ℕ) (kind : TokenKind) (at : TellsA
 
 -- ---- each edition has what is classified
 
--- whether a kind is told of which a test holds
+-- whether a kind is classified of which a test holds
 abbrev said : (TokenKind → Bool) → Option TokenKind → Bool
 said test None = false
 said test (Some kind) = test kind

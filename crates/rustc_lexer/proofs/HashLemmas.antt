@@ -56,18 +56,18 @@ module _ (tail : List ℕ) (is : IsUtf8 tail) where
 -- a text that begins with a hash
 pub prefix_first : (text : List ℕ) (b : ℕ) (rest : List ℕ) → IsUtf8 text → text ≡ b ∷ rest → b < 128 → Hash ≡ family_of b → next_is is_guarded_mark rest ≡ true → IsFirstToken text record { kind = GuardedStrPrefix; len = 2 }
 prefix_first text b [] is e small family mark = absurd (true≢false (sym mark))
-prefix_first text b (d ∷ ds) is e small family mark = first text b (d ∷ ds) GuardedStrPrefix 1 is e small (omega arith) told
+prefix_first text b (d ∷ ds) is e small family mark = first text b (d ∷ ds) GuardedStrPrefix 1 is e small (omega arith) decided
   where
-    told : IsUtf8 (d ∷ ds) → (GuardedStrPrefix, ds) ≡ scanned (past_first b) (d ∷ ds)
-    told inner =
+    decided : IsUtf8 (d ∷ ds) → (GuardedStrPrefix, ds) ≡ scanned (past_first b) (d ∷ ds)
+    decided inner =
         let cut : ds ≡ past 1 (d ∷ ds) = sym (past-one (d ∷ ds) ds d inner (ap (λ (xs : List ℕ). xs ++ ds) (sym (encode_ascii d (mark-small d mark))))) in
         by_family Hash b (d ∷ ds) _ family (prefix_read (d ∷ ds) inner ds (next_byte is_guarded_mark mark-small (d ∷ ds) inner ∙ mark) cut)
 
 pub pound_first : (text : List ℕ) (b : ℕ) (rest : List ℕ) → IsUtf8 text → text ≡ b ∷ rest → b < 128 → Hash ≡ family_of b → next_is is_guarded_mark rest ≡ false → IsFirstToken text record { kind = Pound; len = 1 }
-pound_first text b rest is e small family none = first text b rest Pound 0 is e small (omega arith) told
+pound_first text b rest is e small family none = first text b rest Pound 0 is e small (omega arith) decided
   where
-    told : IsUtf8 rest → (Pound, rest) ≡ scanned (past_first b) rest
-    told inner = by_family Hash b rest _ family (pound_read rest inner (next_byte is_guarded_mark mark-small rest inner ∙ none))
+    decided : IsUtf8 rest → (Pound, rest) ≡ scanned (past_first b) rest
+    decided inner = by_family Hash b rest _ family (pound_read rest inner (next_byte is_guarded_mark mark-small rest inner ∙ none))
 
 -- the same in each edition
 pub hash_alone : (guards : Bool) (text : List ℕ) (b : ℕ) (rest : List ℕ) → IsUtf8 text → text ≡ b ∷ rest → b < 128 → Hash ≡ family_of b → next_is is_guarded_mark rest ≡ false → IsFirstBy guards text record { kind = Pound; len = 1 }

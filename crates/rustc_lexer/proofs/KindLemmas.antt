@@ -80,7 +80,7 @@ literal-text p rest end n text e = tt
 -- ---- one token
 
 -- what the grammar says of a literal whose suffix begins at this offset
-record IsTold (kind : LiteralKind) (suffix_start : ℕ) (w : Chars) : Type 0 where
+record SaysOfLiteral (kind : LiteralKind) (suffix_start : ℕ) (w : Chars) : Type 0 where
   within : suffix_start ≤ bytes w
   ends : is_faulty kind ≡ true → suffix_start ≡ bytes w
   text : (text : Utf8) → chars text ≡ w → HasText (Literal kind suffix_start) text
@@ -89,7 +89,7 @@ abbrev Says : TokenKind → Chars → Type 0
 Says Ident w = is_ident w ≡ true
 Says UnknownPrefix w = is_ident w ≡ true
 Says RawIdent w = (word : Chars) × (w ≡ codes "r#" ++ word) × (is_ident word ≡ true)
-Says (Literal kind suffix_start) w = IsTold kind suffix_start w
+Says (Literal kind suffix_start) w = SaysOfLiteral kind suffix_start w
 Says Eof w = w ≡ []
 Says kind w = Unit {0}
 

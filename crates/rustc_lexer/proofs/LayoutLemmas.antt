@@ -97,40 +97,40 @@ module _ (old new : Layout) (stop new_stop more body_stop new_body_stop : ℕ) (
 
 -- ---- whether the head is kept
 
-abbrev pub Told : Type 0 → Type 0
-Told P = P ⊎ (P → ⊥)
+abbrev pub Decided : Type 0 → Type 0
+Decided P = P ⊎ (P → ⊥)
 
-all : {P Q R : Type 0} → Told P → Told Q → Told R → Told (P × Q × R)
+all : {P Q R : Type 0} → Decided P → Decided Q → Decided R → Decided (P × Q × R)
 all (inl p) (inl q) (inl r) = inl (p, q, r)
 all (inl p) (inl q) (inr none) = inr (λ x. none x.2)
 all (inl p) (inr none) r = inr (λ x. none x.1)
 all (inr none) q r = inr (λ x. none x.0)
 
-numbers : (a b : ℕ) → Told (a ≡ b)
+numbers : (a b : ℕ) → Decided (a ≡ b)
 numbers a b = by_test (a == b) refl
   where
-    by_test : (t : Bool) → (a == b) ≡ t → Told (a ≡ b)
+    by_test : (t : Bool) → (a == b) ≡ t → Decided (a ≡ b)
     by_test true e = inl (eqb-true a b e)
     by_test false e = inr (eqb-false a b e)
 
-at_most : (a b : ℕ) → Told (a ≤ b)
+at_most : (a b : ℕ) → Decided (a ≤ b)
 at_most a b = elim (cases_lt b a) [
   | inl less ↦ inr (λ le. omega (arith, le, less))
   | inr le ↦ inl le
 ]
 
-tokens : (xs ys : List Token) → Told (xs ≡ ys)
+tokens : (xs ys : List Token) → Decided (xs ≡ ys)
 tokens [] [] = inl refl
 tokens [] (y ∷ ys) = inr (λ e. omega (arith, ap (λ (ts : List Token). length ts) e))
 tokens (x ∷ xs) [] = inr (λ e. omega (arith, ap (λ (ts : List Token). length ts) e))
 tokens (x ∷ xs) (y ∷ ys) = by_first (is_same x y) refl (tokens xs ys)
   where
-    by_first : (t : Bool) → is_same x y ≡ t → Told (xs ≡ ys) → Told ((x ∷ xs) ≡ (y ∷ ys))
+    by_first : (t : Bool) → is_same x y ≡ t → Decided (xs ≡ ys) → Decided ((x ∷ xs) ≡ (y ∷ ys))
     by_first true e (inl same) = inl (ap₂ (λ (t : Token) (ts : List Token). t ∷ ts) (same_token x y e) same)
     by_first true e (inr none) = inr (λ all. none (ap (λ (ts : List Token). drop 1 ts) all))
     by_first false e rest = inr (λ all. true≢false (sym (token_same x y (ap (λ (ts : List Token). get_or ts 0 x) all)) ∙ e))
 
-pub keeps_head : (old new : Layout) (start : ℕ) → Told (KeepsHead old new start)
+pub keeps_head : (old new : Layout) (start : ℕ) → Decided (KeepsHead old new start)
 keeps_head old new start = all (at_most (body_in old) start) (numbers old.start new.start) (tokens old.head new.head)
 
 -- ---- there is one answer
@@ -165,11 +165,11 @@ module _ (layout : List ℕ → Layout) (text : List ℕ) (start stop : ℕ) (in
 
   module _ (r s : Relexed) (a : IsRelexed layout text start stop insert r) (b : IsRelexed layout text start stop insert s) where
     fronts : r.kept_front ≡ s.kept_front
-    fronts = by_told (keeps_head old new start)
+    fronts = by_case (keeps_head old new start)
       where
-        by_told : Told (KeepsHead old new start) → r.kept_front ≡ s.kept_front
-        by_told (inl k) = a.kept k ∙ sym (b.kept k)
-        by_told (inr none) = a.changed none ∙ sym (b.changed none)
+        by_case : Decided (KeepsHead old new start) → r.kept_front ≡ s.kept_front
+        by_case (inl k) = a.kept k ∙ sym (b.kept k)
+        by_case (inr none) = a.changed none ∙ sym (b.changed none)
 
     lexed : r.lexed ≡ s.lexed
     lexed = elim (cases_lt r.lexed s.lexed) [

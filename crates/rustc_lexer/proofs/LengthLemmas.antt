@@ -28,7 +28,7 @@ cut_alike old text offset start is its same before inside cut =
     let front : take offset text ≡ take offset old = sym (take-take offset start text before) ∙ (ap (take offset) same ∙ take-take offset start old before) in
     IsCharBoundary-from_take text offset its (omega arith) (subst IsUtf8 (sym front) (IsUtf8-take old offset is cut))
 
--- whether two characters stand before an offset is told by the text up to there
+-- whether two characters stand before an offset is decided by the text up to there
 pub stand_alike : (old text : List ℕ) (offset start : ℕ) (two : Bool) → IsUtf8 old → IsUtf8 text → take start text ≡ take start old → start ≤ length text → IsCharBoundary old offset → (start ≤ offset → two ≡ false) → (IsCharBoundary text offset → two ≡ has_two text offset start) → two ≡ has_two old offset start
 stand_alike old text offset start two is its same inside cut late here =
     grind (arith, common_steps, leb_tells, has_two-late, cut_alike, has_two-same)

@@ -7,6 +7,7 @@ pub mod BodyChangeLemmas
 pub mod BoundLemmas
 pub mod BridgeLemmas
 pub mod BufferLemmas
+pub mod ClassifiedLemmas
 pub mod DocumentEditLemmas
 pub mod DocumentHead
 pub mod DocumentLemmas
@@ -65,6 +66,5 @@ pub mod SpaceLemmas
 pub mod TallyWalk
 pub mod TextLemmas
 pub mod TokensLemmas
-pub mod ToldLemmas
 pub mod UnderWayLemmas
 pub mod WholeEdits

@@ -1,4 +1,4 @@
--- Tokens that are told by their bytes.
+-- Tokens that are decided by their bytes.
 use Rattle.std.proofs.Common.{◌≡◌, ℕ, suc, ◌+◌, ◌-◌, ◌<◌, ◌≤◌, ◌==◌, not, Bool, true, false, if◌then◌else◌, List, [], ◌∷◌, ◌++◌, length, drop, codes, refl, sym, ap, ◌∙◌, arith, subst, length-drop}
 use Rattle.std.specs.List.{prefix_len}
 use Rattle.std.specs.Str.{chars, IsUtf8}
@@ -99,10 +99,10 @@ first text b rest kind n is e small inside g =
 -- a word and what no word goes on with
 pub word_first : (text : List ℕ) (b : ℕ) (rest : List ℕ) (end : ℕ) → IsUtf8 text → text ≡ b ∷ rest → b < 128 → Word ≡ family_of b → end ≡ prefix_len is_continue_byte rest → not (next_is turns_word (drop end rest)) ≡ true
     → IsFirstToken text record { kind = Ident; len = 1 + end }
-word_first text b rest end is e small family counted ends = first text b rest Ident end is e small (omega (arith, prefix_len-le-length is_continue_byte rest)) told
+word_first text b rest end is e small family counted ends = first text b rest Ident end is e small (omega (arith, prefix_len-le-length is_continue_byte rest)) decided
   where
-    told : IsUtf8 rest → (Ident, drop end rest) ≡ scanned (past_first b) rest
-    told inner =
+    decided : IsUtf8 rest → (Ident, drop end rest) ≡ scanned (past_first b) rest
+    decided inner =
         let left : List ℕ = drop end rest in
         let whole : IsUtf8 left = subst (λ k. IsUtf8 (drop k rest)) (sym counted) (skips is_continue_byte is_id_continue continue_part rest inner).utf8 in
         let next = turned-emoji left whole (not-true _ ends) in
@@ -113,16 +113,16 @@ word_first text b rest end is e small family counted ends = first text b rest Id
 
 pub space_first : (text : List ℕ) (b : ℕ) (rest : List ℕ) (end : ℕ) → IsUtf8 text → text ≡ b ∷ rest → b < 128 → Space ≡ family_of b → end ≡ prefix_len is_space_byte rest → not (next_is is_space_lead (drop end rest)) ≡ true
     → IsFirstToken text record { kind = Whitespace; len = 1 + end }
-space_first text b rest end is e small family counted ends = first text b rest Whitespace end is e small (omega (arith, prefix_len-le-length is_space_byte rest)) told
+space_first text b rest end is e small family counted ends = first text b rest Whitespace end is e small (omega (arith, prefix_len-le-length is_space_byte rest)) decided
   where
-    told : IsUtf8 rest → (Whitespace, drop end rest) ≡ scanned (past_first b) rest
-    told inner = by_family Space b rest _ family (ap (λ xs. (Whitespace, xs)) (space_stops_here rest rest end inner refl counted (drop end rest) refl (not-true _ ends)))
+    decided : IsUtf8 rest → (Whitespace, drop end rest) ≡ scanned (past_first b) rest
+    decided inner = by_family Space b rest _ family (ap (λ xs. (Whitespace, xs)) (space_stops_here rest rest end inner refl counted (drop end rest) refl (not-true _ ends)))
 
 pub symbol_first : (text : List ℕ) (b : ℕ) (rest : List ℕ) (kind : TokenKind) → IsUtf8 text → text ≡ b ∷ rest → b < 128 → Symbol ≡ family_of b → kind ≡ symbol_kind b → IsFirstToken text record { kind = kind; len = 1 }
-symbol_first text b rest kind is e small family same = first text b rest kind 0 is e small (omega arith) told
+symbol_first text b rest kind is e small family same = first text b rest kind 0 is e small (omega arith) decided
   where
-    told : IsUtf8 rest → (kind, rest) ≡ scanned (past_first b) rest
-    told inner = by_family Symbol b rest _ family (ap (λ (k : TokenKind). (k, rest)) same ∙ sym (scanned-gives (symbol_kind b) rest inner))
+    decided : IsUtf8 rest → (kind, rest) ≡ scanned (past_first b) rest
+    decided inner = by_family Symbol b rest _ family (ap (λ (k : TokenKind). (k, rest)) same ∙ sym (scanned-gives (symbol_kind b) rest inner))
 
 -- no edition has another token in place of a symbol
 symbol-kept : (b : ℕ) → is_newer (symbol_kind b) ≡ false

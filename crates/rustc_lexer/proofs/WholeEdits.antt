@@ -18,7 +18,7 @@ use Rattle.rustc_lexer.proofs.DocumentEditLemmas.{relexed-front}
 use Rattle.rustc_lexer.proofs.DocumentLemmas.{made_body}
 use Rattle.rustc_lexer.proofs.DocumentPage.{ahead, At, body_at, body_by, by_head, by_page, end_is, from_page, front_is, to_page}
 use Rattle.rustc_lexer.proofs.EditLemmas.{edited, kept_front_by, kept_front_from}
-use Rattle.rustc_lexer.proofs.LayoutLemmas.{keeps_head, meets, meets_behind, one_relexed, Told}
+use Rattle.rustc_lexer.proofs.LayoutLemmas.{keeps_head, meets, meets_behind, one_relexed, Decided}
 use Rattle.rustc_lexer.proofs.RelexedLemmas.{relexed_is}
 
 -- ---- the front, by offsets of the text and of what follows an offset
@@ -170,22 +170,22 @@ module _ {first : List ℕ → Token} (law : IsGrammar first) (text insert : Lis
       }
 
   pub relexed_whole : {r : Relexed} → IsRelexedByHead head_of first text start stop insert r → IsRelexed (whole_by first) text start stop insert r
-  relexed_whole {r} by = by_told (keeps_head old new start)
+  relexed_whole {r} by = by_case (keeps_head old new start)
     where
-      by_told : Told (KeepsHead old new start) → IsRelexed (whole_by first) text start stop insert r
-      by_told (inl k) = relexed_as true (λ e. k) (λ e. absurd (true≢false e)) r (by_page first text insert start stop is made_is true r (by.kept (from_page first text insert start stop is made_is k)))
-      by_told (inr none) = relexed_as false (λ e. absurd (true≢false (sym e))) (λ e. none) r (by_page first text insert start stop is made_is false r (by.changed (λ s. none (to_page first text insert start stop is made_is s))))
+      by_case : Decided (KeepsHead old new start) → IsRelexed (whole_by first) text start stop insert r
+      by_case (inl k) = relexed_as true (λ e. k) (λ e. absurd (true≢false e)) r (by_page first text insert start stop is made_is true r (by.kept (from_page first text insert start stop is made_is k)))
+      by_case (inr none) = relexed_as false (λ e. absurd (true≢false (sym e))) (λ e. none) r (by_page first text insert start stop is made_is false r (by.changed (λ s. none (to_page first text insert start stop is made_is s))))
 
   -- the tokens of a new head take no step
   pub counted_whole : {before after : ℕ} {r : Relexed} → IsRelexedByHead head_of first text start stop insert r → IsCountedByHead head_of text start stop insert before after r.lexed → after + (length new.head - r.kept_front) ≡ before + r.lexed
-  counted_whole {before} {after} {r} by steps = by_told (keeps_head old new start)
+  counted_whole {before} {after} {r} by steps = by_case (keeps_head old new start)
     where
-      by_told : Told (KeepsHead old new start) → after + (length new.head - r.kept_front) ≡ before + r.lexed
-      by_told (inl k) =
+      by_case : Decided (KeepsHead old new start) → after + (length new.head - r.kept_front) ≡ before + r.lexed
+      by_case (inl k) =
           let stays = from_page first text insert start stop is made_is k in
           let x = by_page first text insert start stop is made_is true r (by.kept stays) in
           omega (arith, steps.kept stays, ap (λ (c : Relexed). c.kept_front) x.2, ap (λ (ts : List Token). length ts) k.2)
-      by_told (inr none) =
+      by_case (inr none) =
           let gone : HeadStays head_of text start stop insert → ⊥ = λ s. none (to_page first text insert start stop is made_is s) in
           let x = by_page first text insert start stop is made_is false r (by.changed gone) in
           omega (arith, steps.changed gone, ap (λ (c : Relexed). c.kept_front) x.2, relexed-front x.1, ap (λ (ts : List Token). length ts) (front_is made made_is))
@@ -201,10 +201,10 @@ module _ {first : List ℕ → Token} (law : IsGrammar first) (text insert : Lis
   counts_are kept same = grind (arith, common_steps, relexed_is, (body_made kept same).edit_of)
 
   pub some_steps : (before : ℕ) → (r : Relexed) × (after : ℕ) × IsRelexedByHead head_of first text start stop insert r × IsCountedByHead head_of text start stop insert before after r.lexed
-  some_steps before = by_told (keeps_head old new start)
+  some_steps before = by_case (keeps_head old new start)
     where
-      by_told : Told (KeepsHead old new start) → (r : Relexed) × (after : ℕ) × IsRelexedByHead head_of first text start stop insert r × IsCountedByHead head_of text start stop insert before after r.lexed
-      by_told (inl k) =
+      by_case : Decided (KeepsHead old new start) → (r : Relexed) × (after : ℕ) × IsRelexedByHead head_of first text start stop insert r × IsCountedByHead head_of text start stop insert before after r.lexed
+      by_case (inl k) =
           let stays = from_page first text insert start stop is made_is k in
           let ends : from ≡ to = same_end k in (
             of_all true,
@@ -215,7 +215,7 @@ module _ {first : List ℕ → Token} (law : IsGrammar first) (text insert : Lis
             },
             record { kept = λ s. refl; changed = λ none. absurd (none stays) },
           )
-      by_told (inr none) =
+      by_case (inr none) =
           let gone : HeadStays head_of text start stop insert → ⊥ = λ s. none (to_page first text insert start stop is made_is s) in (
             of_all false,
             before + (of_body false).lexed,

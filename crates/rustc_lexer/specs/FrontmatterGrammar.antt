@@ -1,9 +1,9 @@
 -- The grammar of a frontmatter: how it opens and how it ends. The Reference does not have it. RFC 3503 has the opening,
 -- and the closing fence with the same number of dashes; at the other ends rustc's lexer recovers, for its error
 -- messages. `w` and `next` are as in Language.antt; all texts here are lists of characters.
-use Rattle.std.specs.Prelude.{◌≡◌, ◌≤◌, ℕ, zero, suc, Bool, true, false, List, [], ◌∷◌, ◌++◌, length, codes}
+use Rattle.std.specs.Prelude.{◌≡◌, ◌≤◌, ℕ, zero, suc, not, Bool, true, false, List, [], ◌∷◌, ◌++◌, length, codes}
 use Rattle.std.specs.Str.{byte}
-use Rattle.rustc_lexer.specs.Classes.{is_whitespace, is_horizontal_whitespace, is_info, is_id_start, Chars, begins, AreAll, NextIsNot, NextNotIn, is_inline}
+use Rattle.rustc_lexer.specs.Classes.{is_among, is_whitespace, is_horizontal_whitespace, is_info, is_id_start, Chars, begins, next_is, AreAll, NextIsNot, NextNotIn, is_inline}
 
 -- ---- its opening
 
@@ -30,19 +30,19 @@ pub data IsLabelBefore (next : Chars) : Chars → Type 0 where
       → IsLabelBefore next (u ++ (c ∷ v ++ w))
 
 -- the opening of a frontmatter: white space that does not end in a newline (or none), n dashes, at least 3 and not one
--- more, and their label
-pub data IsOpeningBefore (next : Chars) : (n : ℕ) → Chars → Type 0 where
+-- more, and their label, which is bad if no newline comes directly after it
+pub data IsOpeningBefore (next : Chars) : (n : ℕ) → (bad_label : Bool) → Chars → Type 0 where
   opening : (n : ℕ) (space label : Chars)
       → AreAll is_whitespace space
       → ((u : Chars) → space ≡ u ++ codes "\n" → ⊥)
       → 3 ≤ n
       → IsLabelBefore next label
       → NextNotIn (codes "-") (label ++ next)
-      → IsOpeningBefore next n (space ++ (fence n ++ label))
+      → IsOpeningBefore next n (not (next_is (is_among (codes "\n")) next)) (space ++ (fence n ++ label))
 
 -- these characters do not begin with the opening of a frontmatter
 abbrev pub OpensNone : Chars → Type 0
-OpensNone s = (n : ℕ) (w next : Chars) → s ≡ w ++ next → IsOpeningBefore next n w → ⊥
+OpensNone s = (n : ℕ) (bad_label : Bool) (w next : Chars) → s ≡ w ++ next → IsOpeningBefore next n bad_label w → ⊥
 
 -- ---- its end
 

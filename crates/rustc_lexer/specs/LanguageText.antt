@@ -83,12 +83,10 @@ mode_after (document edition) kind = part edition
 -- ---- its tokens
 
 -- the token of a frontmatter with this opening and this body. Its two flags are errors: that there is white space
--- before the dashes, and that no newline comes directly after the opening
-abbrev pub frontmatter_token : Chars → Chars → Chars → Token
-frontmatter_token opening body next =
-    let spaced : Bool = next_is is_whitespace opening in
-    let bad_label : Bool = not (next_is (is_among (codes "\n")) (body ++ next)) in
-    record { kind = Frontmatter spaced bad_label; len = bytes opening + bytes body }
+-- before the dashes, and that the label is bad
+abbrev pub frontmatter_token : Chars → Bool → Chars → Token
+frontmatter_token opening bad_label body =
+    record { kind = Frontmatter (next_is is_whitespace opening) bad_label; len = bytes opening + bytes body }
 
 -- the tokens of these characters, none if there are no characters. If a document begins with a frontmatter, the first
 -- token is that, and the text after it is read as a part. Otherwise the first is a token of the edition, and the tokens
@@ -100,11 +98,11 @@ pub data AreTokens : Mode → Chars → List Token → Type 0 where
       → (is_document mode ≡ true → OpensNone (c ∷ w ++ next))
       → AreTokens (mode_after mode kind) next tokens
       → AreTokens mode (c ∷ w ++ next) (record { kind = kind; len = bytes (c ∷ w) } ∷ tokens)
-  frontmatter_first : {edition : Edition} {n : ℕ} {opening next : Chars} {tokens : List Token} (body : Chars)
-      → IsOpeningBefore (body ++ next) n opening
+  frontmatter_first : {edition : Edition} {n : ℕ} {bad_label : Bool} {opening next : Chars} {tokens : List Token} (body : Chars)
+      → IsOpeningBefore (body ++ next) n bad_label opening
       → IsBodyBefore next (endings n) body
       → AreTokens (part edition) next tokens
-      → AreTokens (document edition) (opening ++ (body ++ next)) (frontmatter_token opening body next ∷ tokens)
+      → AreTokens (document edition) (opening ++ (body ++ next)) (frontmatter_token opening bad_label body ∷ tokens)
 
 -- if the premise holds, the answer is allowed and no other is
 pub record TheOnly {A : Type 0} (premise : Type 0) (Allows : A → Type 0) : Type 0 where

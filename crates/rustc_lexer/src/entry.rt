@@ -90,7 +90,7 @@ pub fn tokenize_as<'a>(
             at: 0,
             block: 0,
             ends: 0,
-            told: None,
+            classified: None,
         },
         frontmatter_allowed,
         edition,
@@ -179,7 +179,7 @@ impl<'a> Tokens<'a> {
         requires { IsCharBoundary self.old.rest len }
         ensures { self.new ≡ record self.old { rest = drop len self.old.rest } }
     {
-        self.ahead.told = None;
+        self.ahead.classified = None;
         self.ahead.at += len;
     }
 }

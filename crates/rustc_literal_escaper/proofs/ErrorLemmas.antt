@@ -31,7 +31,7 @@ errors-append : (mode : Mode) (xs ys : List Item) → errors_in mode (xs ++ ys) 
 errors-append mode [] ys = refl
 errors-append mode (x ∷ xs) ys = grind (arith, common_steps, errors-append mode xs ys)
 
-pub folds-errors : {P : Type 0} (R : P → Error → P → Type 0) (mode : Mode) (p q r : P) (all told rest : List Item) → all ≡ told ++ rest → FoldsTo R p (errors_in mode told) q → FoldsTo R q (errors_in mode rest) r → FoldsTo R p (errors_in mode all) r
-folds-errors R mode p q r all told rest e f g = folds-on R p q r (errors_in mode all) (errors_in mode told) (errors_in mode rest) (ap (errors_in mode) e ∙ errors-append mode told rest) f g
+pub folds-errors : {P : Type 0} (R : P → Error → P → Type 0) (mode : Mode) (p q r : P) (all found rest : List Item) → all ≡ found ++ rest → FoldsTo R p (errors_in mode found) q → FoldsTo R q (errors_in mode rest) r → FoldsTo R p (errors_in mode all) r
+folds-errors R mode p q r all found rest e f g = folds-on R p q r (errors_in mode all) (errors_in mode found) (errors_in mode rest) (ap (errors_in mode) e ∙ errors-append mode found rest) f g
 
 pub ruleset error_lemmas = (alone_error-some, alone_error-more)

@@ -18,9 +18,9 @@ module _ (raw : Bool) (total : ℕ) where
   at = front_by raw
 
   -- one step over a text
-  pub items-step : (rest : List ℕ) (c : ℕ) (s left : List ℕ) (told : List Item) → IsUtf8 rest → chars rest ≡ c ∷ s → told ≡ map (item_at total (total - length rest)) (at c s).told
-      → left ≡ (at c s).left → items_from at total (chars rest) ≡ told ++ items_from at total left
-  items-step rest c s left told is reads t l = grind (arith, common_steps, items-cons raw total c s, encodes-chars rest is)
+  pub items-step : (rest : List ℕ) (c : ℕ) (s left : List ℕ) (found : List Item) → IsUtf8 rest → chars rest ≡ c ∷ s → found ≡ map (item_at total (total - length rest)) (at c s).found
+      → left ≡ (at c s).left → items_from at total (chars rest) ≡ found ++ items_from at total left
+  items-step rest c s left found is reads t l = grind (arith, common_steps, items-cons raw total c s, encodes-chars rest is)
 
   -- an element that stands alone at the front is the first item
   pub first-one : (rest left : List ℕ) (c : ℕ) (s : List ℕ) (e : Element) → IsUtf8 rest → IsUtf8 left → chars rest ≡ c ∷ s → at c s ≡ one (e, chars left)
@@ -36,15 +36,15 @@ module _ (raw : Bool) (total : ℕ) where
       by_front [] reads starts = absurd starts
       by_front (c ∷ s) reads starts = first-one rest left c s e is ends reads starts
 
--- nothing is told
-pub told-none : (a b : Option Item) → is_some a ≡ false → (a ≡ None → b ≡ None) → option_to_list a ++ option_to_list b ≡ []
-told-none a b e h = grind (arith, common_steps)
+-- nothing is found
+pub found-none : (a b : Option Item) → is_some a ≡ false → (a ≡ None → b ≡ None) → option_to_list a ++ option_to_list b ≡ []
+found-none a b e h = grind (arith, common_steps)
 
--- with nothing waiting, an iterator takes the first of what is told, and keeps the rest
+-- with nothing waiting, an iterator takes the first of what is found, and keeps the rest
 pub takes_first : (at : ℕ → List ℕ → Front) (total : ℕ) (waiting first second : Option Item) (rest left : List ℕ) → false ≡ is_some waiting
     → items_from at total rest ≡ (option_to_list first ++ option_to_list second) ++ items_from at total left → (first ≡ None → (second ≡ None) × (left ≡ []))
     → TakesFirst (option_to_list waiting ++ items_from at total rest) first (option_to_list second ++ items_from at total left)
-takes_first at total waiting first second rest left none told all = grind (arith, common_steps, all, nothing)
+takes_first at total waiting first second rest left none found all = grind (arith, common_steps, all, nothing)
 
 pub ruleset item_lemmas = (items-step, first-item)
 

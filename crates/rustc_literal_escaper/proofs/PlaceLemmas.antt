@@ -86,11 +86,11 @@ pub more_lines-yes : (total start : ℕ) (left : List ℕ) (newline : Bool) → 
 more_lines-yes total start left newline is e = rw (e, encodes-chars left is) refl
 
 -- the warnings past a line's end
-pub line_end-told : (total start : ℕ) (line left : List ℕ) (newline : Bool) (lines space : List Item)
+pub line_end-found : (total start : ℕ) (line left : List ℕ) (newline : Bool) (lines space : List Item)
     → newline ≡ list_any is_newline (front_run is_passed_over line) → left ≡ past_run is_passed_over line
     → lines ≡ map (item_at total start) (if newline then (Fault MultipleSkippedLinesWarning, left) ∷ [] else [])
     → space ≡ map (item_at total start) (more_space left)
-    → lines ++ space ≡ map (item_at total start) (line_end line).told
-line_end-told total start line left newline lines space n l a b = grind (arith, common_steps, map-append)
+    → lines ++ space ≡ map (item_at total start) (line_end line).found
+line_end-found total start line left newline lines space n l a b = grind (arith, common_steps, map-append)
 
 pub ruleset place_lemmas = (more_lines-yes, more_space-yes, passing-blank, stopped-end, past_run-none)

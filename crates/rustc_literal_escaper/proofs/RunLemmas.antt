@@ -67,5 +67,5 @@ pub folds-append : {P A : Type 0} (R : P → A → P → Type 0) (p q r : P) (xs
 folds-append R p q r [] ys e f = subst (λ (a : _). FoldsTo R a ys r) (sym e) f
 folds-append R p q r (x ∷ xs) ys e f = (e.0, e.1, folds-append R e.0 q r xs ys e.2 f)
 
-pub folds-on : {P A : Type 0} (R : P → A → P → Type 0) (p q r : P) (all told rest : List A) → all ≡ told ++ rest → FoldsTo R p told q → FoldsTo R q rest r → FoldsTo R p all r
-folds-on R p q r all told rest e f g = subst (λ (is : List _). FoldsTo R p is r) (sym e) (folds-append R p q r told rest f g)
+pub folds-on : {P A : Type 0} (R : P → A → P → Type 0) (p q r : P) (all found rest : List A) → all ≡ found ++ rest → FoldsTo R p found q → FoldsTo R q rest r → FoldsTo R p all r
+folds-on R p q r all found rest e f g = subst (λ (is : List _). FoldsTo R p is r) (sym e) (folds-append R p q r found rest f g)

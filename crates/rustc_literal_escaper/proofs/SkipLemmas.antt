@@ -29,7 +29,7 @@ module _ (mode : Mode) (raw : Bool) (class : ℕ → Bool) (fine : (c : ℕ) →
   fewer-past [] left e = omega arith
   fewer-past (c ∷ cs) left e = grind (arith, common_steps, and_parts, items-plain, fewer-past cs left)
 
-  -- behind what waits
+  -- after what waits
   pub errors-skip : (waiting : Option Item) (s left : List ℕ) → Passes class s left → errors_in mode (option_to_list waiting ++ items_from (front_by raw) total left) ≡ errors_in mode (option_to_list waiting ++ items_from (front_by raw) total s)
   errors-skip waiting s left p = grind (arith, common_steps, errors-past p.passed left p.all, p.whole)
 

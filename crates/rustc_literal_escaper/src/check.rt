@@ -213,23 +213,23 @@ fn check_escaped<F: FnMut(Range<usize>, EscapeError)>(
             left = past_fine(tail, mode);
             continue;
         }
-        if let Some((byte, behind)) = byte_at(c, tail, false) {
+        if let Some((byte, after)) = byte_at(c, tail, false) {
             check_element(
-                start..total - behind.len(),
+                start..total - after.len(),
                 Element::Byte(byte),
                 mode,
                 callback,
             );
-            left = behind;
+            left = after;
             continue;
         }
         if let Some(line) = line_at(c, tail) {
             left = check_warnings(line, start, total, mode, callback);
             continue;
         }
-        let (element, behind) = lone_element(c, tail);
-        check_element(start..total - behind.len(), element, mode, callback);
-        left = behind;
+        let (element, after) = lone_element(c, tail);
+        check_element(start..total - after.len(), element, mode, callback);
+        left = after;
     }
 }
 
@@ -247,30 +247,30 @@ fn check_warnings<'a, F: FnMut(Range<usize>, EscapeError)>(
     requires fits { length line.now ≤ total }
     ensures callable { F.IsAlwaysCallable callback.new }
     ensures calls { FoldsTo (λ f error g. F.step f error.0 error.1 tt g)
-        callback.old (spec.errors_in mode (map (item_at total start) (line_end (chars line.now)).told)) callback.new }
+        callback.old (spec.errors_in mode (map (item_at total start) (line_end (chars line.now)).found)) callback.new }
     ensures left { chars result.now ≡ (line_end (chars line.now)).left }
     ensures shorter { length result.now ≤ length line.now }
     ensures text { IsUtf8 result.now }
 {
     let (newline, left) = pass_over(line);
-    check_told(more_lines(newline, left, start, total), mode, callback);
-    check_told(more_space(left, start, total), mode, callback);
+    check_found(more_lines(newline, left, start, total), mode, callback);
+    check_found(more_space(left, start, total), mode, callback);
     left
 }
 
 /// Calls `callback` with the error or warning of an item, if there is an item and something is wrong with it.
 #[inline(always)]
-fn check_told<F: FnMut(Range<usize>, EscapeError)>(
-    told: Option<(Range<usize>, Element)>,
+fn check_found<F: FnMut(Range<usize>, EscapeError)>(
+    found: Option<(Range<usize>, Element)>,
     mode: Mode,
     callback: &mut F,
 )
     requires callable { F.IsAlwaysCallable callback.old }
     ensures callable { F.IsAlwaysCallable callback.new }
     ensures calls { FoldsTo (λ f error g. F.step f error.0 error.1 tt g)
-        callback.old (spec.errors_in mode (option_to_list told)) callback.new }
+        callback.old (spec.errors_in mode (option_to_list found)) callback.new }
 {
-    if let Some((range, element)) = told {
+    if let Some((range, element)) = found {
         check_element(range, element, mode, callback);
     }
 }

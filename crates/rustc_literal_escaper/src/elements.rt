@@ -10,7 +10,7 @@ use crate::error::EscapeError;
 use crate::mode::Mode;
 use crate::scan::past_plain;
 use crate::simple::{past_last_simple, past_simple};
-use crate::steps::{Told, advance, first_byte, first_item, first_plain};
+use crate::steps::{Found, advance, first_byte, first_item, first_plain};
 use std::iter::Iterator;
 use std::marker::Model;
 use std::ops::Range;
@@ -189,7 +189,7 @@ impl<'a> Elements<'a> {
         if self.waiting.is_some() {
             return self.waiting.take();
         }
-        let Told {
+        let Found {
             first,
             second,
             left,

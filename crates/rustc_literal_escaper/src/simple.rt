@@ -59,7 +59,7 @@ const ALONE: usize = 256;
 /// For a while after a short run it returns none, since short runs seldom come alone. The next look comes when at
 /// most `look` bytes are left.
 #[inline(always)]
-pub(crate) fn run_behind<'a>(tail: &'a str, look: &mut usize) -> (&'a [u8], &'a str)
+pub(crate) fn run_after<'a>(tail: &'a str, look: &mut usize) -> (&'a [u8], &'a str)
     ensures simple { list_all (spec.is_simple false) result.0.now ≡ true }
     ensures whole { tail.now ≡ result.0.now ++ result.1.now }
     ensures text { IsUtf8 result.1.now }

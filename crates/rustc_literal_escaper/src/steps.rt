@@ -6,7 +6,7 @@ ghost use Rattle.std.specs.Str.{chars, IsUtf8};
 ghost use Rattle.rustc_literal_escaper.specs.Grammar as grammar;
 ghost use Rattle.rustc_literal_escaper.specs.Items.{is_plain as plain};
 ghost use Rattle.rustc_literal_escaper.specs.means.Elements as spec;
-ghost use Rattle.rustc_literal_escaper.specs.means.Elements.{told_by};
+ghost use Rattle.rustc_literal_escaper.specs.means.Elements.{found_by};
 ghost use Rattle.rustc_literal_escaper.specs.means.Escape.{front_run, past_run};
 
 use crate::element::Element;
@@ -17,7 +17,7 @@ use std::ops::Range;
 
 /// The items that are found at a place, at most two, and the text after them.
 #[derive(Drop)]
-pub(crate) struct Told<'a> {
+pub(crate) struct Found<'a> {
     pub(crate) first: Option<(Range<usize>, Element)>,
     pub(crate) second: Option<(Range<usize>, Element)>,
     pub(crate) left: &'a str,
@@ -26,23 +26,23 @@ pub(crate) struct Told<'a> {
 /// Returns the first items in the rest of a text of `total` bytes. Returns no items if none are left.
 #[inline(always)]
 #[tactic(auto, using(crate::proofs::ItemLemmas::item_lemmas))]
-pub(crate) fn advance(rest: &str, total: usize, raw: bool) -> Told<'_>
+pub(crate) fn advance(rest: &str, total: usize, raw: bool) -> Found<'_>
     requires fits { length rest.now ≤ total }
-    ensures told { spec.items_from (spec.front_by raw) total (chars rest.now)
-        ≡ told_by result ++ spec.items_from (spec.front_by raw) total (chars result.left.now) }
+    ensures found { spec.items_from (spec.front_by raw) total (chars rest.now)
+        ≡ found_by result ++ spec.items_from (spec.front_by raw) total (chars result.left.now) }
     ensures all { result.first ≡ None → (result.second ≡ None) × (chars result.left.now ≡ []) }
     ensures shorter { length result.left.now ≤ length rest.now }
     ensures text { IsUtf8 result.left.now }
 {
     let mut left = rest;
     'steps: while let Some((c, tail)) = split_first(left) {
-        let told = step_by(raw, c, tail, total - left.len(), total);
-        if told.first.is_some() {
-            return told;
+        let found = step_by(raw, c, tail, total - left.len(), total);
+        if found.first.is_some() {
+            return found;
         }
-        left = told.left;
+        left = found.left;
     }
-    Told {
+    Found {
         first: None,
         second: None,
         left,
@@ -53,10 +53,10 @@ pub(crate) fn advance(rest: &str, total: usize, raw: bool) -> Told<'_>
 /// string is a raw one.
 #[inline(always)]
 #[tactic(auto, unfolding(crate::specs::means::Elements::front, crate::specs::means::Elements::raw_front))]
-fn step_by(raw: bool, c: char, tail: &str, start: usize, total: usize) -> Told<'_>
+fn step_by(raw: bool, c: char, tail: &str, start: usize, total: usize) -> Found<'_>
     requires fits { length tail.now ≤ total }
-    ensures told { told_by result
-        ≡ map (spec.item_at total start) (spec.front_by raw c (chars tail.now)).told }
+    ensures found { found_by result
+        ≡ map (spec.item_at total start) (spec.front_by raw c (chars tail.now)).found }
     ensures left { chars result.left.now ≡ (spec.front_by raw c (chars tail.now)).left }
     ensures none { result.first ≡ None → result.second ≡ None }
     ensures shorter { length result.left.now ≤ length tail.now }
@@ -229,14 +229,14 @@ fn raw_element(c: char) -> Element
 
 /// Returns one item, whose element goes from the place `start` up to the text `left`.
 #[inline(always)]
-fn one(element: Element, left: &str, start: usize, total: usize) -> Told<'_>
+fn one(element: Element, left: &str, start: usize, total: usize) -> Found<'_>
     requires fits { length left.now ≤ total }
-    ensures told { told_by result
+    ensures found { found_by result
         ≡ spec.item_at total start (element, chars left.now) ∷ [] }
     ensures some { IsSome result.first }
     ensures left { result.left.now ≡ left.now }
 {
-    Told {
+    Found {
         first: Some((start..total - left.len(), element)),
         second: None,
         left,
@@ -276,10 +276,10 @@ fn strip_newline(text: &str) -> Option<&str>
 
 /// Returns the warnings after a backslash and a newline, which begin at the place `start`.
 #[inline(always)]
-fn line_end(line: &str, start: usize, total: usize) -> Told<'_>
+fn line_end(line: &str, start: usize, total: usize) -> Found<'_>
     requires fits { length line.now ≤ total }
-    ensures told { told_by result
-        ≡ map (spec.item_at total start) (spec.line_end (chars line.now)).told }
+    ensures found { found_by result
+        ≡ map (spec.item_at total start) (spec.line_end (chars line.now)).found }
     ensures left { chars result.left.now ≡ (spec.line_end (chars line.now)).left }
     ensures none { result.first ≡ None → result.second ≡ None }
     ensures shorter { length result.left.now ≤ length line.now }
@@ -289,13 +289,13 @@ fn line_end(line: &str, start: usize, total: usize) -> Told<'_>
     let more_lines = more_lines(newline, left, start, total);
     let more_space = more_space(left, start, total);
     if newline {
-        Told {
+        Found {
             first: more_lines,
             second: more_space,
             left,
         }
     } else {
-        Told {
+        Found {
             first: more_space,
             second: None,
             left,

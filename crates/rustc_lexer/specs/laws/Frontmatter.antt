@@ -107,15 +107,15 @@ module _ (text fence label : List ℕ) (is : IsUtf8 text) (fence_is : fence ≡ 
   pub opens-few : length fence - length label < 3 → opens (chars text) ≡ false
   opens-few few = rw (begins-few 3 (drop (spaces_len (chars text)) (chars text)) (omega (arith, dashes_are))) refl
 
-  module _ (bytes : List ℕ) (read : bytes ≡ text) (offset : ℕ) (at : offset ≡ length text - length fence) (newline_there : Bool) (told : newline_there ≡ (nat_lt 0 offset && is_newline (get_or bytes (offset - 1) 0))) where
-    told_so : newline_there ≡ ends_line (take (spaces_len (chars text)) (chars text))
-    told_so = told ∙ (ap (λ xs. nat_lt 0 offset && is_newline (get_or xs (offset - 1) 0)) read ∙ (ap (λ n. nat_lt 0 n && is_newline (get_or text (n - 1) 0)) at ∙ newline_before))
+  module _ (bytes : List ℕ) (read : bytes ≡ text) (offset : ℕ) (at : offset ≡ length text - length fence) (newline_there : Bool) (decided : newline_there ≡ (nat_lt 0 offset && is_newline (get_or bytes (offset - 1) 0))) where
+    decided_so : newline_there ≡ ends_line (take (spaces_len (chars text)) (chars text))
+    decided_so = decided ∙ (ap (λ xs. nat_lt 0 offset && is_newline (get_or xs (offset - 1) 0)) read ∙ (ap (λ n. nat_lt 0 n && is_newline (get_or text (n - 1) 0)) at ∙ newline_before))
 
     pub opens-line : newline_there ≡ true → opens (chars text) ≡ false
-    opens-line before = ap (λ b. begins (the.fence 3) (drop (spaces_len (chars text)) (chars text)) && not b) (sym told_so ∙ before) ∙ and-false (begins (the.fence 3) (drop (spaces_len (chars text)) (chars text)))
+    opens-line before = ap (λ b. begins (the.fence 3) (drop (spaces_len (chars text)) (chars text)) && not b) (sym decided_so ∙ before) ∙ and-false (begins (the.fence 3) (drop (spaces_len (chars text)) (chars text)))
 
     pub opens-yes : newline_there ≡ false → 3 ≤ length fence - length label → opens (chars text) ≡ true
-    opens-yes none enough = rw (begins-enough 3 (drop (spaces_len (chars text)) (chars text)) (omega (arith, dashes_are)), sym told_so ∙ none) refl
+    opens-yes none enough = rw (begins-enough 3 (drop (spaces_len (chars text)) (chars text)) (omega (arith, dashes_are)), sym decided_so ∙ none) refl
 
   module _ (rest : List ℕ) (rest_is : rest ≡ past (label_len (chars label)) label) where
     pub past_opening-is : rest ≡ past_opening text

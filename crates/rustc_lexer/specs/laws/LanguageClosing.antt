@@ -19,20 +19,20 @@ use Rattle.rustc_lexer.specs.laws.Choice.{by_either, by_found}
 use Rattle.rustc_lexer.specs.laws.Fences.{begins-whole}
 use Rattle.rustc_lexer.specs.laws.LanguageRuns.{run_len-here, run-stops, either-way}
 use Rattle.rustc_lexer.specs.laws.Least.{offset-here, offset-on, more-zero, one_more-more}
-use Rattle.rustc_lexer.specs.laws.LanguageLone.{lone_at, lone-told, told-lone, lone-first}
+use Rattle.rustc_lexer.specs.laws.LanguageLone.{lone_at, lone-decided, decided-lone, lone-first}
 use Rattle.rustc_lexer.specs.laws.Reach.{begins-length, run_all, run_len-in, least-is, least-none, least-some, none-least}
 
 -- ---- the first place
 
 -- a test tells the places that are such, and none is at the end of the text
 record Tells (IsSuch : Chars → Chars → Type 0) (test : Chars → ℕ → Bool) : Type 0 where
-  told : (u v : Chars) → IsSuch u v → test (u ++ v) (length u) ≡ true
+  decided : (u v : Chars) → IsSuch u v → test (u ++ v) (length u) ≡ true
   some : (u v : Chars) → IsSuch u v → 0 < length v
   is : (s : Chars) (i : ℕ) → test s i ≡ true → IsSuch (take i s) (drop i s)
 
 module _ {IsSuch : Chars → Chars → Type 0} {test : Chars → ℕ → Bool} (tells : Tells IsSuch test) where
-  told-at : (s x y : Chars) → x ++ y ≡ s → IsSuch x y → test s (length x) ≡ true
-  told-at s x y e such = subst (λ (t : Chars). test t (length x) ≡ true) e (tells.told x y such)
+  decided-at : (s x y : Chars) → x ++ y ≡ s → IsSuch x y → test s (length x) ≡ true
+  decided-at s x y e such = subst (λ (t : Chars). test t (length x) ≡ true) e (tells.decided x y such)
 
   first-offset : (s : Chars) (k : ℕ) → least (test s) (length s) ≡ Some k → IsFirstPositionOf IsSuch (take k s) (drop k s)
   first-offset s k e =
@@ -41,18 +41,18 @@ module _ {IsSuch : Chars → Chars → Type 0} {test : Chars → ℕ → Bool} (
         here = tells.is s k l.here;
         first = λ x y f such. elim (cases_lt (length x) (length (take k s))) [
           | inr ge ↦ ge
-          | inl lt ↦ absurd (either-way (test s (length x)) (told-at s x y (f ∙ take-append-drop k s) such) (l.before (length x) (omega (arith, length-take k s))))
+          | inl lt ↦ absurd (either-way (test s (length x)) (decided-at s x y (f ∙ take-append-drop k s) such) (l.before (length x) (omega (arith, length-take k s))))
         ];
       }
 
   no-offset : (s : Chars) → least (test s) (length s) ≡ None → IsNowhere IsSuch s
   no-offset s e x y f such =
-      either-way (test s (length x)) (told-at s x y f such) (none-least (test s) (length s) e (length x) (omega (arith, tells.some x y such, length-append x y, ap length f)))
+      either-way (test s (length x)) (decided-at s x y f such) (none-least (test s) (length s) e (length x) (omega (arith, tells.some x y such, length-append x y, ap length f)))
 
   first-read : (u v : Chars) → IsFirstPositionOf IsSuch u v → least (test (u ++ v)) (length (u ++ v)) ≡ Some (length u)
   first-read u v at = least-is (test (u ++ v)) (length (u ++ v)) (length u) record {
     below = omega (arith, length-append u v, tells.some u v at.here);
-    here = tells.told u v at.here;
+    here = tells.decided u v at.here;
     before = λ i lt. false_from_ne_true _ (λ e. let le = at.first (take i (u ++ v)) (drop i (u ++ v)) (take-append-drop i (u ++ v)) (tells.is (u ++ v) i e) in omega (arith, length-take i (u ++ v)));
   }
 
@@ -78,10 +78,10 @@ endings-patterns n = rw (fence-ascii n) refl
 
 pattern-tells : (pattern : List ℕ) → is_pattern pattern ≡ true → Tells (IsAt pattern) (λ s offset. begins pattern (drop offset s))
 pattern-tells [] is = absurd (true≢false (sym is))
-pattern-tells (d ∷ ds) is = record { told = λ u v e. ap (begins (d ∷ ds)) (drop-append_seam u v) ∙ e; some = λ u v e. omega (arith, begins-length (d ∷ ds) v e); is = λ s i e. e }
+pattern-tells (d ∷ ds) is = record { decided = λ u v e. ap (begins (d ∷ ds)) (drop-append_seam u v) ∙ e; some = λ u v e. omega (arith, begins-length (d ∷ ds) v e); is = λ s i e. e }
 
 lone-tells : Tells IsLone (λ s i. lone_at [] i s)
-lone-tells = grind (arith, common_steps, lone-told, told-lone, begins-length)
+lone-tells = grind (arith, common_steps, lone-decided, decided-lone, begins-length)
 
 -- ---- what the language has is found
 

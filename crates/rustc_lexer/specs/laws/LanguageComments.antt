@@ -10,10 +10,10 @@ use Rattle.rustc_lexer.specs.means.BlockGrammar.{Closes as ClosesIn, at_mark, ne
 use Rattle.rustc_lexer.specs.Classes.{is_among, is_whitespace, NextNotIn, AreAll, NextIsNot, is_inline}
 use Rattle.rustc_lexer.specs.means.Comment.{line_doc_style, line_comment, slash}
 use Rattle.rustc_lexer.specs.means.Hash.{is_guarded_mark, hash}
-use Rattle.rustc_lexer.specs.laws.BlockComment.{two_at_least, closes-inside, at_closing_told, at_opening_told, style_told}
+use Rattle.rustc_lexer.specs.laws.BlockComment.{two_at_least, closes-inside, at_closing_decided, at_opening_decided, style_decided}
 use Rattle.rustc_lexer.specs.laws.BlockGrammar.{allowed, comment_end-found}
 use Rattle.rustc_lexer.specs.laws.Choice.{by_test}
-use Rattle.rustc_lexer.specs.laws.LanguageRuns.{run_len-here, run-stops, Sound, Read, read-first, sound-after, told-front, begins-next, chooses-slash, chooses-space, chooses-hash, chooses-symbol, pair}
+use Rattle.rustc_lexer.specs.laws.LanguageRuns.{run_len-here, run-stops, Sound, Read, read-first, sound-after, decided-front, begins-next, chooses-slash, chooses-space, chooses-hash, chooses-symbol, pair}
 use Rattle.rustc_lexer.specs.laws.Reach.{run_all}
 use Rattle.rustc_lexer.specs.Language as the
 use Rattle.rustc_lexer.specs.Language.{IsStyle, inner, outer, no_outer, neither, IsCommentRest, IsTokenBefore, has_rule}
@@ -72,11 +72,11 @@ IsLineStyle style w = IsStyle 47 (codes "/") style w
 line-style : (w : List ℕ) → line_doc_style w ≡ doc_style 47 (codes "/") w
 line-style w0 = grind (arith, common_steps)
 
--- the style of a comment is told by the comment
+-- the style of a comment is decided by the comment
 line_doc_style-own : (s : List ℕ) → line_doc_style (take (run_len is_inline s) s) ≡ line_doc_style s
 line_doc_style-own w0 = grind (arith, common_steps, eqb-true)
 
--- the style that is told is the one of the language
+-- the style that is decided is the one of the language
 line-styled : (w : List ℕ) → IsLineStyle (line_doc_style w) w
 line-styled w = subst (λ (style : Option DocStyle). IsLineStyle style w) (sym (line-style w)) (styled 47 (codes "/") w)
 
@@ -103,8 +103,8 @@ closes-in (the.nested {v} {w} p q) next =
     let both : ClosesIn (47 ∷ 42 ∷ v ++ (w ++ next)) (2 + (length v + length w)) = nested_in (closes-in p (w ++ next)) rest in
     subst (λ (n : ℕ). ClosesIn (47 ∷ 42 ∷ v ++ w ++ next) n) sum (subst (λ (s : List ℕ). ClosesIn (47 ∷ 42 ∷ s) (2 + (length v + length w))) text both)
 closes-in (the.other {c} {w} e f p) next =
-    let shut : at_closing (c ∷ w ++ next) ≡ false = told-front 2 at_closing at_closing_told (c ∷ w) next (omega (arith, closes-two p)) ∙ e in
-    let shows : at_opening (c ∷ w ++ next) ≡ false = told-front 2 at_opening at_opening_told (c ∷ w) next (omega (arith, closes-two p)) ∙ f in
+    let shut : at_closing (c ∷ w ++ next) ≡ false = decided-front 2 at_closing at_closing_decided (c ∷ w) next (omega (arith, closes-two p)) ∙ e in
+    let shows : at_opening (c ∷ w ++ next) ≡ false = decided-front 2 at_opening at_opening_decided (c ∷ w) next (omega (arith, closes-two p)) ∙ f in
     let one : 1 + length w ≡ suc (length w) = omega arith in
     subst (λ (n : ℕ). ClosesIn (c ∷ w ++ next) n) one (past_one shut shows (closes-in p next))
 
@@ -120,8 +120,8 @@ closes-text (past_one {c} {m} {u} e f p) =
     let le : m ≤ length u = closes-inside p in
     let len : length (take m u) ≡ m = length-take-le m u le in
     let whole : c ∷ take m u ++ drop m u ≡ c ∷ u = ap (λ (xs : List ℕ). c ∷ xs) (take-append-drop m u) in
-    let shut : at_closing (c ∷ take m u) ≡ false = sym (told-front 2 at_closing at_closing_told (c ∷ take m u) (drop m u) (omega (arith, two_at_least p, len))) ∙ (ap at_closing whole ∙ e) in
-    let shows : at_opening (c ∷ take m u) ≡ false = sym (told-front 2 at_opening at_opening_told (c ∷ take m u) (drop m u) (omega (arith, two_at_least p, len))) ∙ (ap at_opening whole ∙ f) in
+    let shut : at_closing (c ∷ take m u) ≡ false = sym (decided-front 2 at_closing at_closing_decided (c ∷ take m u) (drop m u) (omega (arith, two_at_least p, len))) ∙ (ap at_closing whole ∙ e) in
+    let shows : at_opening (c ∷ take m u) ≡ false = sym (decided-front 2 at_opening at_opening_decided (c ∷ take m u) (drop m u) (omega (arith, two_at_least p, len))) ∙ (ap at_opening whole ∙ f) in
     subst (λ (n : ℕ). IsCommentRest (take n (c ∷ u))) (sym one) (the.other shut shows (closes-text p))
 
 abbrev pub IsBlockStyle : Option DocStyle → List ℕ → Type 0
@@ -149,16 +149,16 @@ block-sound s = by_end (comment_end s) refl
         never n p = let found : comment_end s ≡ Some (length (take n s)) = comment_end-found p in absurd (cc)
     by_end (Some n) e =
         let p : ClosesIn s n = allowed (length s) s n e in
-        let own : block_doc_style (take n s) ≡ block_doc_style s = style_told-front s n p in
+        let own : block_doc_style (take n s) ≡ block_doc_style s = style_decided-front s n p in
         the.block_comment (closes-text p) (subst (λ (style : Option DocStyle). IsBlockStyle style (take n s)) own (block-styled (take n s)))
       where
-        style_told-front : (s : List ℕ) (n : ℕ) → ClosesIn s n → block_doc_style (take n s) ≡ block_doc_style s
-        style_told-front s n p = sym (told-front 2 block_doc_style style_told (take n s) (drop n s) (omega (arith, two_at_least p, length-take-le n s (closes-inside p)))) ∙ ap block_doc_style (take-append-drop n s)
+        style_decided-front : (s : List ℕ) (n : ℕ) → ClosesIn s n → block_doc_style (take n s) ≡ block_doc_style s
+        style_decided-front s n p = sym (decided-front 2 block_doc_style style_decided (take n s) (drop n s) (omega (arith, two_at_least p, length-take-le n s (closes-inside p)))) ∙ ap block_doc_style (take-append-drop n s)
 
 pub block-read : (style : Option DocStyle) (w next : List ℕ) → IsCommentRest w → IsBlockStyle style w → Read (BlockComment style true) (suc (suc (length w))) (47 ∷ 42 ∷ w ++ next)
 block-read style w next p is =
     let found : comment_end (w ++ next) ≡ Some (length w) = comment_end-found (closes-in p next) in
-    let own : block_doc_style (w ++ next) ≡ style = told-front 2 block_doc_style style_told w next (closes-two p) ∙ block-style-is is in
+    let own : block_doc_style (w ++ next) ≡ style = decided-front 2 block_doc_style style_decided w next (closes-two p) ∙ block-style-is is in
     let reads : block_comment (w ++ next) ≡ (BlockComment style true, length w) = ap (λ (o : Option ℕ). block_comment_to o (w ++ next)) found ∙ ap (λ (d : Option DocStyle). (BlockComment d true, length w)) own in
     read-first 47 slash (42 ∷ w ++ next) (BlockComment style true) (1 + length w) _ chooses-slash (ap (λ (r : TokenKind × ℕ). let q : TokenKind × ℕ = (r.0, 1 + r.1) in q) reads) (omega arith)
 

@@ -98,13 +98,14 @@ label-read {next} (the.named u c v w blanks start info info_stops more stop) =
     ∙ omega (arith, run_len-here is_horizontal_whitespace w next more stop, length-append u (c ∷ v), length-append u (c ∷ v ++ w), length-append v w)
 
 -- what is read of an opening
-pub record ReadsOpening (n : ℕ) (w next : List ℕ) : Type 0 where
+pub record ReadsOpening (n : ℕ) (bad_label : Bool) (w next : List ℕ) : Type 0 where
   pub opens_here : opens (w ++ next) ≡ true
   pub len : opening_len (w ++ next) ≡ length w
   pub dashes : fence_len (w ++ next) ≡ n
   pub space : next_is is_whitespace (w ++ next) ≡ next_is is_whitespace w
+  pub line : not (next_is (is_among (codes "\n")) next) ≡ bad_label
 
-pub opening-read : {next w : List ℕ} {n : ℕ} → IsOpeningBefore next n w → ReadsOpening n w next
+pub opening-read : {next w : List ℕ} {n : ℕ} {bad_label : Bool} → IsOpeningBefore next n bad_label w → ReadsOpening n bad_label w next
 opening-read {next} (the.opening n space label spaces no_line many is stop) =
     let rest : List ℕ = fence n ++ (label ++ next) in
     let text : (space ++ (fence n ++ label)) ++ next ≡ space ++ rest = append_assoc space (fence n ++ label) next ∙ ap (λ (xs : List ℕ). space ++ xs) (append_assoc (fence n) label next) in
@@ -122,6 +123,7 @@ opening-read {next} (the.opening n space label spaces no_line many is stop) =
       len = then-read (then_len spaces_len (run_len is_dash)) label_len (space ++ fence n) (label ++ next) s text_label fences ∙ omega (arith, label-read is, length-append space (fence n), length-append space (fence n ++ label), length-append (fence n) label);
       dashes = ap (run_len is_dash) left ∙ run;
       space = some-front is_whitespace (space ++ (fence n ++ label)) next (omega (arith, length-append space (fence n ++ label), length-append (fence n) label, fence-length n));
+      line = refl;
     }
   where
     some-front : (p : ℕ → Bool) (w next : List ℕ) → 1 ≤ length w → next_is p (w ++ next) ≡ next_is p w
@@ -177,7 +179,7 @@ pub record Opened (s : List ℕ) : Type 0 where
   pub front : List ℕ
   pub rest : List ℕ
   pub whole : front ++ rest ≡ s
-  pub is : IsOpeningBefore rest count front
+  pub is : IsOpeningBefore rest count (not (next_is (is_among (codes "\n")) rest)) front
 
 pub opened : (s : List ℕ) → opens s ≡ true → Opened s
 opened s e =
@@ -199,7 +201,7 @@ opened s e =
 
 -- none opens, said in both ways
 pub opens-none : (s : List ℕ) → opens s ≡ false → OpensNone s
-opens-none s e n w next f is = let r = opening-read is in either-way (opens (w ++ next)) r.opens_here (ap opens (sym f) ∙ e)
+opens-none s e n bad_label w next f is = let r = opening-read is in either-way (opens (w ++ next)) r.opens_here (ap opens (sym f) ∙ e)
 
 pub none-opens : (s : List ℕ) → OpensNone s → opens s ≡ false
-none-opens s none = false_from_ne_true (opens s) (λ e. let o = opened s e in none o.count o.front o.rest (sym o.whole) o.is)
+none-opens s none = false_from_ne_true (opens s) (λ e. let o = opened s e in none o.count _ o.front o.rest (sym o.whole) o.is)

@@ -14,10 +14,10 @@ use Rattle.rustc_lexer.specs.{Base, LiteralKind, RawStrError, TokenKind, Byte, S
 use Rattle.rustc_lexer.specs.Classes.{is_id_start, is_id_continue, begins_ident_after, NextIs, bytes}
 use Rattle.rustc_lexer.specs.means.Ident.{marks_ident}
 use Rattle.rustc_lexer.specs.laws.Choice.{by_test}
-use Rattle.rustc_lexer.specs.laws.Ident.{marks_ident-told}
+use Rattle.rustc_lexer.specs.laws.Ident.{marks_ident-decided}
 use Rattle.rustc_lexer.specs.laws.LanguageQuoted.{double-read, double-sound, single-read, single-sound}
 use Rattle.rustc_lexer.specs.laws.LanguageRaw.{raw-read, raw-sound}
-use Rattle.rustc_lexer.specs.laws.LanguageRuns.{run_len-here, run-stops, either-way, Sound, Read, pair, read-first, sound-after, told-front, digit-small, letters-start, chooses-word, chooses-number, chooses-str}
+use Rattle.rustc_lexer.specs.laws.LanguageRuns.{run_len-here, run-stops, either-way, Sound, Read, pair, read-first, sound-after, decided-front, digit-small, letters-start, chooses-word, chooses-number, chooses-str}
 use Rattle.rustc_lexer.specs.laws.NumberLongest.{number-read, number-is}
 use Rattle.rustc_lexer.specs.laws.Reach.{run_all}
 use Rattle.rustc_lexer.specs.Language as the
@@ -180,10 +180,10 @@ whole-marks : (w next : List ℕ) → next ≡ [] → marks_ident (w ++ next) �
 whole-marks w next none = ap (λ (xs : List ℕ). marks_ident (w ++ xs)) none ∙ ap marks_ident (append-nil w)
 
 raw-marks : {next : List ℕ} {o : Option ℕ} {w : List ℕ} → IsRaw next o w → marks_ident (w ++ next) ≡ marks_ident w
-raw-marks {next} (lit.closed n w le lacks) = told-front 2 marks_ident marks_ident-told (hashes n ++ (34 ∷ w ++ 34 ∷ hashes n)) next (omega (arith, length-append (hashes n) (34 ∷ w ++ 34 ∷ hashes n), length-append w (34 ∷ hashes n)))
-raw-marks {next} (lit.too_many n w le lacks) = told-front 2 marks_ident marks_ident-told (hashes n ++ (34 ∷ w ++ 34 ∷ hashes n)) next (omega (arith, length-append (hashes n) (34 ∷ w ++ 34 ∷ hashes n), length-append w (34 ∷ hashes n)))
+raw-marks {next} (lit.closed n w le lacks) = decided-front 2 marks_ident marks_ident-decided (hashes n ++ (34 ∷ w ++ 34 ∷ hashes n)) next (omega (arith, length-append (hashes n) (34 ∷ w ++ 34 ∷ hashes n), length-append w (34 ∷ hashes n)))
+raw-marks {next} (lit.too_many n w le lacks) = decided-front 2 marks_ident marks_ident-decided (hashes n ++ (34 ∷ w ++ 34 ∷ hashes n)) next (omega (arith, length-append (hashes n) (34 ∷ w ++ 34 ∷ hashes n), length-append w (34 ∷ hashes n)))
 raw-marks {next} (lit.unclosed n w none lacks) = whole-marks (hashes n ++ 34 ∷ w) next none
-raw-marks {next} (lit.no_quote n c out) = told-front 2 marks_ident marks_ident-told (hashes (suc n) ++ c ∷ []) next (omega (arith, length-append (hashes n) (c ∷ [])))
+raw-marks {next} (lit.no_quote n c out) = decided-front 2 marks_ident marks_ident-decided (hashes (suc n) ++ c ∷ []) next (omega (arith, length-append (hashes n) (c ∷ [])))
 raw-marks {next} (lit.no_more n none) = whole-marks (hashes (suc n)) next none
 
 -- the body of a literal, from what is read of it

@@ -45,7 +45,7 @@ record IsStanding (u : Chars) : Type 0 where
   is : IsEdge edge
   all : AreAll is_horizontal_whitespace blanks
 
--- it stands there where it is told so
+-- it stands there where it is decided so
 is-standing : (r : List ℕ) → standing r ≡ true → IsStanding (reverse r)
 is-standing [] e = record { edge = []; blanks = []; whole = refl; is = the.front; all = refl }
 is-standing (c ∷ r) e = elim (or_cases (c == 10) _ e) [
@@ -73,7 +73,7 @@ is-standing (c ∷ r) e = elim (or_cases (c == 10) _ e) [
   ]
 ]
 
--- and told where it stands
+-- and decided where it stands
 edge-stands : {u : Chars} → IsEdge u → standing (reverse u) ≡ true
 edge-stands the.front = refl
 edge-stands (the.line u) = ap standing (reverse-append u (codes "\n"))
@@ -89,11 +89,11 @@ blanks-stand (c ∷ w) r all e =
     let parts = and_parts (is_horizontal_whitespace c) (list_all is_horizontal_whitespace w) all in
     ap standing (ap (λ (u : Chars). u ++ r) (reverse-append (c ∷ []) w) ∙ append_assoc (reverse w) (c ∷ []) r) ∙ blanks-stand w (c ∷ r) parts.1 (by_either (c == 10) (λ f. rw f refl) (λ f. rw (f, parts.0, e) refl))
 
-pub lone-told : (u v : Chars) → IsLone u v → lone_at [] (length u) (u ++ v) ≡ true
-lone-told u v w0 = search (arith, reverse-append, blanks-stand, edge-stands, lone_at-text, take-append_seam, drop-append_seam)
+pub lone-decided : (u v : Chars) → IsLone u v → lone_at [] (length u) (u ++ v) ≡ true
+lone-decided u v w0 = search (arith, reverse-append, blanks-stand, edge-stands, lone_at-text, take-append_seam, drop-append_seam)
 
-pub told-lone : (s : Chars) (i : ℕ) → lone_at [] i s ≡ true → IsLone (take i s) (drop i s)
-told-lone s i e =
+pub decided-lone : (s : Chars) (i : ℕ) → lone_at [] i s ≡ true → IsLone (take i s) (drop i s)
+decided-lone s i e =
     let parts = and_parts (standing (reverse (take i s))) (begins (fence 3) (drop i s)) (sym (lone_at-text s i) ∙ e) in
     let at = is-standing (reverse (take i s)) parts.0 in
     subst (λ (u : Chars). IsLone u (drop i s)) (at.whole ∙ reverse-reverse (take i s)) (the.lone at.edge at.blanks (drop i s) at.is at.all parts.1)
@@ -102,7 +102,7 @@ told-lone s i e =
 
 -- the pass comes to an offset: it knows what stands before, and three dashes begin neither one place before nor two
 pub record IsAt (blank : Bool) (r s : List ℕ) : Type 0 where
-  told : standing r ≡ blank
+  decided : standing r ≡ blank
   fresh : blank ≡ false → begins (fence 3) s ≡ true → begins (fence 1) r ≡ false
   one : begins (fence 1) r ≡ true → begins (fence 1) (drop 1 r) ≡ false → begins (fence 2) s ≡ false
   two : begins (fence 2) r ≡ true → begins (fence 1) (drop 2 r) ≡ false → begins (fence 1) s ≡ false
@@ -115,11 +115,11 @@ fewer (suc n) (c ∷ s) e = let parts = and_parts (c == 45) (begins (fence (suc 
 -- over a character that begins no three dashes
 over : (blank : Bool) (c : ℕ) (r s : List ℕ) → begins (fence 3) (c ∷ s) ≡ false → IsAt blank r (c ∷ s) → IsAt (blank_past blank c) (c ∷ r) s
 over blank c r s none at = record {
-  told = let third : (begins (fence 3) (c ∷ r) && not (begins (fence 1) (drop 2 r))) ≡ false = false_from_ne_true _ (λ e.
+  decided = let third : (begins (fence 3) (c ∷ r) && not (begins (fence 1) (drop 2 r))) ≡ false = false_from_ne_true _ (λ e.
       let p = and_parts (begins (fence 3) (c ∷ r)) _ e in
       let q = and_parts (c == 45) (begins (fence 2) r) p.0 in
       either-way (begins (fence 1) (c ∷ s)) (rw q.0 refl) (at.two q.1 (not-true _ p.1))) in
-      by_either (c == 10) (λ f. rw f refl) (λ f. rw (f, third, at.told) (by_either (is_horizontal_whitespace c && blank) (λ g. rw g refl) (λ g. rw g refl)));
+      by_either (c == 10) (λ f. rw f refl) (λ f. rw (f, third, at.decided) (by_either (is_horizontal_whitespace c && blank) (λ g. rw g refl) (λ g. rw g refl)));
   fresh = λ e three. by_either (c == 45) (λ f. absurd (either-way (begins (fence 3) (c ∷ s)) (rw (f, fewer 2 s three) refl) none)) (λ f. rw f refl);
   one = λ e fresh. let is = (and_parts (c == 45) true e).0 in false_from_ne_true _ (λ f. either-way (begins (fence 3) (c ∷ s)) (rw (is, f) refl) none);
   two = λ e fresh. let p = and_parts (c == 45) (begins (fence 1) r) e in false_from_ne_true _ (λ f. either-way (begins (fence 2) (c ∷ s)) (rw (p.0, f) refl) (at.one p.1 fresh));
@@ -128,7 +128,7 @@ over blank c r s none at = record {
 -- over three dashes that are not lone
 past_three : (r s : List ℕ) → standing r ≡ false → begins (fence 1) r ≡ false → first_lone true 0 s ≡ least (λ i. lone_at (45 ∷ 45 ∷ 45 ∷ r) i s) (length s)
     → first_lone false 0 (fence 3 ++ s) ≡ least (λ i. lone_at r i (fence 3 ++ s)) (length (fence 3 ++ s))
-past_three r s told fresh e = grind (arith, common_steps, false_from_ne_true, fewer)
+past_three r s decided fresh e = grind (arith, common_steps, false_from_ne_true, fewer)
 
 lone-least : (fuel : ℕ) (blank : Bool) (r s : List ℕ) → length s ≤ fuel → IsAt blank r s → first_lone blank 0 s ≡ least (λ i. lone_at r i s) (length s)
 lone-least fuel blank r [] le at = refl
@@ -138,16 +138,16 @@ lone-least (suc fuel) blank r (c ∷ s) le at = by_either (begins (fence 3) (c �
   where
     three : (blank : Bool) → begins (fence 3) (c ∷ s) ≡ true → IsAt blank r (c ∷ s) → (IsAt true (45 ∷ 45 ∷ 45 ∷ r) (drop 2 s) → first_lone true 0 (drop 2 s) ≡ least (λ i. lone_at (45 ∷ 45 ∷ 45 ∷ r) i (drop 2 s)) (length (drop 2 s)))
         → first_lone blank 0 (c ∷ s) ≡ least (λ i. lone_at r i (c ∷ s)) (length (c ∷ s))
-    three true e at ih = rw (e, at.told) refl
+    three true e at ih = rw (e, at.decided) refl
     three false e at ih =
         let fresh : begins (fence 1) r ≡ false = at.fresh refl e in
         subst (λ (t : List ℕ). first_lone false 0 t ≡ least (λ i. lone_at r i t) (length t)) (sym (begins-whole (fence 3) (c ∷ s) e))
-        (past_three r (drop 2 s) at.told fresh (ih record {
-          told = rw fresh refl;
+        (past_three r (drop 2 s) at.decided fresh (ih record {
+          decided = rw fresh refl;
           fresh = λ f t. absurd (true≢false f);
           one = λ f t. absurd (true≢false t);
           two = λ f t. absurd (true≢false t);
         }))
 
 pub lone-first : (s : List ℕ) → first_lone true 0 s ≡ least (λ i. lone_at [] i s) (length s)
-lone-first s = lone-least (length s) true [] s (omega arith) record { told = refl; fresh = λ f t. absurd (true≢false f); one = λ f t. absurd (true≢false (sym f)); two = λ f t. absurd (true≢false (sym f)) }
+lone-first s = lone-least (length s) true [] s (omega arith) record { decided = refl; fresh = λ f t. absurd (true≢false f); one = λ f t. absurd (true≢false (sym f)); two = λ f t. absurd (true≢false (sym f)) }

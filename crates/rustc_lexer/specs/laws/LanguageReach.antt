@@ -18,10 +18,10 @@ use Rattle.rustc_lexer.specs.means.Scan.{begins, next_is}
 use Rattle.rustc_lexer.specs.laws.LanguageLiterals.{HasDigit, number-digit}
 use Rattle.rustc_lexer.specs.laws.LanguageRuns.{either-way, word-no_mark}
 use Rattle.rustc_lexer.specs.laws.LanguageLifetimes.{end-stops}
-use Rattle.rustc_lexer.specs.laws.Ident.{marks_ident-told}
+use Rattle.rustc_lexer.specs.laws.Ident.{marks_ident-decided}
 use Rattle.rustc_lexer.specs.means.Ident.{marks_ident}
 use Rattle.rustc_lexer.specs.laws.NumberLongest.{number-looks, number_reach, number-alike}
-use Rattle.rustc_lexer.specs.laws.Reach.{begins-told, cut, told_same, next_is-told}
+use Rattle.rustc_lexer.specs.laws.Reach.{begins-decided, cut, decided_same, next_is-decided}
 
 -- ---- one character, and the end
 
@@ -30,7 +30,7 @@ ends s [] e none = refl
 ends s (c ∷ u) e none = absurd (let no : 1 ≡ 0 = ap length e ∙ ap (λ (x : List ℕ). length (take 1 x)) none in omega (arith, no))
 
 pub same : (p : ℕ → Bool) (s u : List ℕ) → take 1 u ≡ take 1 s → next_is p u ≡ next_is p s
-same p s u e = told_same 1 1 (next_is p) u s (next_is-told p) (omega arith) e
+same p s u e = decided_same 1 1 (next_is p) u s (next_is-decided p) (omega arith) e
 
 pub stops : (p : ℕ → Bool) (s u : List ℕ) → take 1 u ≡ take 1 s → NextIsNot p s → NextIsNot p u
 stops p s u e stop = same p s u e ∙ stop
@@ -79,7 +79,7 @@ double-alike {next} (lit.closed q) other e = lit.closed q
 double-alike {next} (lit.unclosed none q) other e = lit.unclosed (ends next other e none) q
 double-alike {next} (lit.unclosed_escape none q) other e = lit.unclosed_escape (ends next other e none) q
 
--- two quotes that begin a text of which the first character is told
+-- two quotes that begin a text of which the first character is decided
 lone-alike : (w s u : List ℕ) → take 1 u ≡ take 1 s → SingleTo (codes "'") w → begins (codes "''") (w ++ s) ≡ false → begins (codes "''") (w ++ u) ≡ false
 lone-alike w0 s u e q f = grind (arith, common_steps)
 
@@ -95,8 +95,8 @@ open-alike : {next : List ℕ} {t : Bool} {w : List ℕ} → IsSingleQuoted next
 open-alike {next} (lit.one out) other e = lit.one out
 open-alike {next} (lit.closed {w} q f) other e = lit.closed q (lone-alike w next other (cut 1 2 other next (omega arith) e) q f)
 open-alike {next} (lit.closed_line q) other e = lit.closed_line q
-open-alike {next} (lit.at_slash {w} q go f) other e = lit.at_slash q (goes _ next other (cut 1 2 other next (omega arith) e) go) (told_same 2 2 (begins (codes "/'")) (w ++ other) (w ++ next) (begins-told (codes "/'")) (omega arith) (past 2 w next other e) ∙ f)
-open-alike {next} (lit.at_newline {w} q go f) other e = lit.at_newline q (goes _ next other (cut 1 2 other next (omega arith) e) go) (told_same 2 2 (begins (codes "\n'")) other next (begins-told (codes "\n'")) (omega arith) e ∙ f)
+open-alike {next} (lit.at_slash {w} q go f) other e = lit.at_slash q (goes _ next other (cut 1 2 other next (omega arith) e) go) (decided_same 2 2 (begins (codes "/'")) (w ++ other) (w ++ next) (begins-decided (codes "/'")) (omega arith) (past 2 w next other e) ∙ f)
+open-alike {next} (lit.at_newline {w} q go f) other e = lit.at_newline q (goes _ next other (cut 1 2 other next (omega arith) e) go) (decided_same 2 2 (begins (codes "\n'")) other next (begins-decided (codes "\n'")) (omega arith) e ∙ f)
 open-alike {next} (lit.unclosed none q) other e = lit.unclosed (ends next other (cut 1 2 other next (omega arith) e) none) q
 open-alike {next} (lit.unclosed_escape none q) other e = lit.unclosed_escape (ends next other (cut 1 2 other next (omega arith) e) none) q
 
@@ -151,29 +151,29 @@ no-hash d c (x ∷ w) s all e =
     let none : (x == 35) ≡ false = (or_parts (x == 35) _ (word-no_mark x (and_parts (is_word_continue x) (list_all is_word_continue w) all).0)).0 in
     rw (none, and-false (c == d)) refl
 
--- a known prefix ends with its mark, and is told by that: letters, and then any character of a mark
-mark-told : (letters w : List ℕ) (m c : ℕ) (u v : List ℕ) → list_all is_word_continue letters ≡ true → ends_prefix c ≡ true → begins (letters ++ (m ∷ [])) (w ++ c ∷ v) ≡ begins (letters ++ (m ∷ [])) (w ++ c ∷ u)
-mark-told [] [] m c u v all mark = refl
-mark-told [] (x ∷ w) m c u v all mark = refl
-mark-told (l ∷ ls) [] m c u v all mark = by_letter (c == l) refl
+-- a known prefix ends with its mark, and is decided by that: letters, and then any character of a mark
+mark-decided : (letters w : List ℕ) (m c : ℕ) (u v : List ℕ) → list_all is_word_continue letters ≡ true → ends_prefix c ≡ true → begins (letters ++ (m ∷ [])) (w ++ c ∷ v) ≡ begins (letters ++ (m ∷ [])) (w ++ c ∷ u)
+mark-decided [] [] m c u v all mark = refl
+mark-decided [] (x ∷ w) m c u v all mark = refl
+mark-decided (l ∷ ls) [] m c u v all mark = by_letter (c == l) refl
   where
     by_letter : (b : Bool) → (c == l) ≡ b → (b && begins (ls ++ (m ∷ [])) v) ≡ (b && begins (ls ++ (m ∷ [])) u)
     by_letter true e = either-way (ends_prefix c) mark (ap ends_prefix (eqb-true c l e) ∙ word-no_mark l (and_parts (is_word_continue l) (list_all is_word_continue ls) all).0)
     by_letter false e = refl
-mark-told (l ∷ ls) (x ∷ w) m c u v all mark = ap (λ (b : Bool). (x == l) && b) (mark-told ls w m c u v (and_parts (is_word_continue l) (list_all is_word_continue ls) all).1 mark)
+mark-decided (l ∷ ls) (x ∷ w) m c u v all mark = ap (λ (b : Bool). (x == l) && b) (mark-decided ls w m c u v (and_parts (is_word_continue l) (list_all is_word_continue ls) all).1 mark)
 
-pub known-told : (w : List ℕ) (c : ℕ) (u v : List ℕ) → ends_prefix c ≡ true → list_any (λ prefix. begins prefix (w ++ c ∷ v)) known_prefixes ≡ list_any (λ prefix. begins prefix (w ++ c ∷ u)) known_prefixes
+pub known-decided : (w : List ℕ) (c : ℕ) (u v : List ℕ) → ends_prefix c ≡ true → list_any (λ prefix. begins prefix (w ++ c ∷ v)) known_prefixes ≡ list_any (λ prefix. begins prefix (w ++ c ∷ u)) known_prefixes
 unfolding unicode_ident
-known-told w c u v mark = rw (
-  mark-told (codes "r") w 34 c u v refl mark,
-  mark-told (codes "r") w 35 c u v refl mark,
-  mark-told (codes "b") w 39 c u v refl mark,
-  mark-told (codes "b") w 34 c u v refl mark,
-  mark-told (codes "br") w 34 c u v refl mark,
-  mark-told (codes "br") w 35 c u v refl mark,
-  mark-told (codes "c") w 34 c u v refl mark,
-  mark-told (codes "cr") w 34 c u v refl mark,
-  mark-told (codes "cr") w 35 c u v refl mark,
+known-decided w c u v mark = rw (
+  mark-decided (codes "r") w 34 c u v refl mark,
+  mark-decided (codes "r") w 35 c u v refl mark,
+  mark-decided (codes "b") w 39 c u v refl mark,
+  mark-decided (codes "b") w 34 c u v refl mark,
+  mark-decided (codes "br") w 34 c u v refl mark,
+  mark-decided (codes "br") w 35 c u v refl mark,
+  mark-decided (codes "c") w 34 c u v refl mark,
+  mark-decided (codes "cr") w 34 c u v refl mark,
+  mark-decided (codes "cr") w 35 c u v refl mark,
 ) refl
 
 -- by whether a prefix is the one that looks further
@@ -190,7 +190,7 @@ one-letter (c ∷ x ∷ w) d e = absurd (true≢false (sym (and_parts (c == d) f
 pub marked_word : (next other w : List ℕ) → bytes_eq w (codes "k") ≡ true → is_ident w ≡ true → NextIs ends_prefix other → take 2 other ≡ take 2 next → begins_prefixed (w ++ next) ≡ false → IsTokenBefore other UnknownPrefix w
 marked_word next other w is_k is go two free =
     let k : w ≡ 107 ∷ [] = one-letter w 107 is_k in
-    the.unknown_prefix is go (ap (λ (xs : List ℕ). begins_prefixed (xs ++ other)) k ∙ (told_same 2 2 marks_ident other next marks_ident-told (omega arith) two ∙ (ap (λ (xs : List ℕ). begins_prefixed (xs ++ next)) (sym k) ∙ free)))
+    the.unknown_prefix is go (ap (λ (xs : List ℕ). begins_prefixed (xs ++ other)) k ∙ (decided_same 2 2 marks_ident other next marks_ident-decided (omega arith) two ∙ (ap (λ (xs : List ℕ). begins_prefixed (xs ++ next)) (sym k) ∙ free)))
 
-pub mark-told_by : (w : List ℕ) → bytes_eq w (114 ∷ []) ≡ true → (next other : List ℕ) → take 2 other ≡ take 2 next → begins_ident_after (codes "r#") (w ++ next) ≡ false → begins_ident_after (codes "r#") (w ++ other) ≡ false
-mark-told_by w is_r next other two free = grind (arith, common_steps, one-letter, told_same, marks_ident-told)
+pub mark-decided_by : (w : List ℕ) → bytes_eq w (114 ∷ []) ≡ true → (next other : List ℕ) → take 2 other ≡ take 2 next → begins_ident_after (codes "r#") (w ++ next) ≡ false → begins_ident_after (codes "r#") (w ++ other) ≡ false
+mark-decided_by w is_r next other two free = grind (arith, common_steps, one-letter, decided_same, marks_ident-decided)

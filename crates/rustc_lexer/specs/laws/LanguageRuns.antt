@@ -12,7 +12,7 @@ use Rattle.rustc_lexer.specs.{TokenKind}
 use Rattle.rustc_lexer.specs.Classes.{is_among, is_whitespace, is_id_start, is_word_continue, is_word_start, AreAll, NextIs, NextIsNot, ends_prefix}
 use Rattle.rustc_lexer.specs.Tables.{is_emoji, emoji_ranges}
 use Rattle.rustc_lexer.specs.laws.Choice.{by_test}
-use Rattle.rustc_lexer.specs.laws.Reach.{IsToldBy, told_same, run_len-in, run_len-out}
+use Rattle.rustc_lexer.specs.laws.Reach.{IsDecidedBy, decided_same, run_len-in, run_len-out}
 use Rattle.rustc_lexer.specs.Language.{has_rule, IsTokenBefore}
 use Rattle.rustc_lexer.specs.means.Lexeme.{family_of, past_first, read_by, lexeme}
 use Rattle.rustc_lexer.specs.means.Scan.{after, next_is, begins, run_len}
@@ -169,9 +169,9 @@ read-first c scan s kind n m e f g = grind (arith, common_steps)
 pub sound-after : (c d : ℕ) (s : List ℕ) (scan : List ℕ → TokenKind × ℕ) → IsTokenBefore (drop (scan s).1 s) (scan s).0 (c ∷ d ∷ take (scan s).1 s) → Sound c (d ∷ s) (after 1 scan (d ∷ s))
 sound-after c d s scan is = grind (arith, common_steps)
 
--- what is told by the first characters is told by a front that has them
-pub told-front : {B : Type 0} (j : ℕ) (f : List ℕ → B) → IsToldBy j f → (w next : List ℕ) → j ≤ length w → f (w ++ next) ≡ f w
-told-front j f told w next le = told_same j (length w) f (w ++ next) w told le (take-append_seam w next ∙ sym (take_all (length w) w (omega arith)))
+-- what is decided by the first characters is decided by a front that has them
+pub decided-front : {B : Type 0} (j : ℕ) (f : List ℕ → B) → IsDecidedBy j f → (w next : List ℕ) → j ≤ length w → f (w ++ next) ≡ f w
+decided-front j f decided w next le = decided_same j (length w) f (w ++ next) w decided le (take-append_seam w next ∙ sym (take_all (length w) w (omega arith)))
 
 pub begins-next : (d : ℕ) (s : List ℕ) → begins (d ∷ []) s ≡ next_is (is_among (d ∷ [])) s
 begins-next d w1 = grind (arith, common_steps)

@@ -33,17 +33,17 @@ after-frontmatter : (edition : Edition) (text : List ℕ) → mode_after (docume
 unfolding frontmatter
 after-frontmatter edition text = refl
 
-opening-some : {next w : List ℕ} {n : ℕ} → IsOpeningBefore next n w → 1 ≤ length w
+opening-some : {next w : List ℕ} {n : ℕ} {bad_label : Bool} → IsOpeningBefore next n bad_label w → 1 ≤ length w
 opening-some (opening n space label spaces no_line many is stop) = omega (arith, length-append space (fence n ++ label), length-append (fence n) label, fence-length n)
 
 newline-same : (s : List ℕ) → next_is is_newline s ≡ next_is (is_among (codes "\n")) s
 newline-same w0 = grind (arith, common_steps)
 
 -- the frontmatter of a text that begins with an opening
-frontmatter-is : (text : List ℕ) (n : ℕ) (front rest : List ℕ) → IsText text → chars text ≡ front ++ rest → IsOpeningBefore rest n front
-    → frontmatter text ≡ record { kind = Frontmatter (next_is is_whitespace front) (not (next_is (is_among (codes "\n")) rest)); len = bytes front + closing_end n (encode_utf8_all rest) }
+frontmatter-is : (text : List ℕ) (n : ℕ) (bad_label : Bool) (front rest : List ℕ) → IsText text → chars text ≡ front ++ rest → IsOpeningBefore rest n bad_label front
+    → frontmatter text ≡ record { kind = Frontmatter (next_is is_whitespace front) bad_label; len = bytes front + closing_end n (encode_utf8_all rest) }
 unfolding frontmatter past_opening past
-frontmatter-is text n front rest is e is_opening =
+frontmatter-is text n bad_label front rest is e is_opening =
     let r = opening-read is_opening in
     let parts = split text front rest is e in
     let len : opening_len (chars text) ≡ length front = ap opening_len e ∙ r.len in
@@ -51,12 +51,12 @@ frontmatter-is text n front rest is e is_opening =
     let size : bytes_of (opening_len (chars text)) (chars text) ≡ bytes front = ap (λ (k : ℕ). bytes_of k (chars text)) len ∙ ap bytes (ap (take (length front)) e ∙ take-append_seam front rest) in
     let count : fence_len (chars text) ≡ n = ap fence_len e ∙ r.dashes in
     let space : next_is is_whitespace (chars text) ≡ next_is is_whitespace front = ap (next_is is_whitespace) e ∙ r.space in
-    let line : next_is is_newline (chars (past_opening text)) ≡ next_is (is_among (codes "\n")) rest = ap (next_is is_newline) (ap chars past_is ∙ parts.again) ∙ newline-same rest in
+    let line : not (next_is is_newline (chars (past_opening text))) ≡ bad_label = ap not (ap (next_is is_newline) (ap chars past_is ∙ parts.again) ∙ newline-same rest) ∙ r.line in
     let closes : closing_end (fence_len (chars text)) (past_opening text) ≡ closing_end n (encode_utf8_all rest) = ap (λ (k : ℕ). closing_end k (past_opening text)) count ∙ ap (closing_end n) past_is in
     ap (λ (b : Bool). let t : Token = record { kind = Frontmatter b (not (next_is is_newline (chars (past_opening text)))); len = bytes_of (opening_len (chars text)) (chars text) + closing_end (fence_len (chars text)) (past_opening text) } in t) space
-    ∙ (ap (λ (b : Bool). let t : Token = record { kind = Frontmatter (next_is is_whitespace front) (not b); len = bytes_of (opening_len (chars text)) (chars text) + closing_end (fence_len (chars text)) (past_opening text) } in t) line
-    ∙ (ap (λ (k : ℕ). let t : Token = record { kind = Frontmatter (next_is is_whitespace front) (not (next_is (is_among (codes "\n")) rest)); len = k + closing_end (fence_len (chars text)) (past_opening text) } in t) size
-    ∙ ap (λ (k : ℕ). let t : Token = record { kind = Frontmatter (next_is is_whitespace front) (not (next_is (is_among (codes "\n")) rest)); len = bytes front + k } in t) closes))
+    ∙ (ap (λ (b : Bool). let t : Token = record { kind = Frontmatter (next_is is_whitespace front) b; len = bytes_of (opening_len (chars text)) (chars text) + closing_end (fence_len (chars text)) (past_opening text) } in t) line
+    ∙ (ap (λ (k : ℕ). let t : Token = record { kind = Frontmatter (next_is is_whitespace front) bad_label; len = k + closing_end (fence_len (chars text)) (past_opening text) } in t) size
+    ∙ ap (λ (k : ℕ). let t : Token = record { kind = Frontmatter (next_is is_whitespace front) bad_label; len = bytes front + k } in t) closes))
 
 -- one token more
 step : (mode : Mode) (text w next : List ℕ) (token : Token) (tokens : List Token) → IsText text → 0 < length w → chars text ≡ w ++ next → token_at mode text ≡ token → token.len ≡ bytes w
@@ -75,12 +75,12 @@ tokens-read (nothing {mode}) text is e = ap (λ u. read_tokens mode u) (empty-te
 tokens-read (something {mode} {kind} {c} {w} {next} {tokens} p free rest) text is e =
     step mode text (c ∷ w) next (token kind (bytes (c ∷ w))) tokens is (omega arith) e (at-first mode text (λ y. ap opens e ∙ none-opens (c ∷ w ++ next) (free y)) ∙ token-read-in p text e) refl
     (λ u text_u f. tokens-read rest u text_u f)
-tokens-read (frontmatter_first {edition} {n} {opening = front} {next} {tokens} body is_opening is_end rest) text is e =
+tokens-read (frontmatter_first {edition} {n} {bad_label} {opening = front} {next} {tokens} body is_opening is_end rest) text is e =
     let len : bytes body ≡ closing_end n (encode_utf8_all (body ++ next)) = sym (body-read n is_end) in
     let r = opening-read is_opening in
-    let token : Token = record { kind = Frontmatter (next_is is_whitespace front) (not (next_is (is_among (codes "\n")) (body ++ next))); len = bytes front + bytes body } in
+    let token : Token = record { kind = Frontmatter (next_is is_whitespace front) bad_label; len = bytes front + bytes body } in
     let whole : chars text ≡ (front ++ body) ++ next = e ∙ sym (append_assoc front body next) in
-    let same : frontmatter text ≡ token = frontmatter-is text n front (body ++ next) is e is_opening ∙ ap (λ (k : ℕ). let t : Token = record { kind = Frontmatter (next_is is_whitespace front) (not (next_is (is_among (codes "\n")) (body ++ next))); len = bytes front + k } in t) (sym len) in
+    let same : frontmatter text ≡ token = frontmatter-is text n bad_label front (body ++ next) is e is_opening ∙ ap (λ (k : ℕ). let t : Token = record { kind = Frontmatter (next_is is_whitespace front) bad_label; len = bytes front + k } in t) (sym len) in
     step (document edition) text (front ++ body) next token tokens is (omega (arith, opening-some is_opening, length-append front body)) whole (at-frontmatter edition text (ap opens e ∙ r.opens_here) ∙ same) (sym (bytes-append front body))
     (λ u text_u f. tokens-read rest u text_u f)
 
@@ -115,11 +115,12 @@ frontmatter-first edition text is some opened_here rest_are = put (opened (chars
         let b = body-at _ o.rest (endings-patterns n) in
         let body : List ℕ = b.body in
         let next : List ℕ = b.next in
-        let is_opening : IsOpeningBefore (body ++ next) n o.front = subst (λ (u : List ℕ). IsOpeningBefore u n o.front) (sym b.whole) o.is in
+        let bad_label : Bool = not (next_is (is_among (codes "\n")) o.rest) in
+        let is_opening : IsOpeningBefore (body ++ next) n bad_label o.front = subst (λ (u : List ℕ). IsOpeningBefore u n bad_label o.front) (sym b.whole) o.is in
         let whole : o.front ++ (body ++ next) ≡ chars text = ap (λ (u : List ℕ). o.front ++ u) b.whole ∙ o.whole in
         let parts = split text (o.front ++ body) next is (sym (append_assoc o.front body next ∙ whole)) in
-        let same : frontmatter text ≡ record { kind = Frontmatter (next_is is_whitespace o.front) (not (next_is (is_among (codes "\n")) (body ++ next))); len = bytes o.front + bytes body } =
-        frontmatter-is text n o.front (body ++ next) is (sym whole) is_opening ∙ ap (λ (k : ℕ). let t : Token = record { kind = Frontmatter (next_is is_whitespace o.front) (not (next_is (is_among (codes "\n")) (body ++ next))); len = bytes o.front + k } in t) (body-read n b.is) in
+        let same : frontmatter text ≡ record { kind = Frontmatter (next_is is_whitespace o.front) bad_label; len = bytes o.front + bytes body } =
+        frontmatter-is text n bad_label o.front (body ++ next) is (sym whole) is_opening ∙ ap (λ (k : ℕ). let t : Token = record { kind = Frontmatter (next_is is_whitespace o.front) bad_label; len = bytes o.front + k } in t) (body-read n b.is) in
         let cut : drop (frontmatter text).len text ≡ encode_utf8_all next = ap (λ (t : Token). drop t.len text) same ∙ (ap (λ (k : ℕ). drop k text) (sym (bytes-append o.front body)) ∙ parts.left) in
         let rest_is : AreTokens (part edition) next tokens = subst (λ (cs : List ℕ). AreTokens (part edition) cs tokens) (ap chars cut ∙ parts.again) (subst (λ (mode : Mode). AreTokens mode (chars (drop (frontmatter text).len text)) tokens) (after-frontmatter edition text) rest_are) in
         subst (λ (cs : List ℕ). AreTokens (document edition) cs (frontmatter text ∷ tokens)) whole

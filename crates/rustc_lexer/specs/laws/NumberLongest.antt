@@ -10,7 +10,7 @@ use Rattle.unicode_ident.proofs.Computing.{unicode_ident}
 use Rattle.rustc_lexer.specs.{Base, LiteralKind, Binary, Octal, Decimal, Hexadecimal, Int, Float}
 use Rattle.rustc_lexer.specs.laws.Choice.{by_test}
 use Rattle.std.proofs.Math.Seq.{take-append_seam}
-use Rattle.rustc_lexer.specs.laws.Reach.{begins-length, next_is-length, cut, cut_past, told_same, next_is-told, run_len_le}
+use Rattle.rustc_lexer.specs.laws.Reach.{begins-length, next_is-length, cut, cut_past, decided_same, next_is-decided, run_len_le}
 use Rattle.rustc_lexer.specs.laws.NumberGrammar.{number-form}
 use Rattle.rustc_lexer.specs.laws.Within.{Within, within-suc, within-one, within-any, then-within, run-within}
 use Rattle.rustc_lexer.specs.means.Number.{or_underscore, digits, IntegerPart, part_of, prefixed, binary, octal, hexadecimal, decimal, part_past_zero, integer_part, float, is_exponent_letter, is_sign, past_sign, float_exponent, optional_exponent, fraction_digits, fraction, is_no_fraction, begins_fraction, past_digits, tail, number_kind}
@@ -377,7 +377,7 @@ whole-looks {next} {kind} base first v digit is whole =
 -- a number stays one before a text that begins alike
 pub number-alike : {next : List ℕ} {kind : LiteralKind} (first : ℕ) (v : List ℕ) → is_ascii_digit first ≡ true → IsNumberBefore next kind (first ∷ v) → (other : List ℕ) → take (number_reach kind) other ≡ take (number_reach kind) next → IsNumberBefore other kind (first ∷ v)
 number-alike {next} {kind} first v digit is other alike = record {
-  form = form-alike is.form other (λ base whole part e. told_same 1 (number_reach kind) (next_is is_no_fraction) other next (next_is-told is_no_fraction) (number-looks kind) alike);
+  form = form-alike is.form other (λ base whole part e. decided_same 1 (number_reach kind) (next_is is_no_fraction) other next (next_is-decided is_no_fraction) (number-looks kind) alike);
   longest = λ k x rest text form. elim (cases_lt (length w) (length x)) [ inl lt ↦ absurd (longer k x rest text form lt) | inr le ↦ le ];
 }
   where
@@ -393,7 +393,7 @@ number-alike {next} {kind} first v digit is other alike = record {
         let size : length whole ≡ length w = omega (arith, ap length e, length-append w (c ∷ []), length-append whole (46 ∷ [])) in
         let same : whole ≡ w = sym (take-append_seam whole (46 ∷ [])) ∙ (ap (take (length whole)) (sym e) ∙ (ap (λ (n : ℕ). take n (w ++ (c ∷ []))) size ∙ take-append_seam w (c ∷ []))) in
         let far : 2 ≤ number_reach kind = whole-looks base first v digit is (subst (IsWholePart base false) same part) in
-        told_same 1 1 (next_is is_no_fraction) (drop 1 next) (drop 1 other) (next_is-told is_no_fraction) (omega arith) (sym (cut_past 1 1 (number_reach kind) other next far alike))
+        decided_same 1 1 (next_is is_no_fraction) (drop 1 next) (drop 1 other) (next_is-decided is_no_fraction) (omega arith) (sym (cut_past 1 1 (number_reach kind) other next far alike))
 
     longer : (k : LiteralKind) (x rest : List ℕ) → x ++ rest ≡ w ++ other → HasNumberForm rest k x → length w < length x → ⊥
     longer k x rest text form lt =

@@ -1,4 +1,4 @@
--- What is told by the first characters of a text; runs, and the least offset at which a test passes.
+-- What is decided by the first characters of a text; runs, and the least offset at which a test passes.
 use Rattle.std.proofs.Common.{◌≡◌, ℕ, zero, suc, ◌+◌, ◌≤◌, ◌<◌, ◌==◌, ◌&&◌, Bool, true, false, true≢false, if◌then◌else◌, List, [], ◌∷◌, length, take, drop, refl, sym, ap, ◌∙◌, subst, arith, take-take, Option, Some, None}
 use Rattle.std.proofs.lemmas.List.{drop-take}
 use Rattle.std.specs.List.{list_all}
@@ -16,25 +16,25 @@ cut j k u s le e = sym (take-take j k u le) ∙ (ap (take j) e ∙ take-take j k
 pub cut_past : (n j k : ℕ) (u s : List ℕ) → n + j ≤ k → take k u ≡ take k s → take j (drop n u) ≡ take j (drop n s)
 cut_past n j k u s le e = sym (drop-take n j u) ∙ (ap (drop n) (cut (n + j) k u s le e) ∙ drop-take n j s)
 
--- what is told by the first characters of a text
-abbrev pub IsToldBy : {B : Type 0} → ℕ → (List ℕ → B) → Type 0
-IsToldBy k f = (s : List ℕ) → f (take k s) ≡ f s
+-- what is decided by the first characters of a text
+abbrev pub IsDecidedBy : {B : Type 0} → ℕ → (List ℕ → B) → Type 0
+IsDecidedBy k f = (s : List ℕ) → f (take k s) ≡ f s
 
-pub told_same : {B : Type 0} (j k : ℕ) (f : List ℕ → B) (u s : List ℕ) → IsToldBy j f → j ≤ k → take k u ≡ take k s → f u ≡ f s
-told_same j k f u s told le e = sym (told u) ∙ (ap f (cut j k u s le e) ∙ told s)
+pub decided_same : {B : Type 0} (j k : ℕ) (f : List ℕ → B) (u s : List ℕ) → IsDecidedBy j f → j ≤ k → take k u ≡ take k s → f u ≡ f s
+decided_same j k f u s decided le e = sym (decided u) ∙ (ap f (cut j k u s le e) ∙ decided s)
 
-pub next_is-told : (p : ℕ → Bool) → IsToldBy 1 (next_is p)
-next_is-told p [] = refl
-next_is-told p (c ∷ s) = refl
+pub next_is-decided : (p : ℕ → Bool) → IsDecidedBy 1 (next_is p)
+next_is-decided p [] = refl
+next_is-decided p (c ∷ s) = refl
 
 pub next_is-length : (p : ℕ → Bool) (s : List ℕ) → next_is p s ≡ true → 1 ≤ length s
 next_is-length p [] e = absurd (true≢false (sym e))
 next_is-length p (c ∷ s) e = omega arith
 
-pub begins-told : (p : List ℕ) → IsToldBy (length p) (begins p)
-begins-told [] s = refl
-begins-told (c ∷ cs) [] = refl
-begins-told (c ∷ cs) (d ∷ s) = ap (λ b. d == c && b) (begins-told cs s)
+pub begins-decided : (p : List ℕ) → IsDecidedBy (length p) (begins p)
+begins-decided [] s = refl
+begins-decided (c ∷ cs) [] = refl
+begins-decided (c ∷ cs) (d ∷ s) = ap (λ b. d == c && b) (begins-decided cs s)
 
 pub begins-length : (p s : List ℕ) → begins p s ≡ true → length p ≤ length s
 begins-length [] s e = omega arith

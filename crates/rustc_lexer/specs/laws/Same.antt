@@ -83,8 +83,8 @@ pub token_same : (a b : Token) → a ≡ b → is_same a b ≡ true
 token_same a b e = ap (is_same a) (sym e) ∙ token_equal.laws-law.refl a
 
 -- of an answer of `==`
-pub told_same : (answer : Bool) (a b : Token) → answer ≡ is_same a b → IsTrue answer ↔ (a ≡ b)
-told_same answer a b told = (λ t. same_token a b (sym told ∙ t), λ e. told ∙ token_same a b e)
+pub decided_same : (answer : Bool) (a b : Token) → answer ≡ is_same a b → IsTrue answer ↔ (a ≡ b)
+decided_same answer a b decided = (λ t. same_token a b (sym decided ∙ t), λ e. decided ∙ token_same a b e)
 
 -- ---- heads
 
@@ -95,6 +95,6 @@ heads_by E tells a b e =
     let r = and_parts (E a.frontmatter b.frontmatter) (a.body == b.body) q.1 in
     λ i. record { shebang_len = eqb-true a.shebang_len b.shebang_len p.0 i; space_len = eqb-true a.space_len b.space_len q.0 i; frontmatter = tells a.frontmatter b.frontmatter r.0 i; body = eqb-true a.body b.body r.1 i }
 
-pub told_head : (answer : Bool) (a b : Head) → answer ≡ head.ghosts.eq a b → IsTrue answer ↔ (a ≡ b)
-told_head answer a b told =
-    (λ t. heads_by (option_eq is_same) (option-tells is_same (record { tells = same_token })) a b (sym told ∙ t), λ e. told ∙ (ap (head.ghosts.eq a) (sym e) ∙ equal.laws-law.refl a))
+pub decided_head : (answer : Bool) (a b : Head) → answer ≡ head.ghosts.eq a b → IsTrue answer ↔ (a ≡ b)
+decided_head answer a b decided =
+    (λ t. heads_by (option_eq is_same) (option-tells is_same (record { tells = same_token })) a b (sym decided ∙ t), λ e. decided ∙ (ap (head.ghosts.eq a) (sym e) ∙ equal.laws-law.refl a))

@@ -56,7 +56,7 @@ pub record StaysWithin (kind : TokenKind) (next : ℕ) : Type 0 where
   pub space : kind ≡ Whitespace → is_space_lead next ≡ false
 
 -- the next token is of this kind if the lowest bit that is set determines it
-pub record IsTold (text : List ℕ) (at block ends : ℕ) (kind : TokenKind) : Type 0 where
+pub record IsClassified (text : List ℕ) (at block ends : ℕ) (kind : TokenKind) : Type 0 where
   pub tells : classified (slice_index text at) ≡ Some kind
   pub ahead : AreEndsPast (drop block text) (at - block) ends
 
@@ -67,18 +67,18 @@ pub record TellsAhead (text : List ℕ) (ahead : Ahead) : Type 0 where
   pub behind : ahead.block ≤ ahead.at
   pub small : ahead.ends < 2 ^ 64
   pub past : TellEndsPast (drop ahead.block text) (ahead.at - ahead.block) ahead.ends
-  pub next : (kind : TokenKind) → ahead.told ≡ Some kind → IsTold text ahead.at ahead.block ahead.ends kind
+  pub next : (kind : TokenKind) → ahead.classified ≡ Some kind → IsClassified text ahead.at ahead.block ahead.ends kind
 
 -- no token is determined at the offset
-pub record IsUntold (text : List ℕ) (old new : Ahead) : Type 0 where
+pub record IsUnclassified (text : List ℕ) (old new : Ahead) : Type 0 where
   pub at : new.at ≡ old.at
-  pub told : new.told ≡ None
+  pub classified : new.classified ≡ None
   pub tells : TellsAhead text new
 
 -- the token that is determined at the offset is in each edition the first of the text that is left, and the offset moves to its end
-pub record TakesTold (text : List ℕ) (old new : Ahead) (token : Token) : Type 0 where
+pub record TakesClassified (text : List ℕ) (old new : Ahead) (token : Token) : Type 0 where
   pub utf8 : IsUtf8 text
-  pub told : old.told ≡ Some token.kind
+  pub classified : old.classified ≡ Some token.kind
   pub some : old.at < length text
   pub first : (edition : Edition) → token ≡ first_token_in edition (drop old.at text)
   pub offset : new.at ≡ old.at + token.len
@@ -87,4 +87,4 @@ pub record TakesTold (text : List ℕ) (old new : Ahead) (token : Token) : Type 
 -- tokens are determined in advance only in a part
 pub record KnowsAhead (allowed : FrontmatterAllowed) (text : List ℕ) (ahead : Ahead) : Type 0 where
   pub tells : TellsAhead text ahead
-  pub part : (kind : TokenKind) → ahead.told ≡ Some kind → allowed ≡ No
+  pub part : (kind : TokenKind) → ahead.classified ≡ Some kind → allowed ≡ No

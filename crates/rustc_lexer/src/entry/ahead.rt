@@ -1,6 +1,6 @@
 //! The place of the iterator in its text, and the tokens past it that the ends of runs tell, 64 bytes at a time.
 ghost use Rattle.std.specs.Prelude.{◌≡◌, ◌+◌, ◌≤◌, ◌-◌, drop, length, MatchOption};
-ghost use Rattle.rustc_lexer.specs.means.Ends.{AreEndsPast, IsUntold, TakesTold, TellsAhead};
+ghost use Rattle.rustc_lexer.specs.means.Ends.{AreEndsPast, IsUnclassified, TakesClassified, TellsAhead};
 
 use crate::kernels::ends_of_runs;
 use crate::lexemes::classified::{ends_after, may_continue, past_lowest};
@@ -20,7 +20,7 @@ pub(crate) struct Ahead {
     /// The ends of runs from `block` on, as bits, or 0. Those up to `at` mean nothing.
     pub(crate) ends: u64,
     /// The kind of the next token, if its first byte and `ends` may determine all of it. Then no bit up to `at` is set.
-    pub(crate) told: Option<TokenKind>,
+    pub(crate) classified: Option<TokenKind>,
 }
 
 impl Ahead {
@@ -28,10 +28,10 @@ impl Ahead {
     #[inline(always)]
     pub(crate) fn take(&mut self, text: &str) -> Option<Token>
         requires { TellsAhead text.now self.old }
-        ensures { MatchOption result (IsUntold text.now self.old self.new)
-            (TakesTold text.now self.old self.new) }
+        ensures { MatchOption result (IsUnclassified text.now self.old self.new)
+            (TakesClassified text.now self.old self.new) }
     {
-        let kind = self.told?;
+        let kind = self.classified?;
         let (block, ends) = ends_ahead(text, self.at, self.block, self.ends);
         self.block = block;
         self.ends = ends;
@@ -39,16 +39,16 @@ impl Ahead {
             let end = block + ends.trailing_zeros() as usize;
             let next = text.as_bytes()[end];
             // A byte that determines its own token never changes the token before it.
-            let told = classified_by(next);
-            if told.is_some() || !may_continue(kind, next) {
+            let classified = classified_by(next);
+            if classified.is_some() || !may_continue(kind, next) {
                 let len = (end - self.at) as u32;
                 self.at = end;
                 self.ends = past_lowest(ends);
-                self.told = told;
+                self.classified = classified;
                 return Some(Token { kind, len });
             }
         }
-        self.told = None;
+        self.classified = None;
         None
     }
 
@@ -63,10 +63,10 @@ impl Ahead {
         if text.len() - self.at < SEARCHED {
             return;
         }
-        let told = classified_by(text.as_bytes()[self.at]);
-        if told.is_some() {
+        let classified = classified_by(text.as_bytes()[self.at]);
+        if classified.is_some() {
             self.ends = ends_after(self.ends, self.at - self.block);
-            self.told = told;
+            self.classified = classified;
         }
     }
 }
@@ -74,7 +74,7 @@ impl Ahead {
 /// Returns the ends of runs after an offset, and the offset of the first byte that they cover: the ends that are known,
 /// or else those of the next 64 bytes.
 #[inline(always)]
-#[tactic(auto, using(crate::proofs::ToldLemmas::found_at, crate::proofs::ToldLemmas::left_is, std::proofs::lemmas::Grind::common_steps))]
+#[tactic(auto, using(crate::proofs::ClassifiedLemmas::found_at, crate::proofs::ClassifiedLemmas::left_is, std::proofs::lemmas::Grind::common_steps))]
 fn ends_ahead(text: &str, at: usize, block: usize, ends: u64) -> (usize, u64)
     requires inside { at ≤ length text.now }
     requires behind { block ≤ at }

@@ -37,7 +37,7 @@ pub(crate) fn body_change(kept: bool, from: usize, to: usize, edit: Change) -> C
 
 /// Returns whether the head stays: whether the edit, which begins at `start`, comes after the head and does not change
 /// it.
-#[tactic(auto, using(crate::specs::laws::Same::told_head, std::proofs::lemmas::Grind::common_steps))]
+#[tactic(auto, using(crate::specs::laws::Same::decided_head, std::proofs::lemmas::Grind::common_steps))]
 pub(crate) fn keeps_head(old: Head, now: Head, start: usize) -> bool
     ensures { IsTrue result ↔ (old ≡ now) × (old.body ≤ start) }
 {

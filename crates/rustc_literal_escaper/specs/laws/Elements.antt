@@ -51,13 +51,13 @@ module _ (raw : Bool) (total : ℕ) where
   enough (suc m) (suc n) (c ∷ s) a b = grind (arith, common_steps, left-shorter, enough m n)
   enough m n (c ∷ s) a b = absurd (omega arith)
 
-  pub items-cons : (c : ℕ) (s : List ℕ) → items_from at total (c ∷ s) ≡ map (item_at total (place total (c ∷ s))) (at c s).told ++ items_from at total (at c s).left
+  pub items-cons : (c : ℕ) (s : List ℕ) → items_from at total (c ∷ s) ≡ map (item_at total (place total (c ∷ s))) (at c s).found ++ items_from at total (at c s).left
   unfolding items_from
   items-cons c s = grind (arith, common_steps, left-shorter, enough)
 
   -- one element
   pub items-one : (c : ℕ) (s left : List ℕ) (e : Element) → at c s ≡ one (e, left) → items_from at total (c ∷ s) ≡ item_at total (place total (c ∷ s)) (e, left) ∷ items_from at total left
-  items-one c s left e is = items-cons c s ∙ ap (λ (f : Front). map (item_at total (place total (c ∷ s))) f.told ++ items_from at total f.left) is
+  items-one c s left e is = items-cons c s ∙ ap (λ (f : Front). map (item_at total (place total (c ∷ s))) f.found ++ items_from at total f.left) is
 
 -- no items are in nothing
 pub nothing : (at : ℕ → List ℕ → Front) (total : ℕ) → items_from at total [] ≡ []
@@ -120,16 +120,16 @@ unfolding raw_front
 raw-reads is next = grind (arith, common_steps, nat_tests)
 
 -- the warnings past a line end
-lines-told : (total from : ℕ) (space next : List ℕ) → from + bytes (92 ∷ 10 ∷ space ++ next) ≡ total → map (item_at total (place total (92 ∷ 10 ∷ space ++ next))) (more_lines space next) ≡ lines_warning from space
-lines-told total from space next ends = grind (arith, common_steps, item-at total from (92 ∷ 10 ∷ space) next (Fault MultipleSkippedLinesWarning) ends)
+lines-found : (total from : ℕ) (space next : List ℕ) → from + bytes (92 ∷ 10 ∷ space ++ next) ≡ total → map (item_at total (place total (92 ∷ 10 ∷ space ++ next))) (more_lines space next) ≡ lines_warning from space
+lines-found total from space next ends = grind (arith, common_steps, item-at total from (92 ∷ 10 ∷ space) next (Fault MultipleSkippedLinesWarning) ends)
 
-space-told : (total from : ℕ) (space next : List ℕ) → from + bytes (92 ∷ 10 ∷ space ++ next) ≡ total → map (item_at total (place total (92 ∷ 10 ∷ space ++ next))) (more_space next) ≡ space_warning from space next
-space-told total from space [] ends = refl
-space-told total from space (c ∷ next) ends =
+space-found : (total from : ℕ) (space next : List ℕ) → from + bytes (92 ∷ 10 ∷ space ++ next) ≡ total → map (item_at total (place total (92 ∷ 10 ∷ space ++ next))) (more_space next) ≡ space_warning from space next
+space-found total from space [] ends = refl
+space-found total from space (c ∷ next) ends =
     let text : (space ++ c ∷ []) ++ next ≡ space ++ c ∷ next = append_assoc space (c ∷ []) next in
     grind (arith, common_steps, item-at total from (92 ∷ 10 ∷ (space ++ c ∷ [])) next (Fault UnskippedWhitespaceWarning) (rw text ends))
 
-line-read : (space next : List ℕ) → list_all is_passed_over space ≡ true → next_is is_passed_over next ≡ false → front 92 (10 ∷ space ++ next) ≡ record { told = more_lines space next ++ more_space next; left = next }
+line-read : (space next : List ℕ) → list_all is_passed_over space ≡ true → next_is is_passed_over next ≡ false → front 92 (10 ∷ space ++ next) ≡ record { found = more_lines space next ++ more_space next; left = next }
 unfolding front
 line-read space next all stops = let run = run-is is_passed_over space next all stops in grind (arith, common_steps)
 
@@ -144,7 +144,7 @@ items-read (g.element {from} {next} {element = e} {w} {items} is other are) tota
     grind (arith, common_steps, r.whole, items-one false total r.first (r.others ++ next) next e (element-front r other), item-at total from w next e ends, items-read are total (past-ends total from w next ends))
 items-read (g.line_end {from} {next} {items} space all stops are) total ends =
     items-cons false total 92 (10 ∷ space ++ next)
-    ∙ rw (line-read space next all stops, map-append (item_at total (place total (92 ∷ 10 ∷ space ++ next))) (more_lines space next) (more_space next), lines-told total from space next ends, space-told total from space next ends, items-read are total (past-ends total from (92 ∷ 10 ∷ space) next ends)) refl
+    ∙ rw (line-read space next all stops, map-append (item_at total (place total (92 ∷ 10 ∷ space ++ next))) (more_lines space next) (more_space next), lines-found total from space next ends, space-found total from space next ends, items-read are total (past-ends total from (92 ∷ 10 ∷ space) next ends)) refl
 items-read (g.raw_element {from} {c} {next} {element = e} {items} is are) total ends =
     grind (arith, common_steps, items-one true total c next next e (raw-reads is next), item-at total from (c ∷ []) next e ends, items-read are total (past-ends total from (c ∷ []) next ends))
 

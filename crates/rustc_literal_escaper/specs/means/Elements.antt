@@ -7,19 +7,19 @@ use Rattle.std.specs.Str.{byte, encode_utf8_all}
 use Rattle.rustc_literal_escaper.specs.declared.element.Element.{Element}
 use Rattle.rustc_literal_escaper.specs.declared.element.Element.TheVariants.{Plain, Fault}
 use Rattle.rustc_literal_escaper.specs.declared.error.EscapeError.TheVariants.{EscapeOnlyChar, BareCarriageReturn, BareCarriageReturnInRawString, UnskippedWhitespaceWarning, MultipleSkippedLinesWarning}
-use Rattle.rustc_literal_escaper.specs.declared.steps.Told.{Told}
+use Rattle.rustc_literal_escaper.specs.declared.steps.Found.{Found}
 use Rattle.rustc_literal_escaper.specs.Grammar.{Item, is_newline, is_passed_over}
 use Rattle.rustc_literal_escaper.specs.means.Escape.{escape, front_run, past_run}
 
 -- one step of reading a text: the elements that it reports, each with the text that is left after the characters of
 -- that element, and the text that is left after the step
 pub record Front : Type 0 where
-  pub told : List (Element × List ℕ)
+  pub found : List (Element × List ℕ)
   pub left : List ℕ
 
 -- a step that reports one element
 abbrev pub one : Element × List ℕ → Front
-one read = record { told = read ∷ []; left = read.1 }
+one read = record { found = read ∷ []; left = read.1 }
 
 abbrev pub begins_line : List ℕ → Bool
 begins_line [] = false
@@ -37,7 +37,7 @@ more_space (c ∷ s) = if is_whitespace c then (Fault UnskippedWhitespaceWarning
 -- the step after a backslash and a newline
 abbrev pub line_end : List ℕ → Front
 line_end s = record {
-  told = more_lines (front_run is_passed_over s) (past_run is_passed_over s) ++ more_space (past_run is_passed_over s);
+  found = more_lines (front_run is_passed_over s) (past_run is_passed_over s) ++ more_space (past_run is_passed_over s);
   left = past_run is_passed_over s;
 }
 
@@ -78,18 +78,18 @@ abbrev pub place : ℕ → List ℕ → ℕ
 place total left = total - length (encode_utf8_all left)
 
 abbrev pub item_at : ℕ → ℕ → Element × List ℕ → Item
-item_at total start told = (record { start = start; end = place total told.1 }, told.0)
+item_at total start found = (record { start = start; end = place total found.1 }, found.0)
 
 -- the items of the rest of a text of `total` bytes, in at most `count` steps
 abbrev pub items_in : (ℕ → List ℕ → Front) → ℕ → ℕ → List ℕ → List Item
 items_in at zero total s = []
 items_in at (suc count) total [] = []
-items_in at (suc count) total (c ∷ s) = map (item_at total (place total (c ∷ s))) (at c s).told ++ items_in at count total (at c s).left
+items_in at (suc count) total (c ∷ s) = map (item_at total (place total (c ∷ s))) (at c s).found ++ items_in at count total (at c s).left
 
 -- all items: a text has at most as many steps as characters, since each step takes at least one
 unfoldable pub items_from : (ℕ → List ℕ → Front) → ℕ → List ℕ → List Item
 items_from at total s = items_in at (length s) total s
 
 -- the items that a step of the code reports, in order
-abbrev pub told_by : Told → List Item
-told_by told = option_to_list told.first ++ option_to_list told.second
+abbrev pub found_by : Found → List Item
+found_by found = option_to_list found.first ++ option_to_list found.second

@@ -1,5 +1,5 @@
-use Rattle.rustc_lexer.specs.laws.Same.{told_same}
+use Rattle.rustc_lexer.specs.laws.Same.{decided_same}
 use Rattle.examples.proofs.same.is_same.Goals as goal
 
 pub returns : goal.returns
-returns c = told_same _ _ _ c.eq.ensures
+returns c = decided_same _ _ _ c.eq.ensures

@@ -24,7 +24,7 @@ items-preserved-in-Some-byte_at g c = (
   (let a = c.in-Some-byte_at.ensures.2 in let b = c.in-Some.ensures.1 in let d = c.past_simple_front-front.ensures.shorter in let m = c.items.invariant.2 in omega arith),
   λ last calls. c.items.invariant.3 last (rw (← c.past_simple_front-front.ensures.same c.args.mode c.args.total)
       (folds-errors (λ f error h. goal.F-step g f error.0 error.1 tt h) c.args.mode c.items.callback c.check_element-in-Some-byte_at.new.callback last _ (_ ∷ []) _
-      (first-one false c.args.total c.past_simple_front-front.result.now c.in-Some-byte_at.behind.now _ _ (Byte c.in-Some-byte_at.byte) c.past_simple_front-front.ensures.text c.in-Some-byte_at.ensures.1 c.in-Some.ensures.0 c.in-Some-byte_at.ensures.0)
+      (first-one false c.args.total c.past_simple_front-front.result.now c.in-Some-byte_at.after.now _ _ (Byte c.in-Some-byte_at.byte) c.past_simple_front-front.ensures.text c.in-Some-byte_at.ensures.1 c.in-Some.ensures.0 c.in-Some-byte_at.ensures.0)
       c.check_element-in-Some-byte_at.ensures.calls calls)),
 )
 
@@ -36,7 +36,7 @@ items-preserved-in-Some-line_at g c = (
   λ last calls. c.items.invariant.3 last (rw (← c.past_simple_front-front.ensures.same c.args.mode c.args.total)
       (folds-errors (λ f error h. goal.F-step g f error.0 error.1 tt h) c.args.mode c.items.callback c.check_warnings-left.new.callback last _ _ _
       (items-step false c.args.total c.past_simple_front-front.result.now _ _ _ _ c.past_simple_front-front.ensures.text c.in-Some.ensures.0
-      (ap (λ (f : Front). map (item_at c.args.total (c.args.total - length c.past_simple_front-front.result.now)) f.told) (sym c.in-Some-line_at.ensures.0))
+      (ap (λ (f : Front). map (item_at c.args.total (c.args.total - length c.past_simple_front-front.result.now)) f.found) (sym c.in-Some-line_at.ensures.0))
       (c.check_warnings-left.ensures.left ∙ ap (λ (f : Front). f.left) (sym c.in-Some-line_at.ensures.0)))
       c.check_warnings-left.ensures.calls calls)),
 )

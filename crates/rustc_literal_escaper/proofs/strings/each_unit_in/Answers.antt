@@ -8,25 +8,25 @@ use Rattle.rustc_literal_escaper.proofs.strings.each_unit_in.Goals as goal
 
 pub items-preserved-then-is_plain : goal.items-preserved-then-is_plain
 items-preserved-then-is_plain g c = (
-  c.run_behind.ensures.text,
+  c.run_after.ensures.text,
   c.each_simple.ensures.callable,
-  (let a = c.run_behind.ensures.sizes in let b = c.in-Some.ensures.1 in let m = c.items.invariant.2 in omega arith),
+  (let a = c.run_after.ensures.sizes in let b = c.in-Some.ensures.1 in let m = c.items.invariant.2 in omega arith),
   λ last calls. c.items.invariant.3 last (folds-on _ c.items.callback c.callback.new.self last _ (_ ∷ []) _
       (first-plain false c.args.total c.items.left.now c.in-Some.tail.now c.in-Some.c c.items.invariant.0 c.in-Some.ensures.2 c.in-Some.ensures.0 (search rules))
       (c.callback.new.self, rw (c.of.ensures) at c.callback.ensures, refl)
       (folds-on _ c.callback.new.self c.each_simple.new.callback last _ _ _
-      (run-items false c.args.total c.in-Some.tail.now _ c.run_behind.result.1.now c.run_behind.ensures.simple c.run_behind.ensures.whole c.run_behind.ensures.text)
+      (run-items false c.args.total c.in-Some.tail.now _ c.run_after.result.1.now c.run_after.ensures.simple c.run_after.ensures.whole c.run_after.ensures.text)
       c.each_simple.ensures.calls calls)),
 )
 
 pub items-preserved-in-Some-byte_at : goal.items-preserved-in-Some-byte_at
 items-preserved-in-Some-byte_at g c = (
   c.in-Some-byte_at.ensures.1,
-  c.each_told.ensures.callable,
+  c.each_found.ensures.callable,
   (let a = c.in-Some-byte_at.ensures.2 in let b = c.in-Some.ensures.1 in let m = c.items.invariant.2 in omega arith),
-  λ last calls. c.items.invariant.3 last (folds-on _ c.items.callback c.each_told.new.callback last _ (_ ∷ []) _
-      (first-one false c.args.total c.items.left.now c.in-Some-byte_at.behind.now _ _ (Byte c.in-Some-byte_at.byte) c.items.invariant.0 c.in-Some-byte_at.ensures.1 c.in-Some.ensures.0 c.in-Some-byte_at.ensures.0)
-      c.each_told.ensures.calls calls),
+  λ last calls. c.items.invariant.3 last (folds-on _ c.items.callback c.each_found.new.callback last _ (_ ∷ []) _
+      (first-one false c.args.total c.items.left.now c.in-Some-byte_at.after.now _ _ (Byte c.in-Some-byte_at.byte) c.items.invariant.0 c.in-Some-byte_at.ensures.1 c.in-Some.ensures.0 c.in-Some-byte_at.ensures.0)
+      c.each_found.ensures.calls calls),
 )
 
 pub items-preserved-in-Some-line_at : goal.items-preserved-in-Some-line_at
@@ -36,7 +36,7 @@ items-preserved-in-Some-line_at g c = (
   (let a = c.in-Some-line_at.ensures.1 in let b = c.in-Some.ensures.1 in let d = c.each_warning-left.ensures.shorter in let m = c.items.invariant.2 in omega arith),
   λ last calls. c.items.invariant.3 last (folds-on _ c.items.callback c.each_warning-left.new.callback last _ _ _
       (items-step false c.args.total c.items.left.now _ _ _ _ c.items.invariant.0 c.in-Some.ensures.0
-      (ap (λ (f : Front). map (item_at c.args.total (c.args.total - length c.items.left.now)) f.told) (sym c.in-Some-line_at.ensures.0))
+      (ap (λ (f : Front). map (item_at c.args.total (c.args.total - length c.items.left.now)) f.found) (sym c.in-Some-line_at.ensures.0))
       (c.each_warning-left.ensures.left ∙ ap (λ (f : Front). f.left) (sym c.in-Some-line_at.ensures.0)))
       c.each_warning-left.ensures.calls calls),
 )
@@ -44,11 +44,11 @@ items-preserved-in-Some-line_at g c = (
 pub items-preserved : goal.items-preserved
 items-preserved g c = (
   c.lone_element-element.ensures.text,
-  c.each_told-in-Some.ensures.callable,
+  c.each_found-in-Some.ensures.callable,
   (let a = c.lone_element-element.ensures.shorter in let b = c.in-Some.ensures.1 in let m = c.items.invariant.2 in omega arith),
-  λ last calls. c.items.invariant.3 last (folds-on _ c.items.callback c.each_told-in-Some.new.callback last _ (_ ∷ []) _
+  λ last calls. c.items.invariant.3 last (folds-on _ c.items.callback c.each_found-in-Some.new.callback last _ (_ ∷ []) _
       (first-one false c.args.total c.items.left.now c.lone_element-element.result.1.now _ _ c.lone_element-element.result.0 c.items.invariant.0 c.lone_element-element.ensures.text c.in-Some.ensures.0 c.lone_element-element.ensures.read)
-      c.each_told-in-Some.ensures.calls calls),
+      c.each_found-in-Some.ensures.calls calls),
 )
 
 pub returns : goal.returns

@@ -12,7 +12,7 @@ use Rattle.rustc_lexer.specs.State.{State}
 use Rattle.rustc_lexer.specs.Tokens.{TakesToken}
 use Rattle.rustc_lexer.specs.laws.State.{state}
 use Rattle.rustc_lexer.specs.means.Edition.{changed, first_token_in}
-use Rattle.rustc_lexer.specs.means.Ends.{bit, classified, AreEndsPast, IsEnds, IsLowest, IsUntold, StaysWithin}
+use Rattle.rustc_lexer.specs.means.Ends.{bit, classified, AreEndsPast, IsEnds, IsLowest, IsUnclassified, StaysWithin}
 use Rattle.rustc_lexer.specs.means.Quick.{IsFirstToken}
 use Rattle.rustc_lexer.proofs.EndsLemmas.{all_past, classified_behind, classified_same, past_end}
 use Rattle.rustc_lexer.proofs.TokensLemmas.{takes_part}
@@ -36,11 +36,11 @@ module _ (text : List ℕ) (at block ends low : ℕ) (kind : TokenKind) (next : 
   there : block + (at - block) ≡ at
   there = let behind = next.behind in omega arith
 
-  pub told_after : at < block + low
-  told_after = let after = (next.known low next.lowest.set).0 in omega (arith, after, next.behind)
+  pub classified_after : at < block + low
+  classified_after = let after = (next.known low next.lowest.set).0 in omega (arith, after, next.behind)
 
-  pub told_inside : block + low < length text
-  told_inside = let inside = (next.known low next.lowest.set).1 in omega (arith, inside, length-drop block text)
+  pub classified_inside : block + low < length text
+  classified_inside = let inside = (next.known low next.lowest.set).1 in omega (arith, inside, length-drop block text)
 
   joined : drop (at - block) (drop block text) ≡ drop at text
   joined = drop-drop (at - block) block text ∙ ap (λ n. drop n text) there
@@ -55,24 +55,24 @@ module _ (text : List ℕ) (at block ends low : ℕ) (kind : TokenKind) (next : 
     stays = subst (StaysWithin kind) (sym (get_or-drop block text low 0)) next.stays;
   }
 
-  pub told_token : IsFirstToken (drop at text) record { kind = kind; len = block + low - at }
-  told_token =
-      let long : low - (at - block) ≡ block + low - at = omega (arith, next.behind, told_after) in
+  pub classified_token : IsFirstToken (drop at text) record { kind = kind; len = block + low - at }
+  classified_token =
+      let long : low - (at - block) ≡ block + low - at = omega (arith, next.behind, classified_after) in
       subst (λ xs. IsFirstToken xs record { kind = kind; len = block + low - at }) joined (subst (λ n. IsFirstToken (drop (at - block) (drop block text)) record { kind = kind; len = n }) long behind_block)
 
   -- no edition has another token there
-  pub told_in : (edition : Edition) → record { kind = kind; len = block + low - at } ≡ first_token_in edition (drop at text)
-  told_in edition =
+  pub classified_first : (edition : Edition) → record { kind = kind; len = block + low - at } ≡ first_token_in edition (drop at text)
+  classified_first edition =
       let same = classified_same (get_or text at 0) kind next.tells edition (chars (drop at text)) (block + low - at) in
-      sym same ∙ ap (changed edition (chars (drop at text))) told_token.token
+      sym same ∙ ap (changed edition (chars (drop at text))) classified_token.token
 
-  pub told_bound : IsCharBoundary text (block + low)
-  told_bound =
-      let end : at + (block + low - at) ≡ block + low = omega (arith, told_after) in
-      subst (IsCharBoundary text) end (IsCharBoundary-from_rest text at (block + low - at) (omega (arith, told_after, told_inside)) told_token.boundary)
+  pub classified_bound : IsCharBoundary text (block + low)
+  classified_bound =
+      let end : at + (block + low - at) ≡ block + low = omega (arith, classified_after) in
+      subst (IsCharBoundary text) end (IsCharBoundary-from_rest text at (block + low - at) (omega (arith, classified_after, classified_inside)) classified_token.boundary)
 
-  pub told_ahead : (less : ℕ) → ((k : ℕ) → k ≤ low → bit less k ≡ false) → ((k : ℕ) → low < k → bit less k ≡ bit ends k) → AreEndsPast (drop block text) (block + low - block) less
-  told_ahead less gone others =
+  pub classified_ahead : (less : ℕ) → ((k : ℕ) → k ≤ low → bit less k ≡ false) → ((k : ℕ) → low < k → bit less k ≡ bit ends k) → AreEndsPast (drop block text) (block + low - block) less
+  classified_ahead less gone others =
       let e : low ≡ block + low - block = omega arith in
       subst (λ n. AreEndsPast (drop block text) n less) e (past_end (drop block text) ends (at - block) low less next.known next.lowest gone others)
 
@@ -86,9 +86,9 @@ left_some text left at e some = ne_eqb (length left) 0 (λ none. omega (arith, s
 pub left_none : (text : List ℕ) (at : ℕ) → length text ≤ at → (length (drop at text) == 0) ≡ true
 left_none text at none = let zero : length (drop at text) ≡ 0 = omega (arith, none, length-drop at text) in ap (λ n. n == 0) zero
 
--- where no token is told, the same text is left
-pub still : (text : List ℕ) (mode : Mode) (s : State) (old new : Ahead) → IsUntold text old new → state 0 (drop old.at text) mode ≡ s → state 0 (drop new.at text) mode ≡ s
-still text mode s old new untold view = subst (λ p. state 0 (drop p text) mode ≡ s) (sym untold.at) view
+-- where no token is classified, the same text is left
+pub still : (text : List ℕ) (mode : Mode) (s : State) (old new : Ahead) → IsUnclassified text old new → state 0 (drop old.at text) mode ≡ s → state 0 (drop new.at text) mode ≡ s
+still text mode s old new unclassified view = subst (λ p. state 0 (drop p text) mode ≡ s) (sym unclassified.at) view
 
 pub left_utf8 : (text left : List ℕ) (at : ℕ) → IsUtf8 text → IsCharBoundary text at → left ≡ drop at text → IsUtf8 left
 left_utf8 text left at is bound e = subst IsUtf8 (sym e) (IsUtf8-drop text at is bound)
