@@ -7,7 +7,7 @@ use Rattle.rustc_lexer.specs.declared.relex.head.Head.{Head}
 use Rattle.rustc_lexer.specs.declared.relex.relexing.Change.{Change}
 use Rattle.rustc_lexer.specs.declared.relex.relexing.Relexed.{Relexed}
 use Rattle.rustc_lexer.specs.Classes.{IsText}
-use Rattle.rustc_lexer.specs.Document.{body_start, document_tokens_by, head_tokens, is_frontmatter, head_count, shebang_len, whole_by}
+use Rattle.rustc_lexer.specs.Document.{body_start, document_tokens_by, head_tokens, head_count, shebang_len, whole_by}
 use Rattle.rustc_lexer.specs.means.Document.{body_change, body_insert, counted, document_by, front_tokens, head_of, HeadStays, IsRelexedWith, tokens_of_head}
 use Rattle.rustc_lexer.specs.Edits.{apply, body_in, KeepsHead}
 use Rattle.rustc_lexer.specs.Tokens.{bound, tokens_by}

@@ -6,7 +6,7 @@ use Rattle.rustc_lexer.specs.{Token}
 use Rattle.rustc_lexer.specs.laws.Reach.{cut}
 use Rattle.rustc_lexer.specs.declared.relex.edit.Edit.{Edit}
 use Rattle.rustc_lexer.specs.declared.relex.relexing.Relexed.{Relexed}
-use Rattle.rustc_lexer.specs.Edits.{IsEdit, IsRelexed, IsStepped, Layout, applied, apply_list, AreEdits, AreLeast, AreStepped}
+use Rattle.rustc_lexer.specs.Edits.{IsEdit, IsRelexed, Layout, applied, apply, apply_list, AreEdits, AreLeast, AreStepped}
 
 pub apply-next : (text : List ℕ) (es : List Edit) (n : ℕ) (d : Edit) → n < length es → apply_list text (take (suc n) es) ≡ applied (apply_list text (take n es)) (get_or es n d)
 apply-next text [] n d few = absurd (omega arith)
@@ -19,6 +19,20 @@ none = record { start = 0; stop = 0; insert = record { ref_ptr = (0, 0); now = [
 -- one more edit: what the text is then, and what was lexed by then
 pub text-more : (text now after : List ℕ) (es : List Edit) (n : ℕ) → n < length es → now ≡ apply_list text (take n es) → after ≡ applied now (get_or es n none) → after ≡ apply_list text (take (n + 1) es)
 text-more text now after es n few is made = grind (arith, common_steps, apply-next)
+
+-- the steps that one edit takes
+abbrev pub IsStepped : (List ℕ → Layout) → List ℕ → ℕ → ℕ → List ℕ → ℕ → ℕ → Type 0
+IsStepped layout text start stop insert before after =
+    (r : Relexed) × IsRelexed layout text start stop insert r × (after + (length (layout (apply text start stop insert)).head - r.kept_front) ≡ before + r.lexed)
+
+-- what takes no more than these
+pub most_of : (layout : List ℕ → Layout) (text : List ℕ) (start stop : ℕ) (insert : List ℕ) (before after : ℕ)
+    → (r : Relexed) × IsRelexed layout text start stop insert r × (after + (length (layout (apply text start stop insert)).head - r.kept_front) ≤ before + r.lexed)
+    → (most : ℕ) × IsStepped layout text start stop insert before most × (after ≤ most)
+most_of layout text start stop insert before after few =
+    let own : ℕ = length (layout (apply text start stop insert)).head - few.0.kept_front in
+    let at_most : after + own ≤ before + few.0.lexed = few.2 in
+    (before + few.0.lexed - own, (few.0, few.1, omega (arith, at_most)), omega (arith, at_most))
 
 -- one more edit takes its steps more
 module _ (layout : (List ℕ → Token) → List ℕ → Layout) (first : List ℕ → Token) where

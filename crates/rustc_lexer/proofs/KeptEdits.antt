@@ -3,7 +3,7 @@ use Rattle.std.proofs.Common.{ℕ, ◌+◌, ◌-◌, ◌≡◌, ◌≤◌, Bool,
 use Rattle.rustc_lexer.specs.{Token}
 use Rattle.rustc_lexer.specs.declared.relex.relexing.Relexed.{Relexed}
 use Rattle.rustc_lexer.specs.Classes.{IsText}
-use Rattle.rustc_lexer.specs.Edits.{apply, IsEdit, IsRelexed, IsStepped}
+use Rattle.rustc_lexer.specs.Edits.{apply, IsEdit, IsRelexed}
 use Rattle.rustc_lexer.specs.Locality.{IsGrammar}
 use Rattle.rustc_lexer.specs.means.Document.{head_by, IsCountedByHead, IsRelexedByHead, layout_in}
 use Rattle.rustc_lexer.specs.means.Relexing.{relexed_of}
@@ -24,10 +24,10 @@ module _ {first : List ℕ → Token} (law : IsGrammar first) (text insert : Lis
 
   -- what takes no more steps than any edit of these counts
   pub few_in : (whole : Bool) (before after : ℕ) → ((r : Relexed) (most : ℕ) → IsRelexedByHead (head_by whole) first text start stop insert r → IsCountedByHead (head_by whole) text start stop insert before most r.lexed → after ≤ most)
-      → (most : ℕ) × IsStepped (layout_in whole first) text start stop insert before most × (after ≤ most)
+      → (r : Relexed) × IsRelexed (layout_in whole first) text start stop insert r × (after + (length (layout_in whole first (apply text start stop insert)).head - r.kept_front) ≤ before + r.lexed)
   few_in whole before after few =
       let some = some_in whole before in
-      (some.1, (some.0, relexed_in whole some.2, counted_in whole some.2 some.3), few some.0 some.1 some.2 some.3)
+      (some.0, relexed_in whole some.2, (let all = counted_in whole some.2 some.3 in let some_few = few some.0 some.1 some.2 some.3 in omega (arith, all, some_few)))
     where
       some_in : (w : Bool) (before : ℕ) → (r : Relexed) × (most : ℕ) × IsRelexedByHead (head_by w) first text start stop insert r × IsCountedByHead (head_by w) text start stop insert before most r.lexed
       some_in true before = some_steps law text insert start stop is its edit before

@@ -89,17 +89,13 @@ abbrev pub AreEdits : List ℕ → List Edit → Type 0
 AreEdits text [] = Unit {0}
 AreEdits text (e ∷ es) = IsEdit text e.start e.stop e.insert.now × AreEdits (applied text e) es
 
--- the step count grew by the number of tokens that an edit lexes. Those of a new head take no step
-abbrev pub IsStepped : (List ℕ → Layout) → List ℕ → ℕ → ℕ → List ℕ → ℕ → ℕ → Type 0
-IsStepped layout text start stop insert before after =
-    (r : Relexed) × IsRelexed layout text start stop insert r
-    × (after + (length (layout (apply text start stop insert)).head - r.kept_front) ≡ before + r.lexed)
-
--- the step count grew by what the edits lex, one after another
+-- the step count grew by what the edits lex, one after another. The tokens of a new head take no step
 abbrev pub AreStepped : (List ℕ → Layout) → List ℕ → List Edit → ℕ → ℕ → Type 0
 AreStepped layout text [] before after = after ≡ before
 AreStepped layout text (e ∷ es) before after =
-    (between : ℕ) × IsStepped layout text e.start e.stop e.insert.now before between × AreStepped layout (applied text e) es between after
+    (between : ℕ) × ((r : Relexed) × IsRelexed layout text e.start e.stop e.insert.now r
+    × (between + (length (layout (applied text e)).head - r.kept_front) ≡ before + r.lexed))
+    × AreStepped layout (applied text e) es between after
 
 -- `front` is the least that each of the edits keeps there, or so many as before them, and so is `back`
 abbrev pub AreLeast : (List ℕ → Layout) → List ℕ → List Edit → ℕ → ℕ → ℕ → ℕ → Type 0

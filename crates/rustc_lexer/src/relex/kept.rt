@@ -6,7 +6,7 @@ ghost use Rattle.rustc_lexer.specs.declared.relex.relexing.Relexed.{Relexed};
 ghost use Rattle.rustc_lexer.specs.Classes.{Fits};
 ghost use Rattle.rustc_lexer.specs.means.Document as means;
 ghost use Rattle.rustc_lexer.specs.Tokens.{bound, tokens_by};
-ghost use Rattle.rustc_lexer.specs.Edits.{AreTouched, ContainsByte, IsEdit, IsRelexed, IsStepped, apply};
+ghost use Rattle.rustc_lexer.specs.Edits.{AreTouched, ContainsByte, IsEdit, IsRelexed, apply};
 ghost use Rattle.rustc_lexer.specs.means.Checkpoints.{AreBounds, IsBoundFrom};
 
 use crate::entry::stepper::Stepper;
@@ -138,10 +138,13 @@ impl<S: Stepper, E: Extent> Kept<S, E> {
             ≡ S.count self.old.stepper + r.lexed) }
         ensures rose { S.count self.old.stepper ≤ S.count self.new.stepper }
         ensures few { OnErr result
-            ((most : ℕ)
-            × IsStepped (means.layout_in E.whole (S.grammar self.old.stepper)) (string_bytes self.old.text)
-            start stop insert.now (S.count self.old.stepper) most
-            × (S.count self.new.stepper ≤ most)) }
+            ((r : Relexed)
+            × IsRelexed (means.layout_in E.whole (S.grammar self.old.stepper)) (string_bytes self.old.text)
+            start stop insert.now r
+            × (S.count self.new.stepper
+            + (length (means.layout_in E.whole (S.grammar self.old.stepper)
+            (apply (string_bytes self.old.text) start stop insert.now)).head - r.kept_front)
+            ≤ S.count self.old.stepper + r.lexed)) }
     {
         let removed = String::from_str(self.alloc, &self.text[start..stop])?;
         self.text.reserve(insert.len())?;

@@ -2,9 +2,10 @@
 ghost use Rattle.std.specs.Prelude.{◌≡◌, ◌+◌, ◌-◌, ◌<◌, ◌≤◌, ◌↔◌, IfOk, IfErr, IfSome, IsSome, OnOk, OnErr, IsTrue, ℕ, drop, length, take};
 ghost use Rattle.std.specs.String.{string_bytes};
 ghost use Rattle.rustc_lexer.specs.{E2024};
+ghost use Rattle.rustc_lexer.specs.declared.relex.relexing.Relexed.{Relexed};
 ghost use Rattle.rustc_lexer.specs.Classes.{Fits};
 ghost use Rattle.rustc_lexer.specs.Tokens.{tokens_by, tokens_of};
-ghost use Rattle.rustc_lexer.specs.Edits.{AreEdits, AreStepped, AreTouched, ContainsByte, IsEdit, IsRelexed, IsRelexedList, IsStepped, IsStop, IsStopStepped, apply, apply_list, part_by, pieces_from, stop_at};
+ghost use Rattle.rustc_lexer.specs.Edits.{AreEdits, AreStepped, AreTouched, ContainsByte, IsEdit, IsRelexed, IsRelexedList, IsStop, IsStopStepped, apply, apply_list, part_by, pieces_from, stop_at};
 ghost use Rattle.rustc_lexer.specs.LanguageText.{part};
 ghost use Rattle.rustc_lexer.specs.Answers.{first_in};
 
@@ -195,10 +196,9 @@ impl<S: Stepper> LexedText<S> {
         ensures same_text { OnErr result (self.new.text ≡ self.old.text) }
         ensures same_tokens { OnErr result (self.new.tokens ≡ self.old.tokens) }
         ensures few { OnErr result
-            ((most : ℕ)
-            × IsStepped (part_by (S.grammar self.old.stepper)) self.old.text start stop insert.now
-            (S.count self.old.stepper) most
-            × (S.count self.new.stepper ≤ most)) }
+            ((r : Relexed)
+            × IsRelexed (part_by (S.grammar self.old.stepper)) self.old.text start stop insert.now r
+            × (S.count self.new.stepper ≤ S.count self.old.stepper + r.lexed)) }
     {
         self.kept.edit(start, stop, insert)
     }

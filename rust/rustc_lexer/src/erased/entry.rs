@@ -68,7 +68,7 @@ pub fn tokenize_as<'a>(
             at: 0,
             block: 0,
             ends: 0,
-            told: None,
+            classified: None,
         },
         frontmatter_allowed,
         edition,
@@ -125,7 +125,7 @@ impl<'a> Tokens<'a> {
     /// Moves on by this many bytes, whatever tokens they belong to.
     #[inline(always)]
     pub(crate) fn pass(&mut self, len: usize) {
-        self.ahead.told = None;
+        self.ahead.classified = None;
         self.ahead.at += len;
     }
 }

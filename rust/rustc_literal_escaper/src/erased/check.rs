@@ -160,23 +160,23 @@ fn check_escaped<F: FnMut(Range<usize>, EscapeError)>(
             left = past_fine(tail, mode);
             continue;
         }
-        if let Some((byte, behind)) = byte_at(c, tail, false) {
+        if let Some((byte, after)) = byte_at(c, tail, false) {
             check_element(
-                start..total - behind.len(),
+                start..total - after.len(),
                 Element::Byte(byte),
                 mode,
                 callback,
             );
-            left = behind;
+            left = after;
             continue;
         }
         if let Some(line) = line_at(c, tail) {
             left = check_warnings(line, start, total, mode, callback);
             continue;
         }
-        let (element, behind) = lone_element(c, tail);
-        check_element(start..total - behind.len(), element, mode, callback);
-        left = behind;
+        let (element, after) = lone_element(c, tail);
+        check_element(start..total - after.len(), element, mode, callback);
+        left = after;
     }
 }
 
@@ -191,19 +191,19 @@ fn check_warnings<'a, F: FnMut(Range<usize>, EscapeError)>(
     callback: &mut F,
 ) -> &'a str {
     let (newline, left) = pass_over(line);
-    check_told(more_lines(newline, left, start, total), mode, callback);
-    check_told(more_space(left, start, total), mode, callback);
+    check_found(more_lines(newline, left, start, total), mode, callback);
+    check_found(more_space(left, start, total), mode, callback);
     left
 }
 
 /// Calls `callback` with the error or warning of an item, if there is an item and something is wrong with it.
 #[inline(always)]
-fn check_told<F: FnMut(Range<usize>, EscapeError)>(
-    told: Option<(Range<usize>, Element)>,
+fn check_found<F: FnMut(Range<usize>, EscapeError)>(
+    found: Option<(Range<usize>, Element)>,
     mode: Mode,
     callback: &mut F,
 ) {
-    if let Some((range, element)) = told {
+    if let Some((range, element)) = found {
         check_element(range, element, mode, callback);
     }
 }

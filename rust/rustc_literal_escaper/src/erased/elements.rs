@@ -5,7 +5,7 @@ use crate::erased::error::EscapeError;
 use crate::erased::mode::Mode;
 use crate::erased::scan::past_plain;
 use crate::erased::simple::{past_last_simple, past_simple};
-use crate::erased::steps::{Told, advance, first_byte, first_item, first_plain};
+use crate::erased::steps::{Found, advance, first_byte, first_item, first_plain};
 use core::iter::Iterator;
 use core::ops::Range;
 
@@ -136,7 +136,7 @@ impl<'a> Elements<'a> {
         if self.waiting.is_some() {
             return self.waiting.take();
         }
-        let Told {
+        let Found {
             first,
             second,
             left,

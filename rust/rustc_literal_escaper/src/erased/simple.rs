@@ -38,7 +38,7 @@ const ALONE: usize = 256;
 /// For a while after a short run it returns none, since short runs seldom come alone. The next look comes when at
 /// most `look` bytes are left.
 #[inline(always)]
-pub(crate) fn run_behind<'a>(tail: &'a str, look: &mut usize) -> (&'a [u8], &'a str) {
+pub(crate) fn run_after<'a>(tail: &'a str, look: &mut usize) -> (&'a [u8], &'a str) {
     if tail.len() > *look {
         return (&[], tail);
     }

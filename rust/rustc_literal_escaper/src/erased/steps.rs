@@ -7,7 +7,7 @@ use crate::erased::scan::split_first;
 use core::ops::Range;
 
 /// The items that are found at a place, at most two, and the text after them.
-pub(crate) struct Told<'a> {
+pub(crate) struct Found<'a> {
     pub(crate) first: Option<(Range<usize>, Element)>,
     pub(crate) second: Option<(Range<usize>, Element)>,
     pub(crate) left: &'a str,
@@ -15,16 +15,16 @@ pub(crate) struct Told<'a> {
 
 /// Returns the first items in the rest of a text of `total` bytes. Returns no items if none are left.
 #[inline(always)]
-pub(crate) fn advance(rest: &str, total: usize, raw: bool) -> Told<'_> {
+pub(crate) fn advance(rest: &str, total: usize, raw: bool) -> Found<'_> {
     let mut left = rest;
     while let Some((c, tail)) = split_first(left) {
-        let told = step_by(raw, c, tail, total - left.len(), total);
-        if told.first.is_some() {
-            return told;
+        let found = step_by(raw, c, tail, total - left.len(), total);
+        if found.first.is_some() {
+            return found;
         }
-        left = told.left;
+        left = found.left;
     }
-    Told {
+    Found {
         first: None,
         second: None,
         left,
@@ -34,7 +34,7 @@ pub(crate) fn advance(rest: &str, total: usize, raw: bool) -> Told<'_> {
 /// Returns the items at the character `c`, which begins at the place `start`, before `tail`. `raw` says whether the
 /// string is a raw one.
 #[inline(always)]
-fn step_by(raw: bool, c: char, tail: &str, start: usize, total: usize) -> Told<'_> {
+fn step_by(raw: bool, c: char, tail: &str, start: usize, total: usize) -> Found<'_> {
     if raw {
         return one(raw_element(c), tail, start, total);
     }
@@ -162,8 +162,8 @@ fn raw_element(c: char) -> Element {
 
 /// Returns one item, whose element goes from the place `start` up to the text `left`.
 #[inline(always)]
-fn one(element: Element, left: &str, start: usize, total: usize) -> Told<'_> {
-    Told {
+fn one(element: Element, left: &str, start: usize, total: usize) -> Found<'_> {
+    Found {
         first: Some((start..total - left.len(), element)),
         second: None,
         left,
@@ -196,18 +196,18 @@ fn strip_newline(text: &str) -> Option<&str> {
 
 /// Returns the warnings after a backslash and a newline, which begin at the place `start`.
 #[inline(always)]
-fn line_end(line: &str, start: usize, total: usize) -> Told<'_> {
+fn line_end(line: &str, start: usize, total: usize) -> Found<'_> {
     let (newline, left) = pass_over(line);
     let more_lines = more_lines(newline, left, start, total);
     let more_space = more_space(left, start, total);
     if newline {
-        Told {
+        Found {
             first: more_lines,
             second: more_space,
             left,
         }
     } else {
-        Told {
+        Found {
             first: more_space,
             second: None,
             left,

@@ -3,7 +3,7 @@
 use crate::erased::element::Element;
 use crate::erased::error::EscapeError;
 use crate::erased::scan::{begins_in_ascii, split_first};
-use crate::erased::simple::{run_behind, split_alone, split_simple};
+use crate::erased::simple::{run_after, split_alone, split_simple};
 use crate::erased::steps::{
     byte_at, is_plain, line_at, lone_element, more_lines, more_space, pass_over,
 };
@@ -201,7 +201,7 @@ impl Meaning for AsRawUnit {
     }
 }
 
-/// A raw string of fewer bytes is short: no look at 32 bytes fits behind its first character.
+/// A raw string of fewer bytes is short: no look at 32 bytes fits after its first character.
 const SHORT_TEXT: usize = 33;
 
 /// Calls `callback` with what each element of a text stands for and its place, and with nothing else.
@@ -251,24 +251,24 @@ fn each_unit_in<M: Meaning, F: FnMut(Range<usize>, Result<M::Meant, EscapeError>
         let start = total - left.len();
         if is_plain(c, false) {
             callback(start..total - tail.len(), M::of(Element::Plain(c)));
-            let (run, behind) = run_behind(tail, &mut look);
-            each_simple::<M, F>(run, total - behind.len(), callback);
-            left = behind;
+            let (run, after) = run_after(tail, &mut look);
+            each_simple::<M, F>(run, total - after.len(), callback);
+            left = after;
             continue;
         }
-        if let Some((byte, behind)) = byte_at(c, tail, false) {
-            let range = start..total - behind.len();
-            each_told::<M, F>(Some((range, Element::Byte(byte))), callback);
-            left = behind;
+        if let Some((byte, after)) = byte_at(c, tail, false) {
+            let range = start..total - after.len();
+            each_found::<M, F>(Some((range, Element::Byte(byte))), callback);
+            left = after;
             continue;
         }
         if let Some(line) = line_at(c, tail) {
             left = each_warning::<M, F>(line, start, total, callback);
             continue;
         }
-        let (element, behind) = lone_element(c, tail);
-        each_told::<M, F>(Some((start..total - behind.len(), element)), callback);
-        left = behind;
+        let (element, after) = lone_element(c, tail);
+        each_found::<M, F>(Some((start..total - after.len(), element)), callback);
+        left = after;
     }
 }
 
@@ -282,8 +282,8 @@ fn each_warning<'a, M: Meaning, F: FnMut(Range<usize>, Result<M::Meant, EscapeEr
     callback: &mut F,
 ) -> &'a str {
     let (newline, left) = pass_over(line);
-    each_told::<M, F>(more_lines(newline, left, start, total), callback);
-    each_told::<M, F>(more_space(left, start, total), callback);
+    each_found::<M, F>(more_lines(newline, left, start, total), callback);
+    each_found::<M, F>(more_space(left, start, total), callback);
     left
 }
 
@@ -301,9 +301,9 @@ fn each_raw_unit_in<M: Meaning, F: FnMut(Range<usize>, Result<M::Meant, EscapeEr
     while let Some((c, tail)) = split_first(left) {
         let range = total - left.len()..total - tail.len();
         callback(range, M::of_raw(c));
-        let (run, behind) = split_simple(tail, true);
-        each_simple::<M, F>(run, total - behind.len(), callback);
-        let (alone, past) = split_alone(run, behind);
+        let (run, after) = split_simple(tail, true);
+        each_simple::<M, F>(run, total - after.len(), callback);
+        let (alone, past) = split_alone(run, after);
         each_raw_char::<M, F>(alone, total - past.len(), callback);
         left = past;
     }
@@ -339,11 +339,11 @@ fn each_raw_char<M: Meaning, F: FnMut(Range<usize>, Result<M::Meant, EscapeError
 
 /// Calls `callback` with what an item stands for, if there is an item.
 #[inline(always)]
-fn each_told<M: Meaning, F: FnMut(Range<usize>, Result<M::Meant, EscapeError>)>(
-    told: Option<(Range<usize>, Element)>,
+fn each_found<M: Meaning, F: FnMut(Range<usize>, Result<M::Meant, EscapeError>)>(
+    found: Option<(Range<usize>, Element)>,
     callback: &mut F,
 ) {
-    if let Some((range, element)) = told {
+    if let Some((range, element)) = found {
         callback(range, M::of(element));
     }
 }

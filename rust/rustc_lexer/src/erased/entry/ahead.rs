@@ -18,14 +18,14 @@ pub(crate) struct Ahead {
     /// The ends of runs from `block` on, as bits, or 0. Those up to `at` mean nothing.
     pub(crate) ends: u64,
     /// The kind of the next token, if its first byte and `ends` may determine all of it. Then no bit up to `at` is set.
-    pub(crate) told: Option<TokenKind>,
+    pub(crate) classified: Option<TokenKind>,
 }
 
 impl Ahead {
     /// Takes the next token of the text if its first byte and the ends of runs determine it.
     #[inline(always)]
     pub(crate) fn take(&mut self, text: &str) -> Option<Token> {
-        let kind = self.told?;
+        let kind = self.classified?;
         let (block, ends) = ends_ahead(text, self.at, self.block, self.ends);
         self.block = block;
         self.ends = ends;
@@ -33,16 +33,16 @@ impl Ahead {
             let end = block + ends.trailing_zeros() as usize;
             let next = text.as_bytes()[end];
             // A byte that determines its own token never changes the token before it.
-            let told = classified_by(next);
-            if told.is_some() || !may_continue(kind, next) {
+            let classified = classified_by(next);
+            if classified.is_some() || !may_continue(kind, next) {
                 let len = (end - self.at) as u32;
                 self.at = end;
                 self.ends = past_lowest(ends);
-                self.told = told;
+                self.classified = classified;
                 return Some(Token { kind, len });
             }
         }
-        self.told = None;
+        self.classified = None;
         None
     }
 
@@ -53,10 +53,10 @@ impl Ahead {
         if text.len() - self.at < SEARCHED {
             return;
         }
-        let told = classified_by(text.as_bytes()[self.at]);
-        if told.is_some() {
+        let classified = classified_by(text.as_bytes()[self.at]);
+        if classified.is_some() {
             self.ends = ends_after(self.ends, self.at - self.block);
-            self.told = told;
+            self.classified = classified;
         }
     }
 }

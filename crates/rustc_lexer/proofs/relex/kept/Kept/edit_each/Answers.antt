@@ -1,6 +1,6 @@
 use Rattle.std.proofs.Common.{rules, arith, List, ℕ, length, refl, string_bytes, subst, ◌+◌, ◌-◌, ◌≡◌, ◌∙◌}
 use Rattle.std.proofs.lemmas.Grind.{common_steps}
-use Rattle.rustc_lexer.proofs.EditListLemmas.{counts_back, counts_stay, edits-more, least-more, stay-more, stepped-more, text-more}
+use Rattle.rustc_lexer.proofs.EditListLemmas.{counts_back, counts_stay, edits-more, least-more, stay-more, stepped-more, text-more, most_of}
 use Rattle.rustc_lexer.proofs.relex.kept.Kept.edit_each.Goals as goal
 use Rattle.rustc_lexer.specs.means.Document.{layout_in}
 
@@ -21,7 +21,7 @@ loop-at-preserved g c =
 
 pub returns-in-Err-clause-stop_count : goal.returns-in-Err-clause-stop_count
 returns-in-Err-clause-stop_count g c =
-    grind (arith, common_steps, rules, stepped-more, string_bytes, c.in-Err.ensures.few)
+    grind (arith, common_steps, rules, stepped-more, string_bytes, most_of _ _ _ _ _ _ _ c.in-Err.ensures.few)
 
 pub returns-clause-back : goal.returns-clause-back
 returns-clause-back g c = counts_back c.len-len.result c.min-kept_back.result (omega arith) (omega arith) c.loop-at.invariant.6
