@@ -2,7 +2,7 @@
 use crate::cursors::Call::{Advance, First, Found, Missing, Rest, Third};
 use crate::rows::Made;
 use crate::tables::kinds::{CHAR, DASH, HASH, INT, LETTER, OPEN_STR, RAW_STR, SPACE, WORD};
-use crate::tables::row::{Part, literal, parts};
+use crate::tables::row::{Entry, literal};
 use rustc_lexer::TokenKind::{Eof, Ident, InvalidIdent, Minus, UnknownPrefix, Whitespace};
 use rustc_lexer::{Cursor, FrontmatterAllowed, GuardedStr, TokenKind, fits, tokenize};
 use std::alloc::AllocError;
@@ -22,14 +22,19 @@ enum Call {
 
 const END: Call = Advance((Eof, 0));
 
-/// Texts, each with calls.
+/// Texts, each with calls. A row ends where there is none.
 macro_rules! calls {
-    ($($text:tt => $($call:expr),+;)*) => {
-        &[$((parts!($text => []), &[$($call),+])),*]
+    ($($([$($part:literal $(* $times:literal)?),+])? $($text:literal)? => $($call:expr),+;)*) => {
+        &[$(
+            $($(Entry::Part($part, 1 $(* $times)?),)+)?
+            $(Entry::Part($text, 1),)?
+            $(Entry::Mark(Some($call)),)+
+            Entry::Mark(None),
+        )*]
     };
 }
 
-static ROWS: &[(&[Part], &[Call])] = calls! {
+static ROWS: &[Entry<Option<Call>>] = calls! {
     "é-" => First('é'), Third('\0'), Advance(WORD), Rest("-"), Advance(DASH), END, First('\0');
     // A guarded string at the front, what is left after it, and the next token.
     "##\"a" => Found(2, false, 4), Rest(""), END;
@@ -101,12 +106,20 @@ fn goes(text: &str, allowed: FrontmatterAllowed, calls: &[Call]) -> bool {
 
 #[test]
 fn rows(rt: HostRuntime) -> Result<(), AllocError> {
-    for (parts, calls) in ROWS {
-        let made = Made::of(rt.alloc(), parts)?;
-        let text = made.text.as_str();
-        let holds = goes(text, FrontmatterAllowed::No, calls)
-            && goes(text, FrontmatterAllowed::Yes, calls);
-        assert!(rt; holds, "in {text:?}");
+    let mut made = Made::new(rt.alloc());
+    let mut calls = Vec::new(rt.alloc());
+    for entry in ROWS {
+        match made.add(entry)? {
+            Some(Some(call)) => calls.push(call)?,
+            Some(None) => {
+                let text = made.text.as_str();
+                let holds = goes(text, FrontmatterAllowed::No, calls.as_slice())
+                    && goes(text, FrontmatterAllowed::Yes, calls.as_slice());
+                assert!(rt; holds, "in {text:?}");
+                calls.clear();
+            }
+            None => {}
+        }
     }
     Ok(())
 }

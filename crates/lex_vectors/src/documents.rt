@@ -1,10 +1,9 @@
 //! Whole documents that are kept with their tokens.
-use crate::edits::{Keeps, is_edited, is_listed, lexed_by};
+use crate::edits::{EditRow, Keeps, is_edited, is_listed, lexed_by};
 use crate::held_text::are_pieces;
-use crate::rows::Made;
 use crate::steppers::{Characters, Counting};
 use crate::tables::documents::{FRONTS, HEADS, KEPT, SPACED};
-use crate::tables::edits::{CHARACTERS, EditRow, LONG, SHORT};
+use crate::tables::edits::{CHARACTERS, LONG, SHORT};
 use rustc_lexer::{Bound, Edit, EditStop, Edition, LexedDocument, Relexed, Stepper, Token, fits};
 use std::alloc::{AllocError, Global};
 
@@ -41,8 +40,7 @@ impl<S: Stepper> Keeps for LexedDocument<S> {
 /// Returns whether the row holds for a document in its edition, one edit after another and as a list. The
 /// stepper is called once for each token that is lexed, except for so many tokens of heads.
 fn holds(alloc: Global, row: &EditRow, heads: u64) -> Result<bool, AllocError> {
-    let made = Made::of(alloc, row.text)?;
-    let text = made.text.as_str();
+    let text = row.text.as_str();
     if !fits(text) {
         return Ok(false);
     }
@@ -52,9 +50,9 @@ fn holds(alloc: Global, row: &EditRow, heads: u64) -> Result<bool, AllocError> {
     let lexed = lexed_by(row).saturating_sub(heads);
     let calls = edited.stepper().calls.saturating_add(lexed);
     Ok(
-        is_edited(alloc, &mut kept, row)?
+        is_edited(&mut kept, row)?
             && kept.edition() == row.edition
-            && is_edited(alloc, &mut edited, row)?
+            && is_edited(&mut edited, row)?
             && edited.stepper().calls == calls
             && is_listed(alloc, &mut listed, row)?
             && listed.stepper().calls == calls,
@@ -64,15 +62,21 @@ fn holds(alloc: Global, row: &EditRow, heads: u64) -> Result<bool, AllocError> {
 /// Texts with a head, and texts without one: an edit of them keeps the same.
 #[test]
 fn rows(rt: HostRuntime) -> Result<(), AllocError> {
-    for (name, heads, rows) in [
+    for (name, heads, entries) in [
         ("KEPT", 0, KEPT),
         ("FRONTS", 1, FRONTS),
         ("SPACED", 2, SPACED),
         ("SHORT", 0, SHORT),
         ("LONG", 0, LONG),
     ] {
-        for (number, row) in rows.iter().enumerate() {
-            assert!(rt; holds(rt.alloc(), row, heads)?, "{name}, row {number}");
+        let mut row = EditRow::new(rt.alloc());
+        for (number, entry) in entries.iter().enumerate() {
+            if row.add(entry)? {
+                assert!(rt;
+                    holds(rt.alloc(), &row, heads)?,
+                    "{name}, up to entry {number}"
+                );
+            }
         }
     }
     Ok(())
@@ -80,11 +84,14 @@ fn rows(rt: HostRuntime) -> Result<(), AllocError> {
 
 #[test]
 fn one_character_a_token(rt: HostRuntime) -> Result<(), AllocError> {
-    for row in CHARACTERS {
-        let made = Made::of(rt.alloc(), row.text)?;
-        assert!(rt; fits(made.text.as_str()));
-        let mut lexed = LexedDocument::with(rt.alloc(), made.text.as_str(), Characters::new())?;
-        assert!(rt; is_edited(rt.alloc(), &mut lexed, row)?);
+    let mut row = EditRow::new(rt.alloc());
+    for entry in CHARACTERS {
+        if row.add(entry)? {
+            let text = row.text.as_str();
+            assert!(rt; fits(text));
+            let mut lexed = LexedDocument::with(rt.alloc(), text, Characters::new())?;
+            assert!(rt; is_edited(&mut lexed, &row)?);
+        }
     }
     Ok(())
 }

@@ -1,9 +1,59 @@
 //! Edits of a text that is kept with its tokens, one by one and as a list.
 use crate::rows::Made;
 use crate::steppers::{Characters, Counting};
-use crate::tables::edits::{CHARACTERS, EditRow, LONG, SHORT, Step};
+use crate::tables::edits::{CHARACTERS, LONG, Role, SHORT};
+use crate::tables::row::Entry;
 use rustc_lexer::{Edit, EditStop, Edition, LexedText, Relexed, Stepper, Token, fits};
 use std::alloc::{AllocError, Global};
+
+/// An edit and its counts, or no counts if it is refused.
+#[derive(Drop)]
+pub(crate) struct Step {
+    start: usize,
+    stop: usize,
+    insert: String,
+    counts: Option<Relexed>,
+}
+
+/// A text, its edits, and the text and the tokens after them.
+#[derive(Drop)]
+pub(crate) struct EditRow {
+    pub(crate) edition: Edition,
+    pub(crate) text: String,
+    steps: Vec<Step>,
+    made: Made,
+}
+
+impl EditRow {
+    pub(crate) fn new(alloc: Global) -> EditRow {
+        EditRow {
+            edition: Edition::E2024,
+            text: String::new(alloc),
+            steps: Vec::new(alloc),
+            made: Made::new(alloc),
+        }
+    }
+
+    /// Adds an entry of a table. Returns whether the row is whole.
+    pub(crate) fn add(&mut self, entry: &Entry<Role>) -> Result<bool, AllocError> {
+        match self.made.add(entry)? {
+            Some(Role::Before(edition)) => {
+                self.edition = edition;
+                self.text = self.made.text.clone()?;
+                self.steps.clear();
+            }
+            Some(Role::Edit(start, stop, counts)) => self.steps.push(Step {
+                start,
+                stop,
+                insert: self.made.text.clone()?,
+                counts,
+            })?,
+            Some(Role::After) => return Ok(true),
+            None => {}
+        }
+        Ok(false)
+    }
+}
 
 /// A type that keeps a text with its tokens.
 pub(crate) trait Keeps {
@@ -59,25 +109,14 @@ fn is_left<K: Keeps>(lexed: &K, made: &Made) -> bool {
     lexed.text() == made.text.as_str() && lexed.tokens() == made.tokens.as_slice()
 }
 
-/// Makes the edit if it is accepted. Returns whether it has the counts of the row, or is refused as the row
-/// says.
-fn is_made<K: Keeps>(alloc: Global, lexed: &mut K, step: &Step) -> Result<bool, AllocError> {
-    let made = Made::of(alloc, step.insert)?;
-    Ok(lexed.try_edit(step.start, step.stop, made.text.as_str())? == step.counts)
-}
-
 /// Makes the edits one by one. Returns whether each is as the row says, and the text and tokens after them.
-pub(crate) fn is_edited<K: Keeps>(
-    alloc: Global,
-    lexed: &mut K,
-    row: &EditRow,
-) -> Result<bool, AllocError> {
-    for step in row.steps {
-        if !is_made(alloc, lexed, step)? {
+pub(crate) fn is_edited<K: Keeps>(lexed: &mut K, row: &EditRow) -> Result<bool, AllocError> {
+    for step in row.steps.as_slice() {
+        if lexed.try_edit(step.start, step.stop, step.insert.as_str())? != step.counts {
             return Ok(false);
         }
     }
-    Ok(is_left(lexed, &Made::of(alloc, row.made)?))
+    Ok(is_left(lexed, &row.made))
 }
 
 /// Returns whether the edits as a list give the same, and an empty list after them changes nothing.
@@ -86,41 +125,36 @@ pub(crate) fn is_listed<K: Keeps>(
     lexed: &mut K,
     row: &EditRow,
 ) -> Result<bool, AllocError> {
-    let mut inserts = Vec::new(alloc);
-    for step in row.steps {
-        inserts.push(Made::of(alloc, step.insert)?)?;
-    }
     let mut edits = Vec::new(alloc);
-    for (step, made) in row.steps.iter().zip(inserts.as_slice()) {
+    for step in row.steps.as_slice() {
         edits.push(Edit {
             start: step.start,
             stop: step.stop,
-            insert: made.text.as_str(),
+            insert: step.insert.as_str(),
         })?;
     }
     let end = match row.steps.iter().position(|step| step.counts.is_none()) {
         Some(at) => Err(EditStop::Range { at }),
         None => Ok(()),
     };
-    let made = Made::of(alloc, row.made)?;
     let all_kept = Relexed {
-        kept_front: made.tokens.len(),
+        kept_front: row.made.tokens.len(),
         lexed: 0,
         kept_back: 0,
     };
     Ok(
         lexed.try_edits(edits.as_slice()) == end
-            && is_left(lexed, &made)
+            && is_left(lexed, &row.made)
             && lexed.try_edits(&[]) == Ok(())
             && lexed.try_each(&[]) == Ok(all_kept)
-            && is_left(lexed, &made),
+            && is_left(lexed, &row.made),
     )
 }
 
 /// Returns how many tokens the edits of the row lex.
 pub(crate) fn lexed_by(row: &EditRow) -> u64 {
     let mut lexed = 0u64;
-    for step in row.steps {
+    for step in row.steps.as_slice() {
         if let Some(counts) = step.counts {
             lexed = lexed.saturating_add(counts.lexed as u64);
         }
@@ -131,8 +165,7 @@ pub(crate) fn lexed_by(row: &EditRow) -> u64 {
 /// Returns whether the row holds for a text in its edition, one edit after another and as a list. The stepper is
 /// called once for each token that is lexed.
 fn holds(alloc: Global, row: &EditRow) -> Result<bool, AllocError> {
-    let made = Made::of(alloc, row.text)?;
-    let text = made.text.as_str();
+    let text = row.text.as_str();
     if !fits(text) {
         return Ok(false);
     }
@@ -144,9 +177,9 @@ fn holds(alloc: Global, row: &EditRow) -> Result<bool, AllocError> {
     let mut listed = LexedText::with(alloc, text, Counting::new_in(row.edition))?;
     let calls = edited.stepper().calls.saturating_add(lexed_by(row));
     Ok(
-        is_edited(alloc, &mut kept, row)?
+        is_edited(&mut kept, row)?
             && kept.edition() == row.edition
-            && is_edited(alloc, &mut edited, row)?
+            && is_edited(&mut edited, row)?
             && edited.stepper().calls == calls
             && is_listed(alloc, &mut listed, row)?
             && listed.stepper().calls == calls,
@@ -155,9 +188,12 @@ fn holds(alloc: Global, row: &EditRow) -> Result<bool, AllocError> {
 
 #[test]
 fn rows(rt: HostRuntime) -> Result<(), AllocError> {
-    for (name, rows) in [("SHORT", SHORT), ("LONG", LONG)] {
-        for (number, row) in rows.iter().enumerate() {
-            assert!(rt; holds(rt.alloc(), row)?, "{name}, row {number}");
+    for (name, entries) in [("SHORT", SHORT), ("LONG", LONG)] {
+        let mut row = EditRow::new(rt.alloc());
+        for (number, entry) in entries.iter().enumerate() {
+            if row.add(entry)? {
+                assert!(rt; holds(rt.alloc(), &row)?, "{name}, up to entry {number}");
+            }
         }
     }
     Ok(())
@@ -165,11 +201,14 @@ fn rows(rt: HostRuntime) -> Result<(), AllocError> {
 
 #[test]
 fn one_character_a_token(rt: HostRuntime) -> Result<(), AllocError> {
-    for row in CHARACTERS {
-        let made = Made::of(rt.alloc(), row.text)?;
-        assert!(rt; fits(made.text.as_str()));
-        let mut lexed = LexedText::with(rt.alloc(), made.text.as_str(), Characters::new())?;
-        assert!(rt; is_edited(rt.alloc(), &mut lexed, row)?);
+    let mut row = EditRow::new(rt.alloc());
+    for entry in CHARACTERS {
+        if row.add(entry)? {
+            let text = row.text.as_str();
+            assert!(rt; fits(text));
+            let mut lexed = LexedText::with(rt.alloc(), text, Characters::new())?;
+            assert!(rt; is_edited(&mut lexed, &row)?);
+        }
     }
     Ok(())
 }

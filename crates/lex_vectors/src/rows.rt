@@ -3,7 +3,7 @@
 ghost use Rattle.rustc_lexer.specs.Classes.{Fits};
 
 use crate::tables::all::all;
-use crate::tables::row::{Part, Row, Way};
+use crate::tables::row::{Entry, Way, Ways};
 use rustc_lexer::{
     FrontmatterAllowed, Token, TokenKind, Tokens, fits, tokenize, tokenize_as, tokenize_in,
 };
@@ -11,41 +11,76 @@ use std::alloc::{AllocError, Global};
 use std::fmt::Write;
 use std::test::Fail;
 
-/// A text and its tokens.
+/// A text of a table and its tokens, as they are read entry by entry.
 #[derive(Drop)]
 pub struct Made {
     pub text: String,
     pub tokens: Vec<Token>,
+    /// The tokens of the part that comes next.
+    each: Vec<Token>,
+    is_whole: bool,
 }
 
 impl Made {
-    /// Returns the text and the tokens of the parts.
-    pub fn of(alloc: Global, parts: &[Part]) -> Result<Made, AllocError> {
-        let mut text = String::new(alloc);
-        let mut tokens = Vec::new(alloc);
-        for (part, times, wanted) in parts {
-            for _ in 0..*times {
-                text.push_str(part)?;
-                for (kind, len) in *wanted {
-                    tokens.push(Token {
-                        kind: *kind,
-                        len: *len,
-                    })?;
-                }
-            }
+    pub fn new(alloc: Global) -> Made {
+        Made {
+            text: String::new(alloc),
+            tokens: Vec::new(alloc),
+            each: Vec::new(alloc),
+            is_whole: false,
         }
-        Ok(Made { text, tokens })
     }
 
-    /// Returns the number of the first call that gives other tokens than these.
-    fn fault(&self, ways: &[Way]) -> Option<usize> {
+    /// Adds an entry. Returns the mark, if it is one. After a mark the next part or token begins a new text.
+    pub fn add<M: Copy>(&mut self, entry: &Entry<M>) -> Result<Option<M>, AllocError> {
+        match *entry {
+            Entry::Part(part, times) => {
+                self.begin_if_whole();
+                self.repeat(part, times)?;
+            }
+            Entry::Token((kind, len)) => {
+                self.begin_if_whole();
+                self.each.push(Token { kind, len })?;
+            }
+            Entry::Mark(mark) => {
+                self.repeat("", 1)?;
+                self.is_whole = true;
+                return Ok(Some(mark));
+            }
+        }
+        Ok(None)
+    }
+
+    fn begin_if_whole(&mut self) {
+        if self.is_whole {
+            self.text.clear();
+            self.tokens.clear();
+            self.is_whole = false;
+        }
+    }
+
+    /// Adds a part with its tokens so many times.
+    fn repeat(&mut self, part: &str, times: u32) -> Result<(), AllocError> {
+        for _ in 0..times {
+            self.text.push_str(part)?;
+            for token in self.each.as_slice() {
+                self.tokens.push(*token)?;
+            }
+        }
+        self.each.clear();
+        Ok(())
+    }
+
+    /// Returns the number of the first of these calls that gives other tokens than these.
+    fn fault(&self, ways: Ways) -> Option<usize> {
         let text = self.text.as_str();
         let wanted = self.tokens.as_slice();
-        for (number, way) in ways.iter().enumerate() {
-            let holds = fits(text)
-                && gives(lex(text, *way), wanted)
-                && fills(lex(text, *way), [BUFFER_LEN, BUFFER_LEN], wanted)
-                && fills(lex(text, *way), [1, 3], wanted);
+        for (number, way) in Way::ALL.into_iter().enumerate() {
+            let holds = !ways.has(way)
+                || fits(text)
+                    && gives(lex(text, way), wanted)
+                    && fills(lex(text, way), [BUFFER_LEN, BUFFER_LEN], wanted)
+                    && fills(lex(text, way), [1, 3], wanted);
             if !holds {
                 return Some(number);
             }
@@ -66,11 +101,19 @@ fn lex<'a>(text: &'a str, way: Way) -> Tokens<'a>
 }
 
 /// Collects the rows of the table that fail.
-fn write_faults(alloc: Global, faults: &mut String, table: (&str, &[Row])) -> Result<(), Fail> {
-    let (name, rows) = table;
-    for row in rows {
-        if let Some(number) = Made::of(alloc, row.parts)?.fault(row.ways) {
-            writeln!(faults, "{name}, by call {number}: {:?}", row.parts)?;
+fn write_faults(
+    alloc: Global,
+    faults: &mut String,
+    table: (&str, &[Entry<Ways>]),
+) -> Result<(), Fail> {
+    let (name, entries) = table;
+    let mut made = Made::new(alloc);
+    for entry in entries {
+        let Some(ways) = made.add(entry)? else {
+            continue;
+        };
+        if let Some(number) = made.fault(ways) {
+            writeln!(faults, "{name}, by call {number}: {:?}", made.text)?;
         }
     }
     Ok(())

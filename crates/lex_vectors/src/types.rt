@@ -1,7 +1,7 @@
 //! The types of the answers by themselves: names, numbers, orders, equality, and the messages of errors.
 use crate::tables::all::all;
 use crate::tables::editions::YEARS;
-use crate::tables::row::Row;
+use crate::tables::row::{Entry, Ways};
 use rustc_lexer::Base::*;
 use rustc_lexer::LiteralKind::*;
 use rustc_lexer::RawStrError::*;
@@ -24,14 +24,12 @@ fn is_named(alloc: Global, kind: &TokenKind) -> Result<bool, AllocError> {
     Ok(is_of_literal && begins_with_name(alloc, kind, kind.name())?)
 }
 
-/// Returns whether all kinds of the rows have the names of their variants.
-fn are_named(alloc: Global, rows: &[Row]) -> Result<bool, AllocError> {
-    for row in rows {
-        for (_, _, tokens) in row.parts {
-            for (kind, _) in *tokens {
-                if !is_named(alloc, kind)? {
-                    return Ok(false);
-                }
+/// Returns whether all kinds of the table have the names of their variants.
+fn are_named(alloc: Global, entries: &[Entry<Ways>]) -> Result<bool, AllocError> {
+    for entry in entries {
+        if let Entry::Token((kind, _)) = entry {
+            if !is_named(alloc, kind)? {
+                return Ok(false);
             }
         }
     }
@@ -40,8 +38,8 @@ fn are_named(alloc: Global, rows: &[Row]) -> Result<bool, AllocError> {
 
 #[test]
 fn a_name_is_that_of_its_variant(rt: HostRuntime) -> Result<(), AllocError> {
-    for (name, rows) in all() {
-        assert!(rt; are_named(rt.alloc(), rows)?, "{name}");
+    for (name, entries) in all() {
+        assert!(rt; are_named(rt.alloc(), entries)?, "{name}");
     }
     Ok(())
 }

@@ -1,12 +1,12 @@
 //! The tables of texts with their tokens.
-use crate::tables::row::Row;
+use crate::tables::row::{Entry, Ways};
 use crate::tables::{
     comments, editions, first_path, frontmatter, guarded, hostile, idents, numbers, original,
     quotes, raw_strings,
 };
 
 /// Each table, with its name.
-pub(crate) fn all() -> [(&'static str, &'static [Row]); 26] {
+pub(crate) fn all() -> [(&'static str, &'static [Entry<Ways>]); 26] {
     [
         ("comments", comments::ROWS),
         ("editions", editions::ROWS),

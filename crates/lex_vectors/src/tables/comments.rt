@@ -4,7 +4,7 @@ use crate::tables::row::*;
 use rustc_lexer::DocStyle::*;
 use rustc_lexer::TokenKind::*;
 
-pub(crate) static ROWS: &[Row] = rows! {
+pub(crate) static ROWS: &[Entry<Ways>] = rows! {
     PLAIN:
     // Comments nest.
     "/* /* */ */x" => [(BLOCK, 11), (Ident, 1)],

@@ -1,11 +1,12 @@
 //! Edits of a document that is kept with its tokens, in an edition. The tokens are those after the shebang line.
-use crate::tables::edits::{EditRow, edits};
+use crate::tables::edits::{Role, edits};
 use crate::tables::frontmatter::{BAD_INFOSTRING, FRONT};
 use crate::tables::kinds::*;
+use crate::tables::row::Entry;
 use rustc_lexer::TokenKind::*;
 
 /// Edits that lex no head: it is kept, or it goes away.
-pub static KEPT: &[EditRow] = edits! {
+pub static KEPT: &[Entry<Role>] = edits! {
     // A letter after a shebang line and a frontmatter, after a frontmatter in older editions, and after a
     // shebang line.
     E2024 "#!a\n---\nb\n---\nfn" (16..16 "x": [3, 1, 0]) => "#!a\n---\nb\n---\nfnx" [SPACE, (FRONT, 9), SPACE, (Ident, 3)],
@@ -31,7 +32,7 @@ pub static KEPT: &[EditRow] = edits! {
 };
 
 /// Edits that lex a frontmatter with nothing before it.
-pub static FRONTS: &[EditRow] = edits! {
+pub static FRONTS: &[Entry<Role>] = edits! {
     // A letter in it: one more, and one instead of another, which leaves all lengths.
     E2024 "---\nb\n---\nfn" (5..5 "c": [0, 1, 2]) => "---\nbc\n---\nfn" [(FRONT, 10), SPACE, WORD],
     E2024 "---\nb\n---\nc" (4..5 "d": [0, 1, 2]) => "---\nd\n---\nc" [(FRONT, 9), SPACE, LETTER],
@@ -50,7 +51,7 @@ pub static FRONTS: &[EditRow] = edits! {
 };
 
 /// Edits that lex white space and a frontmatter.
-pub static SPACED: &[EditRow] = edits! {
+pub static SPACED: &[Entry<Role>] = edits! {
     E2024 "---\n---\nb" (0..0 "\n": [0, 2, 2]) => "\n---\n---\nb" [SPACE, (FRONT, 7), SPACE, LETTER],
     E2024 "#!a\n---\n---\nb" (1..3 "!": [0, 2, 2]) => "#!\n---\n---\nb" [SPACE, (FRONT, 7), SPACE, LETTER],
 };

@@ -14,22 +14,15 @@ pub(crate) static YEARS: &[(&str, u16, Edition)] = &[
     ("2024", 2024, E2024),
 ];
 
-/// Both calls that take an edition, for each of these.
-macro_rules! both {
-    ($($edition:ident),*) => {
-        &[$(Way::Part($edition), Way::Document($edition)),*]
-    };
-}
+const IN_2024: Ways = Ways::Editions(E2024, E2024);
 
-const IN_2024: &[Way] = both!(E2024);
+const SINCE_2021: Ways = Ways::Editions(E2021, E2024);
 
-const SINCE_2021: &[Way] = both!(E2024, E2021);
+const UNTIL_2021: Ways = Ways::Editions(E2015, E2021);
 
-const UNTIL_2021: &[Way] = both!(E2021, E2018, E2015);
+const UNTIL_2018: Ways = Ways::Editions(E2015, E2018);
 
-const UNTIL_2018: &[Way] = both!(E2018, E2015);
-
-pub(crate) static ROWS: &[Row] = rows! {
+pub(crate) static ROWS: &[Entry<Ways>] = rows! {
     IN_2024: "#\"a\"" => [(GuardedStrPrefix, 2), (UnknownPrefix, 1), literal!(OPEN_STR, 1)],
     UNTIL_2021: "#\"a\"" => [HASH, literal!(STR, 3)],
     IN_2024: "##\"a\"" => [(GuardedStrPrefix, 2), literal!(STR, 3)],
@@ -50,14 +43,14 @@ pub(crate) static ROWS: &[Row] = rows! {
     UNTIL_2018: "" => [],
 };
 
-const SCRIPT_IN_2024: &[Way] = &[Way::Document(E2024)];
+const SCRIPT_IN_2024: Ways = Ways::Documents(E2024, E2024);
 
-const SCRIPT_IN_2021: &[Way] = &[Way::Document(E2021)];
+const SCRIPT_IN_2021: Ways = Ways::Documents(E2021, E2021);
 
-const SCRIPT_UNTIL_2018: &[Way] = &[Way::Document(E2018), Way::Document(E2015)];
+const SCRIPT_UNTIL_2018: Ways = Ways::Documents(E2015, E2018);
 
 /// Texts that begin with a frontmatter.
-pub(crate) static SCRIPTS: &[Row] = rows! {
+pub(crate) static SCRIPTS: &[Entry<Ways>] = rows! {
     SCRIPT_IN_2024: "---\n---\n'r#a #\"x\"" => [
         (FRONT, 7), SPACE, (RawLifetime, 4), SPACE, (GuardedStrPrefix, 2), (UnknownPrefix, 1), literal!(OPEN_STR, 1),
     ],

@@ -4,39 +4,44 @@ use crate::tables::row::*;
 use rustc_lexer::TokenKind::*;
 use rustc_lexer::{Edition, Relexed, TokenKind};
 
-/// An edit and its counts, or no counts if it is refused.
+/// What a text of a row of edits is.
 #[derive(Clone, Copy)]
-pub struct Step {
-    pub start: usize,
-    pub stop: usize,
-    pub insert: &'static [Part],
-    pub counts: Option<Relexed>,
-}
-
-/// A text, its edits, and the text and the tokens after them.
-#[derive(Clone, Copy)]
-pub struct EditRow {
-    pub edition: Edition,
-    pub text: &'static [Part],
-    pub steps: &'static [Step],
-    pub made: &'static [Part],
+pub enum Role {
+    /// The text that is edited, in an edition. A row begins with it.
+    Before(Edition),
+    /// The text that is put between two offsets, with the counts of the edit, or none if it is refused.
+    Edit(usize, usize, Option<Relexed>),
+    /// The text after the edits, with its tokens. A row ends with it.
+    After,
 }
 
 /// Rows: `edition text (start..stop insert: kept_front, lexed, kept_back).. => text tokens`. An edit with no counts is
-/// refused.
+/// refused. Texts are written as for `rows`, the last one with no brackets.
 macro_rules! edits {
-    ($($edition:ident $text:tt $(($start:literal..$stop:literal $insert:tt $(: $counts:tt)?))* => $made:tt $tokens:tt),* $(,)?) => {
-        &[$($crate::tables::edits::EditRow {
-            edition: rustc_lexer::Edition::$edition,
-            text: $crate::tables::row::parts!($text => []),
-            steps: &[$($crate::tables::edits::Step {
-                start: $start,
-                stop: $stop,
-                insert: $crate::tables::row::parts!($insert => []),
-                counts: $crate::tables::edits::counts!($($counts)?),
-            }),*],
-            made: $crate::tables::row::parts!($made => $tokens),
-        }),*]
+    ($($edition:ident $([$($part:literal $(* $times:literal)?),+])? $($text:literal)?
+        $(($start:literal..$stop:literal $([$($new_part:literal $(* $new_times:literal)?),+])? $($new:literal)?
+            $(: [$kept_front:literal, $lexed:literal, $kept_back:literal])?))*
+        => $({$($each:literal $(* $each_times:literal)? => [$($of_each:expr),*]),+})?
+        $($made:literal)?
+        [$($token:expr),* $(,)?]),* $(,)?) => {
+        &[$(
+            $($($crate::tables::row::Entry::Part($part, 1 $(* $times)?),)+)?
+            $($crate::tables::row::Entry::Part($text, 1),)?
+            $crate::tables::row::Entry::Mark($crate::tables::edits::Role::Before(rustc_lexer::Edition::$edition)),
+            $(
+                $($($crate::tables::row::Entry::Part($new_part, 1 $(* $new_times)?),)+)?
+                $($crate::tables::row::Entry::Part($new, 1),)?
+                $crate::tables::row::Entry::Mark($crate::tables::edits::Role::Edit(
+                    $start,
+                    $stop,
+                    $crate::tables::edits::counts!($($kept_front, $lexed, $kept_back)?),
+                )),
+            )*
+            $($($($crate::tables::row::Entry::Token($of_each),)* $crate::tables::row::Entry::Part($each, 1 $(* $each_times)?),)+)?
+            $($crate::tables::row::Entry::Part($made, 1),)?
+            $($crate::tables::row::Entry::Token($token),)*
+            $crate::tables::row::Entry::Mark($crate::tables::edits::Role::After),
+        )*]
     };
 }
 
@@ -44,7 +49,7 @@ macro_rules! counts {
     () => {
         None
     };
-    ([$kept_front:literal, $lexed:literal, $kept_back:literal]) => {
+    ($kept_front:literal, $lexed:literal, $kept_back:literal) => {
         Some(rustc_lexer::Relexed {
             kept_front: $kept_front,
             lexed: $lexed,
@@ -56,7 +61,7 @@ macro_rules! counts {
 pub(crate) use counts;
 pub(crate) use edits;
 
-pub static SHORT: &[EditRow] = edits! {
+pub static SHORT: &[Entry<Role>] = edits! {
     E2024 "" (0..0 "": [0, 0, 0]) => "" [],
     E2024 "ab cd ef" (8..8 "z": [4, 1, 0]) => "ab cd efz" [WORD, SPACE, WORD, SPACE, (Ident, 3)],
     E2024 "ab cd ef" (3..5 "x y": [0, 5, 2]) => "ab x y ef" [WORD, SPACE, LETTER, SPACE, LETTER, SPACE, WORD],
@@ -87,17 +92,17 @@ pub static SHORT: &[EditRow] = edits! {
 };
 
 /// Long texts.
-pub static LONG: &[EditRow] = edits! {
+pub static LONG: &[Entry<Role>] = edits! {
     // A long insertion: 602 tokens, then the old ones again; and a comment with no end, which meets none of
     // them.
     E2024 "ab cd ef" (3..3 ["x " * 300]: [0, 602, 3]) => {
         "ab " => [WORD, SPACE], "x " * 300 => [LETTER, SPACE], "cd ef" => [WORD, SPACE, WORD]
     } [],
-    E2024 "ab cd ef" (3..3 ["/*a " * 300]: [0, 3, 0]) => ["ab ", "/*a " * 300, "cd ef"] [
+    E2024 "ab cd ef" (3..3 ["/*a " * 300]: [0, 3, 0]) => {"ab " => [], "/*a " * 300 => [], "cd ef" => []} [
         WORD, SPACE, (OPEN_BLOCK, 1205),
     ],
     // An opening before many tokens, and away again; a mark after many tokens; an emoji less.
-    E2024 ["x " * 50_000] (0..0 "/*": [0, 1, 0]) => ["/*", "x " * 50_000] [(OPEN_BLOCK, 100_002)],
+    E2024 ["x " * 50_000] (0..0 "/*": [0, 1, 0]) => {"/*" => [], "x " * 50_000 => []} [(OPEN_BLOCK, 100_002)],
     E2024 ["x " * 50_000] (0..0 "/*": [0, 1, 0]) (0..2 "": [0, 100_000, 0]) => {"x " * 50_000 => [LETTER, SPACE]} [],
     E2024 ["x " * 50_000] (100_000..100_000 "*/": [99_998, 4, 0]) => {
         "x " * 50_000 => [LETTER, SPACE], "*/" => [(Star, 1), (Slash, 1)]
@@ -105,12 +110,12 @@ pub static LONG: &[EditRow] = edits! {
     E2024 ["x " * 50_000] (100_000..100_000 "/*": [99_998, 3, 0]) => {
         "x " * 50_000 => [LETTER, SPACE], "/*" => [(OPEN_BLOCK, 2)]
     } [],
-    E2024 ["😀" * 1_000] (0..4 "": [0, 1, 0]) => ["😀" * 999] [(InvalidIdent, 3_996)],
+    E2024 ["😀" * 1_000] (0..4 "": [0, 1, 0]) => {"😀" * 999 => []} [(InvalidIdent, 3_996)],
 };
 
 const ONE: (TokenKind, u32) = (Unknown, 1);
 
 /// The same if each character is one token.
-pub static CHARACTERS: &[EditRow] = edits! {
+pub static CHARACTERS: &[Entry<Role>] = edits! {
     E2024 "ab cd" (3..3 "é": [1, 3, 2]) => "ab écd" [ONE, ONE, ONE, (Unknown, 2), ONE, ONE],
 };

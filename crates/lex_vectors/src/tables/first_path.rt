@@ -4,7 +4,7 @@ use crate::tables::row::*;
 use rustc_lexer::DocStyle::*;
 use rustc_lexer::TokenKind::*;
 
-pub(crate) static ROWS: &[Row] = rows! {
+pub(crate) static ROWS: &[Entry<Ways>] = rows! {
     PLAIN:
     "fn main() {}\n" => [
         WORD, SPACE, (Ident, 4), (OpenParen, 1), (CloseParen, 1), SPACE, (OpenBrace, 1), (CloseBrace, 1), SPACE,

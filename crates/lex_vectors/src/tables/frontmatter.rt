@@ -27,7 +27,7 @@ const SPACED_BAD: TokenKind = front!(true, true);
 /// A script of the original's tests.
 const SCRIPT: &str = "\n---cargo\n[dependencies]\nclap = \"4\"\n---\n\nfn main() {}\n";
 
-pub(crate) static NONE_ALLOWED: &[Row] = rows! {
+pub(crate) static NONE_ALLOWED: &[Entry<Ways>] = rows! {
     PLAIN:
     SCRIPT => [
         SPACE, DASH, DASH, DASH, (Ident, 5), SPACE, (OpenBracket, 1), (Ident, 12), (CloseBracket, 1), SPACE, (Ident, 4),
@@ -36,7 +36,7 @@ pub(crate) static NONE_ALLOWED: &[Row] = rows! {
     ],
 };
 
-pub(crate) static STARTS: &[Row] = rows! {
+pub(crate) static STARTS: &[Entry<Ways>] = rows! {
     DOCUMENT:
     SCRIPT => [
         SPACE, (FRONT, 38), (Whitespace, 2), (Ident, 2), SPACE, (Ident, 4), (OpenParen, 1), (CloseParen, 1), SPACE,
@@ -64,7 +64,7 @@ pub(crate) static STARTS: &[Row] = rows! {
     "---\n---\n---\n---" => [(FRONT, 7), SPACE, DASH, DASH, DASH, SPACE, DASH, DASH, DASH],
 };
 
-pub(crate) static INFOSTRINGS: &[Row] = rows! {
+pub(crate) static INFOSTRINGS: &[Entry<Ways>] = rows! {
     DOCUMENT:
     "---cargo\n---\n" => [(FRONT, 12), SPACE],
     "--- cargo\t\n---\n" => [(FRONT, 14), SPACE],
@@ -86,7 +86,7 @@ pub(crate) static INFOSTRINGS: &[Row] = rows! {
 };
 
 /// Where it ends.
-pub(crate) static CLOSINGS: &[Row] = rows! {
+pub(crate) static CLOSINGS: &[Entry<Ways>] = rows! {
     DOCUMENT:
     "---\n---" => [(FRONT, 7)],
     "-----\n-----\n" => [(FRONT, 11), SPACE],
@@ -121,7 +121,7 @@ pub(crate) static CLOSINGS: &[Row] = rows! {
 };
 
 /// Two places where it could end, in both orders.
-pub(crate) static PAIRS: &[Row] = rows! {
+pub(crate) static PAIRS: &[Entry<Ways>] = rows! {
     DOCUMENT:
     "----\n----f\n---s" => [(FRONT, 10), SPACE, DASH, DASH, DASH, LETTER],
     "----\n---s\n----f" => [(FRONT, 15)],

@@ -4,7 +4,7 @@ use crate::tables::row::*;
 use rustc_lexer::LiteralKind::*;
 use rustc_lexer::TokenKind::*;
 
-pub(crate) static ROWS: &[Row] = rows! {
+pub(crate) static ROWS: &[Entry<Ways>] = rows! {
     PLAIN:
     "#\"a\"" => [(GuardedStrPrefix, 2), (UnknownPrefix, 1), literal!(OPEN_STR, 1)],
     "##\"a\"" => [(GuardedStrPrefix, 2), literal!(STR, 3)],

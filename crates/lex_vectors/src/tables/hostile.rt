@@ -3,7 +3,7 @@ use crate::tables::kinds::*;
 use crate::tables::row::*;
 use rustc_lexer::TokenKind::*;
 
-pub(crate) static ROWS: &[Row] = rows! {
+pub(crate) static ROWS: &[Entry<Ways>] = rows! {
     PLAIN:
     // Comments and white space.
     ["/*" * 100_000] => [(OPEN_BLOCK, 200_000)],
@@ -23,7 +23,7 @@ pub(crate) static ROWS: &[Row] = rows! {
     ["1", "u" * 100_000] => [literal!(INT, 1, 100_001)],
 };
 
-pub(crate) static QUOTES: &[Row] = rows! {
+pub(crate) static QUOTES: &[Entry<Ways>] = rows! {
     PLAIN:
     ["\"", "a" * 1_000_000] => [literal!(OPEN_STR, 1_000_001)],
     ["\"", "\\" * 100_000, "\""] => [literal!(STR, 100_002)],
@@ -42,7 +42,7 @@ pub(crate) static QUOTES: &[Row] = rows! {
     ["r", "#" * 300, "\"a\"", "#" * 300, "x"] => [literal!(BAD_RAW_STR, 604), LETTER],
 };
 
-pub(crate) static MANY_TOKENS: &[Row] = rows! {
+pub(crate) static MANY_TOKENS: &[Entry<Ways>] = rows! {
     PLAIN:
     {"x " * 10_000 => [LETTER, SPACE]} => [],
     {"k# " * 10_000 => [(UnknownPrefix, 1), HASH, SPACE]} => [],

@@ -3,7 +3,7 @@ use crate::tables::kinds::*;
 use crate::tables::row::*;
 use rustc_lexer::TokenKind::*;
 
-pub(crate) static ROWS: &[Row] = rows! {
+pub(crate) static ROWS: &[Entry<Ways>] = rows! {
     PLAIN:
     "_" => [(Ident, 1)],
     "__a1" => [(Ident, 4)],
@@ -35,7 +35,7 @@ pub(crate) static ROWS: &[Row] = rows! {
 };
 
 /// Prefixes that Rust does not have.
-pub(crate) static PREFIXES: &[Row] = rows! {
+pub(crate) static PREFIXES: &[Entry<Ways>] = rows! {
     PLAIN:
     "k# x" => [(UnknownPrefix, 1), (Pound, 1), (Whitespace, 1), (Ident, 1)],
     "k#" => [(UnknownPrefix, 1), (Pound, 1)],
@@ -55,7 +55,7 @@ pub(crate) static PREFIXES: &[Row] = rows! {
     "foo #" => [(Ident, 3), (Whitespace, 1), (Pound, 1)],
 };
 
-pub(crate) static EMOJI: &[Row] = rows! {
+pub(crate) static EMOJI: &[Entry<Ways>] = rows! {
     PLAIN:
     "😀" => [(InvalidIdent, 4)],
     "©" => [(InvalidIdent, 2)],

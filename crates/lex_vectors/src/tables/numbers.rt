@@ -6,7 +6,7 @@ use rustc_lexer::LiteralKind::*;
 use rustc_lexer::TokenKind::*;
 
 /// A number of each form at the end of a text.
-pub(crate) static AT_THE_END: &[Row] = rows! {
+pub(crate) static AT_THE_END: &[Entry<Ways>] = rows! {
     PLAIN:
     "0" => [literal!(INT, 1)],
     "7" => [literal!(INT, 1)],
@@ -48,7 +48,7 @@ pub(crate) static AT_THE_END: &[Row] = rows! {
     "0b1e3" => [literal!(Float { base: Binary, empty_exponent: false }, 5)],
 };
 
-pub(crate) static SUFFIXES: &[Row] = rows! {
+pub(crate) static SUFFIXES: &[Entry<Ways>] = rows! {
     PLAIN:
     "0us" => [literal!(INT, 1, 3)],
     "1f32" => [literal!(INT, 1, 4)],
@@ -73,7 +73,7 @@ pub(crate) static SUFFIXES: &[Row] = rows! {
     "1r\"a\"" => [literal!(INT, 1, 2), literal!(STR, 3)],
 };
 
-pub(crate) static BEFORE_OTHERS: &[Row] = rows! {
+pub(crate) static BEFORE_OTHERS: &[Entry<Ways>] = rows! {
     PLAIN:
     // A dot before a dot or a name is not part of the number.
     "1..2" => [literal!(INT, 1), (Dot, 1), (Dot, 1), literal!(INT, 1)],

@@ -6,7 +6,7 @@ use rustc_lexer::DocStyle::*;
 use rustc_lexer::LiteralKind::*;
 use rustc_lexer::TokenKind::*;
 
-pub(crate) static ROWS: &[Row] = rows! {
+pub(crate) static ROWS: &[Entry<Ways>] = rows! {
     PLAIN:
     "/* my source file */ fn main() { println!(\"zebra\"); }\n" => [
         (BLOCK, 20), SPACE, WORD, SPACE, (Ident, 4), (OpenParen, 1), (CloseParen, 1), SPACE, (OpenBrace, 1), SPACE,

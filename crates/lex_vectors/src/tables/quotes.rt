@@ -4,7 +4,7 @@ use crate::tables::row::*;
 use rustc_lexer::LiteralKind::*;
 use rustc_lexer::TokenKind::*;
 
-pub(crate) static STRINGS: &[Row] = rows! {
+pub(crate) static STRINGS: &[Entry<Ways>] = rows! {
     PLAIN:
     r#""""# => [literal!(STR, 2)],
     r#""a"b"# => [literal!(STR, 3, 4)],
@@ -37,7 +37,7 @@ pub(crate) static STRINGS: &[Row] = rows! {
     r#""a" b"# => [literal!(STR, 3), (Whitespace, 1), (Ident, 1)],
 };
 
-pub(crate) static CHARACTERS: &[Row] = rows! {
+pub(crate) static CHARACTERS: &[Entry<Ways>] = rows! {
     PLAIN:
     "'é'" => [literal!(CHAR, 4)],
     "'\u{2139}'" => [literal!(CHAR, 5)],
@@ -85,7 +85,7 @@ pub(crate) static CHARACTERS: &[Row] = rows! {
     "' a/b'" => [literal!(OPEN_CHAR, 3), (Slash, 1), literal!(Byte { terminated: false }, 2)],
 };
 
-pub(crate) static BYTES: &[Row] = rows! {
+pub(crate) static BYTES: &[Entry<Ways>] = rows! {
     PLAIN:
     "b'a'" => [literal!(Byte { terminated: true }, 4)],
     "b''" => [literal!(Byte { terminated: true }, 3)],
@@ -100,7 +100,7 @@ pub(crate) static BYTES: &[Row] = rows! {
     "c'a'" => [(UnknownPrefix, 1), literal!(CHAR, 3)],
 };
 
-pub(crate) static LIFETIMES: &[Row] = rows! {
+pub(crate) static LIFETIMES: &[Entry<Ways>] = rows! {
     PLAIN:
     "'a" => [(LIFETIME, 2)],
     "'_" => [(LIFETIME, 2)],

@@ -6,7 +6,7 @@ use rustc_lexer::LiteralKind::*;
 use rustc_lexer::RawStrError;
 use rustc_lexer::TokenKind::*;
 
-pub(crate) static ROWS: &[Row] = rows! {
+pub(crate) static ROWS: &[Entry<Ways>] = rows! {
     PLAIN:
     r#"r"""# => [literal!(RAW_STR, 3)],
     r#"r"\""# => [literal!(RAW_STR, 4)],
@@ -33,7 +33,7 @@ pub(crate) static ROWS: &[Row] = rows! {
 };
 
 /// Raw strings that are not terminated.
-pub(crate) static UNCLOSED: &[Row] = rows! {
+pub(crate) static UNCLOSED: &[Entry<Ways>] = rows! {
     PLAIN:
     r#"r""# => [literal!(BAD_RAW_STR, 2)],
     r##"r#""## => [literal!(BAD_RAW_STR, 3)],
@@ -74,16 +74,20 @@ macro_rules! open {
     };
 }
 
-/// A text by its parts, the length of its prefix, and what the check answers.
-pub(crate) type Check = (&'static [Part], u32, Result<(), RawStrError>);
+/// The length of the prefix of a text, and what the check answers.
+pub(crate) type Check = (u32, Result<(), RawStrError>);
 
 macro_rules! checks {
-    ($($text:tt, $prefix_len:literal => $answer:expr),* $(,)?) => {
-        &[$((parts!($text => []), $prefix_len, $answer)),*]
+    ($($([$($part:literal $(* $times:literal)?),+])? $($text:literal)?, $prefix_len:literal => $answer:expr),* $(,)?) => {
+        &[$(
+            $($(Entry::Part($part, 1 $(* $times)?),)+)?
+            $(Entry::Part($text, 1),)?
+            Entry::Mark(($prefix_len, $answer)),
+        )*]
     };
 }
 
-pub(crate) static CHECKS: &[Check] = checks! {
+pub(crate) static CHECKS: &[Entry<Check>] = checks! {
     "r\"abc\"", 1 => Ok(()),
     "r\"abc\"#", 1 => Ok(()),
     "r#\"abc\"##", 1 => Ok(()),

@@ -1,8 +1,16 @@
-//! The macros for tables. A row is a text with its tokens, by some calls.
+//! What tables are made of, and the macros for them. A row is a text with its tokens, by some calls.
 use rustc_lexer::{Edition, FrontmatterAllowed, TokenKind};
 
-/// A part of a text, how often it is repeated, and the tokens that end in it each time, by kind and length.
-pub type Part = (&'static str, u32, &'static [(TokenKind, u32)]);
+/// An entry of a table, which is one flat list, since the prover takes long for lists in lists.
+#[derive(Clone, Copy)]
+pub enum Entry<M> {
+    /// A part of a text, and how often it is repeated. The tokens before it end in it each time.
+    Part(&'static str, u32),
+    /// A token of the text, by kind and length.
+    Token((TokenKind, u32)),
+    /// The end of the text, and what it is for.
+    Mark(M),
+}
 
 /// A call that lexes a text.
 #[derive(Clone, Copy)]
@@ -15,44 +23,70 @@ pub enum Way {
     Document(Edition),
 }
 
-/// A text by its parts, and the calls that give exactly its tokens.
+impl Way {
+    pub const ALL: [Way; 10] = [
+        Way::Newest(FrontmatterAllowed::No),
+        Way::Newest(FrontmatterAllowed::Yes),
+        Way::Part(Edition::E2015),
+        Way::Part(Edition::E2018),
+        Way::Part(Edition::E2021),
+        Way::Part(Edition::E2024),
+        Way::Document(Edition::E2015),
+        Way::Document(Edition::E2018),
+        Way::Document(Edition::E2021),
+        Way::Document(Edition::E2024),
+    ];
+}
+
+/// The calls that give exactly the tokens of a row.
 #[derive(Clone, Copy)]
-pub struct Row {
-    pub ways: &'static [Way],
-    pub parts: &'static [Part],
+pub enum Ways {
+    /// `tokenize`.
+    Newest(FrontmatterAllowed),
+    /// `tokenize_in` and `tokenize_as`, in the editions from the first to the last.
+    Editions(Edition, Edition),
+    /// `tokenize_as`, in the editions from the first to the last.
+    Documents(Edition, Edition),
+}
+
+impl Ways {
+    /// Returns whether this call is one of them.
+    pub fn has(self, way: Way) -> bool {
+        match (self, way) {
+            (Ways::Newest(allowed), Way::Newest(other)) => allowed == other,
+            (Ways::Editions(first, last), Way::Part(edition) | Way::Document(edition))
+            | (Ways::Documents(first, last), Way::Document(edition)) => {
+                first <= edition && edition <= last
+            }
+            _ => false,
+        }
+    }
 }
 
 /// The call for a text without a frontmatter.
-pub const PLAIN: &[Way] = &[Way::Newest(FrontmatterAllowed::No)];
+pub const PLAIN: Ways = Ways::Newest(FrontmatterAllowed::No);
 
 /// The call for a text that may begin with a frontmatter.
-pub const DOCUMENT: &[Way] = &[Way::Newest(FrontmatterAllowed::Yes)];
+pub const DOCUMENT: Ways = Ways::Newest(FrontmatterAllowed::Yes);
 
-/// The rows of a table: the calls, or for each row its own before it, and texts with their tokens, written as
-/// `parts` takes them.
+/// The rows of a table: the calls, or for each row its own before it, and texts with their tokens. A text is a literal
+/// or the name of one; or, in brackets, literals with how often each is repeated; or, in braces, the same with the
+/// tokens that end in it each time.
 macro_rules! rows {
-    ($($ways:ident: $text:tt => $tokens:tt),* $(,)?) => {
-        &[$($crate::tables::row::Row {
-            ways: $ways,
-            parts: $crate::tables::row::parts!($text => $tokens),
-        }),*]
+    ($($ways:ident: $({$($each:literal $(* $each_times:literal)? => [$($of_each:expr),*]),+})?
+        $([$($part:literal $(* $times:literal)?),+])? $($text:literal)? $($name:ident)?
+        => [$($token:expr),* $(,)?]),* $(,)?) => {
+        &[$(
+            $($($($crate::tables::row::Entry::Token($of_each),)* $crate::tables::row::Entry::Part($each, 1 $(* $each_times)?),)+)?
+            $($($crate::tables::row::Entry::Part($part, 1 $(* $times)?),)+)?
+            $($crate::tables::row::Entry::Part($text, 1),)?
+            $($crate::tables::row::Entry::Part($name, 1),)?
+            $($crate::tables::row::Entry::Token($token),)*
+            $crate::tables::row::Entry::Mark($ways),
+        )*]
     };
     ($ways:ident: $($text:tt => $tokens:tt),* $(,)?) => {
         $crate::tables::row::rows!($($ways: $text => $tokens),*)
-    };
-}
-
-/// The parts of a text with its tokens. The text is a literal; or, in brackets, literals with how often each is
-/// repeated; or, in braces, the same with the tokens that end in it each time.
-macro_rules! parts {
-    ([$($text:literal $(* $times:literal)?),+] => $tokens:tt) => {
-        &[$(($text, 1 $(* $times)?, &[]),)+ ("", 1, &$tokens)]
-    };
-    ({$($text:literal $(* $times:literal)? => $each:tt),+} => []) => {
-        &[$(($text, 1 $(* $times)?, &$each)),+]
-    };
-    ($text:expr => $tokens:tt) => {
-        &[($text, 1, &$tokens)]
     };
 }
 
@@ -73,5 +107,4 @@ macro_rules! literal {
 }
 
 pub(crate) use literal;
-pub(crate) use parts;
 pub(crate) use rows;

@@ -4,11 +4,11 @@
 //! Those of an edition are left out.
 
 use crate::tables::all::all;
-use crate::tables::row::{Part, Way};
+use crate::tables::row::{Entry, Way};
 use crate::tables::shebang;
 use rustc_lexer::{FrontmatterAllowed, TokenKind};
 use std::path::Path;
-use std::{env, fs, io};
+use std::{env, fs, io, mem};
 
 #[allow(dead_code)]
 mod tables;
@@ -33,27 +33,39 @@ impl Case {
     }
 }
 
-/// The text of the parts.
-fn text_of(parts: &[Part]) -> String {
-    let times = |(part, times, _): &Part| part.repeat(*times as usize);
-    parts.iter().map(times).collect()
-}
-
-/// The tokens of the parts.
-fn tokens_of(parts: &[Part]) -> Vec<(TokenKind, u32)> {
-    let times = |(_, times, tokens): &Part| tokens.repeat(*times as usize);
-    parts.iter().flat_map(times).collect()
+/// The texts of a table with their tokens, each with its mark.
+fn texts<M: Copy>(entries: &[Entry<M>]) -> Vec<(String, Vec<(TokenKind, u32)>, M)> {
+    let (mut texts, mut text, mut tokens, mut each) =
+        (Vec::new(), String::new(), Vec::new(), Vec::new());
+    for entry in entries {
+        match *entry {
+            Entry::Part(part, times) => {
+                text += &part.repeat(times as usize);
+                tokens.extend(each.repeat(times as usize));
+                each.clear();
+            }
+            Entry::Token(token) => each.push(token),
+            Entry::Mark(mark) => {
+                tokens.append(&mut each);
+                texts.push((mem::take(&mut text), mem::take(&mut tokens), mark));
+            }
+        }
+    }
+    texts
 }
 
 /// All texts with their tokens, by each call.
 fn cases() -> Vec<Case> {
     let mut cases = Vec::new();
-    for row in all().into_iter().flat_map(|(_, rows)| rows) {
-        cases.extend(row.ways.iter().map(|way| Case {
-            text: text_of(row.parts),
-            way: *way,
-            tokens: tokens_of(row.parts),
-        }));
+    for (_, entries) in all() {
+        for (text, tokens, ways) in texts(entries) {
+            let ways = Way::ALL.into_iter().filter(|way| ways.has(*way));
+            cases.extend(ways.map(|way| Case {
+                text: text.clone(),
+                way,
+                tokens: tokens.clone(),
+            }));
+        }
     }
     cases
 }

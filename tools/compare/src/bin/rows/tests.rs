@@ -2,7 +2,7 @@
 
 use crate::tables::raw_strings::CHECKS;
 use crate::tables::{row::Way, shebang};
-use crate::{cases, text_of};
+use crate::{cases, texts};
 use rustc_lexer::{
     Cursor, FrontmatterAllowed, Token, TokenKind, strip_shebang, tokenize, tokenize_as,
     tokenize_in, validate_raw_str,
@@ -69,9 +69,9 @@ fn shebang_lines() {
 
 #[test]
 fn raw_strings() {
-    assert_eq!(CHECKS.len(), 39);
-    for (parts, prefix_len, want) in CHECKS {
-        let text = text_of(parts);
-        assert_eq!(validate_raw_str(&text, *prefix_len), *want, "in {text:?}");
+    let checks = texts(CHECKS);
+    assert_eq!(checks.len(), 39);
+    for (text, _, (prefix_len, want)) in checks {
+        assert_eq!(validate_raw_str(&text, prefix_len), want, "in {text:?}");
     }
 }
