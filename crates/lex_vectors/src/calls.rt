@@ -11,8 +11,7 @@ use std::alloc::AllocError;
 #[test]
 fn shebang_lines(rt: HostRuntime) {
     for (text, line) in shebang::ROWS {
-        assert!(rt; fits(text));
-        assert_eq!(rt; strip_shebang(text), *line, "in {text:?}");
+        assert!(rt; fits(text) && strip_shebang(text) == *line, "in {text}");
     }
 }
 
@@ -24,44 +23,48 @@ fn checks_of_raw_strings(rt: HostRuntime) -> Result<(), AllocError> {
             continue;
         };
         let text = made.text.as_str();
-        assert!(rt; fits(text) && starts_raw(text, prefix_len), "in {text:?}");
-        assert_eq!(rt; validate_raw_str(text, prefix_len), want, "in {text:?}");
+        let holds = fits(text)
+            && starts_raw(text, prefix_len)
+            && validate_raw_str(text, prefix_len) == want;
+        assert!(rt; holds, "in {text}");
     }
     Ok(())
 }
 
-/// Texts, the lengths of a prefix with which a raw string may begin, and others with which none does.
-static PREFIXES: &[(&str, &[u32], &[u32])] = &[
-    ("", &[], &[0, 1]),
-    ("r", &[1], &[0, 2, u32::MAX]),
-    ("R", &[], &[1]),
-    ("rr", &[1, 2], &[]),
-    ("br", &[2], &[1, 3]),
-    ("ér", &[2], &[1, 3]),
-    ("r\"", &[1], &[]),
+/// Texts, and the lengths of a prefix: whether a raw string may begin with it.
+static PREFIXES: &[(&str, u32, bool)] = &[
+    ("", 0, false),
+    ("", 1, false),
+    ("r", 0, false),
+    ("r", 1, true),
+    ("r", 2, false),
+    ("r", u32::MAX, false),
+    ("R", 1, false),
+    ("rr", 1, true),
+    ("rr", 2, true),
+    ("br", 1, false),
+    ("br", 2, true),
+    ("br", 3, false),
+    ("ér", 1, false),
+    ("ér", 2, true),
+    ("ér", 3, false),
+    ("r\"", 1, true),
 ];
 
 #[test]
 fn prefixes_of_raw_strings(rt: HostRuntime) {
-    for (text, some, none) in PREFIXES {
-        assert!(rt;
-            some.iter().all(|len| starts_raw(text, *len)),
-            "in {text:?}"
-        );
-        assert!(rt;
-            !none.iter().any(|len| starts_raw(text, *len)),
-            "in {text:?}"
-        );
+    for (text, len, wanted) in PREFIXES {
+        assert!(rt; starts_raw(text, *len) == *wanted, "{len} of {text}");
     }
 }
 
 #[test]
 fn whole_identifiers(rt: HostRuntime) {
     for text in ["_", "a1", "é", "while", "\u{2139}", "a\u{200d}"] {
-        assert!(rt; is_ident(text), "at {text:?}");
+        assert!(rt; is_ident(text), "at {text}");
     }
     for text in ["", "1a", "a😀", "😀", "a ", " a", "r#a", "\u{200d}a", "a\0"] {
-        assert!(rt; !is_ident(text), "at {text:?}");
+        assert!(rt; !is_ident(text), "at {text}");
     }
 }
 
@@ -93,7 +96,7 @@ fn classes(rt: HostRuntime) {
                 is_id_start(c),
                 is_id_continue(c),
             ];
-            assert_eq!(rt; found, *wanted, "of {c:?}");
+            assert!(rt; found == *wanted, "of {c}");
         }
     }
 }
@@ -101,7 +104,7 @@ fn classes(rt: HostRuntime) {
 #[test]
 fn unicode_version(rt: HostRuntime) {
     let (major, minor, patch) = UNICODE_VERSION;
-    assert_eq!(rt; [major, minor, patch], [18, 0, 0]);
+    assert!(rt; [major, minor, patch] == [18, 0, 0]);
 }
 
 #[test]
@@ -115,7 +118,6 @@ fn settled_places(rt: HostRuntime) {
         ("'a# ", 2),
         ("", 0),
     ] {
-        assert!(rt; fits(text));
-        assert_eq!(rt; settled(text), place, "in {text:?}");
+        assert!(rt; fits(text) && settled(text) == place, "in {text}");
     }
 }

@@ -115,7 +115,7 @@ fn rows(rt: HostRuntime) -> Result<(), AllocError> {
                 let text = made.text.as_str();
                 let holds = goes(text, FrontmatterAllowed::No, calls.as_slice())
                     && goes(text, FrontmatterAllowed::Yes, calls.as_slice());
-                assert!(rt; holds, "in {text:?}");
+                assert!(rt; holds, "in {text}");
                 calls.clear();
             }
             None => {}
@@ -127,17 +127,16 @@ fn rows(rt: HostRuntime) -> Result<(), AllocError> {
 #[test]
 fn slices_outlive_what_gave_them(rt: HostRuntime) {
     let text = "a b";
-    let past_token = {
+    let (whole, past_token) = {
         let mut tokens = tokenize(text, FrontmatterAllowed::No);
-        assert_eq!(rt; tokens.as_str(), "a b");
-        assert!(rt; tokens.next().is_some());
-        tokens.as_str()
+        let whole = tokens.as_str();
+        let _ = tokens.next();
+        (whole, tokens.as_str())
     };
-    assert_eq!(rt; past_token, " b");
     let past_advance = {
         let mut cursor = Cursor::new(text, FrontmatterAllowed::No);
-        assert_eq!(rt; cursor.advance_token().len, 1);
+        let _ = cursor.advance_token();
         cursor.as_str()
     };
-    assert_eq!(rt; past_advance, " b");
+    assert!(rt; whole == "a b" && past_token == " b" && past_advance == " b");
 }

@@ -45,18 +45,29 @@ fn holds(alloc: Global, row: &EditRow, heads: u64) -> Result<bool, AllocError> {
         return Ok(false);
     }
     let mut kept = LexedDocument::new_in(alloc, text, row.edition)?;
-    let mut edited = LexedDocument::with(alloc, text, Counting::new_in(row.edition))?;
-    let mut listed = LexedDocument::with(alloc, text, Counting::new_in(row.edition))?;
     let lexed = lexed_by(row).saturating_sub(heads);
-    let calls = edited.stepper().calls.saturating_add(lexed);
     Ok(
         is_edited(&mut kept, row)?
             && kept.edition() == row.edition
-            && is_edited(&mut edited, row)?
-            && edited.stepper().calls == calls
-            && is_listed(alloc, &mut listed, row)?
-            && listed.stepper().calls == calls,
+            && is_counted(alloc, row, lexed, false)?
+            && is_counted(alloc, row, lexed, true)?,
     )
+}
+
+/// Returns whether the row holds, and the stepper is called so many times.
+fn is_counted(alloc: Global, row: &EditRow, lexed: u64, as_list: bool) -> Result<bool, AllocError> {
+    let text = row.text.as_str();
+    if !fits(text) {
+        return Ok(false);
+    }
+    let mut held = LexedDocument::with(alloc, text, Counting::new_in(row.edition))?;
+    let calls = held.stepper().calls.saturating_add(lexed);
+    let holds = if as_list {
+        is_listed(alloc, &mut held, row)?
+    } else {
+        is_edited(&mut held, row)?
+    };
+    Ok(holds && held.stepper().calls == calls)
 }
 
 /// Texts with a head, and texts without one: an edit of them keeps the same.
@@ -82,15 +93,22 @@ fn rows(rt: HostRuntime) -> Result<(), AllocError> {
     Ok(())
 }
 
+/// Returns whether the row holds if each character is one token.
+fn holds_by_characters(alloc: Global, row: &EditRow) -> Result<bool, AllocError> {
+    let text = row.text.as_str();
+    if !fits(text) {
+        return Ok(false);
+    }
+    let mut held = LexedDocument::with(alloc, text, Characters::new())?;
+    is_edited(&mut held, row)
+}
+
 #[test]
 fn one_character_a_token(rt: HostRuntime) -> Result<(), AllocError> {
     let mut row = EditRow::new(rt.alloc());
     for entry in CHARACTERS {
         if row.add(entry)? {
-            let text = row.text.as_str();
-            assert!(rt; fits(text));
-            let mut lexed = LexedDocument::with(rt.alloc(), text, Characters::new())?;
-            assert!(rt; is_edited(&mut lexed, &row)?);
+            assert!(rt; holds_by_characters(rt.alloc(), &row)?);
         }
     }
     Ok(())
@@ -127,16 +145,18 @@ fn has_pieces<S: Stepper>(
 fn pieces_of_a_document(rt: HostRuntime) -> Result<(), AllocError> {
     let held = LexedDocument::new(rt.alloc(), "#!a\n---\nb\n---\nfn")?;
     let all = [(3, "\n"), (4, "---\nb\n---"), (13, "\n"), (14, "fn")];
-    assert!(rt; are_pieces(held.pieces(), &all));
-    assert!(rt; has_pieces(&held, 0, 0, &[]));
-    assert!(rt; has_pieces(&held, 0, 2, &[(3, "\n"), (4, "---\nb\n---")]));
-    assert!(rt; has_pieces(&held, 1, 3, &[(4, "---\nb\n---"), (13, "\n")]));
-    assert!(rt; has_pieces(&held, 3, 4, &[(14, "fn")]));
-    assert!(rt; has_pieces(&held, 4, 4, &[]));
-    assert!(rt; are_pieces(held.pieces_in(0, 5), &[(3, "\n"), (4, "---\nb\n---")]));
-    assert!(rt; are_pieces(held.pieces_in(14, 99), &[(14, "fn")]));
-    assert!(rt; held.token_at(2).is_none());
-    assert!(rt; held.token_at(3).is_some());
+    for (from, to) in [(0, 0), (0, 2), (1, 3), (3, 4), (4, 4)] {
+        assert!(rt;
+            has_pieces(&held, from, to, &all[from..to]),
+            "from {from} to {to}"
+        );
+    }
+    let holds = are_pieces(held.pieces(), &all)
+        && are_pieces(held.pieces_in(0, 5), &all[..2])
+        && are_pieces(held.pieces_in(14, 99), &all[3..])
+        && held.token_at(2).is_none()
+        && held.token_at(3).is_some();
+    assert!(rt; holds);
     Ok(())
 }
 
@@ -150,14 +170,13 @@ fn pieces_far_behind_a_frontmatter(rt: HostRuntime) -> Result<(), AllocError> {
     }
     assert!(rt; fits(text.as_str()));
     let mut held = LexedDocument::new(rt.alloc(), text.as_str())?;
-    let far = [(3012, " "), (3013, "12"), (3015, " ")];
-    assert!(rt; has_pieces(&held, 1503, 1506, &far));
-    assert!(rt; held.accepts(3008, 3012, "x-y"));
+    let holds = has_pieces(&held, 1503, 1506, &[(3012, " "), (3013, "12"), (3015, " ")]);
+    assert!(rt; holds && held.accepts(3008, 3012, "x-y"));
     held.edit(3008, 3012, "x-y")?;
-    let front = [(3005, "12"), (3007, " "), (3008, "x")];
-    assert!(rt; has_pieces(&held, 1500, 1503, &front));
-    assert!(rt; has_pieces(&held, 1503, 1505, &[(3009, "-"), (3010, "y")]));
-    assert!(rt; has_pieces(&held, 1906, 1907, &[(3812, "12")]));
+    let holds = has_pieces(&held, 1500, 1503, &[(3005, "12"), (3007, " "), (3008, "x")])
+        && has_pieces(&held, 1503, 1505, &[(3009, "-"), (3010, "y")])
+        && has_pieces(&held, 1906, 1907, &[(3812, "12")]);
+    assert!(rt; holds);
     Ok(())
 }
 
@@ -168,8 +187,10 @@ fn room_is_given_back(rt: HostRuntime) -> Result<(), AllocError> {
     assert!(rt; held.accepts(12, 14, ""));
     held.edit(12, 14, "")?;
     held.shrink_to_fit();
-    assert!(rt; has_pieces(&held, 0, 2, &[(3, "\n"), (4, "---\n---")]));
-    assert!(rt; held.edition() == Edition::E2024 && held.text() == "#!a\n---\n---\n");
+    let holds = has_pieces(&held, 0, 2, &[(3, "\n"), (4, "---\n---")])
+        && held.edition() == Edition::E2024
+        && held.text() == "#!a\n---\n---\n";
+    assert!(rt; holds);
     Ok(())
 }
 
@@ -187,9 +208,9 @@ fn text_is_given_back(rt: HostRuntime) -> Result<(), AllocError> {
 #[test]
 fn another_edition(rt: HostRuntime) -> Result<(), AllocError> {
     let mut held = LexedDocument::new_in(rt.alloc(), "#!a\n---\n---\n'r#foo", Edition::E2021)?;
-    assert!(rt; held.edition() == Edition::E2021 && held.tokens().len() == 4);
+    let in_2021 = held.edition() == Edition::E2021 && held.tokens().len() == 4;
     held.set_edition(Edition::E2018)?;
-    assert!(rt; held.edition() == Edition::E2018 && held.tokens().len() == 6);
-    assert!(rt; held.shebang_len() == 3 && held.body().number == 2);
+    let in_2018 = held.edition() == Edition::E2018 && held.tokens().len() == 6;
+    assert!(rt; in_2021 && in_2018 && held.shebang_len() == 3 && held.body().number == 2);
     Ok(())
 }

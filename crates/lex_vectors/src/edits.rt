@@ -162,8 +162,7 @@ pub(crate) fn lexed_by(row: &EditRow) -> u64 {
     lexed
 }
 
-/// Returns whether the row holds for a text in its edition, one edit after another and as a list. The stepper is
-/// called once for each token that is lexed.
+/// Returns whether the row holds for a text in its edition, one edit after another and as a list.
 fn holds(alloc: Global, row: &EditRow) -> Result<bool, AllocError> {
     let text = row.text.as_str();
     if !fits(text) {
@@ -173,17 +172,28 @@ fn holds(alloc: Global, row: &EditRow) -> Result<bool, AllocError> {
         Edition::E2024 => LexedText::new(alloc, text)?,
         edition => LexedText::new_in(alloc, text, edition)?,
     };
-    let mut edited = LexedText::with(alloc, text, Counting::new_in(row.edition))?;
-    let mut listed = LexedText::with(alloc, text, Counting::new_in(row.edition))?;
-    let calls = edited.stepper().calls.saturating_add(lexed_by(row));
     Ok(
         is_edited(&mut kept, row)?
             && kept.edition() == row.edition
-            && is_edited(&mut edited, row)?
-            && edited.stepper().calls == calls
-            && is_listed(alloc, &mut listed, row)?
-            && listed.stepper().calls == calls,
+            && is_counted(alloc, row, false)?
+            && is_counted(alloc, row, true)?,
     )
+}
+
+/// Returns whether the row holds, and the stepper is called once for each token that is lexed.
+fn is_counted(alloc: Global, row: &EditRow, as_list: bool) -> Result<bool, AllocError> {
+    let text = row.text.as_str();
+    if !fits(text) {
+        return Ok(false);
+    }
+    let mut lexed = LexedText::with(alloc, text, Counting::new_in(row.edition))?;
+    let calls = lexed.stepper().calls.saturating_add(lexed_by(row));
+    let holds = if as_list {
+        is_listed(alloc, &mut lexed, row)?
+    } else {
+        is_edited(&mut lexed, row)?
+    };
+    Ok(holds && lexed.stepper().calls == calls)
 }
 
 #[test]
@@ -199,15 +209,22 @@ fn rows(rt: HostRuntime) -> Result<(), AllocError> {
     Ok(())
 }
 
+/// Returns whether the row holds if each character is one token.
+fn holds_by_characters(alloc: Global, row: &EditRow) -> Result<bool, AllocError> {
+    let text = row.text.as_str();
+    if !fits(text) {
+        return Ok(false);
+    }
+    let mut lexed = LexedText::with(alloc, text, Characters::new())?;
+    is_edited(&mut lexed, row)
+}
+
 #[test]
 fn one_character_a_token(rt: HostRuntime) -> Result<(), AllocError> {
     let mut row = EditRow::new(rt.alloc());
     for entry in CHARACTERS {
         if row.add(entry)? {
-            let text = row.text.as_str();
-            assert!(rt; fits(text));
-            let mut lexed = LexedText::with(rt.alloc(), text, Characters::new())?;
-            assert!(rt; is_edited(&mut lexed, &row)?);
+            assert!(rt; holds_by_characters(rt.alloc(), &row)?);
         }
     }
     Ok(())

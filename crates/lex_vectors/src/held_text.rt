@@ -46,15 +46,14 @@ fn is_at<S: Stepper>(lexed: &LexedText<S>, offset: usize, number: usize, start: 
 #[test]
 fn tokens_at_offsets(rt: HostRuntime) -> Result<(), AllocError> {
     let lexed = LexedText::new(rt.alloc(), "a 😀 é")?;
-    assert!(rt; is_at(&lexed, 0, 0, 0));
-    assert!(rt; is_at(&lexed, 1, 1, 1));
-    assert!(rt; is_at(&lexed, 5, 2, 2));
-    assert!(rt; is_at(&lexed, 6, 3, 6));
-    assert!(rt; is_at(&lexed, 8, 4, 7));
-    assert!(rt; lexed.token_at(9).is_none());
-    assert!(rt; are_pieces(lexed.pieces_in(1, 3), &[(1, " "), (2, "😀")]));
-    assert!(rt; are_pieces(lexed.pieces_in(6, 99), &[(6, " "), (7, "é")]));
-    assert!(rt; are_pieces(lexed.pieces_in(2, 2), &[]));
+    for (offset, number, start) in [(0, 0, 0), (1, 1, 1), (5, 2, 2), (6, 3, 6), (8, 4, 7)] {
+        assert!(rt; is_at(&lexed, offset, number, start), "at {offset}");
+    }
+    let holds = lexed.token_at(9).is_none()
+        && are_pieces(lexed.pieces_in(1, 3), &[(1, " "), (2, "😀")])
+        && are_pieces(lexed.pieces_in(6, 99), &[(6, " "), (7, "é")])
+        && are_pieces(lexed.pieces_in(2, 2), &[]);
+    assert!(rt; holds);
     Ok(())
 }
 
@@ -75,17 +74,24 @@ fn pieces_of_some_tokens(rt: HostRuntime) -> Result<(), AllocError> {
     let text = "abé 12 ".repeat(rt.alloc(), 500)?;
     assert!(rt; fits(text.as_str()));
     let mut lexed = LexedText::new(rt.alloc(), text.as_str())?;
-    let far = [(3004, " "), (3005, "12"), (3007, " ")];
-    assert!(rt; has_pieces(&lexed, 1501, 1504, &far));
-    assert!(rt; has_pieces(&lexed, 1501, 1501, &[]));
-    assert!(rt; has_pieces(&lexed, 2000, 2000, &[]));
-    assert!(rt; has_pieces(&lexed, 1999, 2000, &[(3999, " ")]));
-    assert!(rt; lexed.accepts(3000, 3004, "x-y"));
+    let holds = has_pieces(
+        &lexed,
+        1501,
+        1504,
+        &[(3004, " "), (3005, "12"), (3007, " ")],
+    ) && has_pieces(&lexed, 1501, 1501, &[])
+        && has_pieces(&lexed, 2000, 2000, &[])
+        && has_pieces(&lexed, 1999, 2000, &[(3999, " ")]);
+    assert!(rt; holds && lexed.accepts(3000, 3004, "x-y"));
     lexed.edit(3000, 3004, "x-y")?;
-    let front = [(2997, "12"), (2999, " "), (3000, "x")];
-    assert!(rt; has_pieces(&lexed, 1498, 1501, &front));
-    assert!(rt; has_pieces(&lexed, 1501, 1503, &[(3001, "-"), (3002, "y")]));
-    assert!(rt; has_pieces(&lexed, 1904, 1905, &[(3804, "12")]));
+    let holds = has_pieces(
+        &lexed,
+        1498,
+        1501,
+        &[(2997, "12"), (2999, " "), (3000, "x")],
+    ) && has_pieces(&lexed, 1501, 1503, &[(3001, "-"), (3002, "y")])
+        && has_pieces(&lexed, 1904, 1905, &[(3804, "12")]);
+    assert!(rt; holds);
     Ok(())
 }
 
@@ -100,11 +106,11 @@ fn another_edition(rt: HostRuntime) -> Result<(), AllocError> {
     let older = [(LIFETIME, 2), HASH, (Ident, 3)];
     let newer = [(RawLifetime, 6)];
     let mut lexed = LexedText::new(rt.alloc(), "'r#foo")?;
-    assert!(rt; is_held(&lexed, Edition::E2024, &newer));
+    let in_2024 = is_held(&lexed, Edition::E2024, &newer);
     lexed.set_edition(Edition::E2018)?;
-    assert!(rt; is_held(&lexed, Edition::E2018, &older));
+    let in_2018 = is_held(&lexed, Edition::E2018, &older);
     lexed.set_edition(Edition::E2021)?;
-    assert!(rt; is_held(&lexed, Edition::E2021, &newer));
+    assert!(rt; in_2024 && in_2018 && is_held(&lexed, Edition::E2021, &newer));
     Ok(())
 }
 
@@ -113,9 +119,9 @@ fn another_edition(rt: HostRuntime) -> Result<(), AllocError> {
 fn room_is_given_back(rt: HostRuntime) -> Result<(), AllocError> {
     let mut lexed = LexedText::new(rt.alloc(), "'r#foo")?;
     lexed.shrink_to_fit();
-    assert!(rt; is_held(&lexed, Edition::E2024, &[(RawLifetime, 6)]));
+    let is_kept = is_held(&lexed, Edition::E2024, &[(RawLifetime, 6)]);
     lexed.set_edition(Edition::E2018)?;
-    assert!(rt; lexed.accepts(6, 6, " + 1"));
+    assert!(rt; is_kept && lexed.accepts(6, 6, " + 1"));
     lexed.edit(6, 6, " + 1")?;
     assert!(rt; lexed.accepts(6, 10, ""));
     lexed.edit(6, 10, "")?;

@@ -22,27 +22,18 @@ fn a_list_of_the_caller(rt: HostRuntime) {
     let mut steps = Steps::new();
     let mut buffer = [token(Eof, 0); 2];
     let mut relexing = Relexing::begin(text, &old, change, front);
-    assert_eq!(rt;
-        relexing.fill(&mut steps, text, &old, change, &mut buffer),
-        2
-    );
-    assert_eq!(rt; buffer, [word, space]);
-    assert_eq!(rt; relexing.next(&mut steps, text, &old, change), Some(letter));
-    assert_eq!(rt;
-        relexing.fill(&mut steps, text, &old, change, &mut buffer),
-        2
-    );
-    assert_eq!(rt; buffer, [space, letter]);
-    assert!(rt; relexing.is_over(text));
-    assert_eq!(rt;
-        relexing.fill(&mut steps, text, &old, change, &mut buffer),
-        0
-    );
-    assert_eq!(rt; relexing.next(&mut steps, text, &old, change), None);
+    let filled = relexing.fill(&mut steps, text, &old, change, &mut buffer);
+    assert!(rt; filled == 2 && buffer == [word, space]);
+    assert!(rt; relexing.next(&mut steps, text, &old, change) == Some(letter));
+    let filled = relexing.fill(&mut steps, text, &old, change, &mut buffer);
+    assert!(rt; filled == 2 && buffer == [space, letter] && relexing.is_over(text));
+    let filled = relexing.fill(&mut steps, text, &old, change, &mut buffer);
+    let next = relexing.next(&mut steps, text, &old, change);
+    assert!(rt; filled == 0 && next.is_none());
     let wanted = Relexed {
         kept_front: 0,
         lexed: 5,
         kept_back: 2,
     };
-    assert_eq!(rt; relexing.counts(old.len()), wanted);
+    assert!(rt; relexing.counts(old.len()) == wanted);
 }

@@ -175,8 +175,10 @@ fn split(token: Token) -> (TokenKind, usize, usize) {
 }
 
 #[test]
-fn tokens_of_runs(rt: HostRuntime) {
+fn tokens_of_runs(rt: HostRuntime) -> Result<(), AllocError> {
     for runs in ALL {
-        assert_eq!(rt; runs.fault(rt.alloc()), Ok(None), "after {:?}", runs.front);
+        let fault = runs.fault(rt.alloc())?;
+        assert!(rt; fault.is_none(), "after {}", runs.front);
     }
+    Ok(())
 }

@@ -96,21 +96,21 @@ static LITERALS: &[Literal] = rows! {
 fn characters_and_bytes(rt: HostRuntime) {
     for (text, error) in BAD_IN_BOTH {
         let is_so = unescape_char(text) == Err(*error) && unescape_byte(text) == Err(*error);
-        assert!(rt; is_so, "at {text:?}");
+        assert!(rt; is_so, "at {text}");
     }
     for (text, (character, byte)) in LITERALS {
         let is_so = unescape_char(text) == *character && unescape_byte(text) == *byte;
-        assert!(rt; is_so, "at {text:?}");
+        assert!(rt; is_so, "at {text}");
     }
 }
 
 #[test]
 fn modes(rt: HostRuntime) {
-    assert!(rt; !Mode::Char.in_double_quotes());
-    assert!(rt; Mode::RawCStr.in_double_quotes());
-    assert_eq!(rt; Mode::RawStr.prefix_noraw(), "");
-    assert_eq!(rt; Mode::RawByteStr.prefix_noraw(), "b");
-    assert_eq!(rt; Mode::CStr.prefix_noraw(), "c");
+    assert!(rt; !Mode::Char.in_double_quotes() && Mode::RawCStr.in_double_quotes());
+    let holds = Mode::RawStr.prefix_noraw() == ""
+        && Mode::RawByteStr.prefix_noraw() == "b"
+        && Mode::CStr.prefix_noraw() == "c";
+    assert!(rt; holds);
 }
 
 /// A place in a string with its character or its error.
@@ -146,7 +146,7 @@ fn elements_of_strings(rt: HostRuntime) {
         } else {
             Elements::new(text)
         };
-        assert!(rt; are(elements, wanted), "at {text:?}");
+        assert!(rt; are(elements, wanted), "at {text}");
     }
 }
 
@@ -179,7 +179,7 @@ fn texts_of_strings(rt: HostRuntime) {
         ("hello \\\n     world", "hello world"),
         ("thread's", "thread's"),
     ] {
-        assert!(rt; stands_for(src, text), "at {src:?}");
+        assert!(rt; stands_for(src, text), "at {src}");
     }
 }
 
@@ -194,13 +194,13 @@ fn raw_byte_strings(rt: HostRuntime) {
         (1, 5, Err(NonAsciiCharInByte)),
         (5, 6, Ok(b'a')),
     ];
-    assert_eq!(rt; found.as_slice(), expected.as_slice());
+    assert!(rt; found.as_slice() == expected.as_slice());
     let mut found = Vec::new(rt.alloc());
     check_raw_str("\r", |range, unit| {
         let _ = found.push((range.start, range.end, unit));
     });
     let expected = [(0, 1, Err(BareCarriageReturnInRawString))];
-    assert_eq!(rt; found.as_slice(), expected.as_slice());
+    assert!(rt; found.as_slice() == expected.as_slice());
 }
 
 #[test]
@@ -215,12 +215,12 @@ fn c_strings(rt: HostRuntime) {
         (8, 10, MixedUnit::try_from('¥')),
         (10, 12, Err(NulInCStr)),
     ];
-    assert_eq!(rt; found.as_slice(), expected.as_slice());
+    assert!(rt; found.as_slice() == expected.as_slice());
     let mut found = Vec::new(rt.alloc());
     check_raw_c_str("a\0", |range, unit| {
         let _ = found.push((range.start, range.end, unit.is_ok()));
     });
-    assert_eq!(rt; found.as_slice(), [(0, 1, true), (1, 2, false)].as_slice());
+    assert!(rt; found.as_slice() == [(0, 1, true), (1, 2, false)].as_slice());
 }
 
 /// Literals and their errors, each with its place.
@@ -247,7 +247,7 @@ fn are_told(alloc: Global, text: &str, mode: Mode, wanted: &[(usize, usize, Esca
 #[test]
 fn errors(rt: HostRuntime) {
     for ((text, mode), wanted) in WRONG {
-        assert!(rt; are_told(rt.alloc(), text, *mode, wanted), "at {text:?}");
+        assert!(rt; are_told(rt.alloc(), text, *mode, wanted), "at {text}");
     }
 }
 
@@ -265,28 +265,26 @@ fn written_strings(rt: HostRuntime) {
         ("\n\r\t", "<\\n\\r\\t"),
         ("\0é😻", "<\\u{0}\\u{e9}\\u{1f63b}"),
     ] {
-        assert!(rt; is_written(rt.alloc(), text, wanted), "at {text:?}");
+        assert!(rt; is_written(rt.alloc(), text, wanted), "at {text}");
     }
 }
 
 #[test]
 fn written_bytes(rt: HostRuntime) {
     let mut out = String::new(rt.alloc());
-    assert!(rt; out.push_str("<").is_ok());
     let bytes = [0, 7, b'\n', b'"', b'A', 127, 128, 255];
-    assert!(rt; escape_byte_str(bytes.as_slice(), &mut out).is_ok());
-    assert_eq!(rt; out.as_str(), "<\\x00\\x07\\n\\\"A\\x7f\\x80\\xff");
+    let is_done = out.push_str("<").is_ok() && escape_byte_str(bytes.as_slice(), &mut out).is_ok();
+    assert!(rt; is_done && out.as_str() == "<\\x00\\x07\\n\\\"A\\x7f\\x80\\xff");
 }
 
 #[test]
 fn written_c_strings(rt: HostRuntime) {
     let mut out = String::new(rt.alloc());
-    assert!(rt; out.push_str("<").is_ok());
-    assert_eq!(rt; escape_c_str("é\n".as_bytes(), &mut out), Ok(()));
-    assert_eq!(rt; out.as_str(), "<\\xc3\\xa9\\n");
-    assert_eq!(rt;
-        escape_c_str("a\0b".as_bytes(), &mut out),
-        Err(EscapeCStrError::Nul)
+    let is_done = out.push_str("<").is_ok()
+        && escape_c_str("é\n".as_bytes(), &mut out) == Ok(())
+        && out.as_str() == "<\\xc3\\xa9\\n";
+    let refusal = escape_c_str("a\0b".as_bytes(), &mut out);
+    assert!(rt;
+        is_done && refusal == Err(EscapeCStrError::Nul) && out.as_str() == "<\\xc3\\xa9\\n"
     );
-    assert_eq!(rt; out.as_str(), "<\\xc3\\xa9\\n");
 }

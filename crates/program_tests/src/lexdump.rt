@@ -109,68 +109,69 @@ fn dump(
     Ok((answer, output.into_inner()))
 }
 
-/// Arguments, the parts of a text with how often each is repeated, and the listing.
-type Listed = (&'static str, &'static [(&'static str, u32)], &'static str);
-
-/// Rows `arguments, text => listing;`, where the text may be a list of its parts.
-macro_rules! listed {
-    (@parts [$($part:tt),*]) => {
-        &[$($part),*]
-    };
-    (@parts $text:literal) => {
-        &[($text, 1)]
-    };
-    ($($words:literal, $text:tt => $listing:literal;)*) => {
-        &[$(($words, listed!(@parts $text), $listing)),*]
-    };
-}
-
-static LISTED: &[Listed] = listed! {
-    "", "fn main() {}\n" => "0 2 Ident\n2 1 Whitespace\n3 4 Ident\n7 1 OpenParen\n8 1 CloseParen\n9 1 Whitespace\n10 1 OpenBrace\n11 1 CloseBrace\n12 1 Whitespace\n";
-    "", "" => "";
-    "--edition|2021", "#\"a\"" => "0 1 Pound\n1 3 Literal kind=Str terminated=true suffix_start=3\n";
+/// Arguments, a text, and the listing.
+static LISTED: &[((&str, &str), &str)] = rows! {
+    ("", "fn main() {}\n") => "0 2 Ident\n2 1 Whitespace\n3 4 Ident\n7 1 OpenParen\n8 1 CloseParen\n9 1 Whitespace\n10 1 OpenBrace\n11 1 CloseBrace\n12 1 Whitespace\n";
+    ("", "") => "";
+    ("--edition|2021", "#\"a\"") => "0 1 Pound\n1 3 Literal kind=Str terminated=true suffix_start=3\n";
     // A shebang line, and a frontmatter.
-    "shebang", "#!/bin/sh\nfn" => "9\n";
-    "shebang", "fn" => "none\n";
-    "shebang", "#![no_std]\n" => "none\n";
-    "front", "---\n//!d\nuse a" => "0 8 Frontmatter has_invalid_preceding_whitespace=false invalid_infostring=false\n8 1 Whitespace\n9 3 Ident\n12 1 Whitespace\n13 1 Ident\n";
+    ("shebang", "#!/bin/sh\nfn") => "9\n";
+    ("shebang", "fn") => "none\n";
+    ("shebang", "#![no_std]\n") => "none\n";
+    ("front", "---\n//!d\nuse a") => "0 8 Frontmatter has_invalid_preceding_whitespace=false invalid_infostring=false\n8 1 Whitespace\n9 3 Ident\n12 1 Whitespace\n13 1 Ident\n";
     // Edits.
-    "edit|8|8|z", "ab cd ef" => "0 2 Ident\n2 1 Whitespace\n3 2 Ident\n5 1 Whitespace\n6 3 Ident\n";
-    "edit|8|8|z|0|3|", "ab cd ef" => "0 2 Ident\n2 1 Whitespace\n3 3 Ident\n";
-    "--edition|2018|edit|6|6|x", "'r#foo" => "0 2 Lifetime starts_with_number=false\n2 1 Pound\n3 4 Ident\n";
-    // Texts that make a careless program slow, overflow its stack or list wrong tokens.
-    "", [("/*", 100_000)] => "0 200000 BlockComment doc_style=none terminated=false\n";
-    "", [("/*", 100_000), ("*/", 100_000)] => "0 400000 BlockComment doc_style=none terminated=true\n";
-    "front", [("-", 70_000), ("\na\n", 1), ("-", 70_000)] => "0 140003 Frontmatter has_invalid_preceding_whitespace=false invalid_infostring=false\n";
-    "front", [("-", 70_000), ("\na\n", 1), ("-", 69_999)] => "0 140002 Frontmatter has_invalid_preceding_whitespace=false invalid_infostring=false\n";
-    "", [("r", 1), ("#", 300), ("\"a\"", 1), ("#", 300), ("x", 1)] => "0 604 Literal kind=RawStr n_hashes=none suffix_start=604\n604 1 Ident\n";
-    "", "\0" => "0 1 Unknown\n";
-    "", "'\0" => "0 2 Literal kind=Char terminated=false suffix_start=2\n";
-    "", "r#\0" => "0 3 Literal kind=RawStr n_hashes=none suffix_start=3\n";
-    "front", "---\0" => "0 4 Frontmatter has_invalid_preceding_whitespace=false invalid_infostring=true\n";
-    "", "'" => "0 1 Literal kind=Char terminated=false suffix_start=1\n";
-    "", "\"" => "0 1 Literal kind=Str terminated=false suffix_start=1\n";
-    "", "b'" => "0 2 Literal kind=Byte terminated=false suffix_start=2\n";
-    "", "'\\" => "0 2 Literal kind=Char terminated=false suffix_start=2\n";
+    ("edit|8|8|z", "ab cd ef") => "0 2 Ident\n2 1 Whitespace\n3 2 Ident\n5 1 Whitespace\n6 3 Ident\n";
+    ("edit|8|8|z|0|3|", "ab cd ef") => "0 2 Ident\n2 1 Whitespace\n3 3 Ident\n";
+    ("--edition|2018|edit|6|6|x", "'r#foo") => "0 2 Lifetime starts_with_number=false\n2 1 Pound\n3 4 Ident\n";
+    // Texts with a U+0000 or with nothing after a mark, of which a careless program lists wrong tokens.
+    ("", "\0") => "0 1 Unknown\n";
+    ("", "'\0") => "0 2 Literal kind=Char terminated=false suffix_start=2\n";
+    ("", "r#\0") => "0 3 Literal kind=RawStr n_hashes=none suffix_start=3\n";
+    ("front", "---\0") => "0 4 Frontmatter has_invalid_preceding_whitespace=false invalid_infostring=true\n";
+    ("", "'") => "0 1 Literal kind=Char terminated=false suffix_start=1\n";
+    ("", "\"") => "0 1 Literal kind=Str terminated=false suffix_start=1\n";
+    ("", "b'") => "0 2 Literal kind=Byte terminated=false suffix_start=2\n";
+    ("", "'\\") => "0 2 Literal kind=Char terminated=false suffix_start=2\n";
 };
 
-/// Returns whether the text of a row has its listing, with one byte per read and per write.
-fn is_listed(rt: &HostRuntime, row: &Listed) -> Result<bool, Fault> {
-    let (words, parts, listing) = row;
-    let mut text = String::new(rt.alloc());
-    for (part, times) in *parts {
-        for _ in 0..*times {
-            text.push_str(part)?;
-        }
-    }
+/// Arguments, the parts of a text that makes a careless program slow or overflow its stack, with how often each is
+/// repeated, and the listing.
+static REPEATED: &[((&str, &[(&str, u32)]), &str)] = rows! {
+    ("", &[("/*", 100_000)]) => "0 200000 BlockComment doc_style=none terminated=false\n";
+    ("", &[("/*", 100_000), ("*/", 100_000)]) => "0 400000 BlockComment doc_style=none terminated=true\n";
+    ("front", &[("-", 70_000), ("\na\n", 1), ("-", 70_000)]) => "0 140003 Frontmatter has_invalid_preceding_whitespace=false invalid_infostring=false\n";
+    ("front", &[("-", 70_000), ("\na\n", 1), ("-", 69_999)]) => "0 140002 Frontmatter has_invalid_preceding_whitespace=false invalid_infostring=false\n";
+    ("", &[("r", 1), ("#", 300), ("\"a\"", 1), ("#", 300), ("x", 1)]) => "0 604 Literal kind=RawStr n_hashes=none suffix_start=604\n604 1 Ident\n";
+};
+
+/// Returns whether the text has its listing, with one byte per read and per write.
+fn is_listed(rt: &HostRuntime, words: &str, text: &str, listing: &str) -> Result<bool, Fault> {
     let (answer, output) = dump(rt, words, text.as_bytes(), BYTES)?;
     Ok(answer == Ok(()) && output.taken.as_slice() == listing.as_bytes())
 }
 
+/// Returns the text of the parts.
+fn repeated(alloc: Global, parts: &[(&str, u32)]) -> Result<String, AllocError> {
+    let mut text = String::new(alloc);
+    for (part, times) in parts {
+        for _ in 0..*times {
+            text.push_str(part)?;
+        }
+    }
+    Ok(text)
+}
+
 #[test]
 fn listings(rt: HostRuntime) -> Result<(), Fail> {
-    for (number, row) in LISTED.iter().enumerate() {
-        assert!(rt; is_listed(&rt, row)?, "row {number}");
+    for (number, ((words, text), listing)) in LISTED.iter().enumerate() {
+        assert!(rt; is_listed(&rt, words, text, listing)?, "row {number}");
+    }
+    for (number, ((words, parts), listing)) in REPEATED.iter().enumerate() {
+        let text = repeated(rt.alloc(), parts)?;
+        assert!(rt;
+            is_listed(&rt, words, text.as_str(), listing)?,
+            "repeated, row {number}"
+        );
     }
     Ok(())
 }
@@ -206,9 +207,10 @@ fn blocks_of_a_long_listing(rt: HostRuntime) -> Result<(), Fail> {
     let text = "x ".repeat(rt.alloc(), 100_000)?;
     let (answer, output) = dump(&rt, "", text.as_bytes(), WHOLE)?;
     let taken = output.taken.as_slice();
-    assert!(rt; answer == Ok(()) && taken.len() == 3_388_890);
-    assert!(rt; taken.ends_with(b"\n199998 1 Ident\n199999 1 Whitespace\n".as_slice()));
-    assert!(rt; output.calls == 52 && output.flushes == 1);
+    let is_whole = answer == Ok(())
+        && taken.len() == 3_388_890
+        && taken.ends_with(b"\n199998 1 Ident\n199999 1 Whitespace\n".as_slice());
+    assert!(rt; is_whole && output.calls == 52 && output.flushes == 1);
     Ok(())
 }
 
@@ -326,7 +328,7 @@ static PROGRAMS: &[(Option<&str>, (&str, &str, u8))] = rows! {
 
 #[test]
 fn programs(rt: HostRuntime) -> Result<(), Fail> {
-    for (line, (listing, told, want)) in PROGRAMS {
+    for (number, (line, (listing, told, want))) in PROGRAMS.iter().enumerate() {
         let args = match line {
             Some(line) => Some(words_of(rt.alloc(), line)?.into_iter()),
             None => None,
@@ -338,7 +340,7 @@ fn programs(rt: HostRuntime) -> Result<(), Fail> {
         let holds = status == *want
             && output.into_inner().taken.as_slice() == listing.as_bytes()
             && errors.into_inner().taken.as_slice() == told.as_bytes();
-        assert!(rt; holds, "{line:?}");
+        assert!(rt; holds, "row {number}");
     }
     Ok(())
 }

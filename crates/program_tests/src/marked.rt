@@ -14,8 +14,8 @@ macro_rules! rows {
     };
 }
 
-static ROWS: &[Row<'static>] = rows! {
-    // Each fault.
+/// Faults. Each table has few rows, since the prover takes long for many in one.
+static FAULTS: &[Row<'static>] = rows! {
     NoColours E2024: "a /* b" => "a /* b [<- nothing closes this comment]";
     NoColours E2024: " ---\n---\n" => " --- [<- white space comes before this frontmatter, which begins its line]\n---\n";
     NoColours E2024: "---a b\n---\n" =>
@@ -37,7 +37,9 @@ static ROWS: &[Row<'static>] = rows! {
     NoColours E2024: "br#\"a" => "br#\"a [<- nothing closes this raw string: a quote and 1 # would]";
     NoColours E2024: "r##\"abc\"#" =>
         "r##\"abc\"# [<- a quote and 2 # would close this raw string; at byte 8 it has 1]";
-    // Faults in literals.
+};
+
+static FAULTS_IN_LITERALS: &[Row<'static>] = rows! {
     NoColours E2024: "''" => "' [<- nothing is between these quotes: one character goes there]'";
     NoColours E2024: "'ab'" => "'ab [<- more than one character is between these quotes]'";
     NoColours E2024: "b'\\q';" => "b'\\q [<- there is no such escape: a backslash itself is written twice]';";
@@ -59,7 +61,10 @@ static ROWS: &[Row<'static>] = rows! {
     NoColours E2024: "\"a\\\n\u{a0}b\"" =>
         "\"a\\ [<- not all white space after this line end is skipped: spaces, tabs and line ends are]\n\u{a0}b\"";
     NoColours E2024: "\"\\q" => "\"\\q [<- nothing closes this string]";
-    // Colours.
+};
+
+/// Colours, tags and entities.
+static STYLES: &[Row<'static>] = rows! {
     Colours E2024: "" => "";
     Colours E2024: "let x: Vec<u8> = 'é'; // b" =>
         "\x1b[35mlet\x1b[0m x: \x1b[1;34mVec\x1b[0m<u8> = \x1b[32m'é'\x1b[0m; \x1b[90m// b\x1b[0m";
@@ -83,7 +88,10 @@ static ROWS: &[Row<'static>] = rows! {
     Html E2024: "r##\"<\"#" =>
         "<mark title=\"a quote and 2 # would close this raw string; at byte 6 it has 1\"><span class=\"text\">r##\"&lt;\"#</span></mark>";
     Html E2024: "é" => "é";
-    // Shebang lines.
+};
+
+/// Shebang lines, faults over lines, and words that are names too.
+static LINES: &[Row<'static>] = rows! {
     Colours E2024: "#!/usr/bin/env rust\n---\na\n---\nfn" =>
         "\x1b[90m#!/usr/bin/env rust\x1b[0m\n\x1b[36m---\na\n---\x1b[0m\n\x1b[35mfn\x1b[0m";
     Colours E2024: "#!/bin/sh 0x" => "\x1b[90m#!/bin/sh 0x\x1b[0m";
@@ -113,7 +121,9 @@ static ROWS: &[Row<'static>] = rows! {
     Colours E2024: "r#fn" => "r#fn";
     Colours E2024: "e\u{301}" => "e\u{301}";
     Colours E2024: "let union = 1;" => "\x1b[35mlet\x1b[0m union = \x1b[36m1\x1b[0m;";
-    // Editions.
+};
+
+static EDITIONS: &[Row<'static>] = rows! {
     NoColours E2024: "#\"a\"" =>
         "#\" [<- these marks are reserved for strings to come]a [<- no literal has this prefix]\" [<- nothing closes this string]";
     NoColours E2021: "#\"a\"" => "#\"a\"";
@@ -142,8 +152,10 @@ fn is_written(alloc: Global, row: Row<'_>) -> bool {
 
 #[test]
 fn rows(rt: HostRuntime) {
-    for row in ROWS {
-        assert!(rt; is_written(rt.alloc(), *row), "at {:?}", row.2);
+    for rows in [FAULTS, FAULTS_IN_LITERALS, STYLES, LINES, EDITIONS] {
+        for row in rows {
+            assert!(rt; is_written(rt.alloc(), *row), "at {}", row.2);
+        }
     }
 }
 

@@ -3,6 +3,7 @@
 use crate::failing_ends::{BYTES, Script, Turn, WHOLE};
 use crate::words::words_of;
 use ends::{is_closed, past_name, read_all, write_bytes};
+use std::io;
 use std::io::{ErrorKind, Read, Write};
 use std::test::Fail;
 
@@ -16,16 +17,30 @@ fn answers_are_handed_on(rt: HostRuntime) {
     };
     let mut input = script.reader(b"ab");
     let mut piece = [0u8; 4];
-    assert!(rt; matches!(input.read(&mut piece), Ok(1)) && piece[0] == b'a' && !input.failed());
-    let error = input.read(&mut piece).err();
-    assert!(rt; error.is_some_and(|e| e.kind() == ErrorKind::Interrupted) && input.failed());
-    assert!(rt; matches!(input.read(&mut piece), Ok(1)) && piece[0] == b'b' && input.failed());
+    let is_read = matches!(input.read(&mut piece), Ok(1))
+        && piece[0] == b'a'
+        && !input.failed()
+        && fails(input.read(&mut piece), ErrorKind::Interrupted)
+        && input.failed()
+        && matches!(input.read(&mut piece), Ok(1))
+        && piece[0] == b'b'
+        && input.failed();
+    assert!(rt; is_read);
     let mut output = script.writer(rt.alloc());
-    assert!(rt; matches!(output.write(b"xy"), Ok(1)) && !output.failed());
-    assert!(rt; output.write(b"y").is_err_and(|e| is_closed(&e)) && output.failed());
-    assert!(rt; output.flush().is_err_and(|e| e.kind() == ErrorKind::Other));
-    assert!(rt; matches!(output.write(b"z"), Ok(1)) && output.flush().is_ok() && output.failed());
-    assert!(rt; output.into_inner().taken.as_slice() == b"xz".as_slice());
+    let is_written = matches!(output.write(b"xy"), Ok(1))
+        && !output.failed()
+        && output.write(b"y").is_err_and(|e| is_closed(&e))
+        && output.failed()
+        && fails(output.flush(), ErrorKind::Other)
+        && matches!(output.write(b"z"), Ok(1))
+        && output.flush().is_ok()
+        && output.failed();
+    assert!(rt; is_written && output.into_inner().taken.as_slice() == b"xz".as_slice());
+}
+
+/// Returns whether the answer is a failure of this kind.
+fn fails<T: Drop>(answer: io::Result<T>, kind: ErrorKind) -> bool {
+    answer.is_err_and(|e| e.kind() == kind)
 }
 
 #[test]
@@ -44,9 +59,8 @@ fn all_that_is_read_and_written(rt: HostRuntime) -> Result<(), Fail> {
 fn words_past_the_name(rt: HostRuntime) -> Result<(), Fail> {
     let args = words_of(rt.alloc(), "name|one|two")?;
     let words = past_name(rt.alloc(), args.into_iter())?;
-    assert_eq!(rt; words.len(), 2);
-    assert!(rt; words[0].as_str() == "one" && words[1].as_str() == "two");
+    let is_rest = words.len() == 2 && words[0].as_str() == "one" && words[1].as_str() == "two";
     let none = past_name(rt.alloc(), Vec::new(rt.alloc()).into_iter())?;
-    assert!(rt; none.is_empty());
+    assert!(rt; is_rest && none.is_empty());
     Ok(())
 }

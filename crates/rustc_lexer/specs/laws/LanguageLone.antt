@@ -45,7 +45,7 @@ record IsStanding (u : Chars) : Type 0 where
   is : IsEdge edge
   all : AreAll is_horizontal_whitespace blanks
 
--- it stands there where it is decided so
+-- where the search says that it may stand, it may
 is-standing : (r : List ℕ) → standing r ≡ true → IsStanding (reverse r)
 is-standing [] e = record { edge = []; blanks = []; whole = refl; is = the.front; all = refl }
 is-standing (c ∷ r) e = elim (or_cases (c == 10) _ e) [
@@ -73,7 +73,7 @@ is-standing (c ∷ r) e = elim (or_cases (c == 10) _ e) [
   ]
 ]
 
--- and decided where it stands
+-- and the search says so wherever it may
 edge-stands : {u : Chars} → IsEdge u → standing (reverse u) ≡ true
 edge-stands the.front = refl
 edge-stands (the.line u) = ap standing (reverse-append u (codes "\n"))

@@ -71,7 +71,7 @@ or_here None here offset = if here then Some offset else None
 abbrev pub line_end : ℕ → List ℕ → ℕ
 line_end offset s = offset + run_len is_inline (drop offset s)
 
--- whether only blanks come before, on the line: past this character, if decided of what comes before it; and past these
+-- whether only blanks come before, on the line: past this character, given whether they do before it; and past these
 abbrev pub blank_past : Bool → ℕ → Bool
 blank_past blank c = is_newline c || (is_horizontal_whitespace c && blank)
 
