@@ -1,6 +1,6 @@
-/* Refuses one request for memory: number REFUSE, counted from 1; or each of them, where REFUSE is `all`. It refuses
-   each from number REFUSE_FROM on, too. Loaded in front of the C library, by tests/refused_memory and tests/program. At
-   the end it writes how many requests there were into the file REFUSE_COUNT. */
+/* Refuses one request for memory: number REFUSE, counted from 1; or each of them, where REFUSE is `all`. Loaded in front of
+   the C library, by tests/refused_memory, tests/program and tests/programs_by_cargo. At the end it writes how many requests
+   there were into the file REFUSE_COUNT. */
 #define _GNU_SOURCE
 #include <dlfcn.h>
 #include <errno.h>
@@ -13,12 +13,9 @@ static unsigned long requests;
 static int refused(void)
 {
     const char *number = getenv("REFUSE");
-    const char *from = getenv("REFUSE_FROM");
-    unsigned long first = from ? strtoul(from, NULL, 10) : 0;
     int is_due;
     requests++;
-    is_due = (number && (strcmp(number, "all") == 0 || strtoul(number, NULL, 10) == requests)) ||
-             (first && requests >= first);
+    is_due = number && (strcmp(number, "all") == 0 || strtoul(number, NULL, 10) == requests);
     if (is_due)
         errno = ENOMEM;
     return is_due;

@@ -1,103 +1,216 @@
-//! Each request for memory that an edit makes, refused in turn: text and tokens are then as they were.
+//! Each request for memory of the calls that keep a text, refused in turn: an error, and all stays as it was.
 
+mod made;
 #[path = "../../rattle_support/tests/refusing/mod.rs"]
 mod refusing;
 
-use refusing::{given, refused_once, requests};
+use made::{counts, edit, token};
+use rattle_support::Global;
+use refusing::{given, in_turn, refused_once, requests};
 use rustc_lexer::{
-    AllocError, Edit, EditError, EditStop, Edition, LexedDocument, LexedText, Steps,
+    AllocError, EditError, EditStop, Edition, LexedDocument, LexedText, Relexed, Stepper, Steps,
+    Token, TokenKind, erased, tokenize_document, tokenize_in,
 };
+use std::ops::Range;
 use std::panic::{AssertUnwindSafe, catch_unwind};
 
+type Make = fn(&str) -> Result<(), EditError>;
+
+/// The calls that make a kept text.
+const MAKE: [Make; 4] = [
+    |text| LexedText::try_new_in(text, Edition::E2024).map(drop),
+    |text| LexedText::try_with(text, Steps::new()).map(drop),
+    |text| LexedDocument::try_new_in(text, Edition::E2024).map(drop),
+    |text| LexedDocument::try_with(text, Steps::new()).map(drop),
+];
+
+/// One request is for the text, and one for its tokens.
 #[test]
-fn each_request_of_an_edit() {
+fn texts() {
+    let answers = [Ok(()), Err(EditError::Memory)];
+    for text in ["ab", "a 😀 é", "a b c */ d", "ab cd"] {
+        for make in MAKE {
+            let check = |_, answer| assert!(answers.contains(&answer), "{answer:?}");
+            assert_eq!(in_turn(|| text, |text| make(text), check), 2, "{text:?}");
+        }
+    }
+}
+
+/// The text is held with these tokens, and its pieces make up all of it that they are the tokens of.
+macro_rules! assert_held {
+    ($held:ident, $text:expr, $tokens:expr) => {{
+        let tokens = $tokens;
+        let pieces: String = $held.pieces().map(|piece| piece.text).collect();
+        assert_eq!(($held.text(), &*pieces), (&*$text, tokens.as_str()));
+        let of_pieces = $held.pieces().map(|piece| piece.token);
+        assert!(of_pieces.eq(tokens.clone()), "pieces of {pieces:?}");
+        assert!(tokens.eq($held.tokens().iter().copied()), "{pieces:?}");
+    }};
+}
+
+/// Steps of the lexer, which are counted.
+#[derive(Clone)]
+struct Counting(Steps, usize);
+
+impl Stepper for Counting {
+    fn step(&mut self, rest: &str) -> Token {
+        self.1 += 1;
+        self.0.step(rest)
+    }
+}
+
+/// Makes an edit with each of its requests refused in turn: then all is as it was, no step was taken that the edit does not
+/// take, and it can be made. Returns its counts, its steps, and how many requests it makes.
+macro_rules! edits {
+    ($edit:ident, $Kept:ident, $tokenize:ident $(, $shebang_len:ident)?) => {
+        fn $edit(text: &str, range: Range<usize>, insert: &str) -> (Relexed, usize, usize) {
+            let make = || $Kept::try_with(text, Counting(Steps::new(), 0)).unwrap();
+            let (old, mut new) = (make(), make());
+            let wanted = new.edit(range.clone(), insert);
+            let steps_past = |lexed: &$Kept<Counting>| lexed.stepper().1 - old.stepper().1;
+            let asked = in_turn(
+                make,
+                |lexed| lexed.try_edit(range.clone(), insert),
+                |mut lexed, answer| {
+                    let steps = steps_past(&lexed);
+                    assert!(steps <= wanted.lexed, "{steps} steps");
+                    if answer.is_err() {
+                        assert_eq!(answer, Err(EditError::Memory));
+                        assert_held!(lexed, text, $tokenize(text, Edition::E2024));
+                        $(assert_eq!(lexed.$shebang_len(), old.$shebang_len());)?
+                        assert!((0..text.len()).all(|at| lexed.token_at(at) == old.token_at(at)));
+                    }
+                    let answer = answer.or_else(|_| lexed.try_edit(range.clone(), insert));
+                    assert_eq!(answer, Ok(wanted));
+                    let made = [&text[..range.start], insert, &text[range.end..]].concat();
+                    assert_held!(lexed, made, $tokenize(&made, Edition::E2024));
+                },
+            );
+            (wanted, steps_past(&new), asked)
+        }
+    };
+}
+
+edits!(text_edit, LexedText, tokenize_in);
+edits!(document_edit, LexedDocument, tokenize_document, shebang_len);
+
+/// What an edit takes out is one request, and so is room in the text where it puts in more. One to four tokens that it lexes
+/// are one, and five are two. The list of five tokens of the second text has no room for seven, which is one. An edit that
+/// changes nothing makes none.
+#[test]
+fn edits_of_texts() {
+    for (text, range, insert, [front, lexed, back], asked) in [
+        ("ab", 2..2, "c", [0, 1, 0], 2),
+        ("a 😀 é", 2..6, "zz 1.", [0, 5, 2], 5),
+        ("a b c */ d", 2..2, "/*", [0, 3, 2], 2),
+        ("ab cd", 0..3, "", [0, 0, 1], 1),
+        ("ab cd", 0..0, "", [0, 0, 3], 0),
+    ] {
+        let wanted = (counts(front, lexed, back), lexed, asked);
+        assert_eq!(text_edit(text, range, insert), wanted, "{text:?}");
+    }
     let text = "fn f() { let a = \"b\"; }\n".repeat(40);
-    let long = "x + ".repeat(400);
-    for insert in ["", "a", "/*", "\"", long.as_str()] {
-        let mut refused = 0;
-        for count in 0..100 {
-            let mut lexed = LexedText::new(&text);
-            let before = lexed.tokens().to_vec();
-            let answer = given(count, || lexed.try_edit(300..310, insert));
-            if answer.is_ok() {
-                assert_eq!(lexed.text(), [&text[..300], insert, &text[310..]].concat());
-                assert_eq!(lexed.tokens(), LexedText::new(lexed.text()).tokens());
-                break;
-            }
-            refused += 1;
-            assert_eq!(answer, Err(EditError::Memory));
-            assert_eq!(lexed.text(), text);
-            assert_eq!(lexed.tokens(), before);
-        }
-        assert!((1..99).contains(&refused), "{refused} refusals");
+    for insert in ["", "a", "/*", "\"", &"x + ".repeat(400)] {
+        assert!(text_edit(&text, 300..310, insert).2 > 0, "{insert:?}");
     }
 }
 
-/// An edit that takes a document its head, with each request for memory refused: the head stays, also for later edits.
+/// A letter after a head, a letter in it, a fence, and a bracket that makes a shebang line an attribute. Then an edit that
+/// takes a long document its head.
 #[test]
-fn heads_of_documents() {
+fn edits_of_documents() {
+    for (text, range, insert, [front, lexed, back]) in [
+        ("#!a\n---\nb\n---\nfn", 16..16, "x", [3, 1, 0]),
+        ("---\nb\n---\nfn", 5..5, "c", [0, 1, 2]),
+        ("---\na\n--\nb", 8..8, "-", [0, 3, 0]),
+        ("#!\nb", 3..3, "[", [0, 4, 1]),
+    ] {
+        let (relexed, _, asked) = document_edit(text, range, insert);
+        assert_eq!(relexed, counts(front, lexed, back), "{text:?}");
+        assert!(asked > 0, "{text:?}");
+    }
     let text = format!("#!/bin/sh\n---\na\n---\nb{}", " + 'c".repeat(200));
-    let insert = " + d".repeat(200);
-    let body = LexedDocument::new(&*text).body().offset;
-    let mut refused = 0;
-    for count in 0..99 {
-        let mut lexed = LexedDocument::new(&*text);
-        let before = lexed.tokens().to_vec();
-        let answer = given(count, || lexed.try_edit(0..0, &insert));
-        if answer.is_ok() {
-            assert_eq!(lexed.body().offset, 0);
-            break;
-        }
-        refused += 1;
-        assert_eq!(answer, Err(EditError::Memory));
-        assert_eq!((lexed.text(), lexed.body().offset), (&*text, body));
-        assert_eq!(lexed.tokens(), before);
-        lexed.edit(10..10, "\n");
-        assert_eq!(lexed.tokens(), LexedDocument::new(lexed.text()).tokens());
-    }
-    assert!((1..99).contains(&refused), "{refused} refusals");
+    assert!(document_edit(&text, 0..0, &" + d".repeat(200)).2 > 0);
 }
 
-/// What the calls that make a kept text answer to whom nothing is given.
-fn errors_without_memory(text: &str) -> [Option<EditError>; 4] {
-    let edition = Edition::E2024;
-    [
-        given(0, || LexedText::try_new_in(text, edition)).err(),
-        given(0, || LexedText::try_with(text, Steps::new())).err(),
-        given(0, || LexedDocument::try_new_in(text, edition)).err(),
-        given(0, || LexedDocument::try_with(text, Steps::new())).err(),
-    ]
-}
-
-/// What each call answers to whom nothing is given, and what stands then.
+/// Of a list exactly the edits before the one that is refused memory are made.
 #[test]
-fn texts_and_another_edition() {
-    let memory = Some(EditError::Memory);
-    assert_eq!(errors_without_memory("a + b"), [memory; 4]);
-    let mut lexed = LexedText::new("'r#a");
-    let mut document = LexedDocument::new("'r#a");
-    let refused = Err(AllocError);
-    assert_eq!(given(0, || lexed.try_set_edition(Edition::E2015)), refused);
-    let answer = given(0, || document.try_set_edition(Edition::E2015));
-    assert_eq!(answer, refused);
-    let newest = Edition::E2024;
-    assert_eq!((lexed.edition(), lexed.tokens().len()), (newest, 1));
-    assert_eq!((document.edition(), document.tokens().len()), (newest, 1));
-    let edits = [Edit {
-        start: 0,
-        stop: 0,
-        insert: "a long text that takes memory",
-    }];
-    let stop = Err(EditStop::Memory { at: 0 });
-    assert_eq!(given(0, || lexed.edit_all(&edits)), stop);
-    assert_eq!(given(0, || document.edit_all(&edits)), stop);
-    assert_eq!(given(0, || lexed.edit_each(&edits)).map(drop), stop);
-    assert_eq!(given(0, || document.edit_each(&edits)).map(drop), stop);
-    let answer = given(0, || document.try_edit(0..0, edits[0].insert));
-    assert_eq!(answer.err(), memory);
-    assert_eq!((lexed.text(), document.text()), ("'r#a", "'r#a"));
-    assert_eq!(given(9, || lexed.try_set_edition(Edition::E2015)), Ok(()));
-    assert_eq!(lexed.tokens().len(), 3);
+fn lists_of_edits() {
+    macro_rules! lists {
+        ($Kept:ident, $tokenize:ident, $texts:expr, $edits:expr) => {
+            for each in [false, true] {
+                let mut stops = [0; 3];
+                in_turn(
+                    || $Kept::new($texts[0]),
+                    |lexed| match each {
+                        true => lexed.edit_each(&$edits).map(drop),
+                        false => lexed.edit_all(&$edits),
+                    },
+                    |lexed, answer| {
+                        let made = match answer {
+                            Ok(()) => 2,
+                            Err(EditStop::Memory { at }) => at,
+                            Err(stop) => panic!("{stop:?}"),
+                        };
+                        stops[made] += 1;
+                        let text = $texts[made];
+                        assert_held!(lexed, text, $tokenize(text, Edition::E2024));
+                    },
+                );
+                assert!(!stops.contains(&0), "{stops:?}");
+            }
+        };
+    }
+    let (texts, edits) = (["ab", "abc", "abc d"], [edit(2, 2, "c"), edit(3, 3, " d")]);
+    lists!(LexedText, tokenize_in, texts, edits);
+    for word in &texts[..2] {
+        let tokens = [token(TokenKind::Ident, word.len() as u32)];
+        assert_eq!(LexedText::new(word).tokens(), tokens);
+    }
+    let texts = ["--\n---\nb", "---\n---\nb", "#!a\n---\n---\nb"];
+    let edits = [edit(0, 0, "-"), edit(0, 0, "#!a\n")];
+    lists!(LexedDocument, tokenize_document, texts, edits);
+}
+
+/// An edit that cuts a character is refused for that, with no request.
+#[test]
+fn a_bad_edit() {
+    let mut lexed = LexedText::new("é");
+    let answer = given(0, || lexed.edit_all(&[edit(1, 2, "")]));
+    assert_eq!(answer, Err(EditStop::Range { at: 0 }));
+    assert_held!(lexed, "é", tokenize_in("é", Edition::E2024));
+}
+
+/// Another edition, which has two tokens more: by the call that makes a text anew, and by that of the proved source, which
+/// lexes it again.
+#[test]
+fn editions() {
+    macro_rules! editions {
+        ($make:expr, $set_edition:ident, $text:ident, $tokenize:ident, $count:expr) => {
+            let asked = in_turn(
+                || $make,
+                |lexed| lexed.$set_edition(Edition::E2018),
+                |lexed, answer| {
+                    let (edition, count) = match answer {
+                        Ok(()) => (Edition::E2018, $count + 2),
+                        Err(AllocError) => (Edition::E2024, $count),
+                    };
+                    assert_eq!((lexed.edition(), lexed.tokens().len()), (edition, count));
+                    assert_held!(lexed, $text, $tokenize($text, edition));
+                },
+            );
+            assert!(asked > 0);
+        };
+    }
+    let text = "'r#foo";
+    let proved = || erased::LexedText::new(Global, text).unwrap();
+    editions!(LexedText::new(text), try_set_edition, text, tokenize_in, 1);
+    editions!(proved(), set_edition, text, tokenize_in, 1);
+    let text = "---\n---\n'r#foo";
+    let new = || LexedDocument::new(text);
+    let proved = || erased::LexedDocument::new(Global, text).unwrap();
+    editions!(new(), try_set_edition, text, tokenize_document, 3);
+    editions!(proved(), set_edition, text, tokenize_document, 3);
 }
 
 /// A text of `u32::MAX` bytes is not too long: what it lacks is memory.
@@ -112,7 +225,8 @@ fn the_longest_text() {
         assert!(!zeros.is_null());
         std::str::from_utf8_unchecked(std::slice::from_raw_parts(zeros, len))
     };
-    assert_eq!(errors_without_memory(text), [Some(EditError::Memory); 4]);
+    let answers = MAKE.map(|make| given(0, || make(text)));
+    assert_eq!(answers, [Err(EditError::Memory); 4]);
 }
 
 /// The calls that answer no error say by a panic that an allocation failed. Nothing changes then.

@@ -64,6 +64,31 @@ pub fn refused_once<T>(call: impl FnOnce() -> T) -> T {
     answer
 }
 
+/// Makes a call on what is made anew each time: with its first request refused, then its second, and so on, until none is
+/// left to refuse. Once all requests after that one are refused, too, and once that one alone is. Each time it checks what
+/// is left, and what the call answered. Returns how many requests were refused, which is the same both times.
+#[allow(dead_code)] // not each test refuses one after another
+pub fn in_turn<H, T, E>(
+    make: impl Fn() -> H,
+    call: impl Fn(&mut H) -> Result<T, E>,
+    mut check: impl FnMut(H, Result<T, E>),
+) -> usize {
+    let mut is_over = |count: &usize| {
+        let mut held = make();
+        let answer = given(*count, || call(&mut held));
+        let is_over = answer.is_ok();
+        check(held, answer);
+        is_over
+    };
+    let counts = [false, true].map(|once| {
+        ONCE.set(once);
+        (0..100).find(&mut is_over).expect("at most 99 requests")
+    });
+    ONCE.set(false);
+    assert_eq!(counts[0], counts[1]);
+    counts[0]
+}
+
 /// How many requests a call makes, if they are at most 100.
 #[allow(dead_code)] // not each test counts them
 pub fn requests<T>(call: impl FnOnce() -> T) -> usize {
