@@ -1,9 +1,5 @@
-//! Tests of the libraries from outside. They are a crate of their own, since a crate with tests is proved twice.
+//! Tests of `examples` from outside. They are a crate of their own, since a crate with tests is proved twice.
 #![tactic(auto)]
 
 #[cfg(test)]
 mod callers;
-#[cfg(test)]
-mod literals;
-#[cfg(test)]
-mod table;

@@ -2,6 +2,7 @@
 
 use core::num::NonZero;
 use rustc_literal_escaper::EscapeError::*;
+use rustc_literal_escaper::erased::{Elements, Faults};
 use rustc_literal_escaper::{
     EscapeError, MixedUnit, Mode, check_for_errors, check_raw_byte_str, check_raw_c_str,
     check_raw_str, unescape_byte, unescape_byte_str, unescape_c_str, unescape_char, unescape_str,
@@ -19,9 +20,13 @@ macro_rules! units {
     }};
 }
 
+/// The errors that a callback is told, which an iterator gives too, and stays at its end.
 fn errors(text: &str, mode: Mode) -> Vec<(Range<usize>, EscapeError)> {
     let mut errors = Vec::new();
     check_for_errors(text, mode, |range, error| errors.push((range, error)));
+    let mut faults = Faults::new(text, mode);
+    assert!(faults.by_ref().eq(errors.iter().cloned()), "in {text:?}");
+    assert_eq!(faults.next(), None, "in {text:?}");
     errors
 }
 
@@ -70,6 +75,7 @@ fn a_bare_carriage_return_anywhere() {
     }
 }
 
+/// What is wrong between single quotes, and where that ends.
 #[test]
 fn characters() {
     for (text, end, want) in [
@@ -106,33 +112,73 @@ fn characters() {
         assert_eq!(unescape_char(text), Err(want), "in {text:?}");
         assert_eq!(errors(text, Mode::Char), [(0..end, want)], "in {text:?}");
     }
-    for (text, want) in [
-        ("a", 'a'),
-        ("ы", 'ы'),
-        ("\"", '"'),
-        (r"\n", '\n'),
-        (r"\'", '\''),
-        (r"\0", '\0'),
-        (r"\x7f", '\x7f'),
-        (r"\u{1F63b}", '😻'),
-        (r"\u{1_F_6__3_b__}", '😻'),
-    ] {
-        assert_eq!(unescape_char(text), Ok(want), "in {text:?}");
-        assert_eq!(errors(text, Mode::Char), [], "in {text:?}");
-    }
 }
 
+/// What is wrong between single quotes, of a character and of a byte alike.
+#[rustfmt::skip]
+const WRONG_IN_BOTH: [(EscapeError, &[&str]); 14] = [
+    (ZeroChars, &[""]),
+    (LoneSlash, &["\\"]),
+    (EscapeOnlyChar, &["\n", "\t", "'"]),
+    (BareCarriageReturn, &["\r"]),
+    (MoreThanOneChar, &["spam", "ab", r"\x0ff", "\\\"a", r"\na", r"\ra", r"\ta", r"\\a", r"\'a", r"\0a"]),
+    (InvalidEscape, &[r"\v", r"\💩", r"\●", "\\\r"]),
+    (TooShortHexEscape, &[r"\x", r"\x0", r"\xf", r"\xa"]),
+    (InvalidCharInHexEscape, &[r"\xx", r"\xы", r"\x🦀", r"\xtt"]),
+    (NoBraceInUnicodeEscape, &[r"\u", r"\u[0123]"]),
+    (InvalidCharInUnicodeEscape, &[r"\u{0x}"]),
+    (UnclosedUnicodeEscape, &[r"\u{", r"\u{0000"]),
+    (EmptyUnicodeEscape, &[r"\u{}"]),
+    (LeadingUnderscoreUnicodeEscape, &[r"\u{_0000}"]),
+    (OverlongUnicodeEscape, &[r"\u{0000000}"]),
+];
+
+type Literal<'a> = (
+    Result<char, EscapeError>,
+    Result<u8, EscapeError>,
+    &'a [&'a str],
+);
+
+/// What texts between single quotes stand for, as a character and as a byte.
+#[rustfmt::skip]
+const LITERALS: [Literal<'_>; 21] = [
+    (Ok('a'), Ok(b'a'), &["a"]),
+    (Ok('ы'), Err(NonAsciiCharInByte), &["ы"]),
+    (Ok('é'), Err(NonAsciiCharInByte), &["é"]),
+    (Ok('🦀'), Err(NonAsciiCharInByte), &["🦀"]),
+    (Ok('"'), Ok(b'"'), &["\"", "\\\""]),
+    (Ok('\n'), Ok(b'\n'), &[r"\n"]),
+    (Ok('\r'), Ok(b'\r'), &[r"\r"]),
+    (Ok('\t'), Ok(b'\t'), &[r"\t"]),
+    (Ok('\\'), Ok(b'\\'), &[r"\\"]),
+    (Ok('\''), Ok(b'\''), &[r"\'"]),
+    (Ok('\0'), Ok(0), &[r"\0", r"\x00"]),
+    (Ok('Z'), Ok(90), &[r"\x5a", r"\x5A"]),
+    (Ok('\x7f'), Ok(127), &[r"\x7f"]),
+    (Ok('\0'), Err(UnicodeEscapeInByte), &[r"\u{0}", r"\u{000000}"]),
+    (Ok('A'), Err(UnicodeEscapeInByte), &[r"\u{41}", r"\u{0041}", r"\u{00_41}", r"\u{4__1__}"]),
+    (Ok('😻'), Err(UnicodeEscapeInByte), &[r"\u{1F63b}", r"\u{1_F_6__3_b__}"]),
+    (Err(MoreThanOneChar), Err(UnicodeEscapeInByte), &[r"\u{0}x", r"\u{1F63b}}"]),
+    (Err(OutOfRangeHexEscape), Ok(255), &[r"\xff", r"\xFF"]),
+    (Err(OutOfRangeHexEscape), Ok(128), &[r"\x80"]),
+    (Err(OutOfRangeUnicodeEscape), Err(UnicodeEscapeInByte), &[r"\u{FFFFFF}", r"\u{ffffff}", r"\u{110000}"]),
+    (Err(LoneSurrogateUnicodeEscape), Err(UnicodeEscapeInByte), &[
+        r"\u{DC00}", r"\u{DDDD}", r"\u{DFFF}", r"\u{D800}", r"\u{DAAA}", r"\u{DBFF}",
+    ]),
+];
+
+/// The value or the error, which is the one that is told.
 #[test]
-fn bytes() {
-    for (text, want) in [
-        ("a", Ok(b'a')),
-        (r"\xFF", Ok(255)),
-        ("é", Err(NonAsciiCharInByte)),
-        (r"\u{41}", Err(UnicodeEscapeInByte)),
-        (r"\u{}", Err(EmptyUnicodeEscape)),
-        ("ab", Err(MoreThanOneChar)),
-    ] {
-        assert_eq!(unescape_byte(text), want, "in {text:?}");
+fn characters_and_bytes() {
+    let in_both = WRONG_IN_BOTH.map(|(error, texts)| (Err(error), Err(error), texts));
+    for (char, byte, texts) in in_both.into_iter().chain(LITERALS) {
+        for text in texts {
+            assert_eq!(unescape_char(text), char, "in {text:?}");
+            assert_eq!(unescape_byte(text), byte, "in {text:?}");
+            let told = |mode| errors(text, mode).into_iter().map(|(_, error)| error);
+            assert!(told(Mode::Char).eq(char.err()), "in {text:?}");
+            assert!(told(Mode::Byte).eq(byte.err()), "in {text:?}");
+        }
     }
     assert_eq!(errors("é", Mode::Byte), [(0..2, NonAsciiCharInByte)]);
 }
@@ -161,14 +207,6 @@ fn strings() {
         (6..12, Err(UnicodeEscapeInByte)),
     ];
     assert_eq!(units!(unescape_byte_str, r"\xffé\u{41}"), wanted);
-    let char = |c| Ok(MixedUnit::Char(NonZero::new(c).unwrap()));
-    let wanted = [
-        (0..2, char('é')),
-        (2..6, Ok(MixedUnit::HighByte(NonZero::new(255).unwrap()))),
-        (6..10, char('A')),
-        (10..12, Err(NulInCStr)),
-    ];
-    assert_eq!(units!(unescape_c_str, r"é\xff\x41\0"), wanted);
     let wanted = [
         (0..1, Ok('\\')),
         (1..2, Ok('n')),
@@ -178,13 +216,102 @@ fn strings() {
     let wanted = [(0..1, Ok(b'a')), (1..3, Err(NonAsciiCharInByte))];
     assert_eq!(units!(check_raw_byte_str, "aé"), wanted);
     let wanted = [
+        (0..1, Err(BareCarriageReturnInRawString)),
+        (1..5, Err(NonAsciiCharInByte)),
+        (5..6, Ok(b'a')),
+    ];
+    assert_eq!(units!(check_raw_byte_str, "\r🦀a"), wanted);
+    let wanted = [(1..2, BareCarriageReturnInRawString)];
+    assert_eq!(errors("a\r", Mode::RawStr), wanted);
+}
+
+/// Characters, and bytes that are part of none. U+0000 is an error.
+#[test]
+fn c_strings() {
+    let char = |c| Ok(MixedUnit::Char(NonZero::new(c).unwrap()));
+    let wanted = [
+        (0..2, char('é')),
+        (2..6, Ok(MixedUnit::HighByte(NonZero::new(255).unwrap()))),
+        (6..10, char('A')),
+        (10..12, Err(NulInCStr)),
+    ];
+    assert_eq!(units!(unescape_c_str, r"é\xff\x41\0"), wanted);
+    let wanted = [
+        (0..4, char('A')),
+        (4..8, Ok(MixedUnit::HighByte(NonZero::new(0xa5).unwrap()))),
+        (8..10, char('¥')),
+        (10..12, Err(NulInCStr)),
+    ];
+    assert_eq!(units!(unescape_c_str, r"\x41\xa5¥\0"), wanted);
+    let wanted = [
         (0..2, Ok(NonZero::new('é').unwrap())),
         (2..3, Err(NulInCStr)),
     ];
     assert_eq!(units!(check_raw_c_str, "é\0"), wanted);
+    let wanted = [
+        (0..1, Ok(NonZero::new('a').unwrap())),
+        (1..2, Err(NulInCStr)),
+    ];
+    assert_eq!(units!(check_raw_c_str, "a\0"), wanted);
     assert_eq!(errors(r"a\0", Mode::CStr), [(1..3, NulInCStr)]);
-    let wanted = [(1..2, BareCarriageReturnInRawString)];
-    assert_eq!(errors("a\r", Mode::RawStr), wanted);
+}
+
+/// What strings are made of, as a callback is told and as an iterator gives it.
+#[test]
+fn elements_of_strings() {
+    let raw = Err(BareCarriageReturnInRawString);
+    let rows: [(&str, bool, &[_]); 6] = [
+        ("\\\n", false, &[]),
+        ("\\\n ", false, &[]),
+        (
+            "\\\n \u{a0} x",
+            false,
+            &[
+                (0..5, Err(UnskippedWhitespaceWarning)),
+                (3..5, Ok('\u{a0}')),
+                (5..6, Ok(' ')),
+                (6..7, Ok('x')),
+            ],
+        ),
+        (
+            "\\\n  \n  x",
+            false,
+            &[(0..7, Err(MultipleSkippedLinesWarning)), (7..8, Ok('x'))],
+        ),
+        ("\rx", true, &[(0..1, raw), (1..2, Ok('x'))]),
+        ("\r", true, &[(0..1, raw)]),
+    ];
+    for (text, is_raw, wanted) in rows {
+        let (units, elements) = match is_raw {
+            true => (units!(check_raw_str, text), Elements::new_raw(text)),
+            false => (units!(unescape_str, text), Elements::new(text)),
+        };
+        assert_eq!(units, wanted, "in {text:?}");
+        let found = elements.map(|(range, element)| (range, element.to_char()));
+        assert!(found.eq(units), "in {text:?}");
+    }
+}
+
+/// What a string stands for, and a byte string with the same text between its quotes.
+#[test]
+fn texts_of_strings() {
+    for (src, text) in [
+        ("foo", "foo"),
+        ("", ""),
+        (" \t\n", " \t\n"),
+        ("hello \\\n     world", "hello world"),
+        ("thread's", "thread's"),
+    ] {
+        let chars = units!(unescape_str, src).into_iter().map(|unit| unit.1);
+        assert!(chars.eq(text.chars().map(Ok)), "in {src:?}");
+        let bytes = units!(unescape_byte_str, src).into_iter();
+        assert!(
+            bytes.map(|unit| unit.1).eq(text.bytes().map(Ok)),
+            "in {src:?}"
+        );
+    }
+    let wanted = [(1..3, InvalidEscape), (4..14, OutOfRangeUnicodeEscape)];
+    assert_eq!(errors(r"a\qb\u{110000}", Mode::Str), wanted);
 }
 
 /// Literals with as many units as cross at once, one less and more.
@@ -260,7 +387,9 @@ fn warnings_of_long_strings() {
 #[test]
 fn modes_and_units() {
     assert!(!Mode::Byte.in_double_quotes() && Mode::RawCStr.in_double_quotes());
-    assert_eq!(Mode::RawByteStr.prefix_noraw(), "b");
+    assert!(!Mode::Char.in_double_quotes());
+    let prefixes = [Mode::RawStr, Mode::RawByteStr, Mode::CStr].map(Mode::prefix_noraw);
+    assert_eq!(prefixes, ["", "b", "c"]);
     assert!(!UnskippedWhitespaceWarning.is_fatal() && NulInCStr.is_fatal());
     assert_eq!(MixedUnit::try_from('\0'), Err(NulInCStr));
     assert_eq!(MixedUnit::try_from(0u8), Err(NulInCStr));

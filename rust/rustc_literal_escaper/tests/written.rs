@@ -30,6 +30,28 @@ fn as_the_library_of_rust_writes_it() {
     assert_eq!(out, wanted);
 }
 
+/// Each behind what stands there.
+#[test]
+fn as_worked_out_by_hand() {
+    for (text, wanted) in [
+        ("", "<"),
+        ("a\"b'\\", r#"<a\"b\'\\"#),
+        ("\n\r\t", r"<\n\r\t"),
+        ("\0é😻", r"<\u{0}\u{e9}\u{1f63b}"),
+    ] {
+        let mut out = String::from("<");
+        escape_str(text, &mut out).unwrap();
+        assert_eq!(out, wanted);
+    }
+    let mut out = String::from("<");
+    escape_byte_str(&[0, 7, b'\n', b'"', b'A', 127, 128, 255], &mut out).unwrap();
+    assert_eq!(out, r#"<\x00\x07\n\"A\x7f\x80\xff"#);
+    let mut out = String::from("<");
+    assert_eq!(escape_c_str("é\n".as_bytes(), &mut out), Ok(()));
+    assert_eq!(escape_c_str(b"a\0b", &mut out), Err(EscapeCStrError::Nul));
+    assert_eq!(out, r"<\xc3\xa9\n");
+}
+
 /// Where an error is answered, what stood there stays, and nothing more.
 #[test]
 fn where_nothing_is_written() {
