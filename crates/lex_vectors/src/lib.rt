@@ -2,8 +2,6 @@
 #![tactic(auto)]
 
 #[cfg(test)]
-mod calls;
-#[cfg(test)]
 mod cursors;
 #[cfg(test)]
 mod documents;
@@ -12,15 +10,9 @@ mod edits;
 #[cfg(test)]
 mod emoji;
 #[cfg(test)]
-mod held_text;
-#[cfg(test)]
-mod relexing;
-#[cfg(test)]
 mod rows;
 #[cfg(test)]
 mod runs;
 pub mod steppers;
 #[cfg(test)]
 mod tables;
-#[cfg(test)]
-mod types;

@@ -1,10 +1,12 @@
 //! The calls of the binding: what no row of tokens looks at.
 
+use RawStrError::{InvalidStarter, NoTerminator, TooManyDelimiters};
 use rustc_lexer::{
     Base, Cursor, DocStyle, Edition, FrontmatterAllowed, GuardedStr, LiteralKind, RawStrError,
-    Steps, Token, TokenKind, Tokens, UNICODE_VERSION, is_horizontal_whitespace, is_id_continue,
-    is_id_start, is_ident, is_whitespace, settled, starts_raw, strip_shebang, tokenize,
-    tokenize_as, tokenize_document, tokenize_in, validate_raw_str,
+    Steps, Token, TokenKind, Tokens, UNICODE_VERSION, UnknownEdition, erased,
+    is_horizontal_whitespace, is_id_continue, is_id_start, is_ident, is_whitespace, settled,
+    starts_raw, strip_shebang, tokenize, tokenize_as, tokenize_document, tokenize_in,
+    validate_raw_str,
 };
 
 fn guarded(n_hashes: u32, terminated: bool, token_len: u32) -> Option<GuardedStr> {
@@ -94,43 +96,101 @@ fn a_try_leaves_a_frontmatter_allowed() {
     }
 }
 
-#[test]
-fn orders_and_numbers() {
-    use LiteralKind::*;
-    let n_hashes = Some(1);
-    let kinds = [
-        Int {
-            base: Base::Binary,
-            empty_int: true,
-        },
-        Float {
-            base: Base::Binary,
-            empty_exponent: false,
-        },
-        Char { terminated: true },
-        Byte { terminated: false },
-        Str { terminated: false },
-        ByteStr { terminated: false },
-        CStr { terminated: false },
-        RawStr { n_hashes },
-        RawByteStr { n_hashes },
-        RawCStr { n_hashes: None },
-    ];
-    assert!(kinds.windows(2).all(|pair| pair[0] < pair[1]));
-    let bases = [Base::Binary, Base::Octal, Base::Decimal, Base::Hexadecimal];
-    assert_eq!(bases.map(|base| base as u32), [2, 8, 10, 16]);
-    assert!(bases.windows(2).all(|pair| pair[0] < pair[1]));
-    let error = |expected, found| RawStrError::NoTerminator {
+/// Each of the values is less than those behind it, and equals itself alone.
+fn ascend<T: Ord + std::fmt::Debug>(values: &[T]) {
+    for (at, left) in values.iter().enumerate() {
+        for (other, right) in values.iter().enumerate() {
+            assert_eq!(left.cmp(right), at.cmp(&other), "{left:?} to {right:?}");
+            let is = (left < right, left == right);
+            assert_eq!(is, (at < other, at == other), "{left:?} to {right:?}");
+        }
+    }
+}
+
+fn no_terminator(expected: u32, found: u32, offset: Option<u32>) -> RawStrError {
+    NoTerminator {
         expected,
         found,
-        possible_terminator_offset: None,
-    };
-    assert!(error(1, 2) < error(2, 1) && error(1, 1) < error(1, 2));
-    assert!(RawStrError::InvalidStarter { bad_char: 'z' } < error(0, 0));
-    assert!(error(9, 9) < RawStrError::TooManyDelimiters { found: 0 });
-    assert!(guarded(1, true, 9) < guarded(2, false, 1));
-    assert!(guarded(1, false, 9) < guarded(1, true, 1));
-    assert!(guarded(1, true, 1) < guarded(1, true, 9));
+        possible_terminator_offset: offset,
+    }
+}
+
+/// Variants, then fields, in the order in which they stand.
+#[test]
+#[rustfmt::skip]
+fn orders_and_numbers() {
+    use Base::*;
+    use LiteralKind::*;
+    let bases = [Binary, Octal, Decimal, Hexadecimal];
+    assert_eq!(bases.map(|base| base as u32), [2, 8, 10, 16]);
+    ascend(&bases);
+    ascend(&Edition::ALL);
+    ascend(&[
+        Int { base: Binary, empty_int: true }, Int { base: Octal, empty_int: false },
+        Int { base: Octal, empty_int: true }, Float { base: Binary, empty_exponent: false },
+        Float { base: Binary, empty_exponent: true }, Float { base: Decimal, empty_exponent: false },
+        Char { terminated: false }, Char { terminated: true }, Byte { terminated: false }, Str { terminated: false },
+        ByteStr { terminated: false }, CStr { terminated: false }, RawStr { n_hashes: None },
+        RawStr { n_hashes: Some(0) }, RawStr { n_hashes: Some(1) }, RawStr { n_hashes: Some(255) },
+        RawByteStr { n_hashes: None }, RawByteStr { n_hashes: Some(1) }, RawCStr { n_hashes: None },
+    ]);
+    ascend(&[
+        guarded(1, false, 9), guarded(1, true, 1), guarded(1, true, 8), guarded(1, true, 9), guarded(2, false, 1),
+        guarded(2, false, 3),
+    ]);
+    ascend(&[
+        InvalidStarter { bad_char: 'a' }, InvalidStarter { bad_char: 'z' }, InvalidStarter { bad_char: 'é' },
+        no_terminator(0, 0, None), no_terminator(1, 1, None), no_terminator(1, 2, None), no_terminator(1, 9, Some(9)),
+        no_terminator(2, 0, None), no_terminator(2, 1, None), no_terminator(2, 1, Some(3)),
+        no_terminator(2, 1, Some(4)), no_terminator(9, 9, None), TooManyDelimiters { found: 0 },
+        TooManyDelimiters { found: 256 },
+    ]);
+}
+
+/// Each edition, oldest first, has the word and the number of its year, and no other word or number is one.
+#[test]
+fn years() {
+    let years = [
+        ("2015", 2015, Edition::E2015),
+        ("2018", 2018, Edition::E2018),
+        ("2021", 2021, Edition::E2021),
+        ("2024", 2024, Edition::E2024),
+    ];
+    assert_eq!(Edition::ALL, years.map(|row| row.2));
+    for (word, year, edition) in years {
+        assert_eq!(word.parse(), Ok(edition));
+        assert_eq!(Edition::try_from(year), Ok(edition));
+        assert_eq!(edition.year(), year);
+    }
+    for word in ["", "1999", "2016", "02015", "2024 ", "E2024"] {
+        assert_eq!(word.parse::<Edition>(), Err(UnknownEdition), "{word:?}");
+    }
+    for year in [0, 15, 2016, 65535] {
+        assert_eq!(Edition::try_from(year), Err(UnknownEdition), "{year}");
+    }
+}
+
+/// What is said of an error.
+#[test]
+fn errors_say_what_is_wrong() {
+    for (error, said) in [
+        (
+            InvalidStarter { bad_char: '~' },
+            "no hash or quote opens the raw string",
+        ),
+        (
+            no_terminator(12, 3, Some(20)),
+            "no quote with 12 hashes closes the raw string",
+        ),
+        (
+            TooManyDelimiters { found: 256 },
+            "the raw string has 256 hashes on each side, and 255 are the most",
+        ),
+    ] {
+        assert_eq!(error.to_string(), said);
+    }
+    let said = UnknownEdition.to_string();
+    assert_eq!(said, "no edition of Rust has this year");
 }
 
 /// Short texts, each with its tokens.
@@ -260,30 +320,55 @@ fn classes() {
         assert_eq!(is_id_continue(c), continues, "{c:?}");
     }
     assert_eq!(UNICODE_VERSION, unicode_ident::UNICODE_VERSION);
+    // That of the tables of the proved source, which this build does not have.
+    assert_eq!(erased::UNICODE_VERSION, (18, 0, 0));
+    let none = "-'😀\0\u{8}\u{e}\u{a0}\u{2027}\u{202a}\u{feff}";
     for (text, is) in [
-        ("_", true),
-        ("a1", true),
-        ("é", true),
-        ("fn", true),
-        ("", false),
-        ("1a", false),
-        ("\u{b7}a", false),
-        ("a\u{b7}", true),
-        ("a😀", false),
-        ("a b", false),
+        ("\t ", [true, true, false, false]),
+        ("\n\u{b}\u{c}\r\u{85}", [true, false, false, false]),
+        ("\u{200e}\u{200f}", [true, false, false, false]),
+        ("\u{2028}\u{2029}", [true, false, false, false]),
+        ("_aZé\u{2139}", [false, false, true, true]),
+        ("0\u{200c}\u{200d}", [false, false, false, true]),
+        ("\u{30fb}\u{ff65}", [false, false, false, true]),
+        (none, [false; 4]),
     ] {
-        assert_eq!(is_ident(text), is, "{text:?}");
+        for c in text.chars() {
+            let spaces = [is_whitespace(c), is_horizontal_whitespace(c)];
+            let words = [is_id_start(c), is_id_continue(c)];
+            assert_eq!([spaces, words].as_flattened(), is, "{c:?}");
+        }
     }
-    for (text, prefix_len, starts) in [
-        ("br\"a\"", 2, true),
-        ("r", 1, true),
-        ("ér", 2, true),
-        ("br\"a\"", 1, false),
-        ("r", 0, false),
-        ("r", 2, false),
-        ("", 1, false),
+}
+
+/// Texts that are one word, and texts that are not.
+#[test]
+#[rustfmt::skip]
+fn whole_words() {
+    for text in ["_", "a1", "é", "fn", "while", "\u{2139}", "a\u{b7}", "a\u{200d}"] {
+        assert!(is_ident(text), "{text:?}");
+    }
+    for text in ["", "1a", "\u{b7}a", "a😀", "😀", "a b", "a ", " a", "r#a", "\u{200d}a", "a\0"] {
+        assert!(!is_ident(text), "{text:?}");
+    }
+}
+
+/// Texts, with the lengths of a prefix with which a raw string may begin, and those with which it may not.
+#[test]
+fn prefixes_of_raw_strings() {
+    for (text, with, without) in [
+        ("", &[][..], &[0, 1][..]),
+        ("r", &[1], &[0, 2, u32::MAX]),
+        ("R", &[], &[1]),
+        ("rr", &[1, 2], &[]),
+        ("br", &[2], &[1, 3]),
+        ("br\"a\"", &[2], &[1]),
+        ("ér", &[2], &[1, 3]),
+        ("r\"", &[1], &[]),
     ] {
-        assert_eq!(starts_raw(text, prefix_len), starts, "{text:?}");
+        let starts = |len: &u32| starts_raw(text, *len);
+        assert!(with.iter().all(starts), "{text:?}");
+        assert!(!without.iter().any(starts), "{text:?}");
     }
 }
 
@@ -370,6 +455,11 @@ fn kinds_in_a_set() {
     let apart = (0..list.len()).filter(|&n| !list[..n].contains(&list[n]));
     // An identifier, white space, four literals without suffix, of which two differ in their ends, and four comments.
     assert_eq!((set.len(), apart.count()), (11, 11));
+    // Tokens are equal by kind and length.
+    let word = token(TokenKind::Ident, 1);
+    assert_eq!(word, token(TokenKind::Ident, 1));
+    assert_ne!(word, token(TokenKind::Unknown, 1));
+    assert_ne!(word, token(TokenKind::Ident, 2));
 }
 
 #[test]

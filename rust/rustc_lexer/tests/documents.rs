@@ -5,9 +5,11 @@ mod random;
 
 use made::{counts, edit, token};
 use random::Random;
+use rattle_support::Global;
 use rustc_lexer::{
     Bound, Change, EditStop, Edition, FrontmatterAllowed, Head, LexedDocument, LexedText, Relexed,
-    Relexing, Stepper, Steps, Token, TokenKind, strip_shebang, tokenize_as, tokenize_document,
+    Relexing, Stepper, Steps, Token, TokenKind, erased, strip_shebang, tokenize_as,
+    tokenize_document,
 };
 use std::ops::Range;
 
@@ -145,6 +147,34 @@ fn a_document_in_each_edition() {
     check(&lexed, Edition::E2015, "in the first edition");
     let tried = LexedDocument::try_new_in(SCRIPT, Edition::E2021).unwrap();
     check(&tried, Edition::E2021, "where memory is given");
+}
+
+/// Another edition has tokens of its own behind the same head, by the call that makes a document anew and by that of the
+/// proved source. Room is given back with nothing else changed.
+#[test]
+fn another_edition() {
+    macro_rules! rows {
+        ($make:expr, $set_edition:ident) => {
+            let mut lexed = $make;
+            let told = (lexed.edition(), lexed.tokens().len());
+            assert_eq!(told, (Edition::E2021, 4));
+            lexed.$set_edition(Edition::E2018).unwrap();
+            let told = (lexed.edition(), lexed.tokens().len());
+            assert_eq!(told, (Edition::E2018, 6));
+            assert_eq!((lexed.shebang_len(), lexed.body().number), (3, 2));
+        };
+    }
+    let (text, edition) = ("#!a\n---\n---\n'r#foo", Edition::E2021);
+    rows!(LexedDocument::new_in(text, edition), try_set_edition);
+    let proved = erased::LexedDocument::new_in(Global, text, edition);
+    rows!(proved.unwrap(), set_edition);
+    let mut lexed = LexedDocument::new("#!a\n---\n---\nfn");
+    lexed.edit(12..14, "");
+    lexed.shrink_to_fit();
+    let told = (lexed.edition(), lexed.text());
+    assert_eq!(told, (Edition::E2024, "#!a\n---\n---\n"));
+    let pieces = lexed.pieces_of(0..2).map(|piece| (piece.start, piece.text));
+    assert!(pieces.eq([(3, "\n"), (4, "---\n---")]));
 }
 
 /// Edits behind the head, which is kept, and at each place that changes it: how many tokens are kept in front, and where
@@ -304,6 +334,34 @@ fn tokens_of(head: Head) -> Vec<Token> {
     let space = token(TokenKind::Whitespace, head.space_len);
     let space = (head.space_len > 0).then_some(space);
     space.into_iter().chain(head.frontmatter).collect()
+}
+
+/// `ab cd ef` becomes `ab x y ef`, by a buffer of two tokens and by single steps.
+#[test]
+fn a_list_of_the_caller() {
+    let [word, letter] = [2, 1].map(|len| token(TokenKind::Ident, len));
+    let space = token(TokenKind::Whitespace, 1);
+    let (old, text) = ([word, space, word, space, word], "ab x y ef");
+    let change = Change {
+        start: 3,
+        old_stop: 5,
+        new_stop: 6,
+    };
+    assert!(change.may_make(text));
+    let (number, offset) = (0, 0);
+    let mut relexing = Relexing::begin(text, &old, change, Bound { number, offset });
+    let (mut steps, mut buffer) = (Steps::new(), [token(TokenKind::Eof, 0); 2]);
+    let filled = relexing.fill(&mut steps, text, &old, change, &mut buffer);
+    assert_eq!((filled, buffer), (2, [word, space]));
+    let next = relexing.next(&mut steps, text, &old, change);
+    assert_eq!((next, relexing.is_over(text)), (Some(letter), false));
+    let filled = relexing.fill(&mut steps, text, &old, change, &mut buffer);
+    assert_eq!((filled, buffer), (2, [space, letter]));
+    assert!(relexing.is_over(text));
+    let filled = relexing.fill(&mut steps, text, &old, change, &mut buffer);
+    let next = relexing.next(&mut steps, text, &old, change);
+    assert_eq!((filled, next), (0, None));
+    assert_eq!(relexing.counts(old.len()), counts(0, 5, 2));
 }
 
 /// On lists of one's own, an edit of the body gives the tokens and the counts of a `LexedDocument`.

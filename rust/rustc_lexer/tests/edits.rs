@@ -3,11 +3,12 @@
 mod made;
 mod random;
 
-use made::{counts, edit};
+use made::{counts, edit, token};
 use random::Random;
+use rattle_support::Global;
 use rustc_lexer::{
     EditError, EditStop, Edition, FrontmatterAllowed, LexedDocument, LexedText, Relexed, Steps,
-    Token, TokenKind, tokenize, tokenize_in,
+    Token, TokenKind, erased, tokenize, tokenize_in,
 };
 use std::ops::Range;
 use std::panic::catch_unwind;
@@ -179,6 +180,42 @@ fn editions() {
     let text = "a ".repeat(1000) + "r#\"b\"# c\"d\" 'é";
     assert!(tokenize_in(&text, Edition::E2024).eq(tokenize(&text, FrontmatterAllowed::No)));
     assert_eq!(tokenize_in("", Edition::E2015).next(), None);
+}
+
+/// Tokens of another edition, by the call that makes a text anew and by that of the proved source, which lexes it again.
+/// Room is given back with nothing else changed.
+#[test]
+fn another_edition() {
+    let lifetime = TokenKind::Lifetime {
+        starts_with_number: false,
+    };
+    let older = [(lifetime, 2), (TokenKind::Pound, 1), (TokenKind::Ident, 3)];
+    let older = older.map(|(kind, len)| token(kind, len));
+    let newer = [token(TokenKind::RawLifetime, 6)];
+    macro_rules! rows {
+        ($make:expr, $set_edition:ident) => {
+            let mut lexed = $make;
+            let edits = [edit(6, 6, " + 1"), edit(6, 10, "")];
+            for (edition, tokens) in [
+                (Edition::E2024, &newer[..]),
+                (Edition::E2018, &older),
+                (Edition::E2021, &newer),
+            ] {
+                if lexed.edition() != edition {
+                    lexed.$set_edition(edition).unwrap();
+                }
+                for edits in [&[][..], &edits] {
+                    assert_eq!(lexed.edit_all(edits), Ok(()));
+                    lexed.shrink_to_fit();
+                    let held = (lexed.edition(), lexed.text(), lexed.tokens());
+                    assert_eq!(held, (edition, "'r#foo", tokens));
+                }
+            }
+        };
+    }
+    rows!(LexedText::new("'r#foo"), try_set_edition);
+    let proved = erased::LexedText::new(Global, "'r#foo");
+    rows!(proved.unwrap(), set_edition);
 }
 
 /// A range has to be inside the text and between characters, in a shebang line too.
@@ -355,6 +392,13 @@ fn a_list_of_edits_that_stops() {
     assert_eq!(text.edit_each(&edits), Err(EditStop::Range { at: 1 }));
     assert_eq!(document.edit_each(&edits), Err(EditStop::Range { at: 1 }));
     assert_eq!((text.text(), document.text()), ("b", "b"));
+    for (stop, said) in [
+        (EditStop::Range { at: 0 }, "edit 0: bad range"),
+        (EditStop::TooLong { at: 10 }, "edit 10: text too long"),
+        (EditStop::Memory { at: 2 }, "edit 2: no memory"),
+    ] {
+        assert_eq!(stop.to_string(), said);
+    }
 }
 
 /// A clone is edited by itself, and what is made of nothing is in the newest edition.
@@ -402,6 +446,12 @@ fn what_is_equal_and_given_back() {
             let held = lexed.text().as_ptr();
             let text = lexed.into_string();
             assert_eq!((text.as_str(), text.as_ptr()), ("#!a\nlet é;", held));
+            let mut lexed = $Kept::new("#!a\nfn");
+            lexed.edit(4..6, "b");
+            assert_eq!(lexed.into_string(), "#!a\nb");
+            let mut lexed = $Kept::new("let x;");
+            lexed.edit(4..5, "é");
+            assert_eq!(lexed.into_string(), "let é;");
             assert_eq!($Kept::default().into_string(), "");
         };
     }

@@ -3,7 +3,7 @@
 mod random;
 
 use random::Random;
-use rustc_lexer::{Bound, LexedDocument, LexedText, Token};
+use rustc_lexer::{Bound, LexedDocument, LexedText, Pieces, Token};
 use std::ops::Range;
 
 /// What edits are made of: pieces that join with what stands around them, and heads of documents.
@@ -164,4 +164,72 @@ fn pieces_in_a_range() {
         let pieces: Vec<_> = pieces.map(|piece| (piece.start, piece.text)).collect();
         assert_eq!(pieces, wanted, "{range:?}");
     }
+}
+
+/// The starts and the texts of pieces, which say how many they are, and stay at their end.
+fn told(mut pieces: Pieces<'_>) -> Vec<(u32, &str)> {
+    let count = pieces.len();
+    assert_eq!(pieces.size_hint(), (count, Some(count)));
+    let mut told = Vec::new();
+    for piece in pieces.by_ref() {
+        assert_eq!(piece.token.len as usize, piece.text.len());
+        told.push((piece.start, piece.text));
+    }
+    assert_eq!((told.len(), pieces.next()), (count, None));
+    told
+}
+
+/// All pieces, those of some tokens, those in a range, and the token at an offset.
+#[test]
+fn pieces_by_hand() {
+    let text = LexedText::new("a 😀 é");
+    let all = [(0, "a"), (1, " "), (2, "😀"), (6, " "), (7, "é")];
+    assert_eq!(told(text.pieces()), all);
+    for (range, wanted) in [(1..3, 1..3), (6..99, 3..5), (2..2, 2..2)] {
+        assert_eq!(told(text.pieces_in(range)), all[wanted]);
+    }
+    let bound = |number, offset| Some(Bound { number, offset });
+    for (offset, number, start) in [(0, 0, 0), (1, 1, 1), (5, 2, 2), (6, 3, 6), (8, 4, 7)] {
+        assert_eq!(text.token_at(offset), bound(number, start), "{offset}");
+    }
+    assert_eq!(text.token_at(9), None);
+    let document = LexedDocument::new("#!a\n---\nb\n---\nfn");
+    let all = [(3, "\n"), (4, "---\nb\n---"), (13, "\n"), (14, "fn")];
+    assert_eq!(told(document.pieces()), all);
+    for range in [0..0, 0..2, 1..3, 3..4, 4..4] {
+        assert_eq!(told(document.pieces_of(range.clone())), all[range]);
+    }
+    assert_eq!(told(document.pieces_in(0..5)), all[..2]);
+    assert_eq!(told(document.pieces_in(14..99)), all[3..]);
+    let found = [2, 3].map(|offset| document.token_at(offset));
+    assert_eq!(found, [None, bound(0, 3)]);
+}
+
+/// Pieces far into a text of 2000 tokens, four in each 8 bytes: none of them, the last one, and those that an edit lexes and
+/// moves. Behind a frontmatter they are two tokens and 8 bytes further.
+#[test]
+fn pieces_far_into_a_text() {
+    macro_rules! rows {
+        ($Kept:ident, $front:literal, $tokens:literal, $bytes:literal) => {
+            let mut lexed = $Kept::new([$front, &"abé 12 ".repeat(500)].concat());
+            let check = |lexed: &$Kept, from: usize, wanted: &[(u32, &str)]| {
+                let from = from + $tokens;
+                let wanted = wanted.iter().map(|&(start, text)| (start + $bytes, text));
+                let pieces = told(lexed.pieces_of(from..from + wanted.len()));
+                assert!(wanted.eq(pieces.iter().copied()), "{pieces:?}");
+            };
+            check(&lexed, 1501, &[(3004, " "), (3005, "12"), (3007, " ")]);
+            check(&lexed, 1501, &[]);
+            check(&lexed, 2000, &[]);
+            check(&lexed, 1999, &[(3999, " ")]);
+            let range = 3000 + $bytes..3004 + $bytes;
+            assert!(lexed.accepts(range.clone(), "x-y"));
+            lexed.edit(range, "x-y");
+            check(&lexed, 1498, &[(2997, "12"), (2999, " "), (3000, "x")]);
+            check(&lexed, 1501, &[(3001, "-"), (3002, "y")]);
+            check(&lexed, 1904, &[(3804, "12")]);
+        };
+    }
+    rows!(LexedText, "", 0, 0);
+    rows!(LexedDocument, "---\n---\n", 2, 8);
 }

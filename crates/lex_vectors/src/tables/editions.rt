@@ -1,18 +1,9 @@
-//! The years of the editions, and the tokens of a text in each, also with a frontmatter.
+//! The tokens of a text in each edition, also with a frontmatter.
 use crate::tables::frontmatter::FRONT;
 use crate::tables::kinds::*;
 use crate::tables::row::*;
-use rustc_lexer::Edition;
 use rustc_lexer::Edition::*;
 use rustc_lexer::TokenKind::*;
-
-/// The editions, oldest first, with the word and the number that name each.
-pub(crate) static YEARS: &[(&str, u16, Edition)] = &[
-    ("2015", 2015, E2015),
-    ("2018", 2018, E2018),
-    ("2021", 2021, E2021),
-    ("2024", 2024, E2024),
-];
 
 const IN_2024: Ways = Ways::Editions(E2024, E2024);
 

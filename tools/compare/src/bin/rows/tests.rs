@@ -33,6 +33,10 @@ fn names_of_kinds() {
     for (kind, _) in cases().iter().flat_map(|case| &case.tokens) {
         let debug = format!("{kind:?}");
         assert_eq!(Some(kind.name()), debug.split(' ').next());
+        if let TokenKind::Literal { kind, .. } = kind {
+            let debug = format!("{kind:?}");
+            assert_eq!(Some(kind.name()), debug.split(' ').next());
+        }
     }
     assert_eq!(TokenKind::Eof.name(), "Eof");
 }
