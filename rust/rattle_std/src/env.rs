@@ -5,21 +5,13 @@ use crate::prelude::String;
 use crate::rt::HostRuntime;
 
 /// The arguments of the command line, in order. The first is the program's name.
-pub struct Args(std::vec::IntoIter<std::string::String>);
-
-impl Iterator for Args {
-    type Item = String;
-
-    fn next(&mut self) -> Option<String> {
-        self.0.next().map(String::from)
-    }
-}
+pub type Args = std::vec::IntoIter<String>;
 
 /// Returns all arguments, or an error if one is not UTF-8.
 pub fn args(_: &HostRuntime) -> Result<Args> {
-    let words = std::env::args_os().map(|word| word.into_string());
+    let words = std::env::args_os().map(|word| word.into_string().map(String::from));
     match words.collect::<std::result::Result<Vec<_>, _>>() {
-        Ok(words) => Ok(Args(words.into_iter())),
+        Ok(words) => Ok(words.into_iter()),
         Err(_) => Err(Error::from(ErrorKind::InvalidData)),
     }
 }

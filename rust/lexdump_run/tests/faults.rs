@@ -1,0 +1,171 @@
+//! Why a run stops: texts that it refuses, streams that fail; and what the program says then.
+
+#[path = "../../ends/tests/failing/mod.rs"]
+mod failing;
+
+use ends::Stop;
+use failing::{BYTES, Program, Script, Turn, WHOLE, words_of};
+use lexdump_run::program::program;
+use lexdump_run::report::report;
+use lexdump_run::{Fault, Job, read_job, run, status};
+use rattle_std::alloc::Global;
+use rattle_std::io::ErrorKind;
+use rustc_lexer::Edition::E2024;
+
+/// Arguments, bytes, and the fault of the run.
+const STOPPED: [(&str, &[u8], Fault); 6] = [
+    ("", b"\xff", Fault::NotUtf8),
+    ("", b"a\xc3", Fault::NotUtf8),
+    ("", b"\xed\xa0\x80", Fault::NotUtf8),
+    ("edit|9|9|z", b"\xff", Fault::NotUtf8),
+    ("edit|1|2|", b"\xc3\xa9", Fault::EditRange { at: 0 }),
+    ("edit|0|3||1|9|", b"ab cd", Fault::EditRange { at: 1 }),
+];
+
+/// Nothing is written or flushed of a text that is refused, and no end has failed.
+#[test]
+fn stops() {
+    for (line, bytes, fault) in STOPPED {
+        let words = words_of(line);
+        let job = read_job(Global, &words).unwrap();
+        let (mut input, mut output) = (BYTES.reader(bytes), BYTES.writer());
+        let answer = run(Global, &job, &mut input, &mut output);
+        assert_eq!(answer, Err(fault), "{line} of {bytes:?}");
+        assert!(!input.failed() && !output.failed(), "{line} of {bytes:?}");
+        let output = output.into_inner();
+        assert_eq!(
+            (output.calls, output.flushes),
+            (0, 0),
+            "{line} of {bytes:?}"
+        );
+    }
+}
+
+const TEXT: &[u8] = b"ab cd";
+const LISTING: &[u8] = b"0 2 Ident\n2 1 Whitespace\n3 2 Ident\n";
+
+/// A run over these ends stops with `Read` if its input has failed, and with `Write` if its output has; that end alone has
+/// failed, and this was written.
+fn stops_with(input: (&[u8], Script), output: Script, fault: Fault, written: &[u8]) {
+    let job = Job::Plain { edition: E2024 };
+    let row = (input, output);
+    let (mut input, mut output) = (input.1.reader(input.0), output.writer());
+    let answer = run(Global, &job, &mut input, &mut output);
+    assert_eq!(answer, Err(fault), "{row:?}");
+    let failed = [fault == Fault::Read, fault == Fault::Write];
+    assert_eq!([input.failed(), output.failed()], failed, "{row:?}");
+    assert_eq!(output.into_inner().bytes, written, "{row:?}");
+}
+
+/// A reader that fails is `Read`, and nothing is written. A writer that fails, takes nothing or fails to flush is `Write`,
+/// and all before that is written. Only the end that fails has failed.
+#[test]
+fn faults_of_failing_ends() {
+    let fails = Turn::Fails(ErrorKind::Other);
+    for call in 0..3 {
+        let input = (TEXT, BYTES.but_at(call, fails));
+        stops_with(input, BYTES, Fault::Read, b"");
+    }
+    for call in 0..LISTING.len() {
+        for turn in [fails, Turn::MovesNothing] {
+            let output = BYTES.but_at(call, turn);
+            stops_with((TEXT, BYTES), output, Fault::Write, &LISTING[..call]);
+        }
+    }
+    for (text, listing) in [(TEXT, LISTING), (b"", b"")] {
+        let output = BYTES.but_flush(ErrorKind::Other);
+        stops_with((text, BYTES), output, Fault::Write, listing);
+    }
+}
+
+/// Each stop of a program is the fault of its name. An output that nobody reads is a failed write.
+#[test]
+fn faults_of_stops() {
+    for (stop, fault) in [
+        (Stop::Arguments, Fault::Arguments),
+        (Stop::NotUtf8, Fault::NotUtf8),
+        (Stop::TooLong, Fault::TooLong),
+        (Stop::Memory, Fault::Memory),
+        (Stop::Read, Fault::Read),
+        (Stop::Write, Fault::Write),
+        (Stop::ClosedPipe, Fault::Write),
+    ] {
+        assert_eq!(Fault::from(stop), fault, "{stop:?}");
+    }
+}
+
+/// Each fault with its status and its message.
+const FAULTS: [(Fault, u8, &str); 10] = [
+    (Fault::Arguments, 2, "bad arguments"),
+    (Fault::NotUtf8, 3, "input is not UTF-8"),
+    (Fault::TooLong, 4, "input too long"),
+    (Fault::EditRange { at: 0 }, 5, "edit 0: bad range"),
+    (Fault::EditRange { at: 21 }, 5, "edit 21: bad range"),
+    (Fault::EditTooLong { at: 0 }, 5, "edit 0: text too long"),
+    (Fault::EditTooLong { at: 107 }, 5, "edit 107: text too long"),
+    (Fault::Memory, 6, "no memory"),
+    (Fault::Read, 7, "read failed"),
+    (Fault::Write, 7, "write failed"),
+];
+
+/// A fault is shown by its message, and reported in a line, which is flushed. Where that fails the status is the same.
+/// Without a fault there is no line.
+#[test]
+fn statuses_and_lines() {
+    for (fault, want, message) in FAULTS {
+        assert_eq!(fault.to_string(), message);
+        assert_eq!(status(&fault), want, "{message}");
+        let mut errors = BYTES.writer();
+        assert_eq!(report(&Err(fault), &mut errors), want, "{message}");
+        let errors = errors.into_inner();
+        assert_eq!(errors.bytes, format!("lexdump: {message}\n").as_bytes());
+        assert_eq!(errors.flushes, 1, "{message}");
+        let mut errors = BYTES.but_at(1, Turn::MovesNothing).writer();
+        assert_eq!(report(&Err(fault), &mut errors), want, "{message}");
+    }
+    let mut errors = BYTES.writer();
+    assert_eq!(report(&Ok(()), &mut errors), 0);
+    assert_eq!(errors.into_inner().calls, 0);
+}
+
+/// Arguments, which begin with the program's name, if there are any; the output for `ab`, the line on standard error, and
+/// the status.
+#[rustfmt::skip]
+const PROGRAMS: [(Option<&str>, &str, &str, u8); 7] = [
+    (Some("lexdump"), "0 2 Ident\n", "", 0),
+    (Some("lexdump|shebang"), "none\n", "", 0),
+    (Some(""), "0 2 Ident\n", "", 0),
+    (Some("front|edit|0|1|"), "0 1 Ident\n", "", 0),
+    (Some("lexdump|lexdump"), "", "lexdump: bad arguments\n", 2),
+    (Some("lexdump|edit|2|3|"), "", "lexdump: edit 0: bad range\n", 5),
+    (None, "", "lexdump: no memory\n", 6),
+];
+
+/// The program writes its output or its line, and ends with its status.
+#[test]
+fn programs() {
+    for (line, listing, message, want) in PROGRAMS {
+        let args = line.map(|line| words_of(line).into_iter());
+        let (mut output, mut errors) = (WHOLE.writer(), WHOLE.writer());
+        let input = &mut WHOLE.reader(b"ab");
+        let ended = program(Global, args, input, &mut output, &mut errors);
+        assert_eq!(ended, want, "{line:?}");
+        assert_eq!(output.into_inner().bytes, listing.as_bytes(), "{line:?}");
+        assert_eq!(errors.into_inner().bytes, message.as_bytes(), "{line:?}");
+    }
+}
+
+/// The program over ends that fail, one call after another. That nobody reads its output is a failure.
+#[test]
+fn program_over_failing_ends() {
+    Program {
+        run: &|input, output, errors| {
+            let args = Some(words_of("").into_iter());
+            program(Global, args, input, output, errors)
+        },
+        text: TEXT,
+        output: LISTING,
+        closed: 7,
+    }
+    .check();
+}
