@@ -3,6 +3,7 @@ use examples::arriving::{Arriving, lex_pieces};
 use examples::comments::skip_comments;
 use examples::raw_strings::{RawFault, raw_faults};
 use examples::repaint::{edit_shown, repaint};
+use examples::same::is_same;
 use examples::slices::find_word;
 use rustc_lexer::{LexedText, LiteralKind, RawStrError, Relexed, Token, TokenKind, fits};
 
@@ -11,6 +12,7 @@ static WORDS: &[(&str, &str, Option<usize>)] = &[
     ("// loop\nloop {}", "loop", Some(8)),
     ("\"x\" 'x'", "x", None),
     ("r#x x", "x", Some(4)),
+    ("r#x", "r#x", None),
     ("é x", "x", Some(3)),
     ("", "x", None),
 ];
@@ -90,17 +92,26 @@ fn pieces_of_a_whole(rt: HostRuntime) {
 #[test]
 fn paint_after_an_edit(rt: HostRuntime) {
     let text = "let ab = cd + ef;";
-    let insert = "- 1 -";
+    let insert = "/**/1";
     assert!(rt; fits(text));
     let mut lexed = LexedText::new(rt.alloc(), text).expect(&rt, "memory");
     assert!(rt; lexed.accepts(12, 13, insert));
     let relexed = edit_shown(&mut lexed, 12, 13, insert).expect(&rt, "memory");
     let want = Relexed {
         kept_front: 6,
-        lexed: 7,
+        lexed: 4,
         kept_back: 3,
     };
     let mut written = String::new(rt.alloc());
     let is_done = relexed == want && repaint(&lexed, relexed, &mut written).is_ok();
-    assert!(rt; is_done && written.as_str() == "cd - \x1b[32m1\x1b[0m -");
+    assert!(rt; is_done && written.as_str() == "cd \x1b[2m/**/\x1b[0m\x1b[32m1\x1b[0m");
+}
+
+#[test]
+fn same_tokens(rt: HostRuntime) {
+    let token = |len| Token {
+        kind: TokenKind::Ident,
+        len,
+    };
+    assert!(rt; is_same(token(1), token(1)) && !is_same(token(1), token(2)));
 }

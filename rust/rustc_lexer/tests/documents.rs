@@ -161,7 +161,8 @@ fn another_edition() {
             lexed.$set_edition(Edition::E2018).unwrap();
             let told = (lexed.edition(), lexed.tokens().len());
             assert_eq!(told, (Edition::E2018, 6));
-            assert_eq!((lexed.shebang_len(), lexed.body().number), (3, 2));
+            let body = lexed.body();
+            assert_eq!((lexed.shebang_len(), body.number, body.offset), (3, 2, 11));
         };
     }
     let (text, edition) = ("#!a\n---\n---\n'r#foo", Edition::E2021);

@@ -141,7 +141,7 @@ type Literal<'a> = (
 
 /// What texts between single quotes stand for, as a character and as a byte.
 #[rustfmt::skip]
-const LITERALS: [Literal<'_>; 21] = [
+const LITERALS: [Literal<'_>; 22] = [
     (Ok('a'), Ok(b'a'), &["a"]),
     (Ok('ы'), Err(NonAsciiCharInByte), &["ы"]),
     (Ok('é'), Err(NonAsciiCharInByte), &["é"]),
@@ -158,6 +158,7 @@ const LITERALS: [Literal<'_>; 21] = [
     (Ok('\0'), Err(UnicodeEscapeInByte), &[r"\u{0}", r"\u{000000}"]),
     (Ok('A'), Err(UnicodeEscapeInByte), &[r"\u{41}", r"\u{0041}", r"\u{00_41}", r"\u{4__1__}"]),
     (Ok('😻'), Err(UnicodeEscapeInByte), &[r"\u{1F63b}", r"\u{1_F_6__3_b__}"]),
+    (Ok(char::MAX), Err(UnicodeEscapeInByte), &[r"\u{10FFFF}", r"\u{10_ffff}"]),
     (Err(MoreThanOneChar), Err(UnicodeEscapeInByte), &[r"\u{0}x", r"\u{1F63b}}"]),
     (Err(OutOfRangeHexEscape), Ok(255), &[r"\xff", r"\xFF"]),
     (Err(OutOfRangeHexEscape), Ok(128), &[r"\x80"]),
@@ -300,6 +301,7 @@ fn texts_of_strings() {
         ("", ""),
         (" \t\n", " \t\n"),
         ("hello \\\n     world", "hello world"),
+        ("hello \\\n\t\r world", "hello world"),
         ("thread's", "thread's"),
     ] {
         let chars = units!(unescape_str, src).into_iter().map(|unit| unit.1);
@@ -318,9 +320,12 @@ fn texts_of_strings() {
 #[test]
 fn long_strings() {
     for count in [127, 128, 129, 1000] {
-        let text = r"\n".repeat(count);
-        let want = (0..count).map(|at| (2 * at..2 * at + 2, Ok('\n')));
-        assert_eq!(units!(unescape_str, &text), want.collect::<Units<char>>());
+        let want = |unit| {
+            let units = (0..count).map(|at| (2 * at..2 * at + 2, Ok(unit)));
+            units.collect::<Units<char>>()
+        };
+        assert_eq!(units!(unescape_str, &r"\n".repeat(count)), want('\n'));
+        assert_eq!(units!(check_raw_str, &"é".repeat(count)), want('é'));
     }
 }
 
@@ -390,7 +395,8 @@ fn modes_and_units() {
     assert!(!Mode::Char.in_double_quotes());
     let prefixes = [Mode::RawStr, Mode::RawByteStr, Mode::CStr].map(Mode::prefix_noraw);
     assert_eq!(prefixes, ["", "b", "c"]);
-    assert!(!UnskippedWhitespaceWarning.is_fatal() && NulInCStr.is_fatal());
+    let warnings = [UnskippedWhitespaceWarning, MultipleSkippedLinesWarning];
+    assert!(!warnings.iter().any(EscapeError::is_fatal) && NulInCStr.is_fatal());
     assert_eq!(MixedUnit::try_from('\0'), Err(NulInCStr));
     assert_eq!(MixedUnit::try_from(0u8), Err(NulInCStr));
     assert_eq!(MixedUnit::try_from(b'a'), MixedUnit::try_from('a'));
