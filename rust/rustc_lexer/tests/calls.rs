@@ -598,7 +598,9 @@ fn a_long_document_is_filled_as_it_is_stepped() {
 #[test]
 fn what_an_iterator_remembers_changes_no_token() {
     let line = "let x = 'r#a + b\"c\"; /* d */ fn éa(g: &'h str) { } 0x1f.i()  \u{2028}j // k\n";
-    let text = line.repeat(40);
+    // Each has more bytes than are searched at once.
+    let runs = [" ", "l"].map(|run| run.repeat(70)).join("'m'; ");
+    let text = format!("n{runs}/{line}").repeat(40);
     for room in 0..5 {
         let mut tokens = tokenize(&text, FrontmatterAllowed::No);
         let mut buffer = vec![tokens.clone().next().unwrap(); room];
@@ -609,9 +611,10 @@ fn what_an_iterator_remembers_changes_no_token() {
                 break;
             };
             let alone = Cursor::new(rest, FrontmatterAllowed::No).advance_token();
-            assert_eq!((token, kept.next()), (alone, Some(alone)), "in {rest:?}");
+            let left = rest.len();
+            assert_eq!((token, kept.next()), (alone, Some(alone)), "{left} left");
             assert_eq!(tokens.as_str(), &rest[token.len as usize..]);
-            if rest.len() % 5 < room {
+            if left % 5 < room {
                 tokens.fill(&mut buffer);
             }
         }
