@@ -200,6 +200,7 @@ fn another_edition() {
                 (Edition::E2024, &newer[..]),
                 (Edition::E2018, &older),
                 (Edition::E2021, &newer),
+                (Edition::E2015, &older),
             ] {
                 if lexed.edition() != edition {
                     lexed.$set_edition(edition).unwrap();
