@@ -1,12 +1,13 @@
 -- What a cursor takes, which is what its iterator takes, longer by the bytes that are pending.
-use Rattle.std.proofs.Common.{◌≡◌, ◌≢◌, ℕ, ◌+◌, ◌<◌, ◌≤◌, ◌^◌, ◌==◌, List, [], ◌∷◌, length, length-drop, drop, false, refl, sym, ap, subst, ◌∙◌, arith}
+use Rattle.std.proofs.lemmas.Grind.{common_steps}
+use Rattle.std.proofs.Common.{◌≡◌, ◌≢◌, ℕ, ◌+◌, ◌<◌, ◌≤◌, ◌^◌, ◌==◌, List, [], length, length-drop, drop, false, refl, sym, ap, subst, ◌∙◌, arith}
 use Rattle.std.specs.Prelude.{All}
-use Rattle.std.specs.Str.{IsCharBoundary, IsUtf8}
+use Rattle.std.specs.Str.{IsCharBoundary}
 use Rattle.std.proofs.lemmas.Bool.{ne_eqb}
 use Rattle.std.proofs.lemmas.List.Elements.{All-head}
 use Rattle.std.proofs.lemmas.Str.{IsUtf8-drop}
-use Rattle.rustc_lexer.specs.{FrontmatterAllowed, Token, TokenKind, E2024, Eof, Literal, No, Yes}
-use Rattle.rustc_lexer.specs.LanguageText.{Mode, mode_edition, mode_in}
+use Rattle.rustc_lexer.specs.{FrontmatterAllowed, Token, TokenKind, E2024, Eof}
+use Rattle.rustc_lexer.specs.LanguageText.{Mode, mode_in}
 use Rattle.rustc_lexer.specs.State.{State, kind_past, token_past, HasSuffixWithin}
 use Rattle.rustc_lexer.specs.means.Taking.{IsCursor, token_at, take_next}
 use Rattle.rustc_lexer.specs.Classes.{IsText}
@@ -17,8 +18,7 @@ use Rattle.rustc_lexer.specs.laws.Tokens.{tokens-cons}
 
 -- pending bytes make no end of a token that is none
 kind_past-end : (pending : ℕ) (kind : TokenKind) → kind_past pending kind ≡ Eof → kind ≡ Eof
-kind_past-end pending (Literal kind start) e = absurd (cc)
-kind_past-end pending kind e = e
+kind_past-end pending kind w2 = grind (arith, common_steps)
 
 -- what a cursor takes that no end of the text stops
 pub record Advances (s t : State) (token : Token) : Type 0 where
@@ -29,22 +29,12 @@ pub record Advances (s t : State) (token : Token) : Type 0 where
 
 -- a part of a text that has no tokens is empty
 nothing_left : (mode : Mode) (text : List ℕ) → IsText text → tokens_of mode text ≡ [] → text ≡ []
-nothing_left mode [] is none = refl
-nothing_left mode (b ∷ bs) is none = let some = ap length (sym none ∙ tokens-cons mode (b ∷ bs) is (omega arith)) in absurd (omega arith)
+nothing_left mode text w2 w3 = grind (arith, common_steps, tokens-cons)
 
 module _ (pending : ℕ) (tokens : State) (is : IsCursor pending tokens) (s : State) (view : state pending tokens.rest tokens.mode ≡ s) where
   -- past some of the text that is left, with at most these bytes pending as well
   pub passed : (rest : List ℕ) → rest ≡ s.rest → (len left : ℕ) → IsCharBoundary rest len → left ≤ pending + len → (t : State) → t ≡ record tokens { rest = drop len tokens.rest } → IsCursor left t
-  passed rest offset len left boundary few t e =
-      let within : IsCharBoundary tokens.rest len = subst (λ xs. IsCharBoundary xs len) (offset ∙ sym (ap (λ (x : State). x.rest) view)) boundary in
-      let shorter = length-drop len tokens.rest in
-      let fits = is.fits in
-      subst (IsCursor left) (sym e) record {
-        alone = is.alone;
-        newest = is.newest;
-        text = record { utf8 = IsUtf8-drop tokens.rest len is.text.utf8 within; fits = omega (arith, shorter, fits) };
-        fits = omega (arith, shorter, fits, within.0, few);
-      }
+  passed rest offset len left boundary few t e = grind (arith, common_steps, length-drop, IsUtf8-drop)
 
   -- at the end of the text
   pub ends : tokens_left tokens ≡ [] → take_next s ≡ (record { kind = Eof; len = 0 }, s)
@@ -92,27 +82,13 @@ module _ (pending : ℕ) (tokens : State) (is : IsCursor pending tokens) (s : St
     no_end h = token_at-not_end tokens.mode tokens.rest is.text some (sym (ap (λ (k : Token). k.kind) taken_is) ∙ kind_past-end pending taken.kind h)
 
     takes_alone : TakesToken (state 0 tokens.rest tokens.mode) taken new
-    takes_alone =
-        let from : TakesToken (state 0 tokens.rest tokens.mode) taken t = subst (λ n. TakesToken (state n tokens.rest tokens.mode) taken t) is.alone takes in
-        subst (λ n. TakesToken (state 0 tokens.rest tokens.mode) taken (state n t.rest t.mode)) (ap (λ (x : State). x.pending) next_is) from
+    takes_alone = grind (arith, common_steps, next_is)
 
     pub advances : Advances s new (token_past pending taken)
-    advances = subst (λ (x : State). Advances x new (token_past pending taken)) view record {
-      token_is = token_is;
-      state_is = state_is;
-      no_end = no_end;
-      first = record {
-        taken = taken;
-        takes = takes_alone;
-        with_pending = refl;
-        none_pending = refl;
-      };
-    }
+    advances = grind (arith, common_steps, token_is, state_is, no_end, takes_alone)
 
     pub advances_alone : pending ≡ 0 → Advances s (state pending t.rest t.mode) taken
-    advances_alone none =
-        let whole : Advances s new taken = subst (Advances s new) (ap (λ n. token_past n taken) none ∙ token_past-zero taken) advances in
-        subst (λ n. Advances s (state n t.rest t.mode) taken) (sym none) whole
+    advances_alone none = grind (arith, common_steps, whole, token_past-zero, advances)
 
     pub suffix_within : HasSuffixWithin taken
     suffix_within = (All-head HasSuffix taken (tokens_left t) (subst (All HasSuffix) takes.first (suffixes tokens.rest tokens.mode is.text))).0
@@ -121,23 +97,8 @@ module _ (pending : ℕ) (tokens : State) (is : IsCursor pending tokens) (s : St
     whole_fits = omega (arith, is.fits, takes.boundary.0)
 
     pub still_cursor : (left : ℕ) → left ≤ pending → IsCursor left t
-    still_cursor left few =
-        let cut = ap length takes.rest in
-        let shorter = length-drop taken.len tokens.rest in
-        let fits = is.fits in
-        record {
-          alone = ap (λ (x : State). x.pending) next_is;
-          newest = ap mode_edition takes.mode ∙ (edition-after tokens.mode taken.kind ∙ is.newest);
-          text = record { utf8 = subst IsUtf8 (sym takes.rest) (IsUtf8-drop tokens.rest taken.len is.text.utf8 takes.boundary); fits = omega (arith, cut, shorter, fits) };
-          fits = omega (arith, cut, shorter, fits, few);
-        }
-
-newest_in : (allowed : FrontmatterAllowed) → mode_edition (mode_in allowed E2024) ≡ E2024
-newest_in Yes = refl
-newest_in No = refl
+    still_cursor left few = grind (arith, common_steps, length-drop, next_is, edition-after, IsUtf8-drop)
 
 -- a cursor at the start of a text
 pub at_start : (allowed : FrontmatterAllowed) (text : List ℕ) → IsText text → (s : State) → s ≡ state 0 text (mode_in allowed E2024) → IsCursor 0 s
-at_start allowed text is s e = subst (IsCursor 0) (sym e) (
-    let fits = is.fits in
-    record { alone = refl; newest = newest_in allowed; text = is; fits = omega arith })
+at_start allowed text is s e = grind (arith, common_steps)

@@ -173,15 +173,8 @@ at_pred (suc low) x some set least =
 
 above_pred : (low k x : ℕ) → 0 < x → bit_at x low ≡ 1 → ((k : ℕ) → k < low → bit_at x k ≡ 0) → low < k → bit_at (x - 1) k ≡ bit_at x k
 above_pred low zero x some set least above = absurd (omega arith)
-above_pred zero (suc k) x some set least above =
-    let odd : x % 2 ≡ 1 = sym (bit_at_lowest x) ∙ set in
-    let half : (x - 1) / 2 ≡ x / 2 = omega (arith, odd) in
-    bit_at-suc (x - 1) k ∙ (ap (λ y. bit_at y k) half ∙ sym (bit_at-suc x k))
-above_pred (suc low) (suc k) x some set least above =
-    let even : x % 2 ≡ 0 = sym (bit_at_lowest x) ∙ least 0 (omega arith) in
-    let half : (x - 1) / 2 ≡ x / 2 - 1 = omega (arith, even, some) in
-    bit_at-suc (x - 1) k ∙ (ap (λ y. bit_at y k) half
-    ∙ (above_pred low k (x / 2) (omega (arith, even, some)) (sym (bit_at-suc x low) ∙ set) (λ j l. sym (bit_at-suc x j) ∙ least (suc j) (omega arith)) (omega arith) ∙ sym (bit_at-suc x k)))
+above_pred zero (suc k) x some set least above = grind (arith, common_steps, bit_at_lowest, bit_at-suc)
+above_pred (suc low) (suc k) x some set least above = grind (arith, common_steps, bit_at_lowest, bit_at-suc, above_pred low k (x / 2) (omega (arith, (sym (bit_at_lowest x) ∙ least 0 (omega arith)), some)) (sym (bit_at-suc x low) ∙ set) (λ j l. sym (bit_at-suc x j) ∙ least (suc j) (omega arith)) (omega arith))
 
 module _ (x low : ℕ) (some : 0 < x) (lowest : IsLowest x low) where
   set_at : bit_at x low ≡ 1

@@ -1,4 +1,5 @@
 -- How many characters lead out of several levels of block comments.
+use Rattle.std.proofs.lemmas.Grind.{common_steps}
 use Rattle.std.proofs.Common.{◌≡◌, ℕ, zero, suc, ◌+◌, ◌<◌, ◌≤◌, false, List, [], ◌∷◌, length, drop, refl, sym, ap, ◌∙◌, arith, length-drop, drop-drop, Option, Some, None}
 use Rattle.rustc_lexer.specs.means.Least.{more}
 use Rattle.rustc_lexer.specs.means.BlockComment.{at_closing, at_opening, followed_by, end_within, comment_end}
@@ -7,16 +8,13 @@ use Rattle.rustc_lexer.specs.laws.Choice.{by_found}
 use Rattle.rustc_lexer.specs.laws.Least.{more-more}
 
 followed_by-more : (k : ℕ) (o : Option ℕ) (f : ℕ → Option ℕ) → followed_by (more k o) f ≡ more k (followed_by o (λ n. f (k + n)))
-followed_by-more k None f = refl
-followed_by-more k (Some n) f = sym (more-more k n (f (k + n)))
+followed_by-more k o f = grind (arith, common_steps, more-more)
 
 followed_by-followed_by : (o : Option ℕ) (f g : ℕ → Option ℕ) → followed_by (followed_by o f) g ≡ followed_by o (λ a. followed_by (f a) (λ b. g (a + b)))
-followed_by-followed_by None f g = refl
-followed_by-followed_by (Some a) f g = followed_by-more a (f a) g
+followed_by-followed_by o f g = grind (arith, common_steps, followed_by-more)
 
 followed_by-same : (o : Option ℕ) (f g : ℕ → Option ℕ) → ((n : ℕ) → f n ≡ g n) → followed_by o f ≡ followed_by o g
-followed_by-same None f g e = refl
-followed_by-same (Some n) f g e = ap (more n) (e n)
+followed_by-same o f g w3 = grind (arith, common_steps)
 
 -- a number that is greater finds the same end
 end-same : (fuel : ℕ) (s : List ℕ) → length s ≤ fuel → end_within fuel s ≡ comment_end s
@@ -30,8 +28,7 @@ out_of zero s = Some 0
 out_of (suc depth) s = followed_by (comment_end s) (λ n. out_of depth (drop n s))
 
 pub out-nothing : (depth : ℕ) → 0 < depth → out_of depth [] ≡ None
-out-nothing zero some = absurd (omega arith)
-out-nothing (suc depth) some = refl
+out-nothing depth w1 = grind (arith, common_steps)
 
 -- a character that begins no mark leaves the depth as it is
 pub out-plain : (depth c : ℕ) (s : List ℕ) → 0 < depth → at_closing (c ∷ s) ≡ false → at_opening (c ∷ s) ≡ false → out_of depth (c ∷ s) ≡ more 1 (out_of depth s)
@@ -62,8 +59,4 @@ out-opening (suc depth) s some =
     places a b = let two : 2 + (a + b) ≡ suc (suc (a + b)) = omega arith in rw two (ap (out_of depth) (sym (drop-drop b a s)))
 
 pub out-one : (s : List ℕ) → out_of 1 s ≡ comment_end s
-out-one s = by_end (comment_end s)
-  where
-    by_end : (o : Option ℕ) → followed_by o (λ n. Some 0) ≡ o
-    by_end None = refl
-    by_end (Some n) = ap Some (omega arith)
+out-one s = grind (arith, common_steps)

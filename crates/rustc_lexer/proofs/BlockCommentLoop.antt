@@ -1,5 +1,5 @@
 -- The loop over a block comment: from mark to mark.
-use Rattle.std.proofs.Common.{◌≡◌, ◌≢◌, ℕ, suc, ◌+◌, ◌<◌, ◌==◌, Bool, true, false, true≢false, List, [], ◌∷◌, ◌++◌, length, drop, refl, sym, ap, ◌∙◌, arith, length-append, subst, Option, Some, None, not}
+use Rattle.std.proofs.Common.{◌≡◌, ◌≢◌, ℕ, suc, ◌+◌, ◌<◌, ◌==◌, Bool, true, false, List, [], ◌∷◌, ◌++◌, length, drop, refl, sym, ap, ◌∙◌, arith, length-append, subst, Option, Some, None, not}
 use Rattle.std.specs.Str.{chars, IsUtf8}
 use Rattle.std.proofs.lemmas.Bool.{and_parts, or_cases, or_parts, eqb-true, not-true, not-false}
 use Rattle.std.proofs.lemmas.Grind.{common_steps}
@@ -82,15 +82,12 @@ module _ (text rest stop : List ℕ) (depth : ℕ) (some : 0 < depth) (at : Comm
     slash_alone ne none = let e = is_slash ne in alone (rw e refl) (rw e none)
 
     begins-one : (a : ℕ) (s : List ℕ) → begins (a ∷ []) s ≡ true → s ≡ a ∷ drop 1 s
-    begins-one a [] e = absurd (true≢false (sym e))
-    begins-one a (d ∷ ds) e = ap (λ x. x ∷ ds) (eqb-true d a (and_parts (d == a) true e).0)
+    begins-one a s w2 = grind (arith, common_steps, eqb-true, and_parts)
 
     -- both characters of a mark
     mark_reads : (a b : ℕ) (past_mark : List ℕ) → c ≡ a → begins (b ∷ []) (chars tail) ≡ true → past_mark ≡ past 1 tail → chars stop ≡ a ∷ b ∷ chars past_mark
     mark_reads a b past_mark e f g =
-        let stopped = at_stop in
-        let left : chars past_mark ≡ drop 1 (chars tail) = ap chars g ∙ chars-past 1 tail (IsUtf8-cut 1 stop tail stopped.utf8 cut) in
-        reads ∙ (ap (λ x. x ∷ chars tail) e ∙ ap (λ xs. a ∷ xs) (begins-one b (chars tail) f ∙ ap (λ xs. b ∷ xs) (sym left)))
+        grind (arith, common_steps, at_stop, g, chars-past 1 tail (IsUtf8-cut 1 stop tail (at_stop).utf8 cut), reads, e, begins-one b (chars tail) f, (ap chars g ∙ chars-past 1 tail (IsUtf8-cut 1 stop tail (at_stop).utf8 cut)))
 
     past_both : (past_mark : List ℕ) → past_mark ≡ past 1 tail → past_mark ≡ past 2 stop
     past_both past_mark g = let stopped = at_stop in past-two stop tail past_mark stopped.utf8 cut g

@@ -24,15 +24,7 @@ pub record IsFront (tokens : List Token) (filled : List Token) (count : ℕ) : T
 
 -- the front of a buffer that holds so many tokens, as they are
 pub front_of : (tokens buffer filled : List Token) (count : ℕ) → count ≤ length tokens → filled ≡ map (λ (t : Token). t) (take count tokens) ++ drop count buffer → IsFront tokens filled count
-front_of tokens buffer filled count few is =
-    let short : length (take count tokens) ≡ count = length-take-le count tokens few in
-    let whole : filled ≡ take count tokens ++ drop count buffer = is ∙ ap (λ ts. ts ++ drop count buffer) (map-id (take count tokens)) in
-    let long = ap length whole in
-    record {
-      few = few;
-      within = omega (arith, long, short, length-append (take count tokens) (drop count buffer));
-      front = ap (take count) whole ∙ take_at (take count tokens) (drop count buffer) count short;
-    }
+front_of tokens buffer filled count few is = grind (arith, common_steps, length-take-le, map-id, length-append, take_at)
 
 pub filled_front : (tokens buffer filled : List Token) (count : ℕ) → IsFilled (λ (t : Token). t) tokens buffer filled count → IsFront tokens filled count
 filled_front tokens buffer filled count is = front_of tokens buffer filled count (omega (arith, is.as_many, min-le_right (length buffer) (length tokens))) is.tokens

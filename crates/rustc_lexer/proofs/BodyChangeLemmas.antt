@@ -1,4 +1,5 @@
 -- What an edit of a document is to its body, by the tokens of the grammar.
+use Rattle.std.proofs.lemmas.Grind.{common_steps}
 use Rattle.std.proofs.Common.{◌≡◌, ℕ, ◌+◌, ◌≤◌, Bool, true, true≢false, List, length, map, drop, refl, sym, ap, ap₂, ◌∙◌, subst, arith, IsCharBoundary, IsUtf8, IsTrue, ◌↔◌}
 use Rattle.rustc_lexer.specs.{Token}
 use Rattle.rustc_lexer.specs.declared.relex.head.Head.{Head}
@@ -25,10 +26,7 @@ module _ (text : List ℕ) (is : IsText text) where
   -- there is no other head
   pub head_is : (head : Head) → IsHeadOf text head → head ≡ head_of text
   head_is head h =
-      let parts = same-parts head.space_len (head_of text).space_len head.frontmatter (head_of text).frontmatter h.bare (ahead text is).bare (h.tokens_are ∙ sym (front_is text is)) in
-      let start : head.shebang_len ≡ (head_of text).shebang_len = h.shebang_is ∙ sym (head-shebang text) in
-      let end : head.body ≡ (head_of text).body = h.end_is ∙ sym (end_is text is) in
-      λ i. record { shebang_len = start i; space_len = parts.0 i; frontmatter = parts.1 i; body = end i }
+      grind (arith, common_steps, same-parts head.space_len (head_of text).space_len head.frontmatter (head_of text).frontmatter h.bare (ahead text is).bare (h.tokens_are ∙ sym (front_is text is)), h.shebang_is, head-shebang text, h.end_is, end_is text is)
 
 module _ {first : List ℕ → Token} (law : IsGrammar first) (text insert : List ℕ) (edit : Change) (is : IsText text) (its : IsUtf8 insert) (fine : IsEdit text edit.start edit.old_stop insert) (sum : edit.new_stop ≡ edit.start + length insert) where
   abbrev made : List ℕ
@@ -79,12 +77,7 @@ module _ {first : List ℕ → Token} (law : IsGrammar first) (text insert : Lis
         relexed_as law text insert edit.start edit.old_stop is its fine kept keeps_here.0 (λ e k. true≢false (sym (keeps_here.1 k) ∙ e)) _ (r, there, refl)
 
     body_here : IsBodyChange first text edit insert made kept change
-    body_here = record {
-      keeps = keeps_here;
-      put = body_insert kept change insert new_body;
-      made_of = made_here;
-      counts = counts_here;
-    }
+    body_here = grind (arith, common_steps, keeps_here, made_here, counts_here)
 
 pub body_is : {first : List ℕ → Token} (law : IsGrammar first) (before insert text : List ℕ) (edit : Change) (old now : Head) (kept : Bool) (change : Change) → IsEditOf before edit insert text → IsHeadOf before old → IsHeadOf text now
     → IsTrue kept ↔ ((old ≡ now) × (old.body ≤ edit.start)) → change ≡ body_change kept old.body now.body edit → IsBodyChange first before edit insert text kept change

@@ -45,9 +45,7 @@ among_ends from (t ∷ ts) p e = by_either (eqb p (from + t.len))
     (suc at.0, omega (arith, at.1), omega (arith, at.2)))
 
 among-bound : (from : ℕ) (ts : List Token) (p : ℕ) → list_any (eqb p) (from ∷ ends_from from ts) ≡ true → (i : ℕ) × (i ≤ length ts) × (from + bound ts i ≡ p)
-among-bound from ts p e = by_either (eqb p from)
-    (λ here. let same = eqb-true p from here in (0, omega arith, omega arith))
-    (λ other. among_ends from ts p (sym (ap (λ b. b || list_any (eqb p) (ends_from from ts)) other) ∙ e))
+among-bound from ts p e = grind (arith, common_steps, eqb-true, among_ends)
 
 pub is_bound-elim : (ts : List Token) (p : ℕ) → is_bound ts p ≡ true → (i : ℕ) × (i ≤ length ts) × (bound ts i ≡ p)
 is_bound-elim ts p e = let at = among-bound 0 ts p e in let there = at.2 in (at.0, at.1, omega arith)
@@ -80,18 +78,14 @@ count-cons test x xs = grind (arith, common_steps, sum_by_from)
 -- how many of the tokens end past the offset: all that begin past it, and all behind the bound that it is
 ends_past-all : (from : ℕ) (ts : List Token) (p : ℕ) → p < from → count_by (ltb p) (ends_from from ts) ≡ length ts
 ends_past-all from [] p less = refl
-ends_past-all from (t ∷ ts) p less =
-    let rest = ends_past-all (from + t.len) ts p (omega arith) in
-    count-cons (ltb p) (from + t.len) (ends_from (from + t.len) ts) ∙ rw (lt-ltb p (from + t.len) (omega arith), rest) (omega arith)
+ends_past-all from (t ∷ ts) p less = grind (arith, common_steps, count-cons, lt-ltb, ends_past-all (from + t.len) ts p (omega arith))
 
 ends_past-from : (from : ℕ) (ts : List Token) (i p : ℕ) → i ≤ length ts → ((k : ℕ) → k < length ts → bound ts k < bound ts (suc k)) → from + bound ts i ≡ p → count_by (ltb p) (ends_from from ts) ≡ length ts - i
 ends_past-from from [] i p few up e = omega arith
 ends_past-from from (t ∷ ts) zero p few up e =
     let some : 0 < t.len = let u = up 0 (omega arith) in omega arith in
     count-cons (ltb p) (from + t.len) (ends_from (from + t.len) ts) ∙ rw (lt-ltb p (from + t.len) (omega arith), ends_past-all (from + t.len) ts p (omega arith)) (omega arith)
-ends_past-from from (t ∷ ts) (suc i) p few up e =
-    let rest = ends_past-from (from + t.len) ts i p (omega arith) (λ k h. let u = up (suc k) (omega arith) in omega arith) (omega arith) in
-    count-cons (ltb p) (from + t.len) (ends_from (from + t.len) ts) ∙ rw (le-ltb p (from + t.len) (omega arith), rest) (omega arith)
+ends_past-from from (t ∷ ts) (suc i) p few up e = grind (arith, common_steps, count-cons, le-ltb, ends_past-from (from + t.len) ts i p (omega arith) (λ k h. let u = up (suc k) (omega arith) in omega arith) (omega arith))
 
 pub ends_past-at : (ts : List Token) (i : ℕ) → i ≤ length ts → ((k : ℕ) → k < length ts → bound ts k < bound ts (suc k)) → count_by (ltb (bound ts i)) (ends_from 0 ts) ≡ length ts - i
 ends_past-at ts i few up = ends_past-from 0 ts i (bound ts i) few up (omega arith)
@@ -113,5 +107,4 @@ pub least_from-more : (test : ℕ → Bool) (n m k : ℕ) → n ≡ suc m → te
 least_from-more test n m k e out = rw (e, out) refl
 
 pub least_from-here : (test : ℕ → Bool) (n k : ℕ) → test k ≡ true → least_from test n k ≡ k
-least_from-here test zero k hit = refl
-least_from-here test (suc n) k hit = rw hit refl
+least_from-here test n k w3 = grind (arith, common_steps)

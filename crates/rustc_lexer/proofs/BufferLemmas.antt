@@ -6,15 +6,15 @@ use Rattle.std.proofs.lemmas.List.Elements.{All-head, All-tail}
 use Rattle.std.proofs.lemmas.Str.{IsCharBoundary-from_drop}
 use Rattle.std.proofs.Math.Nat.{min-eq_left, min-eq_right, min-le_right}
 use Rattle.std.proofs.lemmas.Grind.{common_steps}
-use Rattle.rustc_lexer.specs.{Token, Edition, FrontmatterAllowed, Yes, No}
+use Rattle.rustc_lexer.specs.{Token, Edition, FrontmatterAllowed}
 use Rattle.rustc_lexer.specs.Tokens.{IsFilledTo, state_past, bound, tokens_by, tokens_of, tokens_left, Partitions, TakesToken}
 use Rattle.rustc_lexer.specs.means.Tokens.{IsFilled}
 use Rattle.rustc_lexer.specs.State.{State}
 use Rattle.rustc_lexer.specs.Classes.{IsText}
 use Rattle.rustc_lexer.specs.Locality.{IsGrammar}
-use Rattle.rustc_lexer.specs.LanguageText.{Mode, document, part, mode_after, mode_edition, mode_in}
+use Rattle.rustc_lexer.specs.LanguageText.{Mode, part, mode_edition, mode_in}
 use Rattle.rustc_lexer.specs.means.Edition.{first_token_in}
-use Rattle.rustc_lexer.specs.means.Taking.{token_at, advance_by, take_next}
+use Rattle.rustc_lexer.specs.means.Taking.{advance_by, take_next}
 use Rattle.rustc_lexer.specs.laws.Edition.{edition_grammar}
 use Rattle.rustc_lexer.specs.laws.Cuts.{IsCutAt, at_bound, tokens-cons, tokens-nil}
 use Rattle.rustc_lexer.proofs.ProgressLemmas.{IsOffset, next-from_drop}
@@ -60,9 +60,7 @@ module _ {first : List ℕ → Token} (law : IsGrammar first) (text : List ℕ) 
   stands = rw offset record { inside = cut.inside; boundary = IsCharBoundary-from_drop text _ cut.inside cut.past.utf8; front = cut.front; past = cut.past }
 
   pub next_token : at < length text → drop count (tokens_by first text) ≡ first (drop at text) ∷ tokens_by first (drop (first (drop at text)).len (drop at text))
-  next_token more =
-      let some : 0 < length (drop at text) = omega (arith, length-drop at text) in
-      cut.rest ∙ (ap (λ p. tokens_by first (drop p text)) (sym offset) ∙ tokens-cons law (drop at text) stands.past some)
+  next_token more = grind (arith, length-drop at text, cut.rest, offset, tokens-cons, stands)
 
   pub next_offset : at < length text → at + (first (drop at text)).len ≡ bound (tokens_by first text) (count + 1)
   next_offset more = grind (arith, common_steps, next_token, next-from_drop _ count _ _ (next_token more))
@@ -96,8 +94,7 @@ filled_all {first} law written text is end whole buffer filled count to = record
 
 -- the edition stays, and past a part a part is left
 edition-advanced : (rest : List ℕ) (s : State) → mode_edition (advance_by rest s).1.mode ≡ mode_edition s.mode
-edition-advanced [] s = refl
-edition-advanced (b ∷ bs) s = edition-after s.mode (token_at s.mode s.rest).kind
+edition-advanced rest s = grind (arith, common_steps, edition-after)
 
 pub edition-stays : (count : ℕ) (s : State) → mode_edition (state_past count s).mode ≡ mode_edition s.mode
 unfolding take_next
@@ -108,8 +105,7 @@ abbrev IsInPart : Edition → State → Type 0
 IsInPart edition s = (s.pending ≡ 0) × (s.mode ≡ part edition)
 
 part-advanced : (edition : Edition) (rest : List ℕ) (s : State) → IsInPart edition s → IsInPart edition (advance_by rest s).1
-part-advanced edition [] s is = is
-part-advanced edition (b ∷ bs) s is = (refl, ap (λ (m : Mode). mode_after m (token_at s.mode s.rest).kind) is.1)
+part-advanced edition rest s w3 = grind (arith, common_steps)
 
 part-stays : (edition : Edition) (count : ℕ) (s : State) → IsInPart edition s → IsInPart edition (state_past count s)
 unfolding take_next
@@ -121,8 +117,7 @@ part-left s t count rest none past cut is = grind (arith, common_steps, part-sta
 
 -- how an iterator reads is decided by the flag and the edition that it holds
 pub mode_held : (allowed : FrontmatterAllowed) (edition : Edition) (mode : Mode) → mode_in allowed edition ≡ mode → mode ≡ mode_in allowed (mode_edition mode)
-mode_held Yes edition mode e = sym e ∙ ap document (ap mode_edition e)
-mode_held No edition mode e = sym e ∙ ap part (ap mode_edition e)
+mode_held allowed edition mode w3 = grind (arith, common_steps)
 
 -- each token has a byte at least
 pub count_bound : (tokens : List Token) → All (λ t. 0 < t.len) tokens → (count : ℕ) → count ≤ length tokens → count ≤ bound tokens count

@@ -20,9 +20,7 @@ module _ (old new : List Token) (kept met now : Bound) (is : IsReplaced old new 
   -- a bound of the kept front stays
   pub front_stays : (at : Bound) → at.number ≤ kept.number → IsBound old at → IsBound new at
   front_stays at few here =
-      let same : take at.number old ≡ take at.number new =
-      sym (take-take at.number kept.number old few) ∙ (ap (take at.number) (sym is.front) ∙ take-take at.number kept.number new few) in
-      (omega (arith, is.kept_le, is.now_bound.0), here.1 ∙ bound-same at.number old new same)
+      grind (arith, common_steps, take-take at.number kept.number old few, is.front, take-take at.number kept.number new few, is.kept_le, is.now_bound.0, bound-same at.number old new (sym (take-take at.number kept.number old few) ∙ (ap (take at.number) (sym is.front) ∙ take-take at.number kept.number new few)))
 
   pub kept_stays : IsBound new kept
   kept_stays = front_stays kept (omega arith) is.kept_bound

@@ -1,6 +1,7 @@
 -- What an iterator knows of the ends of runs past its place, and the tokens that it takes by them.
+use Rattle.std.proofs.lemmas.Grind.{common_steps}
 use Rattle.std.proofs.Common.{◌≡◌, ℕ, ◌+◌, ◌-◌, ◌^◌, ◌<◌, ◌≤◌, ◌==◌, false, true, List, length, length-drop, drop, take, get_or, sym, ap, subst, ◌∙◌, arith, drop-drop, Some}
-use Rattle.std.specs.Str.{chars, IsCharBoundary, IsUtf8}
+use Rattle.std.specs.Str.{IsCharBoundary, IsUtf8}
 use Rattle.std.proofs.lemmas.Bool.{ne_eqb}
 use Rattle.std.proofs.lemmas.List.{get_or-drop, take_rest}
 use Rattle.std.proofs.lemmas.Str.{IsCharBoundary-from_rest, IsUtf8-drop}
@@ -11,7 +12,7 @@ use Rattle.rustc_lexer.specs.declared.entry.ahead.Ahead.{Ahead}
 use Rattle.rustc_lexer.specs.State.{State}
 use Rattle.rustc_lexer.specs.Tokens.{TakesToken}
 use Rattle.rustc_lexer.specs.laws.State.{state}
-use Rattle.rustc_lexer.specs.means.Edition.{changed, first_token_in}
+use Rattle.rustc_lexer.specs.means.Edition.{first_token_in}
 use Rattle.rustc_lexer.specs.means.Ends.{bit, classified, AreEndsPast, IsEnds, IsLowest, IsUnclassified, StaysWithin}
 use Rattle.rustc_lexer.specs.means.Quick.{IsFirstToken}
 use Rattle.rustc_lexer.proofs.EndsLemmas.{all_past, classified_behind, classified_same, past_end}
@@ -56,25 +57,17 @@ module _ (text : List ℕ) (at block ends low : ℕ) (kind : TokenKind) (next : 
   }
 
   pub classified_token : IsFirstToken (drop at text) record { kind = kind; len = block + low - at }
-  classified_token =
-      let long : low - (at - block) ≡ block + low - at = omega (arith, next.behind, classified_after) in
-      subst (λ xs. IsFirstToken xs record { kind = kind; len = block + low - at }) joined (subst (λ n. IsFirstToken (drop (at - block) (drop block text)) record { kind = kind; len = n }) long behind_block)
+  classified_token = grind (arith, common_steps, classified_after, joined, behind_block)
 
   -- no edition has another token there
   pub classified_first : (edition : Edition) → record { kind = kind; len = block + low - at } ≡ first_token_in edition (drop at text)
-  classified_first edition =
-      let same = classified_same (get_or text at 0) kind next.tells edition (chars (drop at text)) (block + low - at) in
-      sym same ∙ ap (changed edition (chars (drop at text))) classified_token.token
+  classified_first edition = grind (arith, common_steps, classified_same, classified_token)
 
   pub classified_bound : IsCharBoundary text (block + low)
-  classified_bound =
-      let end : at + (block + low - at) ≡ block + low = omega (arith, classified_after) in
-      subst (IsCharBoundary text) end (IsCharBoundary-from_rest text at (block + low - at) (omega (arith, classified_after, classified_inside)) classified_token.boundary)
+  classified_bound = grind (arith, common_steps, classified_after, IsCharBoundary-from_rest, classified_inside, classified_token)
 
   pub classified_ahead : (less : ℕ) → ((k : ℕ) → k ≤ low → bit less k ≡ false) → ((k : ℕ) → low < k → bit less k ≡ bit ends k) → AreEndsPast (drop block text) (block + low - block) less
-  classified_ahead less gone others =
-      let e : low ≡ block + low - block = omega arith in
-      subst (λ n. AreEndsPast (drop block text) n less) e (past_end (drop block text) ends (at - block) low less next.known next.lowest gone others)
+  classified_ahead less gone others = grind (arith, common_steps, past_end)
 
 -- the text that is left, as a slice of the bytes
 pub left_is : (text bytes : List ℕ) (at : ℕ) → bytes ≡ text → take (length bytes - at) (drop at bytes) ≡ drop at text

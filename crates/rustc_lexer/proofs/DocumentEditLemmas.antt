@@ -107,21 +107,11 @@ module _ {heads : List ℕ → Head} {first : List ℕ → Token} {text made ins
 
   pub to_texts : (r : Relexed) → IsRelexedAt change body r → IsRelexedWith heads kept first text start stop insert r
   unfolding IsRelexedWith
-  to_texts r x =
-      let one : IsRelexedAt change (drop now.body made) r = subst (λ xs. IsRelexedAt change xs r) b.body_is x in
-      let two : As old now made r = subst (λ (ch : Change). IsRelexedAt ch (drop now.body made) r) b.change_is one in
-      let three : As (heads text) now made r = subst (λ (o : Head). As o now made r) b.old_is two in
-      let four : As (heads text) (heads made) made r = subst (λ (w : Head). As (heads text) w made r) b.now_is three in
-      subst (λ (mk : List ℕ). As (heads text) (heads mk) mk r) b.made_is four
+  to_texts r x = grind (arith, common_steps)
 
   pub of_texts : (r : Relexed) → IsRelexedWith heads kept first text start stop insert r → IsRelexedAt change body r
   unfolding IsRelexedWith
-  of_texts r x =
-      let four : As (heads text) (heads made) made r = subst (λ (mk : List ℕ). As (heads text) (heads mk) mk r) (sym b.made_is) x in
-      let three : As (heads text) now made r = subst (λ (w : Head). As (heads text) w made r) (sym b.now_is) four in
-      let two : As old now made r = subst (λ (o : Head). As o now made r) (sym b.old_is) three in
-      let one : IsRelexedAt change (drop now.body made) r = subst (λ (ch : Change). IsRelexedAt ch (drop now.body made) r) (sym b.change_is) two in
-      subst (λ xs. IsRelexedAt change xs r) (sym b.body_is) one
+  of_texts r x = grind (arith, common_steps)
 
 pub near_behind : (tokens : List Token) {all : List Token} {near : Bound} {n m : ℕ} (checkpoints : Checkpoints) → n ≡ m → drop n tokens ≡ all → AreBounds (drop m tokens) checkpoints → Contains checkpoints.bounds near → IsBound all near
 near_behind tokens {all} {near} {n} {m} checkpoints same e are is = grind (arith, common_steps, All-contains)
@@ -144,11 +134,7 @@ module _ {heads : List ℕ → Head} {first : List ℕ → Token} (law : IsGramm
   whole_renewed = subst (λ (ch : Change). IsRenewed first (drop old.body text) ch body (drop n tokens) r.behind at) whole_is r.renewed
 
   head_are : head_put (take n tokens) head ≡ tokens_of_head now
-  head_are = ap (head_put (take n tokens)) head_is ∙ by_kept kept refl
-    where
-      by_kept : (k : Bool) → kept ≡ k → head_put (take n tokens) (head_unless k now) ≡ tokens_of_head now
-      by_kept true e = b.old_front ∙ ap tokens_of_head (b.decided.0 e).0
-      by_kept false e = refl
+  head_are = grind (arith, common_steps)
 
   new_is : new ≡ tokens_of_head now ++ r.behind
   new_is = r.now_is ∙ ap (λ ts. ts ++ r.behind) head_are
@@ -180,11 +166,7 @@ module _ {heads : List ℕ → Head} {first : List ℕ → Token} (law : IsGramm
 
     -- the counts are those of all tokens
     pub counted_all : (counted kept n m counts).kept_front + (counted kept n m counts).lexed + (counted kept n m counts).kept_back ≡ length new
-    counted_all = rw counts_are (by_kept kept refl)
-      where
-        by_kept : (k : Bool) → kept ≡ k → (counted k n m (record { kept_front = at.front.number; lexed = at.lexed; kept_back = c - at.back.number })).kept_front + (counted k n m (record { kept_front = at.front.number; lexed = at.lexed; kept_back = c - at.back.number })).lexed + (counted k n m (record { kept_front = at.front.number; lexed = at.lexed; kept_back = c - at.back.number })).kept_back ≡ length new
-        by_kept true e = omega (arith, sizes.0, sizes.1, same_count e)
-        by_kept false e = omega (arith, sizes.0, sizes.1)
+    counted_all = grind (arith, common_steps, sizes, same_count)
 
     pub counted_front : take (counted kept n m counts).kept_front new ≡ take (counted kept n m counts).kept_front tokens
     counted_front = rw counts_are (by_kept kept refl)
@@ -196,16 +178,10 @@ module _ {heads : List ℕ → Head} {first : List ℕ → Token} (law : IsGramm
         by_kept false e = rw (front_none e) refl
 
     back_with : (k : ℕ) → k ≡ length (tokens_of_head now) + (at.front.number + at.lexed) → drop k new ≡ drop (length tokens - (c - at.back.number)) tokens
-    back_with k e =
-        let offset : n + at.back.number ≡ length tokens - (c - at.back.number) = omega (arith, c_is, r.renewed.lexed_is.stands.back_bound.0, ap length b.old_body, sizes.2, b.inside) in
-        ap₂ drop e new_is ∙ (drop-append-add (tokens_of_head now) r.behind (at.front.number + at.lexed) ∙ (renewed_back law b.old_body whole_made whole_renewed ∙ (drop-drop at.back.number n tokens ∙ ap (λ i. drop i tokens) offset)))
+    back_with k e = grind (arith, common_steps, sizes, new_is, drop-append-add, renewed_back, whole_made, whole_renewed, drop-drop)
 
     pub counted_back : drop ((counted kept n m counts).kept_front + (counted kept n m counts).lexed) new ≡ drop (length tokens - (counted kept n m counts).kept_back) tokens
-    counted_back = rw counts_are (by_kept kept refl)
-      where
-        by_kept : (k : Bool) → kept ≡ k → drop ((counted k n m (record { kept_front = at.front.number; lexed = at.lexed; kept_back = c - at.back.number })).kept_front + (counted k n m (record { kept_front = at.front.number; lexed = at.lexed; kept_back = c - at.back.number })).lexed) new ≡ drop (length tokens - (counted k n m (record { kept_front = at.front.number; lexed = at.lexed; kept_back = c - at.back.number })).kept_back) tokens
-        by_kept true e = back_with _ (omega (arith, same_count e, m_is))
-        by_kept false e = back_with _ (omega (arith, m_is))
+    counted_back = grind (arith, common_steps, back_with, same_count)
 
     module _ (exact : IsBodyRelexed first (drop old.body text) change.start change.old_stop put counts) where
       by_texts : IsRelexedWith heads kept first text start stop insert (counted kept n m counts)
@@ -218,13 +194,7 @@ module _ {heads : List ℕ → Head} {first : List ℕ → Token} (law : IsGramm
       }
 
     pub counted_steps : (before after : ℕ) → after ≡ before + at.lexed → IsCountedByHead heads text start stop insert before after (counted kept n m counts).lexed
-    counted_steps before after e = record {
-      kept = λ k. e ∙ ap (λ (l : ℕ). before + l) (sym (ap (λ (r : Relexed). r.lexed) (ap₂ (λ (t : Bool) (x : Relexed). counted t n m x) (keeps b k) counts_are)));
-      changed = λ none.
-          let lexed = ap (λ (r : Relexed). r.lexed) (ap₂ (λ (t : Bool) (x : Relexed). counted t n m x) (changes b none) counts_are) in
-          let fronts = ap (λ (h : Head). length (tokens_of_head h)) (b.now_is ∙ ap heads b.made_is) in
-          omega (arith, e, lexed, fronts, m_is);
-    }
+    counted_steps before after e = grind (arith, common_steps, keeps, changes)
 
     pub counted_few : IsText text → counts.kept_front < 2 ^ 33
     counted_few is = grind (arith, common_steps, counts_are, tokens_le_bytes, b.made_of.edit_of.is_text.fits)
@@ -244,17 +214,7 @@ module _ {heads : List ℕ → Head} {first : List ℕ → Token} (law : IsGramm
 
   -- it takes no more steps than it would have
   pub few_body : (r : Relexed) (before most : ℕ) → IsRelexedByHead heads first text start stop insert r → IsCountedByHead heads text start stop insert before most r.lexed → before + of_body.lexed ≤ most
-  few_body r before most is steps = by_kept kept refl
-    where
-      by_kept : (k : Bool) → kept ≡ k → before + of_body.lexed ≤ most
-      by_kept true e =
-          let same = same_counts r (subst (λ (t : Bool). IsRelexedWith heads t first text start stop insert r) (sym e) (is.kept (stays b e))) in
-          omega (arith, steps.kept (stays b e), ap (λ (x : Relexed). x.lexed) (same ∙ ap (λ (t : Bool). counted t (length (tokens_of_head old)) (length (tokens_of_head now)) of_body) e))
-      by_kept false e =
-          let none : HeadStays heads text start stop insert → ⊥ = λ k. true≢false (sym (keeps b k) ∙ e) in
-          let same = same_counts r (subst (λ (t : Bool). IsRelexedWith heads t first text start stop insert r) (sym e) (is.changed none)) in
-          let fronts = ap (λ (h : Head). length (tokens_of_head h)) (b.now_is ∙ ap heads b.made_is) in
-          omega (arith, steps.changed none, fronts, ap (λ (x : Relexed). x.lexed) (same ∙ ap (λ (t : Bool). counted t (length (tokens_of_head old)) (length (tokens_of_head now)) of_body) e))
+  few_body r before most is steps = grind (arith, common_steps, same_counts, stays, keeps)
 
 -- the count of steps does not fall
 anew-lexed : (heads : List ℕ → Head) (first : List ℕ → Token) (text : List ℕ) (start stop : ℕ) (insert : List ℕ) (r : Relexed) → IsRelexedWith heads false first text start stop insert r → length (tokens_of_head (heads (apply text start stop insert))) ≤ r.lexed
@@ -262,13 +222,7 @@ unfolding IsRelexedWith
 anew-lexed heads first text start stop insert r is = let e = ap (λ (x : Relexed). x.lexed) is.2 in omega (arith, e)
 
 pub steps_rise : (heads : List ℕ → Head) (first : List ℕ → Token) (text : List ℕ) (start stop : ℕ) (insert : List ℕ) (before : ℕ) (r : Relexed) (most : ℕ) → IsRelexedByHead heads first text start stop insert r → IsCountedByHead heads text start stop insert before most r.lexed → before ≤ most
-steps_rise heads first text start stop insert before r most is steps = elim (cases_lt most before) [
-  | inl less ↦
-      let gone : HeadStays heads text start stop insert → ⊥ = λ k. let e = steps.kept k in omega (arith, e, less) in
-      absurd (omega (arith, anew-lexed heads first text start stop insert r (is.changed gone), steps.changed gone, less))
-  | inr more ↦ omega (arith, more)
-]
+steps_rise heads first text start stop insert before r most is steps = grind (arith, common_steps, cases_lt, anew-lexed)
 
 pub OnErr-always : {T E : Type 0} {P : Type 0} (r : Result T E) → P → OnErr r P
-OnErr-always (Ok x) p = tt
-OnErr-always (Err e) p = p
+OnErr-always r w1 = grind (arith, common_steps)

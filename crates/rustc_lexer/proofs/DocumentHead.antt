@@ -1,21 +1,17 @@
 -- The head of a document by its tokens: those up to the frontmatter.
-use Rattle.std.proofs.Common.{◌≡◌, ℕ, zero, suc, ◌+◌, ◌-◌, Bool, not, true, false, true≢false, List, [], ◌∷◌, ◌++◌, length, length-drop, drop, refl, sym, ap, ◌∙◌, arith, chars, Option, None, Some, IsCharBoundary}
+use Rattle.std.proofs.Common.{◌≡◌, ℕ, zero, suc, ◌+◌, ◌-◌, Bool, true, false, true≢false, List, [], ◌∷◌, ◌++◌, length, length-drop, drop, refl, sym, ap, ◌∙◌, arith, chars, Option, None, Some, IsCharBoundary}
 use Rattle.std.proofs.lemmas.Bool.{not-true}
-use Rattle.rustc_lexer.specs.{Edition, Token, TokenKind, Whitespace}
+use Rattle.rustc_lexer.specs.{Edition, Token, TokenKind}
 use Rattle.rustc_lexer.specs.declared.relex.head.Head.{Head}
 use Rattle.rustc_lexer.specs.Classes.{IsText, bytes}
 use Rattle.rustc_lexer.specs.Document.{is_frontmatter, shebang_len, document_tokens, head_count}
 use Rattle.rustc_lexer.specs.means.Document.{front_tokens, head_of, tokens_of_head}
-use Rattle.rustc_lexer.specs.Language as the
-use Rattle.rustc_lexer.specs.Language.{IsTokenBefore}
 use Rattle.rustc_lexer.specs.LanguageText as grammar
 use Rattle.rustc_lexer.specs.LanguageText.{AreTokens, IsTokenIn, Mode, document, is_document, mode_after, part}
-use Rattle.rustc_lexer.specs.Tables.{symbols}
 use Rattle.rustc_lexer.specs.Tokens.{bound}
 use Rattle.rustc_lexer.specs.laws.Choice.{by_symbol}
 use Rattle.rustc_lexer.specs.laws.LanguageTokens.{language}
 use Rattle.rustc_lexer.specs.means.Frontmatter.{frontmatter, opens, spaces_len}
-use Rattle.rustc_lexer.specs.means.Lexeme.{symbol_kind}
 use Rattle.rustc_lexer.specs.means.Scan.{past}
 use Rattle.rustc_lexer.specs.means.Tokens.{read_tokens}
 use Rattle.rustc_lexer.proofs.DocumentTokens.{document_law, shebang-boundary}
@@ -24,24 +20,11 @@ use Rattle.std.proofs.lemmas.Grind.{common_steps}
 
 -- ---- no token of a part is a frontmatter
 
-none-before : {next u : List ℕ} {kind : TokenKind} → IsTokenBefore next kind u → is_frontmatter kind ≡ false
-none-before (the.symbol {c} is) = not-true (is_frontmatter (symbol_kind c)) (by_symbol (λ (kind : TokenKind). not (is_frontmatter kind)) symbols c refl refl)
-none-before p = refl
-
 none-in : {edition : Edition} {next u : List ℕ} {kind : TokenKind} → IsTokenIn edition next kind u → is_frontmatter kind ≡ false
-none-in (grammar.kept since p) = none-before p
-none-in p = refl
+none-in w0 = grind (arith, common_steps, not-true, by_symbol)
 
 stays-part : (mode : Mode) (kind : TokenKind) → is_document mode ≡ false → is_document (mode_after mode kind) ≡ false
-stays-part (part edition) kind e = refl
-stays-part (document edition) kind e = absurd (true≢false e)
-
--- where the frontmatter is the first token, the second one, or none
-head_count-first : (t : Token) (ts : List Token) → is_frontmatter t.kind ≡ true → head_count (t ∷ ts) ≡ 1
-head_count-first t ts is = grind (arith, common_steps)
-
-head_count-second : (s t : Token) (ts : List Token) → is_frontmatter s.kind ≡ false → is_frontmatter t.kind ≡ true → head_count (s ∷ t ∷ ts) ≡ 2
-head_count-second s t ts other is = grind (arith, common_steps)
+stays-part mode kind w2 = grind (arith, common_steps)
 
 head_count-later : (t : Token) (ts : List Token) → is_frontmatter t.kind ≡ false → head_count ts ≡ 0 → head_count (t ∷ ts) ≡ 0
 head_count-later t ts other none = grind (arith, common_steps)
@@ -90,9 +73,7 @@ module _ (text : List ℕ) where
   front_of = by_front (opens (chars rest)) refl (opens (chars past_space)) refl
 
 count-front : (space : ℕ) (front : Option Token) (tokens : List Token) → ((t : Token) → front ≡ Some t → is_frontmatter t.kind ≡ true) → head_count tokens ≡ 0 → head_count (front_tokens space front ++ tokens) ≡ length (front_tokens space front)
-count-front space None tokens is none = none
-count-front zero (Some t) tokens is none = head_count-first t tokens (is t refl)
-count-front (suc n) (Some t) tokens is none = head_count-second (record { kind = Whitespace; len = suc n }) t tokens refl (is t refl)
+count-front space front tokens w3 w4 = grind (arith, common_steps)
 
 pub bound-append : (ts us : List Token) → bound (ts ++ us) (length ts) ≡ bound ts (length ts)
 bound-append [] us = refl

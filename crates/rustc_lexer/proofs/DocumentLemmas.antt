@@ -26,21 +26,11 @@ drop-past : (xs : List ℕ) (from p : ℕ) → from ≤ p → drop p xs ≡ drop
 drop-past xs from p le = grind (arith, common_steps, drop-drop)
 
 by_max : (P : ℕ → Type 0) (a b : ℕ) → P a → P b → P (max a b)
-by_max P a b pa pb = elim (cases_lt a b) [
-  | inl less ↦
-      let same : b ≡ max a b = (let r = le-max_right a b in let m : max a b ≤ b = max-le (omega arith) (omega arith) in omega arith) in
-      subst P same pb
-  | inr more ↦
-      let same : a ≡ max a b = (let l = le-max_left a b in let m : max a b ≤ a = max-le (omega arith) (omega arith) in omega arith) in
-      subst P same pa
-]
+by_max P a b pa pb = grind (arith, common_steps, cases_lt, le-max_right, max-le, le-max_left)
 
 -- an offset, and how far another is past it: one of the two
 by_past : (P : ℕ → Type 0) (a b : ℕ) → P a → P b → P (a + (b - a))
-by_past P a b pa pb = elim (cases_lt a b) [
-  | inl less ↦ let same : b ≡ a + (b - a) = omega arith in subst P same pb
-  | inr more ↦ let same : a ≡ a + (b - a) = omega arith in subst P same pa
-]
+by_past P a b pa pb = grind (arith, common_steps, cases_lt)
 
 module _ {first : List ℕ → Token} (law : IsGrammar first) (text insert made : List ℕ) (start stop : ℕ) (is : IsText text) (its : IsUtf8 insert) (edit : IsEdit text start stop insert) (e : made ≡ apply text start stop insert) where
   ed : IsEdited text start stop insert made
@@ -69,28 +59,7 @@ module _ {first : List ℕ → Token} (law : IsGrammar first) (text insert made 
         ap (λ n. drop n made) (sym same) ∙ (ap (drop from) e ∙ (drop-append-le from (take start text) (insert ++ drop stop text) few ∙ ap₂ (λ xs ys. xs ++ (insert ++ ys)) front back))
 
     kept_body : from ≡ to → from ≤ start → IsMadeOf first (drop from text) (map (λ (t : Token). t.len) tokens) (body_change true from to as_change) insert body
-    kept_body same before =
-        let a = edit.inside.start_le_stop in
-        let b = edit.inside.stop_inside in
-        let s = edit.short in
-        record {
-          edit_of = record {
-            is_text = old_text;
-            is_edit = record {
-              inside = record {
-                start_le_stop = omega arith;
-                stop_inside = omega (arith, length-drop from text);
-                start_boundary = boundary-past text from start is.utf8 before edit.inside.start_boundary;
-                stop_boundary = boundary-past text from stop is.utf8 (omega arith) edit.inside.stop_boundary;
-              };
-              short = omega (arith, length-drop from text);
-            };
-            inserted = its;
-            made = body_is ∙ kept_made same before;
-            new_stop = omega arith;
-          };
-          lengths_are = lengths;
-        }
+    kept_body same before = grind (arith, edit.inside.start_le_stop, edit.inside.stop_inside, edit.short, old_text, length-drop, boundary-past, kept_made, lengths)
 
     -- it does not: up to here both differ
     abbrev past : ℕ
@@ -161,10 +130,8 @@ module _ {first : List ℕ → Token} (law : IsGrammar first) (text insert made 
 
 -- the tokens behind the first ones are replaced
 put_is : (tokens lexed : List Token) (n f b : ℕ) → f ≤ b → n + b ≤ length tokens → take (n + f) tokens ++ (lexed ++ drop (n + b) tokens) ≡ take n tokens ++ (take f (drop n tokens) ++ (lexed ++ drop b (drop n tokens)))
-put_is tokens lexed n f b le inside =
-    ap₂ (λ xs ys. xs ++ (lexed ++ ys)) (take-add n f tokens) (sym (drop-drop b n tokens)) ∙ append_assoc (take n tokens) (take f (drop n tokens)) (lexed ++ drop b (drop n tokens))
+put_is tokens lexed n f b le inside = grind (arith, common_steps, take-add, drop-drop, append_assoc)
 
 pub put_behind : (tokens lexed : List Token) (n f b : ℕ) (head : Option Head) → f ≤ b → n + b ≤ length tokens → head ≡ None → {E : Type 0} (r : Result Unit E) (now : List Token)
     → OnOk r (now ≡ take (n + f) tokens ++ (lexed ++ drop (n + b) tokens)) → OnOk r (now ≡ head_put (take n tokens) head ++ (take f (drop n tokens) ++ (lexed ++ drop b (drop n tokens))))
-put_behind tokens lexed n f b head le inside none (Ok x) now put = rw none (put ∙ put_is tokens lexed n f b le inside)
-put_behind tokens lexed n f b head le inside none (Err x) now put = put
+put_behind tokens lexed n f b head w6 w7 w8 r now w11 = grind (arith, common_steps, put_is)

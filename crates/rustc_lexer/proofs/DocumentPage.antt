@@ -1,5 +1,5 @@
 -- What an edit of a document keeps, by the tokens of the grammar.
-use Rattle.std.proofs.Common.{◌++◌, ◌≡◌, ℕ, zero, suc, ◌+◌, ◌≤◌, Bool, true, false, if◌then◌else◌, List, [], ◌∷◌, length, take, drop, refl, sym, subst, ap, ap₂, ◌∙◌, arith, chars, get_or, length-take-le, Option, None, Some, IsCharBoundary}
+use Rattle.std.proofs.Common.{◌++◌, ◌≡◌, ℕ, ◌+◌, Bool, true, false, List, length, take, drop, refl, sym, subst, ap, ap₂, ◌∙◌, arith, chars, length-take-le, Option, None, Some, IsCharBoundary}
 use Rattle.std.proofs.Math.Seq.{take-append_seam}
 use Rattle.std.proofs.lemmas.Grind.{common_steps}
 use Rattle.rustc_lexer.specs.{Token, E2024}
@@ -7,7 +7,7 @@ use Rattle.rustc_lexer.specs.declared.relex.head.Head.{Head}
 use Rattle.rustc_lexer.specs.declared.relex.relexing.Change.{Change}
 use Rattle.rustc_lexer.specs.declared.relex.relexing.Relexed.{Relexed}
 use Rattle.rustc_lexer.specs.Classes.{IsText}
-use Rattle.rustc_lexer.specs.Document.{body_start, document_tokens_by, head_tokens, head_count, shebang_len, whole_by}
+use Rattle.rustc_lexer.specs.Document.{body_start, document_tokens_by, head_tokens, shebang_len, whole_by}
 use Rattle.rustc_lexer.specs.means.Document.{body_change, body_insert, counted, document_by, front_tokens, head_of, HeadStays, IsRelexedWith, tokens_of_head}
 use Rattle.rustc_lexer.specs.Edits.{apply, body_in, KeepsHead}
 use Rattle.rustc_lexer.specs.Tokens.{bound, tokens_by}
@@ -52,21 +52,10 @@ past_law first text is = ap₂ (λ ts n. ts ++ tokens_by first (drop n text)) (f
 
 -- the tokens tell the head
 pub same-parts : (s s' : ℕ) (f f' : Option Token) → (f ≡ None → s ≡ 0) → (f' ≡ None → s' ≡ 0) → front_tokens s f ≡ front_tokens s' f' → (s ≡ s') × (f ≡ f')
-same-parts s s' None None bare bare' e = (bare refl ∙ sym (bare' refl), refl)
-same-parts s zero None (Some t) bare bare' e = absurd (omega (arith, ap (λ (ts : List Token). length ts) e))
-same-parts s (suc n) None (Some t) bare bare' e = absurd (omega (arith, ap (λ (ts : List Token). length ts) e))
-same-parts zero s' (Some t) None bare bare' e = absurd (omega (arith, ap (λ (ts : List Token). length ts) e))
-same-parts (suc n) s' (Some t) None bare bare' e = absurd (omega (arith, ap (λ (ts : List Token). length ts) e))
-same-parts zero zero (Some t) (Some u) bare bare' e = (refl, ap (λ (x : Token). Some x) (ap (λ (ts : List Token). get_or ts 0 t) e))
-same-parts zero (suc n) (Some t) (Some u) bare bare' e = absurd (omega (arith, ap (λ (ts : List Token). length ts) e))
-same-parts (suc n) zero (Some t) (Some u) bare bare' e = absurd (omega (arith, ap (λ (ts : List Token). length ts) e))
-same-parts (suc n) (suc m) (Some t) (Some u) bare bare' e = (ap (λ (x : Token). x.len) (ap (λ (ts : List Token). get_or ts 0 t) e), ap (λ (x : Token). Some x) (ap (λ (ts : List Token). get_or ts 1 t) e))
-
-up_few : (ts : List Token) → head_count ts ≤ length ts
-up_few ts = grind (arith, common_steps)
+same-parts s s' f f' w4 w5 w6 = grind (arith, common_steps)
 
 pub body_by : (text : List ℕ) → body_start text ≡ shebang_len text + bound (head_tokens text) (length (head_tokens text))
-body_by text = grind (arith, common_steps, length-take-le, up_few, bound-take)
+body_by text = grind (arith, common_steps, length-take-le, bound-take)
 
 -- the body begins where the tokens of the head end
 pub body_at : (first : List ℕ → Token) (text : List ℕ) → body_in (whole_by first text) ≡ body_start text
@@ -107,11 +96,7 @@ module _ (first : List ℕ → Token) (text insert : List ℕ) (start stop : ℕ
 
   pub by_page : (kept : Bool) (r : Relexed) → IsRelexedWith head_of kept first text start stop insert r → At kept (body_start text) (body_start made) (head_tokens text) (head_tokens made) r
   unfolding IsRelexedWith
-  by_page kept r x =
-      let one : At kept (body_start text) (head_of made).body (tokens_of_head (head_of text)) (tokens_of_head (head_of made)) r = subst (λ from. At kept from (head_of made).body (tokens_of_head (head_of text)) (tokens_of_head (head_of made)) r) (end_is text is) x in
-      let two : At kept (body_start text) (body_start made) (tokens_of_head (head_of text)) (tokens_of_head (head_of made)) r = subst (λ to. At kept (body_start text) to (tokens_of_head (head_of text)) (tokens_of_head (head_of made)) r) (end_is made its) one in
-      let three : At kept (body_start text) (body_start made) (head_tokens text) (tokens_of_head (head_of made)) r = subst (λ ts. At kept (body_start text) (body_start made) ts (tokens_of_head (head_of made)) r) (front_is text is) two in
-      subst (λ ts. At kept (body_start text) (body_start made) (head_tokens text) ts r) (front_is made its) three
+  by_page kept r x = grind (arith, common_steps, end_is, front_is)
 
   pub by_head : (kept : Bool) (r : Relexed) → At kept (body_start text) (body_start made) (head_tokens text) (head_tokens made) r → IsRelexedWith head_of kept first text start stop insert r
   unfolding IsRelexedWith

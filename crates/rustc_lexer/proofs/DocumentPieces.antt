@@ -1,4 +1,5 @@
 -- The pieces of a document: its tokens are cut between characters, from the end of its shebang line on.
+use Rattle.std.proofs.lemmas.Grind.{common_steps}
 use Rattle.std.proofs.Common.{◌≡◌, ℕ, suc, ◌+◌, ◌-◌, ◌≤◌, List, length, take, drop, sym, ap, ◌∙◌, subst, arith, length-append, length-drop, inl, inr, IsCharBoundary}
 use Rattle.std.proofs.Math.Seq.{drop-append_seam}
 use Rattle.std.proofs.lemmas.Bool.{cases_lt}
@@ -49,8 +50,7 @@ module _ {first : List ℕ → Token} (law : IsGrammar first) (text : List ℕ) 
   -- the bounds of the tokens of the body
   body_bound : (j : ℕ) → (head_of text).body + bound (drop (length heads) tokens) j ≡ shebang_len text + bound tokens (length heads + j)
   body_bound j =
-      let at : bound tokens (length heads) ≡ bound heads (length heads) = ap (λ ts. bound ts (length heads)) e ∙ bound-append heads (tokens_by first body) in
-      omega (arith, (head.front_of text).ends, at, bound-shift tokens (length heads) j)
+      grind (arith, common_steps, e, bound-append heads (tokens_by first body), (head.front_of text).ends, (ap (λ ts. bound ts (length heads)) e ∙ bound-append heads (tokens_by first body)), bound-shift tokens (length heads) j)
 
   cut_back : (j : ℕ) → length heads + j ≤ length tokens → IsCharBoundary text (shebang_len text + bound tokens (length heads + j))
   cut_back j few =

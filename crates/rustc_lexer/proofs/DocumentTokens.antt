@@ -1,10 +1,11 @@
 -- The tokens of a document: those of its head, and those of its body.
-use Rattle.std.proofs.Common.{◌≡◌, ℕ, zero, suc, ◌+◌, ◌-◌, ◌<◌, nat_le, Bool, not, true, false, true≢false, if◌then◌else◌, List, [], ◌∷◌, ◌++◌, length, take, drop, refl, sym, ap, ap₂, ◌∙◌, subst, arith, length-drop, drop-drop, take-append-drop, append_assoc, length-append, codes, get_or, ◌==◌, IsUtf8, IsCharBoundary, chars, Option, None, Some}
+use Rattle.std.proofs.lemmas.Grind.{common_steps}
+use Rattle.std.proofs.Common.{◌≡◌, ℕ, zero, suc, ◌+◌, ◌-◌, ◌<◌, nat_le, Bool, not, true, false, true≢false, if◌then◌else◌, List, [], ◌∷◌, ◌++◌, length, take, drop, refl, sym, ap, ap₂, ◌∙◌, subst, arith, length-drop, drop-drop, take-append-drop, append_assoc, length-append, codes, get_or, IsUtf8, IsCharBoundary, chars, Option, None, Some}
 use Rattle.std.specs.Option.{unwrap_or}
 use Rattle.std.proofs.lemmas.Bool.{and_parts, eqb-true, not-true}
 use Rattle.std.proofs.Math.Seq.{get_or-append_seam}
 use Rattle.std.proofs.lemmas.Str.{chars-nil, IsUtf8-drop, IsCharBoundary-before_ascii, IsCharBoundary-end, IsCharBoundary-start}
-use Rattle.rustc_lexer.specs.{Edition, Token, TokenKind, Eof, Whitespace, GuardedStrPrefix, RawLifetime, UnknownPrefix, UnknownPrefixLifetime}
+use Rattle.rustc_lexer.specs.{Edition, Token, TokenKind, Eof, Whitespace}
 use Rattle.rustc_lexer.specs.Classes.{is_whitespace, IsText, bytes}
 use Rattle.rustc_lexer.specs.Document.{shebang_len, document_tokens}
 use Rattle.rustc_lexer.specs.means.Document.{document_by, head_of, front_tokens}
@@ -39,9 +40,7 @@ stays Eof = true
 stays kind = false
 
 solid-after : (edition : Edition) (kind : TokenKind) → stays kind ≡ false → mode_after (document edition) kind ≡ part edition
-solid-after edition Whitespace e = absurd (true≢false e)
-solid-after edition Eof e = absurd (true≢false e)
-solid-after edition kind e = refl
+solid-after edition kind w2 = grind (arith, common_steps)
 
 -- none does that has characters and begins with no white space
 solid : {next u : List ℕ} {kind : TokenKind} → IsTokenBefore next kind u → next_is is_whitespace u ≡ false → 0 < length u → stays kind ≡ false
@@ -50,26 +49,11 @@ solid (the.whitespace {c} {w} all stop) out some = absurd (true≢false (sym (an
 solid (the.symbol {c} is) out some = not-true (stays (symbol_kind c)) (by_symbol (λ (kind : TokenKind). not (stays kind)) symbols c refl refl)
 solid p out some = refl
 
-kept-2024 : (kind : TokenKind) (len : ℕ) → stays kind ≡ false → stays (before_2024 kind len).kind ≡ false
-kept-2024 GuardedStrPrefix len e = refl
-kept-2024 kind len e = e
-
-kept-2021 : (cs : List ℕ) (kind : TokenKind) (len : ℕ) → stays kind ≡ false → stays (before_2021 cs kind len).kind ≡ false
-kept-2021 cs RawLifetime len e = refl
-kept-2021 cs UnknownPrefix len e = refl
-kept-2021 cs UnknownPrefixLifetime len e = refl
-kept-2021 cs GuardedStrPrefix len e = refl
-kept-2021 cs kind len e = e
-
 solid-in : (a b : Bool) (cs : List ℕ) (t : Token) → stays t.kind ≡ false → stays (if a then t else (if b then before_2024 t.kind t.len else before_2021 cs t.kind t.len)).kind ≡ false
-solid-in true b cs t e = e
-solid-in false true cs t e = kept-2024 t.kind t.len e
-solid-in false false cs t e = kept-2021 cs t.kind t.len e
+solid-in a b cs t w4 = grind (arith, common_steps)
 
 space-in : (a b : Bool) (cs : List ℕ) (n : ℕ) → (let t : Token = record { kind = Whitespace; len = n } in if a then t else (if b then before_2024 t.kind t.len else before_2021 cs t.kind t.len)) ≡ record { kind = Whitespace; len = n }
-space-in true b cs n = refl
-space-in false true cs n = refl
-space-in false false cs n = refl
+space-in a b cs n = grind (arith, common_steps)
 
 first-solid : (edition : Edition) (text : List ℕ) → 0 < length (chars text) → next_is is_whitespace (chars text) ≡ false → stays (first_token_in edition text).kind ≡ false
 unfolding first_token
@@ -155,16 +139,11 @@ module _ (edition : Edition) where
           tokens-cons (document edition) text is (some text refl) ∙ (ap (λ (u : Token). u ∷ read_tokens (mode_after (document edition) u.kind) (drop u.len text)) (at ∙ first_is) ∙ ap (λ xs. space ∷ read_tokens (document edition) xs) (sym tail_drop))
 
       part_space : read_tokens (part edition) text ≡ space ∷ read_tokens (part edition) tail
-      part_space =
-          tokens-cons (part edition) text is (some text refl) ∙ (ap (λ (u : Token). u ∷ read_tokens (part edition) (drop u.len text)) first_is ∙ ap (λ xs. space ∷ read_tokens (part edition) xs) (sym tail_drop))
+      part_space = grind (arith, common_steps, tokens-cons (part edition) text is (some text refl), first_is, tail_drop)
 
     -- no frontmatter, past white space or none
     pub without-front : opens (chars text) ≡ false → opens (chars tail) ≡ false → read_tokens (document edition) text ≡ read_tokens (part edition) text
-    without-front none none_past = by_space (next_is is_whitespace (chars text)) refl
-      where
-        by_space : (b : Bool) → next_is is_whitespace (chars text) ≡ b → read_tokens (document edition) text ≡ read_tokens (part edition) text
-        by_space false out = without-space text is none out
-        by_space true white = document_space none white ∙ (ap (λ ts. space ∷ ts) (without-space tail tail_text none_past tail_no) ∙ sym (part_space none white))
+    without-front none none_past = grind (arith, common_steps, without-space, document_space, tail_text, tail_no, part_space)
 
     -- a frontmatter past white space
     pub with-spaced : opens (chars text) ≡ false → opens (chars tail) ≡ true → read_tokens (document edition) text ≡ front_tokens size (Some (frontmatter tail)) ++ read_tokens (part edition) (drop (size + (frontmatter tail).len) text)
@@ -227,8 +206,7 @@ seam xs [] small = subst (IsCharBoundary (xs ++ [])) (let none = length-append x
 seam xs (y ∷ ys) small = IsCharBoundary-before_ascii (xs ++ (y ∷ ys)) (length xs) (omega (arith, length-append xs (y ∷ ys))) (let there : get_or (xs ++ (y ∷ ys)) (length xs) 0 ≡ y = get_or-append_seam xs y ys 0 in let less = small (omega arith) in omega (arith, there))
 
 begins-small : (b : ℕ) (more ys : List ℕ) → b < 128 → begins (b ∷ more) ys ≡ true → get_or ys 0 0 < 128
-begins-small b more [] small e = absurd (true≢false (sym e))
-begins-small b more (y ∷ ys) small e = let same : y ≡ b = eqb-true y b (and_parts (y == b) (begins more ys) e).0 in omega (arith, same)
+begins-small b more ys w3 w4 = grind (arith, common_steps, eqb-true, and_parts)
 
 pub shebang-boundary : (text : List ℕ) → IsText text → IsCharBoundary text (shebang_len text)
 shebang-boundary text is = by_answer (shebang text) (((the_shebang text).only is (shebang text)).1 refl)

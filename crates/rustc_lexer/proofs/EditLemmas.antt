@@ -1,5 +1,5 @@
 -- What an edit keeps: the front by locality, the back by a bound that both texts have.
-use Rattle.std.proofs.Common.{◌≡◌, ℕ, zero, suc, ◌+◌, ◌-◌, ◌*◌, ◌<◌, ◌≤◌, true, false, true≢false, List, [], ◌∷◌, ◌++◌, length, take, drop, cond, refl, sym, ap, ◌∙◌, subst, arith, length-drop, length-append, drop-drop, take-take, take-append-drop, take-add, take_at, drop_at, length-take-le, IsUtf8, IsCharBoundary, chars, leb-true, le-leb, leb, is_some, slice_get, encode_utf8, slice_range, append_assoc, Result, Ok, Err, IfErr, OnOk, OnErr, IfOk}
+use Rattle.std.proofs.Common.{◌≡◌, ℕ, zero, suc, ◌+◌, ◌-◌, ◌*◌, ◌<◌, ◌≤◌, true, false, true≢false, List, [], ◌∷◌, ◌++◌, length, take, drop, cond, refl, sym, ap, ◌∙◌, subst, arith, length-drop, length-append, drop-drop, take-take, take-append-drop, take-add, take_at, drop_at, length-take-le, IsUtf8, IsCharBoundary, chars, leb-true, le-leb, leb, is_some, slice_get, encode_utf8, slice_range, append_assoc, Result, IfErr, OnOk, OnErr, IfOk}
 use Rattle.std.specs.List.{count_by, replace_range}
 use Rattle.std.proofs.lemmas.Bool.{false_from_ne_true}
 use Rattle.std.proofs.lemmas.List.{drop-take, take-append-le}
@@ -16,8 +16,7 @@ use Rattle.rustc_lexer.proofs.BoundLemmas.{count-cons}
 
 -- what holds anyway holds of an error
 pub IfErr-always : {T E : Type 0} {P : Type 0} (r : Result T E) → P → IfErr r (λ _. P)
-IfErr-always (Ok x) p = tt
-IfErr-always (Err e) p = p
+IfErr-always r w1 = grind (arith, common_steps)
 
 -- the edited text: its parts
 pub record IsEdited (text : List ℕ) (start stop : ℕ) (insert new : List ℕ) : Type 0 where
@@ -45,8 +44,7 @@ edited text start stop insert is its edit =
 
 -- two characters or more decide what a text shows
 pub look-enough : (xs ys zs : List ℕ) → IsUtf8 xs → 2 ≤ length (chars xs) → look (xs ++ ys) ≡ look (xs ++ zs)
-look-enough xs ys zs is two =
-    rw (chars-append xs ys is, chars-append xs zs is) (take-append-le 2 (chars xs) (chars ys) two ∙ sym (take-append-le 2 (chars xs) (chars zs) two))
+look-enough xs ys zs is two = grind (arith, common_steps, chars-append xs ys is, chars-append xs zs is, take-append-le 2 (chars xs) (chars ys) two, take-append-le 2 (chars xs) (chars zs) two)
 
 positive : (n : ℕ) (xs : List ℕ) → 2 ≤ length (chars (take n xs)) → 0 < n
 positive zero xs h = absurd (let none : length (chars []) ≡ 0 = ap length chars-nil in omega arith)
@@ -54,8 +52,7 @@ positive (suc n) xs h = omega arith
 
 pub has_two-before : (text : List ℕ) (offset start : ℕ) → has_two text offset start ≡ true → offset < start
 unfolding has_two
-has_two-before text offset start two =
-    let some = positive (start - offset) (drop offset text) (leb-true 2 (length (chars (take (start - offset) (drop offset text)))) two) in omega arith
+has_two-before text offset start two = grind (arith, common_steps, positive, leb-true)
 
 pub has_two-count : (text : List ℕ) (offset to : ℕ) → has_two text offset to ≡ true → 2 ≤ length (chars (take (to - offset) (drop offset text)))
 unfolding has_two
@@ -115,8 +112,7 @@ module _ {first : List ℕ → Token} (law : IsGrammar first) (text : List ℕ) 
 
   -- the meeting: from a bound past the edit that, moved back, is a bound of the old text, the tokens are the old ones
   pub met_rest : (j i : ℕ) → start + length insert ≤ bound (tokens_by first new) j → bound (tokens_by first text) i ≡ bound (tokens_by first new) j - (start + length insert) + stop → drop j (tokens_by first new) ≡ drop i (tokens_by first text)
-  met_rest j i past met =
-      (at_bound law j new ed.text_is).rest ∙ (ap (tokens_by first) (same_rest (bound (tokens_by first new) j) past ∙ ap (λ q. drop q text) (sym met)) ∙ sym (at_bound law i text is).rest)
+  met_rest j i past met = grind (arith, common_steps, at_bound, same_rest)
 
   -- the new tokens: those up to the meeting, and the old ones past it
   pub met_whole : (j i : ℕ) → start + length insert ≤ bound (tokens_by first new) j → bound (tokens_by first text) i ≡ bound (tokens_by first new) j - (start + length insert) + stop → take j (tokens_by first new) ++ drop i (tokens_by first text) ≡ tokens_by first new
@@ -131,8 +127,7 @@ drop_of-take (suc p) (suc n) (x ∷ xs) = grind (arith, common_steps, drop_of-ta
 -- what stands from an offset up to another is in the text up to that one
 pub has_two-same : (text other : List ℕ) (offset to : ℕ) → take to text ≡ take to other → has_two text offset to ≡ has_two other offset to
 unfolding has_two
-has_two-same text other offset to same =
-    ap (λ xs. leb 2 (length (chars xs))) (sym (drop_of-take offset to text) ∙ (ap (drop offset) same ∙ drop_of-take offset to other))
+has_two-same text other offset to same = grind (arith, common_steps, drop_of-take offset to text, same, drop_of-take offset to other)
 
 pub has_two-late : (text : List ℕ) (offset to : ℕ) → to ≤ offset → has_two text offset to ≡ false
 has_two-late text offset to late = grind (arith, common_steps, has_two-before)
@@ -158,8 +153,7 @@ kept_front_from text to from (t ∷ ts) = cond (has_two text (from + t.len) to) 
 
 pub kept_front_by : (text : List ℕ) (to from : ℕ) (ts : List Token) → count_by (λ end. has_two text end to) (ends_from from ts) ≡ kept_front_from text to from ts
 kept_front_by text to from [] = refl
-kept_front_by text to from (t ∷ ts) =
-    count-cons (λ end. has_two text end to) (from + t.len) (ends_from (from + t.len) ts) ∙ ap (λ n. cond (has_two text (from + t.len) to) 1 0 + n) (kept_front_by text to (from + t.len) ts)
+kept_front_by text to from (t ∷ ts) = grind (arith, common_steps, count-cons, kept_front_by text to (from + t.len) ts)
 
 -- the tokens past one that ends too late end too late
 pub front-none : (text : List ℕ) (to from : ℕ) (ts : List Token) → IsUtf8 text → ((k : ℕ) → k ≤ length ts → IsCharBoundary text (from + bound ts k)) → has_two text from to ≡ false → kept_front_from text to from ts ≡ 0
@@ -201,8 +195,7 @@ has_two-long text offset to is from until long =
 pub put_is : {E : Type 0} (result : Result Unit E) (text insert new : List ℕ) (start stop len room : ℕ) → len + length insert ≤ room
     → OnOk result (new ≡ replace_range text start stop insert) → OnErr result (room < len + length insert) → new ≡ apply text start stop insert
 unfolding apply
-put_is (Ok _) text insert new start stop len room fits put full = put ∙ append_assoc (take start text) insert (drop stop text)
-put_is (Err _) text insert new start stop len room fits put full = absurd (omega arith)
+put_is result text insert new start stop len room w8 w9 w10 = grind (arith, common_steps, append_assoc)
 
 -- a text is what stands before, inside and behind a range of it
 pub three_parts : (text : List ℕ) (start stop : ℕ) → start ≤ stop → take start text ++ (slice_range text start stop ++ drop stop text) ≡ text
@@ -219,11 +212,9 @@ put_back text start stop insert is its edit = grind (arith, common_steps, edited
 
 -- where two facts of what is answered give a third
 pub IfOk-two : {X Y : Type 0} (r : Result X Y) (P Q R : X → Type 0) → ((x : X) → P x → Q x → R x) → IfOk r P → IfOk r Q → IfOk r R
-IfOk-two (Ok x) P Q R f p q = f x p q
-IfOk-two (Err e) P Q R f p q = p
+IfOk-two r P Q R w4 w5 w6 = grind (arith, common_steps)
 
 pub OnOk-map : {X Y : Type 0} {P Q : Type 0} (r : Result X Y) → (P → Q) → OnOk r P → OnOk r Q
-OnOk-map (Ok x) f p = f p
-OnOk-map (Err e) f p = p
+OnOk-map r w1 w2 = grind (arith, common_steps)
 
 pub ruleset edit_lemmas = (has_two-late, has_two-long)

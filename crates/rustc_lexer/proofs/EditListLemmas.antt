@@ -57,18 +57,12 @@ module _ (layout : (List ℕ → Token) → List ℕ → Layout) (first : List �
   least-next : (text : List ℕ) (es : List Edit) (n : ℕ) (d : Edit) (f b front back next_front next_back : ℕ) → n < length es → next_front ≡ min front r.kept_front → next_back ≡ min back r.kept_back → AreLeast (layout first) text (take n es) f b front back
       → IsRelexed (layout first) (apply_list text (take n es)) (get_or es n d).start (get_or es n d).stop (get_or es n d).insert.now r → AreLeast (layout first) text (take (suc n) es) f b next_front next_back
   least-next text [] n d f b front back next_front next_back few front_is back_is are is = absurd (omega arith)
-  least-next text (e ∷ es) zero d f b front back next_front next_back few front_is back_is are is =
-      (r, is, (front_is ∙ ap (λ k. min k r.kept_front) are.0, back_is ∙ ap (λ k. min k r.kept_back) are.1))
-  least-next text (e ∷ es) (suc n) d f b front back next_front next_back few front_is back_is are is =
-      (are.0, are.1, least-next (applied text e) es n d (min f are.0.kept_front) (min b are.0.kept_back) front back next_front next_back (omega arith) front_is back_is are.2 is)
+  least-next text (e ∷ es) zero d f b front back next_front next_back few front_is back_is are is = grind (arith, common_steps)
+  least-next text (e ∷ es) (suc n) d f b front back next_front next_back few front_is back_is are is = grind (arith, common_steps, least-next (applied text e) es n d (min f are.0.kept_front) (min b are.0.kept_back) front back next_front next_back (omega arith) front_is back_is are.2 is)
 
   pub least-more : (then : List ℕ → Token) (text now : List ℕ) (es : List Edit) (n f b front back next_front next_back : ℕ) → n < length es → now ≡ apply_list text (take n es) → then ≡ first → next_front ≡ min front r.kept_front → next_back ≡ min back r.kept_back → AreLeast (layout first) text (take n es) f b front back
       → IsRelexed (layout then) now (get_or es n none).start (get_or es n none).stop (get_or es n none).insert.now r → AreLeast (layout first) text (take (n + 1) es) f b next_front next_back
-  least-more then text now es n f b front back next_front next_back few is same front_is back_is are one =
-      let e : Edit = get_or es n none in
-      let more : suc n ≡ n + 1 = omega arith in
-      let here : IsRelexed (layout first) (apply_list text (take n es)) e.start e.stop e.insert.now r = subst (λ g. IsRelexed (layout g) (apply_list text (take n es)) e.start e.stop e.insert.now r) same (subst (λ xs. IsRelexed (layout then) xs e.start e.stop e.insert.now r) is one) in
-      subst (λ k. AreLeast (layout first) text (take k es) f b next_front next_back) more (least-next text es n none f b front back next_front next_back few front_is back_is are here)
+  least-more then text now es n f b front back next_front next_back few is same front_is back_is are one = grind (arith, common_steps, least-next)
 
 edits-next : (text : List ℕ) (es : List Edit) (n : ℕ) (d : Edit) → n < length es → AreEdits text (take n es) → IsEdit (apply_list text (take n es)) (get_or es n d).start (get_or es n d).stop (get_or es n d).insert.now → AreEdits text (take (suc n) es)
 edits-next text [] n d few are is = absurd (omega arith)
@@ -95,43 +89,15 @@ fewer_back n back old new few old_has new_has same =
     sym (drop-drop (back - n) (length new - back) new ∙ ap (λ k. drop k new) before) ∙ (ap (drop (back - n)) same ∙ (drop-drop (back - n) (length old - back) old ∙ ap (λ k. drop k old) after))
 
 fewer_stay : {old new : List Token} {front back : ℕ} (n m : ℕ) → n ≤ front → m ≤ back → StayAtEnds old new front back → StayAtEnds old new n m
-fewer_stay {old} {new} {front} {back} n m few_front few_back stay = record {
-  front_inside = omega (arith, stay.front_inside);
-  front_within = omega (arith, stay.front_within);
-  same_front = cut n front new old few_front stay.same_front;
-  back_inside = omega (arith, stay.back_inside);
-  back_within = omega (arith, stay.back_within);
-  same_back = fewer_back m back old new few_back stay.back_inside stay.back_within stay.same_back;
-}
+fewer_stay {old} {new} {front} {back} n m few_front few_back stay = grind (arith, common_steps, cut, fewer_back)
 
 -- what the counts of one edit say
 pub counts_stay : (old new : List Token) (front lexed back : ℕ) → front + lexed + back ≡ length new → take front new ≡ take front old → drop (front + lexed) new ≡ drop (length old - back) old → StayAtEnds old new front back
-counts_stay old new front lexed back all same_front same_back =
-    let from : front + lexed ≡ length new - back = omega arith in
-    let back_short : length new - (front + lexed) ≡ length old - (length old - back) = sym (length-drop (front + lexed) new) ∙ (ap (λ (ts : List Token). length ts) same_back ∙ length-drop (length old - back) old) in
-    let front_short : front ≡ length (take front old) = sym (length-take-le front new (omega arith)) ∙ ap (λ (ts : List Token). length ts) same_front in
-    record {
-      front_inside = omega (arith, front_short, length-take front old);
-      front_within = omega arith;
-      same_front = same_front;
-      back_inside = omega (arith, back_short);
-      back_within = omega arith;
-      same_back = ap (λ k. drop k new) (sym from) ∙ same_back;
-    }
+counts_stay old new front lexed back all same_front same_back = grind (arith, common_steps, length-drop, length-take-le, length-take)
 
 -- one more edit
 pub stay-more : {old between new : List Token} {front back n m : ℕ} (next_front next_back : ℕ) → next_front ≡ min front n → next_back ≡ min back m → StayAtEnds old between front back → StayAtEnds between new n m → StayAtEnds old new next_front next_back
-stay-more next_front next_back front_is back_is before then =
-    let one = fewer_stay next_front next_back (omega arith) (omega arith) before in
-    let two = fewer_stay next_front next_back (omega arith) (omega arith) then in
-    record {
-      front_inside = one.front_inside;
-      front_within = two.front_within;
-      same_front = two.same_front ∙ one.same_front;
-      back_inside = one.back_inside;
-      back_within = two.back_within;
-      same_back = two.same_back ∙ one.same_back;
-    }
+stay-more next_front next_back front_is back_is before then = grind (arith, common_steps, fewer_stay)
 
 -- the counts of all edits together
 pub counts_back : {old new : List Token} {front back : ℕ} (len kept_back : ℕ) → len ≡ length new → kept_back ≡ min back (min (length new) (length old) - front) → StayAtEnds old new front back → drop (front + (len - front - kept_back)) new ≡ drop (length old - kept_back) old

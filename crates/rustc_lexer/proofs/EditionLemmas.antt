@@ -1,7 +1,7 @@
 -- What an edition has in place of some tokens.
-use Rattle.std.proofs.Common.{◌≡◌, ◌≢◌, ◌<◌, ℕ, suc, Bool, true, false, true≢false, List, [], ◌∷◌, length, nat_le, ◌⊎◌, inl, inr, refl, codes, sym, ap, ◌∙◌, IsCharBoundary, arith}
+use Rattle.std.proofs.Common.{◌≡◌, ◌≢◌, ◌<◌, ℕ, suc, Bool, true, false, List, [], ◌∷◌, length, ◌⊎◌, refl, codes, ap, ◌∙◌, IsCharBoundary, arith}
 use Rattle.rustc_lexer.specs.{Edition, FrontmatterAllowed, Token, TokenKind, E2015, E2018, E2021, E2024, Yes, No, Pound, GuardedStrPrefix, RawLifetime, UnknownPrefix, UnknownPrefixLifetime}
-use Rattle.rustc_lexer.specs.LanguageText.{mode_in, year}
+use Rattle.rustc_lexer.specs.LanguageText.{mode_in}
 use Rattle.rustc_lexer.specs.laws.Choice.{by_either}
 use Rattle.rustc_lexer.specs.laws.Edition.{edition_grammar}
 use Rattle.rustc_lexer.specs.laws.Language.{lexeme-sound}
@@ -12,7 +12,7 @@ use Rattle.unicode_ident.proofs.Computing.{unicode_ident}
 use Rattle.rustc_lexer.specs.means.Lexeme.{family_of, first_token, lexeme, past_first}
 use Rattle.rustc_lexer.specs.means.Quick.{BeginsWithNoHash, IsFirstBy, IsFirstToken}
 use Rattle.rustc_lexer.specs.means.Scan.{bytes_of}
-use Rattle.rustc_lexer.specs.means.Edition.{token, before_2024, before_2021, changed, first_token_in}
+use Rattle.rustc_lexer.specs.means.Edition.{token, before_2024, changed, first_token_in}
 use Rattle.rustc_lexer.specs.Classes.{IsText}
 use Rattle.rustc_lexer.specs.means.Frontmatter.{frontmatter, opens}
 use Rattle.rustc_lexer.specs.means.Taking.{token_at}
@@ -47,20 +47,12 @@ is_newer UnknownPrefix = true
 is_newer UnknownPrefixLifetime = true
 is_newer kind = false
 
-older_2021 : (kind : TokenKind) (len : ℕ) → is_newer kind ≡ false → before_2024 kind len ≡ record { kind = kind; len = len }
-older_2021 GuardedStrPrefix len old = absurd (true≢false old)
-older_2021 kind len old = refl
-
-older_2018 : (cs : List ℕ) (kind : TokenKind) (len : ℕ) → is_newer kind ≡ false → before_2021 cs kind len ≡ record { kind = kind; len = len }
-older_2018 cs kind len old = grind (arith, common_steps)
-
 pub older : (edition : Edition) (cs : List ℕ) (t : Token) → is_newer t.kind ≡ false → changed edition cs t ≡ t
-older edition cs t old = grind (arith, common_steps, older_2021, older_2018)
+older edition cs t old = grind (arith, common_steps)
 
 -- the token of an edition at the front of a text may be cut off
 pub boundary-of : (edition : Edition) (text : List ℕ) (token : Token) → IsText text → 0 < length text → token ≡ first_token_in edition text → IsCharBoundary text token.len
-boundary-of edition text token is some e =
-    rw e ((edition_grammar edition).boundary text is some)
+boundary-of edition text token is some e = grind (arith, common_steps, e, (edition_grammar edition).boundary text is some)
 
 front-same : (edition : Edition) (text : List ℕ) → changed edition (chars text) (frontmatter text) ≡ frontmatter text
 unfolding frontmatter
@@ -87,22 +79,15 @@ kept_first (c ∷ s) none =
 -- where no hash stands in front
 pub first_newer : (edition : Edition) (text : List ℕ) → BeginsWithNoHash text → (edition ≡ E2024) ⊎ (edition ≡ E2021) → first_token text ≡ first_token_in edition text
 unfolding first_token
-first_newer edition text none (inl e) = rw e refl
-first_newer edition text none (inr e) = rw e (sym (kept_first (chars text) none))
+first_newer edition text w2 w3 = grind (arith, common_steps, kept_first)
 
 -- the two oldest have the same
 pub first_oldest : (edition : Edition) (text : List ℕ) → (edition ≡ E2018) ⊎ (edition ≡ E2015) → first_token_in E2018 text ≡ first_token_in edition text
-first_oldest edition text (inl e) = rw e refl
-first_oldest edition text (inr e) = rw e refl
+first_oldest edition text w2 = grind (arith, common_steps)
 
 -- a token whose kind each edition keeps
 pub first_by : (guards : Bool) (text : List ℕ) (t : Token) → IsFirstToken text t → is_newer t.kind ≡ false → IsFirstBy guards text t
-first_by guards text t is old = record {
-  token = λ edition e. sym (older edition (chars text) t old) ∙ ap (changed edition (chars text)) is.token;
-  inside = is.inside;
-  boundary = is.boundary;
-  suffix = is.suffix;
-}
+first_by guards text t is old = grind (arith, common_steps, older)
 
 -- the newest edition reserves guarded strings
 pub newest_first : (text : List ℕ) (t : Token) → IsFirstBy true text t → IsFirstToken text t
@@ -112,14 +97,5 @@ newest_first text t is = record { token = is.token E2024 refl; inside = is.insid
 pub guard_by : (text : List ℕ) → IsFirstToken text record { kind = GuardedStrPrefix; len = 2 } → IsFirstBy true text record { kind = GuardedStrPrefix; len = 2 }
 guard_by text is = record { token = λ edition e. rw e is.token; inside = is.inside; boundary = is.boundary; suffix = is.suffix }
 
--- and where it does not
-guard_older : (edition : Edition) (cs : List ℕ) → nat_le 2024 (year edition) ≡ false → changed edition cs record { kind = GuardedStrPrefix; len = 2 } ≡ record { kind = Pound; len = 1 }
-guard_older edition cs old = grind (arith, common_steps)
-
 pub pound_by : (text : List ℕ) → IsFirstToken text record { kind = GuardedStrPrefix; len = 2 } → IsCharBoundary text 1 → IsFirstBy false text record { kind = Pound; len = 1 }
-pound_by text is bound = record {
-  token = λ edition e. sym (guard_older edition (chars text) e) ∙ ap (changed edition (chars text)) is.token;
-  inside = let inside = is.inside in omega (arith, inside);
-  boundary = bound;
-  suffix = omega arith;
-}
+pound_by text is bound = grind (arith, common_steps)

@@ -30,17 +30,10 @@ within : (c : ℕ) (r : Range) → is_within r c ≡ is_equal (side c r)
 unfolding is_equal
 within c r = grind (arith, common_steps, lt-leb, ltb-true, and-false, le-leb, ltb-false)
 
--- of two ranges that rise, the later lies no less far on
-side_rises : (c : ℕ) (r s : Range) → r.1 < s.0 → s.0 ≤ s.1 → index c r ≤ index c s
-side_rises c r s apart some = grind (arith, common_steps, ltb-false, le-ltb, lt-ltb)
-
 adjacent : (c n : ℕ) (rs : List Range) → rises_from n rs ≡ true → (k : ℕ) (d : Range) → k + 1 < length rs → index c (slice_index_or rs k d) ≤ index c (slice_index_or rs (k + 1) d)
 adjacent c n [] up k d lt = absurd (omega arith)
 adjacent c n (r ∷ []) up k d lt = absurd (omega arith)
-adjacent c n (r ∷ s ∷ rs) up zero d lt =
-    let after = (and_parts (nat_le r.0 r.1) (rises_from (r.1 + 1) (s ∷ rs)) (and_parts (nat_le n r.0) _ up).1).1 in
-    let here = and_parts (nat_le (r.1 + 1) s.0) _ after in
-    side_rises c r s (let e = leb-true (r.1 + 1) s.0 here.0 in omega arith) (leb-true s.0 s.1 (and_parts (nat_le s.0 s.1) _ here.1).0)
+adjacent c n (r ∷ s ∷ rs) up zero d lt = grind (arith, common_steps, and_parts, ltb-false, le-ltb, lt-ltb, leb-true)
 adjacent c n (r ∷ s ∷ rs) up (suc k) d lt =
     let after = (and_parts (nat_le r.0 r.1) (rises_from (r.1 + 1) (s ∷ rs)) (and_parts (nat_le n r.0) _ up).1).1 in
     let e : suc k + 1 ≡ suc (k + 1) = omega arith in

@@ -29,8 +29,7 @@ use Rattle.rustc_lexer.proofs.QuickLemmas.{word_first, space_first, symbol_first
 
 -- none is set at the front
 pub all_past : (text : List ℕ) (ends : ℕ) → IsEnds text ends → AreEndsPast text 0 ends
-all_past text ends are zero set = absurd (true≢false (sym set ∙ (are zero set).1 zero (omega arith)))
-all_past text ends are (suc j) set = (omega arith, (are (suc j) set).0, λ k more le. (are (suc j) set).1 k le)
+all_past text ends w2 = grind (arith, common_steps)
 
 pub no_ends : (text : List ℕ) → IsEnds text 0
 no_ends text j set = absurd (true≢false (sym set ∙ bit-zero j))
@@ -46,9 +45,7 @@ module _ (text : List ℕ) (m words spaces : ℕ) (long : 64 ≤ length text) (s
       both p mask e = ap₂ (λ a b. a && b) (bit-at_byte p text mask k long e (omega arith)) (bit-at_byte p text mask (suc k) long e l)
 
   pub are_ends : IsEnds text m
-  are_ends j set =
-      let near : j < 64 = within m j small set in
-      (omega arith, λ k le. is_at k (omega arith))
+  are_ends j set = grind (arith, common_steps, within m j small set, is_at)
 
 -- ---- what is known past some bytes
 
@@ -100,10 +97,7 @@ module _ (p other : ℕ → Bool) (parted : (b : ℕ) → (p b && other b) ≡ f
       by_cases before (inr different) = absurd (true≢false (sym (and_from _ _ before (and_parts (other (get_or text k 0)) _ different).0) ∙ parted (get_or text k 0)))
 
   past_run : p (get_or text (suc n) 0) ≡ false
-  past_run = elim (and_cases (p (get_or text n 0)) (p (get_or text (suc n) 0)) (or_parts _ _ end).0) [
-    | inl before ↦ absurd (true≢false (sym (in_run n (omega arith)) ∙ before))
-    | inr out ↦ out
-  ]
+  past_run = grind (arith, common_steps, and_cases, or_parts, in_run)
 
   run_is : prefix_len p text ≡ suc n
   run_is = prefix_len_is p text (suc n) 0 (omega arith) (λ k l. in_run k (omega arith)) (λ l. past_run)
@@ -161,9 +155,7 @@ module _ (text : List ℕ) (is : IsUtf8 text) (b : ℕ) (rest : List ℕ) (e : t
 
   as_word : b < 128 → Word ≡ family_of b → turns_word next ≡ false → IsFirstToken text record { kind = Ident; len = 1 + n }
   as_word small family stays =
-      let in_class : is_continue_byte b ≡ true = run_of_family b Word small family in
-      let all : prefix_len is_continue_byte text ≡ suc n = run_is is_continue_byte is_space_byte never_both text n run.room run.on run.end (ap is_continue_byte front ∙ in_class) in
-      word_first text b rest n is e small family (counted is_continue_byte in_class all) (ap not (ap (next_is turns_word) left ∙ stays))
+      grind (arith, common_steps, run_of_family b Word small family, run_is is_continue_byte is_space_byte never_both text n run.room run.on run.end (ap is_continue_byte front ∙ (run_of_family b Word small family)), word_first, counted, left)
 
   as_space : b < 128 → Space ≡ family_of b → is_space_lead next ≡ false → IsFirstToken text record { kind = Whitespace; len = 1 + n }
   as_space small family stays =
@@ -232,10 +224,7 @@ module _ (text : List ℕ) (from ends end : ℕ) (kind : TokenKind) (at : TellsA
   late = bit_and (ends / 2 ^ from) high
 
   begins : drop from text ≡ get_or text from 0 ∷ drop 1 (drop from text)
-  begins =
-      let after = (at.known end at.lowest.set).0 in
-      let inside = (at.known end at.lowest.set).1 in
-      drop-cons (drop from text) 0 0 (omega (arith, length-drop from text, after, inside)) ∙ ap (λ (b : ℕ). b ∷ drop 1 (drop from text)) (get_or-drop from text 0 0 ∙ ap (λ i. get_or text i 0) (let z : from + 0 ≡ from = omega arith in z))
+  begins = grind (arith, common_steps, drop-cons, length-drop, get_or-drop)
 
   by_len : (n : ℕ) → from + suc n ≡ end → IsFirstToken (drop from text) record { kind = kind; len = suc n }
   by_len n e =

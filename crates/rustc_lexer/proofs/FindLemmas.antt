@@ -53,12 +53,7 @@ module _ (stops : ℕ → Bool) (small : (b : ℕ) → stops b ≡ true → b < 
     further k = ap (λ xs. get_or xs k 0) rest_is ∙ get_or-drop (length (encode_utf8 c)) text k 0
 
     in_rest : stops c ≡ false → IsStop stops rest (n - length (encode_utf8 c))
-    in_rest f = record {
-      inside = let i = at.inside in omega (arith, long);
-      before = λ k l g. at.before (length (encode_utf8 c) + k) (omega arith) (ap stops (sym (further k)) ∙ g);
-      here = λ l. let same : length (encode_utf8 c) + (n - length (encode_utf8 c)) ≡ n = omega (arith, past_it f) in
-          ap stops (further (n - length (encode_utf8 c)) ∙ ap (λ k. get_or text k 0) same) ∙ at.here (omega (arith, long));
-    }
+    in_rest f = grind (arith, long, further, past_it)
 
     same_offset : stops c ≡ false → drop (n - length (encode_utf8 c)) rest ≡ drop n text
     same_offset f = grind (arith, common_steps, past_it, rest_is, drop-drop)

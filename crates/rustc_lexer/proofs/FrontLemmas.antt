@@ -38,13 +38,7 @@ next_offset text tokens start number offset d cuts at few =
     rw e (cuts (suc number) few)
 
 pub bound-shift : (tokens : List Token) (n k : ℕ) → bound tokens (n + k) ≡ bound tokens n + bound (drop n tokens) k
-bound-shift tokens zero k = ap (bound tokens) e0 ∙ sym e1
-  where
-    e0 : zero + k ≡ k
-    e0 = omega arith
-
-    e1 : 0 + bound tokens k ≡ bound tokens k
-    e1 = omega arith
+bound-shift tokens zero k = grind (arith, common_steps)
 bound-shift [] (suc n) zero = ap (bound []) e
   where
     e : suc n + zero ≡ suc n
@@ -83,10 +77,7 @@ bound-more tokens n offset d is few = ap (λ p. p + (get_or tokens n d).len) is 
 
 -- where two characters stand past a bound, they stand past each bound before it
 pub front-all : (text : List ℕ) (to from : ℕ) (ts : List Token) (n : ℕ) → IsUtf8 text → n ≤ length ts → ((k : ℕ) → k ≤ length ts → IsCharBoundary text (from + bound ts k)) → (0 < n → has_two text (from + bound ts n) to ≡ true) → kept_front_from text to from ts ≡ n + kept_front_from text to (from + bound ts n) (drop n ts)
-front-all text to from ts zero is few cuts two =
-    let e : from + 0 ≡ from = omega arith in
-    let same : kept_front_from text to (from + 0) ts ≡ kept_front_from text to from ts = ap (λ p. kept_front_from text to p ts) e in
-    omega (arith, same)
+front-all text to from ts zero is few cuts two = grind (arith, common_steps)
 front-all text to from [] (suc n) is few cuts two = absurd (omega arith)
 front-all text to from (t ∷ ts) (suc n) is few cuts two =
     let shift : (k : ℕ) → from + (t.len + bound ts k) ≡ from + t.len + bound ts k = λ k. omega arith in

@@ -116,6 +116,4 @@ module _ (pending : ℕ) (left : List ℕ) (mode : Mode) (s : State) (rest : Lis
   none_here read = guarded-is None read ∙ ap (λ (xs : List ℕ). let r : Option GuardedStr × State = (None, state (pending + n) (drop n xs) mode) in r) here
 
   pub some_here : (closed : Bool) (t : ℕ) → Some (closed, t) ≡ string_past n (chars rest) → take_guarded s ≡ (Some record { n_hashes = n; terminated = closed; token_len = pending + t }, state 0 (drop t left) mode)
-  some_here closed t read =
-      guarded-is (Some (closed, t)) read
-      ∙ ap (λ (xs : List ℕ). let r : Option GuardedStr × State = (Some record { n_hashes = n; terminated = closed; token_len = pending + t }, state 0 (drop t xs) mode) in r) here
+  some_here closed t read = grind (arith, common_steps, guarded-is (Some (closed, t)) read, here)

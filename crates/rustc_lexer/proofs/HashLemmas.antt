@@ -42,8 +42,7 @@ pub no_hash-wide : (text : List ℕ) (b : ℕ) (rest : List ℕ) → IsUtf8 text
 no_hash-wide text b rest is e wide = no_hash text b rest is e (λ family. let mark = hash-code b family in omega arith)
 
 pub no_hash-empty : (text : List ℕ) → length text ≡ 0 → BeginsWithNoHash text
-no_hash-empty [] e first cs read family = let none : first ∷ cs ≡ [] = sym read ∙ chars-nil in cc
-no_hash-empty (b ∷ bs) e first cs read family = absurd (omega arith)
+no_hash-empty text w1 = grind (arith, common_steps, first, chars-nil)
 
 -- what a hash is read as
 module _ (tail : List ℕ) (is : IsUtf8 tail) where

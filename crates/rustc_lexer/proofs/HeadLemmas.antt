@@ -49,9 +49,7 @@ module _ (text rest : List ℕ) (n : ℕ) (is : IsUtf8 text) (at : IsCharBoundar
 
 shebang_by : (text : List ℕ) (a b : Bool) → opens (chars (drop (shebang_len text) text)) ≡ a → opens (chars (past (spaces_len (chars (drop (shebang_len text) text))) (drop (shebang_len text) text))) ≡ b → (head_of text).shebang_len ≡ shebang_len text
 unfolding head_of
-shebang_by text true b e f = rw e refl
-shebang_by text false true e f = rw (e, f) refl
-shebang_by text false false e f = rw (e, f) refl
+shebang_by text a b w3 w4 = grind (arith, common_steps)
 
 pub head-shebang : (text : List ℕ) → (head_of text).shebang_len ≡ shebang_len text
 head-shebang text = shebang_by text _ _ refl refl

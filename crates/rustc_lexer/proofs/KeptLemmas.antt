@@ -45,10 +45,7 @@ module _ {first : List ℕ → Token} (law : IsGrammar first) (whole : Bool) (te
   all_are = are.1 ∙ ap (λ (h : Head). tokens_of_head h ++ tokens_by first (drop h.body text)) (sym are.2)
 
   body_at : (k : ℕ) → head.body + bound (drop (length fronts) tokens) k ≡ head.shebang_len + bound tokens (length fronts + k)
-  body_at k =
-      let ends : Ends head = subst Ends (sym are.2) (head_ends whole text) in
-      let at : bound tokens (length fronts) ≡ bound fronts (length fronts) = ap (λ ts. bound ts (length fronts)) all_are ∙ bound-append fronts (tokens_by first body) in
-      omega (arith, ends, at, bound-shift tokens (length fronts) k)
+  body_at k = grind (arith, common_steps, head_ends, all_are, bound-append, bound-shift)
 
   -- a bound of the body's tokens is one of all
   pub near_at : (near : Bound) (n : ℕ) → n ≡ length fronts → IsBound (drop (length fronts) tokens) near → head.body + near.offset ≡ head.shebang_len + bound tokens (n + near.number)

@@ -1,5 +1,6 @@
 -- A run of bytes that pass q, seen a vector at a time through the mask of those that fail it.
-use Rattle.std.proofs.Common.{◌≡◌, ℕ, ◌+◌, ◌*◌, ◌<◌, ◌≤◌, Bool, true, false, not, cond, eqb, List, [], ◌∷◌, map, length, drop, refl, sym, ap, ap₂, ◌∙◌, arith, inl, inr}
+use Rattle.std.proofs.lemmas.Grind.{common_steps}
+use Rattle.std.proofs.Common.{◌≡◌, ℕ, ◌+◌, ◌*◌, ◌<◌, ◌≤◌, Bool, true, false, not, cond, eqb, List, [], ◌∷◌, map, length, drop, refl, sym, ap, ap₂, ◌∙◌, arith}
 use Rattle.std.proofs.lemmas.Simd.{chunk-drop, length-chunk, leading_from_mask_l, trailing_mask_l}
 use Rattle.std.proofs.lemmas.List.{length-drop}
 use Rattle.std.proofs.lemmas.List.Folds.{prefix_len-append}
@@ -37,15 +38,8 @@ module _ (q : ℕ → Bool) where
       ∙ ap (λ k. k + prefix_len q (drop (i + n) d)) (length-chunk i n d room)
 
   pub run_stops : (d : List ℕ) (i n : ℕ) → i + n ≤ length d → n ≤ 64 → 0 < mask_l (map (outside q) (chunk i n d)) → prefix_len q (drop i d) ≡ count_trailing_zeros 64 (mask_l (map (outside q) (chunk i n d)))
-  run_stops d i n room short some =
-      let c = chunk i n d in
-      split d i n ∙ ap (λ b. cond b (length c + prefix_len q (drop (i + n) d)) (prefix_len q c)) (ne_eqb _ _ (λ (e : prefix_len q c ≡ length c). omega (arith, all_pass c e)))
-      ∙ sym (twice c) ∙ sym (trailing_mask_l (outside q) 64 c (omega (arith, length-chunk i n d room)) some)
+  run_stops d i n room short some = grind (arith, common_steps, chunk i n d, split d i n, ne_eqb, twice (chunk i n d), trailing_mask_l, all_pass, length-chunk)
 
   -- some byte of the front stops the run
   pub run_short : (d : List ℕ) (n : ℕ) → n ≤ length d → 0 < mask_l (map (outside q) (chunk 0 n d)) → prefix_len q d < n
-  run_short d n room some =
-      let c = chunk 0 n d in
-      let long = length-chunk 0 n d (omega arith) in
-      let part : prefix_len q d ≡ prefix_len q c = split d 0 n ∙ ap (λ b. cond b (length c + prefix_len q (drop (0 + n) d)) (prefix_len q c)) (ne_eqb _ _ (λ (e : prefix_len q c ≡ length c). omega (arith, all_pass c e))) in
-      elim (cases_lt (prefix_len q c) (length c)) [ inl short ↦ omega arith | inr full ↦ absurd (omega (arith, all_pass c (omega (arith, prefix_len-le-length q c)))) ]
+  run_short d n room some = grind (arith, common_steps, chunk 0 n d, length-chunk, split d 0 n, ne_eqb, all_pass, cases_lt, prefix_len-le-length)

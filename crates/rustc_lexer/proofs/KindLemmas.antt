@@ -1,5 +1,5 @@
 -- What the grammar says of the text of a token by its kind, and of the suffix of a literal.
-use Rattle.std.proofs.Common.{◌≡◌, ◌↔◌, ◌≤◌, not, Bool, true, false, true≢false, List, ℕ, [], ◌∷◌, ◌++◌, codes, drop, take, length, refl, sym, ap, ap₂, arith, ◌∙◌, subst, chars, Ok, Option, Result, Some, None, is_some, IsSome}
+use Rattle.std.proofs.Common.{◌≡◌, ◌↔◌, ◌≤◌, Bool, true, false, true≢false, List, ℕ, [], ◌∷◌, ◌++◌, codes, drop, take, length, refl, sym, ap, ap₂, arith, ◌∙◌, chars, Ok, Option, Result, Some, None, IsSome}
 use Rattle.std.proofs.lemmas.List.{append-nil}
 use Rattle.std.proofs.lemmas.Str.{chars-append, chars-encodes, encode_ascii, encodes-append}
 use Rattle.std.proofs.lemmas.Grind.{common_steps}
@@ -13,7 +13,6 @@ use Rattle.rustc_lexer.specs.LanguageCalls as call
 use Rattle.rustc_lexer.specs.LanguageCalls.{IsRawAnswer}
 use Rattle.rustc_lexer.specs.LanguageText as grammar
 use Rattle.rustc_lexer.specs.LanguageText.{AreTokens, IsTokenIn, Mode}
-use Rattle.rustc_lexer.specs.LiteralGrammar as lit
 use Rattle.rustc_lexer.specs.LiteralGrammar.{IsLiteralBefore, IsRaw}
 use Rattle.rustc_lexer.specs.NumberGrammar.{HasNumberForm}
 use Rattle.rustc_lexer.specs.State.{HasSuffixWithin}
@@ -22,13 +21,11 @@ use Rattle.rustc_lexer.specs.Tokens.{is_faulty, HasSuffix, HasText}
 use Rattle.rustc_lexer.specs.laws.Choice.{by_symbol}
 use Rattle.rustc_lexer.specs.laws.LanguageFront.{split}
 use Rattle.rustc_lexer.specs.laws.LanguageLiterals.{bytes-append}
-use Rattle.rustc_lexer.specs.laws.LanguageRaw.{raw-read, raw_seen}
+use Rattle.rustc_lexer.specs.laws.LanguageRaw.{raw-read}
 use Rattle.rustc_lexer.specs.laws.LanguageReach.{number-kind, raw-alike}
 use Rattle.rustc_lexer.specs.laws.Language.{lexeme-sound}
 use Rattle.rustc_lexer.specs.laws.TheAnswers.{the_raw}
 use Rattle.rustc_lexer.specs.means.Lexeme.{first_token}
-use Rattle.rustc_lexer.specs.means.Raw.{is_r}
-use Rattle.rustc_lexer.specs.means.Scan.{next_is}
 
 -- ---- literals
 
@@ -41,41 +38,22 @@ number-quiet is = number-kind IsQuietLiteral (λ base empty. (refl, λ n text. t
 
 -- a literal that may have a suffix is not faulty
 suffixed : {next w : Chars} {kind : LiteralKind} {may : Bool} → IsLiteralBefore next kind may w → may ≡ true → is_faulty kind ≡ false
-suffixed (lit.char p start) e = ap not e
-suffixed (lit.byte_char p) e = ap not e
-suffixed (lit.str p) e = ap not e
-suffixed (lit.byte_str p) e = ap not e
-suffixed (lit.c_str p) e = ap not e
-suffixed (lit.raw_str p start) e = ap not e
-suffixed (lit.raw_byte_str p) e = ap not e
-suffixed (lit.raw_c_str p) e = ap not e
-suffixed (lit.number p) e = (number-quiet p.form).0
-suffixed p e = refl
+suffixed w0 w1 = grind (arith, common_steps, number-quiet)
 
 -- a raw string that is not refused is what the check of raw strings accepts
 accepted : {rest cs w : Chars} {o : Option ℕ} {p : ℕ} {r : Result Unit RawStrError} → IsRaw rest o w → IsRawAnswer p cs r → r ≡ Ok tt → cs ≡ w ++ rest → IsSome o
-accepted is (call.good {n = n} q) e f =
-    let same : Some n ≡ _ = sym (ap (λ (r : Option ℕ × ℕ). r.0) (raw-read q)) ∙ (ap (λ (s : Chars). (raw_seen s).0) f ∙ ap (λ (r : Option ℕ × ℕ). r.0) (raw-read is)) in
-    subst IsSome same refl
-accepted is other e f = absurd (cc)
+accepted w0 w1 w2 w3 = grind (arith, common_steps, raw-read)
 
 accepts : {rest w : Chars} (p : ℕ) (o : Option ℕ) → IsRaw rest o w → IsSome o → IsRawAnswer p (w ++ rest) (Ok tt)
 accepts p (Some n) is some = call.good is
 accepts p None is some = absurd (true≢false (sym some))
 
 checked : {next rest w : Chars} {o : Option ℕ} → IsRaw next o w → (o ≡ None → rest ≡ []) → (p : ℕ) (text : Utf8) → drop p (chars text) ≡ w ++ rest → (raw_check text p ≡ Ok tt) ↔ IsSome o
-checked {rest = rest} {o = o} is end p text e =
-    let answers = (the_raw text p).only tt (Ok tt) in
-    let here = raw-alike is rest (λ none over. end none) in
-    (λ f. accepted here (answers.1 (sym f)) refl e, λ some. sym (answers.0 (subst (λ (cs : Chars). IsRawAnswer p cs (Ok tt)) (sym e) (accepts p o here some))))
+checked {rest = rest} {o = o} is end p text e = grind (arith, common_steps, (the_raw text p).only tt (Ok tt), raw-alike is rest (λ none over. end none), accepted, accepts)
 
 -- the text of a literal is as its kind says
 literal-text : {next w : Chars} {kind : LiteralKind} {may : Bool} → IsLiteralBefore next kind may w → (rest : Chars) → (may ≡ false → rest ≡ []) → (n : ℕ) (text : Utf8) → chars text ≡ w ++ rest → HasText (Literal kind n) text
-literal-text (lit.raw_str p start) rest end n text e = ((omega arith, ap (next_is is_r) e), checked p (λ none. end (ap is_some none)) 1 text (ap (drop 1) e))
-literal-text (lit.raw_byte_str p) rest end n text e = ((omega arith, ap (λ (cs : Chars). next_is is_r (drop 1 cs)) e), checked p (λ none. end (ap is_some none)) 2 text (ap (drop 2) e))
-literal-text (lit.raw_c_str p) rest end n text e = ((omega arith, ap (λ (cs : Chars). next_is is_r (drop 1 cs)) e), checked p (λ none. end (ap is_some none)) 2 text (ap (drop 2) e))
-literal-text (lit.number p) rest end n text e = (number-quiet p.form).1 n text
-literal-text p rest end n text e = tt
+literal-text w0 rest w2 n text w5 = grind (arith, common_steps, checked, number-quiet)
 
 -- ---- one token
 
@@ -119,13 +97,10 @@ says (the.symbol {c} is) = quiet (symbol_kind c) (c ∷ []) (by_symbol is_quiet 
 says p = tt
 
 says-in : {edition : Edition} {next w : Chars} {kind : TokenKind} → IsTokenIn edition next kind w → Says kind w
-says-in (grammar.kept since p) = says p
-says-in (grammar.ident older p) = says p
-says-in p = tt
+says-in w0 = grind (arith, common_steps, says)
 
 suffix : (kind : TokenKind) (w : Chars) → Says kind w → HasSuffix record { kind = kind; len = bytes w }
-suffix (Literal kind suffix_start) w said = (said.within, said.ends)
-suffix kind w said = (omega arith, tt)
+suffix kind w w2 = grind (arith, common_steps)
 
 -- the suffix of the first token of any text
 pub first_token-suffix : (text : List ℕ) → HasSuffixWithin (first_token text)

@@ -22,24 +22,10 @@ bare tokens = record { start = 0; head = []; body = tokens }
 
 module _ {old new : List Token} {old_stop new_stop number back : ℕ} where
   pub part_meets : IsBodyMeeting old new old_stop new_stop number back → IsMeeting (bare old) (bare new) old_stop new_stop number back
-  part_meets m = record {
-    number_inside = m.number_inside;
-    past_edit = omega (arith, m.past_edit);
-    past_head = omega arith;
-    old_number = m.old_number;
-    past_old_head = omega arith;
-    back_is = m.back_is;
-    same_offset = omega (arith, m.same_offset);
-  }
+  part_meets m = grind (arith, common_steps)
 
   pub body_meets : IsMeeting (bare old) (bare new) old_stop new_stop number back → IsBodyMeeting old new old_stop new_stop number back
-  body_meets m = record {
-    number_inside = m.number_inside;
-    past_edit = omega (arith, m.past_edit);
-    old_number = m.old_number;
-    back_is = m.back_is;
-    same_offset = omega (arith, m.same_offset);
-  }
+  body_meets m = grind (arith, common_steps)
 
 module _ (first : List ℕ → Token) (text : List ℕ) (start stop : ℕ) (insert : List ℕ) (r : Relexed) where
   pub part_by_body : IsBodyRelexed first text start stop insert r → IsRelexed (part_by first) text start stop insert r
@@ -62,20 +48,7 @@ module _ (first : List ℕ → Token) (text : List ℕ) (start stop : ℕ) (inse
 module _ (old new : Layout) (stop new_stop more body_stop new_body_stop : ℕ) (old_more : body_stop + body_in old ≡ stop + more) (new_more : new_body_stop + body_in new ≡ new_stop + more)
     (least : (other : ℕ) → body_in old ≤ stop + other → body_in new ≤ new_stop + other → more ≤ other) where
   pub meets : (number back : ℕ) → IsBodyMeeting old.body new.body body_stop new_body_stop number back → IsMeeting old new stop new_stop (length new.head + number) back
-  meets number back m =
-      let past = m.past_edit in
-      let same = m.same_offset in
-      let at = offset-behind new number in
-      let old_at = offset-behind old m.old_number in
-      record {
-        number_inside = (let few = m.number_inside in omega (arith, few, length-append new.head new.body));
-        past_edit = omega (arith, at, past, new_more);
-        past_head = omega arith;
-        old_number = length old.head + m.old_number;
-        past_old_head = omega arith;
-        back_is = omega (arith, m.back_is, length-append old.head old.body);
-        same_offset = omega (arith, at, old_at, same, old_more, new_more);
-      }
+  meets number back m = grind (arith, common_steps, m.past_edit, m.same_offset, offset-behind new number, offset-behind old m.old_number, length-append)
 
   pub meets_behind : (number back : ℕ) → IsMeeting old new stop new_stop number back → IsBodyMeeting old.body new.body body_stop new_body_stop (number - length new.head) back
   meets_behind number back m =
@@ -101,23 +74,13 @@ abbrev pub Decided : Type 0 → Type 0
 Decided P = P ⊎ (P → ⊥)
 
 all : {P Q R : Type 0} → Decided P → Decided Q → Decided R → Decided (P × Q × R)
-all (inl p) (inl q) (inl r) = inl (p, q, r)
-all (inl p) (inl q) (inr none) = inr (λ x. none x.2)
-all (inl p) (inr none) r = inr (λ x. none x.1)
-all (inr none) q r = inr (λ x. none x.0)
+all w0 w1 w2 = grind (arith, common_steps)
 
 numbers : (a b : ℕ) → Decided (a ≡ b)
-numbers a b = by_test (a == b) refl
-  where
-    by_test : (t : Bool) → (a == b) ≡ t → Decided (a ≡ b)
-    by_test true e = inl (eqb-true a b e)
-    by_test false e = inr (eqb-false a b e)
+numbers a b = grind (arith, common_steps, eqb-true, eqb-false)
 
 at_most : (a b : ℕ) → Decided (a ≤ b)
-at_most a b = elim (cases_lt b a) [
-  | inl less ↦ inr (λ le. omega (arith, le, less))
-  | inr le ↦ inl le
-]
+at_most a b = grind (arith, common_steps, cases_lt)
 
 tokens : (xs ys : List Token) → Decided (xs ≡ ys)
 tokens [] [] = inl refl
@@ -144,13 +107,7 @@ module _ (layout : List ℕ → Layout) (text : List ℕ) (start stop : ℕ) (in
 
   -- boundaries of the body that stand at one place are one
   same_bound : (i j : ℕ) → i ≤ length old.body → j ≤ length old.body → bound old.body i ≡ bound old.body j → i ≡ j
-  same_bound i j few less_j e = elim (cases_lt i j) [
-    | inl less ↦ absurd (omega (arith, rises i (omega arith), bound_mono old.body (suc i) j (omega arith), e))
-    | inr not ↦ elim (cases_lt j i) [
-      | inl less ↦ absurd (omega (arith, rises j (omega arith), bound_mono old.body (suc j) i (omega arith), e))
-      | inr none ↦ omega arith
-    ]
-  ]
+  same_bound i j few less_j e = grind (arith, common_steps, cases_lt, bound_mono)
 
   same_offset : (i j : ℕ) → length old.head ≤ i → length old.head ≤ j → i ≤ length (old.head ++ old.body) → j ≤ length (old.head ++ old.body) → offset_in old i ≡ offset_in old j → i ≡ j
   same_offset i j past_i past_j few_i few_j e =
@@ -165,11 +122,7 @@ module _ (layout : List ℕ → Layout) (text : List ℕ) (start stop : ℕ) (in
 
   module _ (r s : Relexed) (a : IsRelexed layout text start stop insert r) (b : IsRelexed layout text start stop insert s) where
     fronts : r.kept_front ≡ s.kept_front
-    fronts = by_case (keeps_head old new start)
-      where
-        by_case : Decided (KeepsHead old new start) → r.kept_front ≡ s.kept_front
-        by_case (inl k) = a.kept k ∙ sym (b.kept k)
-        by_case (inr none) = a.changed none ∙ sym (b.changed none)
+    fronts = grind (arith, common_steps, keeps_head)
 
     lexed : r.lexed ≡ s.lexed
     lexed = elim (cases_lt r.lexed s.lexed) [

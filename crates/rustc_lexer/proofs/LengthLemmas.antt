@@ -1,5 +1,5 @@
 -- Tokens that are known by their lengths alone.
-use Rattle.std.proofs.Common.{◌≡◌, ℕ, ◌<◌, ◌≤◌, Bool, true, false, List, length, map, get_or, take, sym, ap, ◌∙◌, subst, arith, IsUtf8, IsCharBoundary}
+use Rattle.std.proofs.Common.{◌≡◌, ℕ, ◌<◌, ◌≤◌, Bool, true, false, List, length, map, get_or, take, sym, ap, ◌∙◌, arith, IsUtf8, IsCharBoundary}
 use Rattle.std.proofs.lemmas.List.{get_or-map, length-map, take-take}
 use Rattle.std.proofs.lemmas.Bool.Decides.{leb_tells}
 use Rattle.std.proofs.lemmas.Str.{IsUtf8-take, IsCharBoundary-from_take}
@@ -18,20 +18,12 @@ module _ {X : Type 0} (f : X → ℕ) (xs : List X) (ts : List Token) (are : Has
   as_many = sym (length-map xs f) ∙ (ap (λ (ns : List ℕ). length ns) are ∙ length-map ts (λ (t : Token). t.len))
 
   pub as_long : (i : ℕ) (x : X) (len : ℕ) → len ≡ f x → x ≡ get_or xs i x → i < length xs → len ≡ (get_or ts i no_token).len
-  as_long i x len its at few =
-      let fewer : i < length ts = omega (arith, as_many) in
-      its ∙ (ap f at ∙ (sym (get_or-map f xs i x 0 few) ∙ (ap (λ (ns : List ℕ). get_or ns i 0) are ∙ get_or-map (λ (t : Token). t.len) ts i no_token 0 fewer)))
-
--- texts that are the same up to an offset are cut alike before it
-pub cut_alike : (old text : List ℕ) (offset start : ℕ) → IsUtf8 old → IsUtf8 text → take start text ≡ take start old → offset ≤ start → start ≤ length text → IsCharBoundary old offset → IsCharBoundary text offset
-cut_alike old text offset start is its same before inside cut =
-    let front : take offset text ≡ take offset old = sym (take-take offset start text before) ∙ (ap (take offset) same ∙ take-take offset start old before) in
-    IsCharBoundary-from_take text offset its (omega arith) (subst IsUtf8 (sym front) (IsUtf8-take old offset is cut))
+  as_long i x len its at few = grind (arith, common_steps, as_many, its, at, get_or-map f xs i x 0 few, are, get_or-map, no_token)
 
 -- whether two characters stand before an offset is decided by the text up to there
 pub stand_alike : (old text : List ℕ) (offset start : ℕ) (two : Bool) → IsUtf8 old → IsUtf8 text → take start text ≡ take start old → start ≤ length text → IsCharBoundary old offset → (start ≤ offset → two ≡ false) → (IsCharBoundary text offset → two ≡ has_two text offset start) → two ≡ has_two old offset start
 stand_alike old text offset start two is its same inside cut late here =
-    grind (arith, common_steps, leb_tells, has_two-late, cut_alike, has_two-same)
+    grind (arith, common_steps, leb_tells, has_two-late, take-take, IsCharBoundary-from_take, IsUtf8-take, has_two-same)
 
 -- where two characters stand before an offset, it is past them
 pub stood_before : (offset start : ℕ) (two : Bool) → (start ≤ offset → two ≡ false) → two ≡ true → offset ≤ start

@@ -1,5 +1,6 @@
 -- The token of a text whose first character is known.
-use Rattle.std.proofs.Common.{◌≡◌, ℕ, suc, ◌+◌, ◌-◌, ◌≤◌, [], ◌∷◌, List, length, sym, ap, ◌∙◌, arith, subst}
+use Rattle.std.proofs.lemmas.Grind.{common_steps}
+use Rattle.std.proofs.Common.{◌≡◌, ℕ, ◌+◌, ◌-◌, ◌≤◌, [], ◌∷◌, List, length, sym, ap, ◌∙◌, arith, subst}
 use Rattle.std.specs.Str.{chars, IsUtf8, IsCharBoundary}
 use Rattle.std.proofs.lemmas.Str.{IsCharBoundary-from_drop}
 use Rattle.rustc_lexer.specs.{Token, TokenKind, Eof}
@@ -33,13 +34,7 @@ module _ (text tail rest : List ℕ) (c : ℕ) (kind : TokenKind) (is : IsUtf8 t
 
   token-is : record { kind = kind; len = length text - length rest } ≡ first_token text
   unfolding first_token taken
-  token-is =
-      let kind_is : kind ≡ (past_first c (chars tail)).0 = ap (λ (r : TokenKind × List ℕ). r.0) f in
-      let same : 1 + taken ≡ suc taken = omega arith in
-      let len_is : length text - length rest ≡ bytes_of (suc taken) (chars text) = let b = bytes in rw (← same) (omega arith) in
-      ap (λ (k : TokenKind). let t : Token = record { kind = k; len = length text - length rest } in t) kind_is
-      ∙ (ap (λ (n : ℕ). let t : Token = record { kind = (past_first c (chars tail)).0; len = n } in t) len_is
-      ∙ ap (λ (ds : List ℕ). let t : Token = record { kind = (lexeme ds).0; len = bytes_of (lexeme ds).1 (chars text) } in t) (sym cs))
+  token-is = grind (arith, common_steps, taken, bytes)
 
   pub made : IsFirstToken text record { kind = kind; len = length text - length rest }
   made = record { token = token-is; inside = omega (arith, left-le); boundary = boundary; suffix = subst (λ (t : Token). HasSuffixWithin t) (sym token-is) (first_token-suffix text) }

@@ -10,7 +10,7 @@ use Rattle.rustc_lexer.specs.{TokenKind, Char, Literal, Lifetime, UnknownPrefixL
 use Rattle.rustc_lexer.specs.Classes.{is_id_continue, is_word_continue}
 use Rattle.rustc_lexer.specs.Tables.{is_emoji}
 use Rattle.rustc_lexer.specs.means.Lifetime.{past_name, plain_lifetime, lifetime, is_character, is_character_at, lifetime_or_char}
-use Rattle.rustc_lexer.specs.laws.Lifetime.{name_of, quoted_name, unquoted_name}
+use Rattle.rustc_lexer.specs.laws.Lifetime.{name_of, unquoted_name}
 use Rattle.rustc_lexer.specs.means.Literal.{literal}
 use Rattle.rustc_lexer.specs.means.Quoted.{char_body}
 use Rattle.rustc_lexer.specs.laws.Reach.{run_len_le}
@@ -38,8 +38,7 @@ shorter-by (suc n) text rest is le cut =
 
 -- what follows a name
 past-unquoted_name : (c : ℕ) (name end : List ℕ) → IsUtf8 end → begins (codes "'") (chars end) ≡ false → ((unquoted_name c name (chars end)).0, end) ≡ scanned (past_name c name) end
-past-unquoted_name c name end is t =
-    ap (λ (xs : List ℕ). ((unquoted_name c name (chars end)).0, xs)) (sym (past-zero end is)) ∙ sym (scanned-no (begins (codes "'")) (quoted_name c name) (unquoted_name c name) end t)
+past-unquoted_name c name end is t = grind (arith, common_steps, past-zero, scanned-no)
 
 -- the run of a name was read in two parts
 module _ (c : ℕ) (rest part end : List ℕ) (is : IsUtf8 rest) (first : part ≡ past (run_len is_id_continue (chars rest)) rest) (second : end ≡ past (run_len is_word_continue (chars part)) part) where
@@ -60,9 +59,7 @@ module _ (c : ℕ) (rest part end : List ℕ) (is : IsUtf8 rest) (first : part �
   emoji-is : ltb (length end) (length part) ≡ not (list_all is_id_continue (take whole (chars rest)))
   unfolding plain whole
   emoji-is =
-      let utf8 : IsUtf8 part = rw first (IsUtf8-past plain rest is) in
-      shorter-by (run_len is_word_continue (chars part)) part end utf8 (run_len_le is_word_continue (chars part)) second
-      ∙ (ap (λ ds. ltb 0 (run_len is_word_continue ds)) part-chars ∙ (word_more (chars rest) ∙ sym (ap not (word_all (chars rest)) ∙ not-not (has_emoji (chars rest)))))
+      grind (arith, common_steps, first, IsUtf8-past plain rest is, shorter-by (run_len is_word_continue (chars part)) part end (rw first (IsUtf8-past plain rest is)) (run_len_le is_word_continue (chars part)) second, part-chars, word_more (chars rest), word_all (chars rest), not-not (has_emoji (chars rest)))
 
   plain_lifetime-is : scanned (plain_lifetime c) rest ≡ scanned (past_name c (take whole (chars rest))) end
   unfolding whole
@@ -75,10 +72,7 @@ module _ (c : ℕ) (rest part end : List ℕ) (is : IsUtf8 rest) (first : part �
   pub plain_lifetime-unquoted_name : (kind : TokenKind) (emoji : Bool) → begins (codes "'") (chars end) ≡ false → emoji ≡ ltb (length end) (length part)
       → kind ≡ (if begins (codes "#") (chars end) && not (is_ascii_digit c) then UnknownPrefixLifetime else Lifetime (is_ascii_digit c || is_emoji c || emoji)) → (kind, end) ≡ scanned (plain_lifetime c) rest
   plain_lifetime-unquoted_name kind emoji t same e =
-      let name : List ℕ = take whole (chars rest) in
-      let utf8 : IsUtf8 end = rw end-is (IsUtf8-past whole rest is) in
-      ap (λ (k : TokenKind). (k, end)) (e ∙ ap (λ b. if begins (codes "#") (chars end) && not (is_ascii_digit c) then UnknownPrefixLifetime else Lifetime (is_ascii_digit c || is_emoji c || b)) (same ∙ emoji-is))
-      ∙ (past-unquoted_name c name end utf8 t ∙ sym plain_lifetime-is)
+      grind (arith, common_steps, end-is, IsUtf8-past whole rest is, e, same, emoji-is, past-unquoted_name c (take whole (chars rest)) end (rw end-is (IsUtf8-past whole rest is)) t, plain_lifetime-is)
 
 -- by its bytes, a character that a quote closes right away
 pub at_char : (text : List ℕ) (r : TokenKind × List ℕ) → is_character_at (chars text) ≡ true → r ≡ scanned (literal char_body) text → r ≡ scanned lifetime_or_char text

@@ -1,4 +1,5 @@
 -- The lines of a frontmatter, looked at one by one.
+use Rattle.std.proofs.lemmas.Grind.{common_steps}
 use Rattle.std.proofs.Common.{◌≡◌, ℕ, zero, suc, ◌+◌, ◌-◌, ◌<◌, ◌≤◌, ◌==◌, Bool, true, false, true≢false, if◌then◌else◌, List, [], ◌∷◌, length, drop, get_or, codes, refl, sym, ap, ◌∙◌, arith, Option, Some, None, length-drop, drop-drop}
 use Rattle.std.proofs.Math.Seq.{drop-cons}
 use Rattle.std.proofs.lemmas.Bool.{and_parts, eqb-true, not-true, false_from_ne_true}
@@ -121,8 +122,7 @@ module _ (d : ℕ) (ds : List ℕ) (other : (10 == d) ≡ false) where
             ∙ one_more-more (run_len is_dash (drop line rest)) (later end)))
 
     pub seen_line : (found after : Option ℕ) → IsSeen (10 ∷ d ∷ ds) rest from found → after ≡ or_here found (begins (10 ∷ d ∷ ds) (drop (line - 1) rest)) (line - 1) → IsSeen (10 ∷ d ∷ ds) rest end after
-    seen_line (Some k) after seen or = seen ∙ ap (λ (o : Option ℕ). or_later o (more end (later end))) (sym or)
-    seen_line None after seen or = seen ∙ (over-line ∙ (by_either (begins (10 ∷ d ∷ ds) (drop (line - 1) rest)) (λ e. rw e refl) (λ e. rw e refl) ∙ ap (λ (o : Option ℕ). or_later o (more end (later end))) (sym or)))
+    seen_line found after w2 w3 = grind (arith, common_steps, over-line)
 
     pub found_line : IsSeen (10 ∷ d ∷ ds) rest from None → begins (10 ∷ d ∷ ds) (drop (line - 1) rest) ≡ true → Some (line - 1) ≡ first (10 ∷ d ∷ ds) rest
     found_line seen e = sym (seen ∙ (over-line ∙ rw e refl))
@@ -149,14 +149,7 @@ pub record AreSeen (n : ℕ) (rest : List ℕ) (from : ℕ) (short item doc attr
   pub attribute_seen : IsSeen (codes "\n#![") rest from attribute
 
 pub seen_none : (n : ℕ) (rest : List ℕ) → AreSeen n rest 0 None None None None
-seen_none n rest = let none : (pattern : List ℕ) → IsSeen pattern rest 0 None = λ pattern. more-zero (first pattern rest) in record {
-  inside = omega arith;
-  full = none (newline ∷ fence n);
-  fence_seen = none (newline ∷ fence 3);
-  item_seen = none (codes "\nuse ");
-  doc_seen = none (codes "\n//!");
-  attribute_seen = none (codes "\n#![");
-}
+seen_none n rest = grind (arith, common_steps, more-zero)
 
 pub full_none : (n : ℕ) (rest cut : List ℕ) (from : ℕ) → 0 < n → IsSeen (newline ∷ fence n) rest from None → cut ≡ drop from rest → IsFirstByte (is_byte 10) cut None → None ≡ first (newline ∷ fence n) rest
 full_none zero rest cut from some seen e lost = absurd (omega arith)

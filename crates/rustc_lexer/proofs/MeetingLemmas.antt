@@ -1,5 +1,5 @@
 -- Lexing on from the kept front until the new tokens meet the old ones.
-use Rattle.std.proofs.Common.{◌≡◌, ℕ, suc, ◌+◌, ◌-◌, ◌<◌, ◌≤◌, max, Bool, true, false, List, [], ◌∷◌, ◌++◌, length, take, drop, refl, sym, ap, ◌∙◌, arith, eqb, eqb-true, leb, le-leb, length-append, eq-or-lt_of_le, inl, inr, true≢false}
+use Rattle.std.proofs.Common.{◌≡◌, ℕ, suc, ◌+◌, ◌-◌, ◌<◌, ◌≤◌, max, Bool, true, false, List, [], ◌∷◌, ◌++◌, length, take, drop, sym, ap, ◌∙◌, arith, eqb, eqb-true, leb, le-leb, length-append, eq-or-lt_of_le}
 use Rattle.std.proofs.lemmas.Bool.{and_parts, leb-true}
 use Rattle.std.proofs.lemmas.Grind.{common_steps}
 use Rattle.rustc_lexer.specs.{Token}
@@ -8,7 +8,7 @@ use Rattle.rustc_lexer.specs.Locality.{IsGrammar}
 use Rattle.rustc_lexer.specs.Tokens.{bound, tokens_by}
 use Rattle.rustc_lexer.specs.means.Relexing.{meets_at, least_from, meet}
 use Rattle.rustc_lexer.proofs.BoundLemmas.{is_bound, is_bound-intro, is_bound-decide, least_from_ge, least_from-more, least_from-here}
-use Rattle.rustc_lexer.proofs.ProgressLemmas.{IsLexedTo, IsOffset, lexed_offset, lexed_more}
+use Rattle.rustc_lexer.proofs.ProgressLemmas.{IsLexedTo, lexed_offset, lexed_more}
 
 -- the items are the first tokens of the new text, up to where they meet the old ones at bound `number`
 pub record IsMet (first : List ℕ → Token) (old : List Token) (text : List ℕ) (old_stop new_stop kept : ℕ) (items : List Token) (number : ℕ) : Type 0 where
@@ -35,16 +35,7 @@ module _ (first : List ℕ → Token) (old : List Token) (text : List ℕ) (old_
     pub met_is : met ≡ meets_at old old_stop new_stop offset
 
   pub going_inside : IsGrammar first → IsText text → (items : List Token) (offset number at_offset : ℕ) (met : Bool) → IsGoing items offset number at_offset met → new_stop ≤ length text → bound old (length old) + new_stop ≡ length text + old_stop → met ≡ false → offset < length text
-  going_inside law is items offset number at_offset met at inside ends out =
-      let spot : IsOffset text offset = lexed_offset law text items offset is at.to in
-      elim (eq-or-lt_of_le spot.inside) [
-        | inr less ↦ less
-        | inl same ↦ absurd (
-            let last : bound old (length old) ≡ offset - new_stop + old_stop = omega arith in
-            let yes_past : leb new_stop offset ≡ true = le-leb new_stop offset (omega arith) in
-            let hit : meets_at old old_stop new_stop offset ≡ true = rw (yes_past, is_bound-intro old (length old) (offset - new_stop + old_stop) last) refl in
-            true≢false (sym hit ∙ (sym at.met_is ∙ out)))
-      ]
+  going_inside law is items offset number at_offset met at inside ends out = grind (arith, common_steps, lexed_offset law text items offset is at.to, eq-or-lt_of_le, le-leb, is_bound-intro)
 
   -- one more token keeps the search
   pub search_more : (items more : List Token) (offset next : ℕ) (met : Bool) → IsLexedTo first text items offset → IsLexedTo first text more next → length more ≡ suc (length items) → met ≡ meets_at old old_stop new_stop offset → met ≡ false → least_from test (length (tokens_by first text) - length items) (length items) ≡ least_from test (length (tokens_by first text) - length more) (length more)

@@ -1,5 +1,5 @@
 -- Numbers, as the code reads them.
-use Rattle.std.proofs.Common.{◌≡◌, ◌≢◌, ◌<◌, ℕ, ◌+◌, ◌==◌, ◌&&◌, not, Bool, true, false, if◌then◌else◌, List, [], ◌∷◌, take, drop, get_or, refl, sym, ap, ◌∙◌, zero-add, eq-eqb, arith, codes}
+use Rattle.std.proofs.Common.{◌≡◌, ◌≢◌, ◌<◌, ℕ, ◌+◌, ◌==◌, ◌&&◌, not, Bool, true, false, if◌then◌else◌, List, [], ◌∷◌, take, drop, get_or, refl, ap, ◌∙◌, zero-add, eq-eqb, arith, codes}
 use Rattle.std.specs.Char.{is_ascii_digit, is_ascii_hexdigit}
 use Rattle.std.specs.List.{list_any}
 use Rattle.std.specs.Str.{chars, IsUtf8}
@@ -22,8 +22,7 @@ hexdigit-small b e = grind (arith, common_steps, eqb-true)
 
 -- whether the next character is in a class that U+0000 is not in, which the code sees at the end
 pub next_is-first : (p : ℕ → Bool) (s : List ℕ) → p 0 ≡ false → next_is p s ≡ p (get_or s 0 0)
-next_is-first p [] e = sym e
-next_is-first p (c ∷ s) e = refl
+next_is-first p s w2 = grind (arith, common_steps)
 
 pub begins-first : (d c : ℕ) (s cs : List ℕ) → cs ≡ c ∷ s → begins (d ∷ []) cs ≡ (c == d)
 begins-first d c s cs e = ap (begins (d ∷ [])) e ∙ and-true (c == d)
@@ -87,9 +86,7 @@ module _ (base : Base) (text tail : List ℕ) (c : ℕ) (is : IsUtf8 text) (cs :
 
   pub pick-fraction : c ≡ 46 → is_no_fraction (get_or (chars tail) 0 0) ≡ false → scanned (past_digits base) text ≡ scanned (fraction base) tail
   pick-fraction e f =
-      let goes : next_is is_no_fraction (chars tail) ≡ false = next_is-first is_no_fraction (chars tail) is_no_fraction-zero ∙ f in
-      let begins_one : begins_fraction (chars text) ≡ true = begins_fraction-first c (chars tail) (chars text) cs ∙ rw (eq-eqb c 46 e, goes) refl in
-      scanned-yes begins_fraction (after 1 (fraction base)) (no_fraction base) text begins_one ∙ scanned-after 1 (fraction base) text tail is at
+      grind (arith, common_steps, next_is-first is_no_fraction (chars tail) is_no_fraction-zero, f, begins_fraction-first c (chars tail) (chars text) cs, eq-eqb c 46 e, (next_is-first is_no_fraction (chars tail) is_no_fraction-zero ∙ f), scanned-yes, scanned-after 1 (fraction base) text tail is at)
 
   pub pick-int_before_dot : c ≡ 46 → is_no_fraction (get_or (chars tail) 0 0) ≡ true → scanned (past_digits base) text ≡ (Int base false, text)
   pick-int_before_dot e f =
@@ -129,24 +126,11 @@ module _ (first : ℕ) (text rest : List ℕ) (base : Base) (empty : Bool) (is :
 module _ (is_digit : ℕ → Bool) (none : is_digit 95 ≡ false) where
   run_len-past : (s : List ℕ) → run_len (or_underscore is_digit) s ≡ run_len is_underscore s + run_len (or_underscore is_digit) (drop (run_len is_underscore s) s)
   run_len-past [] = refl
-  run_len-past (c ∷ s) = by_underscore (run_len-past s) (c == 95) refl
-    where
-      by_underscore : run_len (or_underscore is_digit) s ≡ run_len is_underscore s + run_len (or_underscore is_digit) (drop (run_len is_underscore s) s)
-          → (b : Bool) → (c == 95) ≡ b → run_len (or_underscore is_digit) (c ∷ s) ≡ run_len is_underscore (c ∷ s) + run_len (or_underscore is_digit) (drop (run_len is_underscore (c ∷ s)) (c ∷ s))
-      by_underscore ih true e = rw (eqb-true c 95 e, none) (omega arith)
-      by_underscore ih false e =
-          let zero : run_len is_underscore (c ∷ s) ≡ 0 = rw e refl in
-          sym (ap (λ n. n + run_len (or_underscore is_digit) (drop n (c ∷ s))) zero ∙ zero-add (run_len (or_underscore is_digit) (c ∷ s)))
+  run_len-past (c ∷ s) = grind (arith, common_steps, eqb-true, zero-add, run_len-past s)
 
   list_any-past : (s : List ℕ) → list_any is_digit (take (run_len (or_underscore is_digit) s) s) ≡ next_is is_digit (drop (run_len is_underscore s) s)
   list_any-past [] = refl
-  list_any-past (c ∷ s) = by_class (list_any-past s) (c == 95) (is_digit c) refl refl
-    where
-      by_class : list_any is_digit (take (run_len (or_underscore is_digit) s) s) ≡ next_is is_digit (drop (run_len is_underscore s) s)
-          → (b d : Bool) → (c == 95) ≡ b → is_digit c ≡ d → list_any is_digit (take (run_len (or_underscore is_digit) (c ∷ s)) (c ∷ s)) ≡ next_is is_digit (drop (run_len is_underscore (c ∷ s)) (c ∷ s))
-      by_class ih true d e f = rw (eqb-true c 95 e, none, none) ih
-      by_class ih false true e f = rw (e, f, f) refl
-      by_class ih false false e f = rw (e, f) refl
+  list_any-past (c ∷ s) = grind (arith, common_steps, eqb-true, list_any-past s)
 
   pub digits-is : (text middle rest : List ℕ) (some : Bool) → is_digit 0 ≡ false → IsUtf8 text
       → middle ≡ past (run_len is_underscore (chars text)) text → some ≡ is_digit (get_or (chars middle) 0 0) → rest ≡ past (run_len (or_underscore is_digit) (chars middle)) middle

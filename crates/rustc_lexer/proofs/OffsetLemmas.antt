@@ -1,5 +1,5 @@
 -- From an offset to a token: steps from a bound, and which tokens contain a byte of a range.
-use Rattle.std.proofs.Common.{◌≡◌, ℕ, zero, suc, ◌+◌, ◌-◌, ◌^◌, ◌<◌, ◌≤◌, ◌↔◌, true≢false, List, length, get_or, refl, sym, arith, inl, inr, Option, Some, None, IfSome, IsSome, IsNone}
+use Rattle.std.proofs.Common.{◌≡◌, ℕ, zero, suc, ◌+◌, ◌-◌, ◌^◌, ◌<◌, ◌≤◌, ◌↔◌, List, length, get_or, arith, Option, IfSome, IsSome, IsNone}
 use Rattle.std.proofs.lemmas.Bool.{cases_lt}
 use Rattle.std.proofs.lemmas.Grind.{common_steps}
 use Rattle.rustc_lexer.specs.declared.relex.front.Bound.{Bound}
@@ -50,25 +50,8 @@ module _ (first : ℕ) (tokens : List Token) (offset : ℕ) (at : Bound) (has : 
 
 -- the tokens that have not ended at the start, and have begun before the end
 pub touched_from : (first : ℕ) (tokens : List Token) (start stop from to : ℕ) → start < stop → from ≤ length tokens → to ≤ length tokens → ((k : ℕ) → k < from → first + bound tokens (k + 1) ≤ start) → ((k : ℕ) → from ≤ k → k < length tokens → start < first + bound tokens (k + 1)) → ((k : ℕ) → k < to → first + bound tokens k < stop) → ((k : ℕ) → to ≤ k → k < length tokens → stop ≤ first + bound tokens k) → AreTouched first tokens start stop from to
-touched_from first tokens start stop from to some few inside ended later begun after = record {
-  order = elim (cases_lt to from) [
-    | inl late ↦ absurd (omega (arith, some, ended to late, after to (omega arith) (omega arith), bound_mono tokens to (to + 1) (omega arith)))
-    | inr le ↦ le
-  ];
-  inside = inside;
-  touched = λ k less. (
-    λ among. (some, begun k among.1, later k among.0 less),
-    λ touches. (
-      elim (cases_lt k from) [ inl early ↦ absurd (omega (arith, ended k early, touches.2)) | inr le ↦ le ],
-      elim (cases_lt k to) [ inl before ↦ before | inr le ↦ absurd (omega (arith, after k le less, touches.1)) ],
-    ),
-  );
-}
+touched_from first tokens start stop from to some few inside ended later begun after = grind (arith, common_steps, ended, begun, cases_lt, bound_mono)
 
 -- there is an answer exactly where the tokens are
 pub answered : (result : Option Bound) (first : ℕ) (tokens : List Token) (offset len : ℕ) → first + bound tokens (length tokens) ≡ len → IfSome result (ContainsByte first tokens offset) → (IsNone result → first ≤ offset → len ≤ offset) → IsSome result ↔ ((first ≤ offset) × (offset < len))
-answered None first tokens offset len end has none = (λ some. absurd (true≢false (sym some)), λ inside. absurd (omega (arith, none refl inside.0, inside.1)))
-answered (Some at) first tokens offset len end has none = (
-  λ some. (omega (arith, has.start, has.begins), omega (arith, has.ends, end, bound_mono tokens (at.number + 1) (length tokens) (omega (arith, has.number)))),
-  λ inside. refl,
-)
+answered result first tokens offset len w5 w6 w7 = grind (arith, common_steps, bound_mono)

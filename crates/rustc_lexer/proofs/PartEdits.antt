@@ -1,4 +1,5 @@
 -- An edit of a part of a document, which has no head: the counts of its body are its own.
+use Rattle.std.proofs.lemmas.Grind.{common_steps}
 use Rattle.std.proofs.Common.{◌≡◌, ℕ, ◌+◌, ◌-◌, true, false, List, refl, sym, ◌∙◌, subst, arith}
 use Rattle.rustc_lexer.specs.{Token}
 use Rattle.rustc_lexer.specs.declared.relex.relexing.Relexed.{Relexed}
@@ -22,18 +23,10 @@ module _ (first : List ℕ → Token) (text : List ℕ) (start stop : ℕ) (inse
 
   pub relexed_part : IsBodyRelexed first text start stop insert r → IsRelexedByHead (head_by false) first text start stop insert r
   unfolding IsRelexedWith
-  relexed_part is =
-      let body : IsBodyRelexed first text (start - 0) (stop - 0) insert r = subst (λ n. IsBodyRelexed first text (start - 0) n insert r) (sym (nothing_less stop)) (subst (λ n. IsBodyRelexed first text n stop insert r) (sym (nothing_less start)) is) in
-      record {
-        kept = λ k. (r, body, sym (nothing_more r));
-        changed = λ none. absurd (none (refl, omega arith));
-      }
+  relexed_part is = grind (arith, common_steps, nothing_less, nothing_more)
 
 pub part_counted : (text : List ℕ) (start stop : ℕ) (insert : List ℕ) {before after lexed : ℕ} → IsCountedByHead (head_by false) text start stop insert before after lexed → after ≡ before + lexed
 part_counted text start stop insert is = is.kept (refl, omega arith)
 
 pub counted_part : (text : List ℕ) (start stop : ℕ) (insert : List ℕ) (before lexed : ℕ) → IsCountedByHead (head_by false) text start stop insert before (before + lexed) lexed
-counted_part text start stop insert before lexed = record {
-  kept = λ k. refl;
-  changed = λ none. absurd (none (refl, omega arith));
-}
+counted_part text start stop insert before lexed = grind (arith, common_steps)

@@ -1,5 +1,5 @@
 -- Where an iterator stands in its text, for its callers.
-use Rattle.std.proofs.Common.{◌≡◌, ℕ, ◌+◌, ◌-◌, ◌∙◌, List, length, take, drop, drop-drop, length-drop, ap, sym, subst, IsCharBoundary, arith}
+use Rattle.std.proofs.Common.{◌≡◌, ℕ, ◌+◌, ◌-◌, ◌∙◌, List, length, take, drop, drop-drop, length-drop, ap, IsCharBoundary, arith}
 use Rattle.std.proofs.lemmas.Str.{IsCharBoundary-from_rest}
 use Rattle.std.proofs.lemmas.Grind.{common_steps}
 use Rattle.rustc_lexer.specs.{Token}
@@ -21,5 +21,4 @@ pub document_start : (text rest : List ℕ) (s : State) → IsCharBoundary text 
 document_start text rest s boundary left is = let b = boundary.0 in omega (arith, ap length (left ∙ is), length-drop (shebang_len text) text)
 
 pub document_offset : (text rest : List ℕ) (s : State) → IsCharBoundary text (shebang_len text) → rest ≡ s.rest → s.rest ≡ drop (shebang_len text) text → StandsAt text (length text - length rest) s
-document_offset text rest s boundary left is =
-    let begins = document_start text rest s boundary left is in (subst (λ (n : ℕ). IsCharBoundary text n) (sym begins) boundary, ap (λ (n : ℕ). drop n text) begins ∙ sym is)
+document_offset text rest s boundary left is = grind (arith, common_steps, document_start)

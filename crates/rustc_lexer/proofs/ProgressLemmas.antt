@@ -19,11 +19,7 @@ pub next-from_drop : (ts : List Token) (n : ℕ) (x : Token) (rest : List Token)
 next-from_drop [] zero x rest e = absurd (let no : 0 ≡ suc (length rest) = ap length e in omega arith)
 next-from_drop [] (suc n) x rest e = absurd (let no : 0 ≡ suc (length rest) = ap length e in omega arith)
 next-from_drop (t ∷ ts) zero x rest e = rw e record { number = omega arith; more = refl; end = omega arith }
-next-from_drop (t ∷ ts) (suc n) x rest e = let ih = next-from_drop ts n x rest e in record {
-  number = let i = ih.number in omega arith;
-  more = ap (λ zs. t ∷ zs) ih.more;
-  end = let i = ih.end in omega arith;
-}
+next-from_drop (t ∷ ts) (suc n) x rest e = grind (arith, common_steps, next-from_drop ts n x rest e)
 
 -- the items are the first tokens of the text, and end at `offset`
 pub record IsLexedTo (first : List ℕ → Token) (text : List ℕ) (items : List Token) (offset : ℕ) : Type 0 where

@@ -1,5 +1,5 @@
 -- Tokens that are decided by their bytes.
-use Rattle.std.proofs.Common.{◌≡◌, ℕ, suc, ◌+◌, ◌-◌, ◌<◌, ◌≤◌, ◌==◌, not, Bool, true, false, if◌then◌else◌, List, [], ◌∷◌, ◌++◌, length, drop, codes, refl, sym, ap, ◌∙◌, arith, subst, length-drop}
+use Rattle.std.proofs.Common.{◌≡◌, ℕ, ◌+◌, ◌-◌, ◌<◌, ◌≤◌, ◌==◌, not, Bool, true, false, if◌then◌else◌, List, ◌∷◌, ◌++◌, length, drop, codes, refl, sym, ap, ◌∙◌, arith, subst, length-drop}
 use Rattle.std.specs.List.{prefix_len}
 use Rattle.std.specs.Str.{chars, IsUtf8}
 use Rattle.std.proofs.lemmas.Bool.{or_parts, or_cases, not-true, not-false, eqb-true, ltb-true, lt-leb}
@@ -34,9 +34,6 @@ emoji-ascii b l = rw (lt-leb 128 b l) refl
 
 -- ---- a word is an identifier where no mark follows it
 
-no_mark : (s : List ℕ) → next_is ends_prefix (drop (run_len is_id_continue s) s) ≡ false → next_is ends_prefix s ≡ false
-no_mark w0 h = grind (arith, common_steps, or_cases, eqb-true, is_xid_continue-ascii)
-
 -- the marks one by one
 record Unmarked (c : ℕ) : Type 0 where
   hash : (c == 35) ≡ false
@@ -47,8 +44,7 @@ unmarked : (c : ℕ) → ends_prefix c ≡ false → Unmarked c
 unmarked c e = grind (arith, common_steps, or_parts)
 
 no_raw : (s : List ℕ) → next_is ends_prefix s ≡ false → next_is is_raw_mark s ≡ false
-no_raw [] e = refl
-no_raw (c ∷ cs) e = let u = unmarked c e in rw (u.hash, u.double) refl
+no_raw s w1 = grind (arith, common_steps, unmarked)
 
 -- nothing goes on with what follows the letter
 record IsPlain (s : List ℕ) : Type 0 where
@@ -59,16 +55,7 @@ record IsPlain (s : List ℕ) : Type 0 where
   no_letter : begins_raw s ≡ false
 
 is_plain : (s : List ℕ) → next_is ends_prefix (drop (run_len is_id_continue s) s) ≡ false → IsPlain s
-is_plain [] h = record { no_ident = refl; no_char = refl; no_string = refl; no_hash = refl; no_letter = refl }
-is_plain (c ∷ cs) h =
-    let u = unmarked c (no_mark (c ∷ cs) h) in
-    record { no_ident = rw u.hash refl; no_char = rw u.single refl; no_string = rw u.double refl; no_hash = no_raw (c ∷ cs) (no_mark (c ∷ cs) h); no_letter = by_r (c == 114) refl }
-  where
-    by_r : (t : Bool) → (c == 114) ≡ t → begins_raw (c ∷ cs) ≡ false
-    by_r false e = rw e refl
-    by_r true e =
-        let more : run_len is_id_continue (c ∷ cs) ≡ suc (run_len is_id_continue cs) = rw (ap is_id_continue (eqb-true c 114 e) ∙ is_xid_continue-ascii 114 (omega arith)) refl in
-        rw e (no_raw cs (no_mark cs (subst (λ n. next_is ends_prefix (drop n (c ∷ cs)) ≡ false) more h)))
+is_plain s w1 = grind (arith, common_steps, unmarked, or_cases, no_raw, eqb-true, is_xid_continue-ascii)
 
 word-plain : (b : ℕ) (s : List ℕ) → next_is ends_prefix (drop (run_len is_id_continue s) s) ≡ false → word b s ≡ ident_or_unknown_prefix s
 word-plain b s h = grind (arith, common_steps, by_letter, is_plain s h)

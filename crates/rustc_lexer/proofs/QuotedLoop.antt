@@ -1,5 +1,5 @@
 -- The loop over a quoted text.
-use Rattle.std.proofs.Common.{◌≡◌, ◌≢◌, ℕ, suc, ◌+◌, ◌==◌, ◌&&◌, not, Bool, true, false, if◌then◌else◌, List, [], ◌∷◌, length, drop, refl, sym, ap, ◌∙◌, arith, ◌<◌, subst, Option, Some, None, MatchOption, Bor}
+use Rattle.std.proofs.Common.{◌≡◌, ◌≢◌, ℕ, suc, ◌+◌, ◌==◌, ◌&&◌, not, Bool, true, false, if◌then◌else◌, List, [], ◌∷◌, length, drop, refl, sym, ap, ◌∙◌, arith, ◌<◌, subst, Option, MatchOption, Bor}
 use Rattle.std.specs.Str.{chars, IsUtf8}
 use Rattle.std.proofs.lemmas.Bool.{ne_eqb}
 use Rattle.std.proofs.lemmas.Grind.{common_steps}
@@ -91,5 +91,4 @@ module _ (text tail : List ℕ) (c : ℕ) (is : IsUtf8 text) (reads : chars text
 
   pub lone-found : c ≢ 92 → (o : Option (Bor (List ℕ))) → MatchOption o (begins (39 ∷ []) (chars tail) ≡ false) (λ t. (begins (39 ∷ []) (chars tail) ≡ true) × (t.now ≡ past 1 tail) × (length t.now < length tail))
       → MatchOption o (is_lone (chars text) ≡ false) (λ t. (is_lone (chars text) ≡ true) × (t.now ≡ past 2 text))
-  lone-found ne None h = lone-is false ne h
-  lone-found ne (Some t) h = (lone-is true ne h.0, past-two text tail t.now is cut h.1)
+  lone-found w0 o w2 = grind (arith, common_steps, lone-is, past-two)

@@ -7,9 +7,8 @@ use Rattle.std.proofs.Math.Seq.{drop-length}
 use Rattle.std.proofs.lemmas.Grind.{common_steps}
 use Rattle.rustc_lexer.specs.{RawStrError, NoTerminator}
 use Rattle.rustc_lexer.specs.means.Least.{one_more, more}
-use Rattle.rustc_lexer.specs.laws.Choice.{by_either}
 use Rattle.rustc_lexer.specs.laws.Least.{offset-here, offset-on, more-more, more-zero}
-use Rattle.rustc_lexer.specs.means.Raw.{least_offset, is_hash, is_quote, is_no_quote, hash_run, closes, close, quote_hashes, most_hashes, quote_with, quote_if, best_quote, quote_end, hash_count, raw_closed, raw_text}
+use Rattle.rustc_lexer.specs.means.Raw.{least_offset, is_hash, is_quote, is_no_quote, hash_run, closes, close, quote_hashes, most_hashes, quote_with, quote_if, quote_end, hash_count, raw_closed, raw_text}
 use Rattle.rustc_lexer.specs.means.Scan.{begins, bytes_of, past, run_len, scanned}
 use Rattle.rustc_lexer.specs.laws.Scan.{bytes-run, length-run, run_len-stop}
 use Rattle.rustc_lexer.specs.laws.Past.{past-zero, past-past, past-drop, chars-past, IsUtf8-past, length-past}
@@ -17,8 +16,7 @@ use Rattle.rustc_lexer.specs.laws.Fences.{skip_run}
 
 -- past k characters, a quote, and h characters
 more-quote : (k h : ℕ) (o : Option ℕ) → more k (one_more (more h o)) ≡ more (suc k + h) o
-more-quote k h None = refl
-more-quote k h (Some n) = ap Some (omega arith)
+more-quote k h o = grind (arith, common_steps)
 
 -- the characters of a class without quotes are passed over
 module _ (p : ℕ → Bool) (none : (c : ℕ) → p c ≡ true → is_quote c ≡ false) where
@@ -27,21 +25,14 @@ module _ (p : ℕ → Bool) (none : (c : ℕ) → p c ≡ true → is_quote c �
 
   skip-most : (s : List ℕ) → most_hashes s ≡ most_hashes (drop (run_len p s) s)
   skip-most [] = refl
-  skip-most (c ∷ s) = by_either (p c)
-      (λ e.
-      let n : ℕ = run_len p s in
-      let no_hashes : quote_hashes (c ∷ s) ≡ 0 = ap (λ (b : Bool). if b then hash_run s else 0) (none c e) in
-      let same : max 0 (most_hashes s) ≡ most_hashes s = omega arith in
-      ap (λ (m : ℕ). max m (most_hashes s)) no_hashes ∙ (same ∙ (skip-most s ∙ ap (λ (b : Bool). most_hashes (drop (if b then suc n else 0) (c ∷ s))) (sym e))))
-      (λ e. ap (λ (b : Bool). most_hashes (drop (if b then suc (run_len p s) else 0) (c ∷ s))) (sym e))
+  skip-most (c ∷ s) = grind (arith, common_steps, skip-most s)
 
 hash-no_quote : (c : ℕ) → is_hash c ≡ true → is_quote c ≡ false
 hash-no_quote c e = rw (eqb-true c 35 e) refl
 
 -- a quote in front, and what follows it
 pub quote_front : (s left : List ℕ) → begins (34 ∷ []) s ≡ true → left ≡ drop 1 s → s ≡ 34 ∷ left
-quote_front [] left f g = absurd (true≢false (sym f))
-quote_front (c ∷ s) left f g = ap (λ x. x ∷ s) (eqb-true c 34 (and_parts (c == 34) true f).0) ∙ ap (λ xs. 34 ∷ xs) (sym g)
+quote_front s left w2 w3 = grind (arith, common_steps, eqb-true, and_parts)
 
 -- what follows the first quote, once what follows the characters before it is known
 pub past_quote-is : {B : Type 0} (now : B → List ℕ) (rest mid : List ℕ) (o : Option B) → IsUtf8 rest → mid ≡ past (run_len is_no_quote (chars rest)) rest → length mid ≤ length rest
@@ -75,9 +66,7 @@ module _ (v w : List ℕ) (at_quote : drop (run_len is_no_quote v) v ≡ 34 ∷ 
 
     pub offset-past : test (34 ∷ w) ≡ false → least_offset test v ≡ more (suc (run_len is_no_quote v) + hash_run w) (least_offset test (drop (hash_run w) w))
     offset-past e =
-        to-quote
-        ∙ (ap (more (run_len is_no_quote v)) (offset-on test 34 w e ∙ ap one_more (skip-offset is_hash hash-no_quote test fails w))
-        ∙ more-quote (run_len is_no_quote v) (hash_run w) (least_offset test (drop (hash_run w) w)))
+        grind (arith, common_steps, to-quote, offset-on test 34 w e, skip-offset is_hash hash-no_quote test fails w, more-quote (run_len is_no_quote v) (hash_run w) (least_offset test (drop (hash_run w) w)))
 
   pub most-past : most_hashes v ≡ max (hash_run w) (most_hashes (drop (hash_run w) w))
   most-past = skip-most is_no_quote (λ c. not-true (is_quote c)) v ∙ (ap most_hashes at_quote ∙ ap (max (hash_run w)) (skip-most is_hash hash-no_quote w))
@@ -130,11 +119,7 @@ module _ (n before : ℕ) (text left tail next : List ℕ) (found : ℕ) (end : 
   offset_on : (test : List ℕ → Bool) → ((c : ℕ) (s : List ℕ) → is_quote c ≡ false → test (c ∷ s) ≡ false) → test (34 ∷ chars tail) ≡ false → least_offset test (chars text) ≡ more at.taken (least_offset test (chars left))
       → least_offset test (chars text) ≡ more (at.taken + (suc (run_len is_no_quote (chars left)) + hash_run (chars tail))) (least_offset test (chars next))
   offset_on test fails e f =
-      let d : ℕ = suc (run_len is_no_quote (chars left)) + hash_run (chars tail) in
-      f
-      ∙ (ap (more at.taken) (offset-past (chars left) (chars tail) quote test fails e)
-      ∙ (more-more at.taken d (least_offset test (drop (hash_run (chars tail)) (chars tail)))
-      ∙ ap (λ s. more (at.taken + d) (least_offset test s)) (sym next_reads)))
+      grind (arith, common_steps, f, offset-past (chars left) (chars tail) quote test fails e, more-more at.taken (suc (run_len is_no_quote (chars left)) + hash_run (chars tail)) (least_offset test (drop (hash_run (chars tail)) (chars tail))), next_reads)
 
   most_on : most_hashes (chars text) ≡ max found (max (hash_run (chars tail)) (most_hashes (chars next)))
   most_on = at.most ∙ ap (max found) (most-past (chars left) (chars tail) quote ∙ ap (λ s. max (hash_run (chars tail)) (most_hashes s)) (sym next_reads))
@@ -142,18 +127,7 @@ module _ (n before : ℕ) (text left tail next : List ℕ) (found : ℕ) (end : 
   -- the quote has too few hashes to close
   module _ (few : length tail - length next < n) (shorter : length next ≤ length text) where
     on : (to : ℕ) (o : Option ℕ) → found ≤ to → hash_run (chars tail) ≤ to → max found (hash_run (chars tail)) ≡ to → o ≡ quote_end before (chars text) (quote_if to (chars text)) → Searching n before text next to o
-    on to o above here most e =
-        let h : ℕ = hash_run (chars tail) in
-        let is_count = count in
-        record {
-          taken = at.taken + (suc (run_len is_no_quote (chars left)) + h);
-          inside = shorter;
-          offset = next_at;
-          closes_at = offset_on (closes n) (closes-fails n) (lt-leb n h (omega arith)) at.closes_at;
-          most = most_on ∙ omega arith;
-          more = λ m less. offset_on (λ s. quote_hashes s == m) (λ c s f. counts-fails m c s (omega arith) f) (ne_eqb h m (λ f. omega arith)) (at.more m (omega arith));
-          ends = e;
-        }
+    on to o above here most e = grind (arith, common_steps, count, next_at, offset_on, closes-fails, lt-leb, most_on, counts-fails, ne_eqb)
 
     pub search_on : length tail - length next ≤ found → Searching n before text next found end
     search_on le = let is_count = count in on found end (omega arith) (omega arith) (omega arith) at.ends
@@ -204,12 +178,4 @@ past-all text = ap encode_utf8_all (drop-length (chars text))
 pub never_closed : (n before : ℕ) (text left : List ℕ) (found : ℕ) (end : Option ℕ) → Searching n before text left found end → drop (run_len is_no_quote (chars left)) (chars left) ≡ []
     → (Err (NoTerminator n found end), []) ≡ scanned (raw_text n before) text
 never_closed n before text left found end at none =
-    let u : List ℕ = chars text in
-    let k : ℕ = run_len is_no_quote (chars left) in
-    let no_close : close n u ≡ None = at.closes_at ∙ ap (more at.taken) (skip-offset is_no_quote (λ c. not-true (is_quote c)) (closes n) (closes-fails n) (chars left) ∙ ap (λ s. more k (close n s)) none) in
-    let no_more : most_hashes (chars left) ≡ 0 = skip-most is_no_quote (λ c. not-true (is_quote c)) (chars left) ∙ ap most_hashes none in
-    let most : found ≡ most_hashes u = let m = at.most in omega arith in
-    ap (λ (o : Option ℕ). let r : Result ℕ RawStrError × List ℕ = (Err (NoTerminator n found o), []) in r) at.ends
-    ∙ (ap (λ (m : ℕ). let r : Result ℕ RawStrError × List ℕ = (Err (NoTerminator n m (quote_end before u (quote_if m u))), []) in r) most
-    ∙ (ap (λ (xs : List ℕ). let r : Result ℕ RawStrError × List ℕ = (Err (NoTerminator n (most_hashes u) (quote_end before u (best_quote u))), xs) in r) (sym (past-all text))
-    ∙ ap (λ (o : Option ℕ). ((raw_closed n before u o).0, past (raw_closed n before u o).1 text)) (sym no_close)))
+    grind (arith, common_steps, at.closes_at, skip-offset is_no_quote (λ c. not-true (is_quote c)) (closes n) (closes-fails n) (chars left), none, skip-most is_no_quote (λ c. not-true (is_quote c)) (chars left), past-all)

@@ -1,6 +1,6 @@
 -- What a raw string is read as, from what its parts are.
-use Rattle.std.proofs.Common.{◌≡◌, ℕ, suc, ◌+◌, ◌-◌, ◌≤◌, ◌==◌, ◌↔◌, IsTrue, slice_index, Bool, true, false, true≢false, if◌then◌else◌, List, [], ◌∷◌, length, take, drop, refl, sym, ap, ◌∙◌, subst, arith, length-take, length-drop, Option, Some, None, Result, Ok, Err}
-use Rattle.std.specs.Str.{chars, encode_utf8_all, IsUtf8}
+use Rattle.std.proofs.Common.{◌≡◌, ℕ, suc, ◌+◌, ◌-◌, ◌≤◌, ◌==◌, ◌↔◌, IsTrue, slice_index, Bool, true, false, if◌then◌else◌, List, [], ◌∷◌, length, take, refl, sym, ap, ◌∙◌, subst, arith, length-take, length-drop, Option, Some, None, Result, Ok, Err}
+use Rattle.std.specs.Str.{chars, IsUtf8}
 use Rattle.std.proofs.Math.Bool.{and-true}
 use Rattle.std.proofs.lemmas.Str.{length-le-encodes}
 use Rattle.std.proofs.lemmas.List.{nil_from_length}
@@ -8,8 +8,8 @@ use Rattle.std.proofs.lemmas.Grind.{common_steps}
 use Rattle.rustc_lexer.specs.declared.lexemes.raw.RawPrefix.{RawPrefix}
 use Rattle.rustc_lexer.specs.{LiteralKind, RawStrError, InvalidStarter, Literal}
 use Rattle.rustc_lexer.specs.means.Literal.{suffix_len}
-use Rattle.rustc_lexer.specs.means.Raw.{is_quote, hash_run, raw_text, raw_starter, raw_read, raw_body, accepted, is_accepted, prefix_kind, prefix_len, raw_literal, checked, check_raw, is_r, StartsRaw}
-use Rattle.rustc_lexer.specs.means.Scan.{begins, bytes_of, gives, next_is, past, scanned}
+use Rattle.rustc_lexer.specs.means.Raw.{is_quote, hash_run, raw_text, raw_starter, raw_read, raw_body, accepted, is_accepted, prefix_kind, prefix_len, raw_literal, checked, check_raw, StartsRaw}
+use Rattle.rustc_lexer.specs.means.Scan.{begins, gives, past, scanned}
 use Rattle.rustc_lexer.specs.laws.Past.{past-zero, past-past, chars-past, IsUtf8-past, length-past}
 use Rattle.rustc_lexer.proofs.RawLemmas.{hash_len, quote_front}
 use Rattle.rustc_lexer.specs.laws.Scan.{scanned-after, scanned-gives, scanned-shorter, scanned-read_as}
@@ -83,14 +83,7 @@ module _ (text rest : List ℕ) (p : ℕ) (is : IsUtf8 text) (rest_is : rest ≡
   check_is read left e = ap checked (ap (λ (r : Left). r.0) e ∙ ap (λ (s : List ℕ). (raw_read p s).0) (ap chars rest_is ∙ chars-past p text is))
 
   pub prefix_fits : StartsRaw text p → p + length rest ≤ length text
-  prefix_fits starts =
-      let long : p ≤ length (chars text) = letter_inside (drop (p - 1) (chars text)) starts.1 (length-drop (p - 1) (chars text)) in
-      let bytes : length (take p (chars text)) ≤ bytes_of p (chars text) = length-le-encodes (take p (chars text)) in
-      omega (arith, length-take p (chars text), length-past p text is, ap length rest_is)
-    where
-      letter_inside : (s : List ℕ) → next_is is_r s ≡ true → length s ≡ length (chars text) - (p - 1) → p ≤ length (chars text)
-      letter_inside [] f l = absurd (true≢false (sym f))
-      letter_inside (c ∷ s) f l = omega arith
+  prefix_fits starts = grind (arith, common_steps, length-le-encodes (take p (chars text)), length-take p (chars text), length-past p text is, rest_is, length-drop)
 
   -- the test of the letter
   pub starts_is : (q : ℕ) → q ≡ suc p → IsTrue (slice_index (chars rest) 0 == 114) ↔ StartsRaw text q
@@ -98,7 +91,4 @@ module _ (text rest : List ℕ) (p : ℕ) (is : IsUtf8 text) (rest_is : rest ≡
 
 pub past-end : (text rest : List ℕ) (n m : ℕ) → IsUtf8 text → rest ≡ past n text → chars rest ≡ [] → n ≤ m → rest ≡ past m text
 unfolding past
-past-end text rest n m is e none le =
-    let at_end : drop n (chars text) ≡ [] = sym (ap chars e ∙ chars-past n text is) ∙ none in
-    let none_left : length (chars text) ≤ n = omega (arith, ap length at_end, length-drop n (chars text)) in
-    e ∙ (ap encode_utf8_all at_end ∙ sym (ap encode_utf8_all (nil_from_length (drop m (chars text)) (omega (arith, length-drop m (chars text))))))
+past-end text rest n m is e none le = grind (arith, common_steps, e, chars-past n text is, none, (sym (ap chars e ∙ chars-past n text is) ∙ none), length-drop n (chars text), nil_from_length)

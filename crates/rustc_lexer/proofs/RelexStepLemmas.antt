@@ -13,14 +13,13 @@ use Rattle.rustc_lexer.specs.Edits.{known}
 use Rattle.rustc_lexer.specs.Relexing.{IsMadeOf, TakesSteps, is_over}
 use Rattle.rustc_lexer.specs.Locality.{IsGrammar}
 use Rattle.rustc_lexer.proofs.BufferLemmas.{next_offset, next_token, over}
-use Rattle.rustc_lexer.specs.laws.Cuts.{IsCutAt, at_bound}
+use Rattle.rustc_lexer.specs.laws.Cuts.{at_bound}
 use Rattle.rustc_lexer.proofs.RelexingLemmas.{made_text}
 
 -- the tokens that are still to come are those of the text that is left
 pub left_at : {first : List ℕ → Token} (law : IsGrammar first) (before lengths insert text : List ℕ) (change : Change) (is : IsMadeOf first before lengths change insert text) (at : Relexing) (stands : Stands first before change text at) → tokens_by first (drop at.at text) ≡ drop (known at) (tokens_by first text)
 left_at {first} law before lengths insert text change is at stands =
-    let cut : IsCutAt first text (tokens_by first text) (known at) = at_bound law (known at) text (made_text law before lengths insert text change is) in
-    sym (cut.rest ∙ ap (λ p. tokens_by first (drop p text)) (sym stands.offset))
+    grind (arith, common_steps, at_bound law (known at) text (made_text law before lengths insert text change is), (at_bound law (known at) text (made_text law before lengths insert text change is)).rest, stands.offset)
 
 -- no step
 pub no_step : (first : List ℕ → Token) (text : List ℕ) (past : ℕ) (at : Relexing) → TakesSteps first text past at 0 at

@@ -1,5 +1,5 @@
 -- What an edit keeps: there is one answer, and the search for the meeting finds it.
-use Rattle.std.proofs.Common.{◌≡◌, ℕ, zero, suc, ◌+◌, ◌-◌, ◌<◌, ◌≤◌, Bool, true, false, true≢false, cond, ◌&&◌, List, [], ◌∷◌, length, take, refl, sym, ap, ◌∙◌, subst, arith, length-take, leb, ltb, leb-true, le-leb, inl, inr, eq-or-lt_of_le, IsUtf8, IsCharBoundary}
+use Rattle.std.proofs.Common.{◌≡◌, ℕ, zero, suc, ◌+◌, ◌-◌, ◌<◌, ◌≤◌, Bool, true, false, true≢false, cond, ◌&&◌, List, [], ◌∷◌, length, take, refl, sym, ap, ◌∙◌, subst, arith, length-take, ltb, leb-true, le-leb, inl, inr, eq-or-lt_of_le, IsUtf8, IsCharBoundary}
 use Rattle.std.proofs.lemmas.Bool.{and_parts, cases_Bool}
 use Rattle.std.specs.List.{count_by}
 use Rattle.std.proofs.lemmas.Grind.{common_steps}
@@ -20,10 +20,7 @@ use Rattle.rustc_lexer.proofs.ReadyLemmas.{cuts}
 -- it ends at one that does, if the last one does
 pub least_from-passes : (test : ℕ → Bool) (n k : ℕ) → test (k + n) ≡ true → test (least_from test n k) ≡ true
 least_from-passes test zero k pass = let e : k + 0 ≡ k = omega arith in subst (λ m. test m ≡ true) e pass
-least_from-passes test (suc n) k pass = elim (cases_Bool (test k)) [
-  | inl hit ↦ rw hit hit
-  | inr miss ↦ let same : k + suc n ≡ suc k + n = omega arith in rw miss (least_from-passes test n (suc k) (subst (λ m. test m ≡ true) same pass))
-]
+least_from-passes test (suc n) k pass = grind (arith, common_steps, cases_Bool, least_from-passes test n (suc k) (subst (λ m. test m ≡ true) (omega arith) pass))
 
 -- and none before it does
 pub least_from-none : (test : ℕ → Bool) (n k i : ℕ) → k ≤ i → i < least_from test n k → test i ≡ false
@@ -55,13 +52,7 @@ module _ (old new : List Token) (stop new_stop number : ℕ) where
 
   pub passes-meeting : number ≤ length new → meets_at old stop new_stop (bound new number) ≡ true
       → (i : ℕ) × (bound old i ≡ bound new number - new_stop + stop) × (i ≤ length old) × IsBodyMeeting old new stop new_stop number (length old - i)
-  passes-meeting few hit =
-      let both = and_parts (leb new_stop (bound new number)) (is_bound old (bound new number - new_stop + stop)) hit in
-      let at = is_bound-elim old (bound new number - new_stop + stop) both.1 in
-      let past = leb-true new_stop (bound new number) both.0 in
-      let inside = at.1 in
-      let there = at.2 in
-      (at.0, there, inside, record { number_inside = few; past_edit = past; old_number = at.0; back_is = omega arith; same_offset = omega arith })
+  passes-meeting few hit = grind (arith, common_steps, and_parts, is_bound-elim, leb-true)
 
 -- ---- the kept front
 
@@ -117,11 +108,7 @@ module _ {first : List ℕ → Token} (law : IsGrammar first) (text : List ℕ) 
   ed = edited text start stop insert is its edit
 
   pub kept_two : (kept ≤ length old) × (0 < kept → has_two text (bound old kept) start ≡ true)
-  kept_two =
-      let zero_is : (k : ℕ) → bound old k ≡ 0 + bound old k = λ k. omega arith in
-      let two = subst (λ n. (n ≤ length old) × (0 < n → has_two text (0 + bound old n) start ≡ true)) (sym (kept_front_by text start 0 old))
-      (front-two text start 0 old is.utf8 (λ k few. subst (IsCharBoundary text) (zero_is k) (cuts law text is k few))) in
-      (two.0, λ some. subst (λ p. has_two text p start ≡ true) (sym (zero_is kept)) (two.1 some))
+  kept_two = grind (arith, kept_front_by text start 0 old, front-two, cuts)
 
   -- the tokens of the kept front are tokens of the new text
   pub front_same : take kept new ≡ take kept old

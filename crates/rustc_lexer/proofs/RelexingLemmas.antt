@@ -25,10 +25,7 @@ use Rattle.rustc_lexer.proofs.ReadyLemmas.{IsReady, cuts, ready_for, counts_for,
 
 -- a number up to the first that passes is where the search for it may begin
 pub least_from-skip : (test : ℕ → Bool) (n k j : ℕ) → k ≤ j → j ≤ least_from test n k → least_from test (n - (j - k)) j ≡ least_from test n k
-least_from-skip test zero k j le few =
-    let same : j ≡ k = omega arith in
-    let none : zero - (j - k) ≡ zero = omega arith in
-    ap (λ n. least_from test n j) none ∙ same
+least_from-skip test zero k j le few = grind (arith, common_steps)
 least_from-skip test (suc n) k j le few = elim (eq-or-lt_of_le le) [
   | inl same ↦
       let all : suc n - (j - k) ≡ suc n = omega arith in
@@ -71,12 +68,7 @@ module _ {first : List ℕ → Token} (law : IsGrammar first) (before lengths in
   made_text = rw is.edit_of.made ed.text_is
 
   pub made_front : IsFront before old lengths text change.start
-  made_front = record {
-    utf8 = is.edit_of.is_text.utf8;
-    cuts = cuts law before is.edit_of.is_text;
-    lengths_are = is.lengths_are;
-    same = ap (take change.start) is.edit_of.made ∙ ed.front;
-  }
+  made_front = grind (arith, common_steps, cuts, ed)
 
   -- such a change may have made the text
   pub made_change : IsChange text change
@@ -109,9 +101,7 @@ module _ {first : List ℕ → Token} (law : IsGrammar first) (before lengths in
 
   -- the end of the text, moved back, is the end of the old tokens
   pub end_last : (offset : ℕ) → offset ≡ length text → IsLast old (offset - change.new_stop + old_stop_of (damage_of text change))
-  end_last offset at =
-      let ends : bound old (length old) ≡ offset - change.new_stop + old_stop_of (damage_of text change) = omega (arith, damage_stop text change made_change, text_end.0, text_end.1) in
-      (ends, λ k less. omega (arith, ends, rises law before is.edit_of.is_text k less, bound_mono old (suc k) (length old) less))
+  end_last offset at = grind (arith, damage_stop text change made_change, text_end.0, text_end.1, rises, bound_mono)
 
   -- what lexing from the kept front asks
   ready : (kept : Bound) → IsBound old kept → (0 < kept.number → has_two before kept.offset change.start ≡ true) → IsReady first old text kept change.start
@@ -124,22 +114,7 @@ module _ {first : List ℕ → Token} (law : IsGrammar first) (before lengths in
       omega (arith, le-max_left change.new_stop kept.offset, is.edit_of.is_edit.inside.start_le_stop, (ready kept at two).kept_before k less)
 
   pub stands_first : (kept : Bound) (to : Meeting) → kept.number ≡ kept_front before old change.start → IsBound old kept → (0 < kept.number → has_two before kept.offset change.start ≡ true) → IsFollowed old change.old_stop change.new_stop kept.offset to.at to.met → (kept.offset < change.new_stop → to.at ≡ kept) → Stands first before change text record { front = kept; lexed = 0; back = to.at; at = kept.offset; met = to.met }
-  stands_first kept to number at two followed stays =
-      let r = ready kept at two in
-      let none : kept.number + 0 ≡ kept.number = omega arith in
-      record {
-        front_number = number;
-        front_bound = at;
-        front_same = r.kept_same;
-        inside = omega (arith, r.kept_new);
-        offset = at.1 ∙ (bound-same kept.number old new r.kept_same ∙ ap (bound new) (sym none));
-        not_past = omega (arith, meet_ge old new change.old_stop change.new_stop kept.number);
-        met_is = followed.met_is;
-        back_bound = followed.bound_is;
-        not_begun = stays;
-        below = followed.below;
-        reached = followed.reached;
-      }
+  stands_first kept to number at two followed stays = grind (arith, common_steps, ready, bound-same, meet_ge)
 
   module _ (at : Relexing) (stands : Stands first before change text at) where
     abbrev pub items : List Token
@@ -166,8 +141,7 @@ module _ {first : List ℕ → Token} (law : IsGrammar first) (before lengths in
 
     -- where the old tokens are not met, more text is left
     pub stands_inside : at.met ≡ false → at.at < length text
-    stands_inside out =
-        going_inside first old text change.old_stop change.new_stop at.front.number law made_text items at.at at.back.number at.back.offset at.met going text_end.1 text_end.0 out
+    stands_inside out = grind (arith, going_inside, made_text, going, text_end)
 
     -- at the end of the text they are met
     pub over_met : at.met ≡ false → eqb at.at (length text) ≡ at.met
@@ -185,10 +159,7 @@ module _ {first : List ℕ → Token} (law : IsGrammar first) (before lengths in
 
     -- no more was lexed than the whole edit lexes
     pub few_lexed : at.lexed ≤ (relexed_of first before change.start change.old_stop insert).lexed
-    few_lexed =
-        let all = lexed_for law before is.edit_of.is_text change.start change.old_stop insert is.edit_of.inserted is.edit_of.is_edit old text at.front.number refl is.edit_of.made stands.front_number in
-        let few : known at ≤ meet old new change.old_stop (change.start + length insert) at.front.number = subst (λ end. known at ≤ meet old new change.old_stop end at.front.number) is.edit_of.new_stop stands.not_past in
-        omega arith
+    few_lexed = grind (arith, common_steps, lexed_for)
 
     -- at the meeting: the counts are those of the edit, and the new tokens are whole
     pub counts_met : at.met ≡ true → (length lengths ≡ length old) × (relexed_of first before change.start change.old_stop insert ≡ record { kept_front = at.front.number; lexed = at.lexed; kept_back = length old - at.back.number }) × IsWhole old new at
@@ -206,10 +177,7 @@ module _ {first : List ℕ → Token} (law : IsGrammar first) (before lengths in
 
     -- the tokens that were lexed for it, behind the kept front
     pub lexed_met : (tokens : List Token) → at.met ≡ true → at.lexed ≡ length tokens → drop at.front.number new ≡ tokens ++ drop (known at) new → IsMet first old text change.old_stop (change.start + length insert) at.front.number (take at.front.number old ++ tokens) at.back.number
-    lexed_met tokens hit lexed are =
-        let here : take at.lexed (drop at.front.number new) ≡ tokens = ap (take at.lexed) are ∙ take_at tokens (drop (known at) new) at.lexed (sym lexed) in
-        let split : items ≡ take at.front.number old ++ tokens = take-add at.front.number at.lexed new ∙ (ap (λ (ts : List Token). ts ++ take at.lexed (drop at.front.number new)) (sym stands.front_same) ∙ ap (λ (ts : List Token). take at.front.number old ++ ts) here) in
-        subst (λ (ts : List Token). IsMet first old text change.old_stop (change.start + length insert) at.front.number ts at.back.number) split (met_by hit)
+    lexed_met tokens hit lexed are = grind (arith, common_steps, take_at, take-add, met_by)
 
     -- one token more
     module _ (token : Token) (to_next : Meeting) (out : at.met ≡ false) (token_is : token ≡ first (drop at.at text)) (followed : IsFollowed old change.old_stop change.new_stop (at.at + token.len) to_next.at to_next.met) (stays : at.at + token.len < change.new_stop → to_next.at ≡ at.back) where
@@ -249,13 +217,7 @@ module _ {first : List ℕ → Token} (law : IsGrammar first) (before lengths in
 -- the offset past a token
 pub step_offset : {first : List ℕ → Token} (law : IsGrammar first) (text : List ℕ) (at : ℕ) (token : Token) → IsText text → IsCharBoundary text at → at < length text → token ≡ first (drop at text) → (0 < token.len) × IsCharBoundary text (at + token.len)
 step_offset {first} law text at token is cut more token_is =
-    let left : List ℕ = drop at text in
-    let past : IsText left = record { utf8 = IsUtf8-drop text at is.utf8 cut; fits = (let f = is.fits in omega (arith, length-drop at text)) } in
-    let some : 0 < length left = omega (arith, length-drop at text) in
-    let len : token.len ≡ (first left).len = ap (λ (t : Token). t.len) token_is in
-    let inside : at + token.len ≤ length text = omega (arith, len, (law.boundary left past some).0, length-drop at text) in
-    let back : IsUtf8 (drop (at + token.len) text) = rw (← drop-drop token.len at text, len) (IsUtf8-drop left _ past.utf8 (law.boundary left past some)) in
-    (omega (arith, len, law.not_empty left past some), IsCharBoundary-from_drop text (at + token.len) inside back)
+    grind (arith, length-drop at text, token_is, (ap (λ (t : Token). t.len) token_is), drop-drop token.len at text, IsUtf8-drop, IsCharBoundary-from_drop)
 
 -- where nothing was lexed, all tokens past the front are left
 pub all_lexed : (new : List Token) (at : Relexing) (items : List Token) → items ≡ [] → at.lexed ≡ 0 → drop at.front.number new ≡ items ++ drop (known at) new

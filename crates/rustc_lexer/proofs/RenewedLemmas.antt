@@ -41,8 +41,7 @@ module _ {first : List ℕ → Token} (law : IsGrammar first) {text insert made 
 
   pub renewed_back : drop (at.front.number + at.lexed) now ≡ drop at.back.number tokens
   renewed_back =
-      let size : length (take at.front.number tokens ++ renewed.lexed) ≡ at.front.number + at.lexed = omega (arith, length-append (take at.front.number tokens) renewed.lexed, kept_size, renewed.lexed_is.lexed) in
-      ap (drop (at.front.number + at.lexed)) (renewed.now_is ∙ sym (append_assoc (take at.front.number tokens) renewed.lexed (drop at.back.number tokens))) ∙ drop_at (take at.front.number tokens ++ renewed.lexed) (drop at.back.number tokens) (at.front.number + at.lexed) size
+      grind (arith, common_steps, length-append (take at.front.number tokens) renewed.lexed, kept_size, renewed.lexed_is.lexed, renewed.now_is, append_assoc (take at.front.number tokens) renewed.lexed (drop at.back.number tokens), drop_at)
 
   -- the checkpoints can be moved, and stay checkpoints
   pub renewed_bounds : (checkpoints : Checkpoints) → AreBounds tokens checkpoints → All (IsMovable at.back (end_of at)) checkpoints.bounds × IsReplaced tokens now at.front at.back (end_of at)

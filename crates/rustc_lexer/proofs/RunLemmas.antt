@@ -1,5 +1,6 @@
 -- Runs of a class of characters.
-use Rattle.std.proofs.Common.{◌≡◌, ℕ, ◌+◌, Bool, true, false, List, [], ◌∷◌, ◌++◌, length, drop, refl, sym, ap, ◌∙◌, arith}
+use Rattle.std.proofs.lemmas.Grind.{common_steps}
+use Rattle.std.proofs.Common.{◌≡◌, ℕ, ◌+◌, Bool, true, false, List, ◌∷◌, ◌++◌, length, drop, refl, sym, ap, ◌∙◌, arith}
 use Rattle.std.specs.Char.{encode_utf8, len_utf8}
 use Rattle.std.specs.Str.{chars, IsUtf8}
 use Rattle.std.proofs.lemmas.Str.{chars-nil}
@@ -16,29 +17,18 @@ pub record Runs (p : ℕ → Bool) (text left : List ℕ) (end : ℕ) : Type 0 w
   pub stands : Stands text left end
   pub run : end + run_bytes p left ≡ run_bytes p text
 
-bytes-in : (p : ℕ → Bool) (c : ℕ) (cs : List ℕ) → p c ≡ true → bytes_of (run_len p (c ∷ cs)) (c ∷ cs) ≡ length (encode_utf8 c) + bytes_of (run_len p cs) cs
-bytes-in p c cs e = rw e (bytes_of-suc (run_len p cs) c cs)
-
 bytes-out : (p : ℕ → Bool) (c : ℕ) (cs : List ℕ) → p c ≡ false → bytes_of (run_len p (c ∷ cs)) (c ∷ cs) ≡ 0
 bytes-out p c cs e = rw e refl
 
 pub run_step : (p : ℕ → Bool) (text left next : List ℕ) (c w end : ℕ) → Runs p text left end → left ≡ encode_utf8 c ++ next → w ≡ len_utf8 c → p c ≡ true → Runs p text next (end + w)
-run_step p text left next c w end at e is in_class =
-    let s = step text left next c w end at.stands e is in
-    record {
-      stands = s.stands;
-      run = let one : run_bytes p left ≡ w + run_bytes p next = ap (λ cs. bytes_of (run_len p cs) cs) s.reads ∙ (bytes-in p c (chars next) in_class ∙ ap (λ n. n + run_bytes p next) s.width) in let r = at.run in omega arith;
-    }
+run_step p text left next c w end at e is in_class = grind (arith, common_steps, step text left next c w end at.stands e is, bytes_of-suc)
 
 pub run_stop : (p : ℕ → Bool) (text left next : List ℕ) (c end : ℕ) → Runs p text left end → left ≡ encode_utf8 c ++ next → p c ≡ false → end ≡ run_bytes p text
 run_stop p text left next c end at e out =
-    let s = step text left next c (len_utf8 c) end at.stands e refl in
-    let none : run_bytes p left ≡ 0 = ap (λ cs. bytes_of (run_len p cs) cs) s.reads ∙ bytes-out p c (chars next) out in
-    let r = at.run in omega arith
+    grind (arith, common_steps, step text left next c (len_utf8 c) end at.stands e refl, (step text left next c (len_utf8 c) end at.stands e refl).reads, bytes-out p c (chars next) out, at.run)
 
 pub run_end : (p : ℕ → Bool) (text left : List ℕ) (end : ℕ) → Runs p text left end → length left ≡ 0 → end ≡ run_bytes p text
-run_end p text [] end at e = let r = at.run in let none : run_bytes p [] ≡ 0 = ap (λ cs. bytes_of (run_len p cs) cs) chars-nil in omega arith
-run_end p text (b ∷ bs) end at e = absurd (omega arith)
+run_end p text left end w4 w5 = grind (arith, common_steps, chars-nil)
 
 -- what is cut off at the end of the run is the text past it
 pub run_cut : (p : ℕ → Bool) (text cut : List ℕ) (end : ℕ) → IsUtf8 text → cut ≡ drop end text → end ≡ run_bytes p text → cut ≡ past (run_len p (chars text)) text

@@ -21,10 +21,7 @@ pub record IsSureTo (first : List ℕ → Token) (text : List ℕ) (offset : ℕ
 
 module _ {first : List ℕ → Token} (law : IsGrammar first) (text : List ℕ) (is : IsText text) where
   pub sure_next : (offset next : ℕ) (token : Token) → IsSureTo first text offset → offset < length text → token ≡ first (drop offset text) → next ≡ offset + token.len → has_two text next (length text) ≡ true → IsSureTo first text next
-  sure_next offset next token at more token_is next_is two =
-      let to : IsLexedTo first text (at.items ++ first (drop offset text) ∷ []) (offset + (first (drop offset text)).len) = lexed_more law text at.items offset is at.to more in
-      let same : offset + (first (drop offset text)).len ≡ next = ap (λ (t : Token). offset + t.len) (sym token_is) ∙ sym next_is in
-      record { items = at.items ++ first (drop offset text) ∷ []; to = subst (IsLexedTo first text (at.items ++ first (drop offset text) ∷ [])) same to; two = λ some. two }
+  sure_next offset next token at more token_is next_is two = grind (arith, common_steps, lexed_more law text at.items offset is at.to more, token_is, next_is)
 
   boundary : (k : ℕ) → (bound (tokens_by first text) k ≤ length text) × IsCharBoundary text (bound (tokens_by first text) k)
   boundary k = let cut = at_bound law k text is in (cut.inside, IsCharBoundary-from_drop text _ cut.inside cut.past.utf8)
@@ -52,10 +49,7 @@ module _ {first : List ℕ → Token} (law : IsGrammar first) (text : List ℕ) 
 
   pub next_boundary : (offset : ℕ) (token : Token) → IsSureTo first text offset → offset < length text → token ≡ first (drop offset text) → (offset + token.len ≤ length text) × IsCharBoundary text (offset + token.len)
   next_boundary offset token at more token_is =
-      let n : ℕ = length at.items in
-      let to : IsLexedTo first text (at.items ++ first (drop offset text) ∷ []) (offset + (first (drop offset text)).len) = lexed_more law text at.items offset is at.to more in
-      let same : offset + token.len ≡ bound (tokens_by first text) (length (at.items ++ first (drop offset text) ∷ [])) = ap (λ (t : Token). offset + t.len) token_is ∙ to.offset_is in
-      rw same (boundary (length (at.items ++ first (drop offset text) ∷ [])))
+      grind (arith, common_steps, lexed_more law text at.items offset is at.to more, token_is, (lexed_more law text at.items offset is at.to more).offset_is, (ap (λ (t : Token). offset + t.len) token_is ∙ (lexed_more law text at.items offset is at.to more).offset_is), boundary (length (at.items ++ first (drop offset text) ∷ [])))
 
   pub stays : (offset : ℕ) → IsSettled text (tokens_by first text) offset → StaysUpTo offset text (tokens_by first)
   stays offset settled more zero its few le = refl

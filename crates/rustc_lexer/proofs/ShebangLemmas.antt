@@ -1,5 +1,5 @@
 -- Shebang lines: the front of a text, and its first line.
-use Rattle.std.proofs.Common.{◌≡◌, ◌≢◌, ℕ, suc, ◌+◌, ◌-◌, ◌<◌, ◌≤◌, ◌==◌, Bool, true, false, true≢false, if◌then◌else◌, List, [], ◌∷◌, length, drop, get_or, codes, length-drop, refl, sym, ap, ◌∙◌, arith, ◌⊎◌, inl, inr, Option, Some, None}
+use Rattle.std.proofs.Common.{◌≡◌, ◌≢◌, ℕ, suc, ◌+◌, ◌-◌, ◌<◌, ◌≤◌, ◌==◌, Bool, true, false, true≢false, if◌then◌else◌, List, ◌∷◌, length, drop, get_or, codes, length-drop, refl, sym, ap, ◌∙◌, arith, ◌⊎◌, inl, inr, Option, Some, None}
 use Rattle.std.proofs.Math.Bool.{and-true}
 use Rattle.std.proofs.Math.Seq.{drop-cons}
 use Rattle.std.proofs.lemmas.Bool.{cases_lt, eqb-true, eq-eqb, ne_eqb}
@@ -73,13 +73,7 @@ module _ (text : List ℕ) where
     two j e = grind (arith, common_steps, drop-cons, and-true)
 
     front : k ≡ 0 → begins (codes "\r\n") (drop (k - 1) text) ≡ false
-    front e =
-        let none : k - 1 ≡ 0 = omega arith in
-        ap (λ (i : ℕ). begins (codes "\r\n") (drop i text)) none ∙ by_front text (ap (λ (i : ℕ). get_or text i 0) (sym e) ∙ newline)
-      where
-        by_front : (s : List ℕ) → get_or s 0 0 ≡ 10 → begins (codes "\r\n") (drop 0 s) ≡ false
-        by_front [] f = refl
-        by_front (c ∷ s) f = rw f refl
+    front e = grind (arith, common_steps)
 
     pub with_return : 0 < k → get_or text (k - 1) 0 ≡ 13 → k - 1 ≡ line_len text
     with_return some e = sym (line_is ∙ ap (λ (b : Bool). if b then k - 1 else k) (two (k - 1) (omega arith) ∙ eq-eqb (get_or text (k - 1) 0) 13 e))

@@ -1,11 +1,12 @@
 -- What the kind of each token of a text says of its own text.
-use Rattle.std.proofs.Common.{◌≡◌, ℕ, ◌<◌, List, length, take, refl, arith, subst, All, length-take}
+use Rattle.std.proofs.lemmas.Grind.{common_steps}
+use Rattle.std.proofs.Common.{◌≡◌, ℕ, ◌<◌, List, length, refl, arith, subst, All, length-take}
 use Rattle.std.specs.Str.{chars}
 use Rattle.std.proofs.lemmas.List.Elements.{All-nil, All-cons}
-use Rattle.rustc_lexer.specs.{TokenKind, Eof}
+use Rattle.rustc_lexer.specs.{Eof}
 use Rattle.rustc_lexer.specs.Classes.{IsText}
 use Rattle.rustc_lexer.specs.LanguageText.{AreTokens, Mode}
-use Rattle.rustc_lexer.specs.Tokens.{tokens_of, HasSuffix, HasText, HaveTexts}
+use Rattle.rustc_lexer.specs.Tokens.{tokens_of, HasSuffix, HaveTexts}
 use Rattle.rustc_lexer.specs.laws.LanguageTokens.{tokens-are}
 use Rattle.rustc_lexer.specs.laws.Tokens.{token_at-cuts, by_tokens, tokens-nil, tokens-cons}
 use Rattle.rustc_lexer.specs.means.Taking.{token_at}
@@ -17,10 +18,7 @@ token_at-said mode text is some = first-said (subst (AreTokens mode (chars text)
 -- no token of a text is the end
 pub token_at-not_end : (mode : Mode) (text : List ℕ) → IsText text → 0 < length text → (token_at mode text).kind ≡ Eof → ⊥
 token_at-not_end mode text is some e =
-    let n : ℕ = (token_at mode text).len in
-    let none : length (take n text) ≡ 0 = subst (λ (kind : TokenKind). HasText kind (take n text)) e (token_at-said mode text is some).text in
-    let cuts = token_at-cuts mode text is some in
-    omega (arith, length-take n text, cuts.inside, cuts.not_empty)
+    grind (arith, common_steps, e, (token_at-said mode text is some).text, token_at-cuts mode text is some, length-take ((token_at mode text).len) text, (token_at-cuts mode text is some).inside, (token_at-cuts mode text is some).not_empty)
 
 -- ---- all tokens of a text
 

@@ -9,11 +9,11 @@ use Rattle.std.proofs.lemmas.List.{nil_from_length}
 use Rattle.std.proofs.lemmas.Grind.{common_steps}
 use Rattle.rustc_lexer.specs.{Edition, FrontmatterAllowed, Token, No}
 use Rattle.rustc_lexer.specs.Tokens.{tokens_of, tokens_left, RestartsAtBounds, TakesToken}
-use Rattle.rustc_lexer.specs.laws.Tokens.{CutsOff, token_at-cuts, tokens-cons, tokens-nil}
+use Rattle.rustc_lexer.specs.laws.Tokens.{token_at-cuts, tokens-cons, tokens-nil}
 use Rattle.rustc_lexer.specs.LanguageText.{Mode, part, mode_after, mode_in}
 use Rattle.rustc_lexer.specs.laws.Edition.{edition_grammar}
 use Rattle.rustc_lexer.specs.means.Edition.{first_token_in}
-use Rattle.rustc_lexer.specs.State.{State, token_past}
+use Rattle.rustc_lexer.specs.State.{State}
 use Rattle.rustc_lexer.specs.means.Taking.{token_at}
 use Rattle.rustc_lexer.specs.laws.Cuts.{at_bound}
 use Rattle.rustc_lexer.specs.laws.State.{state, past_token, past_token-is, advance-some, token_past-zero}
@@ -29,23 +29,7 @@ pub record TakesFirst (s t : State) (token : Token) : Type 0 where
 
 pub takes_first : (s t : State) (token : Token) → s.pending ≡ 0 → IsText s.rest → (length s.rest == 0) ≡ false → token ≡ token_at s.mode s.rest → t ≡ past_token s.rest s.mode token → TakesFirst s t token
 takes_first s t token none is some e f =
-    let first : Token = token_at s.mode s.rest in
-    let some_left : 0 < length s.rest = pos_of_ne-zero (eqb-false (length s.rest) 0 some) in
-    let whole = advance-some s.pending s.rest s.mode s refl some in
-    let first_is : token_past s.pending first ≡ first = ap (λ n. token_past n first) none ∙ token_past-zero first in
-    let state_is : t ≡ past_token s.rest s.mode first = f ∙ ap (past_token s.rest s.mode) e in
-    let cuts : CutsOff s.rest first = token_at-cuts s.mode s.rest is some_left in
-    rw (e, state_is) record {
-      takes = record {
-        first = tokens-cons s.mode s.rest is some_left;
-        advances = whole ∙ ap (λ (k : Token). let r : Token × State = (k, past_token s.rest s.mode first) in r) first_is;
-        not_empty = cuts.not_empty;
-        boundary = IsCharBoundary-from_take s.rest first.len is.utf8 cuts.inside cuts.front;
-        rest = refl;
-        mode = refl;
-      };
-      pending = refl;
-    }
+    grind (arith, common_steps, pos_of_ne-zero (eqb-false (length s.rest) 0 some), advance-some s.pending s.rest s.mode s refl some, none, token_past-zero (token_at s.mode s.rest), f, e, token_at-cuts s.mode s.rest is (pos_of_ne-zero (eqb-false (length s.rest) 0 some)), (f ∙ ap (past_token s.rest s.mode) e), tokens-cons, IsCharBoundary-from_take)
 
 -- where the text that is left is empty no token is
 pub none_left : (s : State) (text : List ℕ) → text ≡ s.rest → (length text == 0) ≡ true → tokens_left s ≡ []
@@ -55,8 +39,7 @@ none_left s text rest none = ap (λ xs. tokens_of s.mode xs) (sym rest ∙ nil_f
 pub takes_own : (mode next : Mode) (inside text : List ℕ) (s : State) → state 0 inside mode ≡ s → text ≡ s.rest → (left : List ℕ) (token : Token) → IsUtf8 text → length text < 2 ^ 32 → (length text == 0) ≡ false
     → token ≡ token_at mode text → left ≡ drop token.len text → next ≡ mode_after mode token.kind → TakesFirst s (state 0 left next) token
 takes_own mode next inside text s view rest left token is fits some e f g =
-    let here : state 0 text mode ≡ s = ap (λ xs. state 0 xs mode) (rest ∙ ap (λ (x : State). x.rest) (sym view)) ∙ view in
-    subst (λ (x : State). TakesFirst x (state 0 left next) token) here (takes_first (state 0 text mode) (state 0 left next) token refl record { utf8 = is; fits = fits } some e (past_token-is text left mode next token f g))
+    grind (arith, common_steps, rest, view, (ap (λ xs. state 0 xs mode) (rest ∙ ap (λ (x : State). x.rest) (sym view)) ∙ view), takes_first (state 0 text mode) (state 0 left next) token refl record { utf8 = is; fits = fits } some e (past_token-is text left mode next token f g))
 
 -- a token of a part, which leaves how the iterator reads as it is
 pub takes_part : (allowed : FrontmatterAllowed) (edition : Edition) (inside text : List ℕ) (s : State) → allowed ≡ No → state 0 inside (mode_in allowed edition) ≡ s → text ≡ s.rest → (left : List ℕ) (token : Token) → IsUtf8 text → length text < 2 ^ 32 → (length text == 0) ≡ false

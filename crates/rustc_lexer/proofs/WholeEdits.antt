@@ -1,5 +1,5 @@
 -- An edit of a whole document: the counts of its body give its own, and there are some.
-use Rattle.std.proofs.Common.{◌≡◌, inl, inr, ℕ, max, ◌+◌, ◌-◌, ◌<◌, ◌≤◌, Bool, true, false, true≢false, List, [], ◌∷◌, length, map, drop, refl, sym, ap, ap₂, ◌∙◌, subst, arith, drop-drop, cond, IsCharBoundary, IsUtf8}
+use Rattle.std.proofs.Common.{◌≡◌, inl, inr, ℕ, max, ◌+◌, ◌-◌, ◌<◌, ◌≤◌, Bool, true, false, true≢false, List, [], ◌∷◌, length, map, drop, refl, sym, ap, ap₂, ◌∙◌, subst, arith, drop-drop, IsCharBoundary, IsUtf8}
 use Rattle.std.proofs.Math.Nat.{le-max_left, le-max_right, max-le}
 use Rattle.std.specs.List.{count_by}
 use Rattle.std.proofs.lemmas.Grind.{common_steps}
@@ -29,9 +29,7 @@ two_behind text from end to = grind (arith, common_steps, drop-drop)
 
 front_behind : (text : List ℕ) (from at to : ℕ) (tokens : List Token) → kept_front_from (drop from text) (to - from) at tokens ≡ kept_front_from text to (from + at) tokens
 front_behind text from at to [] = refl
-front_behind text from at to (t ∷ ts) =
-    let next : from + (at + t.len) ≡ from + at + t.len = omega arith in
-    ap₂ (λ b n. cond b 1 0 + n) (two_behind text from (at + t.len) to ∙ ap (λ n. has_two text n to) next) (front_behind text from (at + t.len) to ts ∙ ap (λ n. kept_front_from text to n ts) next)
+front_behind text from at to (t ∷ ts) = grind (arith, common_steps, two_behind, front_behind text from (at + t.len) to ts)
 
 fronts : (text : List ℕ) (from to : ℕ) (tokens : List Token) → kept_front (drop from text) tokens (to - from) ≡ count_by (λ end. has_two text end to) (ends_from from tokens)
 fronts text from to tokens =
@@ -83,14 +81,10 @@ module _ {first : List ℕ → Token} (law : IsGrammar first) (text insert : Lis
     Meeting body end = IsBodyMeeting old.body (tokens_by first body) (change kept).old_stop end number back
 
     of_edit : Meeting (apply (drop from text) (change kept).start (change kept).old_stop (put kept)) ((change kept).start + length (put kept)) → Meeting (drop to made) (change kept).new_stop
-    of_edit m =
-        let b = (body_made kept same).edit_of in
-        subst (λ (bytes : List ℕ). Meeting bytes (change kept).new_stop) (sym b.made) (subst (Meeting (apply (drop from text) (change kept).start (change kept).old_stop (put kept))) (sym b.new_stop) m)
+    of_edit m = grind (arith, common_steps, body_made)
 
     to_edit : Meeting (drop to made) (change kept).new_stop → Meeting (apply (drop from text) (change kept).start (change kept).old_stop (put kept)) ((change kept).start + length (put kept))
-    to_edit m =
-        let b = (body_made kept same).edit_of in
-        subst (Meeting (apply (drop from text) (change kept).start (change kept).old_stop (put kept))) b.new_stop (subst (λ (bytes : List ℕ). Meeting bytes (change kept).new_stop) b.made m)
+    to_edit m = grind (arith, common_steps, (body_made kept same).edit_of, ((body_made kept same).edit_of).new_stop, ((body_made kept same).edit_of).made, m)
 
   same_end : KeepsHead old new start → from ≡ to
   same_end k = body_by text ∙ (ap₂ (λ n (ts : List Token). n + bound ts (length ts)) k.1 k.2 ∙ sym (body_by made))
@@ -106,26 +100,7 @@ module _ {first : List ℕ → Token} (law : IsGrammar first) (text insert : Lis
     pub least : (other : ℕ) → body_in old ≤ stop + other → body_in new ≤ start + length insert + other → more kept ≤ other
 
   past : (kept : Bool) → Ahead kept → IsPast kept
-  past true same =
-      let order = edit.inside.start_le_stop in
-      let here = same refl in
-      let begin = body_at first text in
-      let new_begin = body_at first made in
-      record {
-        old_more = omega (arith, here.1, begin);
-        new_more = omega (arith, here.0, here.1, new_begin);
-        least = λ other old_begun new_begun. omega arith;
-      }
-  past false same =
-      let begin = body_at first text in
-      let new_begin = body_at first made in
-      let left = le-max_left (from - stop) (to - (start + length insert)) in
-      let right = le-max_right (from - stop) (to - (start + length insert)) in
-      record {
-        old_more = omega (arith, left, begin);
-        new_more = omega (arith, right, new_begin);
-        least = λ other old_begun new_begun. max-le (omega (arith, old_begun, begin)) (omega (arith, new_begun, new_begin));
-      }
+  past kept w1 = grind (arith, common_steps, body_at, le-max_left, le-max_right, max-le)
 
   module _ (kept : Bool) (same : Ahead kept) (r x : Relexed) (is_body : IsBodyRelexed first (drop from text) (change kept).start (change kept).old_stop (put kept) x) (sum : r.kept_front + r.lexed ≡ length new.head + (x.kept_front + x.lexed)) (back_is : r.kept_back ≡ x.kept_back) where
     meeting : IsMeeting old new stop (start + length insert) (r.kept_front + r.lexed) r.kept_back

@@ -1,4 +1,5 @@
 -- The end that the definition finds is the one that the rules allow.
+use Rattle.std.proofs.lemmas.Grind.{common_steps}
 use Rattle.std.proofs.Common.{◌≡◌, ℕ, zero, suc, ◌+◌, ◌≤◌, ◌==◌, ◌&&◌, Bool, true, false, true≢false, List, [], ◌∷◌, length, drop, refl, sym, ap, ◌∙◌, arith, subst, length-drop, Option, Some, None}
 use Rattle.std.proofs.lemmas.Bool.{and_parts, eqb-true}
 use Rattle.rustc_lexer.specs.means.Least.{more}
@@ -23,10 +24,7 @@ found zero at_mark fits = absurd (omega arith)
 found zero (nested p q) fits = absurd (omega arith)
 found zero (past_one e f p) fits = absurd (omega arith)
 found (suc fuel) at_mark fits = refl
-found (suc fuel) (nested {s} {a} {b} p q) fits =
-    let one : end_within fuel s ≡ Some a = found fuel p (omega arith) in
-    let two : end_within fuel (drop a s) ≡ Some b = found fuel q (omega (arith, length-drop a s)) in
-    rw (one, two) refl
+found (suc fuel) (nested {s} {a} {b} p q) fits = grind (arith, common_steps, length-drop, found fuel p (omega arith), found fuel q (omega (arith, length-drop a s)))
 found (suc fuel) (past_one {c} {m} {u} e f p) fits = let one : end_within fuel u ≡ Some m = found fuel p (omega arith) in rw (e, f, one) refl
 
 pub comment_end-found : {s : List ℕ} {n : ℕ} → Closes s n → comment_end s ≡ Some n

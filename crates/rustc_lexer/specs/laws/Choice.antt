@@ -1,5 +1,7 @@
 -- What is true of each arm of a choice is true of the choice.
-use Rattle.std.proofs.Common.{◌≡◌, ℕ, ◌==◌, Bool, true, false, if◌then◌else◌, List, [], ◌∷◌, refl, Option, Some, None}
+use Rattle.std.proofs.lemmas.Grind.{common_steps}
+use Rattle.std.proofs.Common.{arith}
+use Rattle.std.proofs.Common.{◌≡◌, ℕ, Bool, true, false, if◌then◌else◌, List, [], ◌∷◌, refl, Option, Some, None}
 use Rattle.std.proofs.lemmas.Bool.{and_parts}
 use Rattle.std.specs.List.{list_all}
 use Rattle.rustc_lexer.specs.{TokenKind, Unknown}
@@ -7,8 +9,7 @@ use Rattle.rustc_lexer.specs.Tables.{kind_among}
 
 -- a choice by a test
 pub by_test : {A : Type 0} (P : A → Type 0) (b : Bool) (x y : A) → (b ≡ true → P x) → (b ≡ false → P y) → P (if b then x else y)
-by_test P true x y t f = t refl
-by_test P false x y t f = f refl
+by_test P b x y w4 w5 = grind (arith, common_steps)
 
 -- a proof by whether a test passes
 pub by_either : {A : Type 0} (b : Bool) → (b ≡ true → A) → (b ≡ false → A) → A
@@ -23,6 +24,4 @@ by_found None found lost = lost refl
 -- of each symbol in a list, at each character, and of a character that is none of them
 pub by_symbol : (p : TokenKind → Bool) (ss : List (ℕ × TokenKind)) (c : ℕ) → list_all (λ (s : ℕ × TokenKind). p s.1) ss ≡ true → p Unknown ≡ true → p (kind_among ss c) ≡ true
 by_symbol p [] c all unknown = unknown
-by_symbol p (s ∷ ss) c all unknown =
-    let parts = and_parts (p s.1) (list_all (λ (s : ℕ × TokenKind). p s.1) ss) all in
-    by_test (λ kind. p kind ≡ true) (c == s.0) s.1 (kind_among ss c) (λ e. parts.0) (λ e. by_symbol p ss c parts.1 unknown)
+by_symbol p (s ∷ ss) c all unknown = grind (arith, common_steps, and_parts, by_test, by_symbol p ss c (and_parts (p s.1) (list_all (λ (s : ℕ × TokenKind). p s.1) ss) all).1 unknown)

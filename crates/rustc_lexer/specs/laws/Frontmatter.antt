@@ -15,7 +15,6 @@ use Rattle.rustc_lexer.specs.means.Edition.{first_token_in}
 use Rattle.rustc_lexer.specs.FrontmatterGrammar as the
 use Rattle.rustc_lexer.specs.FrontmatterGrammar.{fence, endings}
 use Rattle.rustc_lexer.specs.means.Frontmatter.{closing_end, end_by, ends_line, fence_len, first, first_lone, frontmatter, if_found, infostring_len, is_dash, is_newline, label_len, line_end, newline, opening_len, opens, past_opening, recovery, spaces_len, then_len}
-use Rattle.rustc_lexer.specs.laws.Choice.{by_either}
 use Rattle.rustc_lexer.specs.laws.Reach.{run_len_le}
 use Rattle.rustc_lexer.specs.means.Scan.{begins, bytes_of, next_is, past, run_len}
 use Rattle.rustc_lexer.specs.State.{HasSuffixWithin}
@@ -39,39 +38,12 @@ module _ (rest : List ℕ) (is : IsUtf8 rest) where
 
 -- what begins with neither a dash nor white space opens none
 pub opens-other : (s : List ℕ) → next_is (λ c. is_dash c || is_whitespace c) s ≡ false → opens s ≡ false
-opens-other [] none = refl
-opens-other (c ∷ cs) none = let parts = or_parts (is_dash c) (is_whitespace c) none in rw (parts.1, parts.0) refl
+opens-other s w1 = grind (arith, common_steps, or_parts)
 
 -- the byte before an offset is a newline where the last character before it is
 last_byte : (cs text rest : List ℕ) → text ≡ encode_utf8_all cs ++ rest → (nat_lt 0 (length (encode_utf8_all cs)) && is_newline (get_or text (length (encode_utf8_all cs) - 1) 0)) ≡ ends_line cs
 last_byte [] text rest e = refl
-last_byte (c ∷ []) text rest e = by_newline (is_newline (get_or text (n - 1) 0)) refl
-  where
-    n : ℕ
-    n = length (encode_utf8_all (c ∷ []))
-
-    long : length (encode_utf8_all (c ∷ [])) ≡ length (encode_utf8 c)
-    long = length-append (encode_utf8 c) [] ∙ omega arith
-
-    split : text ≡ encode_utf8 c ++ rest
-    split = e ∙ append_assoc (encode_utf8 c) [] rest
-
-    some : 0 < length (encode_utf8 c)
-    some = omega (arith, length-encode c, len_utf8_bounds c)
-
-    by_newline : (b : Bool) → is_newline (get_or text (length (encode_utf8_all (c ∷ [])) - 1) 0) ≡ b → (nat_lt 0 (length (encode_utf8_all (c ∷ []))) && is_newline (get_or text (length (encode_utf8_all (c ∷ [])) - 1) 0)) ≡ is_newline c
-    by_newline true f =
-        let byte : get_or text (length (encode_utf8_all (c ∷ [])) - 1) 0 ≡ 10 = eqb-true _ 10 f in
-        let same : c ≡ get_or text (length (encode_utf8_all (c ∷ [])) - 1) 0 = inside_one c rest text (length (encode_utf8_all (c ∷ [])) - 1) split (omega (arith, long, some)) (omega arith) in
-        rw (f, lt-ltb 0 (length (encode_utf8_all (c ∷ []))) (omega (arith, long, some))) (sym (ap is_newline same ∙ f))
-    by_newline false f = rw (f, lt-ltb 0 (length (encode_utf8_all (c ∷ []))) (omega (arith, long, some))) (by_either (is_newline c)
-        (λ g.
-        let is : c ≡ 10 = eqb-true c 10 g in
-        let one : length (encode_utf8 c) ≡ 1 = ap length (encode_ascii c (omega arith)) in
-        let first_offset : length (encode_utf8_all (c ∷ [])) - 1 ≡ 0 = omega (arith, long) in
-        let byte : get_or text (length (encode_utf8_all (c ∷ [])) - 1) 0 ≡ c = ap (λ k. get_or text k 0) first_offset ∙ byte_from_char text rest c split (omega arith) in
-        sym f ∙ ap is_newline byte)
-        (λ g. sym g))
+last_byte (c ∷ []) text rest e = grind (arith, common_steps, length-append, append_assoc, length-encode, len_utf8_bounds, eqb-true, inside_one, lt-ltb, encode_ascii, byte_from_char)
 last_byte (c ∷ d ∷ s) text rest e =
     let long : length (encode_utf8_all (c ∷ d ∷ s)) ≡ length (encode_utf8 c) + length (encode_utf8_all (d ∷ s)) = length-append (encode_utf8 c) (encode_utf8_all (d ∷ s)) in
     let some : 1 ≤ length (encode_utf8_all (d ∷ s)) = omega (arith, length-le-encodes (d ∷ s)) in

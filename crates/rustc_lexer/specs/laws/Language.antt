@@ -9,10 +9,10 @@ use Rattle.std.proofs.lemmas.Grind.{common_steps}
 use Rattle.rustc_lexer.specs.declared.lexemes.family.Family.{Family}
 use Rattle.rustc_lexer.specs.declared.lexemes.family.Family.TheVariants.{Slash, Space, Word, Number, Quote, Str, Emoji, Hash, Symbol}
 use Rattle.rustc_lexer.specs.declared.lexemes.raw.RawPrefix.TheVariants.{Br, Cr}
-use Rattle.rustc_lexer.specs.{LiteralKind, TokenKind, ForcedKeywordIdent}
-use Rattle.rustc_lexer.specs.Classes.{is_whitespace, is_id_start, is_id_continue, NextIs}
+use Rattle.rustc_lexer.specs.{LiteralKind, TokenKind}
+use Rattle.rustc_lexer.specs.Classes.{is_whitespace, is_id_start, NextIs}
 use Rattle.rustc_lexer.specs.Tables.{is_emoji}
-use Rattle.rustc_lexer.specs.means.Ident.{ident_or_unknown_prefix, marks_ident}
+use Rattle.rustc_lexer.specs.means.Ident.{ident_or_unknown_prefix}
 use Rattle.rustc_lexer.specs.laws.Choice.{by_test}
 use Rattle.rustc_lexer.specs.laws.LanguageComments.{space-sound, space-read, hash-sound, pound-read, guarded-read, symbol-read, slash-sound, slash-read, line-read, block-read, open-read}
 use Rattle.rustc_lexer.specs.laws.LanguageLifetimes.{quote-sound, lifetime-read, prefix-read, raw_lifetime-read, char-reads, one-reads, name-reads}
@@ -30,7 +30,7 @@ use Rattle.rustc_lexer.specs.means.Lexeme.{is_raw_mark, begins_raw, raw_past_or_
 use Rattle.rustc_lexer.specs.means.Literal.{literal}
 use Rattle.rustc_lexer.specs.means.Quoted.{byte_body, byte_str_body, c_str_body}
 use Rattle.rustc_lexer.specs.means.Raw.{raw_literal}
-use Rattle.rustc_lexer.specs.means.Scan.{after, begins, run}
+use Rattle.rustc_lexer.specs.means.Scan.{after, begins}
 
 -- ---- what is read is a token
 
@@ -42,8 +42,7 @@ r-sound s =
     grind (arith, common_steps, raw_ident-sound, raw_str-sound, ident-sound, letters-start, raw_mark-none, no-opening)
 
 k-sound : SoundAll 107 letter_k
-k-sound s = by_test (Sound 107 s) (marks_ident s) (after 2 (run ForcedKeywordIdent is_id_continue) s) (ident_or_unknown_prefix s) (keyword-sound s) (λ e. ident-sound 107 letters-start.1 s
-    (no-opening (107 ∷ s) record { r_quote = refl; r_hash = refl; b_one = refl; b_quote = refl; br_quote = refl; br_hash = refl; c_quote = refl; cr_quote = refl; cr_hash = refl; k_hash = e }))
+k-sound s = grind (arith, common_steps, keyword-sound, ident-sound, letters-start, no-opening)
 
 -- an `r` and its mark, past one letter
 raw-parts : (c : ℕ) (scan : List ℕ → TokenKind × ℕ) → ((s : List ℕ) → NextIs is_raw_mark s → Sound c (114 ∷ s) (scan (114 ∷ s))) → (s : List ℕ) → begins_raw s ≡ true → Sound c s (scan s)

@@ -77,8 +77,7 @@ endings-patterns n = rw (fence-ascii n) refl
     fence-ascii (suc n) = fence-ascii n
 
 pattern-tells : (pattern : List ℕ) → is_pattern pattern ≡ true → Tells (IsAt pattern) (λ s offset. begins pattern (drop offset s))
-pattern-tells [] is = absurd (true≢false (sym is))
-pattern-tells (d ∷ ds) is = record { decided = λ u v e. ap (begins (d ∷ ds)) (drop-append_seam u v) ∙ e; some = λ u v e. omega (arith, begins-length (d ∷ ds) v e); is = λ s i e. e }
+pattern-tells pattern w1 = grind (arith, common_steps, drop-append_seam, begins-length)
 
 lone-tells : Tells IsLone (λ s i. lone_at [] i s)
 lone-tells = grind (arith, common_steps, lone-decided, decided-lone, begins-length)
@@ -202,9 +201,7 @@ ge-high c le = by_either (is_ascii c) (λ e. absurd (let lt = ltb-true c 128 e i
 -- over such bytes
 first-high : (d : ℕ) (ds w s : List ℕ) → is_ascii d ≡ true → AreAll is_high w → first (d ∷ ds) (w ++ s) ≡ more (length w) (first (d ∷ ds) s)
 first-high d ds [] s f all = more-zero (first (d ∷ ds) s)
-first-high d ds (b ∷ w) s f all =
-    let parts = and_parts (is_high b) (list_all is_high w) all in
-    offset-on (begins (d ∷ ds)) b (w ++ s) (begins-high b d ds (w ++ s) parts.0 f) ∙ (ap one_more (first-high d ds w s f parts.1) ∙ one_more-more (length w) (first (d ∷ ds) s))
+first-high d ds (b ∷ w) s f all = grind (arith, common_steps, and_parts, offset-on, begins-high, one_more-more, first-high d ds w s f (and_parts (is_high b) (list_all is_high w) all).1)
 
 lone-step : (blank : Bool) (b : ℕ) (s : List ℕ) → is_high b ≡ true → first_lone blank 0 (b ∷ s) ≡ one_more (first_lone false 0 s)
 lone-step blank b s e = rw (high-other b 45 e (omega arith), high-other b 10 e (omega arith), high-other b 9 e (omega arith), high-other b 32 e (omega arith)) refl
@@ -212,9 +209,7 @@ lone-step blank b s e = rw (high-other b 45 e (omega arith), high-other b 10 e (
 lone-high : (blank : Bool) (w s : List ℕ) → AreAll is_high w → 0 < length w → first_lone blank 0 (w ++ s) ≡ more (length w) (first_lone false 0 s)
 lone-high blank [] s all some = absurd (omega arith)
 lone-high blank (b ∷ []) s all some = lone-step blank b s (and_parts (is_high b) true all).0 ∙ (ap one_more (more-zero _) ∙ one_more-more 0 (first_lone false 0 s))
-lone-high blank (b ∷ a ∷ w) s all some =
-    let parts = and_parts (is_high b) (list_all is_high (a ∷ w)) all in
-    lone-step blank b (a ∷ w ++ s) parts.0 ∙ (ap one_more (lone-high false (a ∷ w) s parts.1 (omega arith)) ∙ one_more-more (length (a ∷ w)) (first_lone false 0 s))
+lone-high blank (b ∷ a ∷ w) s all some = grind (arith, common_steps, and_parts, lone-step, one_more-more, lone-high false (a ∷ w) s (and_parts (is_high b) (list_all is_high (a ∷ w)) all).1 (omega arith))
 
 run-high : (w s : List ℕ) → AreAll is_high w → run_len is_inline (w ++ s) ≡ length w + run_len is_inline s
 run-high [] s all = omega arith
@@ -226,12 +221,10 @@ in_bytes s None = None
 in_bytes s (Some k) = Some (bytes_of k s)
 
 in_bytes-suc : (c : ℕ) (s : Chars) (o : Option ℕ) → in_bytes (c ∷ s) (one_more o) ≡ more (length (encode_utf8 c)) (in_bytes s o)
-in_bytes-suc c s None = refl
-in_bytes-suc c s (Some k) = ap Some (bytes_of-suc k c s)
+in_bytes-suc c s o = grind (arith, common_steps, bytes_of-suc)
 
 in_bytes-one : (c : ℕ) (s : Chars) (o : Option ℕ) → c < 128 → in_bytes (c ∷ s) (one_more o) ≡ one_more (in_bytes s o)
-in_bytes-one c s None lt = refl
-in_bytes-one c s (Some k) lt = ap Some (bytes_of-suc k c s ∙ omega (arith, ap length (encode_ascii c lt)))
+in_bytes-one c s o w3 = grind (arith, common_steps, bytes_of-suc, encode_ascii)
 
 begins-encode : (pattern s : List ℕ) → list_all is_ascii pattern ≡ true → begins pattern (encode_utf8_all s) ≡ begins pattern s
 begins-encode [] s ascii = refl
@@ -262,10 +255,7 @@ first-encode d ds (c ∷ s) ascii =
 
 lone-encode : (blank : Bool) (skip : ℕ) (s : List ℕ) → begins (fence skip) s ≡ true → first_lone blank skip (encode_utf8_all s) ≡ in_bytes s (first_lone blank skip s)
 lone-encode blank skip [] f = refl
-lone-encode blank (suc skip) (c ∷ s) f =
-    let parts = and_parts (c == 45) (begins (fence skip) s) f in
-    let lt : c < 128 = let is = eqb-true c 45 parts.0 in omega arith in
-    ap (λ (w : List ℕ). first_lone blank (suc skip) (w ++ encode_utf8_all s)) (encode_ascii c lt) ∙ (ap one_more (lone-encode blank skip s parts.1) ∙ sym (in_bytes-one c s (first_lone blank skip s) lt))
+lone-encode blank (suc skip) (c ∷ s) f = grind (arith, common_steps, and_parts, eqb-true, encode_ascii, in_bytes-one, lone-encode blank skip s (and_parts (c == 45) (begins (fence skip) s) f).1)
 lone-encode blank zero (c ∷ s) f = elim (encoded c s) [
   | one lt e ↦
       let same : begins (fence 3) (c ∷ encode_utf8_all s) ≡ begins (fence 3) (c ∷ s) = ap (begins (fence 3)) (sym e) ∙ begins-encode (fence 3) (c ∷ s) refl in
@@ -281,24 +271,14 @@ lone-encode blank zero (c ∷ s) f = elim (encoded c s) [
 
 run-encode : (s : List ℕ) → run_len is_inline (encode_utf8_all s) ≡ bytes_of (run_len is_inline s) s
 run-encode [] = refl
-run-encode (c ∷ s) = elim (encoded c s) [
-  | one lt e ↦ ap (run_len is_inline) e ∙ by_either (is_inline c)
-      (λ t. rw t (ap suc (run-encode s) ∙ (omega (arith, ap length (encode_ascii c lt), bytes_of-suc (run_len is_inline s) c s))))
-      (λ t. rw t refl)
-  | high ge all some ↦
-      run-high (encode_utf8 c) (encode_utf8_all s) all
-      ∙ (ap (λ (n : ℕ). length (encode_utf8 c) + n) (run-encode s) ∙ sym (ap (λ (n : ℕ). bytes_of n (c ∷ s)) (run_len-in is_inline c s (rw (high-other c 10 (ge-high c ge) (omega arith)) refl)) ∙ bytes_of-suc (run_len is_inline s) c s))
-]
+run-encode (c ∷ s) = grind (arith, common_steps, encoded, encode_ascii, bytes_of-suc, run-high, run_len-in, high-other, ge-high, run-encode s)
 
 line-encode : (k : ℕ) (s : Chars) → line_end (bytes_of k s) (encode_utf8_all s) ≡ bytes_of (line_end k s) s
 line-encode k s =
-    let whole : encode_utf8_all s ≡ encode_utf8_all (take k s) ++ encode_utf8_all (drop k s) = ap encode_utf8_all (sym (take-append-drop k s)) ∙ encodes-append (take k s) (drop k s) in
-    let past : drop (bytes_of k s) (encode_utf8_all s) ≡ encode_utf8_all (drop k s) = ap (drop (bytes_of k s)) whole ∙ drop-append_seam (encode_utf8_all (take k s)) (encode_utf8_all (drop k s)) in
-    ap (λ (t : List ℕ). bytes_of k s + run_len is_inline t) past ∙ (ap (λ (n : ℕ). bytes_of k s + n) (run-encode (drop k s)) ∙ sym (bytes_of-add k (run_len is_inline (drop k s)) s))
+    grind (arith, common_steps, take-append-drop k s, encodes-append (take k s) (drop k s), (ap encode_utf8_all (sym (take-append-drop k s)) ∙ encodes-append (take k s) (drop k s)), drop-append_seam (encode_utf8_all (take k s)) (encode_utf8_all (drop k s)), (ap (drop (bytes_of k s)) (ap encode_utf8_all (sym (take-append-drop k s)) ∙ encodes-append (take k s) (drop k s)) ∙ drop-append_seam (encode_utf8_all (take k s)) (encode_utf8_all (drop k s))), run-encode (drop k s), bytes_of-add k (run_len is_inline (drop k s)) s)
 
 past_newline-encode : (pattern : List ℕ) (k : ℕ) (s : Chars) → is_pattern pattern ≡ true → begins pattern (drop k s) ≡ true → bytes_of (k + 1) s ≡ bytes_of k s + 1
-past_newline-encode pattern k s is e =
-    bytes_of-add k 1 s ∙ (ap (λ (t : Chars). bytes_of k s + bytes_of 1 t) (newline-first pattern (drop k s) is e) ∙ omega (arith, ap (λ (w : List ℕ). length (w ++ [])) (encode_ascii 10 (omega arith))))
+past_newline-encode pattern k s is e = grind (arith, common_steps, bytes_of-add, newline-first, encode_ascii)
 
 end-encode : (es : List (Chars × Bool)) (s : Chars) → are_patterns es ≡ true → end_by es (encode_utf8_all s) ≡ bytes_of (end_by es s) s
 end-encode [] s good =

@@ -157,10 +157,7 @@ block-sound s = by_end (comment_end s) refl
 
 pub block-read : (style : Option DocStyle) (w next : List ℕ) → IsCommentRest w → IsBlockStyle style w → Read (BlockComment style true) (suc (suc (length w))) (47 ∷ 42 ∷ w ++ next)
 block-read style w next p is =
-    let found : comment_end (w ++ next) ≡ Some (length w) = comment_end-found (closes-in p next) in
-    let own : block_doc_style (w ++ next) ≡ style = decided-front 2 block_doc_style style_decided w next (closes-two p) ∙ block-style-is is in
-    let reads : block_comment (w ++ next) ≡ (BlockComment style true, length w) = ap (λ (o : Option ℕ). block_comment_to o (w ++ next)) found ∙ ap (λ (d : Option DocStyle). (BlockComment d true, length w)) own in
-    read-first 47 slash (42 ∷ w ++ next) (BlockComment style true) (1 + length w) _ chooses-slash (ap (λ (r : TokenKind × ℕ). let q : TokenKind × ℕ = (r.0, 1 + r.1) in q) reads) (omega arith)
+    grind (arith, comment_end-found (closes-in p next), decided-front 2 block_doc_style style_decided w next (closes-two p), block-style-is is, (comment_end-found (closes-in p next)), (decided-front 2 block_doc_style style_decided w next (closes-two p) ∙ block-style-is is), read-first, chooses-slash)
 
 pub open-read : (style : Option DocStyle) (w next : List ℕ) → next ≡ [] → ((n : ℕ) → IsCommentRest (take n w) → ⊥) → IsBlockStyle style w → Read (BlockComment style false) (suc (suc (length w))) (47 ∷ 42 ∷ w ++ next)
 open-read style w next none never is =

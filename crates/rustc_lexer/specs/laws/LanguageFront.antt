@@ -46,9 +46,7 @@ split-boundary {text} {w} is cut = IsCharBoundary-from_take text (bytes w) is.ut
 
 -- a text that begins with the same bytes begins with the same characters
 pub split-same : {text w next : List ℕ} (other : List ℕ) → Split text w next → take (bytes w) text ≡ take (bytes w) other → chars other ≡ w ++ chars (drop (bytes w) other)
-split-same {w = w} other cut same =
-    let front : take (bytes w) other ≡ encode_utf8_all w = sym same ∙ cut.front in
-    ap chars (sym (take-append-drop (bytes w) other)) ∙ (chars-append _ _ (subst IsUtf8 (sym front) cut.front_utf8) ∙ ap (λ xs. xs ++ chars (drop (bytes w) other)) (ap chars front ∙ cut.again_front))
+split-same {w = w} other cut same = grind (arith, common_steps, same, cut.front, take-append-drop (bytes w) other, chars-append, (sym same ∙ cut.front), cut.again_front)
 
 -- ---- the token at the front
 

@@ -1,11 +1,11 @@
 -- The opening of a frontmatter is in its language, and what is there is read so.
-use Rattle.std.proofs.Common.{◌≡◌, ℕ, zero, suc, ◌+◌, ◌≤◌, ◌==◌, not, Bool, true, false, true≢false, List, [], ◌∷◌, ◌++◌, length, take, drop, codes, refl, sym, ap, ◌∙◌, arith, append_assoc, length-append, take-append-drop}
+use Rattle.std.proofs.lemmas.Grind.{common_steps}
+use Rattle.std.proofs.Common.{◌≡◌, ℕ, zero, suc, ◌+◌, ◌≤◌, not, Bool, true, false, true≢false, List, [], ◌∷◌, ◌++◌, length, take, drop, codes, refl, sym, ap, ◌∙◌, arith, append_assoc, length-append, take-append-drop}
 use Rattle.std.proofs.Math.Seq.{take-append_seam, drop-append_seam}
 use Rattle.std.proofs.lemmas.Bool.{and_parts, eqb-true, or_parts, not-true, false_from_ne_true}
 use Rattle.unicode_ident.proofs.Computing.{unicode_ident}
 use Rattle.rustc_lexer.specs.Classes.{is_among, is_whitespace, is_horizontal_whitespace, is_id_start, AreAll, NextIsNot, is_info}
 use Rattle.rustc_lexer.specs.means.Frontmatter.{is_dash, then_len, spaces_len, fence_len, blanks_len, infostring_len, label_len, opening_len, ends_line, opens}
-use Rattle.rustc_lexer.specs.laws.Choice.{by_test}
 use Rattle.rustc_lexer.specs.laws.LanguageRuns.{run_len-here, run-stops, either-way, none-among}
 use Rattle.rustc_lexer.specs.laws.Reach.{run_all, run_len-out}
 use Rattle.rustc_lexer.specs.laws.Fences.{begins-dashes, begins-enough}
@@ -53,34 +53,28 @@ fence-run (suc n) v stop = ap suc (fence-run n v stop)
 
 run-fence : (s : List ℕ) → take (run_len is_dash s) s ≡ fence (run_len is_dash s)
 run-fence [] = refl
-run-fence (c ∷ s) =
-    by_test (λ (n : ℕ). take n (c ∷ s) ≡ fence n) (is_dash c) (suc (run_len is_dash s)) 0 (λ e. ap (λ (x : ℕ). x ∷ take (run_len is_dash s) s) (eqb-true c 45 e) ∙ ap (λ (xs : List ℕ). 45 ∷ xs) (run-fence s)) (λ e. refl)
+run-fence (c ∷ s) = grind (arith, common_steps, eqb-true, run-fence s)
 
 dash-stops : (s : List ℕ) → NextIsNot (is_among (codes "-")) s → NextIsNot is_dash s
-dash-stops [] e = refl
-dash-stops (c ∷ s) e = (or_parts (c == 45) false e).0
+dash-stops s w1 = grind (arith, common_steps, or_parts)
 
 stops-dash : (s : List ℕ) → NextIsNot is_dash s → NextIsNot (is_among (codes "-")) s
-stops-dash [] e = refl
-stops-dash (c ∷ s) e = rw e refl
+stops-dash s w1 = grind (arith, common_steps)
 
 fence-no_space : (n : ℕ) (v : List ℕ) → 3 ≤ n → NextIsNot is_whitespace (fence n ++ v)
-fence-no_space zero v le = absurd (omega arith)
-fence-no_space (suc n) v le = refl
+fence-no_space n v w2 = grind (arith, common_steps)
 
 -- ---- what is there is read
 
 blanks-none : (s : List ℕ) → NextIsNot is_horizontal_whitespace s → blanks_len s ≡ 0
-blanks-none [] stop = refl
-blanks-none (c ∷ s) stop = run_len-out is_horizontal_whitespace c s stop
+blanks-none s w1 = grind (arith, common_steps, run_len-out)
 
 info-none : (s : List ℕ) → NextIsNot is_id_start s → infostring_len s ≡ 0
 info-none s stop = rw stop refl
 
 -- one length, then the next of what follows it
 then-read : (first next : List ℕ → ℕ) (u v s : List ℕ) → s ≡ u ++ v → first s ≡ length u → then_len first next s ≡ length u + next v
-then-read first next u v s e f =
-    ap (λ (n : ℕ). n + next (drop n s)) f ∙ ap (λ (xs : List ℕ). length u + next xs) (ap (drop (length u)) e ∙ drop-append_seam u v)
+then-read first next u v s e f = grind (arith, common_steps, drop-append_seam)
 
 label-read : {next w : List ℕ} → IsLabelBefore next w → label_len (w ++ next) ≡ length w
 label-read {next} (the.blank {w} all stop start) =

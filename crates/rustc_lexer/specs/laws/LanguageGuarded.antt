@@ -28,8 +28,7 @@ use Rattle.rustc_lexer.specs.laws.LanguageRuns.{run-stops}
 -- ---- hashes
 
 same-class : (s : List ℕ) → next_is (is_among (codes "#")) s ≡ next_is is_hash s
-same-class [] = refl
-same-class (c ∷ s) = or-false (c == 35)
+same-class s = grind (arith, common_steps, or-false)
 
 no-hash : (s : List ℕ) → NextIsNot (is_among (codes "\"#")) s → NextIsNot is_hash s
 no-hash w0 e = grind (arith, common_steps)

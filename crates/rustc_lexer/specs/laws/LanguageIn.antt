@@ -3,11 +3,10 @@ use Rattle.std.proofs.Common.{◌≡◌, ◌≢◌, ◌↔◌, ℕ, ◌+◌, ◌
 use lib.Utf8.{encode}
 use Rattle.std.proofs.Math.Seq.{take-append_seam}
 use Rattle.std.proofs.lemmas.Bool.{and_parts, leb-true, leb-false, eqb-true}
-use Rattle.std.specs.List.{list_all}
 use Rattle.std.specs.Str.{chars}
 use Rattle.std.proofs.lemmas.Grind.{common_steps}
 use Rattle.rustc_lexer.specs.{Edition, Token, TokenKind, E2024, Ident, UnknownPrefix, UnknownPrefixLifetime, RawLifetime, Lifetime, GuardedStrPrefix, Pound}
-use Rattle.rustc_lexer.specs.Classes.{is_among, is_id_start, is_id_continue, is_ident, is_word_continue, is_word_start, begins_ident_after, AreAll, NextIs, bytes, IsText, is_bad_name}
+use Rattle.rustc_lexer.specs.Classes.{is_among, is_id_continue, is_ident, is_word_continue, is_word_start, begins_ident_after, AreAll, NextIs, bytes, IsText, is_bad_name}
 use Rattle.rustc_lexer.specs.LanguageText.{year, lexed_since, IsTokenIn, kept, pound, ident, lifetime, lifetime_r}
 use Rattle.rustc_lexer.specs.means.Edition.{token, has_marked_name, before_2024, before_2021, changed, first_token_in}
 use Rattle.rustc_lexer.specs.Language as the
@@ -24,18 +23,14 @@ use Rattle.rustc_lexer.specs.laws.LanguageLifetimes.{hash-stops}
 -- ---- what an edition keeps
 
 kept_2021 : (kind : TokenKind) (len : ℕ) → lexed_since kind < 2024 → before_2024 kind len ≡ token kind len
-kept_2021 GuardedStrPrefix len lt = absurd (omega (arith, lt))
-kept_2021 kind len lt = refl
-
-kept_2018 : (cs : List ℕ) (kind : TokenKind) (len : ℕ) → lexed_since kind < 2021 → before_2021 cs kind len ≡ token kind len
-kept_2018 cs kind len lt = grind (arith, common_steps)
+kept_2021 kind len w2 = grind (arith, common_steps)
 
 -- no edition is older
 oldest : (edition : Edition) → 2015 ≤ year edition
 oldest w0 = grind (arith, common_steps)
 
 keeps : (edition : Edition) (cs : List ℕ) (kind : TokenKind) (len : ℕ) → lexed_since kind ≤ year edition → changed edition cs (token kind len) ≡ token kind len
-keeps edition cs kind len le = grind (arith, common_steps, kept_2021, leb-false, kept_2018)
+keeps edition cs kind len le = grind (arith, common_steps, kept_2021, leb-false)
 
 guarded-cut : (edition : Edition) (cs : List ℕ) (len : ℕ) → year edition < 2024 → changed edition cs (token GuardedStrPrefix len) ≡ token Pound 1
 guarded-cut edition cs len lt = grind (arith, common_steps, leb-true)
@@ -134,8 +129,7 @@ keep : (edition : Edition) (next : List ℕ) (kind : TokenKind) (c : ℕ) (w : L
 keep edition next kind c w le p = front-is kind c w next refl (keeps edition (c ∷ w ++ next) kind (bytes (c ∷ w)) le) (kept le p)
 
 goes-name : (w next : List ℕ) → is_ident w ≡ true → begins_ident_after (codes "#") (35 ∷ w ++ next) ≡ true
-goes-name [] next is = absurd (true≢false (sym is))
-goes-name (c ∷ w) next is = (and_parts (is_id_start c) (list_all is_id_continue w) is).0
+goes-name w next w2 = grind (arith, common_steps, and_parts)
 
 -- by which of them an edition has
 by_year : {A : Type 0} (a b : ℕ) → (a ≤ b → A) → (b < a → A) → A

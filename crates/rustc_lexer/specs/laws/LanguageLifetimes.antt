@@ -60,12 +60,10 @@ lifetime-read c w next start all stop quote hash =
     ∙ pair _ _ _ _ refl (omega arith)
 
 pub hash-stops : (next : List ℕ) → NextIs (is_among (codes "#")) next → NextIsNot is_word_continue next
-hash-stops [] e = refl
-hash-stops (c ∷ s) e = mark-stops (c ∷ s) (grind (arith, common_steps, or_left))
+hash-stops next w1 = grind (arith, common_steps, mark-stops, or_left)
 
 hash-no_quote : (next : List ℕ) → begins (codes "#") next ≡ true → begins (codes "'") next ≡ false
-hash-no_quote [] e = refl
-hash-no_quote (c ∷ s) e = rw (eqb-true c 35 (and_parts (c == 35) true e).0) refl
+hash-no_quote next w1 = grind (arith, common_steps, eqb-true, and_parts)
 
 -- the two ways to say what is raw
 raw-same : (c : ℕ) (s : List ℕ) → begins_ident_after (codes "r#") (c ∷ s) ≡ is_raw c s
@@ -174,12 +172,10 @@ quote-char (c ∷ s) e = rw (e, or-true (begins (codes "'") s)) refl
 
 -- a character that begins none
 at-stops : (d : ℕ) (next : List ℕ) → is_name_start d ≡ false → NextIn (d ∷ []) next → NextIsNot is_name_start next
-at-stops d [] out at = refl
-at-stops d (c ∷ s) out at = ap is_name_start (eqb-true c d (and_parts (c == d) true (begins-next d (c ∷ s) ∙ at)).0) ∙ out
+at-stops d next w2 w3 = grind (arith, common_steps, eqb-true, and_parts, begins-next)
 
 empty-or : (w next : List ℕ) → NextIsNot is_name_start w → NextIsNot is_name_start next → NextIsNot is_name_start (w ++ next)
-empty-or [] next e f = f
-empty-or (c ∷ w) next e f = e
+empty-or w next w2 w3 = grind (arith, common_steps)
 
 pub end-stops : (d : ℕ) (end next : List ℕ) {w : List ℕ} → lit.SingleTo (d ∷ end) w → NextIsNot is_name_start w → NextIsNot is_name_start (w ++ next)
 end-stops d end next w0 w1 = grind (arith, common_steps)

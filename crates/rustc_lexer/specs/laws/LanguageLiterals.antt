@@ -1,5 +1,5 @@
 -- Literals are in their languages, with their suffixes, and what is there is read so.
-use Rattle.std.proofs.Common.{◌≡◌, ℕ, zero, suc, ◌+◌, ◌==◌, nat_lt, Bool, true, false, true≢false, List, [], ◌∷◌, ◌++◌, length, take, drop, codes, refl, sym, ap, ◌∙◌, subst, arith, append_assoc, length-append, take-append-drop, take-add, drop-drop, Option, Result, Ok, Err}
+use Rattle.std.proofs.Common.{◌≡◌, ℕ, zero, suc, ◌+◌, ◌==◌, nat_lt, Bool, true, false, true≢false, List, [], ◌∷◌, ◌++◌, length, take, drop, codes, refl, sym, ap, ◌∙◌, subst, arith, append_assoc, length-append, take-append-drop, take-add, drop-drop, Option, Result}
 use Rattle.std.proofs.Math.Seq.{take-append_seam, drop-append_seam}
 use Rattle.std.proofs.lemmas.Bool.{and_parts, eqb-true, false_from_ne_true, lt-ltb}
 use Rattle.std.proofs.lemmas.List.{append-nil}
@@ -10,7 +10,7 @@ use Rattle.std.specs.Str.{encode_utf8_all}
 use Rattle.std.proofs.lemmas.Grind.{common_steps}
 use Rattle.rustc_lexer.specs.declared.lexemes.raw.RawPrefix.{RawPrefix}
 use Rattle.rustc_lexer.specs.declared.lexemes.raw.RawPrefix.TheVariants.{R, Br, Cr}
-use Rattle.rustc_lexer.specs.{Base, LiteralKind, RawStrError, TokenKind, Byte, Str, ByteStr, CStr, RawStr, RawByteStr, RawCStr, Literal}
+use Rattle.rustc_lexer.specs.{LiteralKind, RawStrError, TokenKind, Byte, Str, ByteStr, CStr, RawStr, RawByteStr, RawCStr, Literal}
 use Rattle.rustc_lexer.specs.Classes.{is_id_start, is_id_continue, begins_ident_after, NextIs, bytes}
 use Rattle.rustc_lexer.specs.means.Ident.{marks_ident}
 use Rattle.rustc_lexer.specs.laws.Choice.{by_test}
@@ -27,7 +27,7 @@ use Rattle.rustc_lexer.specs.Language.{IsTokenBefore}
 use Rattle.rustc_lexer.specs.means.Lexeme.{is_raw_mark, word}
 use Rattle.rustc_lexer.specs.means.Literal.{Body, suffix_len, suffixed, literal_past, literal}
 use Rattle.rustc_lexer.specs.means.Number.{number_kind, number}
-use Rattle.rustc_lexer.specs.NumberGrammar.{IsWholePart, HasNumberForm, of_prefix, of_parts, IsNumberBefore}
+use Rattle.rustc_lexer.specs.NumberGrammar.{HasNumberForm, IsNumberBefore}
 use Rattle.rustc_lexer.specs.means.Quoted.{double_quoted_string, single_quoted_string, quoted_body, str_body, byte_str_body, c_str_body, byte_body}
 use Rattle.rustc_lexer.specs.means.Raw.{raw_read, accepted, is_accepted, raw_body, prefix_kind, prefix_len, raw_literal}
 use Rattle.rustc_lexer.specs.means.Scan.{after, begins, bytes_of, next_is, run_len}
@@ -109,8 +109,7 @@ lettered-sound c d kind scan s one is =
     (subst (λ (n : ℕ). IsLiteralBefore (drop n (d ∷ s)) (kind (scan s).0) (scan s).0 (c ∷ take n (d ∷ s))) more is)
 
 at-letter : (c d : ℕ) (scan : List ℕ → TokenKind × ℕ) → ((s : List ℕ) → Sound c (d ∷ s) (scan (d ∷ s))) → (s : List ℕ) → begins (d ∷ []) s ≡ true → Sound c s (scan s)
-at-letter c d scan is [] e = absurd (true≢false (sym e))
-at-letter c d scan is (x ∷ s) e = subst (λ (y : ℕ). Sound c (y ∷ s) (scan (y ∷ s))) (sym (eqb-true x d (and_parts (x == d) true e).0)) (is s)
+at-letter c d scan w3 s w5 = grind (arith, common_steps, eqb-true, and_parts)
 
 pub byte-sound : (s : List ℕ) → begins (codes "'") s ≡ true → Sound 98 s (literal (after 1 byte_body) s)
 byte-sound = at-letter 98 39 (literal (after 1 byte_body)) (λ s. lettered-sound 98 39 Byte single_quoted_string s refl (lit.byte_char (single-sound s)))
@@ -133,8 +132,7 @@ lettered-reads c d kind scan next t w start one is e =
 -- ---- raw strings
 
 accepts : (r : Result ℕ RawStrError) → is_accepted r ≡ is_some (accepted r)
-accepts (Ok n) = refl
-accepts (Err e) = refl
+accepts r = grind (arith, common_steps)
 
 -- what marks an identifier in a front of a text marks one in the text
 marks-front : (m : ℕ) (s : List ℕ) → marks_ident (take m s) ≡ true → marks_ident s ≡ true
@@ -170,8 +168,7 @@ raw_c_str-sound s mark =
 
 -- what follows the `r`
 guard-mark : (n c : ℕ) (s : List ℕ) → is_raw_mark c ≡ true → NextIs is_raw_mark (hashes n ++ c ∷ s)
-guard-mark zero c s e = e
-guard-mark (suc n) c s e = refl
+guard-mark n c s w3 = grind (arith, common_steps)
 
 raw-mark : {next : List ℕ} {o : Option ℕ} {w : List ℕ} → IsRaw next o w → NextIs is_raw_mark (w ++ next)
 raw-mark {next} w1 = grind (arith, common_steps, append_assoc, guard-mark)
@@ -218,21 +215,14 @@ pub record HasDigit (w : List ℕ) : Type 0 where
   pub whole : w ≡ first ∷ rest
   pub digit : is_ascii_digit first ≡ true
 
-whole-digit : {base : Base} {empty : Bool} {w : List ℕ} → IsWholePart base empty w → HasDigit w
-whole-digit w0 = grind (arith, common_steps)
-
 form-digit : {next : List ℕ} {kind : LiteralKind} {w : List ℕ} → HasNumberForm next kind w → HasDigit w
-form-digit (of_prefix whole) = whole-digit whole
-form-digit (of_parts {whole = w} {tail = t} whole is) = let d = whole-digit whole in record { first = d.first; rest = d.rest ++ t; whole = ap (λ (xs : List ℕ). xs ++ t) d.whole; digit = d.digit }
-
-first-reads : (next : List ℕ) (kind : LiteralKind) (c : ℕ) (v : List ℕ) → is_ascii_digit c ≡ true → IsNumberBefore next kind (c ∷ v) → ReadsLiteral next kind true (c ∷ v)
-first-reads next kind c v digit is = grind (arith, common_steps, read-first, chooses-number, past-read, number-is, bytes-letter, digit-one)
+form-digit w0 = grind (arith, common_steps)
 
 pub number-digit : {next : List ℕ} {kind : LiteralKind} {w : List ℕ} → IsNumberBefore next kind w → HasDigit w
 number-digit is = form-digit is.form
 
 pub number-reads : (next : List ℕ) (kind : LiteralKind) (w : List ℕ) → IsNumberBefore next kind w → ReadsLiteral next kind true w
-number-reads next kind w is = grind (arith, common_steps, number-digit, first-reads)
+number-reads next kind w is = grind (arith, common_steps, number-digit, read-first, chooses-number, past-read, number-is, bytes-letter, digit-one)
 
 -- ---- all but characters
 

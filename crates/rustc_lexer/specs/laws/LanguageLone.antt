@@ -85,9 +85,7 @@ edge-stands (the.dashes u fresh) = ap standing (reverse-append u (fence 3)) ∙ 
 
 blanks-stand : (w r : List ℕ) → AreAll is_horizontal_whitespace w → standing r ≡ true → standing (reverse w ++ r) ≡ true
 blanks-stand [] r all e = e
-blanks-stand (c ∷ w) r all e =
-    let parts = and_parts (is_horizontal_whitespace c) (list_all is_horizontal_whitespace w) all in
-    ap standing (ap (λ (u : Chars). u ++ r) (reverse-append (c ∷ []) w) ∙ append_assoc (reverse w) (c ∷ []) r) ∙ blanks-stand w (c ∷ r) parts.1 (by_either (c == 10) (λ f. rw f refl) (λ f. rw (f, parts.0, e) refl))
+blanks-stand (c ∷ w) r all e = grind (arith, common_steps, and_parts, reverse-append, append_assoc, blanks-stand w (c ∷ r) (and_parts (is_horizontal_whitespace c) (list_all is_horizontal_whitespace w) all).1 (by_either (c == 10) (λ f. rw f refl) (λ f. rw (f, (and_parts (is_horizontal_whitespace c) (list_all is_horizontal_whitespace w) all).0, e) refl)))
 
 pub lone-decided : (u v : Chars) → IsLone u v → lone_at [] (length u) (u ++ v) ≡ true
 lone-decided u v w0 = search (arith, reverse-append, blanks-stand, edge-stands, lone_at-text, take-append_seam, drop-append_seam)

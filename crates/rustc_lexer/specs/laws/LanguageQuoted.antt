@@ -1,5 +1,5 @@
 -- Quoted text is in its language, and what is there is read so.
-use Rattle.std.proofs.Common.{◌≡◌, ℕ, ◌==◌, ◌||◌, inl, inr, not, Bool, true, false, true≢false, List, [], ◌∷◌, ◌++◌, length, take, drop, codes, refl, sym, ap, ◌∙◌, subst, arith, take-append-drop}
+use Rattle.std.proofs.Common.{◌≡◌, ℕ, ◌==◌, ◌||◌, not, Bool, true, false, true≢false, List, [], ◌∷◌, ◌++◌, length, take, drop, codes, refl, sym, ap, ◌∙◌, subst, arith, take-append-drop}
 use Rattle.std.proofs.lemmas.Bool.{and_parts, eqb-true, not-true, or_parts, or_cases, or_from}
 use Rattle.std.proofs.Math.Bool.{and-true, or-false}
 use Rattle.std.proofs.lemmas.Grind.{common_steps}
@@ -104,8 +104,7 @@ single-to {w = w} q next t free e = single-free (w ++ next) (no-lone_stop q next
 
 -- the character that is next, where it is this one
 is-next : (d : ℕ) (s : List ℕ) → NextIn (d ∷ []) s → s ≡ d ∷ drop 1 s
-is-next d [] e = absurd (true≢false (sym e))
-is-next d (c ∷ s) e = elim (or_cases (c == d) false e) [ inl f ↦ ap (λ x. x ∷ s) (eqb-true c d f) | inr f ↦ absurd (true≢false (sym f)) ]
+is-next d s w2 = grind (arith, common_steps, or_cases, eqb-true)
 
 pub single-read : {next : List ℕ} {t : Bool} {w : List ℕ} → IsSingleQuoted next t w → single_quoted_string (w ++ next) ≡ (t, length w)
 single-read {next} (lit.one {c} out) = rw out refl

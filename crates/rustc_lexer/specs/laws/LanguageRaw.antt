@@ -142,17 +142,13 @@ good n le = rw (le-leb n 255 le) refl
 bad : (n : ℕ) → 255 < n → accepted (hash_count n) ≡ None
 bad n lt = rw (lt-leb n 255 lt) refl
 
--- its length
-whole-length : (n : ℕ) (w : List ℕ) → n + suc (suc (length w) + n) ≡ length (hashes n ++ (34 ∷ w ++ 34 ∷ hashes n))
-whole-length n w = omega (arith, length-append (hashes n) (34 ∷ w ++ 34 ∷ hashes n), length-append w (34 ∷ hashes n), guard-length n)
-
 -- a closed one, before what follows it
 pub whole-text : (n : ℕ) (w next : List ℕ) → (hashes n ++ (34 ∷ w ++ 34 ∷ hashes n)) ++ next ≡ hashes n ++ (34 ∷ w ++ (34 ∷ hashes n ++ next))
 whole-text n w next = append_assoc (hashes n) (34 ∷ w ++ 34 ∷ hashes n) next ∙ ap (λ (xs : List ℕ). hashes n ++ 34 ∷ xs) (append_assoc w (34 ∷ hashes n) next)
 
 closed-seen : (n : ℕ) (w next : List ℕ) (o : Option ℕ) → NoQuoteWith n w → accepted (hash_count n) ≡ o → raw_seen ((hashes n ++ (34 ∷ w ++ 34 ∷ hashes n)) ++ next) ≡ (o, length (hashes n ++ (34 ∷ w ++ 34 ∷ hashes n)))
 closed-seen n w next o lacks count =
-    grind (arith, common_steps, whole-text, starts, quote-seen, close-read, whole-length)
+    grind (arith, common_steps, whole-text, starts, quote-seen, close-read, length-append, guard-length)
 
 unclosed-seen : (n : ℕ) (w : List ℕ) → NoQuoteWith n w → raw_seen (hashes n ++ 34 ∷ w) ≡ (None, length (hashes n ++ 34 ∷ w))
 unclosed-seen n w lacks = grind (arith, common_steps, starts, quote-seen, unclosed-read, length-append, guard-length)

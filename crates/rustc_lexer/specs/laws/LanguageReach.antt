@@ -1,5 +1,5 @@
 -- How far a token of each kind looks can be read off the conditions of the language on what follows.
-use Rattle.std.proofs.Common.{◌≡◌, ℕ, zero, suc, ◌<◌, ◌==◌, ◌&&◌, if◌then◌else◌, not, Bool, true, false, true≢false, List, [], ◌∷◌, ◌++◌, length, take, drop, codes, refl, sym, ap, ◌∙◌, subst, arith, Option, None, bytes_eq}
+use Rattle.std.proofs.Common.{◌≡◌, ℕ, zero, suc, ◌<◌, ◌==◌, ◌&&◌, if◌then◌else◌, not, Bool, true, false, true≢false, List, [], ◌∷◌, ◌++◌, take, drop, codes, refl, sym, ap, ◌∙◌, subst, arith, Option, None, bytes_eq}
 use Rattle.std.proofs.lemmas.Bool.{and_parts, or_parts, eqb-true}
 use Rattle.std.specs.List.{list_all, list_any}
 use Rattle.std.proofs.Math.Bool.{and-false, and-true}
@@ -16,7 +16,7 @@ use Rattle.rustc_lexer.specs.NumberGrammar as number
 use Rattle.rustc_lexer.specs.NumberGrammar.{HasNumberForm, IsNumberBefore}
 use Rattle.rustc_lexer.specs.means.Scan.{begins, next_is}
 use Rattle.rustc_lexer.specs.laws.LanguageLiterals.{HasDigit, number-digit}
-use Rattle.rustc_lexer.specs.laws.LanguageRuns.{either-way, word-no_mark}
+use Rattle.rustc_lexer.specs.laws.LanguageRuns.{word-no_mark}
 use Rattle.rustc_lexer.specs.laws.LanguageLifetimes.{end-stops}
 use Rattle.rustc_lexer.specs.laws.Ident.{marks_ident-decided}
 use Rattle.rustc_lexer.specs.means.Ident.{marks_ident}
@@ -26,8 +26,7 @@ use Rattle.rustc_lexer.specs.laws.Reach.{begins-decided, cut, decided_same, next
 -- ---- one character, and the end
 
 pub ends : (s u : List ℕ) → take 1 u ≡ take 1 s → s ≡ [] → u ≡ []
-ends s [] e none = refl
-ends s (c ∷ u) e none = absurd (let no : 1 ≡ 0 = ap length e ∙ ap (λ (x : List ℕ). length (take 1 x)) none in omega (arith, no))
+ends s u w2 w3 = grind (arith, common_steps)
 
 pub same : (p : ℕ → Bool) (s u : List ℕ) → take 1 u ≡ take 1 s → next_is p u ≡ next_is p s
 same p s u e = decided_same 1 1 (next_is p) u s (next_is-decided p) (omega arith) e
@@ -116,16 +115,12 @@ suffix-alike {next} (lit.some is stop) other e = lit.some is (stops _ next other
 closed-first : {next : List ℕ} {t : Bool} {w : List ℕ} → IsSingleQuoted next t w → t ≡ true → NextIsNot is_name_start w → (s : List ℕ) → NextIsNot is_name_start (w ++ s)
 closed-first other t stop s = grind (arith, common_steps, end-stops)
 
--- how far a character looks that a quote closes, behind one character or behind what begins no name
-one-reach : (c : ℕ) (s : List ℕ) → literal_reach (Char true) (39 ∷ c ∷ 39 ∷ s) ≡ 1
-one-reach c s = let short : is_long_char (39 ∷ c ∷ 39 ∷ s) ≡ false = and-false (is_name_start c) in rw short refl
-
 closed-reach : {next : List ℕ} (w : List ℕ) → IsSingleQuoted next true w → NextIsNot is_name_start w → (s : List ℕ) → literal_reach (Char true) (39 ∷ w ++ s) ≡ 1
 closed-reach w q stop s = let first : next_is is_name_start (w ++ s) ≡ false = closed-first q refl stop s in rw first refl
 
 -- what may have a suffix looks at something
 pub literal-looks : {next : List ℕ} {kind : LiteralKind} {takes : Bool} {w : List ℕ} → IsLiteralBefore next kind takes w → takes ≡ true → (s : List ℕ) → 0 < literal_reach kind (w ++ s)
-literal-looks w0 w1 s = grind (arith, common_steps, number-reach, number-looks, one-reach, closed-reach)
+literal-looks w0 w1 s = grind (arith, common_steps, number-reach, number-looks, and-false, closed-reach)
 
 pub literal-alike : {next : List ℕ} {kind : LiteralKind} {takes : Bool} {w : List ℕ} → IsLiteralBefore next kind takes w → (s other : List ℕ) → take (literal_reach kind (w ++ s)) other ≡ take (literal_reach kind (w ++ s)) next → IsLiteralBefore other kind takes w
 literal-alike {next} (lit.number {kind} {w} is) s other e = lit.number (number-stays w (number-digit is) is other (subst (λ (k : ℕ). take k other ≡ take k next) (number-reach is.form (w ++ s)) e))
@@ -155,11 +150,7 @@ no-hash d c (x ∷ w) s all e =
 mark-decided : (letters w : List ℕ) (m c : ℕ) (u v : List ℕ) → list_all is_word_continue letters ≡ true → ends_prefix c ≡ true → begins (letters ++ (m ∷ [])) (w ++ c ∷ v) ≡ begins (letters ++ (m ∷ [])) (w ++ c ∷ u)
 mark-decided [] [] m c u v all mark = refl
 mark-decided [] (x ∷ w) m c u v all mark = refl
-mark-decided (l ∷ ls) [] m c u v all mark = by_letter (c == l) refl
-  where
-    by_letter : (b : Bool) → (c == l) ≡ b → (b && begins (ls ++ (m ∷ [])) v) ≡ (b && begins (ls ++ (m ∷ [])) u)
-    by_letter true e = either-way (ends_prefix c) mark (ap ends_prefix (eqb-true c l e) ∙ word-no_mark l (and_parts (is_word_continue l) (list_all is_word_continue ls) all).0)
-    by_letter false e = refl
+mark-decided (l ∷ ls) [] m c u v all mark = grind (arith, common_steps, eqb-true, word-no_mark, and_parts)
 mark-decided (l ∷ ls) (x ∷ w) m c u v all mark = ap (λ (b : Bool). (x == l) && b) (mark-decided ls w m c u v (and_parts (is_word_continue l) (list_all is_word_continue ls) all).1 mark)
 
 pub known-decided : (w : List ℕ) (c : ℕ) (u v : List ℕ) → ends_prefix c ≡ true → list_any (λ prefix. begins prefix (w ++ c ∷ v)) known_prefixes ≡ list_any (λ prefix. begins prefix (w ++ c ∷ u)) known_prefixes

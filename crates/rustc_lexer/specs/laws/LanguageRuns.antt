@@ -23,9 +23,7 @@ use Rattle.rustc_lexer.specs.means.Scan.{after, next_is, begins, run_len}
 pub run_len-here : (p : ℕ → Bool) (w next : List ℕ) → AreAll p w → NextIsNot p next → run_len p (w ++ next) ≡ length w
 run_len-here p [] [] all stop = refl
 run_len-here p [] (c ∷ next) all stop = run_len-out p c next stop
-run_len-here p (c ∷ w) next all stop =
-    let parts = and_parts (p c) (list_all p w) all in
-    run_len-in p c (w ++ next) parts.0 ∙ ap suc (run_len-here p w next parts.1 stop)
+run_len-here p (c ∷ w) next all stop = grind (arith, common_steps, and_parts, run_len-in, run_len-here p w next (and_parts (p c) (list_all p w) all).1 stop)
 
 -- what follows a run stops it
 pub run-stops : (p : ℕ → Bool) (s : List ℕ) → NextIsNot p (drop (run_len p s) s)
@@ -34,8 +32,7 @@ run-stops p (c ∷ s) = by_test (λ n. NextIsNot p (drop n (c ∷ s))) (p c) (su
 
 -- no character of one class is in the other
 pub apart : (p q : ℕ → Bool) (s : List ℕ) → ((c : ℕ) → p c ≡ true → q c ≡ false) → NextIs p s → NextIsNot q s
-apart p q [] away t = refl
-apart p q (c ∷ s) away t = away c t
+apart p q s w3 w4 = grind (arith, common_steps)
 
 -- what is in a class is no character that is not
 pub other_than : (p : ℕ → Bool) (k d : ℕ) → p k ≡ false → p d ≡ true → (d == k) ≡ false

@@ -21,7 +21,7 @@ use Rattle.rustc_lexer.specs.means.Lexeme.{first_token, symbols, kind_among}
 use Rattle.rustc_lexer.specs.means.Scan.{begins}
 use Rattle.rustc_lexer.specs.means.Shebang.{is_passed, is_open_bracket, is_attribute, before_newline, line_len, shebang_past, read_shebang}
 use Rattle.rustc_lexer.specs.Classes.{AreAll, is_inline, IsText}
-use Rattle.rustc_lexer.specs.laws.Choice.{by_either, by_test}
+use Rattle.rustc_lexer.specs.laws.Choice.{by_either}
 use Rattle.rustc_lexer.specs.laws.Edition.{first_token_grammar}
 use Rattle.rustc_lexer.specs.laws.Cuts.{past_first as text_past, shorter, tokens-nil, tokens-cons}
 use Rattle.rustc_lexer.specs.laws.LanguageFront.{split, first-is}
@@ -81,9 +81,7 @@ attribute-read (the.passed {kind} {c} {w} {next} among p rest) text is e =
 -- a bracket is what it is alone
 among-bracket : (ss : List (ℕ × TokenKind)) (c : ℕ) → list_all (λ s. not (is_open_bracket s.1) || (s.0 == 91)) ss ≡ true → is_open_bracket (kind_among ss c) ≡ true → c ≡ 91
 among-bracket [] c all e = absurd (true≢false (sym e))
-among-bracket (s ∷ ss) c all e =
-    let parts = and_parts (not (is_open_bracket s.1) || (s.0 == 91)) (list_all (λ s. not (is_open_bracket s.1) || (s.0 == 91)) ss) all in
-    by_test (λ kind. is_open_bracket kind ≡ true → c ≡ 91) (c == s.0) s.1 (kind_among ss c) (λ f g. eqb-true c s.0 f ∙ eqb-true s.0 91 (ap (λ (b : Bool). not b || (s.0 == 91)) (sym g) ∙ parts.0)) (λ f. among-bracket ss c parts.1) e
+among-bracket (s ∷ ss) c all e = grind (arith, common_steps, and_parts, eqb-true, among-bracket ss c (and_parts (not (is_open_bracket s.1) || (s.0 == 91)) (list_all (λ s. not (is_open_bracket s.1) || (s.0 == 91)) ss) all).1)
 
 bracket-view : {next : List ℕ} {kind : TokenKind} {w : List ℕ} → IsTokenBefore next kind w → is_open_bracket kind ≡ true → w ≡ 91 ∷ []
 bracket-view (grammar.symbol {c} is) e = ap (λ (x : ℕ). x ∷ []) (among-bracket symbols c refl e)
@@ -132,10 +130,7 @@ line_to text n = if begins (codes "\r\n") (drop (n - 1) text) then n - 1 else n
 -- a carriage return is no newline
 prefix-return : (w next : List ℕ) → AreAll is_inline w → begins (codes "\r\n") next ≡ true → before_newline (w ++ next) ≡ suc (length w)
 prefix-return [] [] all e = absurd (true≢false (sym e))
-prefix-return [] (c ∷ next) all e =
-    let parts = and_parts (c == 13) (begins (codes "\n") next) e in
-    let is : c ≡ 13 = eqb-true c 13 parts.0 in
-    ap (λ (x : ℕ). before_newline (x ∷ next)) is ∙ (more (prefix_len is_inline next) ∙ ap suc (prefix-here [] next refl parts.1))
+prefix-return [] (c ∷ next) all e = grind (arith, common_steps, and_parts, eqb-true, more, prefix-here)
 prefix-return (c ∷ w) next all e = let parts = and_parts (is_inline c) (list_all is_inline w) all in rw parts.0 (more (prefix_len is_inline (w ++ next)) ∙ ap suc (prefix-return w next parts.1 e))
 
 pub short : (s : List ℕ) → length s ≤ 1 → begins (codes "\r\n") s ≡ false

@@ -23,8 +23,7 @@ use Rattle.rustc_lexer.specs.laws.Tokens.{token_at-cuts, by_tokens, tokens-nil, 
 -- ---- a list that the language allows is the list of the tokens
 
 pub at-first : (mode : Mode) (text : List ℕ) → (is_document mode ≡ true → opens (chars text) ≡ false) → token_at mode text ≡ first_token_in (mode_edition mode) text
-at-first (part edition) text free = refl
-at-first (document edition) text free = rw (free refl) refl
+at-first mode text w2 = grind (arith, common_steps)
 
 at-frontmatter : (edition : Edition) (text : List ℕ) → opens (chars text) ≡ true → token_at (document edition) text ≡ frontmatter text
 at-frontmatter edition text e = rw e refl
@@ -62,13 +61,7 @@ frontmatter-is text n bad_label front rest is e is_opening =
 step : (mode : Mode) (text w next : List ℕ) (token : Token) (tokens : List Token) → IsText text → 0 < length w → chars text ≡ w ++ next → token_at mode text ≡ token → token.len ≡ bytes w
     → ((u : List ℕ) → IsText u → chars u ≡ next → read_tokens (mode_after mode token.kind) u ≡ tokens) → read_tokens mode text ≡ token ∷ tokens
 step mode text w next token tokens is lt e f len rest =
-    let parts = split text w next is e in
-    let cuts = token_at-cuts mode text is (parts.some lt) in
-    let left : drop (token_at mode text).len text ≡ encode_utf8_all next = ap (λ (t : Token). drop t.len text) f ∙ (ap (λ (n : ℕ). drop n text) len ∙ parts.left) in
-    let text_left : IsText (encode_utf8_all next) = subst IsText left cuts.left in
-    tokens-cons mode text is (parts.some lt)
-    ∙ (ap (λ (t : Token). t ∷ read_tokens (mode_after mode t.kind) (drop (token_at mode text).len text)) f
-    ∙ (ap (λ (u : List ℕ). token ∷ read_tokens (mode_after mode token.kind) u) left ∙ ap (λ (ts : List Token). token ∷ ts) (rest (encode_utf8_all next) text_left parts.again)))
+    grind (arith, common_steps, split text w next is e, token_at-cuts mode text is ((split text w next is e).some lt), f, len, (split text w next is e).left, (ap (λ (t : Token). drop t.len text) f ∙ (ap (λ (n : ℕ). drop n text) len ∙ (split text w next is e).left)), (token_at-cuts mode text is ((split text w next is e).some lt)).left, tokens-cons mode text is ((split text w next is e).some lt), rest)
 
 pub tokens-read : {mode : Mode} {cs : List ℕ} {tokens : List Token} → AreTokens mode cs tokens → (text : List ℕ) → IsText text → chars text ≡ cs → read_tokens mode text ≡ tokens
 tokens-read (nothing {mode}) text is e = ap (λ u. read_tokens mode u) (empty-text text is e) ∙ tokens-nil mode
@@ -93,15 +86,11 @@ Puts mode text t = AreTokens (mode_after mode t.kind) (chars (drop t.len text)) 
 -- a token of the characters, and the tokens of what follows it
 put : (mode : Mode) (text : List ℕ) (kind : TokenKind) (c : ℕ) (w next : List ℕ) → IsText text → c ∷ w ++ next ≡ chars text → IsTokenIn (mode_edition mode) next kind (c ∷ w) → (is_document mode ≡ true → opens (chars text) ≡ false) → Puts mode text (token kind (bytes (c ∷ w)))
 put mode text kind c w next is whole p free rest =
-    let parts = split text (c ∷ w) next is (sym whole) in
-    let tokens : List Token = read_tokens (mode_after mode kind) (drop (bytes (c ∷ w)) text) in
-    let rest_are : AreTokens (mode_after mode kind) next tokens = subst (λ (cs : List ℕ). AreTokens (mode_after mode kind) cs tokens) (ap chars parts.left ∙ parts.again) rest in
-    subst (λ (cs : List ℕ). AreTokens mode cs (token kind (bytes (c ∷ w)) ∷ tokens)) whole (something p (λ y. opens-none (c ∷ w ++ next) (ap opens whole ∙ free y)) rest_are)
+    grind (arith, common_steps, split text (c ∷ w) next is (sym whole), (split text (c ∷ w) next is (sym whole)).left, (split text (c ∷ w) next is (sym whole)).again, rest, whole, something, opens-none)
 
 lexeme-first : (mode : Mode) (text : List ℕ) → IsText text → 0 < length text → (is_document mode ≡ true → opens (chars text) ≡ false) → Puts mode text (token_at mode text)
 lexeme-first mode text is some free =
-    let f = first-front (mode_edition mode) text (chars text) is some refl in
-    subst (Puts mode text) (sym (at-first mode text free ∙ f.same)) (put mode text f.kind f.c f.w f.next is f.whole f.is free)
+    grind (arith, common_steps, first-front (mode_edition mode) text (chars text) is some refl, at-first mode text free, (first-front (mode_edition mode) text (chars text) is some refl).same, put)
 
 frontmatter-first : (edition : Edition) (text : List ℕ) → IsText text → 0 < length text → opens (chars text) ≡ true → Puts (document edition) text (frontmatter text)
 frontmatter-first edition text is some opened_here rest_are = put (opened (chars text) opened_here)

@@ -9,7 +9,6 @@ use Rattle.rustc_lexer.specs.{TokenKind, Ident, InvalidIdent, RawIdent, ForcedKe
 use Rattle.rustc_lexer.specs.Classes.{is_id_start, is_id_continue, is_ident, is_word_continue, is_word_start, begins_ident_after, AreAll, NextIs, NextIsNot, ends_prefix}
 use Rattle.rustc_lexer.specs.Tables.{is_emoji, emoji_ranges}
 use Rattle.rustc_lexer.specs.means.Ident.{ident_kind, ident_or_unknown_prefix, invalid_ident, marks_ident, marked}
-use Rattle.rustc_lexer.specs.laws.Choice.{by_either}
 use Rattle.rustc_lexer.specs.laws.LanguageRuns.{run_len-here, run-stops, either-way, Sound, Read, read-first, begins-next, chooses-word, chooses-emoji, word-no_mark, mark-stops, start-word_start, letters-start}
 use Rattle.rustc_lexer.specs.laws.Reach.{run_all}
 use Rattle.rustc_lexer.specs.Language as the
@@ -39,16 +38,12 @@ pub record BeginsNone (s : List ℕ) : Type 0 where
   pub cr_hash : begins (codes "cr#") s ≡ false
   pub k_hash : begins_ident_after (codes "k#") s ≡ false
 
-pub begins-none : (s : List ℕ) → begins_prefixed s ≡ false → BeginsNone s
-begins-none s e = grind (arith, common_steps, or_parts)
-
 pub no-opening : (s : List ℕ) → BeginsNone s → begins_prefixed s ≡ false
 no-opening s n = grind (arith, common_steps, or_from)
 
 -- no mark of a raw string is next
 raw_mark-stops : (s : List ℕ) → begins (codes "\"") s ≡ false → begins (codes "#") s ≡ false → NextIsNot is_raw_mark s
-raw_mark-stops [] e f = refl
-raw_mark-stops (d ∷ s) e f = or_from (d == 35) _ (or_parts (d == 35) false (sym (begins-next 35 (d ∷ s)) ∙ f)).0 (sym (begins-next 34 (d ∷ s)) ∙ e)
+raw_mark-stops s w1 w2 = grind (arith, common_steps, or_from, or_parts, begins-next)
 
 pub raw_mark-none : (s : List ℕ) → NextIsNot is_raw_mark s → (begins (codes "\"") s ≡ false) × (begins (codes "#") s ≡ false)
 raw_mark-none w0 e = grind (arith, common_steps, or_parts, begins-next, or_from)
@@ -61,24 +56,11 @@ none-raw w0 e = grind (arith, common_steps, raw_mark-none)
 
 -- ---- what is read there as an identifier
 
-r-plain : (s : List ℕ) → BeginsNone (114 ∷ s) → letter_r s ≡ ident_or_unknown_prefix s
-r-plain s n = grind (arith, common_steps, raw_mark-stops)
-
-k-plain : (s : List ℕ) → BeginsNone (107 ∷ s) → letter_k s ≡ ident_or_unknown_prefix s
-k-plain s n = let m : marks_ident s ≡ false = n.k_hash in rw m refl
-
-b-plain : (s : List ℕ) → BeginsNone (98 ∷ s) → letter_b s ≡ ident_or_unknown_prefix s
-b-plain s n = grind (arith, common_steps, raw-none)
-
-c-plain : (s : List ℕ) → BeginsNone (99 ∷ s) → letter_c s ≡ ident_or_unknown_prefix s
-c-plain s n = grind (arith, common_steps, raw-none)
-
 abbrev IsPlain : ℕ → (List ℕ → TokenKind × ℕ) → Type 0
 IsPlain c scan = (s : List ℕ) → begins_prefixed (c ∷ s) ≡ false → scan s ≡ ident_or_unknown_prefix s
 
 word-plain : (c : ℕ) (s : List ℕ) → begins_prefixed (c ∷ s) ≡ false → word c s ≡ ident_or_unknown_prefix s
-word-plain c = by_letter IsPlain c (λ s e. r-plain s (begins-none (114 ∷ s) e)) (λ s e. k-plain s (begins-none (107 ∷ s) e)) (λ s e. b-plain s (begins-none (98 ∷ s) e)) (λ s e. c-plain s (begins-none (99 ∷ s) e))
-    (λ r k b d s e. refl)
+word-plain c = grind (arith, common_steps, by_letter, raw_mark-stops, or_parts, raw-none)
 
 -- ---- a word right before a mark
 
@@ -90,13 +72,9 @@ record IsWholeWord (f w next : List ℕ) : Type 0 where
 whole-word : (f : List ℕ) (m : ℕ) (w next : List ℕ) → ends_prefix m ≡ true → AreAll is_word_continue f → AreAll is_word_continue w → NextIsNot is_word_continue next → begins (f ++ m ∷ []) (w ++ next) ≡ true → IsWholeWord f w next
 whole-word [] m [] [] mark fs ws stop e = absurd (true≢false (sym e))
 whole-word [] m [] (d ∷ next) mark fs ws stop e = record { same = refl; at_mark = ap ends_prefix (eqb-true d m (and_parts (d == m) true e).0) ∙ mark }
-whole-word [] m (d ∷ w) next mark fs ws stop e =
-    let same : d ≡ m = eqb-true d m (and_parts (d == m) true e).0 in
-    absurd (either-way (ends_prefix d) (ap ends_prefix same ∙ mark) (word-no_mark d (and_parts (is_word_continue d) (list_all is_word_continue w) ws).0))
+whole-word [] m (d ∷ w) next mark fs ws stop e = grind (arith, common_steps, eqb-true, and_parts, word-no_mark)
 whole-word (x ∷ f) m [] [] mark fs ws stop e = absurd (true≢false (sym e))
-whole-word (x ∷ f) m [] (d ∷ next) mark fs ws stop e =
-    let same : d ≡ x = eqb-true d x (and_parts (d == x) _ e).0 in
-    absurd (either-way (is_word_continue d) (ap is_word_continue same ∙ (and_parts (is_word_continue x) (list_all is_word_continue f) fs).0) stop)
+whole-word (x ∷ f) m [] (d ∷ next) mark fs ws stop e = grind (arith, common_steps, eqb-true, and_parts)
 whole-word (x ∷ f) m (d ∷ w) next mark fs ws stop e =
     let parts = and_parts (d == x) _ e in
     let more = whole-word f m w next mark (and_parts (is_word_continue x) (list_all is_word_continue f) fs).1 (and_parts (is_word_continue d) (list_all is_word_continue w) ws).1 stop parts.1 in
@@ -132,13 +110,8 @@ pub continue-word : (w : List ℕ) → AreAll is_id_continue w → AreAll is_wor
 continue-word [] all = refl
 continue-word (c ∷ w) all = let parts = and_parts (is_id_continue c) (list_all is_id_continue w) all in rw parts.0 (continue-word w parts.1)
 
--- what is read of a word
-ident-read : (w next : List ℕ) → AreAll is_word_continue w → NextIsNot is_word_continue next → ident_or_unknown_prefix (w ++ next) ≡ (ident_kind w next, length w)
-ident-read w next all stop = grind (arith, common_steps, run_len-here, take-append_seam, drop-append_seam)
-
 plain-read : (c : ℕ) (w next : List ℕ) (kind : TokenKind) → is_id_start c ≡ true → AreAll is_word_continue w → NextIsNot is_word_continue next → begins_prefixed (c ∷ w ++ next) ≡ false → ident_kind w next ≡ kind → Read kind (suc (length w)) (c ∷ w ++ next)
-plain-read c w next kind start all stop free is =
-    read-first c (word c) (w ++ next) kind (length w) _ (chooses-word c start) (word-plain c (w ++ next) free ∙ (ident-read w next all stop ∙ ap (λ (k : TokenKind). (k, length w)) is)) refl
+plain-read c w next kind start all stop free is = grind (arith, common_steps, read-first, chooses-word, word-plain, run_len-here, take-append_seam, drop-append_seam)
 
 pub ident-is_read : (w next : List ℕ) → is_ident w ≡ true → NextIsNot is_word_continue next → NextIsNot ends_prefix next → Read Ident (length w) (w ++ next)
 ident-is_read w0 next is stop none =
@@ -148,13 +121,7 @@ pub prefix-read : (w next : List ℕ) → is_ident w ≡ true → NextIs ends_pr
 prefix-read w0 next is goes free = grind (arith, common_steps, and_parts, plain-read, continue-word, mark-stops)
 
 pub invalid-read : (c : ℕ) (w next : List ℕ) → is_word_start c ≡ true → AreAll is_word_continue w → is_ident (c ∷ w) ≡ false → NextIsNot is_word_continue next → Read InvalidIdent (suc (length w)) (c ∷ w ++ next)
-invalid-read c w next start all wrong stop = by_either (is_id_start c)
-    (λ e.
-    let no_ident : list_all is_id_continue w ≡ false = rw e at wrong in
-    plain-read c w next InvalidIdent e all stop (word-no_opening c w next all stop (λ goes. wrong)) (rw no_ident refl))
-    (λ e.
-    let emoji : is_emoji c ≡ true = rw e at start in
-    read-first c invalid_ident (w ++ next) InvalidIdent (length w) _ (chooses-emoji c e emoji) (ap (λ (n : ℕ). (InvalidIdent, n)) (run_len-here is_word_continue w next all stop)) refl)
+invalid-read c w next start all wrong stop = grind (arith, plain-read, word-no_opening, read-first, chooses-emoji, run_len-here)
 
 -- past a mark
 marked-read : (kind : TokenKind) (other : List ℕ → TokenKind × ℕ) (w next : List ℕ) → is_ident w ≡ true → NextIsNot is_id_continue next → marked kind other (35 ∷ w ++ next) ≡ (kind, suc (length w))

@@ -1,5 +1,6 @@
 -- The least offset at which a test passes.
-use Rattle.std.proofs.Common.{◌≡◌, ℕ, suc, ◌+◌, Bool, true, false, List, ◌∷◌, Option, Some, None, refl, ap, arith}
+use Rattle.std.proofs.lemmas.Grind.{common_steps}
+use Rattle.std.proofs.Common.{◌≡◌, ℕ, suc, ◌+◌, Bool, true, false, List, ◌∷◌, Option, Some, None, refl, arith}
 use Rattle.rustc_lexer.specs.means.Least.{one_more, more}
 use Rattle.rustc_lexer.specs.means.Raw.{least_offset}
 
@@ -12,17 +13,13 @@ module _ (test : List ℕ → Bool) where
   offset-on c s e = rw e refl
 
 pub more-zero : (o : Option ℕ) → o ≡ more 0 o
-more-zero None = refl
-more-zero (Some n) = ap Some (omega arith)
+more-zero o = grind (arith, common_steps)
 
 pub one_more-more : (k : ℕ) (o : Option ℕ) → one_more (more k o) ≡ more (suc k) o
-one_more-more k None = refl
-one_more-more k (Some n) = ap Some (omega arith)
+one_more-more k o = grind (arith, common_steps)
 
 pub one_more-none : (o : Option ℕ) → one_more o ≡ None → o ≡ None
-one_more-none None e = refl
-one_more-none (Some n) e = absurd (cc)
+one_more-none o w1 = grind (arith, common_steps)
 
 pub more-more : (m n : ℕ) (o : Option ℕ) → more m (more n o) ≡ more (m + n) o
-more-more m n None = refl
-more-more m n (Some k) = ap Some (omega arith)
+more-more m n o = grind (arith, common_steps)

@@ -24,9 +24,6 @@ use Rattle.rustc_lexer.specs.laws.LanguageRuns.{digit-small, other_than, pair}
 of_two : (P : ℕ → Type 0) (a b c : ℕ) → (c == a || c == b) ≡ true → P a → P b → P c
 of_two P a b c e at_a at_b = elim (or_cases (c == a) (c == b) e) [ inl f ↦ subst P (sym (eqb-true c a f)) at_a | inr f ↦ subst P (sym (eqb-true c b f)) at_b ]
 
-letter-no_digit : (e : ℕ) → is_exponent_letter e ≡ true → or_underscore is_ascii_digit e ≡ false
-letter-no_digit e t = of_two (λ x. or_underscore is_ascii_digit x ≡ false) 101 69 e t refl refl
-
 sign-no_digit : (g : ℕ) → is_sign g ≡ true → or_underscore is_ascii_digit g ≡ false
 sign-no_digit g t = of_two (λ x. or_underscore is_ascii_digit x ≡ false) 43 45 g t refl refl
 
@@ -57,16 +54,13 @@ exponent-within (unsigned {base} {e} {ds} letter are) left =
     at_sign (d ∷ xs) are t = absurd (true≢false (sym (and_parts (or_underscore is_ascii_digit d) (list_all (or_underscore is_ascii_digit) xs) are).0 ∙ sign-no_digit d t))
 
 exponent-letter : {base : Base} {kind : LiteralKind} {e : ℕ} {ds : List ℕ} → IsExponent base kind (e ∷ ds) → is_exponent_letter e ≡ true
-exponent-letter (signed letter sign are) = letter
-exponent-letter (unsigned letter are) = letter
+exponent-letter w0 = grind (arith, common_steps)
 
 exponent-next : {base : Base} {kind : LiteralKind} {t : List ℕ} → IsExponent base kind t → (left : List ℕ) → next_is is_exponent_letter (t ++ left) ≡ true
-exponent-next (signed letter sign are) left = letter
-exponent-next (unsigned letter are) left = letter
+exponent-next w0 left = grind (arith, common_steps)
 
 exponent-no_digit : {base : Base} {kind : LiteralKind} {t : List ℕ} → IsExponent base kind t → (left : List ℕ) → next_is (or_underscore is_ascii_digit) (t ++ left) ≡ false
-exponent-no_digit (signed {e = e} letter sign are) left = letter-no_digit e letter
-exponent-no_digit (unsigned {e = e} letter are) left = letter-no_digit e letter
+exponent-no_digit w0 left = grind (arith, common_steps, of_two)
 
 -- ---- a fraction
 
@@ -82,8 +76,7 @@ digits-within base kind d ds left m digit are past none =
 
 -- no exponent
 none-within : (base : Base) (left : List ℕ) → Within (Unit {0}) (optional_exponent base left) (Float base false) 0
-none-within base left =
-    by_test (λ (r : LiteralKind × ℕ). Within (Unit {0}) r (Float base false) 0) (next_is is_exponent_letter left) (after 1 (float_exponent base) left) (gives (Float base false) left) (λ t. inl (tt, omega arith)) (λ t. inr refl)
+none-within base left = grind (arith, common_steps)
 
 -- no digit after the dot
 dot-within : (base : Base) (left : List ℕ) → Within (Unit {0}) (fraction base left) (Float base false) 0
@@ -131,12 +124,10 @@ abbrev goes_on : Base → ℕ → Bool
 goes_on base c = is_prefix_letter c || or_underscore (is_digit_of base) c
 
 next-or : (p q : ℕ → Bool) (s : List ℕ) → next_is p s ≡ true → next_is (λ c. p c || q c) s ≡ true
-next-or p q [] t = absurd (true≢false (sym t))
-next-or p q (c ∷ s) t = rw t refl
+next-or p q s w3 = grind (arith, common_steps)
 
 next-or_right : (p q : ℕ → Bool) (s : List ℕ) → next_is q s ≡ true → next_is (λ c. p c || q c) s ≡ true
-next-or_right p q [] t = absurd (true≢false (sym t))
-next-or_right p q (c ∷ s) t = or_right (p c) (q c) t
+next-or_right p q s w3 = grind (arith, common_steps, or_right)
 
 -- the integer part of a number, with its first digit
 abbrev integer_part_all : List ℕ → IntegerPart × ℕ
@@ -162,12 +153,10 @@ letter-stops base e no_digit letter = grind (arith, common_steps, of_two, other_
 
 -- what is past a first digit 0
 past_zero : (P : IntegerPart × ℕ → Type 0) (s : List ℕ) → (begins (codes "b") s ≡ true → P (after 1 binary s)) → (begins (codes "o") s ≡ true → P (after 1 octal s)) → (begins (codes "x") s ≡ true → P (after 1 hexadecimal s)) → P (decimal s) → P (part_past_zero s)
-past_zero P s at_b at_o at_x at_none =
-    by_test P (begins (codes "b") s) (after 1 binary s) _ at_b (λ t. by_test P (begins (codes "o") s) (after 1 octal s) _ at_o (λ t. by_test P (begins (codes "x") s) (after 1 hexadecimal s) (decimal s) at_x (λ t. at_none)))
+past_zero P s at_b at_o at_x at_none = grind (arith, common_steps)
 
 begins-letter : (letter : ℕ) (s : List ℕ) → is_prefix_letter letter ≡ true → begins (letter ∷ []) s ≡ true → next_is is_prefix_letter s ≡ true
-begins-letter letter [] is t = absurd (true≢false (sym t))
-begins-letter letter (c ∷ s) is t = ap is_prefix_letter (eqb-true c letter (and_parts (c == letter) true t).0) ∙ is
+begins-letter letter s w2 w3 = grind (arith, common_steps, eqb-true, and_parts)
 
 -- digits past the first one, with no prefix
 abbrev IsPlainWithin : List ℕ → List ℕ → IntegerPart × ℕ → Type 0
@@ -354,9 +343,7 @@ one-more : (w x other rest : List ℕ) → x ++ rest ≡ w ++ other → length w
 one-more [] [] other rest text lt = absurd (omega arith)
 one-more [] (c ∷ x) other rest text lt = let left : x ++ rest ≡ drop 1 other = ap (drop 1) text in (c, sym text ∙ ap (λ (xs : List ℕ). c ∷ xs) left, refl, left)
 one-more (d ∷ w) [] other rest text lt = absurd (omega arith)
-one-more (d ∷ w) (b ∷ x) other rest text lt =
-    let more = one-more w x other rest (ap (drop 1) text) (omega arith) in
-    (more.0, more.1, ap (λ (xs : List ℕ). b ∷ xs) more.2 ∙ ap (λ (y : ℕ). y ∷ w ++ (more.0 ∷ [])) (ap (λ (xs : List ℕ). get_or xs 0 0) text), more.3)
+one-more (d ∷ w) (b ∷ x) other rest text lt = grind (arith, common_steps, one-more w x other rest (ap (drop 1) text) (omega arith))
 
 -- how far a number looks
 abbrev pub number_reach : LiteralKind → ℕ

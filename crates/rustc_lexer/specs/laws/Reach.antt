@@ -1,9 +1,10 @@
 -- What is decided by the first characters of a text; runs, and the least offset at which a test passes.
+use Rattle.std.proofs.lemmas.Grind.{common_steps}
 use Rattle.std.proofs.Common.{◌≡◌, ℕ, zero, suc, ◌+◌, ◌≤◌, ◌<◌, ◌==◌, ◌&&◌, Bool, true, false, true≢false, if◌then◌else◌, List, [], ◌∷◌, length, take, drop, refl, sym, ap, ◌∙◌, subst, arith, take-take, Option, Some, None}
 use Rattle.std.proofs.lemmas.List.{drop-take}
 use Rattle.std.specs.List.{list_all}
 use Rattle.std.proofs.lemmas.Bool.{and_parts}
-use Rattle.rustc_lexer.specs.laws.Choice.{by_either, by_test}
+use Rattle.rustc_lexer.specs.laws.Choice.{by_either}
 use Rattle.rustc_lexer.specs.laws.Least.{one_more-none}
 use Rattle.rustc_lexer.specs.means.Least.{one_more, least}
 use Rattle.rustc_lexer.specs.means.Scan.{begins, next_is, run_len}
@@ -24,8 +25,7 @@ pub decided_same : {B : Type 0} (j k : ℕ) (f : List ℕ → B) (u s : List ℕ
 decided_same j k f u s decided le e = sym (decided u) ∙ (ap f (cut j k u s le e) ∙ decided s)
 
 pub next_is-decided : (p : ℕ → Bool) → IsDecidedBy 1 (next_is p)
-next_is-decided p [] = refl
-next_is-decided p (c ∷ s) = refl
+next_is-decided p = grind (arith, common_steps)
 
 pub next_is-length : (p : ℕ → Bool) (s : List ℕ) → next_is p s ≡ true → 1 ≤ length s
 next_is-length p [] e = absurd (true≢false (sym e))
@@ -56,8 +56,7 @@ run_len-out p c cs e = rw e refl
 -- a run is in its class
 pub run_all : (p : ℕ → Bool) (s : List ℕ) → list_all p (take (run_len p s) s) ≡ true
 run_all p [] = refl
-run_all p (c ∷ s) =
-    by_test (λ n. list_all p (take n (c ∷ s)) ≡ true) (p c) (suc (run_len p s)) 0 (λ e. ap (λ (b : Bool). b && list_all p (take (run_len p s) s)) e ∙ run_all p s) (λ e. refl)
+run_all p (c ∷ s) = grind (arith, common_steps, run_all p s)
 
 -- ---- ends
 
@@ -68,8 +67,7 @@ pub record IsLeast (test : ℕ → Bool) (count n : ℕ) : Type 0 where
   pub before : (i : ℕ) → i < n → test i ≡ false
 
 pub one_more-some : (o : Option ℕ) (n : ℕ) → one_more o ≡ Some n → (m : ℕ) × (o ≡ Some m) × (n ≡ suc m)
-one_more-some None n e = absurd (cc)
-one_more-some (Some m) n e = (m, refl, let some : Some (suc m) ≡ Some n = e in let same : suc m ≡ n = cc in sym same)
+one_more-some o n w2 = grind (arith, common_steps)
 
 pub least-some : (test : ℕ → Bool) (count n : ℕ) → least test count ≡ Some n → IsLeast test count n
 least-some test zero n e = absurd (cc)

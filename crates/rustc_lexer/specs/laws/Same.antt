@@ -89,11 +89,7 @@ decided_same answer a b decided = (λ t. same_token a b (sym decided ∙ t), λ 
 -- ---- heads
 
 heads_by : (E : Option Token → Option Token → Bool) → ((x y : Option Token) → E x y ≡ true → x ≡ y) → (a b : Head) → (a.shebang_len == b.shebang_len && (a.space_len == b.space_len && (E a.frontmatter b.frontmatter && a.body == b.body))) ≡ true → a ≡ b
-heads_by E tells a b e =
-    let p = and_parts (a.shebang_len == b.shebang_len) (a.space_len == b.space_len && (E a.frontmatter b.frontmatter && a.body == b.body)) e in
-    let q = and_parts (a.space_len == b.space_len) (E a.frontmatter b.frontmatter && a.body == b.body) p.1 in
-    let r = and_parts (E a.frontmatter b.frontmatter) (a.body == b.body) q.1 in
-    λ i. record { shebang_len = eqb-true a.shebang_len b.shebang_len p.0 i; space_len = eqb-true a.space_len b.space_len q.0 i; frontmatter = tells a.frontmatter b.frontmatter r.0 i; body = eqb-true a.body b.body r.1 i }
+heads_by E tells a b e = grind (arith, common_steps, and_parts, eqb-true)
 
 pub decided_head : (answer : Bool) (a b : Head) → answer ≡ head.ghosts.eq a b → IsTrue answer ↔ (a ≡ b)
 decided_head answer a b decided =

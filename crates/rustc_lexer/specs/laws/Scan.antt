@@ -19,12 +19,10 @@ module _ {A : Type 0} where
   scanned-after n scan text rest is e = grind (arith, common_steps, chars-past, past-past)
 
   pub scanned-yes : (test : List ℕ → Bool) (scan other : List ℕ → A × ℕ) (text : List ℕ) → test (chars text) ≡ true → scanned (λ s. if test s then scan s else other s) text ≡ scanned scan text
-  scanned-yes test scan other text e =
-      ap (λ (b : Bool). let r : A × ℕ = if b then scan (chars text) else other (chars text) in (r.0, past r.1 text)) e
+  scanned-yes test scan other text e = grind (arith, common_steps)
 
   pub scanned-no : (test : List ℕ → Bool) (scan other : List ℕ → A × ℕ) (text : List ℕ) → test (chars text) ≡ false → scanned (λ s. if test s then scan s else other s) text ≡ scanned other text
-  scanned-no test scan other text e =
-      ap (λ (b : Bool). let r : A × ℕ = if b then scan (chars text) else other (chars text) in (r.0, past r.1 text)) e
+  scanned-no test scan other text e = grind (arith, common_steps)
 
   pub scanned-same : (scan other : List ℕ → A × ℕ) (text : List ℕ) → scan (chars text) ≡ other (chars text) → scanned scan text ≡ scanned other text
   scanned-same scan other text e = ap (λ (r : A × ℕ). (r.0, past r.1 text)) e
@@ -39,9 +37,7 @@ scanned-read_as {A} f scan text rest a e = ap (λ (r : A × List ℕ). (f r.0, r
 
 -- what is left is no longer than the text
 pub scanned-shorter : {A : Type 0} (scan : List ℕ → A × ℕ) (text rest : List ℕ) (a : A) → IsUtf8 text → (a, rest) ≡ scanned scan text → length rest ≤ length text
-scanned-shorter {A} scan text rest a is e =
-    let left : rest ≡ past (scan (chars text)).1 text = ap (λ (r : A × List ℕ). r.1) e in
-    omega (arith, ap length left, length-past (scan (chars text)).1 text is)
+scanned-shorter {A} scan text rest a is e = grind (arith, common_steps, e, (ap (λ (r : A × List ℕ). r.1) e), length-past (scan (chars text)).1 text is)
 
 -- a run ends before a character outside its class
 pub run_len-stop : (p : ℕ → Bool) (s : List ℕ) (c : ℕ) (u : List ℕ) → drop (run_len p s) s ≡ c ∷ u → p c ≡ false

@@ -1,10 +1,10 @@
 -- The state after a token.
-use Rattle.std.proofs.Common.{◌≡◌, ℕ, ◌==◌, true, false, List, length, drop, refl, ap, ◌∙◌, arith, zero-add, IsCharBoundary}
+use Rattle.std.proofs.Common.{◌≡◌, ℕ, ◌==◌, true, false, List, length, drop, ap, ◌∙◌, arith, zero-add, IsCharBoundary}
 use Rattle.std.proofs.lemmas.Bool.{eqb-true}
 use Rattle.std.proofs.lemmas.Grind.{common_steps}
-use Rattle.rustc_lexer.specs.{Token, TokenKind, Eof, Literal}
+use Rattle.rustc_lexer.specs.{Token, TokenKind, Eof}
 use Rattle.rustc_lexer.specs.LanguageText.{Mode, mode_after, mode_edition}
-use Rattle.rustc_lexer.specs.State.{State, kind_past, token_past}
+use Rattle.rustc_lexer.specs.State.{State, token_past}
 use Rattle.rustc_lexer.specs.means.Taking.{token_at, take_next}
 
 abbrev pub state : ℕ → List ℕ → Mode → State
@@ -33,10 +33,5 @@ module _ (pending : ℕ) (rest : List ℕ) (mode : Mode) (s : State) (e : state 
   unfolding take_next
   advance-some some = grind (arith, common_steps)
 
--- with nothing pending a token stays as it is
-kind_past-zero : (kind : TokenKind) → kind_past 0 kind ≡ kind
-kind_past-zero (Literal kind start) = ap (Literal kind) (zero-add start)
-kind_past-zero kind = refl
-
 pub token_past-zero : (token : Token) → token_past 0 token ≡ token
-token_past-zero token = grind (arith, common_steps, kind_past-zero, zero-add)
+token_past-zero token = grind (arith, common_steps, zero-add)

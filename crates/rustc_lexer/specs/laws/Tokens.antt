@@ -48,10 +48,6 @@ cut-enough (document edition) (suc m) (suc n) (c ∷ cs) is a b =
     let less : length (drop token.len (c ∷ cs)) < suc (length cs) = shorter (c ∷ cs) token cuts in
     ap (λ ts. token ∷ ts) (cut-enough (mode_after (document edition) token.kind) m n (drop token.len (c ∷ cs)) cuts.left (omega arith) (omega arith))
 
-cut-all : (mode : Mode) (n : ℕ) (text : List ℕ) → IsText text → length text ≤ n → cut mode n text ≡ read_tokens mode text
-unfolding tokens_of_document
-cut-all mode n text w0 w1 = grind (arith, common_steps, cut-enough)
-
 pub tokens-nil : (mode : Mode) → read_tokens mode [] ≡ []
 unfolding tokens_of_document
 tokens-nil mode = grind (arith, common_steps, part-nil)
@@ -60,7 +56,7 @@ tokens-nil mode = grind (arith, common_steps, part-nil)
 pub tokens-cons : (mode : Mode) (text : List ℕ) → IsText text → 0 < length text
     → read_tokens mode text ≡ token_at mode text ∷ read_tokens (mode_after mode (token_at mode text).kind) (drop (token_at mode text).len text)
 unfolding tokens_of_document
-tokens-cons w0 text is some = grind (arith, common_steps, part-cons, edition_grammar, token_at-cuts, shorter, cut-all)
+tokens-cons w0 text is some = grind (arith, common_steps, part-cons, edition_grammar, token_at-cuts, shorter, cut-enough)
 
 -- what holds of a text whose first tokens were cut off holds of the text
 module _ (P : List ℕ → Mode → Type 0) (at_end : (mode : Mode) → P [] mode)

@@ -1,5 +1,5 @@
 -- What is no longer than what a scanner reads.
-use Rattle.std.proofs.Common.{◌≡◌, ℕ, suc, ◌+◌, ◌<◌, ◌⊎◌, inl, inr, Bool, true, false, true≢false, List, [], ◌∷◌, ◌++◌, length, refl, sym, ap, subst, arith}
+use Rattle.std.proofs.Common.{◌≡◌, ℕ, suc, ◌+◌, ◌<◌, ◌⊎◌, inl, inr, Bool, true, false, true≢false, List, [], ◌∷◌, ◌++◌, length, sym, ap, subst, arith}
 use Rattle.std.proofs.Math.Seq.{take-append_seam, drop-append_seam}
 use Rattle.std.proofs.lemmas.Bool.{and_parts}
 use Rattle.std.specs.List.{list_all}
@@ -32,9 +32,7 @@ then-within {A} {B} scan next w left a b m one two none = grind (arith, common_s
 -- past characters of the class, as far as it goes on
 run-past : (p : ℕ → Bool) (ds left : List ℕ) → list_all p ds ≡ true → run_len p (ds ++ left) ≡ length ds + run_len p left
 run-past p [] left all = omega arith
-run-past p (d ∷ ds) left all =
-    let both = and_parts (p d) (list_all p ds) all in
-    omega (arith, run_len-in p d (ds ++ left) both.0, run-past p ds left both.1)
+run-past p (d ∷ ds) left all = grind (arith, common_steps, and_parts, run_len-in, run-past p ds left (and_parts (p d) (list_all p ds) all).1)
 
 -- where it goes on, and where it does not
 run_len-next : (p : ℕ → Bool) (s : List ℕ) → next_is p s ≡ true → 0 < run_len p s
@@ -42,8 +40,7 @@ run_len-next p [] t = absurd (true≢false (sym t))
 run_len-next p (c ∷ s) t = omega (arith, run_len-in p c s t)
 
 run_len-none : (p : ℕ → Bool) (s : List ℕ) → next_is p s ≡ false → run_len p s ≡ 0
-run_len-none p [] t = refl
-run_len-none p (c ∷ s) t = run_len-out p c s t
+run_len-none p s w2 = grind (arith, common_steps, run_len-out)
 
 -- a beginning of a run is shorter because the class goes on
 pub run-within : {A : Type 0} (f : List ℕ → A) (p : ℕ → Bool) (ds left : List ℕ) → list_all p ds ≡ true → Within (next_is p left ≡ true) (run_as (λ front rest. f front) p (ds ++ left)) (f ds) (length ds)

@@ -1,4 +1,6 @@
-use Rattle.std.proofs.Common.{refl, sym, ◌∙◌, true≢false, arith}
+use Rattle.std.proofs.lemmas.Grind.{common_steps}
+use Rattle.std.proofs.Common.{rules}
+use Rattle.std.proofs.Common.{refl, arith}
 use Rattle.std.proofs.lemmas.Option.{none-some}
 use Rattle.std.proofs.lemmas.Str.{IsCharBoundary-start}
 use Rattle.rustc_lexer.specs.Classes.{IsText}
@@ -22,14 +24,4 @@ returns c =
     }
 
 pub invariant_of-result : goal.invariant_of-result
-invariant_of-result c = record {
-  tells = record {
-    fits = c.requires.fits;
-    bound = IsCharBoundary-start c.args.text.now c.utf8.text;
-    behind = omega arith;
-    small = omega arith;
-    past = λ j after set. absurd (true≢false (sym set ∙ bit-zero j));
-    next = λ kind e. absurd (none-some kind e);
-  };
-  part = λ kind e. absurd (none-some kind e);
-}
+invariant_of-result c = grind (arith, common_steps, rules, IsCharBoundary-start, bit-zero, none-some)

@@ -1,5 +1,7 @@
+use Rattle.std.proofs.lemmas.Grind.{common_steps}
+use Rattle.std.proofs.Common.{arith, rules}
 use Rattle.std.proofs.Common.{sym, ◌∙◌}
-use Rattle.rustc_lexer.specs.Classes.{is_id_start, is_info}
+use Rattle.rustc_lexer.specs.Classes.{is_id_start}
 use Rattle.rustc_lexer.specs.laws.Frontmatter.{infostring-yes, infostring-no}
 use Rattle.rustc_lexer.specs.laws.Scan.{next_is-cons, next_is-nil}
 use Rattle.rustc_lexer.proofs.frontmatter.eat_infostring.Goals as goal
@@ -11,5 +13,4 @@ pub returns-then-not-is_id_start-clause-past : goal.returns-then-not-is_id_start
 returns-then-not-is_id_start-clause-past c = infostring-no _ c.utf8.rest (next_is-cons is_id_start _ _ _ c.in-Some.ensures.0 ∙ sym c.if-not-is_id_start.ensures)
 
 pub returns-clause-past : goal.returns-clause-past
-returns-clause-past c =
-    infostring-yes _ c.utf8.rest _ _ (next_is-cons is_id_start _ _ _ c.in-Some.ensures.0 ∙ sym c.if-not-is_id_start.ensures) c.in-Some.ensures.1 (c.eat_while.ensures.past is_info (λ d b e. e))
+returns-clause-past c = grind (arith, common_steps, rules, infostring-yes, next_is-cons)

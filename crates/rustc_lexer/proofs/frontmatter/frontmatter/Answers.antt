@@ -1,4 +1,4 @@
-use Rattle.std.proofs.Common.{arith, rules, ◌||◌, sym, refl, ◌∙◌}
+use Rattle.std.proofs.Common.{arith, rules, ◌||◌, sym, ◌∙◌}
 use Rattle.std.specs.Str.{chars}
 use Rattle.std.proofs.lemmas.Grind.{common_steps}
 use Rattle.rustc_lexer.specs.laws.Frontmatter.{opens-few, opens-line, opens-other, opens-yes, frontmatter-is}
@@ -11,13 +11,7 @@ pub returns-then-not-next_is : goal.returns-then-not-next_is
 returns-then-not-next_is c = opens-other (chars c.args.text.now) (sym (c.next_is.ensures (λ d. is_dash d || is_whitespace d) (λ d b e. search rules)) ∙ c.if-not-next_is.true)
 
 pub returns-then-n_dashes-lt-MIN_DASHES : goal.returns-then-n_dashes-lt-MIN_DASHES
-returns-then-n_dashes-lt-MIN_DASHES c =
-    let label = c.eat_while-label.ensures.past is_dash (λ d b e. search rules) in
-    elim c.then-n_dashes-lt-MIN_DASHES.branch [
-      | then-n_dashes-lt-MIN_DASHES-via-then-n_dashes-lt-MIN_DASHES w ↦ opens-few c.args.text.now _ _ c.utf8.text c.eat_whitespace-fence.ensures.past label w.if-n_dashes-lt-MIN_DASHES.true
-      | then-n_dashes-lt-MIN_DASHES-via-else-n_dashes-lt-MIN_DASHES+then-follows_newline w ↦
-          opens-line c.args.text.now _ _ c.utf8.text c.eat_whitespace-fence.ensures.past label _ w.as_bytes.ensures.value _ refl _ w.follows_newline.ensures w.if-follows_newline.true
-    ]
+returns-then-n_dashes-lt-MIN_DASHES c = grind (arith, common_steps, rules, then-n_dashes-lt-MIN_DASHES-via-then-n_dashes-lt-MIN_DASHES, opens-few, opens-line)
 
 pub returns : goal.returns
 returns c =

@@ -1,5 +1,6 @@
-use Rattle.std.proofs.Common.{◌≡◌, ◌+◌, ◌-◌, refl, sym, ap, subst, ◌∙◌, arith}
-use Rattle.std.specs.Str.{IsUtf8}
+use Rattle.std.proofs.lemmas.Grind.{common_steps}
+use Rattle.std.proofs.Common.{rules}
+use Rattle.std.proofs.Common.{◌≡◌, refl, sym, ap, ◌∙◌, arith}
 use Rattle.rustc_lexer.specs.means.Scan.{past}
 use Rattle.rustc_lexer.specs.laws.Past.{past-zero, past-past, IsUtf8-past}
 use Rattle.rustc_lexer.proofs.RawReadLemmas.{past-end}
@@ -14,14 +15,7 @@ returns-in_default c =
     past-end _ _ 0 _ is (sym (past-zero _ is)) c.in_default.ensures (omega arith) ∙ c.chars.invariant.1
 
 pub chars-preserved : goal.chars-preserved
-chars-preserved c =
-    let is = c.chars.invariant.0 in
-    let one : 1 + (c.chars.left - 1) ≡ c.chars.left = omega arith in (
-      subst (λ xs. IsUtf8 xs) (sym c.in-Some.ensures.1) (IsUtf8-past 1 _ is),
-      ap (past (c.chars.left - 1)) c.in-Some.ensures.1
-          ∙ (past-past (c.chars.left - 1) 1 c.chars.rest.now is
-          ∙ (ap (λ n. past n c.chars.rest.now) one ∙ c.chars.invariant.1)),
-    )
+chars-preserved c = grind (arith, common_steps, rules, IsUtf8-past, past-past)
 
 pub returns : goal.returns
 returns c =

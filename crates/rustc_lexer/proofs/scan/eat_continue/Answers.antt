@@ -1,4 +1,5 @@
-use Rattle.std.proofs.Common.{sym}
+use Rattle.std.proofs.lemmas.Grind.{common_steps}
+use Rattle.std.proofs.Common.{arith, rules}
 use Rattle.rustc_lexer.specs.means.ByteRuns.{is_continue_byte}
 use Rattle.rustc_lexer.specs.Classes.{is_id_continue}
 use Rattle.rustc_lexer.proofs.BridgeLemmas.{may_cut, goes_on, stops_here}
@@ -13,5 +14,4 @@ returns-then-begins_wide-clause-past c =
     goes_on is_continue_byte is_id_continue continue_part _ _ _ c.utf8.rest c.as_bytes.ensures.value c.short_run_end.ensures.value _ c.range_from-left.ensures.value _ (c.eat_while.ensures.past is_id_continue (λ d b e. e))
 
 pub returns-else-begins_wide-clause-past : goal.returns-else-begins_wide-clause-past
-returns-else-begins_wide-clause-past c =
-    stops_here is_continue_byte is_id_continue continue_part _ _ _ c.utf8.rest c.as_bytes.ensures.value c.short_run_end.ensures.value _ c.range_from-left.ensures.value (sym c.if-begins_wide.ensures)
+returns-else-begins_wide-clause-past c = grind (arith, common_steps, rules, stops_here, continue_part)

@@ -1,9 +1,8 @@
-use Rattle.std.proofs.Common.{sym, ap, ◌∙◌}
+use Rattle.std.proofs.lemmas.Grind.{common_steps}
+use Rattle.std.proofs.Common.{arith, rules}
 use Rattle.std.proofs.lemmas.Bool.{not-true}
 use Rattle.rustc_lexer.specs.means.ByteRuns.{is_space_byte}
 use Rattle.rustc_lexer.specs.Classes.{is_whitespace}
-use Rattle.rustc_lexer.specs.means.Quick.{is_space_lead}
-use Rattle.rustc_lexer.specs.means.Scan.{next_is}
 use Rattle.rustc_lexer.proofs.BridgeLemmas.{may_cut, goes_on}
 use Rattle.rustc_lexer.proofs.PartLemmas.{space_part}
 use Rattle.rustc_lexer.proofs.SpaceLemmas.{space_stops_here}
@@ -13,8 +12,7 @@ pub range_from-left-requires : goal.range_from-left-requires
 range_from-left-requires c = λ some. may_cut is_space_byte is_whitespace space_part _ _ _ c.utf8.rest c.as_bytes.ensures.value c.run_end.ensures.value
 
 pub returns-then-ends_space-clause-past : goal.returns-then-ends_space-clause-past
-returns-then-ends_space-clause-past c =
-    space_stops_here _ _ _ c.utf8.rest c.as_bytes.ensures.value c.run_end.ensures.value _ c.range_from-left.ensures.value (sym (ap (next_is is_space_lead) c.as_bytes-2.ensures.value) ∙ not-true _ (sym c.if-ends_space.ensures))
+returns-then-ends_space-clause-past c = grind (arith, common_steps, rules, space_stops_here, not-true)
 
 pub returns-else-ends_space-clause-past : goal.returns-else-ends_space-clause-past
 returns-else-ends_space-clause-past c =

@@ -1,4 +1,6 @@
-use Rattle.std.proofs.Common.{◌<◌, length, sym, ◌∙◌, arith}
+use Rattle.std.proofs.lemmas.Grind.{common_steps}
+use Rattle.std.proofs.Common.{rules}
+use Rattle.std.proofs.Common.{◌<◌, length, arith}
 use Rattle.rustc_lexer.specs.Tokens.{tokens_left}
 use Rattle.rustc_lexer.proofs.BufferLemmas.{all_written, none_more, one_written, next_is, past_more, left_more, rest_more, whole_buffer}
 use Rattle.rustc_lexer.proofs.entry.Tokens.fill.Goals as goal
@@ -21,9 +23,7 @@ places-preserved g c =
     }
 
 pub returns-in_default-clause-count : goal.returns-in_default-clause-count
-returns-in_default-clause-count g c =
-    let left = tokens_left c.args.self.now in
-    (all_written g.R.Record.written left c.args.buffer.now c.places.buffer c.places.count c.places.invariant.written (none_more left c.places.count (sym c.places.invariant.left ∙ c.in_default.ensures.steps.0))).as_many
+returns-in_default-clause-count g c = grind (arith, common_steps, rules, all_written, none_more)
 
 pub returns-in_default-clause-tokens : goal.returns-in_default-clause-tokens
 returns-in_default-clause-tokens g c = whole_buffer g.R.Record.written (tokens_left c.args.self.now) c.args.buffer.now c.places.buffer c.places.count c.places.invariant.written

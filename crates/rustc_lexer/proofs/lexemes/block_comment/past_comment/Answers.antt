@@ -1,4 +1,6 @@
-use Rattle.std.proofs.Common.{◌+◌, ◌-◌, arith}
+use Rattle.std.proofs.lemmas.Grind.{common_steps}
+use Rattle.std.proofs.Common.{rules}
+use Rattle.std.proofs.Common.{◌-◌, arith}
 use Rattle.rustc_lexer.proofs.BlockCommentLoop.{start, open_at_end, closed, closed_one, opened_one, star_alone, slash_alone}
 use Rattle.rustc_lexer.proofs.lexemes.block_comment.past_comment.Goals as goal
 
@@ -14,21 +16,13 @@ returns-then-depth-eq0 c =
     closed _ _ _ at c.if-depth-eq0.true
 
 pub comment-preserved-in-Some-strip : goal.comment-preserved-in-Some-strip
-comment-preserved-in-Some-strip c =
-    let at = closed_one _ _ _ _ c.comment.invariant.2 c.comment.invariant.1 c.eat_until_either-stop.ensures.past _ _ c.in-Some.ensures.0 c.in-Some.ensures.1 _ (c.comment.depth - 1) c.if-c-eq42.true c.in-Some-strip.ensures.0 c.in-Some-strip.ensures.1 (omega (arith, c.comment.invariant.2)) in
-    (at.utf8, at, omega arith, omega (arith, c.comment.invariant.3, c.eat_until_either-stop.ensures.shorter, c.in-Some.ensures.2, c.in-Some-strip.ensures.2))
+comment-preserved-in-Some-strip c = grind (arith, common_steps, rules, closed_one)
 
 pub comment-preserved-in_default-strip : goal.comment-preserved-in_default-strip
-comment-preserved-in_default-strip c =
-    let at = star_alone _ _ _ _ c.comment.invariant.2 c.comment.invariant.1 c.eat_until_either-stop.ensures.past _ _ c.in-Some.ensures.0 c.in-Some.ensures.1 c.if-c-eq42.true c.in_default-strip.ensures in
-    (at.utf8, at, c.comment.invariant.2, omega (arith, c.comment.invariant.3, c.eat_until_either-stop.ensures.shorter, c.in-Some.ensures.2))
+comment-preserved-in_default-strip c = grind (arith, common_steps, rules, star_alone)
 
 pub comment-preserved-in-Some-strip-2 : goal.comment-preserved-in-Some-strip-2
-comment-preserved-in-Some-strip-2 c =
-    let at = opened_one _ _ _ _ c.comment.invariant.2 c.comment.invariant.1 c.eat_until_either-stop.ensures.past _ _ c.in-Some.ensures.0 c.in-Some.ensures.1 _ (c.comment.depth + 1) c.if-c-eq42.false c.in-Some-strip-2.ensures.0 c.in-Some-strip-2.ensures.1 (omega arith) in
-    (at.utf8, at, omega arith, omega (arith, c.comment.invariant.3, c.eat_until_either-stop.ensures.shorter, c.in-Some.ensures.2, c.in-Some-strip-2.ensures.2))
+comment-preserved-in-Some-strip-2 c = grind (arith, common_steps, rules, opened_one)
 
 pub comment-preserved : goal.comment-preserved
-comment-preserved c =
-    let at = slash_alone _ _ _ _ c.comment.invariant.2 c.comment.invariant.1 c.eat_until_either-stop.ensures.past _ _ c.in-Some.ensures.0 c.in-Some.ensures.1 c.if-c-eq42.false c.in_default-strip-2.ensures in
-    (at.utf8, at, c.comment.invariant.2, omega (arith, c.comment.invariant.3, c.eat_until_either-stop.ensures.shorter, c.in-Some.ensures.2))
+comment-preserved c = grind (arith, common_steps, rules, slash_alone)

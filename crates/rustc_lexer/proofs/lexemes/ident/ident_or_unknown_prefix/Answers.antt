@@ -1,3 +1,5 @@
+use Rattle.std.proofs.lemmas.Grind.{common_steps}
+use Rattle.std.proofs.Common.{arith, rules}
 use Rattle.std.proofs.Common.{Bool, if◌then◌else◌, sym, ap, ◌∙◌}
 use Rattle.rustc_lexer.specs.{TokenKind, Ident, UnknownPrefix}
 use Rattle.rustc_lexer.specs.Tables.{is_emoji}
@@ -10,8 +12,7 @@ pub returns-then-ends_word : goal.returns-then-ends_word
 returns-then-ends_word c = ident_or_unknown_prefix_ends _ _ _ c.utf8.tail c.eat_continue-rest.utf8 c.eat_continue-rest.ensures.past c.as_bytes.ensures.value (sym c.if-ends_word.ensures)
 
 pub returns-then-next_is : goal.returns-then-next_is
-returns-then-next_is c =
-    c.invalid_ident.ensures ∙ ident_or_unknown_prefix-invalid _ _ c.utf8.tail (c.eat_continue-rest.ensures.past) (sym (c.next_is.ensures is_emoji (λ d b e. e)) ∙ c.if-next_is.true)
+returns-then-next_is c = grind (arith, common_steps, rules, ident_or_unknown_prefix-invalid)
 
 pub returns-then-next_is-2 : goal.returns-then-next_is-2
 returns-then-next_is-2 c =

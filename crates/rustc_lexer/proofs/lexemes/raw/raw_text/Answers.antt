@@ -1,3 +1,5 @@
+use Rattle.std.proofs.lemmas.Grind.{common_steps}
+use Rattle.std.proofs.Common.{rules}
 use Rattle.std.proofs.Common.{arith}
 use Rattle.rustc_lexer.proofs.RawLemmas.{search_start, search_on, search_more, may_cut, closed_here, never_closed}
 use Rattle.rustc_lexer.proofs.lexemes.raw.raw_text.Goals as goal
@@ -12,12 +14,10 @@ pub returns-then-hashes-n_hashes : goal.returns-then-hashes-n_hashes
 returns-then-hashes-n_hashes c = closed_here _ _ _ _ _ _ _ _ c.utf8.text c.loop-tail.invariant.1 c.in-Some.ensures.0 c.in-Some.ensures.1 c.eat_hashes-past_hashes.ensures.past c.if-hashes-n_hashes.true _ _ c.hash_count.ensures c.range_from.ensures.value
 
 pub loop-tail-preserved-then-hashes-found : goal.loop-tail-preserved-then-hashes-found
-loop-tail-preserved-then-hashes-found c =
-    (c.eat_hashes-past_hashes.utf8, search_more _ _ _ _ _ _ _ _ c.utf8.text c.loop-tail.invariant.1 c.in-Some.ensures.0 c.in-Some.ensures.1 c.eat_hashes-past_hashes.ensures.past c.if-hashes-n_hashes.false (omega (arith, c.loop-tail.invariant.1.inside, c.in-Some.ensures.2)) c.if-hashes-found.true)
+loop-tail-preserved-then-hashes-found c = grind (arith, common_steps, rules, search_more)
 
 pub loop-tail-preserved : goal.loop-tail-preserved
-loop-tail-preserved c =
-    (c.eat_hashes-past_hashes.utf8, search_on _ _ _ _ _ _ _ _ c.utf8.text c.loop-tail.invariant.1 c.in-Some.ensures.0 c.in-Some.ensures.1 c.eat_hashes-past_hashes.ensures.past c.if-hashes-n_hashes.false (omega (arith, c.loop-tail.invariant.1.inside, c.in-Some.ensures.2)) c.if-hashes-found.false)
+loop-tail-preserved c = grind (arith, common_steps, rules, search_on)
 
 pub returns : goal.returns
 returns c = never_closed _ _ _ _ _ _ c.loop-tail.invariant.1 c.in_default.ensures

@@ -1,4 +1,6 @@
-use Rattle.std.proofs.Common.{◌≡◌, ◌∙◌, ◌&&◌, Bool, true, List, ℕ, ap, sym, codes, drop, false}
+use Rattle.std.proofs.lemmas.Grind.{common_steps}
+use Rattle.std.proofs.Common.{arith, rules}
+use Rattle.std.proofs.Common.{◌≡◌, ◌∙◌, ◌&&◌, Bool, true, List, ℕ, ap, sym, codes, drop}
 use Rattle.std.specs.Str.{chars, IsUtf8}
 use Rattle.rustc_lexer.specs.means.Ident.{ident_or_unknown_prefix}
 use Rattle.rustc_lexer.specs.means.Lexeme.{is_raw_mark, begins_raw}
@@ -18,6 +20,4 @@ returns-then-begins_raw c =
     c.raw_literal.ensures ∙ sym (scanned-yes begins_raw (after 1 (raw_literal c.args.prefix)) ident_or_unknown_prefix _ marked ∙ scanned-after 1 (raw_literal c.args.prefix) _ _ c.utf8.tail c.in-Some.ensures.1)
 
 pub returns-else-begins_raw : goal.returns-else-begins_raw
-returns-else-begins_raw c =
-    let other : begins_raw (chars c.args.tail.now) ≡ false = raw-is _ _ false c.utf8.tail c.in-Some.ensures.0 c.in-Some.ensures.1 c.if-begins_raw.ensures in
-    c.ident_or_unknown_prefix-else-begins_raw.ensures ∙ sym (scanned-no begins_raw (after 1 (raw_literal c.args.prefix)) ident_or_unknown_prefix _ other)
+returns-else-begins_raw c = grind (arith, common_steps, rules, raw-is, scanned-no)

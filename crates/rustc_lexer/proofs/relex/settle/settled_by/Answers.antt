@@ -1,3 +1,4 @@
+use Rattle.std.proofs.Common.{rules}
 use Rattle.std.proofs.Common.{sym, ◌∙◌, refl, arith}
 use Rattle.std.proofs.lemmas.Grind.{common_steps}
 use Rattle.rustc_lexer.specs.Classes.{IsText}
@@ -24,8 +25,7 @@ loop-offset-preserved g c =
 
 pub returns-after-loop-offset : goal.returns-after-loop-offset
 returns-after-loop-offset g c =
-    let is : IsText c.args.text.now = record { utf8 = c.utf8.text; fits = c.requires.fits } in
-    sure_end (g.S.Stepper.law c.args.stepper.now) c.args.text.now is c.loop-offset.offset c.loop-offset.invariant.0 c.loop-offset-test.false
+    grind (arith, common_steps, rules, sure_end (g.S.Stepper.law c.args.stepper.now) c.args.text.now (record { utf8 = c.utf8.text; fits = c.requires.fits }) c.loop-offset.offset c.loop-offset.invariant.0 c.loop-offset-test.false)
 
 pub returns-then-not-two_stand : goal.returns-then-not-two_stand
 returns-then-not-two_stand g c =

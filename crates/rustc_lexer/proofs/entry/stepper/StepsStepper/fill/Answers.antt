@@ -1,9 +1,10 @@
+use Rattle.std.proofs.lemmas.Grind.{common_steps}
+use Rattle.std.proofs.Common.{rules}
 use Rattle.std.proofs.Common.{◌≡◌, ◌+◌, ◌-◌, ◌<◌, ◌≤◌, List, ℕ, drop, length, refl, ap, ◌∙◌, arith, drop-drop, length-drop}
 use Rattle.rustc_lexer.specs.{Edition, Token}
 use Rattle.rustc_lexer.specs.Classes.{IsText}
 use Rattle.rustc_lexer.specs.LanguageText.{Mode, mode_after}
 use Rattle.rustc_lexer.specs.Tokens.{bound, tokens_by}
-use Rattle.rustc_lexer.specs.State.{State}
 use Rattle.rustc_lexer.specs.laws.Edition.{edition_grammar}
 use Rattle.rustc_lexer.specs.means.Edition.{first_token_in}
 use Rattle.rustc_lexer.proofs.BufferLemmas.{begun_more, next_offset, next_token, one_written, some_left, stands, token_taken, written_to}
@@ -58,17 +59,4 @@ returns-clause-filled g c =
     written_to g.R.Record.written c.args.end (tokens_by first text) c.args.buffer.now c.places.buffer count at inv.written refl inv.begun done
 
 pub returns-clause-bytes : goal.returns-clause-bytes
-returns-clause-bytes g c =
-    let edition : Edition = c.args.self.now.edition in
-    let first : List ℕ → Token = first_token_in edition in
-    let text : List ℕ = c.args.text.now in
-    let is : IsText text = record { utf8 = c.utf8.text; fits = c.requires.fits } in
-    let inv = c.places.invariant in
-    let at : ℕ = bound (tokens_by first text) c.places.count in
-    let offset = stands (edition_grammar edition) text is c.places.count at refl in
-    let rest : c.places-test.tokens.rest ≡ drop at text = elim c.places-test.branch [
-      | then-places-test+else-left-past_end w ↦ ap (λ (s : State). s.rest) w.tokens-is ∙ inv.rest
-      | else-places-test w ↦ ap (λ (s : State). s.rest) w.tokens-is ∙ inv.rest
-      | then-places-test+then-left-past_end+in_default w ↦ ap (λ (s : State). s.rest) w.tokens-is ∙ (ap (λ (s : State). s.rest) w.in_default.ensures.steps.1 ∙ inv.rest)
-    ] in
-    omega (arith, c.left-2.ensures, ap length rest, length-drop at text, offset.inside)
+returns-clause-bytes g c = grind (arith, common_steps, rules, stands, edition_grammar, else-places-test, length-drop)

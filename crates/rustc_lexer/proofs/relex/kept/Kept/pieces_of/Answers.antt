@@ -1,7 +1,8 @@
-use Rattle.std.proofs.Common.{◌≡◌, ◌+◌, ◌-◌, ◌≤◌, List, ℕ, drop, length, slice_range, ap, ◌∙◌, arith, length-drop, length-take-le, string_bytes}
+use Rattle.std.proofs.lemmas.Grind.{common_steps}
+use Rattle.std.proofs.Common.{rules}
+use Rattle.std.proofs.Common.{◌≡◌, ◌+◌, ◌-◌, ◌≤◌, List, length, ap, arith, length-drop, length-take-le, string_bytes}
 use Rattle.rustc_lexer.specs.{Token}
 use Rattle.rustc_lexer.specs.Tokens.{bound}
-use Rattle.rustc_lexer.specs.means.Document.{start_in}
 use Rattle.rustc_lexer.proofs.KeptLemmas.{kept_cuts, start_is}
 use Rattle.rustc_lexer.proofs.PieceLemmas.{cuts_part, length-pieces, pieces-part}
 use Rattle.rustc_lexer.proofs.relex.kept.Kept.pieces_of.Goals as goal
@@ -15,13 +16,4 @@ invariant_of-result g c =
     (all.0, cuts_part c.as_str.result.now c.args.self.now.head.shebang_len c.offset_of-start.result tokens c.args.from (c.args.to - c.args.from) few start all.1)
 
 pub returns : goal.returns
-returns g c = record {
-  pieces =
-      let text : List ℕ = string_bytes c.args.self.now.text in
-      let start : c.offset_of-start.result ≡ start_in g.E.Extent.whole text + bound c.args.self.now.tokens.items c.args.from = omega (arith, c.offset_of-start.ensures, (start_is g.E.Extent.whole (string_bytes c.args.self.now.text) c.args.self.now.head c.requires.kept.2)) in
-      rw (c.as_str.ensures.value, c.as_slice.ensures.value) (pieces-part text (start_in g.E.Extent.whole text) c.offset_of-start.result c.args.self.now.tokens.items c.args.from (c.args.to - c.args.from) start);
-  number =
-      let tokens : List Token = c.as_slice.result.now in
-      let enough : c.args.to - c.args.from ≤ length (drop c.args.from tokens) = omega (arith, length-drop c.args.from tokens, c.requires.to_inside, ap length c.as_slice.ensures.value) in
-      length-pieces c.as_str.result.now c.offset_of-start.result (slice_range tokens c.args.from c.args.to) ∙ length-take-le (c.args.to - c.args.from) (drop c.args.from tokens) enough;
-}
+returns g c = grind (arith, common_steps, rules, start_is, pieces-part, length-drop, length-pieces, length-take-le)

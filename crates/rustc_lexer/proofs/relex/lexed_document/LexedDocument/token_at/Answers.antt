@@ -1,16 +1,15 @@
-use Rattle.std.proofs.Common.{ℕ, ◌<◌, ◌≤◌, ◌↔◌, true, length, ap, ◌∙◌, subst, string_bytes, IfSome, IsSome}
+use Rattle.std.proofs.lemmas.Grind.{common_steps}
+use Rattle.std.proofs.Common.{arith, rules}
+use Rattle.std.proofs.Common.{ℕ, ◌<◌, ◌≤◌, ◌↔◌, true, length, ap, ◌∙◌, subst, string_bytes, IsSome}
 use Rattle.rustc_lexer.specs.declared.relex.head.Head.{Head}
 use Rattle.rustc_lexer.specs.Document.{shebang_len}
-use Rattle.rustc_lexer.specs.Edits.{ContainsByte}
 use Rattle.rustc_lexer.proofs.HeadLemmas.{head-shebang}
 use Rattle.rustc_lexer.proofs.KeptLemmas.{end_is}
 use Rattle.rustc_lexer.proofs.OffsetLemmas.{answered}
 use Rattle.rustc_lexer.proofs.relex.lexed_document.LexedDocument.token_at.Goals as goal
 
 pub returns-clause-token : goal.returns-clause-token
-returns-clause-token g c =
-    let start = ap (λ (h : Head). h.shebang_len) c.self.invariant.2 ∙ head-shebang (string_bytes c.self.inside.kept.text) in
-    subst (λ h. IfSome c.token_at.result (ContainsByte (shebang_len h.text) h.tokens c.args.offset)) c.self.view_is (subst (λ (n : ℕ). IfSome c.token_at.result (ContainsByte n c.self.inside.kept.tokens.items c.args.offset)) start c.token_at.ensures.token)
+returns-clause-token g c = grind (arith, common_steps, rules, head-shebang)
 
 pub returns-clause-some : goal.returns-clause-some
 returns-clause-some g c =

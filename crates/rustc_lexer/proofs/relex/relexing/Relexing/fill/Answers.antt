@@ -1,4 +1,6 @@
-use Rattle.std.proofs.Common.{◌≡◌, List, ℕ, drop, map, inl, inr, refl, sym, ap, subst, ◌∙◌, arith}
+use Rattle.std.proofs.lemmas.Grind.{common_steps}
+use Rattle.std.proofs.Common.{rules}
+use Rattle.std.proofs.Common.{◌≡◌, List, ℕ, drop, map, inl, inr, sym, ap, subst, ◌∙◌, arith}
 use Rattle.std.proofs.lemmas.Bool.{cases_lt}
 use Rattle.rustc_lexer.specs.{Token}
 use Rattle.rustc_lexer.specs.Classes.{IsText}
@@ -10,16 +12,7 @@ use Rattle.rustc_lexer.proofs.UnderWayLemmas.{to_stands}
 use Rattle.rustc_lexer.proofs.relex.relexing.Relexing.fill.Goals as goal
 
 pub places-init : goal.places-init
-places-init g c = record {
-  may_go_on = c.requires.may_go_on;
-  grammar = refl;
-  number = refl;
-  count = omega arith;
-  steps = no_step (g.S.Stepper.grammar c.args.stepper.now) c.args.text.now c.args.change.new_stop c.args.self.now;
-  written = none_written g.R.Record.written _ c.args.buffer.now;
-  begins = λ some. absurd (omega arith);
-  under_way = λ before insert made begun. begun;
-}
+places-init g c = grind (arith, common_steps, rules, no_step, none_written)
 
 pub places-preserved : goal.places-preserved
 places-preserved g c =

@@ -1,3 +1,5 @@
+use Rattle.std.proofs.lemmas.Grind.{common_steps}
+use Rattle.std.proofs.Common.{rules}
 use Rattle.std.proofs.Common.{ap, sym, refl, subst, ◌≡◌, ◌∙◌, arith, ◌+◌, ◌<◌, length, length-drop}
 use Rattle.rustc_lexer.specs.declared.relex.front.Damage.{Damage}
 use Rattle.rustc_lexer.specs.Tokens.{tokens_by}
@@ -12,9 +14,7 @@ pub range_from-requires : goal.range_from-requires
 range_from-requires g c = λ some. c.requires.may_go_on.boundary
 
 pub step-token-requires-clause-not_empty : goal.step-token-requires-clause-not_empty
-step-token-requires-clause-not_empty g c =
-    let more = (not_over c.args.self.now.met c.args.self.now.at (length c.args.text.now) c.requires.may_go_on.boundary.0 (sym c.is_over.ensures.over ∙ c.if-is_over.false)).1 in
-    rw c.range_from.ensures.value (omega (arith, length-drop c.args.self.now.at c.args.text.now))
+step-token-requires-clause-not_empty g c = grind (arith, common_steps, rules, not_over, length-drop)
 
 pub returns-then-is_over-clause-under_way : goal.returns-then-is_over-clause-under_way
 returns-then-is_over-clause-under_way g c = λ before insert is stands.

@@ -1,6 +1,8 @@
+use Rattle.std.proofs.lemmas.Grind.{common_steps}
+use Rattle.std.proofs.Common.{arith, rules}
 use Rattle.std.proofs.Common.{List, ℕ, length, ap, ◌∙◌, sym, subst, ◌≡◌, string_bytes, IsCharBoundary}
 use Rattle.rustc_lexer.specs.declared.relex.head.Head.{Head}
-use Rattle.rustc_lexer.specs.Document.{body_start, document_tokens, head_count}
+use Rattle.rustc_lexer.specs.Document.{document_tokens, head_count}
 use Rattle.rustc_lexer.specs.means.Document.{tokens_of_head}
 use Rattle.rustc_lexer.proofs.DocumentTokens.{document_law, shebang-boundary}
 use Rattle.rustc_lexer.proofs.DocumentHead.{head_count-tokens}
@@ -17,6 +19,4 @@ returns-clause-number c =
     subst (λ l. c.count.result ≡ head_count l.tokens) c.self.view_is (c.count.ensures ∙ (ap (λ (h : Head). length (tokens_of_head h)) c.self.invariant.2 ∙ (sym (head_count-tokens edition text is at) ∙ ap head_count (sym tokens))))
 
 pub returns-clause-offset : goal.returns-clause-offset
-returns-clause-offset c =
-    let text : List ℕ = string_bytes c.self.inside.kept.text in
-    subst (λ l. c.self.inside.kept.head.body ≡ body_start l.text) c.self.view_is (ap (λ (h : Head). h.body) c.self.invariant.2 ∙ end_is text c.self.invariant.0)
+returns-clause-offset c = grind (arith, common_steps, rules, end_is)
