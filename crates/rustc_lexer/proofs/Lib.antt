@@ -37,7 +37,6 @@ pub mod LayoutLemmas
 pub mod LengthLemmas
 pub mod LexemeLemmas
 pub mod LifetimeLemmas
-pub mod LineLemmas
 pub mod LiteralLemmas
 pub mod MeetingLemmas
 pub mod NumberLemmas

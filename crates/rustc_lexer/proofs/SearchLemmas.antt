@@ -1,66 +1,81 @@
--- A pattern, looked for at the places of its first byte.
-use Rattle.std.proofs.Common.{◌≡◌, ℕ, ◌+◌, ◌-◌, ◌<◌, ◌≤◌, ◌==◌, Bool, true, false, true≢false, inl, inr, List, [], ◌∷◌, ◌++◌, length, drop, get_or, refl, sym, ap, ◌∙◌, subst, arith, Some, None, length-drop}
-use Rattle.std.proofs.lemmas.Bool.{cases_lt, eq-eqb}
+-- A byte and what follows it, looked for at the places of that byte.
+use Rattle.std.proofs.Common.{◌≡◌, ℕ, zero, suc, ◌+◌, ◌-◌, ◌<◌, ◌≤◌, ◌==◌, Bool, true, false, List, [], ◌∷◌, ◌++◌, length, drop, get_or, refl, sym, ap, ◌∙◌, arith, Option, Some, None, length-drop, drop-drop}
+use Rattle.std.proofs.Math.Seq.{drop-cons, drop-length}
+use Rattle.std.proofs.lemmas.Bool.{eq-eqb, eqb-true, false_from_ne_true}
 use Rattle.std.proofs.lemmas.Bool.Decides.{Decides-eqb}
 use Rattle.std.proofs.lemmas.List.{get_or-drop}
 use Rattle.std.proofs.lemmas.Slice.Eq.{starts_is}
 use Rattle.std.specs.List.{starts_with}
-use Rattle.std.proofs.lemmas.Grind.{common_steps}
-use Rattle.memchr.specs.Find.{IsFirstByte, OccursAt, is_byte}
+use Rattle.memchr.specs.Find.{IsFirstByte, is_byte}
 use Rattle.rustc_lexer.specs.means.Frontmatter.{first}
+use Rattle.rustc_lexer.specs.means.Least.{more, one_more}
 use Rattle.rustc_lexer.specs.means.Scan.{begins}
-use Rattle.rustc_lexer.specs.laws.Fences.{begins-occurs, begins-whole, found-first, occurs-begins}
+use Rattle.rustc_lexer.specs.laws.Choice.{by_either}
+use Rattle.rustc_lexer.specs.laws.Fences.{begins-whole}
+use Rattle.rustc_lexer.specs.laws.LanguageRuns.{either-way}
+use Rattle.rustc_lexer.specs.laws.Least.{more-more, more-zero, offset-here, offset-on, one_more-more}
 
-pub begins-front : (pattern rest : List ℕ) → begins pattern (pattern ++ rest) ≡ true
+begins-front : (pattern rest : List ℕ) → begins pattern (pattern ++ rest) ≡ true
 begins-front [] rest = refl
 begins-front (c ∷ cs) rest = rw (eq-eqb c c refl, begins-front cs rest) refl
+
+starts-begins : (tail pattern : List ℕ) (answer : Bool) → answer ≡ starts_with (λ x y. x == y) tail pattern → answer ≡ begins pattern tail
+starts-begins tail pattern answer is = by_either (begins pattern tail)
+    (λ e. (starts_is Decides-eqb tail pattern answer is).1 _ (begins-whole pattern tail e) ∙ sym e)
+    (λ e. false_from_ne_true answer (λ t. either-way (begins pattern tail) (ap (begins pattern) ((starts_is Decides-eqb tail pattern answer is).0 t) ∙ begins-front pattern _) e) ∙ sym e)
+
+more-one : (k : ℕ) (o : Option ℕ) → more k (one_more o) ≡ more (k + 1) o
+more-one k None = refl
+more-one k (Some n) = ap Some (omega arith)
 
 -- the pattern stands nowhere below `from`
 pub record IsPast (pattern rest : List ℕ) (from : ℕ) : Type 0 where
   pub inside : from ≤ length rest
-  pub none : (k : ℕ) → k < from → OccursAt rest pattern k → ⊥
+  pub left : first pattern rest ≡ more from (first pattern (drop from rest))
 
-module _ (pattern rest cut : List ℕ) (from : ℕ) (some : 0 < length pattern) (at : IsPast pattern rest from) (e : cut ≡ drop from rest) where
-  -- the first byte stands where it does
-  reads : (k : ℕ) → from ≤ k → OccursAt rest pattern k → get_or cut (k - from) 0 ≡ get_or pattern 0 0
-  reads k le occurs = grind (arith, common_steps, get_or-drop)
+pub at_start : (pattern rest : List ℕ) → IsPast pattern rest 0
+at_start pattern rest = record { inside = omega arith; left = more-zero (first pattern rest) }
 
-  long : length cut ≡ length rest - from
-  long = ap length e ∙ length-drop from rest
+module _ (d : ℕ) (ds : List ℕ) where
+  -- no other byte begins it
+  over : (s : List ℕ) (k : ℕ) → k ≤ length s → ((j : ℕ) → j < k → (get_or s j 0 == d) ≡ true → ⊥) → first (d ∷ ds) s ≡ more k (first (d ∷ ds) (drop k s))
+  over s zero le none = more-zero (first (d ∷ ds) s)
+  over [] (suc k) le none = absurd (omega arith)
+  over (c ∷ s) (suc k) le none = by_either (c == d)
+      (λ e. absurd (none 0 (omega arith) e))
+      (λ e. offset-on (begins (d ∷ ds)) c s (rw e refl) ∙ (ap one_more (over s k (omega arith) (λ j l. none (suc j) (omega arith))) ∙ one_more-more k (first (d ∷ ds) (drop k s))))
 
-  pub past_end : IsFirstByte (is_byte (get_or pattern 0 0)) cut None → None ≡ first pattern rest
-  past_end none = found-first rest pattern some None (λ k low high occurs. elim (cases_lt k from) [
-    | inl less ↦ at.none k less occurs
-    | inr more ↦ none (k - from) (omega arith) (let f = occurs.fits in omega (arith, long)) (eq-eqb _ _ (reads k more occurs))
-  ])
+  module _ (rest cut : List ℕ) (from : ℕ) (at : IsPast (d ∷ ds) rest from) (e : cut ≡ drop from rest) where
+    cut_left : first (d ∷ ds) rest ≡ more from (first (d ∷ ds) cut)
+    cut_left = at.left ∙ ap (λ (s : List ℕ). more from (first (d ∷ ds) s)) (sym e)
 
-  -- that byte stands `step` bytes on
-  module _ (step : ℕ) (here : IsFirstByte (is_byte (get_or pattern 0 0)) cut (Some step)) where
-    before : (k : ℕ) → k < from + step → OccursAt rest pattern k → ⊥
-    before k l occurs = elim (cases_lt k from) [
-      | inl less ↦ at.none k less occurs
-      | inr more ↦ here.0.before (k - from) (omega arith) (omega arith) (eq-eqb _ _ (reads k more occurs))
-    ]
+    pub past_end : IsFirstByte (is_byte d) cut None → None ≡ first (d ∷ ds) rest
+    past_end none = sym (cut_left ∙ ap (more from) (over cut (length cut) (omega arith) (λ j l. none j (omega arith) l) ∙ ap (λ (s : List ℕ). more (length cut) (first (d ∷ ds) s)) (drop-length cut)))
 
-    inside : from + step < length rest
-    inside = let h = here.0.high in let i = at.inside in omega (arith, long)
+    -- that byte stands `step` bytes on, and then `tail`
+    module _ (step : ℕ) (here : IsFirstByte (is_byte d) cut (Some step)) (tail : List ℕ) (behind : tail ≡ drop (from + step + 1) rest) where
+      inside : from + step < length rest
+      inside = let h = here.0.high in let i = at.inside in omega (arith, ap length e, length-drop from rest)
 
-    module _ (tail : List ℕ) (left : tail ≡ drop (from + step) rest) (answer : Bool) (is : answer ≡ starts_with (λ x y. x == y) tail pattern) where
-      pub past_found : answer ≡ true → Some (from + step) ≡ first pattern rest
-      past_found so =
-          let whole = (starts_is Decides-eqb tail pattern answer is).0 so in
-          let occurs = begins-occurs rest pattern some (from + step) (ap (begins pattern) (sym left ∙ whole) ∙ begins-front pattern _) in
-          found-first rest pattern some (Some (from + step)) (record { low = omega arith; high = let i = inside in omega arith; before = λ k zero_le l. before k (omega arith) }, occurs)
+      at_byte : drop step cut ≡ d ∷ tail
+      at_byte =
+          let byte : get_or rest (from + step) 0 ≡ d = sym (get_or-drop from rest step 0) ∙ (ap (λ (s : List ℕ). get_or s step 0) (sym e) ∙ eqb-true (get_or cut step 0) d here.1) in
+          let more_is : drop (suc (from + step)) rest ≡ tail = ap (λ (k : ℕ). drop k rest) (let same : suc (from + step) ≡ from + step + 1 = omega arith in same) ∙ sym behind in
+          ap (drop step) e ∙ (drop-drop step from rest ∙ (drop-cons rest (from + step) 0 inside ∙ (ap (λ (x : ℕ). x ∷ drop (suc (from + step)) rest) byte ∙ ap (λ (s : List ℕ). d ∷ s) more_is)))
 
-      pub past_on : answer ≡ false → IsPast pattern rest (from + step + 1)
-      past_on fails = record {
-        inside = let i = inside in omega arith;
-        none = λ k l occurs. elim (cases_lt k (from + step)) [
-          | inl less ↦ before k less occurs
-          | inr more ↦
-              let same : k ≡ from + step = omega arith in
-              let here_too = subst (OccursAt rest pattern) same occurs in
-              let whole = begins-whole pattern tail (ap (begins pattern) left ∙ occurs-begins rest pattern some (from + step) here_too) in
-              absurd (true≢false (sym ((starts_is Decides-eqb tail pattern answer is).1 _ whole) ∙ fails))
-        ];
-      }
+      so_far : first (d ∷ ds) rest ≡ more (from + step) (first (d ∷ ds) (d ∷ tail))
+      so_far =
+          cut_left ∙ (ap (more from) (over cut step (let h = here.0.high in omega arith) (λ j l. here.0.before j (omega arith) l) ∙ ap (λ (s : List ℕ). more step (first (d ∷ ds) s)) at_byte) ∙ more-more from step (first (d ∷ ds) (d ∷ tail)))
+
+      module _ (answer : Bool) (is : answer ≡ starts_with (λ x y. x == y) tail ds) where
+        stands : begins (d ∷ ds) (d ∷ tail) ≡ answer
+        stands = rw (eq-eqb d d refl) (sym (starts-begins tail ds answer is))
+
+        pub past_found : answer ≡ true → (place : ℕ) → place ≡ from + step + 1 - 1 → Some place ≡ first (d ∷ ds) rest
+        past_found so place there = sym (so_far ∙ ap (more (from + step)) (offset-here (begins (d ∷ ds)) d tail (stands ∙ so)) ∙ ap Some (omega arith))
+
+        pub past_on : answer ≡ false → IsPast (d ∷ ds) rest (from + step + 1)
+        past_on fails = record {
+          inside = let i = inside in omega arith;
+          left = so_far ∙ (ap (more (from + step)) (offset-on (begins (d ∷ ds)) d tail (stands ∙ fails)) ∙ (more-one (from + step) (first (d ∷ ds) tail) ∙ ap (λ (s : List ℕ). more (from + step + 1) (first (d ∷ ds) s)) behind));
+        }

@@ -1,11 +1,11 @@
 -- Searches of a frontmatter's closing.
 use Rattle.std.proofs.Common.{◌≡◌, ℕ, zero, suc, ◌+◌, ◌-◌, ◌<◌, ◌≤◌, ◌==◌, ◌&&◌, nat_lt, Bool, true, false, true≢false, if◌then◌else◌, List, [], ◌∷◌, ◌++◌, length, take, drop, get_or, refl, sym, ap, ◌∙◌, subst, arith, Option, Some, None, length-drop, drop-drop, inl, inr}
 use Rattle.std.proofs.Math.Seq.{take-suc}
-use Rattle.std.proofs.lemmas.Bool.{false_from_ne_true, eqb-true, eq-eqb, and_parts, lt-ltb, cases_lt}
+use Rattle.std.proofs.lemmas.Bool.{eqb-true, and_parts, lt-ltb, cases_lt}
 use Rattle.std.proofs.lemmas.List.{get_or-drop}
 use Rattle.std.proofs.lemmas.Grind.{common_steps}
 use Rattle.rustc_lexer.specs.Classes.{is_horizontal_whitespace, is_inline}
-use Rattle.memchr.specs.Find.{FindsNeedle, IsFirstByte, OccursAt, is_byte}
+use Rattle.memchr.specs.Find.{IsFirstByte, is_byte}
 use Rattle.rustc_lexer.specs.FrontmatterGrammar.{fence}
 use Rattle.rustc_lexer.specs.means.Frontmatter.{first, blank_past, blank_over, first_lone, is_dash, is_newline, line_end}
 use Rattle.rustc_lexer.specs.means.Least.{more, one_more}
@@ -13,32 +13,7 @@ use Rattle.rustc_lexer.specs.means.Raw.{least_offset}
 use Rattle.rustc_lexer.specs.means.Scan.{begins, run_len}
 use Rattle.rustc_lexer.specs.laws.Choice.{by_either}
 use Rattle.rustc_lexer.specs.laws.Least.{more-more, more-zero, one_more-more, offset-here, offset-on, one_more-none}
-use Rattle.rustc_lexer.specs.laws.Reach.{least-is, least-none, one_more-some}
-
--- a text begins with a pattern where it has the pattern's bytes
-record Reads (pattern s : List ℕ) : Type 0 where
-  long : length pattern ≤ length s
-  same : (j : ℕ) → j < length pattern → get_or s j 0 ≡ get_or pattern j 0
-
-begins-reads : (pattern s : List ℕ) → begins pattern s ≡ true → Reads pattern s
-begins-reads [] s e = record { long = omega arith; same = λ j l. absurd (omega arith) }
-begins-reads (c ∷ cs) [] e = absurd (true≢false (sym e))
-begins-reads (c ∷ cs) (d ∷ s) e =
-    let parts = and_parts (d == c) (begins cs s) e in
-    let rest : Reads cs s = begins-reads cs s parts.1 in
-    record { long = let l = rest.long in omega arith; same = by_offset (eqb-true d c parts.0) rest }
-  where
-    by_offset : d ≡ c → Reads cs s → (j : ℕ) → j < suc (length cs) → get_or (d ∷ s) j 0 ≡ get_or (c ∷ cs) j 0
-    by_offset f rest zero l = f
-    by_offset f rest (suc j) l = rest.same j (omega arith)
-
-reads-begins : (pattern s : List ℕ) → Reads pattern s → begins pattern s ≡ true
-reads-begins [] s r = refl
-reads-begins (c ∷ cs) [] r = absurd (let l = r.long in omega arith)
-reads-begins (c ∷ cs) (d ∷ s) r =
-    let head : (d == c) ≡ true = eq-eqb d c (r.same 0 (omega arith)) in
-    let rest : Reads cs s = record { long = let l = r.long in omega arith; same = λ j l. r.same (suc j) (omega arith) } in
-    rw (head, reads-begins cs s rest) refl
+use Rattle.rustc_lexer.specs.laws.Reach.{one_more-some}
 
 pub begins-whole : (pattern text : List ℕ) → begins pattern text ≡ true → text ≡ pattern ++ drop (length pattern) text
 begins-whole [] text e = refl
@@ -46,23 +21,6 @@ begins-whole (c ∷ cs) [] e = absurd (true≢false (sym e))
 begins-whole (c ∷ cs) (d ∷ text) e =
     let parts = and_parts (d == c) (begins cs text) e in
     ap (λ x. x ∷ text) (eqb-true d c parts.0) ∙ ap (λ xs. c ∷ xs) (begins-whole cs text parts.1)
-
-module _ (hay pattern : List ℕ) (some : 0 < length pattern) where
-  pub occurs-begins : (k : ℕ) → OccursAt hay pattern k → begins pattern (drop k hay) ≡ true
-  occurs-begins k at = grind (arith, common_steps, reads-begins, length-drop, get_or-drop)
-
-  pub begins-occurs : (k : ℕ) → begins pattern (drop k hay) ≡ true → OccursAt hay pattern k
-  begins-occurs k e = grind (arith, common_steps, begins-reads, length-drop, get_or-drop)
-
-  -- the first occurrence, as a search answers it
-  pub found-first : (r : Option ℕ) → FindsNeedle hay pattern 0 r → r ≡ first pattern hay
-  found-first None none = sym (least-none (λ k. begins pattern (drop k hay)) (length hay) (λ k l. false_from_ne_true _ (λ e. none k (omega arith) (omega arith) (begins-occurs k e))))
-  found-first (Some k) at =
-      sym (least-is (λ k. begins pattern (drop k hay)) (length hay) k record {
-        below = let f = at.1.fits in omega arith;
-        here = occurs-begins k at.1;
-        before = λ j l. false_from_ne_true _ (λ e. at.0.before j (omega arith) l (begins-occurs j e));
-      })
 
 -- the run up to the first newline, as a search answers it
 run-none : (s : List ℕ) → ((k : ℕ) → k < length s → is_newline (get_or s k 0) ≡ true → ⊥) → run_len is_inline s ≡ length s

@@ -1,8 +1,8 @@
 -- The opening of a frontmatter, and where the token ends.
-use Rattle.std.proofs.Common.{◌≡◌, ℕ, ◌+◌, ◌-◌, ◌<◌, ◌≤◌, ◌&&◌, ◌||◌, nat_lt, not, Bool, true, false, if◌then◌else◌, List, [], ◌∷◌, ◌++◌, codes, length, take, drop, get_or, refl, sym, ap, ◌∙◌, subst, arith, Option, Some, None, length-append, length-drop, length-take, append_assoc}
+use Rattle.std.proofs.Common.{◌≡◌, ℕ, zero, suc, ◌+◌, ◌-◌, ◌<◌, ◌≤◌, ◌&&◌, ◌||◌, nat_lt, not, Bool, true, false, if◌then◌else◌, List, [], ◌∷◌, ◌++◌, codes, length, take, drop, get_or, refl, sym, ap, ◌∙◌, subst, arith, Some, None, length-append, length-drop, length-take, append_assoc}
 use Rattle.std.specs.Char.{encode_utf8}
 use Rattle.std.specs.Str.{chars, encode_utf8_all, IsUtf8, IsCharBoundary}
-use Rattle.std.proofs.Math.Seq.{drop-append_seam}
+use Rattle.std.proofs.Math.Seq.{drop-append_seam, take-append_seam}
 use Rattle.std.proofs.lemmas.Bool.{eqb-true, and_parts, lt-ltb, or_parts}
 use Rattle.std.proofs.lemmas.List.{get_or-drop}
 use Rattle.std.proofs.lemmas.Str.{encode_ascii, byte_from_char, inside_one, length-encode, len_utf8_bounds, length-le-encodes, IsCharBoundary-from_drop}
@@ -14,7 +14,7 @@ use Rattle.rustc_lexer.specs.LanguageText.{Mode}
 use Rattle.rustc_lexer.specs.means.Edition.{first_token_in}
 use Rattle.rustc_lexer.specs.FrontmatterGrammar as the
 use Rattle.rustc_lexer.specs.FrontmatterGrammar.{fence, endings}
-use Rattle.rustc_lexer.specs.means.Frontmatter.{closing_end, end_by, ends_line, fence_len, first, first_lone, frontmatter, if_found, infostring_len, is_dash, is_newline, label_len, line_end, newline, opening_len, opens, past_opening, recovery, spaces_len, then_len}
+use Rattle.rustc_lexer.specs.means.Frontmatter.{closing_end, ends_line, fence_len, first, first_lone, frontmatter, if_found, infostring_len, is_dash, is_newline, label_len, line_end, newline, opening_len, opens, past_opening, spaces_len, then_len}
 use Rattle.rustc_lexer.specs.laws.Reach.{run_len_le}
 use Rattle.rustc_lexer.specs.means.Scan.{begins, bytes_of, next_is, past, run_len}
 use Rattle.rustc_lexer.specs.State.{HasSuffixWithin}
@@ -22,6 +22,7 @@ use Rattle.rustc_lexer.specs.means.Taking.{token_at}
 use Rattle.rustc_lexer.specs.laws.CharSteps.{bytes_of-add}
 use Rattle.rustc_lexer.specs.laws.Fences.{begins-enough, begins-few, begins-dashes}
 use Rattle.rustc_lexer.specs.laws.LanguageClosing.{closing-encode}
+use Rattle.rustc_lexer.specs.laws.LanguageFrontmatter.{fence-length, run-fence}
 use Rattle.rustc_lexer.specs.laws.Scan.{length-run}
 use Rattle.rustc_lexer.specs.laws.Past.{past-zero, split_past, past-past, past-drop, chars-past, IsUtf8-past, length-past}
 
@@ -57,6 +58,11 @@ last_byte (c ∷ d ∷ s) text rest e =
     ap (λ b. b && is_newline (get_or text (length (encode_utf8_all (c ∷ d ∷ s)) - 1) 0)) both
     ∙ (ap (λ k. nat_lt 0 (length (encode_utf8_all (d ∷ s))) && is_newline k) there ∙ last_byte (d ∷ s) tail rest refl)
 
+-- dashes, in bytes
+fence-encode : (n : ℕ) → encode_utf8_all (fence n) ≡ fence n
+fence-encode zero = refl
+fence-encode (suc n) = ap (λ (w : List ℕ). w ++ encode_utf8_all (fence n)) (encode_ascii 45 (omega arith)) ∙ ap (λ (w : List ℕ). 45 ∷ w) (fence-encode n)
+
 -- a text, past the white space in front, and past the dashes after that
 module _ (text fence label : List ℕ) (is : IsUtf8 text) (fence_is : fence ≡ past (spaces_len (chars text)) text) (label_is : label ≡ past (run_len is_dash (chars fence)) fence) where
   count : run_len is_dash (chars fence) ≡ fence_len (chars text)
@@ -67,6 +73,14 @@ module _ (text fence label : List ℕ) (is : IsUtf8 text) (fence_is : fence ≡ 
 
   pub dashes_are : length fence - length label ≡ fence_len (chars text)
   dashes_are = length-run is_dash (λ c e. let f = eqb-true c 45 e in omega arith) fence label fence_utf8 label_is ∙ count
+
+  pub dashes_fence : take (length fence - length label) fence ≡ the.fence (length fence - length label)
+  dashes_fence =
+      let n : ℕ = run_len is_dash (chars fence) in
+      let dashes : encode_utf8_all (take n (chars fence)) ≡ the.fence n = ap encode_utf8_all (run-fence (chars fence)) ∙ fence-encode n in
+      let size : length fence - length label ≡ n = length-run is_dash (λ c e. let f = eqb-true c 45 e in omega arith) fence label fence_utf8 label_is in
+      let whole : fence ≡ the.fence n ++ past n fence = split_past n fence fence_utf8 ∙ ap (λ (w : List ℕ). w ++ past n fence) dashes in
+      ap (λ (k : ℕ). take k fence) size ∙ (ap (take n) whole ∙ (ap (λ (k : ℕ). take k (the.fence n ++ past n fence)) (sym (fence-length n)) ∙ (take-append_seam (the.fence n) (past n fence) ∙ ap the.fence (sym size))))
 
   spaces_are : length text - length fence ≡ bytes_of (spaces_len (chars text)) (chars text)
   spaces_are = grind (arith, common_steps, length-past)
@@ -100,25 +114,18 @@ module _ (text fence label : List ℕ) (is : IsUtf8 text) (fence_is : fence ≡ 
     frontmatter-is len end space bad end_is len_is space_is bad_is =
         grind (arith, common_steps, past_opening-is, length-past, dashes_are)
 
--- the closing, by what the searches answer
-pub closing_end-full : (n offset : ℕ) (rest : List ℕ) → Some offset ≡ first (newline ∷ fence n) rest → line_end (offset + 1) rest ≡ closing_end n rest
-unfolding closing_end
-closing_end-full n offset rest e = ap (λ (o : Option ℕ). if_found o (λ offset. line_end (offset + 1) rest) (end_by (drop 1 (endings n)) rest)) e
-
-pub closing_end-none : (n : ℕ) (rest : List ℕ) → None ≡ first (newline ∷ fence n) rest → recovery rest ≡ closing_end n rest
-unfolding closing_end recovery
-closing_end-none n rest e = ap (λ (o : Option ℕ). if_found o (λ offset. line_end (offset + 1) rest) (end_by (drop 1 (endings n)) rest)) e
-
 pub if_found_some : (offset : ℕ) (end : ℕ → ℕ) (otherwise : ℕ) → if_found (Some offset) end otherwise ≡ end offset
 if_found_some offset end otherwise = refl
 
 pub if_found_none : (end : ℕ → ℕ) (otherwise : ℕ) → if_found None end otherwise ≡ otherwise
 if_found_none end otherwise = refl
 
-pub recovery_is : (rest : List ℕ) → recovery rest ≡ if_found (first (codes "\n---") rest) (λ offset. line_end (offset + 1) rest) (if_found (first (codes "\nuse ") rest) (λ offset. offset) (if_found (first (codes "\n//!") rest) (λ offset. offset)
-    (if_found (first (codes "\n#![") rest) (λ offset. offset) (if_found (first_lone true 0 rest) (λ offset. line_end offset rest) (length rest)))))
-unfolding recovery
-recovery_is rest = refl
+-- the closing, by what the searches answer
+pub closing_end_is : (n : ℕ) (rest : List ℕ) → closing_end n rest ≡ if_found (first (newline ∷ fence n) rest) (λ offset. line_end (offset + 1) rest) (if_found (first (codes "\n---") rest) (λ offset. line_end (offset + 1) rest)
+    (if_found (first (codes "\nuse ") rest) (λ offset. offset) (if_found (first (codes "\n//!") rest) (λ offset. offset)
+    (if_found (first (codes "\n#![") rest) (λ offset. offset) (if_found (first_lone true 0 rest) (λ offset. line_end offset rest) (length rest))))))
+unfolding closing_end
+closing_end_is n rest = refl
 
 -- a frontmatter is not empty, and ends between characters
 pub record IsCutOff (text : List ℕ) (token : Token) : Type 0 where

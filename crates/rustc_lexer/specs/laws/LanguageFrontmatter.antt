@@ -51,7 +51,7 @@ fence-run zero [] stop = refl
 fence-run zero (c ∷ v) stop = run_len-out is_dash c v stop
 fence-run (suc n) v stop = ap suc (fence-run n v stop)
 
-run-fence : (s : List ℕ) → take (run_len is_dash s) s ≡ fence (run_len is_dash s)
+pub run-fence : (s : List ℕ) → take (run_len is_dash s) s ≡ fence (run_len is_dash s)
 run-fence [] = refl
 run-fence (c ∷ s) = grind (arith, common_steps, eqb-true, run-fence s)
 

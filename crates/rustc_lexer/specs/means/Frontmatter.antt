@@ -62,11 +62,6 @@ opens s = begins (fence 3) (drop (spaces_len s) s) && not (ends_line (take (spac
 abbrev pub first : List ℕ → List ℕ → Option ℕ
 first pattern s = least_offset (begins pattern) s
 
--- an offset that was found before, or this one if the test holds here
-abbrev pub or_here : Option ℕ → Bool → ℕ → Option ℕ
-or_here (Some found) here offset = Some found
-or_here None here offset = if here then Some offset else None
-
 -- the offset of the first newline that is not before this offset, or the end of the text
 abbrev pub line_end : ℕ → List ℕ → ℕ
 line_end offset s = offset + run_len is_inline (drop offset s)
@@ -99,10 +94,6 @@ end_by ((pattern, takes_line) ∷ others) s = if_found (first pattern s) (λ off
 
 unfoldable pub closing_end : ℕ → List ℕ → ℕ
 closing_end n s = end_by (endings n) s
-
--- without a full fence
-unfoldable pub recovery : List ℕ → ℕ
-recovery s = end_by (drop 1 (endings 0)) s
 
 -- The token.
 

@@ -44,7 +44,7 @@ pub(crate) fn frontmatter(text: &str) -> Option<Token> {
         return None;
     }
     let rest = eat_label(label);
-    let end = closing_end(rest.as_bytes(), n_dashes);
+    let end = closing_end(rest.as_bytes(), &fence.as_bytes()[..n_dashes]);
     Some(Token {
         kind: TokenKind::Frontmatter {
             has_invalid_preceding_whitespace: next_is(text, is_whitespace),
@@ -77,83 +77,22 @@ fn is_info(c: char) -> bool {
     is_id_continue(c) || c == '-' || c == '.'
 }
 
-/// Returns where the frontmatter ends in `rest`, which is the text after an opening of `n_dashes` dashes. One pass over
-/// the lines looks for the fence that closes it, and remembers the first line of each other kind that may end it.
-fn closing_end(rest: &[u8], n_dashes: usize) -> usize {
-    let mut guesses = Guesses {
-        short_fence: None,
-        use_item: None,
-        inner_doc: None,
-        inner_attribute: None,
-    };
-    let mut from = 0;
-    while let Some(step) = memchr(b'\n', &rest[from..]) {
-        let line = byte_run_end(rest, from + step + 1, b'\n');
-        let end = byte_run_end(rest, line, b'-');
-        if end - line >= n_dashes {
-            return line_end(rest, line);
-        }
-        guesses = with_line(guesses, rest, line);
-        from = end;
-    }
-    recovery(rest, guesses)
-}
-
-/// The first line of each kind that may end a frontmatter without a closing fence: the places of the newlines before them.
-#[derive(Clone, Copy)]
-struct Guesses {
-    short_fence: Option<usize>,
-    use_item: Option<usize>,
-    inner_doc: Option<usize>,
-    inner_attribute: Option<usize>,
-}
-
-/// Returns the guesses with a line added, if it is the first of its kind.
-#[inline(always)]
-fn with_line(guesses: Guesses, rest: &[u8], line: usize) -> Guesses {
-    if !may_end(rest, line) {
-        return guesses;
-    }
-    Guesses {
-        short_fence: or_here(guesses.short_fence, rest, line - 1, b"\n---"),
-        use_item: or_here(guesses.use_item, rest, line - 1, b"\nuse "),
-        inner_doc: or_here(guesses.inner_doc, rest, line - 1, b"\n//!"),
-        inner_attribute: or_here(guesses.inner_attribute, rest, line - 1, b"\n#!["),
-    }
-}
-
-/// Returns whether a line begins with the first byte of one of these kinds.
-#[inline(always)]
-fn may_end(rest: &[u8], line: usize) -> bool {
-    line < rest.len() && matches!(rest[line], b'-' | b'u' | b'/' | b'#')
-}
-
-/// Returns the offset that was found before, or this one if the pattern is here.
-#[inline(always)]
-fn or_here(found: Option<usize>, rest: &[u8], offset: usize, pattern: &[u8]) -> Option<usize> {
-    match found {
-        Some(before) => Some(before),
-        None => {
-            if rest[offset..].starts_with(pattern) {
-                return Some(offset);
-            }
-            None
-        }
-    }
-}
-
-/// Returns where a frontmatter ends that no line of enough dashes closes: the best guess of where Rust begins.
-fn recovery(rest: &[u8], guesses: Guesses) -> usize {
-    if let Some(offset) = guesses.short_fence {
+/// Returns where the frontmatter ends in `rest`, which is the text after its opening. It ends with the first line that
+/// begins with `dashes`, those of its opening. Without one, it ends where Rust seems to begin.
+fn closing_end(rest: &[u8], dashes: &[u8]) -> usize {
+    if let Some(offset) = find_pattern(rest, b'\n', dashes) {
         return line_end(rest, offset + 1);
     }
-    if let Some(offset) = guesses.use_item {
+    if let Some(offset) = find_pattern(rest, b'\n', b"---") {
+        return line_end(rest, offset + 1);
+    }
+    if let Some(offset) = find_pattern(rest, b'\n', b"use ") {
         return offset;
     }
-    if let Some(offset) = guesses.inner_doc {
+    if let Some(offset) = find_pattern(rest, b'\n', b"//!") {
         return offset;
     }
-    if let Some(offset) = guesses.inner_attribute {
+    if let Some(offset) = find_pattern(rest, b'\n', b"#![") {
         return offset;
     }
     match find_lone_dashes(rest) {
@@ -162,20 +101,10 @@ fn recovery(rest: &[u8], guesses: Guesses) -> usize {
     }
 }
 
-/// Returns where the run of a byte that begins at `from` ends.
-#[inline(always)]
-fn byte_run_end(rest: &[u8], from: usize, byte: u8) -> usize {
-    let mut end = from;
-    while end < rest.len() && rest[end] == byte {
-        end += 1;
-    }
-    end
-}
-
 /// Returns the first place of three dashes with only blanks before them, on their line and past the dashes before.
 fn find_lone_dashes(rest: &[u8]) -> Option<usize> {
     let mut end = 0;
-    while let Some(step) = find_pattern(&rest[end..], b"---") {
+    while let Some(step) = find_pattern(&rest[end..], b'-', b"--") {
         let offset = end + step;
         if stands_alone(rest, end, offset) {
             return Some(offset);
@@ -207,16 +136,25 @@ fn line_end(rest: &[u8], offset: usize) -> usize {
     }
 }
 
-/// Returns the first place of the pattern. It searches for the pattern's first byte. So it does not have to make a
-/// searcher, which would allocate on the heap.
-fn find_pattern(rest: &[u8], pattern: &[u8]) -> Option<usize> {
+/// Returns the first place of a byte and what follows it in the pattern. It searches for that byte. So it does not have
+/// to make a searcher, which would allocate on the heap.
+fn find_pattern(rest: &[u8], first: u8, more: &[u8]) -> Option<usize> {
     let mut from = 0;
-    while let Some(step) = memchr(pattern[0], &rest[from..]) {
-        let offset = from + step;
-        if rest[offset..].starts_with(pattern) {
-            return Some(offset);
+    while let Some(step) = find_byte(first, &rest[from..]) {
+        let past = from + step + 1;
+        if rest[past..].starts_with(more) {
+            return Some(past - 1);
         }
-        from = offset + 1;
+        from = past;
     }
     None
+}
+
+/// Returns the first place of a byte. In a row of empty lines it is the next byte, and no search begins.
+#[inline]
+fn find_byte(byte: u8, rest: &[u8]) -> Option<usize> {
+    if rest.first() == Some(&byte) {
+        return Some(0);
+    }
+    memchr(byte, rest)
 }

@@ -1,9 +1,9 @@
-use Rattle.std.proofs.Common.{◌-◌, length}
+use Rattle.std.proofs.Common.{◌∷◌, ◌-◌, length}
 use Rattle.rustc_lexer.proofs.SearchLemmas.{IsPast}
 use Rattle.rustc_lexer.proofs.frontmatter.find_pattern.Given as goal
 
 abbrev pub invariant-places : goal.invariant-places
-invariant-places l = IsPast l.pattern l.rest l.from
+invariant-places l = IsPast (l.first ∷ l.more) l.rest l.from
 
 abbrev pub decreases-places : goal.decreases-places
 decreases-places l = length l.rest - l.from

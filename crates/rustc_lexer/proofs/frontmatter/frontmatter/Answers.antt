@@ -1,7 +1,7 @@
-use Rattle.std.proofs.Common.{arith, rules, ◌||◌, sym, ◌∙◌}
+use Rattle.std.proofs.Common.{arith, rules, ◌||◌, take, ap, sym, ◌∙◌}
 use Rattle.std.specs.Str.{chars}
 use Rattle.std.proofs.lemmas.Grind.{common_steps}
-use Rattle.rustc_lexer.specs.laws.Frontmatter.{opens-few, opens-line, opens-other, opens-yes, frontmatter-is}
+use Rattle.rustc_lexer.specs.laws.Frontmatter.{dashes_fence, opens-few, opens-line, opens-other, opens-yes, frontmatter-is}
 use Rattle.rustc_lexer.proofs.frontmatter.frontmatter.Goals as goal
 use Rattle.rustc_lexer.proofs.frontmatter.frontmatter.Goals.{then-n_dashes-lt-MIN_DASHES-via-then-n_dashes-lt-MIN_DASHES, then-n_dashes-lt-MIN_DASHES-via-else-n_dashes-lt-MIN_DASHES+then-follows_newline}
 use Rattle.rustc_lexer.specs.Classes.{is_whitespace}
@@ -15,4 +15,6 @@ returns-then-n_dashes-lt-MIN_DASHES c = grind (arith, common_steps, rules, then-
 
 pub returns : goal.returns
 returns c =
-    grind (arith, common_steps, rules, opens-yes, frontmatter-is, c.eat_while-label.ensures.past is_dash (λ d b e. search rules))
+    let label = c.eat_while-label.ensures.past is_dash (λ d b e. search rules) in
+    let dashes = dashes_fence c.args.text.now _ _ c.utf8.text c.eat_whitespace-fence.ensures.past label in
+    grind (arith, common_steps, rules, opens-yes, frontmatter-is, label, c.closing_end-end.ensures.end _ (ap (take _) c.as_bytes-3.ensures.value ∙ dashes))
