@@ -218,6 +218,7 @@ macro_rules! kept_calls {
         }
 
         /// Two are equal if their texts, their tokens and their steppers are; two [`Steps`] are, if their editions are.
+        /// Where the texts are equal, it needs the tokens.
         ///
         /// ```
         #[doc = concat!("use rustc_lexer::{Edition, ", stringify!($Kept), "};")]

@@ -111,7 +111,8 @@ impl<S: Stepper> LexedDocument<S> {
     /// # Panics
     ///
     /// Panics if `step` does, or if a token of it is empty, is longer than the text or ends inside a character. So do
-    /// edits: [`text`](LexedDocument::text) then has the edit, and each call that needs the tokens panics.
+    /// edits: [`text`](LexedDocument::text) then has the edit, and each call that needs the tokens panics. An
+    /// edit that is refused needs none.
     pub fn try_with(text: impl AsRef<str>, stepper: S) -> Result<LexedDocument<S>, EditError> {
         let text = try_fitting(text.as_ref())?;
         let stepper = Checked::new(stepper);

@@ -384,15 +384,25 @@ fn random_lists_of_edits() {
     lists!(LexedDocument);
 }
 
-/// What was made before an edit that is refused stays.
+/// What was made before an edit that is refused stays. The first such edit is named, wherever it stands.
 #[test]
 fn a_list_of_edits_that_stops() {
-    let edits = [edit(0, 1, "b"), edit(2, 3, "")];
-    let mut text = LexedText::new("a");
-    let mut document = LexedDocument::new("a");
-    assert_eq!(text.edit_each(&edits), Err(EditStop::Range { at: 1 }));
-    assert_eq!(document.edit_each(&edits), Err(EditStop::Range { at: 1 }));
-    assert_eq!((text.text(), document.text()), ("b", "b"));
+    macro_rules! stops {
+        ($lexed:expr, $at:expr, $edits:expr) => {
+            let (mut lexed, stop) = ($lexed, EditStop::Range { at: $at });
+            assert_eq!(lexed.edit_each($edits), Err(stop));
+            assert_eq!(lexed.text(), "b".repeat($at) + "a");
+            let mut lexed = $lexed;
+            assert_eq!(lexed.edit_all($edits), Err(stop));
+            assert_eq!(lexed.text(), "b".repeat($at) + "a");
+        };
+    }
+    for at in 0..5 {
+        let mut edits = vec![edit(0, 0, "b"); at];
+        edits.extend([edit(9, 9, ""), edit(8, 8, "")]);
+        stops!(LexedText::new("a"), at, &edits);
+        stops!(LexedDocument::new("a"), at, &edits);
+    }
     for (stop, said) in [
         (EditStop::Range { at: 0 }, "edit 0: bad range"),
         (EditStop::TooLong { at: 10 }, "edit 10: text too long"),
@@ -454,6 +464,15 @@ fn what_is_equal_and_given_back() {
             lexed.edit(4..5, "é");
             assert_eq!(lexed.into_string(), "let é;");
             assert_eq!($Kept::default().into_string(), "");
+            // The tokens of both texts are the same.
+            assert_ne!($Kept::new("a"), $Kept::new("b"));
+            for (left, right) in Edition::ALL
+                .map(|left| Edition::ALL.map(|right| (left, right)))
+                .concat()
+            {
+                let equal = $Kept::new_in("a", left) == $Kept::new_in("a", right);
+                assert_eq!(equal, left.year() == right.year(), "{left} and {right}");
+            }
         };
     }
     rows!(LexedText);
@@ -509,14 +528,27 @@ fn what_is_written_of_texts() {
 fn marks_at_the_ends_of_a_text() {
     macro_rules! keeps_them {
         ($lexed:ident) => {
-            let mut lexed = $lexed::new("\u{feff}a");
-            assert_eq!(lexed.text(), "\u{feff}a");
-            lexed.edit(4..4, "\u{feff}b\0");
-            assert_eq!(lexed.text(), "\u{feff}a\u{feff}b\0");
-            let (none, word) = (TokenKind::Unknown, TokenKind::Ident);
-            let tokens: Vec<_> = lexed.tokens().iter().map(|it| (it.kind, it.len)).collect();
-            let wanted = [(none, 3), (word, 1), (none, 3), (word, 1), (none, 1)];
-            assert_eq!(tokens, wanted);
+            let text = "\u{feff}a";
+            for lexed in [
+                Ok($lexed::new(text)),
+                Ok($lexed::new_in(text, Edition::E2018)),
+                $lexed::try_new_in(text, Edition::E2015),
+                $lexed::try_with(text, Steps::new()),
+            ] {
+                let mut lexed = lexed.unwrap();
+                assert_eq!(lexed.text(), text);
+                lexed.set_edition(Edition::E2021);
+                lexed.try_set_edition(Edition::E2024).unwrap();
+                assert_eq!(lexed.text(), text);
+                lexed.edit(4..4, "\u{feff}b\0");
+                assert_eq!(lexed.text(), "\u{feff}a\u{feff}b\0");
+                let (none, word) = (TokenKind::Unknown, TokenKind::Ident);
+                let tokens: Vec<_> = lexed.tokens().iter().map(|it| (it.kind, it.len)).collect();
+                let wanted = [(none, 3), (word, 1), (none, 3), (word, 1), (none, 1)];
+                assert_eq!(tokens, wanted);
+                lexed.shrink_to_fit();
+                assert_eq!(lexed.into_string(), "\u{feff}a\u{feff}b\0");
+            }
         };
     }
     keeps_them!(LexedText);

@@ -1,10 +1,10 @@
 //! Steppers of a caller that break a rule or panic: what the calls of a kept text say then, and what it has afterwards.
 
-use rustc_lexer::{Edit, LexedDocument, LexedText, Stepper, Token, TokenKind};
+use rustc_lexer::{Edit, EditError, LexedDocument, LexedText, Stepper, Token, TokenKind};
 use std::panic::{AssertUnwindSafe, catch_unwind};
 
 /// Its tokens have one byte, but those at `!` have this many.
-#[derive(Clone)]
+#[derive(Clone, PartialEq)]
 struct Bytes(u32);
 
 impl Stepper for Bytes {
@@ -64,6 +64,8 @@ macro_rules! has_no_tokens {
         assert_eq!(said(|| lexed.token_at(0)), left);
         assert_eq!(said(|| lexed.edit(0..0, "")), left);
         assert_eq!(said(|| lexed.try_edit(0..0, "")), left);
+        assert_eq!(lexed.try_edit(0..99, ""), Err(EditError::Range));
+        assert_eq!(said(|| lexed == second), left);
         assert_eq!(said(|| lexed.edit_all(&[])), left);
         assert_eq!(said(|| lexed.edit_each(&[])), left);
         assert_eq!(said(|| second.edit(0..0, "")), left);
@@ -185,4 +187,9 @@ fn equal_steppers() {
     assert!(text == LexedText::try_with("ab", Few(2)).unwrap());
     assert!(text != LexedText::try_with("ab", Few(3)).unwrap());
     assert!(text != LexedText::try_with("abc", Few(3)).unwrap());
+    // One that lost its tokens in an edit has another text.
+    let mut lost = text.clone();
+    said(|| lost.edit(2..2, "c"));
+    assert_ne!(text, lost);
+    assert_ne!(lost, text);
 }

@@ -141,4 +141,7 @@ fn edits_that_make_one() {
     assert_eq!(text.edit_all(&edits), Err(EditStop::TooLong { at: 1 }));
     assert_eq!(document.edit_all(&edits), Err(EditStop::TooLong { at: 1 }));
     assert_eq!((text.text(), document.text()), ("baé", "baé"));
+    assert_eq!(text.edit_each(&edits), Err(EditStop::TooLong { at: 1 }));
+    assert_eq!(document.edit_each(&edits), Err(EditStop::TooLong { at: 1 }));
+    assert_eq!((text.text(), document.text()), ("bbaé", "bbaé"));
 }
