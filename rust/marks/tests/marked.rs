@@ -58,7 +58,7 @@ const LINES: [Row<'_>; 23] = [
 
 /// Tokens that editions read in their own ways.
 #[rustfmt::skip]
-const EDITIONS: [Row<'_>; 14] = [
+const EDITIONS: [Row<'_>; 15] = [
     (NoColours, E2024, "#\"a\"", "#\" [<- these marks are reserved for strings to come]a [<- no literal has this prefix]\" [<- nothing closes this string]"),
     (NoColours, E2021, "#\"a\"", "#\"a\""),
     (NoColours, E2018, "#\"a\"", "#\"a\""),
@@ -72,6 +72,7 @@ const EDITIONS: [Row<'_>; 14] = [
     (Colours, E2021, "---\n---\n#\"a\"", "\x1b[36m---\n---\x1b[0m\n#\x1b[32m\"a\"\x1b[0m"),
     (Colours, E2015, "\n---\n---", "\n\x1b[36m---\n---\x1b[0m"),
     (Colours, E2018, "#\"a\"", "#\x1b[32m\"a\"\x1b[0m"),
+    (NoColours, E2018, "\u{feff}#!a", "\u{feff} [<- no token begins with this character]#!a"),
     (Colours, E2018, "#!/bin/sh\nz'a'", "\x1b[90m#!/bin/sh\x1b[0m\nz\x1b[32m'a'\x1b[0m"),
 ];
 

@@ -86,6 +86,14 @@ fn so_many_tokens_are_written() {
         let written = first(Style::NoColours, NEWEST, count, "a+1");
         assert_eq!(written, wanted, "{count} tokens");
     }
+    let many = ";".repeat(70_000);
+    for count in [69_999, 70_000, 80_000] {
+        let written = first(Style::NoColours, NEWEST, count, &many);
+        assert!(written == many[..count.min(70_000)], "{count} tokens");
+    }
+    assert!(whole(Style::Html, NEWEST, &many) == many);
+    let mark = "\u{feff} [<- no token begins with this character]";
+    assert_eq!(first(Style::NoColours, NEWEST, 1, "\u{feff}a"), mark);
 }
 
 #[test]
@@ -97,6 +105,19 @@ fn an_edition_has_its_tokens() {
     assert_eq!(first(Style::Html, Edition::E2018, 3, "'a#b"), older);
     assert_eq!(whole(Style::Html, Edition::E2021, "'a#b"), lifetime);
     assert_eq!(whole(Style::Html, Edition::E2018, "'a#b"), older);
+    for edition in Edition::ALL {
+        let keyword = "\x1b[35mfn\x1b[0m";
+        assert_eq!(
+            first(Style::Colours, edition, 1, "fn"),
+            keyword,
+            "in {edition}"
+        );
+        assert_eq!(
+            whole(Style::Colours, edition, "fn"),
+            keyword,
+            "in {edition}"
+        );
+    }
 }
 
 /// A frontmatter stands in front of a whole text alone: to a part its dashes are symbols.

@@ -49,7 +49,7 @@ fn texts() {
     let none = given(0, || String::from_str(Global, ""));
     assert_eq!(none, Ok(String::new(Global)));
     let mut held = text("aéb");
-    held.truncate(3);
+    given(0, || held.truncate(3));
     assert_eq!((held.as_str(), &*held.to_string()), ("aé", "aé"));
     // A width counts characters, as of each text in Rust.
     assert_eq!(std::format!("{held:>4}|{held:-<3}"), "  aé|aé-");

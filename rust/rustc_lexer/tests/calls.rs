@@ -411,6 +411,31 @@ fn each_call_has_its_frontmatter_and_edition() {
     assert_eq!(lens(document), [1, 9, 1, 2]);
 }
 
+/// A byte order mark in front is a token to each call, and no shebang line and no frontmatter comes behind it.
+#[test]
+fn a_mark_in_front() {
+    let text = "\u{feff}#!/bin/sh";
+    let wanted = [3, 1, 1, 1, 3, 1, 2];
+    for allowed in [FrontmatterAllowed::No, FrontmatterAllowed::Yes] {
+        assert_eq!(lens(tokenize(text, allowed)), wanted);
+        let script = "\u{feff}---\n---";
+        assert_eq!(lens(tokenize(script, allowed)), [3, 1, 1, 1, 1, 1, 1, 1]);
+        assert_eq!(
+            Cursor::new(text, allowed).advance_token(),
+            token(TokenKind::Unknown, 3)
+        );
+        for edition in Edition::ALL {
+            assert_eq!(lens(tokenize_as(text, allowed, edition)), wanted);
+        }
+    }
+    for edition in Edition::ALL {
+        assert_eq!(lens(tokenize_in(text, edition)), wanted);
+        assert_eq!(lens(tokenize_document(text, edition)), wanted);
+    }
+    assert_eq!((strip_shebang(text), settled(text)), (None, 10));
+    assert!(!is_ident("\u{feff}a") && !starts_raw("\u{feff}r\"\"", 1));
+}
+
 /// White space leaves it allowed, and every other token ends that.
 #[test]
 fn whether_a_frontmatter_is_allowed_still() {
@@ -471,6 +496,35 @@ fn more_tokens_than_a_batch() {
     let mut buffer = vec![tokens[1]; 2001];
     let count = tokenize(&text, FrontmatterAllowed::No).fill(&mut buffer);
     assert_eq!((count, &buffer[..count]), (2000, &*tokens));
+}
+
+/// So many tokens are taken by one call, since fewer than there is room for means that no more come.
+#[test]
+fn many_tokens_at_once() {
+    let text = ";".repeat(70_000);
+    let wanted = vec![token(TokenKind::Semi, 1); 70_000];
+    for room in [70_000, 100_000] {
+        let mut buffer = vec![token(TokenKind::Eof, 0); room];
+        let mut tokens = tokenize(&text, FrontmatterAllowed::No);
+        assert_eq!((tokens.fill(&mut buffer), tokens.as_str()), (70_000, ""));
+        assert!(buffer[..70_000] == wanted, "in a room for {room}");
+    }
+    assert!(tokenize(&text, FrontmatterAllowed::No).eq(wanted.iter().copied()));
+    #[cfg(feature = "alloc")]
+    {
+        use rustc_lexer::{Edit, LexedDocument, LexedText};
+        assert!(tokenize(&text, FrontmatterAllowed::No).into_vec() == wanted);
+        assert!(LexedText::new(&text).tokens() == wanted);
+        let edit = Edit {
+            start: 1,
+            stop: 1,
+            insert: &text[2..],
+        };
+        let mut lexed = LexedDocument::try_with(";;", Steps::new()).unwrap();
+        let relexed = lexed.edit_each(&[edit]).unwrap();
+        assert!(lexed.tokens() == wanted && lexed.pieces_of(relexed.range()).len() > 69_990);
+        assert_eq!(lexed.pieces_in(0..70_000).count(), 70_000);
+    }
 }
 
 #[test]
