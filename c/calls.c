@@ -118,8 +118,15 @@ static void check_records(void) {
     struct rustc_lexer_token first = rustc_lexer_first_token_unchecked(document, 11, 7);
     CHECK(first.kind == RUSTC_LEXER_FRONTMATTER && first.has_invalid_preceding_whitespace == 1);
     CHECK(rustc_lexer_first_token_unchecked(document, 11, 0).kind == RUSTC_LEXER_WHITESPACE);
-    CHECK(strcmp(rustc_lexer_kind_name(RUSTC_LEXER_EOF), "Eof") == 0 && *rustc_lexer_kind_name(0) == 0);
-    CHECK(*rustc_lexer_kind_name(255) == 0 && *rustc_lexer_literal_kind_name(0) == 0);
+    CHECK(strcmp(rustc_lexer_kind_name(RUSTC_LEXER_EOF), "Eof") == 0);
+    CHECK(strcmp(rustc_lexer_literal_kind_name(RUSTC_LEXER_RAW_C_STR), "RawCStr") == 0);
+    /* kinds have the numbers from 1 to 43, those of literals from 1 to 10, and no other number has a name */
+    for (int number = 0; number < 256; number++) {
+        const char *name = rustc_lexer_kind_name((uint8_t)number);
+        CHECK(name != NULL && (*name != 0) == (number >= 1 && number <= 43));
+        name = rustc_lexer_literal_kind_name((uint8_t)number);
+        CHECK(name != NULL && (*name != 0) == (number >= 1 && number <= 10));
+    }
 }
 
 static void check_buffer(batch_call *tokens) {
@@ -354,6 +361,44 @@ static void check_marks(void) {
     }
 }
 
+/* So many items cross at once: what is cut would say that no more come, or that a buffer is too small. */
+#define MANY 70000
+
+static uint8_t many[MANY + 1];
+static struct rustc_lexer_token many_tokens[MANY];
+static struct rustc_lexer_unit many_units[MANY];
+
+static void check_many(batch_call *tokens, unescape_call *unescape) {
+    static uint8_t bytes[MANY];
+    struct rustc_lexer_place place = {0, 0};
+    size_t count;
+    memset(many, ';', MANY);
+    CHECK(tokens(many, MANY, &place, many_tokens, MANY, &count) == RUSTC_LEXER_OK && count == MANY);
+    for (size_t i = 0; i < MANY; i++)
+        CHECK(many_tokens[i].kind == RUSTC_LEXER_SEMI && many_tokens[i].len == 1);
+    CHECK(rustc_lexer_marks(many, MANY, RUSTC_LEXER_STYLE_HTML, 2024, MANY, bytes, MANY, &count) == RUSTC_LEXER_OK);
+    CHECK(count == MANY && memcmp(bytes, many, MANY) == 0);
+    CHECK(unescape(many, MANY, RUSTC_LEXER_STR, 0, many_units, MANY, &count) == RUSTC_LEXER_OK && count == MANY);
+    CHECK(is_unit(many_units[MANY - 1], MANY - 1, MANY, RUSTC_LEXER_UNIT_CHAR, ';'));
+
+    /* a byte at the end: all tokens are old ones but those next to it; and all of the text anew */
+    struct rustc_lexer_edit edit = {MANY, MANY, MANY + 1}, all = {0, 0, MANY};
+    struct rustc_lexer_relexing relexing = {0};
+    many[MANY] = 0xff;
+    CHECK(rustc_lexer_check(many, MANY) == RUSTC_LEXER_OK && rustc_lexer_check(many, MANY + 1) == RUSTC_LEXER_NOT_UTF8);
+    many[MANY] = ';';
+    CHECK(rustc_lexer_relex(many, MANY + 1, many_tokens, MANY, &edit, 2024, &relexing, buffer, BUFFER_LEN, &count) ==
+              RUSTC_LEXER_OK && relexing.kept_front + count == MANY + 1 && relexing.kept_front >= MANY - 2);
+    relexing = (struct rustc_lexer_relexing){0};
+    CHECK(rustc_lexer_relex(many, MANY, NULL, 0, &all, 2024, &relexing, many_tokens, MANY, &count) == RUSTC_LEXER_OK);
+    CHECK(count == MANY && relexing.lexed == MANY && relexing.stage == RUSTC_LEXER_STAGE_DONE);
+
+    /* a carriage return for each byte, which no string may have */
+    memset(many, '\r', MANY);
+    CHECK(rustc_lexer_literal_errors(many, MANY, RUSTC_LEXER_STR, 0, many_units, MANY, &count) == RUSTC_LEXER_OK);
+    CHECK(count == MANY && many_units[MANY - 1].end == MANY);
+}
+
 int main(void) {
     batch_call *const calls[] = {rustc_lexer_tokens, rustc_lexer_tokens_unchecked};
     CHECK(sizeof(struct rustc_lexer_token) == 12 && sizeof(struct rustc_lexer_relexing) == 7 * sizeof(size_t));
@@ -369,6 +414,8 @@ int main(void) {
     }
     check_units(rustc_lexer_unescape);
     check_units(rustc_lexer_unescape_unchecked);
+    check_many(rustc_lexer_tokens, rustc_lexer_unescape);
+    check_many(rustc_lexer_tokens_unchecked, rustc_lexer_unescape_unchecked);
     check_errors(rustc_lexer_literal_errors);
     check_errors(rustc_lexer_literal_errors_unchecked);
     check_bad_texts();
