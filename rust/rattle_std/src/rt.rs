@@ -20,11 +20,9 @@ static STREAMS: OnceLock<[Option<File>; 3]> = OnceLock::new();
 /// Returns the copies, which the first call makes.
 fn streams() -> &'static [Option<File>; 3] {
     STREAMS.get_or_init(|| {
-        [
-            copy(&std::io::stdin()),
-            copy(&std::io::stdout()),
-            copy(&std::io::stderr()),
-        ]
+        // Where the process may open few more, it is left with the stream that says so.
+        let errors = copy(&std::io::stderr());
+        [copy(&std::io::stdin()), copy(&std::io::stdout()), errors]
     })
 }
 

@@ -30,10 +30,13 @@ fn count(text: &str) -> [usize; 3] {
             TokenKind::LineComment { .. } | TokenKind::BlockComment { .. } => Line::Comment,
             _ => Line::Code,
         };
-        line = line.max(kind);
-        for _ in piece.matches('\n') {
-            counts[line as usize] += 1;
-            line = kind;
+        // A token may end with a line, as `r#` does that no quote follows: it has nothing on the next one.
+        for part in piece.split_inclusive('\n') {
+            line = line.max(kind);
+            if part.ends_with('\n') {
+                counts[line as usize] += 1;
+                line = Line::Blank;
+            }
         }
     }
     if !text.is_empty() && !text.ends_with('\n') {
