@@ -43,15 +43,13 @@ impl Held {
 
 #[cfg(test)]
 impl Source {
-    /// A text whose tokens are those of one edition, whichever is asked for: they are wrong in others.
-    pub fn in_edition(text: &str, document: bool, edition: Edition) -> Source {
+    /// A text whose tokens are those of these editions, in place of each edition: they are wrong where it is another.
+    pub fn in_editions(text: &str, document: bool, editions: [Edition; EDITIONS]) -> Source {
         let mut source = Source::new();
         source.change(text, document);
         source.held = match source.held {
-            Held::Part(texts) => Held::Part(texts.map(|_| LexedText::new_in(text, edition))),
-            Held::Document(texts) => {
-                Held::Document(texts.map(|_| LexedDocument::new_in(text, edition)))
-            }
+            Held::Part(_) => Held::Part(editions.map(|it| LexedText::new_in(text, it))),
+            Held::Document(_) => Held::Document(editions.map(|it| LexedDocument::new_in(text, it))),
         };
         source
     }

@@ -199,6 +199,12 @@ fn limits() {
     let cut = format!("{forty}\u{2026}");
     assert_eq!(piece(&more), cut);
     assert_eq!(piece("\t\u{7f}é"), "\\t\\u{7f}é");
+    assert_eq!(piece("\0\u{85}\u{a0}"), "\\u{0}\\u{85}\u{a0}");
+    // What was lexed is not marked behind the part in colours, either.
+    let long = source(&"a".repeat(4102), false);
+    let fresh = lines_of(&long, 0..4102, 0..4102, NEWEST)[0].runs.clone();
+    let fresh = fresh.iter().map(|run| (run.fresh, run.text.len()));
+    assert!(fresh.eq([(true, 4000), (false, 102)]));
     let many = seen::show(&source(&";".repeat(301), false), 0, 1, 0, NEWEST);
     assert_eq!(many.matches("\"number\":").count(), 300);
     let differ = editions::write(&source(&"q#a ".repeat(60), false));
@@ -223,6 +229,17 @@ fn where_editions_differ() {
         r##"{{ "counts":[5,5,3,3],"differ":1,"places":[{{ "place":"1:1","text":"'r#foo","editions":[{older},{older},{newer},{newer}]}}]}}"##
     );
     assert_eq!(editions::write(&source("'r#foo a", false)), wanted);
+    // A second place has the tokens with its own numbers.
+    let place = |column, name| {
+        let older = format!(r##"[["Lifetime","'r"],["Pound","#"],["Ident","{name}"]]"##);
+        let newer = format!(r##"[["RawLifetime","'r#{name}"]]"##);
+        format!(
+            r##"{{ "place":"1:{column}","text":"'r#{name}","editions":[{older},{older},{newer},{newer}]}}"##
+        )
+    };
+    let places = [place(1, "a"), place(6, "b")].join(",");
+    let wanted = format!(r#"{{ "counts":[7,7,3,3],"differ":2,"places":[{places}]}}"#);
+    assert_eq!(editions::write(&source("'r#a 'r#b", false)), wanted);
 }
 
 /// The listing is that of `lexdump`, whose places begin past a shebang line.
@@ -232,7 +249,7 @@ fn listings() {
     let listed = listing::write(&source, 0..3, NEWEST);
     assert_eq!(listed, "0 1 Whitespace\n1 1 Ident\n2 1 Plus\n");
     // A long listing comes in blocks of 65536 bytes.
-    let count = 10_000;
+    let count = 70_000;
     let source = self::source(&";".repeat(count), false);
     let wanted: String = (0..count).map(|at| format!("{at} 1 Semi\n")).collect();
     assert!(listing::write(&source, 0..count, NEWEST) == wanted);
@@ -266,6 +283,12 @@ fn calls_of_the_page() {
         r#"{ "number":0,"start":0,"bytes":1,"place":"1:1","text":"a","#,
     );
     assert!(answered(crate::editions()).starts_with(r#"{ "counts":[3,3,3,3],"differ":0,"#));
+    // A byte order mark is of the text.
+    // SAFETY: the room has four bytes.
+    unsafe { crate::room(4).copy_from("\u{feff}b".as_ptr(), 4) };
+    answered(crate::change(4, false, NEWEST));
+    let listed = answered(crate::listing(NEWEST));
+    assert_eq!(listed, "0 3 Unknown\n3 1 Ident\n");
     // Each call that takes an edition answers of that.
     for (edition, count) in [3, 3, 1, 1].into_iter().enumerate() {
         // SAFETY: the room has four bytes.
@@ -298,6 +321,62 @@ fn what_is_seen() {
         r#"{ "number":2,"start":2,"bytes":2,"place":"2:1","text":"bd","kind":"Ident","fields":"","value":"","fresh":true}"#,
     );
     ends(&seen, r#""place":"1:1"}"#);
+}
+
+/// A caret below the lines that are seen; a literal counts bytes, and stands for characters; a line begins behind each end of one.
+#[test]
+fn what_is_seen_of_a_caret_and_of_a_literal() {
+    let seen = seen::show(&source("a\nb\nc", false), 0, 1, 4, NEWEST);
+    has(
+        &seen,
+        r#""at":4,"elsewhere":[{ "number":4,"start":4,"bytes":1,"place":"3:1","text":"c","#,
+    );
+    ends(&seen, r#""place":"3:1"}"#);
+    let literal = source("\"é\"\n", false);
+    let kept = r#"{ "bytes":5,"lines":2,"kept":[0,2,0]}"#;
+    assert_eq!(seen::kept(&literal, NEWEST), kept);
+    let fields = r#""kind":"Literal","fields":"kind=Str terminated=true suffix_start=4""#;
+    let value = r#""value":"1 character: \"\\u{e9}\"""#;
+    has(
+        &seen::show(&literal, 0, 1, 0, NEWEST),
+        &format!(r#""start":0,"bytes":4,"place":"1:1","text":"\"é\"",{fields},{value},"fresh":"#),
+    );
+}
+
+/// Many lines are drawn at once, of many more, and tokens far behind are listed.
+#[test]
+fn what_is_seen_of_many_lines() {
+    let source = source(&";\n".repeat(35_000), false);
+    let seen = seen::show(&source, 30_000, 150, 0, NEWEST);
+    assert_eq!(seen.matches(r#""runs":[["",";"]]"#).count(), 150);
+    has(&seen, r#""count":70000,"begin":0,"#);
+    has(
+        &seen,
+        r#""tokens":[{ "number":60000,"start":60000,"bytes":1,"place":"30001:1","text":";","kind":"Semi","#,
+    );
+    has(
+        &seen,
+        r#"{ "number":60298,"start":60298,"bytes":1,"place":"30150:1","#,
+    );
+    let kept = r#"{ "bytes":70000,"lines":35001,"kept":[0,70000,0]}"#;
+    assert_eq!(seen::kept(&source, NEWEST), kept);
+    let differ = r#"{ "counts":[70000,70000,70000,70000],"differ":0,"places":[]}"#;
+    assert_eq!(editions::write(&source), differ);
+    assert_eq!(source.as_lexed_anew(), "yes");
+}
+
+/// Characters that a token looks at behind its end, typed side by side, and taken out again.
+#[test]
+fn characters_typed_side_by_side() {
+    let typed = ["r", "#", "\"", "'", "k", "1", ".", "/"];
+    for number in 0..typed.len().pow(3) {
+        let parts = [number / 64, number / 8 % 8, number % 8].map(|part| typed[part]);
+        let mut source = source("a", false);
+        for count in [1, 2, 3, 2, 1] {
+            source.change(&["a ", &parts[..count].concat()].concat(), false);
+            assert_eq!(source.as_lexed_anew(), "yes", "{:?}", source.text());
+        }
+    }
 }
 
 /// Line 201 of 400. Each is a word and its end: three bytes in lines 1 to 10, four up to line 100, and then five.
@@ -353,6 +432,19 @@ fn an_edit_of_the_first_token() {
     );
 }
 
+/// What an edit lexes is marked from its first token to its last. What it keeps is told by docs/RELEXING.md.
+#[test]
+fn an_edit_that_lexes_three_tokens() {
+    let mut source = source("ab cd ef gh", false);
+    source.change("ab cd xef gh", false);
+    let seen = seen::show(&source, 0, 1, 0, NEWEST);
+    has(
+        &seen,
+        r#""runs":[["","ab "],[" fresh","cd xef"],[""," gh"]]"#,
+    );
+    assert_eq!(seen.matches(r#""fresh":true"#).count(), 3, "{seen}");
+}
+
 /// A fault inside a literal is marked there alone.
 #[test]
 fn faults_inside_literals() {
@@ -370,17 +462,33 @@ fn faults_inside_literals() {
         ("text", false, "\""),
     ];
     assert_eq!((runs, line.said.len()), (wanted.to_vec(), 1));
+    has(
+        &seen::show(&source, 0, 1, 0, NEWEST),
+        r#"["text wrong","\\q"],["escape","\\n"]"#,
+    );
 }
 
 /// The page's checks of itself answer where tokens are wrong, here those of an older edition: there a raw string begins in
 /// the first line, and since 2021 a string, in which the second line has a fault.
 #[test]
 fn checks_that_answer() {
+    use Edition::{E2015, E2018, E2021, E2024};
     for document in [false, true] {
-        let source = Source::in_edition("'r#r\"\n\\q\"", document, Edition::E2018);
-        assert_eq!(source.as_lexed_anew(), "2021");
+        let held = |editions| Source::in_editions("'r#r\"\n\\q\"", document, editions);
+        let source = held([E2018; EDITIONS]);
         assert_eq!(seen::parts_alike(&source, NEWEST), "2");
         assert_eq!(seen::parts_alike(&source, 0), "");
+        for (editions, wrong) in [
+            ([E2015, E2018, E2021, E2024], "yes"),
+            ([E2018; EDITIONS], "2021"),
+            ([E2024; EDITIONS], "2015"),
+            ([E2021, E2018, E2021, E2024], "2015"),
+            ([E2015, E2021, E2021, E2024], "2018"),
+            ([E2015, E2018, E2018, E2024], "2021"),
+            ([E2015, E2018, E2021, E2018], "2024"),
+        ] {
+            assert_eq!(held(editions).as_lexed_anew(), wrong, "{editions:?}");
+        }
     }
 }
 
