@@ -1,7 +1,7 @@
-// The page's check of itself: index.html#check runs it, and writes `check: passed` or what failed.
+// The page's check of itself: index.html#check runs it, and writes `check: passed` with what it tried, or what failed.
 'use strict';
-const PIECES = ['a', '"', '/*', '*/', "'", 'é', '😀', '#', ' ', '\n', '\r', '0x', 'r#"', '"#', '---', '//', '\\', 'b', '\u{feff}', '&<>',
-  '\u{1f}', '\u{2028}'];
+const PIECES = ['a', 'r', 'k', '1', '.', '"', '/*', '*/', "'", 'é', '😀', '#', ' ', '\n', '\r', '0x', 'r#"', '"#', '---', '//', '\\', 'b',
+  '\u{feff}', '&<>', '\u{1f}', '\u{2028}'];
 const STARTS = ['', 'fn f<\'a>(x: &\'a str) -> u8 { 1.5e3; r#"é😀"# /* a */ } // b\n', '#!/bin/sh\n---\nx = 1\n---\n#!/y\n',
   '"\\u{1f600}\\q" \'r#a k#b c"\\xff" #"x"# 0b 1e b\'é\' /* & < > */\n', '/*\n\n\n*/ let x = "a\n  b\\\n  c";\n'.repeat(12),
   `let ${'a'.repeat(300)} = 0x; k"\\q"#"b"#\n`];
@@ -196,8 +196,12 @@ const choose = (value) => [...document.querySelectorAll('#edition label')].find(
 
 // What an event throws does not come back to the one who sent it.
 const failures = [];
+const tried = { edits: 0 };
 function run(...names) {
-  for (const name of names) checks[name]();
+  for (const name of names) {
+    checks[name]();
+    tried[name] = (tried[name] ?? 0) + 1;
+  }
   expect(failures.length === 0, failures[0]);
 }
 
@@ -209,6 +213,7 @@ function round(number) {
   text.scrollTop = random(text.scrollHeight);
   text.scrollLeft = random(text.scrollWidth);
   show();
+  tried.edits += 1;
   run(...number % 8 ? ['drawn', 'listed', 'bar'] : Object.keys(checks));
 }
 
@@ -278,7 +283,8 @@ async function check() {
 
 if (location.hash === '#check') {
   at('check').textContent = 'check: runs';
-  check().then(() => 'check: passed', (error) => `check: ${error.message}`).then((said) => {
+  const counts = () => Object.entries(tried).map(([name, count]) => `${name} ${count}`).join(', ');
+  check().then(() => `check: passed: ${counts()}`, (error) => `check: ${error.message}`).then((said) => {
     at('check').textContent = said;
   });
 }

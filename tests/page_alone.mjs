@@ -12,7 +12,16 @@ class Element {
   style = { setProperty: () => {} };
   scrollTop = 0;
   clientHeight = 40;
-  append(...parts) { this.children.push(...parts); }
+  append(...parts) {
+    this.children.push(...parts);
+    for (const part of parts) if (part instanceof Element) part.list = this.children;
+  }
+  replaceWith(part) {
+    this.list[this.list.indexOf(this)] = part;
+    part.list = this.list;
+  }
+  remove() { this.list.splice(this.list.indexOf(this), 1); }
+  get lastChild() { return this.children.at(-1); }
   setAttribute(name, value) { this.words[name] = String(value); }
   get textContent() { return this.children.map((part) => part.textContent ?? String(part)).join(''); }
   set textContent(words) { this.children = [words]; }
@@ -43,22 +52,26 @@ const page = runInNewContext(`${readFileSync(new URL('../page/page.js', import.m
   clearTimeout: () => delays.pop(),
 });
 
-// A text of so many bytes, in which one edit kept two tokens in front and three at the back.
-function changed(bytes) {
+// A text of so many bytes, in which one edit kept two tokens in front and three at the back, with caret and scroll.
+function changed(bytes, kept = [2, 1, 3], selectionStart = 1, scrollTop = 200 * page.LINE) {
   parts.text.value = 'a';
-  Object.assign(parts.text, { selectionStart: 1, scrollTop: 200 * page.LINE });
-  answers.change = { bytes, lines: 7, kept: [2, 1, 3] };
+  Object.assign(parts.text, { selectionStart, scrollTop });
+  answers.change = { bytes, lines: 7, kept };
   calls.length = 0;
   page.changed();
   return calls.map(([name]) => name).join(' ');
 }
 
 const token = { number: 4, start: 890, bytes: 4, place: '201:1', text: 'x200', kind: 'Literal', fields: 'kind=Str', value: '1 character: "a"', fresh: true };
+const plainToken = { ...token, fields: '', value: '', bytes: 1, fresh: false };
+const before = { ...plainToken, number: 3, start: 889, place: '200:5', text: '\\n', kind: 'Whitespace' };
 answers = {
-  show: { lines: [{ runs: [['', '"'], ['text wrong fresh', '\\q']], said: ['no'] }], count: 6, begin: 0, tokens: [token], at: 4, elsewhere: [], place: '201:2' },
+  show: { lines: [{ runs: [['', '"'], ['text wrong fresh', '\\q']], said: ['no'] }], count: 6, begin: 0, tokens: [before, token], at: 4, elsewhere: [], place: '201:2' },
   editions: { counts: [6, 5], differ: 60, places: [{ place: '2:1', text: 'q', editions: [[['Ident', 'q'], ['Pound', '#']], [['UnknownPrefix', 'q']]] }] },
 };
 const textsOf = (name) => part(name).children.map((row) => row.children.map((cell) => cell.textContent));
+
+const barOf = () => [part('bar').className, ...part('bar').children.map(({ style }) => style.flexGrow)];
 
 // what is typed is drawn at once, from the line that is seen; what differs is asked later, of a long text after 0.3 seconds
 same(changed(99_999), 'change show');
@@ -67,11 +80,12 @@ same(delays.map(([, delay]) => delay), [0]);
 same(changed(100_000), 'change show');
 same(delays.map(([, delay]) => delay), [300]);
 same(part('kept').textContent, 'The last edit kept 2 tokens in front, lexed 1, and kept 3 at the back: 6 tokens, 100000 bytes, 7 lines.');
+same(barOf(), ['', 2, 1, 3]);
 same(part('place').textContent, 'Caret at 201:2. Literal at 201:1, 4 bytes, kind=Str; stands for 1 character: "a"');
 same(part('wrong').textContent, 'line 201: no');
-same(textsOf('#tokens tbody'), [['201:1', '890', '4', 'x200', 'Literal kind=Str', '1 character: "a"']]);
-const [row] = part('#tokens tbody').children;
-same([row.words, row.children[3].words], [{ 'aria-current': 'true' }, { class: 'fresh' }]);
+same(textsOf('#tokens tbody'), [['200:5', '889', '1', '\\n', 'Whitespace ', ''], ['201:1', '890', '4', 'x200', 'Literal kind=Str', '1 character: "a"']]);
+same(part('#tokens tbody').children.map((row) => [row.words, row.children[3].words]),
+  [[{}, { class: '' }], [{ 'aria-current': 'true' }, { class: 'fresh' }]]);
 const [line] = part('lines').children;
 same(line.words, { 'data-line': '201' });
 same(line.children[0].children.map((run) => [run.words.class, run.textContent]), [['', '"'], ['text wrong fresh', '\\q']]);
@@ -80,4 +94,33 @@ same(line.children[1].children.map((said) => said.words['data-said']), ['no']);
 delays[0][0]();
 same(part('differ').textContent, 'Tokens: 6 in 2015, 5 in 2024. They differ in 60 places; the first 1 are here.');
 same(textsOf('#differences tbody'), [['2:1', 'q', 'Ident q\nPound #', 'UnknownPrefix q']]);
+
+// a second answer takes the place of the first: all was lexed, another line is seen, the caret is in front, and its token
+// is out of sight
+const first = { ...plainToken, number: 0, start: 0, place: '1:1', text: 'y', kind: 'Ident' };
+const plain = { runs: [['', 'z']], said: [] };
+answers.show = { lines: [plain, plain], count: 6, begin: 0, tokens: [token], at: 0, elsewhere: [first], place: '1:1' };
+answers.editions = { counts: [6, 5], differ: 1, places: answers.editions.places };
+part('text').scrollLeft = 7;
+changed(9, null, 0, 30);
+same(calls[1], ['show', 1, 3, 0, 1]);
+same(part('lines').children.map((line) => [line.words['data-line'], line.textContent]), [['2', 'z'], ['3', 'z']]);
+same(part('lines').style.transform, 'translate(-7px, -10px)');
+same(part('place').textContent, 'Caret at 1:1. Ident at 1:1, 1 byte');
+same([part('wrong').textContent, part('kept').textContent], ['', 'All was lexed: 6 tokens, 9 bytes, 7 lines.']);
+same(barOf(), ['anew', 0, 6, 0]);
+same(part('#tokens tbody').children.map((row) => row.words), [{}]);
+delays.at(-1)[0]();
+same(part('differ').textContent, 'Tokens: 6 in 2015, 5 in 2024. They differ in 1 place.');
+
+// a third has fewer lines and no token, and what is the same keeps its element
+const [kept] = part('lines').children;
+answers.show = { lines: [plain], count: 0, begin: 0, tokens: [], at: 0, elsewhere: [], place: '1:1' };
+answers.editions = { counts: [6, 6], differ: 0, places: [] };
+changed(9, [0, 0, 0], 0, 30);
+same(part('lines').children.map((line) => line === kept), [true]);
+same([part('place').textContent, textsOf('#tokens tbody')], ['Caret at 1:1. ', []]);
+same([part('kept').textContent, barOf()], ['All was lexed: 0 tokens, 9 bytes, 7 lines.', ['', 0, 0, 0]]);
+delays.at(-1)[0]();
+same([part('differ').textContent, textsOf('#differences tbody')], ['Tokens: 6 in 2015, 6 in 2024. They are the same.', []]);
 console.log('page: with no browser it draws what its lexer answers');
