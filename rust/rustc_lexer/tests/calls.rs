@@ -509,7 +509,8 @@ fn many_tokens_at_once() {
         assert_eq!((tokens.fill(&mut buffer), tokens.as_str()), (70_000, ""));
         assert!(buffer[..70_000] == wanted, "in a room for {room}");
     }
-    assert!(tokenize(&text, FrontmatterAllowed::No).eq(wanted.iter().copied()));
+    let tokens = tokenize(&text, FrontmatterAllowed::No);
+    assert!(tokens.size_hint().1 >= Some(70_000) && tokens.eq(wanted.iter().copied()));
     #[cfg(feature = "alloc")]
     {
         use rustc_lexer::{Edit, LexedDocument, LexedText};

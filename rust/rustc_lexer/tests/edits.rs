@@ -317,6 +317,15 @@ fn a_list_of_edits() {
     assert_eq!((lexed.text(), lexed.tokens().len()), ("cd efz", 3));
     assert_eq!(lexed.edit_all(&[]), Ok(()));
     assert_eq!(lexed.text(), "cd efz");
+    // Each of many is made.
+    let edits: Vec<_> = (0..20_000).map(|at| edit(at, at, ";")).collect();
+    let (mut text, mut document) = (LexedText::new(""), LexedDocument::new(""));
+    assert_eq!(text.edit_all(&edits), Ok(()));
+    assert_eq!(document.edit_each(&edits), Ok(counts(0, 20_000, 0)));
+    assert_eq!(
+        (text.tokens().len(), document.tokens().len()),
+        (20_000, 20_000)
+    );
 }
 
 /// What all edits of a list keep, worked by hand. The tokens have one byte each.
