@@ -358,7 +358,7 @@ fn whole_words() {
 fn prefixes_of_raw_strings() {
     for (text, with, without) in [
         ("", &[][..], &[0, 1][..]),
-        ("r", &[1], &[0, 2, u32::MAX]),
+        ("r", &[1], &[0, 2, 257, 65_537, u32::MAX]),
         ("R", &[], &[1]),
         ("rr", &[1, 2], &[]),
         ("br", &[2], &[1, 3]),
@@ -511,11 +511,15 @@ fn many_tokens_at_once() {
     }
     let tokens = tokenize(&text, FrontmatterAllowed::No);
     assert!(tokens.size_hint().1 >= Some(70_000) && tokens.eq(wanted.iter().copied()));
+    // Two characters follow.
+    assert_eq!(settled(&text), 69_998);
+    assert_eq!(strip_shebang(&["#!", &text].concat()), Some(70_002));
     #[cfg(feature = "alloc")]
     {
         use rustc_lexer::{Edit, LexedDocument, LexedText};
         assert!(tokenize(&text, FrontmatterAllowed::No).into_vec() == wanted);
-        assert!(LexedText::new(&text).tokens() == wanted);
+        let lexed = LexedText::new(&text);
+        assert!(lexed.tokens() == wanted && lexed.pieces_of(0..70_000).count() == 70_000);
         let edit = Edit {
             start: 1,
             stop: 1,
@@ -526,6 +530,18 @@ fn many_tokens_at_once() {
         assert!(lexed.tokens() == wanted && lexed.pieces_of(relexed.range()).len() > 69_990);
         assert_eq!(lexed.pieces_in(0..70_000).count(), 70_000);
     }
+}
+
+/// A word and a string of so many bytes.
+#[test]
+fn long_tokens() {
+    let word = "a".repeat(70_000);
+    assert!(is_ident(&word));
+    let text = format!("#\"{word}\"#");
+    let mut cursor = Cursor::new(&text, FrontmatterAllowed::No);
+    let string = cursor.guarded_double_quoted_string();
+    assert_eq!(string, guarded(1, true, 70_004));
+    assert_eq!(validate_raw_str(&["r", &text].concat(), 1), Ok(()));
 }
 
 #[test]

@@ -8,26 +8,45 @@ mod refusing;
 use core::num::NonZero;
 use refusing::given;
 use rustc_literal_escaper::{
-    AllocError, EscapeCStrError, MixedUnit, escape_byte_str, escape_c_str, escape_str,
+    AllocError, EscapeCStrError, MixedUnit, check_raw_c_str, escape_byte_str, escape_c_str,
+    escape_str, unescape_c_str, unescape_str,
 };
 
-/// What is written is appended: each text behind all others.
+/// What is written is appended: each text behind all others, and 70,000 characters and bytes at once.
 #[test]
 fn as_the_library_of_rust_writes_it() {
     let mut out = String::new();
     let mut wanted = String::new();
-    for text in ["", "a\"b'c\\", "\n\r\t\0\x7f", "é\u{200d}😀", "plain text"] {
+    let many = "é".repeat(70_000);
+    for text in [
+        "",
+        "a\"b'c\\",
+        "\n\r\t\0\x7f",
+        "é\u{200d}😀",
+        "plain text",
+        &many,
+    ] {
         escape_str(text, &mut out).unwrap();
         wanted.extend(text.escape_default());
-        assert_eq!(out, wanted);
+        assert!(out == wanted, "{text:.9}");
     }
-    let bytes: Vec<u8> = (0..=255).collect();
-    escape_byte_str(&bytes, &mut out).unwrap();
-    wanted += &bytes.escape_ascii().to_string();
-    assert_eq!(out, wanted);
-    escape_c_str(&bytes[1..], &mut out).unwrap();
-    wanted += &bytes[1..].escape_ascii().to_string();
-    assert_eq!(out, wanted);
+    let mut units = 0;
+    unescape_str(&out[out.len() - 6 * 70_000..], |_, unit| {
+        units += usize::from(unit == Ok('é'))
+    });
+    assert_eq!(units, 70_000);
+    let bytes: Vec<u8> = (1..=255).cycle().take(70_000).collect();
+    let with_zero = [&[0], &bytes[..]].concat();
+    escape_byte_str(&with_zero, &mut out).unwrap();
+    wanted += &with_zero.escape_ascii().to_string();
+    assert!(out == wanted, "bytes");
+    escape_c_str(&bytes, &mut out).unwrap();
+    let written = bytes.escape_ascii().to_string();
+    assert!(out == wanted + &written, "bytes of a C string");
+    let mut units = 0;
+    unescape_c_str(&written, |_, unit| units += usize::from(unit.is_ok()));
+    check_raw_c_str(&many, |_, unit| units += usize::from(unit.is_ok()));
+    assert_eq!(units, 140_000);
 }
 
 /// Each behind what stands there.
