@@ -1,4 +1,6 @@
 -- The pieces of a text, one after another: what is gathered of them, and how they are written.
+use Rattle.std.proofs.lemmas.Grind.{common_steps}
+use Rattle.std.proofs.Common.{arith}
 use Rattle.std.proofs.Common.{◌≡◌, ℕ, ◌+◌, List, ◌∷◌, ◌++◌, sym, ap, ◌∙◌, append_assoc}
 use Rattle.std.specs.Fmt.{WritesInCalls}
 use Rattle.rustc_lexer.specs.declared.token.Token.{Token}
@@ -8,9 +10,7 @@ use Rattle.examples.specs.Repaint.{close_mark, marked, open_mark}
 -- what was gathered of the pieces in front of a token, and then what the token gives
 pub gather : {X : Type 0} (of : List Placed → List X) (text : List ℕ) (start : ℕ) (left others : List Token) (token : Token) (held here more all : List X) → held ++ of (pieces_from text start left) ≡ all → left ≡ token ∷ others
     → of (pieces_from text start (token ∷ others)) ≡ here ++ of (pieces_from text (start + token.len) others) → more ≡ held ++ here → more ++ of (pieces_from text (start + token.len) others) ≡ all
-gather of text start left others token held here more all at first gives pushed =
-    ap (λ xs. xs ++ of (pieces_from text (start + token.len) others)) pushed
-    ∙ (append_assoc held here (of (pieces_from text (start + token.len) others)) ∙ (ap (λ xs. held ++ xs) (sym gives ∙ ap (λ ts. of (pieces_from text start ts)) (sym first)) ∙ at))
+gather of text start left others token held here more all at first gives pushed = grind (arith, common_steps, append_assoc)
 
 module _ {W : Type 0} (took : W → List ℕ → W → Type 0) where
   -- one more call before the others
@@ -22,5 +22,4 @@ module _ {W : Type 0} (took : W → List ℕ → W → Type 0) where
       → left ≡ piece ∷ others → before ≡ open_mark piece.token.kind → text ≡ piece.text → after ≡ close_mark piece.token.kind
       → took w0 before w1 → took w1 text w2 → took w2 after w3
       → WritesInCalls took w3 (marked others) w → WritesInCalls took w0 (marked left) w
-  writes_piece w0 w1 w2 w3 w left others piece before text after first opens is closes a b c d =
-      let all = writes_then w0 w1 w before _ a (writes_then w1 w2 w text _ b (writes_then w2 w3 w after _ c d)) in rw (first, ← closes, ← opens, ← is) all
+  writes_piece w0 w1 w2 w3 w left others piece before text after first opens is closes a b c d = grind (arith, common_steps, writes_then)

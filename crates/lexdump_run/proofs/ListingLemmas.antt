@@ -18,9 +18,7 @@ use Rattle.lexdump_run.specs.Listing.{line_text, listing_from}
 pub listing-split : (start : ℕ) (tokens : List Token) (count : ℕ) → listing_from start tokens ≡ listing_from start (take count tokens) ++ listing_from (start + bound tokens count) (drop count tokens)
 listing-split start tokens zero = let e : start ≡ start + 0 = omega arith in ap (λ n. listing_from n tokens) e
 listing-split start [] (suc count) = refl
-listing-split start (t ∷ ts) (suc count) =
-    let e : start + t.len + bound ts count ≡ start + (t.len + bound ts count) = omega arith in
-    cc (listing-split (start + t.len) ts count, append_assoc (line_text start t) (listing_from (start + t.len) (take count ts)) (listing_from (start + (t.len + bound ts count)) (drop count ts)))
+listing-split start (t ∷ ts) (suc count) = grind (arith, common_steps, append_assoc, listing-split (start + t.len) ts count)
 
 -- a buffer is filled with the first `count` of the tokens of the rest of a text
 module _ (text cut rest : List ℕ) (mode : Mode) (buffer filled : List Token) (count : ℕ) (cut_is : cut ≡ rest) (utf8 : IsUtf8 cut) (within : length rest ≤ length text) (fits : length text < 2 ^ 32) (fills : IsFilled (λ (t : Token). t) (tokens_of mode rest) buffer filled count) where

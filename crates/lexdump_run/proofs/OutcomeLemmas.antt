@@ -22,8 +22,7 @@ ends_unread job known old stop is = grind (arith, common_steps, keeps_same)
 
 -- what holds of a text holds of the bytes that it is
 text_known : (P : List ℕ → Type 0) (known : Option (List ℕ)) (text : List ℕ) → IfSome known (λ bytes. text ≡ bytes) → P text → IfSome known P
-text_known P None text is p = tt
-text_known P (Some bytes) text is p = subst P is p
+text_known P known text w3 w4 = grind (arith, common_steps)
 
 module _ (job : Job) (known : Option (List ℕ)) (text : List ℕ) (old mid : Option (List ℕ)) (held left : List ℕ) where
   pub silent_unlisted : (fault : Fault) → Lists job text old mid held left (Err fault) → fault ≢ Write → Keeps old mid
@@ -32,9 +31,7 @@ module _ (job : Job) (known : Option (List ℕ)) (text : List ℕ) (old mid : Op
   module _ (is : IfSome known (λ bytes. text ≡ bytes)) (utf8 : IsUtf8 text) (fits : length text < 2 ^ 32) (none : held ≡ []) where
     -- listing stopped
     pub ends_unlisted : (fault : Fault) → Lists job text old mid held left (Err fault) → IfSome known (λ bytes. Ends job bytes old mid (Err fault))
-    ends_unlisted fault p =
-        let it : IsText text = record { utf8 = utf8; fits = fits } in
-        text_known (λ bytes. Ends job bytes old mid (Err fault)) known text is (grind (arith, common_steps))
+    ends_unlisted fault p = grind (arith, common_steps, text_known)
 
     -- all was listed, and what is held is written at the end
     pub ends_listed : (new : Option (List ℕ)) (result : Result (Unit {0}) Fault) → Lists job text old mid held left (Ok tt)

@@ -35,8 +35,7 @@ pushes_stopped old mid new start end bytes held to_come first rest fault result 
 
 pub pushes_first : (old new : Option (List ℕ)) (held left one two bytes : List ℕ) (fault : Fault) (result : Result (Unit {0}) Fault)
     → bytes ≡ one ++ two → (fault ≡ Write) × AppendsFront old new (held ++ one) → IsErrAnd result (λ y. y ≡ fault) → Pushes old new held left bytes result
-pushes_first old new held left one two bytes fault result e p is =
-    pushes_stopped old old new held left bytes held bytes one two fault result (went_none old held bytes bytes refl) e p is
+pushes_first old new held left one two bytes fault result e p is = grind (arith, common_steps, pushes_stopped, went_none)
 
 -- two pushes in a row
 pub pushes_both : (old mid new : Option (List ℕ)) (held between left one two bytes : List ℕ) (result : Result (Unit {0}) Fault) → bytes ≡ one ++ two → Pushes old mid held between one (Ok tt) → Pushes mid new between left two result → Pushes old new held left bytes result

@@ -24,13 +24,7 @@ without_look look text = grind (arith, common_steps, append-nil, without_fault)
 
 without_from : (at : ℕ) (left : List ℕ) (ss : List Stretch) → without_marks (parts_from at left ss) ≡ left
 without_from at left [] = append-nil left
-without_from at left (s ∷ ss) =
-    let past : List ℕ = drop (s.start - at) left in
-    let text : List ℕ = take (s.end - s.start) past in
-    let rest : List ℕ = drop (s.end - s.start) past in
-    ap (λ xs. take (s.start - at) left ++ xs) (flat_map-append own (look_parts s.look text) (parts_from s.end rest ss)
-    ∙ (ap (λ xs. xs ++ without_marks (parts_from s.end rest ss)) (without_look s.look text) ∙ (ap (λ xs. text ++ xs) (without_from s.end rest ss) ∙ take-append-drop (s.end - s.start) past)))
-    ∙ take-append-drop (s.start - at) left
+without_from at left (s ∷ ss) = grind (arith, common_steps, flat_map-append, without_look, take-append-drop, without_from s.end (drop (s.end - s.start) (drop (s.start - at) left)) ss)
 
 -- without the marks, a literal is as it was, whatever its stretches are
 pub without_literal : (mode : Mode) (text : List ℕ) → without_marks (literal_parts mode text) ≡ text
@@ -107,8 +101,7 @@ module _ {W : Type 0} (took : W → List ℕ → W → Type 0) where
   -- an element that is told already
   pub writes_told : (style : Style) (mode : Mode) (text : List ℕ) (begin at close shown : ℕ) (items rest : List Item) (item : Item) (w last : W) → items ≡ item ∷ rest → begin + item.0.start < at
       → WritesLeft style text w shown (stretches_from mode begin at close rest) last → WritesLeft style text w shown (stretches_from mode begin at close items) last
-  writes_told style mode text begin at close shown items rest item w last is less more =
-      subst (λ (all : List Stretch). WritesLeft style text w shown all last) (sym (told_already mode begin at close items rest item is less)) more
+  writes_told style mode text begin at close shown items rest item w last is less more = grind (arith, common_steps, told_already)
 
   -- an element, and what stands before it
   pub writes_item : (style : Style) (mode : Mode) (text : List ℕ) (begin at close shown to next : ℕ) (items rest : List Item) (item : Item) (look : Option Look) (w v u last : W) → items ≡ item ∷ rest → at ≤ begin + item.0.start → look ≡ look_of mode item.1
@@ -124,5 +117,4 @@ module _ {W : Type 0} (took : W → List ℕ → W → Type 0) where
 
   pub writes_end : (style : Style) (mode : Mode) (text rest : List ℕ) (begin at close shown to : ℕ) (items : List Item) (w v u : W) → items ≡ [] → rest ≡ drop to text → WritesOn took style text w shown (skipped at close) v to
       → WritesInCalls took v (with_marks style (Own Text rest ∷ [])) u → WritesLeft style text w shown (stretches_from mode begin at close items) u
-  writes_end style mode text rest begin at close shown to items w v u none past on wrote =
-      subst (λ (all : List Item). WritesLeft style text w shown (stretches_from mode begin at close all) u) (sym none) (writes_last style text rest shown to (skipped at close) w v u on past wrote)
+  writes_end style mode text rest begin at close shown to items w v u none past on wrote = grind (arith, common_steps, writes_last)

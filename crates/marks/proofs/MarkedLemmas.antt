@@ -29,11 +29,7 @@ without_token fault mode class text = grind (arith, common_steps, without_fault,
 -- without the marks, the parts are the text as far as the tokens go
 without_marks-parts : (text : List ℕ) (tokens : List Token) → without_marks (parts text tokens) ≡ take (bound tokens (length tokens)) text
 without_marks-parts text [] = refl
-without_marks-parts text (token ∷ tokens) =
-    let first : List ℕ = take token.len text in
-    flat_map-append own (token_parts token.kind first) _
-    ∙ (ap (λ xs. xs ++ without_marks (parts (drop token.len text) tokens)) (without_token (fault_of token.kind first) (mode_of token.kind) (class_of token.kind first) first)
-    ∙ (ap (λ bs. first ++ bs) (without_marks-parts (drop token.len text) tokens) ∙ sym (take-add token.len (bound tokens (length tokens)) text)))
+without_marks-parts text (token ∷ tokens) = grind (arith, common_steps, flat_map-append, without_token, take-add, without_marks-parts (drop token.len text) tokens)
 
 -- without the marks, a text is as it was, and so it is on a page
 module _ (edition : Edition) (text : List ℕ) (cut : Partitions (drop (shebang_len text) text) (document_tokens edition text)) where
@@ -51,8 +47,7 @@ module _ {W : Type 0} (took : W → List ℕ → W → Type 0) where
       → left ≡ token ∷ others → rest ≡ drop token.len text → own ≡ take token.len text
       → WritesInCalls took w0 (with_marks style (token_parts token.kind own)) w1
       → WritesInCalls took w1 (marked_tokens style rest others) w → WritesInCalls took w0 (marked_tokens style text left) w
-  writes_token style w0 w1 w text rest own left others token first past is wrote more =
-      let both = writes_parts took style (token_parts token.kind own) (parts rest others) w0 w1 w wrote more in rw (first, sym is, sym past) both
+  writes_token style w0 w1 w text rest own left others token first past is wrote more = grind (arith, common_steps, writes_parts)
 
   -- the shebang line, and then the tokens of what follows it
   pub writes_past : (style : Style) (edition : Edition) (w v u : W) (text : List ℕ)

@@ -28,8 +28,7 @@ bool-back b = grind (arith, common_steps)
 
 kind-back : (kind : TokenKind) (len : ℕ) → is_frontmatter kind ≡ true → frontmatter_of (token_numbers (record { kind = kind; len = len })) ≡ record { kind = kind; len = len }
 unfolding token_numbers first_of second_of
-kind-back (Frontmatter a b) len is = ap₂ (λ (x y : Bool). let t : Token = record { kind = Frontmatter x y; len = len } in t) (bool-back a) (bool-back b)
-kind-back kind len is = absurd (true≢false (sym is))
+kind-back kind len w2 = grind (arith, common_steps, bool-back)
 
 -- the numbers of a frontmatter tell it, and so those of a head
 back_with : (n end space : ℕ) (front : Option Token) → (front ≡ None → space ≡ 0) → ((t : Token) → front ≡ Some t → is_frontmatter t.kind ≡ true)

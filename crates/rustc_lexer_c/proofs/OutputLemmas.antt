@@ -33,10 +33,7 @@ drop_later m n xs ys low same =
 -- some writes are one of all their bytes
 appends_all : (s : Buffer) (parts : List (List ℕ)) (t : Buffer) → s.len ≤ length s.bytes.now → FoldsTo Appends s parts t → Appends s (concat parts) t
 appends_all s [] t low is = subst (Appends s []) is record { same_reference = refl; within = low; more = omega arith; written = sym (append-nil _); rest = refl }
-appends_all s (x ∷ xs) t low p =
-    let one = p.1 in
-    let others = appends_all p.0 xs t one.within p.2 in
-    grind (arith, common_steps, append_assoc, drop_later p.0.len t.len p.0.bytes.now s.bytes.now)
+appends_all s (x ∷ xs) t low p = grind (arith, common_steps, append_assoc, drop_later, appends_all p.0 xs t (p.1).within p.2)
 
 -- all that is written of a buffer of which nothing was, which stays the same one of the caller's
 pub written_front : (s : Buffer) (bytes : List ℕ) (t : Buffer) → s.len ≡ 0 → WritesInCalls Appends s bytes t → (t.bytes.ghost_name ≡ s.bytes.ghost_name) × IsFront bytes s.bytes.now t.bytes.now t.len
