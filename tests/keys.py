@@ -2,15 +2,15 @@
 
 "Refused" says that a body breaks its contract. So the key has the edit; the functions that it changes; and all that their
 meaning rests on: the clauses of functions, the types and traits, and the definitions of specs/, of this crate and of those
-below, as far as names reach them. Proofs, lemmas, laws, tactics, comments, imports and the bodies of other functions are
-not in it: they decide whether the prover finds out, and not what is true.
+below, as far as names reach them, each with the imports of the names that it uses. Proofs, lemmas, laws, tactics, comments
+and the bodies of other functions are not in it: they decide whether the prover finds out, and not what is true.
 
 A key of whole files would be half as long. But a change of one body, or of an import, would void each body of its file and
 of the files above, and such changes are most of a day's: by items they void the bodies of one function, or none. A word
 counts as a name where its file imports it, has it, or writes a path before it. All that is in an `impl` goes with its type,
 since a body may use it without a name, as by an operator or a loop. Items of one name are all taken: then a key may change
 for nothing, and the body is tried once more. An edit of anything but functions may break a contract anywhere: its key has
-all of the crate.
+all of the crate. `tests/keys` says of small changes which keys they change.
 """
 import hashlib
 import re
@@ -20,7 +20,7 @@ from pathlib import Path
 TOP = Path(__file__).resolve().parent.parent
 FUNCTION = re.compile(r"(\s*)(?:pub(?:\([^)]*\))? )?(?:const |unsafe |extern \"C\" )*fn (\w+)")
 BLOCK = re.compile(r"(?:pub(?:\([^)]*\))? )?(?:unsafe )?(?:impl|trait)\b")
-IMPORT = re.compile(r"\s*(?:pub(?:\([^)]*\))? )?(?:ghost )?use ")
+IMPORT = re.compile(r"\s*(pub(?:\([^)]*\))? )?(?:ghost )?use (.*)")
 # Lines that no contract depends on.
 SILENT = re.compile(r"\s*(?:$|//|--|#!?\[(?:tactic|inline)\b|(?:pub(?:\([^)]*\))? )?mod \w+;?$)")
 WORD = re.compile(r"\w+(?:-\w+)*")
@@ -32,19 +32,36 @@ class File:
     """A source or a file of definitions: its lines that count, and its items, each with the names that its text uses."""
 
     def __init__(self, path, text):
-        imports, self.lines, is_import = [], [], False
+        imports, self.lines, is_import, public = [], [], False, []
         for line in text.splitlines():
-            if is_import or IMPORT.match(line):
-                imports.append(line)
-                is_import = line.endswith(("{", ","))
+            found = IMPORT.match(line)
+            if is_import:
+                imports[-1] += line
+            elif found:
+                imports.append(found[2])
+                public.append(found[1])
             elif not SILENT.match(line):
                 self.lines.append(line)
+            is_import = (is_import or found) and line.endswith(("{", ","))
         split = of_source(self.lines) if path.endswith(".rt") else of_definitions(self.lines)
         self.renamed = {new: old for line in imports for old, new in re.findall(r"([\w-]+) as ([\w-]+)", line)}
         # what comes by `*` may be any word
         named = self.lines if any("*" in line for line in imports) else imports
         self.known = {it for line in named for it in WORD.findall(line)} | {name for name, _ in split}
-        self.items = [(name, item, self.names(item)) for name, item in split]
+        self.imports = [it for line in imports for it in paths_of(line.rstrip("; "))]
+        self.items = [(name, self.with_imports(item), self.names(item)) for name, item in split]
+        # what is passed on is an item, too
+        passed = [it for line, how in zip(imports, public) if how for it in paths_of(line.rstrip("; "))]
+        self.items += [(brought(it), f"pub use {it}", set(WORD.findall(it))) for it in passed]
+
+    def with_imports(self, text, more=""):
+        """A text of this file, with the imports of what it uses. A name may have holes, as an operator has."""
+        words = set(WORD.findall(f"{text}\n{more}"))
+
+        def is_used(name):
+            return name == "*" or name in words or "◌" in name and all(it in text + more for it in name.split("◌"))
+
+        return "\n".join([text, *sorted(f"use {it}" for it in self.imports if is_used(brought(it)))])
 
     def names(self, text):
         """The names of items that a text of this file uses."""
@@ -52,6 +69,27 @@ class File:
         words = {it for path, of in paths if "::" in path or of[0] in self.known for it in of}
         words |= self.known.intersection(WORD.findall(text))
         return words | {self.renamed[it] for it in words & self.renamed.keys()}
+
+
+def paths_of(tree, before=""):
+    """The paths of an import, each whole: `a.{b, c as d}` has `a.b` and `a.c as d`."""
+    depth, part = 0, ""
+    for sign in f"{tree},":
+        depth += {"{": 1, "}": -1}.get(sign, 0)
+        if sign != "," or depth:
+            part += sign
+            continue
+        head, opened, inside = part.strip().partition("{")
+        if opened:
+            yield from paths_of(inside.rpartition("}")[0], before + head)
+        elif head:
+            yield before + head
+        part = ""
+
+
+def brought(path):
+    """The name that an import brings."""
+    return re.split(r" as |::|\.", path.removesuffix("::self"))[-1]
 
 
 def ends_of(lines, at):
@@ -133,9 +171,10 @@ def key(crate, below, edit, places):
     lines = {path: (TOP / "crates" / crate / path).read_text().splitlines() for path, _ in places or ()}
     changed = {(path, function_around(lines[path], at)) for path, at in places or ()}
     if not changed or any(text is None for _, text in changed):
-        texts = ["\n".join(file.lines) for file in files_of(crate).values()]
+        texts = ["\n".join([*file.lines, *file.imports]) for file in files_of(crate).values()]
         texts += [text for name in below for file in files_of(name).values() for _, text, _ in file.items]
     else:
         names = {it for path, text in changed for it in files_of(crate)[path].names(f"{text}\n{edit}")}
-        texts = [*sorted(text for _, text in changed), *reached(names, [*below, crate])]
+        own = sorted(files_of(crate)[path].with_imports(text, edit) for path, text in changed)
+        texts = [*own, *reached(names, [*below, crate])]
     return hashlib.sha256("\n\n".join([edit, *texts]).encode()).hexdigest()[:16]
