@@ -11,9 +11,12 @@ counts as a name where its file imports it, has it, or writes a path before it. 
 since a body may use it without a name, as by an operator or a loop. Items of one name are all taken: then a key may change
 for nothing, and the body is tried once more. An edit of anything but functions may break a contract anywhere: its key has
 all of the crate. `tests/keys` says of small changes which keys they change.
+
+As a program, this prints the logic of the toolchain and a sum of the contracts that it brings.
 """
 import hashlib
 import re
+import subprocess
 from functools import cache
 from pathlib import Path
 
@@ -165,6 +168,23 @@ def function_around(lines, at):
     return "\n".join(heads[-1:] + text)
 
 
+def toolchain():
+    """The logic of the toolchain, as its version names it, and a sum of the sources and the definitions of the crates that it
+    brings: `std`, and those that crates.txt names and does not list."""
+    version, page = (subprocess.run(["rt", word], capture_output=True, text=True, check=True).stdout for word in ("version", "doc"))
+    listed = [line.partition("#")[0].partition(":") for line in (TOP / "crates.txt").read_text().splitlines()]
+    crates = {"std"}.union(*(below.split() for _, _, below in listed)) - {name.split()[0] for name, colon, _ in listed if colon}
+    there = Path(page.split()[0]).parent / "rattle"
+    sum_of = hashlib.sha256()
+    for crate in sorted(crates):
+        files = sorted([*there.glob(f"{crate}/src/**/*.rt"), *there.glob(f"{crate}/specs/**/*.antt")])
+        if not files:
+            raise SystemExit(f"keys: the toolchain has no contracts of {crate} in {there}")
+        for file in files:
+            sum_of.update(f"{file.relative_to(there)} {hashlib.sha256(file.read_bytes()).hexdigest()}\n".encode())
+    return f"{re.search(r'logic [0-9a-f]+', version)[0]} contracts {sum_of.hexdigest()[:16]}"
+
+
 def key(crate, below, edit, places):
     """The key of an edit, whose text is given, in a crate. `places` are the lines of sources that it changes, each as a path
     and a number; None where it changes definitions."""
@@ -178,3 +198,7 @@ def key(crate, below, edit, places):
         own = sorted(files_of(crate)[path].with_imports(text, edit) for path, text in changed)
         texts = [*own, *reached(names, [*below, crate])]
     return hashlib.sha256("\n\n".join([edit, *texts]).encode()).hexdigest()[:16]
+
+
+if __name__ == "__main__":
+    print(toolchain())
