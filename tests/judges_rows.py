@@ -1,0 +1,237 @@
+"""The rows of `tests/judges`: a script with its words, the faults that are planted, and words of what it has to say.
+
+A fault is a file, what stands in it, and what comes in its place: with no text before, the file is made; with none after, it
+goes. What is in `stand_ins` is called in the place of the programs of these names.
+"""
+import os
+import shutil
+
+LEXER = "crates/rustc_lexer"
+SPECS = f"{LEXER}/specs"
+HEADER = "c/rustc_lexer.h"
+ENDS = "crates/ends/wrong_bodies"
+SHELL = "#!/bin/sh\n"
+
+
+def stand_in(name, text):
+    """A program in the place of another, for all that a script calls."""
+    return (f"stand_ins/{name}", None, SHELL + text)
+
+
+def rt(text):
+    """Another `rt`, which still says its version and where its pages are."""
+    return stand_in("rt", f'case $1 in version | doc) exec {shutil.which("rt")} "$@" ;; esac\n{text}')
+
+
+PROVES_ALL = rt("echo logic=proved\n")
+WRITES = [(f"crates/{name}/out/{name}", None, SHELL + "echo planted\n") for name in ("lexdump", "highlight")]
+FAILS = [(f"crates/{name}/out/{name}", None, SHELL + "exit 1\n") for name in ("lexdump", "highlight")]
+NO_CARGO = stand_in("cargo", "echo planted\nexit 1\n")
+
+LAYERS = [
+    (f"{LEXER}/src/planted.rt", None, "//! A module.\n", "planted is not in the drawing"),
+    ("docs/DECISIONS.md", "    bytes:     kernels", "    bytes:     kernels, planted", "the drawing has planted, which is no module"),
+    ("docs/DECISIONS.md", "    bytes:     kernels", "    bytes:     kernels, kernels", "the drawing has kernels twice"),
+    (f"{LEXER}/src/kernels.rt", "\nuse ", "\nuse crate::entry::tokenize;\nuse ", "kernels uses entry, which does not stand below it"),
+]
+CLAIM = [
+    (f"{LEXER}/src/shebang.rt", "{ result ≡ shebang input.now }", "{ result ≡ spec.line_len input.now }", "a public clause names spec of specs/means.Shebang"),
+    (f"{SPECS}/Tokens.antt", "\nuse ", "\nuse Rattle.rustc_lexer.specs.{means.{Shebang}}\nuse ", "in a form that may hide some"),
+    (f"{SPECS}/Tokens.antt", "\nuse ", "\nuse Rattle.rustc_lexer.specs.laws.TheLaws.{the_laws}\nuse ", "specs/Tokens.antt names laws.TheLaws"),
+    (f"{SPECS}/Tokens.antt", "\nuse ", "\nuse Rattle.rustc_lexer.specs.means.Shebang.{line_len}\nuse ", "specs/Tokens.antt names means.Shebang"),
+    (f"{SPECS}/Tokens.antt", "\nuse ", "\nuse Rattle.rustc_lexer.specs.declared.scan.Planted.{Planted}\nuse ", "names Planted, which is not public"),
+    (f"{SPECS}/Tokens.antt", "\n", "\n\n", "it does not say"),
+    (f"{SPECS}/Classes.antt", "\nuse ", "\nuse Rattle.rustc_lexer.specs.Tokens.{tokens_of}\nuse ", "is of the grammar and needs Tokens"),
+    (f"{SPECS}/Lib.antt", "\npub mod", "\nabbrev pub planted : Type 1\npub mod", "has more than files and types"),
+    ("crates/ends/src/stop.rt", "\nuse ", "\nghost use Rattle.rustc_lexer.specs.means.Shebang.{line_len};\nuse ", "crates/ends/src/stop.rt names means.Shebang"),
+    ("crates/ends/specs/Stop.antt", "\nuse ", "\nuse Rattle.rustc_lexer.proofs.ShebangLemmas.{planted}\nuse ", "in a form that may hide some"),
+    ("docs/PROVED.md", "| `looks_no_further` |", "| `planted` |", "docs/PROVED.md lists the laws"),
+    ("docs/CLAIM.md", "specs/Answers.antt)", "specs/Planted.antt)", "docs/CLAIM.md lacks Answers"),
+    ("docs/CLAIM.md", "specs/Answers.antt)", "specs/Planted.antt)", "which no public contract reaches"),
+    ("docs/CLAIM.md", "specs/Answers.antt)", "specs/Answers.antt), [A](../crates/rustc_lexer/specs/Answers.antt)", "lists a file twice"),
+    ("docs/CLAIM.md", "lines of clauses", "lines of them", "it does not say"),
+    (f"{LEXER}/src/shebang.rt", "    ensures front {", "    ensures more { begins (codes \"#!\") input.now ≡ true }\n    ensures front {", "it does not say"),
+]
+KINDS = [
+    (HEADER, "RUSTC_LEXER_WHITESPACE = 3", "RUSTC_LEXER_WHITESPACE = 5", f"{HEADER} is not as token.rt"),
+    (f"{LEXER}/src/token.rt", '=> (1, "LineComment")', '=> (3, "LineComment")', "LineComment is not number 1"),
+    (f"{LEXER}/src/token.rt", '=> (1, "LineComment")', '=> (1, "Comment")', "LineComment has another name"),
+    (f"{LEXER}/src/token.rt", 'TokenKind::Tilde => (26, "Tilde"),\n', "", "Tilde has no number"),
+    (f"{SPECS}/Kinds.antt", "kind_entry Whitespace = (3,", "kind_entry Whitespace = (4,", "Whitespace has another number in token.rt"),
+    (f"{SPECS}/means.antt", "pub mod BlockComment\n", "", "specs/means.antt is not as token.rt or the files"),
+    ("crates/lexdump_run/src/listing.rt", 'flag_field(" terminated="', 'flag_field(" ended="', "listing.rt is not as token.rt"),
+]
+NUMBERS = [
+    (HEADER, "RUSTC_LEXER_OUTER_DOC = 1", "RUSTC_LEXER_OUTER_DOC = 3", "RUSTC_LEXER_OUTER_DOC = 3 is not as the library has it"),
+    (HEADER, "RUSTC_LEXER_NOT_UTF8 = 1", "RUSTC_LEXER_NOT_UTF8 = 7", "RUSTC_LEXER_NOT_UTF8 = 1 is missing"),
+    (HEADER, "RUSTC_LEXER_ZERO_CHARS = 1", "RUSTC_LEXER_ZERO_CHARS = 2", "RUSTC_LEXER_ZERO_CHARS = 2 is not"),
+    (HEADER, "RUSTC_LEXER_UNIT_BYTE = 2", "RUSTC_LEXER_UNIT_BYTE = 1", "RUSTC_LEXER_UNIT_BYTE = 1 is not"),
+    (HEADER, "RUSTC_LEXER_STYLE_HTML = 1", "RUSTC_LEXER_STYLE_HTML = 2", "RUSTC_LEXER_STYLE_HTML = 2 is not"),
+    (HEADER, "RUSTC_LEXER_INVALID_STARTER = 1", "RUSTC_LEXER_INVALID_STARTER = 2", "RUSTC_LEXER_INVALID_STARTER = 2 is not"),
+    (HEADER, "RUSTC_LEXER_STAGE_MORE = 1", "RUSTC_LEXER_STAGE_MORE = 2", "RUSTC_LEXER_STAGE_MORE = 2 is not"),
+    (HEADER, "rustc_lexer_check(const uint8_t *text, size_t len)", "rustc_lexer_check(const uint8_t *text, size_t length)", "rustc_lexer_check has other parameters"),
+    ("rust/rustc_lexer_c/src/border.rs", "fn rustc_lexer_check(text: &[u8]) -> u32;", "fn rustc_lexer_check(text: &[u8]) -> u8;", "has no such rustc_lexer_check"),
+    ("rust/rustc_lexer_c/src/border.rs", "        fn rustc_lexer_check(text: &[u8]) -> u32;\n", "", "rustc_lexer_check of"),
+]
+REDECLARE = [
+    (HEADER, "uint32_t rustc_lexer_check(", "uint64_t rustc_lexer_check(", "the header is not that of the library"),
+    (HEADER, "    size_t lexed; ", "    uint32_t lexed; ", "the header is not that of the library"),
+    (HEADER, "    size_t stage; ", "    size_t planted;\n    size_t stage; ", "the size of CRelexing"),
+    ("tests/redeclare", '("uint8_t base;", "uint16_t base;")', '("uint8_t base;", "uint8_t  base;")', "does not see"),
+]
+PACKAGES = [
+    ("rust/ends/src/stop.rs", "no memory", "planted", "is not what is made of the proved source"),
+    ("rust/marks/src/erased/planted.rs", None, "", "marks/src/erased/planted.rs is not what is made"),
+    ("rust/lexdump/src/planted.rs", None, "", "lexdump/src/planted.rs is not what is made"),
+    ("rust/ends/src/stop.rs", "", None, "ends/src/stop.rs is not what is made"),
+    ("crates/ends/src/stop.rt", "    pub fn status", "    #[planted]\n    pub fn status", "stop.rt: line 34: an attribute that is not known"),
+    ("tools/erase", '"Pieces",\n}', '"Planted",\n}', "not each item of ATTRIBUTES stands once"),
+]
+ERASED = [
+    ("rust/ends/src/stop.rs", "=> 2,", "=> 9,", "2 -> 9"),
+    ("rust/ends/src/planted.rs", None, "", "no file -> rust/ends/src/planted.rs"),
+    ("rust/ends/src/stop.rs", "", None, "crates/ends/src/stop.rt -> no file"),
+    ("rust/ends/src/stop.rs", "use rattle_std::io::Write;", "use rattle_std::fmt::Write;", "found, and not in the list"),
+    ("tools/erased_words.txt", None, "    1 planted -> nothing\n", "in the list alone"),
+]
+PROMISES = [
+    ("docs/PROVED.md", " public functions have ", " functions have ", "does not say"),
+    ("crates/ends/src/stop.rt", "    /// Returns the exit status of the program. It is 0 for a closed pipe, which is not a failure.\n", "", "Stop::status has no words"),
+]
+NAMES = [
+    ("README.md", "\n", "\n" * 60, "README.md: more than 110 lines"),
+    ("README.md", "logic ", "logic 0", "README.md: does not name the toolchain"),
+    ("docs/PROVED.md", "`contracts ", "`contracts 0", "docs/PROVED.md: does not name the toolchain"),
+    ("docs/EDITIONS.md", "# ", "```rust\nlet planted = 1;\n```\n# ", "docs/EDITIONS.md: a block stands in no file"),
+    ("docs/LEXEMES.md", "| [classes of characters](#classes-of-characters)", "| [classes](#classes)", "a section is not in its table"),
+    ("docs/LEXEMES.md", "`is_whitespace`, `is_horizontal_whitespace`,", "`is_planted`, `is_horizontal_whitespace`,", "has no is_planted"),
+    ("docs/LEXEMES.md", "| `Plus` | [", "| `Planted` | [", "the index has no Plus"),
+    ("docs/SPEED.md", "| 0.36 to 0.58 |", "| 0.36 to 0.59 |", "its picture shows another table"),
+    ("docs/PROVED.md", " public functions have ", " functions have ", "other promises than in the code"),
+    ("docs/PROVED.md", "| `relexed`, `front`,", "| `planted`, `front`,", "no clause planted"),
+    ("docs/PROVED.md", "| `tokenize_in`; `settled` |", "| `planted`; `settled` |", "no function planted"),
+    ("docs/PROVED.md", "`ReadsAs.partitions`", "`ReadsAs.planted`", "no clause ReadsAs.planted"),
+    ("docs/PROVED.md", "`TakesTokens`;", "`TakesPlanted`;", "no clause TakesPlanted"),
+    ("docs/PROVED.md", "300 [wrong bodies]", "200 [wrong bodies]", "it does not have that there are"),
+    ("docs/PROVED.md", "by `TheLaws`", "by `Planted`", "Planted"),
+    ("crates/ends/src/stop.rt", "//! Why", "//! why", "stop.rt: its first line does not say what it is for"),
+    ("crates/README.md", "`marks`", "`planted`", "crates/README.md: marks is not there"),
+    ("docs/EDITIONS.md", "# ", "`docs/PLANTED.md`\n# ", "no file docs/PLANTED.md"),
+    ("docs/EDITIONS.md", "# ", "[a](PLANTED.md)\n# ", "the link PLANTED.md leads nowhere"),
+    ("docs/EDITIONS.md", "# ", "[a](PROVED.md#planted)\n# ", "the link PROVED.md#planted has no heading"),
+]
+BODIES = [
+    ("tests/wrong_bodies ends", [PROVES_ALL], "ends/failed_read_is_the_end: NOT REFUSED"),
+    ("tests/wrong_bodies ends", [rt("echo logic=not-proved\necho 'fn ends::stop::Stop::status: not proved'\n")], "another_order: REFUSED, and it is right"),
+    ("tests/wrong_bodies ends", [rt("exit 1\n")], "ends is not proved, so none of its bodies was tried"),
+    ("tests/wrong_bodies --proved ends", [PROVES_ALL], "NONE IS DRAWN"),
+    ("tests/wrong_bodies planted", [], "planted is no crate with wrong bodies"),
+    ("tests/wrong_bodies --changed ends", [PROVES_ALL, ("crates/ends/src/stop.rt", "{ result ≡ status_of self.now }", "{ result ≡ 0 }")], "ends/closed_pipe_is_a_failure: NOT REFUSED"),
+    ("tests/wrong_bodies --changed ends", [PROVES_ALL, ("tests/wrong_bodies.kept", "logic ", "logic 0")], "ends/closed_pipe_is_a_failure: NOT REFUSED"),
+    ("tests/wrong_bodies --changed ends", [PROVES_ALL, ("tests/wrong_bodies.kept", "contracts ", "contracts 0")], "ends/closed_pipe_is_a_failure: NOT REFUSED"),
+    ("tests/wrong_bodies --names", [(f"{ENDS}/always", "", None)], "ends/failed_read_is_the_end: THE FILE IS GONE"),
+    ("tests/wrong_bodies --changed", [("crates/marks/wrong_bodies", "", None)], "marks/mark_is_not_closed: THE FILE IS GONE"),
+    ("tests/wrong_bodies --names", [(f"{ENDS}/always/planted.edit", None, "row: a\nfile: src/stop.rt\nold: => 2,\nnew: => 9,\n")], "ends/planted: of always, and not in THEOREM"),
+    ("tests/wrong_bodies --names", [(f"{ENDS}/always/failed_read_is_the_end.edit", "row: ", "words: ")], "its first line names no row"),
+    ("tests/wrong_bodies --names", [(f"{ENDS}/told_line_is_not_flushed.edit", "old: ", "old: planted")], "BAD EDIT"),
+]
+EDITED = "grep -q 'Err(ReadStop::Failed)' rust/ends/src/reading.rs || { echo planted; exit 1; }\n"
+ROWS = [
+    ("tests/wrong_rows ends/failed_read_is_the_end", [stand_in("cargo", ""), ("tests/program", None, SHELL)], "FAILS NO ROW"),
+    ("tests/wrong_rows ends/failed_read_is_the_end", [stand_in("cargo", EDITED), ("tests/program", None, SHELL)], "FAILS ANOTHER ROW: planted"),
+    ("tests/wrong_rows ends/failed_read_is_the_end", [NO_CARGO], "with no edit this fails"),
+    ("tests/wrong_rows planted", [], "no wrong body is of that name"),
+]
+# A script whose rows need what takes minutes: what it says where something that it calls fails or answers otherwise.
+LIBRARY = [("crates/rustc_lexer_c/out/librustc_lexer_c.a", None, ""), WRITES[0]]
+CALLED = [
+    ("tests/documents cargo", [("README.md", "`cargo run -p lexdump", "`rt run")], "not one command with Rattle and two with Rust"),
+    ("tests/documents cargo", WRITES + [rt("echo planted\n")], "prints something else"),
+    ("tests/documents console", WRITES, "prints something else"),
+    ("tests/documents calling", [(f"{LEXER}/CALLING.md", "\nrt check\n", "\ntrue\n")], "a program is not checked"),
+    ("tests/documents calling", [rt("exit 1\n")], "rt check: failed"),
+    ("tests/prove 1 ends", [rt("exit 1\n")], "Error 1"),
+    ("tests/must_not_compile", [rt("")], "nothing is refused"),
+    ("tests/must_not_compile", [rt("exit 1\n")], "EOF on"),
+    ("tests/trusted", [("tools/over_libraries", None, SHELL + "echo 'logic=proved axioms=0'\n")], "reaches [], and PROVED has"),
+    ("tests/trusted", [("tools/over_libraries", None, SHELL + "echo 'logic=proved axioms=1'\n")], "has 1 axioms, of which 0 are named"),
+    ("tests/trusted", [("tools/over_libraries", None, SHELL + "echo logic=not-proved\n")], "is not proved"),
+    ("tests/trusted", [("docs/PROVED.md", "| `rustc_lexer_c` | none |\n", "")], "the table has"),
+    ("tests/program", WRITES, "words '': status 0"),
+    ("tests/program", FAILS, "words '': status 1"),
+    ("tests/refused_memory", FAILS, "lexdump : status 1"),
+    ("tests/refused_memory", WRITES, "refused: status"),
+    ("tests/programs_by_cargo", [NO_CARGO], "programs_by_cargo: Clippy"),
+    ("tests/programs_by_cargo", [stand_in("cargo", "[ $1 != test ]\n")], "the calls of the page"),
+    ("tests/programs_by_cargo", [stand_in("cargo", "[ $1 != build ]\n")], "they are not built"),
+    ("tests/programs_by_cargo", [stand_in("cargo", ""), ("page/page.js", "{", "}")], "the script of the page"),
+    ("tests/rust", [NO_CARGO], "rust: failed: cargo clippy"),
+    ("tests/rust", [stand_in("cargo", "echo 'warning: planted'\n")], "warning: planted"),
+    ("tests/rust", [stand_in("cargo", "[ $1 != test ]\n")], "rust: failed: cargo test"),
+    ("tests/rust", [stand_in("cargo", "")], "portable does not reach rattle_support"),
+    ("tests/rust", [stand_in("cargo", "[ $1 != tree ] || echo 'rattle_support portable'\n")], "has not each of its files"),
+    ("tests/c_library", [rt("echo planted\nexit 1\n")], "c_library: failed: rt lib"),
+    ("tests/c_library", [*LIBRARY, NO_CARGO], "c_library: failed: env"),
+    ("tests/c_library", [*LIBRARY, stand_in("cargo", ""), stand_in("nm", "")], "exports other names than the header has"),
+    ("tests/release", [("tools/make_release", None, SHELL + "exit 1\n")], "release: failed: env"),
+    ("tests/release", [("tools/make_release", None, SHELL + "mkdir -p $2\ndate +%s%N > $2/a.tar.gz\n")], "differ"),
+    ("tests/release pages", [("tools/release/rust.md", "\n", "\nSee docs/PLANTED.md.\n")], "docs/PLANTED.md"),
+    ("tests/release pages", [("rust/rustc_lexer/README.md", "\n", "\nrt run\n")], "the repository is needed"),
+    ("tests/keys", [("tests/keys.py", "(name, self.with_imports(item), self.names(item))", "(name, item, self.names(item))")], "keys: FAILED"),
+    ("tests/keys", [("tests/keys.py", "reached(names, [*below, crate])", "reached(names, [crate])")], "keys: FAILED"),
+    ("tests/erase", [("tools/erase", '    ("", "final", "fn", ""),\n', "")], "and not"),
+    ("tests/erase", [("tools/erase", 'set("ghost requires', 'set("requires')], "and not"),
+]
+
+
+def of_gate(top):
+    """The gate with stand-ins for all that it calls: a script that fails early, one late, one that it does not name, one that is
+    taken out of it."""
+    scripts = [f"tests/{it.name}" for it in top.glob("tests/*") if it.is_file() and os.access(it, os.X_OK)]
+    crates = [line.split(":")[0].split()[0] for line in (top / "crates.txt").read_text().splitlines() if ":" in line]
+    proved = "".join(f"echo 'rt: {it} proved'\n" for it in crates)
+    built = '[ "$1" != run ] || { mkdir -p out; echo > out/lexdump; }\n'
+    gate = [
+        *((it, "", None) for it in ("rust", "page", "patch", "docs", *(f"crates/{it}" for it in crates))),
+        *((f"crates/{it}/{file}", None, "") for it in crates for file in ("stdin", f"out/{it}")),
+        *((it, None, SHELL) for it in [*scripts, "tools/erase", "tools/over_libraries"]),
+        stand_in("rt", proved + built),
+    ]
+    planted = SHELL + "echo planted\nexit 1\n"
+    yield ".ci/run", [*gate, ("tests/layers", None, planted)], "failed with status 1: layers"
+    yield ".ci/run", [*gate, ("tests/planted", None, planted)], "failed with status 1: planted"
+    yield ".ci/run", [*gate, ("tests/wrong_bodies", None, SHELL + '[ "$1" != --proved ]\n')], "failed with status 1: wrong_bodies"
+    yield ".ci/run", [*gate, (".ci/run", "begin tests/c_library tests/trusted", "begin tests/c_library")], "tests/trusted is neither run nor manual"
+    yield ".ci/run", [*gate, stand_in("rt", f"{proved}{built}[ $1 != ci ]\n")], "failed with status 1: rt_ci"
+
+
+def of_quick(change, words):
+    """A change after which `.ci/quick` has to run a script again, by its key."""
+    return f".ci/quick keys > before && {change} && .ci/quick keys | diff before -", [], f"{words}\n"
+
+
+QUICK = [
+    of_quick("sed -i '$a See [this](../planted.md).' rust/marks/README.md", "tests/rust"),
+    of_quick("sed -i '$a See [this](docs/planted.md).' tools/release/c.md", "tests/release"),
+    of_quick("sed -i '$a ```console\\nplanted\\n```' SUPPORT.md", "tests/documents console"),
+    of_quick("echo 'max_width = 80' > rustfmt.toml", "tools/erase --check"),
+    of_quick("sed -i '' tools/cargo_copies && chmod -x tools/cargo_copies", "tests/rust"),
+    of_quick("sed -i '$a planted' docs/EDITIONS.md", "tests/documents names"),
+    of_quick("sed -i 's/ensures {/ensures planted {/' crates/rustc_lexer/src/shebang.rt", "tests/documents calling"),
+]
+
+
+def rows(top):
+    """All rows."""
+    tables = {
+        "tests/layers": LAYERS, "tests/claim": CLAIM, "tests/kinds": KINDS, "tests/numbers": NUMBERS,
+        "tests/redeclare gcc": REDECLARE, "tools/erase --check": PACKAGES, "tests/erased": ERASED,
+        "tools/promises --check": PROMISES, "tests/documents names": NAMES,
+        "tools/chart --check": [("docs/SPEED.md", "| 0.36 to 0.58 |", "| 0.36 to 0.59 |", "speed.svg is not as")],
+        "tests/repeats": [
+            ("crates/ends/src/planted.rt", None, (top / "crates/ends/src/watched.rt").read_text(), "stand in ends/src/watched.rt"),
+            ("tests/repeats", "ALLOWED = {\n", 'ALLOWED = {\n    ("a", "b"): "",\n', "a and b repeat nothing"),
+        ],
+    }
+    found = [(words, [tuple(fault)], said) for words, table in tables.items() for *fault, said in table]
+    return [*found, *BODIES, *ROWS, *CALLED, *of_gate(top), *QUICK]
