@@ -52,6 +52,23 @@ CLAIM = [
     ("docs/CLAIM.md", "lines of clauses", "lines of them", "it does not say"),
     (f"{LEXER}/src/shebang.rt", "    ensures front {", "    ensures more { begins (codes \"#!\") input.now ≡ true }\n    ensures front {", "it does not say"),
 ]
+# Public functions and clauses in forms that are rare: each counts, or is refused.
+CLAUSE = "ensures planted { spec.line_len input.now ≡ 0 }"
+IN_CLAIM = [
+    (f"{LEXER}/src/shebang.rt", "pub fn strip_shebang(", f"pub {kind} fn strip_shebang(input: &str) -> usize\n    {CLAUSE}\n{{\n    0\n}}\n\npub fn strip_shebang(", "a public clause names spec of")
+    for kind in ("const", "unsafe", 'extern "C"', "final")
+] + [
+    (f"{LEXER}/src/shebang.rt", "/// Returns the length in bytes of the shebang", f"impl{head} {{\n    pub fn planted(input: &str) -> usize\n        {CLAUSE}\n    {{\n        0\n    }}\n}}\n\n/// Returns the length in bytes of the shebang", "a public clause names spec of")
+    for head in ("<S: A + From<Vec<u8>>> LexedText<S>", "<F: Fn(u8) -> bool> LexedText<F>", "<S: A> crate::relex::LexedText<S>", " A for LexedText<B<C>>")
+] + [
+    (f"{LEXER}/src/shebang.rt", "pub fn strip_shebang(", "pub safe fn planted(input: &str) -> usize {\n    0\n}\n\npub fn strip_shebang(", "a function that is not read"),
+    (f"{LEXER}/src/shebang.rt", "/// Returns the length in bytes of the shebang", "impl A for [u8] {\n}\n\n/// Returns the length in bytes of the shebang", "a head that is not read"),
+    (f"{LEXER}/src/shebang.rt", "/// Returns the length in bytes of the shebang", "impl A\nfor LexedText\n{\n}\n\n/// Returns the length in bytes of the shebang", "a head over lines"),
+    (f"{LEXER}/src/lib.rt", "\nmod scan;", "\npub mod scan;", "the module scan is public"),
+    (f"{LEXER}/src/lib.rt", "pub use shebang::strip_shebang;", "pub use shebang::shebang_len as strip_shebang;", "lib.rt passes on in another form"),
+    (f"{LEXER}/src/lib.rt", "pub use shebang::strip_shebang;", "pub use shebang::*;", "lib.rt passes on in another form"),
+    (f"{LEXER}/src/lib.rt", "pub use shebang::strip_shebang;", "pub fn planted() {}", "lib.rt passes on in another form"),
+]
 KINDS = [
     (HEADER, "RUSTC_LEXER_WHITESPACE = 3", "RUSTC_LEXER_WHITESPACE = 5", f"{HEADER} is not as token.rt"),
     (f"{LEXER}/src/token.rt", '=> (1, "LineComment")', '=> (3, "LineComment")', "LineComment is not number 1"),
@@ -95,6 +112,7 @@ ERASED = [
     ("tools/erased_words.txt", None, "    1 planted -> nothing\n", "in the list alone"),
 ]
 PROMISES = [
+    *((file, old, new, "does not say" if "names spec" in said else said) for file, old, new, said in IN_CLAIM if "mod scan" not in old),
     ("docs/PROVED.md", " public functions have ", " functions have ", "does not say"),
     ("crates/ends/src/stop.rt", "    /// Returns the exit status of the program. It is 0 for a closed pipe, which is not a failure.\n", "", "Stop::status has no words"),
 ]
@@ -224,7 +242,7 @@ QUICK = [
 def rows(top):
     """All rows."""
     tables = {
-        "tests/layers": LAYERS, "tests/claim": CLAIM, "tests/kinds": KINDS, "tests/numbers": NUMBERS,
+        "tests/layers": LAYERS, "tests/claim": CLAIM + IN_CLAIM, "tests/kinds": KINDS, "tests/numbers": NUMBERS,
         "tests/redeclare gcc": REDECLARE, "tools/erase --check": PACKAGES, "tests/erased": ERASED,
         "tools/promises --check": PROMISES, "tests/documents names": NAMES,
         "tools/chart --check": [("docs/SPEED.md", "| 0.36 to 0.58 |", "| 0.36 to 0.59 |", "speed.svg is not as")],
