@@ -101,11 +101,12 @@ PACKAGES = [
     ("rust/marks/src/erased/planted.rs", None, "", "marks/src/erased/planted.rs is not what is made"),
     ("rust/lexdump/src/planted.rs", None, "", "lexdump/src/planted.rs is not what is made"),
     ("rust/ends/src/stop.rs", "", None, "ends/src/stop.rs is not what is made"),
+    (f"{LEXER}/src/relex/edit.rt", "(put.is_ok())", "(text.replace_range(start..stop, insert).is_ok())", "a condition that a release does not run"),
     ("crates/ends/src/stop.rt", "    pub fn status", "    #[planted]\n    pub fn status", "stop.rt: line 34: an attribute that is not known"),
     ("tools/erase", '"Pieces",\n}', '"Planted",\n}', "not each item of ATTRIBUTES stands once"),
 ]
 ERASED = [
-    ("rust/ends/src/stop.rs", "=> 2,", "=> 9,", "2 -> 9"),
+    ("rust/ends/src/stop.rs", "=> 2,", "=> 9,", "2 -> 9 in ends/stop.rt"),
     ("rust/ends/src/planted.rs", None, "", "no file -> rust/ends/src/planted.rs"),
     ("rust/ends/src/stop.rs", "", None, "crates/ends/src/stop.rt -> no file"),
     ("rust/ends/src/stop.rs", "use rattle_std::io::Write;", "use rattle_std::fmt::Write;", "found, and not in the list"),
@@ -162,6 +163,8 @@ ROWS = [
 ]
 # A script whose rows need what takes minutes: what it says where something that it calls fails or answers otherwise.
 LIBRARY = [("crates/rustc_lexer_c/out/librustc_lexer_c.a", None, ""), WRITES[0]]
+EFFECT = ("(put.is_ok())", "(text.replace_range(start..stop, insert).is_ok())")
+ERASED_SRC = "rust/rustc_lexer/src/erased"
 CALLED = [
     ("tests/documents cargo", [("README.md", "`cargo run -p lexdump", "`rt run")], "not one command with Rattle and two with Rust"),
     ("tests/documents cargo", WRITES + [rt("echo planted\n")], "prints something else"),
@@ -197,6 +200,9 @@ CALLED = [
     ("tests/release pages", [("rust/rustc_lexer/README.md", "\n", "\nrt run\n")], "the repository is needed"),
     ("tests/keys", [("tests/keys.py", "(name, self.with_imports(item), self.names(item))", "(name, item, self.names(item))")], "keys: FAILED"),
     ("tests/keys", [("tests/keys.py", "reached(names, [*below, crate])", "reached(names, [crate])")], "keys: FAILED"),
+    ("tests/erased", [(f"{LEXER}/src/relex/edit.rt", *EFFECT), ("rust/rustc_lexer/src/erased/relex/edit.rs", *EFFECT)], "a release does not run what this may change: replace_range"),
+    ("tests/erased", [(f"{ERASED_SRC}/edition.rs", "Ord, Hash)]", "Ord)]"), (f"{ERASED_SRC}/relex/edit.rs", "PartialEq, Eq)]", "PartialEq, Eq, Hash)]")], "nothing -> , Hash in rustc_lexer/relex/edit.rt at Edit"),
+    ("tests/erased", [(f"{ERASED_SRC}/relex/pieces.rs", "#[must_use]\n", ""), (f"{ERASED_SRC}/relex/edit.rs", "pub struct Edit<", "#[must_use]\npub struct Edit<")], "must_use"),
     ("tests/erase", [("tools/erase", '    ("", "final", "fn", ""),\n', "")], "and not"),
     ("tests/erase", [("tools/erase", 'set("ghost requires', 'set("requires')], "and not"),
 ]
