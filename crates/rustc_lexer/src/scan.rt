@@ -131,14 +131,14 @@ pub(crate) fn eat_while<F: Fn(char) -> bool>(rest: &str, test: F) -> &str
     ensures past { (class : ℕ → Bool) → ((c : ℕ) (b : Bool) → F.post test c b → b ≡ class c)
         → result.now ≡ past (run_len class (chars rest.now)) rest.now }
 {
-    let mut end = 0;
-    for c in rest.chars() {
+    let mut left = rest;
+    'chars: while let Some((c, tail)) = split_first(left) {
         if !test(c) {
-            break;
+            return left;
         }
-        end += c.len_utf8();
+        left = tail;
     }
-    &rest[end..]
+    left
 }
 
 /// Returns whether the next character is outside ASCII.

@@ -85,14 +85,14 @@ fn is_hash(byte: u8) -> bool {
 
 /// Returns the text after the characters at the front that pass the test.
 pub(crate) fn eat_while<F: Fn(char) -> bool>(rest: &str, test: F) -> &str {
-    let mut end = 0;
-    for c in rest.chars() {
+    let mut left = rest;
+    while let Some((c, tail)) = split_first(left) {
         if !test(c) {
-            break;
+            return left;
         }
-        end += c.len_utf8();
+        left = tail;
     }
-    &rest[end..]
+    left
 }
 
 /// Returns whether the next character is outside ASCII.

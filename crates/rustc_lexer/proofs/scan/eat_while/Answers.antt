@@ -1,20 +1,20 @@
-use Rattle.std.proofs.Common.{sym, ◌∙◌}
-use Rattle.rustc_lexer.specs.laws.CharSteps.{step, cut_here}
-use Rattle.rustc_lexer.proofs.RunLemmas.{run_step, run_stop, run_end, run_cut}
+use Rattle.std.proofs.Common.{sym, refl, arith, ◌∙◌}
+use Rattle.rustc_lexer.specs.laws.Past.{IsUtf8-cut}
+use Rattle.rustc_lexer.proofs.RunLemmas.{run_on, run_ends, run_at_end}
 use Rattle.rustc_lexer.proofs.scan.eat_while.Goals as goal
-use Rattle.rustc_lexer.proofs.scan.eat_while.Goals.{in-None, in-Some+then-not-test}
 
-pub loop-c-preserved : goal.loop-c-preserved
-loop-c-preserved g c = (
-  (step _ _ _ _ _ _ c.loop-c.invariant.0 c.in-Some.ensures.steps.0 c.len_utf8-end.ensures.value).stands,
-  λ class tests. run_step _ _ _ _ _ _ _ (c.loop-c.invariant.1 class tests) c.in-Some.ensures.steps.0 c.len_utf8-end.ensures.value (sym (tests _ _ c.test.ensures) ∙ c.if-not-test.false),
+pub chars-init : goal.chars-init
+chars-init g c = (c.utf8.rest, omega arith, λ class tests. refl)
+
+pub chars-preserved : goal.chars-preserved
+chars-preserved g c = (
+  IsUtf8-cut 1 _ _ c.chars.invariant.0 c.in-Some.ensures.1,
+  let shorter = c.in-Some.ensures.2 in omega (arith, c.chars.invariant.1),
+  λ class tests. run_on class _ _ _ c.chars.invariant.0 c.in-Some.ensures.0 c.in-Some.ensures.1 (sym (tests _ _ c.test.ensures) ∙ c.if-not-test.false) ∙ c.chars.invariant.2 class tests,
 )
 
-pub range_from-requires : goal.range_from-requires
-range_from-requires g c = λ some. cut_here _ _ _ c.loop-c.invariant.0
+pub returns-then-not-test-clause-past : goal.returns-then-not-test-clause-past
+returns-then-not-test-clause-past g c = λ class tests. sym (run_ends class _ _ _ c.chars.invariant.0 c.in-Some.ensures.0 (sym (tests _ _ c.test.ensures) ∙ c.if-not-test.true)) ∙ c.chars.invariant.2 class tests
 
 pub returns-clause-past : goal.returns-clause-past
-returns-clause-past g c = λ class tests. run_cut class c.args.rest.now _ c.loop-c.end c.utf8.rest c.range_from.ensures.value (elim c.match-next.branch [
-  | in-None w ↦ run_end _ _ _ _ (c.loop-c.invariant.1 class tests) w.in-None.ensures.steps.0.0
-  | in-Some+then-not-test w ↦ run_stop _ _ _ _ _ _ (c.loop-c.invariant.1 class tests) w.in-Some.ensures.steps.0 (sym (tests _ _ w.test.ensures) ∙ w.if-not-test.true)
-])
+returns-clause-past g c = λ class tests. sym (run_at_end class _ c.chars.invariant.0 c.in_default.ensures) ∙ c.chars.invariant.2 class tests

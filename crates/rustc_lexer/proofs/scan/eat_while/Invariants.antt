@@ -1,8 +1,13 @@
-use Rattle.std.proofs.Common.{ℕ, Bool, ◌≡◌}
-use Rattle.rustc_lexer.specs.laws.CharSteps.{Stands}
-use Rattle.rustc_lexer.proofs.RunLemmas.{Runs}
+use Rattle.std.proofs.Common.{ℕ, Bool, ◌≡◌, ◌≤◌, length}
+use Rattle.std.specs.Str.{chars}
+use denote.Text.{Utf8}
+use denote.Shadow.{shadow}
+use Rattle.rustc_lexer.specs.means.Scan.{past, run_len}
 use Rattle.rustc_lexer.proofs.scan.eat_while.Given as goal
 
-abbrev pub invariant-loop-c : goal.invariant-loop-c
-invariant-loop-c g l = Stands l.rest l.c-iterator.rest.now l.end
-    × ((class : ℕ → Bool) → ((c : ℕ) (b : Bool) → goal.F-post g l.test c b → b ≡ class c) → Runs class l.rest l.c-iterator.rest.now l.end)
+abbrev pub invariant-chars : goal.invariant-chars
+invariant-chars g l = shadow (Utf8 l.left) × (length l.left ≤ length l.rest)
+    × ((class : ℕ → Bool) → ((c : ℕ) (b : Bool) → goal.F-post g l.test c b → b ≡ class c) → past (run_len class (chars l.left)) l.left ≡ past (run_len class (chars l.rest)) l.rest)
+
+abbrev pub decreases-chars : goal.decreases-chars
+decreases-chars g l = length l.left
