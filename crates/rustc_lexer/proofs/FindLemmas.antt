@@ -1,5 +1,5 @@
 -- The run of a class that stops only at bytes of ASCII, by a search of the bytes.
-use Rattle.std.proofs.Common.{◌≡◌, ℕ, ◌+◌, ◌-◌, ◌<◌, ◌≤◌, ◌==◌, ◌||◌, not, cond, Bool, true, false, true≢false, List, [], ◌∷◌, ◌++◌, length, drop, get_or, refl, sym, ap, ◌∙◌, arith, subst, inl, inr, length-append, drop-drop, map, ap₂, bit_or, Some, None}
+use Rattle.std.proofs.Common.{◌≡◌, ℕ, ◌+◌, ◌-◌, ◌<◌, ◌≤◌, ◌==◌, ◌||◌, ◌&&◌, not, cond, Bool, true, false, true≢false, List, [], ◌∷◌, ◌++◌, length, drop, get_or, refl, sym, ap, ◌∙◌, arith, subst, inl, inr, length-append, drop-drop, map, ap₂, bit_or, Some, None}
 use Rattle.std.specs.Char.{encode_utf8}
 use Rattle.std.specs.Str.{chars, encode_utf8_all, IsUtf8}
 use Rattle.std.proofs.Math.ListN.{drop_of_length-le}
@@ -15,7 +15,8 @@ use Rattle.memchr.specs.Find.{IsFirstByte, is_byte, is_byte2}
 use Rattle.rustc_lexer.specs.means.ByteRuns.{outside}
 use Rattle.rustc_lexer.specs.means.Scan.{begins, next_is, past, run_len}
 use Rattle.rustc_lexer.specs.laws.Choice.{by_either}
-use Rattle.rustc_lexer.proofs.BridgeLemmas.{past_run, past_run-in, past_run-out}
+use Rattle.rustc_lexer.proofs.BridgeLemmas.{next_byte, past_run, past_run-in, past_run-out}
+use Rattle.rustc_lexer.specs.laws.Past.{chars-past}
 use Rattle.rustc_lexer.proofs.KernelLemmas.{run_stops, run_short}
 use lib.Lanes.{chunk, mask_l, top}
 use lib.Count.{count_trailing_zeros}
@@ -78,6 +79,16 @@ byte_small stop b l e = omega (arith, eqb-true b stop e)
 -- a text that begins with it
 pub begins-byte : (stop : ℕ) (s : List ℕ) → next_is (is_byte stop) s ≡ begins (stop ∷ []) s
 begins-byte w0 w1 = grind (arith, common_steps)
+
+pub begins_small : (stop : ℕ) (text : List ℕ) → stop < 128 → IsUtf8 text → begins (stop ∷ []) (chars text) ≡ next_is (is_byte stop) text
+begins_small stop text small is = sym (begins-byte stop (chars text)) ∙ next_byte (is_byte stop) (λ b e. byte_small stop b small e) text is
+
+-- two characters in front, one after the other
+pub begins_two : (a b : ℕ) (text tail : List ℕ) → IsUtf8 text → tail ≡ past 1 text → begins (a ∷ b ∷ []) (chars text) ≡ (begins (a ∷ []) (chars text) && begins (b ∷ []) (chars tail))
+begins_two a b text tail is at = by_chars (chars text) ∙ ap (λ s. begins (a ∷ []) (chars text) && begins (b ∷ []) s) (sym (ap chars at ∙ chars-past 1 text is))
+  where
+    by_chars : (s : List ℕ) → begins (a ∷ b ∷ []) s ≡ (begins (a ∷ []) s && begins (b ∷ []) (drop 1 s))
+    by_chars w0 = grind (arith, common_steps)
 
 pub byte2_small : (one two b : ℕ) → one < 128 → two < 128 → is_byte2 one two b ≡ true → b < 128
 byte2_small one two b l m e = elim (or_cases (b == one) (b == two) e) [ inl f ↦ omega (arith, eqb-true b one f) | inr f ↦ omega (arith, eqb-true b two f) ]

@@ -67,10 +67,12 @@ pub(crate) fn next_is<F: Fn(char) -> bool>(rest: &str, test: F) -> bool
     }
 }
 
-/// Returns whether the text begins with the byte.
+/// Returns whether the text begins with a character of ASCII, as its first byte determines.
 #[inline(always)]
-fn begins_with(rest: &str, byte: u8) -> bool
-    ensures { result ≡ Scan.next_is (is_byte byte) rest.now }
+#[tactic(auto, using(crate::proofs::FindLemmas::begins_small, std::proofs::lemmas::Grind::common_steps))]
+pub(crate) fn begins_with(rest: &str, byte: u8) -> bool
+    requires { byte < 128 }
+    ensures { result ≡ begins (byte ∷ []) (chars rest.now) }
 {
     match rest.as_bytes().first() {
         Some(first) => *first == byte,

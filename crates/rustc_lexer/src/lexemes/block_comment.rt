@@ -4,7 +4,7 @@ ghost use Rattle.std.specs.Str.{chars};
 ghost use Rattle.rustc_lexer.specs.means.BlockComment as spec;
 ghost use Rattle.rustc_lexer.specs.means.Scan.{or_all, scanned};
 
-use crate::scan::{eat_until_either, first, second, split_first, strip};
+use crate::scan::{begins_with, eat_until_either, split_first, strip};
 use crate::token::{DocStyle, TokenKind};
 
 /// Lexes a block comment. Returns its kind, and the text after it. `body` is the text after its `/*`.
@@ -25,20 +25,18 @@ pub(crate) fn block_comment(body: &str) -> (TokenKind, &str)
 
 /// Returns the doc style of the block comment with this body.
 #[inline(always)]
+#[tactic(auto, using(crate::proofs::FindLemmas::begins_two, std::proofs::lemmas::Grind::common_steps))]
 fn block_doc_style(body: &str) -> Option<DocStyle>
     ensures { result ≡ spec.block_doc_style (chars body.now) }
 {
-    match first(body) {
-        '!' => Some(DocStyle::Inner),
-        '*' => {
-            let after = second(body);
-            if after == '*' || after == '/' {
-                None
-            } else {
-                Some(DocStyle::Outer)
-            }
-        }
-        _ => None,
+    if begins_with(body, b'!') {
+        return Some(DocStyle::Inner);
+    }
+    let past_mark = strip(body, b'*')?;
+    if begins_with(past_mark, b'*') || begins_with(past_mark, b'/') {
+        None
+    } else {
+        Some(DocStyle::Outer)
     }
 }
 

@@ -5,7 +5,7 @@ ghost use Rattle.rustc_lexer.specs.means.Comment as spec;
 ghost use Rattle.rustc_lexer.specs.means.Scan.{scanned};
 
 use crate::lexemes::block_comment::block_comment;
-use crate::scan::{eat_until, first, second, strip};
+use crate::scan::{begins_with, eat_until, strip};
 use crate::token::{DocStyle, TokenKind};
 
 /// Lexes a token that begins with a slash. Returns its kind, and the text after it. `rest` is the text after the
@@ -35,18 +35,17 @@ fn line_comment(body: &str) -> (TokenKind, &str)
 
 /// Returns the doc style of the line comment with this body.
 #[inline(always)]
+#[tactic(auto, using(crate::proofs::FindLemmas::begins_two, std::proofs::lemmas::Grind::common_steps))]
 fn line_doc_style(body: &str) -> Option<DocStyle>
     ensures { result ≡ spec.line_doc_style (chars body.now) }
 {
-    match first(body) {
-        '!' => Some(DocStyle::Inner),
-        '/' => {
-            if second(body) == '/' {
-                None
-            } else {
-                Some(DocStyle::Outer)
-            }
-        }
-        _ => None,
+    if begins_with(body, b'!') {
+        return Some(DocStyle::Inner);
+    }
+    let past_mark = strip(body, b'/')?;
+    if begins_with(past_mark, b'/') {
+        None
+    } else {
+        Some(DocStyle::Outer)
     }
 }

@@ -43,9 +43,9 @@ pub(crate) fn next_is<F: Fn(char) -> bool>(rest: &str, test: F) -> bool {
     }
 }
 
-/// Returns whether the text begins with the byte.
+/// Returns whether the text begins with a character of ASCII, as its first byte determines.
 #[inline(always)]
-fn begins_with(rest: &str, byte: u8) -> bool {
+pub(crate) fn begins_with(rest: &str, byte: u8) -> bool {
     match rest.as_bytes().first() {
         Some(first) => *first == byte,
         None => false,

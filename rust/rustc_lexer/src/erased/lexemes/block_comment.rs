@@ -1,6 +1,6 @@
 //! Block comments, which nest.
 
-use crate::erased::scan::{eat_until_either, first, second, split_first, strip};
+use crate::erased::scan::{begins_with, eat_until_either, split_first, strip};
 use crate::erased::token::{DocStyle, TokenKind};
 
 /// Lexes a block comment. Returns its kind, and the text after it. `body` is the text after its `/*`.
@@ -20,17 +20,14 @@ pub(crate) fn block_comment(body: &str) -> (TokenKind, &str) {
 /// Returns the doc style of the block comment with this body.
 #[inline(always)]
 fn block_doc_style(body: &str) -> Option<DocStyle> {
-    match first(body) {
-        '!' => Some(DocStyle::Inner),
-        '*' => {
-            let after = second(body);
-            if after == '*' || after == '/' {
-                None
-            } else {
-                Some(DocStyle::Outer)
-            }
-        }
-        _ => None,
+    if begins_with(body, b'!') {
+        return Some(DocStyle::Inner);
+    }
+    let past_mark = strip(body, b'*')?;
+    if begins_with(past_mark, b'*') || begins_with(past_mark, b'/') {
+        None
+    } else {
+        Some(DocStyle::Outer)
     }
 }
 

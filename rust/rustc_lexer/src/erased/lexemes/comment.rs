@@ -1,7 +1,7 @@
 //! Comments.
 
 use crate::erased::lexemes::block_comment::block_comment;
-use crate::erased::scan::{eat_until, first, second, strip};
+use crate::erased::scan::{begins_with, eat_until, strip};
 use crate::erased::token::{DocStyle, TokenKind};
 
 /// Lexes a token that begins with a slash. Returns its kind, and the text after it. `rest` is the text after the
@@ -28,15 +28,13 @@ fn line_comment(body: &str) -> (TokenKind, &str) {
 /// Returns the doc style of the line comment with this body.
 #[inline(always)]
 fn line_doc_style(body: &str) -> Option<DocStyle> {
-    match first(body) {
-        '!' => Some(DocStyle::Inner),
-        '/' => {
-            if second(body) == '/' {
-                None
-            } else {
-                Some(DocStyle::Outer)
-            }
-        }
-        _ => None,
+    if begins_with(body, b'!') {
+        return Some(DocStyle::Inner);
+    }
+    let past_mark = strip(body, b'/')?;
+    if begins_with(past_mark, b'/') {
+        None
+    } else {
+        Some(DocStyle::Outer)
     }
 }
