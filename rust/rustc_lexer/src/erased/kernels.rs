@@ -1,4 +1,4 @@
-//! Searches over bytes that look at 16, 32 or 64 bytes at a time: where a run ends, and where a byte is.
+//! Searches over bytes that look at 16 or 64 bytes at a time: where a run ends, and where a byte is.
 
 use crate::support::simd::*;
 use memchr::{memchr, memchr2};
@@ -156,15 +156,15 @@ pub(crate) fn find_byte(stop: u8, bytes: &[u8]) -> Option<usize> {
 }
 
 /// Returns the first place of either byte. If such bytes come together it is the first byte, and otherwise it is
-/// mostly within 32 bytes. Both are looked at before the search is called.
+/// mostly within 16 bytes. Both are looked at before the search is called.
 #[inline(always)]
 pub(crate) fn find_either(one: u8, two: u8, bytes: &[u8]) -> Option<usize> {
     if !bytes.is_empty() && (bytes[0] == one || bytes[0] == two) {
         return Some(0);
     }
-    if bytes.len() >= 32 {
-        let v = u8x32::from_slice(bytes);
-        let found = (v.simd_eq(u8x32::splat(one)) | v.simd_eq(u8x32::splat(two))).to_bitmask();
+    if bytes.len() >= 16 {
+        let v = u8x16::from_slice(bytes);
+        let found = (v.simd_eq(u8x16::splat(one)) | v.simd_eq(u8x16::splat(two))).to_bitmask();
         if found != 0 {
             return Some(found.trailing_zeros() as usize);
         }
