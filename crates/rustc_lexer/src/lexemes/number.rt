@@ -1,13 +1,14 @@
 //! Numbers.
-ghost use Rattle.std.specs.Prelude.{◌≡◌, ◌+◌, ◌<◌, ◌^◌, false, length};
+ghost use Rattle.std.specs.Prelude.{◌≡◌, ◌+◌, ◌<◌, ◌^◌, false, length, slice_index};
 ghost use Rattle.std.specs.Char.{is_ascii_digit, is_ascii_hexdigit};
+ghost use Rattle.std.specs.Str.{chars};
 ghost use Rattle.rustc_lexer.specs.{Float};
 ghost use Rattle.rustc_lexer.specs.means.Number as spec;
 ghost use Rattle.rustc_lexer.specs.means.Scan.{scanned};
 
 use crate::classes::is_id_start;
 use crate::lexemes::literal::{eat_literal_suffix, literal};
-use crate::scan::{eat_decimal, eat_hexadecimal, eat_while, first, split_first};
+use crate::scan::{eat_decimal, eat_hexadecimal, eat_while, first, strip, strip_either};
 use crate::token::{Base, LiteralKind, TokenKind};
 
 /// Lexes a number with its suffix. Returns its kind, and the text after it. `first_digit` is its first character,
@@ -61,16 +62,13 @@ fn part_past_zero(tail: &str) -> (Base, bool, &str)
     ensures { (spec.part_of result.0 result.1, result.2.now)
         ≡ scanned spec.part_past_zero tail.now }
 {
-    let Some((letter, digits)) = split_first(tail) else {
-        return (Base::Decimal, false, tail);
-    };
-    if letter == 'b' {
+    if let Some(digits) = strip(tail, b'b') {
         let (has_digit, rest) = eat_decimal_digits(digits);
         (Base::Binary, !has_digit, rest)
-    } else if letter == 'o' {
+    } else if let Some(digits) = strip(tail, b'o') {
         let (has_digit, rest) = eat_decimal_digits(digits);
         (Base::Octal, !has_digit, rest)
-    } else if letter == 'x' {
+    } else if let Some(digits) = strip(tail, b'x') {
         let (has_digit, rest) = eat_hexadecimal_digits(digits);
         (Base::Hexadecimal, !has_digit, rest)
     } else {
@@ -89,16 +87,13 @@ fn past_digits(base: Base, rest: &str) -> (LiteralKind, &str)
         base,
         empty_int: false,
     };
-    let Some((mark, tail)) = split_first(rest) else {
-        return (int, rest);
-    };
-    if mark == '.' {
+    if let Some(tail) = strip(rest, b'.') {
         if is_no_fraction(first(tail)) {
             (int, rest)
         } else {
             fraction(base, tail)
         }
-    } else if is_exponent_letter(mark) {
+    } else if let Some(tail) = strip_either(rest, b'e', b'E') {
         eat_float_exponent(base, tail)
     } else {
         (int, rest)
@@ -118,7 +113,7 @@ fn is_no_fraction(c: char) -> bool
 fn fraction(base: Base, rest: &str) -> (LiteralKind, &str)
     ensures { (result.0, result.1.now) ≡ scanned (spec.fraction base) rest.now }
 {
-    if first(rest).is_ascii_digit() {
+    if begins_digit(rest) {
         optional_exponent(base, eat_decimal(rest))
     } else {
         (full_float(base), rest)
@@ -130,13 +125,9 @@ fn fraction(base: Base, rest: &str) -> (LiteralKind, &str)
 fn optional_exponent(base: Base, rest: &str) -> (LiteralKind, &str)
     ensures { (result.0, result.1.now) ≡ scanned (spec.optional_exponent base) rest.now }
 {
-    let Some((letter, tail)) = split_first(rest) else {
-        return (full_float(base), rest);
-    };
-    if is_exponent_letter(letter) {
-        eat_float_exponent(base, tail)
-    } else {
-        (full_float(base), rest)
+    match strip_either(rest, b'e', b'E') {
+        Some(tail) => eat_float_exponent(base, tail),
+        None => (full_float(base), rest),
     }
 }
 
@@ -151,32 +142,16 @@ fn full_float(base: Base) -> LiteralKind
     }
 }
 
-fn is_exponent_letter(c: char) -> bool
-    ensures { result ≡ spec.is_exponent_letter c }
-{
-    c == 'e' || c == 'E'
-}
-
 /// Lexes the exponent of a float. Returns the kind of the float, and the text after it. `rest` is the text after
 /// the exponent's letter.
 #[inline(always)]
 fn eat_float_exponent(base: Base, rest: &str) -> (LiteralKind, &str)
     ensures { (result.0, result.1.now) ≡ scanned (spec.float_exponent base) rest.now }
 {
-    let Some((sign, tail)) = split_first(rest) else {
-        return past_sign(base, rest);
-    };
-    if is_sign(sign) {
-        past_sign(base, tail)
-    } else {
-        past_sign(base, rest)
+    match strip_either(rest, b'+', b'-') {
+        Some(tail) => past_sign(base, tail),
+        None => past_sign(base, rest),
     }
-}
-
-fn is_sign(c: char) -> bool
-    ensures { result ≡ spec.is_sign c }
-{
-    c == '+' || c == '-'
 }
 
 /// Lexes the digits of an exponent. Returns the kind of the float, and the text after it.
@@ -198,7 +173,7 @@ fn eat_decimal_digits(rest: &str) -> (bool, &str)
     ensures { (result.0, result.1.now) ≡ scanned (spec.digits is_ascii_digit) rest.now }
 {
     let digits = eat_while(rest, is_underscore);
-    let has_digit = first(digits).is_ascii_digit();
+    let has_digit = begins_digit(digits);
     (has_digit, eat_decimal(digits))
 }
 
@@ -210,6 +185,18 @@ fn eat_hexadecimal_digits(rest: &str) -> (bool, &str)
     let digits = eat_while(rest, is_underscore);
     let has_digit = first(digits).is_ascii_hexdigit();
     (has_digit, eat_hexadecimal(digits))
+}
+
+/// Returns whether a digit is next.
+#[inline(always)]
+#[tactic(auto, using(crate::proofs::NumberLemmas::digit_first, std::proofs::lemmas::Grind::common_steps))]
+fn begins_digit(rest: &str) -> bool
+    ensures { result ≡ is_ascii_digit (slice_index (chars rest.now) 0) }
+{
+    match rest.as_bytes().first() {
+        Some(byte) => byte.is_ascii_digit(),
+        None => false,
+    }
 }
 
 fn is_underscore(c: char) -> bool

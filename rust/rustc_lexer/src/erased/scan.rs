@@ -63,6 +63,15 @@ pub(crate) fn strip(rest: &str, byte: u8) -> Option<&str> {
     }
 }
 
+/// Returns the text after one of two characters of ASCII, or `None` if the text begins with neither.
+#[inline(always)]
+pub(crate) fn strip_either(rest: &str, one: u8, two: u8) -> Option<&str> {
+    match strip(rest, one) {
+        Some(tail) => Some(tail),
+        None => strip(rest, two),
+    }
+}
+
 /// Returns how many bytes at the front pass the test. Mostly these are few, so it looks at one at a time.
 #[inline(always)]
 fn front_end<F: Fn(u8) -> bool>(bytes: &[u8], test: F) -> usize {

@@ -2,7 +2,7 @@
 
 use crate::erased::classes::is_id_start;
 use crate::erased::lexemes::literal::{eat_literal_suffix, literal};
-use crate::erased::scan::{eat_decimal, eat_hexadecimal, eat_while, first, split_first};
+use crate::erased::scan::{eat_decimal, eat_hexadecimal, eat_while, first, strip, strip_either};
 use crate::erased::token::{Base, LiteralKind, TokenKind};
 
 /// Lexes a number with its suffix. Returns its kind, and the text after it. `first_digit` is its first character,
@@ -43,16 +43,13 @@ fn integer_part(first_digit: char, tail: &str) -> (Base, bool, &str) {
 /// after its digits.
 #[inline(always)]
 fn part_past_zero(tail: &str) -> (Base, bool, &str) {
-    let Some((letter, digits)) = split_first(tail) else {
-        return (Base::Decimal, false, tail);
-    };
-    if letter == 'b' {
+    if let Some(digits) = strip(tail, b'b') {
         let (has_digit, rest) = eat_decimal_digits(digits);
         (Base::Binary, !has_digit, rest)
-    } else if letter == 'o' {
+    } else if let Some(digits) = strip(tail, b'o') {
         let (has_digit, rest) = eat_decimal_digits(digits);
         (Base::Octal, !has_digit, rest)
-    } else if letter == 'x' {
+    } else if let Some(digits) = strip(tail, b'x') {
         let (has_digit, rest) = eat_hexadecimal_digits(digits);
         (Base::Hexadecimal, !has_digit, rest)
     } else {
@@ -68,16 +65,13 @@ fn past_digits(base: Base, rest: &str) -> (LiteralKind, &str) {
         base,
         empty_int: false,
     };
-    let Some((mark, tail)) = split_first(rest) else {
-        return (int, rest);
-    };
-    if mark == '.' {
+    if let Some(tail) = strip(rest, b'.') {
         if is_no_fraction(first(tail)) {
             (int, rest)
         } else {
             fraction(base, tail)
         }
-    } else if is_exponent_letter(mark) {
+    } else if let Some(tail) = strip_either(rest, b'e', b'E') {
         eat_float_exponent(base, tail)
     } else {
         (int, rest)
@@ -93,7 +87,7 @@ fn is_no_fraction(c: char) -> bool {
 /// its dot.
 #[inline(always)]
 fn fraction(base: Base, rest: &str) -> (LiteralKind, &str) {
-    if first(rest).is_ascii_digit() {
+    if begins_digit(rest) {
         optional_exponent(base, eat_decimal(rest))
     } else {
         (full_float(base), rest)
@@ -103,13 +97,9 @@ fn fraction(base: Base, rest: &str) -> (LiteralKind, &str) {
 /// Lexes the exponent of a float, if there is one. Returns the kind of the float, and the text after it.
 #[inline(always)]
 fn optional_exponent(base: Base, rest: &str) -> (LiteralKind, &str) {
-    let Some((letter, tail)) = split_first(rest) else {
-        return (full_float(base), rest);
-    };
-    if is_exponent_letter(letter) {
-        eat_float_exponent(base, tail)
-    } else {
-        (full_float(base), rest)
+    match strip_either(rest, b'e', b'E') {
+        Some(tail) => eat_float_exponent(base, tail),
+        None => (full_float(base), rest),
     }
 }
 
@@ -122,26 +112,14 @@ fn full_float(base: Base) -> LiteralKind {
     }
 }
 
-fn is_exponent_letter(c: char) -> bool {
-    c == 'e' || c == 'E'
-}
-
 /// Lexes the exponent of a float. Returns the kind of the float, and the text after it. `rest` is the text after
 /// the exponent's letter.
 #[inline(always)]
 fn eat_float_exponent(base: Base, rest: &str) -> (LiteralKind, &str) {
-    let Some((sign, tail)) = split_first(rest) else {
-        return past_sign(base, rest);
-    };
-    if is_sign(sign) {
-        past_sign(base, tail)
-    } else {
-        past_sign(base, rest)
+    match strip_either(rest, b'+', b'-') {
+        Some(tail) => past_sign(base, tail),
+        None => past_sign(base, rest),
     }
-}
-
-fn is_sign(c: char) -> bool {
-    c == '+' || c == '-'
 }
 
 /// Lexes the digits of an exponent. Returns the kind of the float, and the text after it.
@@ -159,7 +137,7 @@ fn past_sign(base: Base, rest: &str) -> (LiteralKind, &str) {
 /// Returns whether the run of digits and underscores at the front has a digit, and the text after that run.
 fn eat_decimal_digits(rest: &str) -> (bool, &str) {
     let digits = eat_while(rest, is_underscore);
-    let has_digit = first(digits).is_ascii_digit();
+    let has_digit = begins_digit(digits);
     (has_digit, eat_decimal(digits))
 }
 
@@ -169,6 +147,15 @@ fn eat_hexadecimal_digits(rest: &str) -> (bool, &str) {
     let digits = eat_while(rest, is_underscore);
     let has_digit = first(digits).is_ascii_hexdigit();
     (has_digit, eat_hexadecimal(digits))
+}
+
+/// Returns whether a digit is next.
+#[inline(always)]
+fn begins_digit(rest: &str) -> bool {
+    match rest.as_bytes().first() {
+        Some(byte) => byte.is_ascii_digit(),
+        None => false,
+    }
 }
 
 fn is_underscore(c: char) -> bool {

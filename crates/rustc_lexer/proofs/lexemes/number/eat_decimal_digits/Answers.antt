@@ -1,4 +1,4 @@
-use Rattle.std.proofs.Common.{refl, ap, ◌∙◌}
+use Rattle.std.proofs.Common.{refl}
 use Rattle.rustc_lexer.proofs.NumberLemmas.{digits-is}
 use Rattle.rustc_lexer.proofs.lexemes.number.eat_decimal_digits.Goals as goal
 use Rattle.std.specs.Char.{is_ascii_digit}
@@ -7,5 +7,5 @@ use Rattle.rustc_lexer.specs.means.Number.{is_underscore}
 pub returns : goal.returns
 returns c = digits-is is_ascii_digit refl _ _ _ _ refl c.utf8.rest
     (c.eat_while-digits.ensures.past is_underscore (λ d b e. e))
-    (c.is_ascii_digit-has_digit.ensures.value ∙ ap is_ascii_digit c.first.ensures)
+    c.begins_digit-has_digit.ensures
     (c.eat_decimal.ensures.past)
