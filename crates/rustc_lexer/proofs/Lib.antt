@@ -23,6 +23,7 @@ pub mod FamilyLemmas
 pub mod FillLemmas
 pub mod FindLemmas
 pub mod FrontLemmas
+pub mod FrontmatterLemmas
 pub mod GuardedLemmas
 pub mod HeadLemmas
 pub mod HashLemmas

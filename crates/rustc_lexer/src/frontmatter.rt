@@ -13,6 +13,7 @@ ghost use Rattle.rustc_lexer.specs.means.Taking as state;
 ghost use Rattle.rustc_lexer.specs.State.{HasSuffixWithin};
 
 use crate::classes::{is_horizontal_whitespace, is_id_continue, is_id_start, is_whitespace};
+use crate::kernels::{ByteClass, Space};
 use crate::lexemes::lexeme;
 use crate::scan::{eat_while, eat_whitespace, next_is, split_first};
 use crate::token::{FrontmatterAllowed, Token, TokenKind};
@@ -32,7 +33,25 @@ pub(crate) fn token_at(text: &str, allowed: FrontmatterAllowed) -> Token
 {
     match allowed {
         FrontmatterAllowed::No => lexeme(text),
-        FrontmatterAllowed::Yes => frontmatter_or_lexeme(text),
+        FrontmatterAllowed::Yes => {
+            if may_open(text) {
+                frontmatter_or_lexeme(text)
+            } else {
+                lexeme(text)
+            }
+        }
+    }
+}
+
+/// Returns whether a frontmatter may be at the front of the text, as its first byte determines.
+#[inline(always)]
+#[tactic(auto, using(crate::proofs::FrontmatterLemmas::opens_not, std::proofs::lemmas::Grind::common_steps))]
+fn may_open(text: &str) -> bool
+    ensures { result ≡ false → spec.opens (chars text.now) ≡ false }
+{
+    match text.as_bytes().first() {
+        Some(byte) => *byte == b'-' || *byte >= 128 || Space::has(*byte),
+        None => false,
     }
 }
 
@@ -51,8 +70,7 @@ fn frontmatter_or_lexeme(text: &str) -> Token
     }
 }
 
-/// Returns the frontmatter at the front of the text, or `None` if none opens there. Most texts begin with neither white
-/// space nor a dash, so it looks at one character first.
+/// Returns the frontmatter at the front of the text, or `None` if none opens there.
 ///
 /// White space before its dashes is part of it, unless the last character of that white space is a newline.
 pub(crate) fn frontmatter(text: &str) -> Option<Token>
@@ -60,9 +78,6 @@ pub(crate) fn frontmatter(text: &str) -> Option<Token>
     ensures { MatchOption result (spec.opens (chars text.now) ≡ false)
         (λ token. (spec.opens (chars text.now) ≡ true) × (token ≡ spec.frontmatter text.now)) }
 {
-    if !next_is(text, |c| c == '-' || is_whitespace(c)) {
-        return None;
-    }
     let fence = eat_whitespace(text);
     let label = eat_while(fence, |c| c == '-');
     let n_dashes = fence.len() - label.len();

@@ -3,6 +3,7 @@
 use crate::erased::classes::{
     is_horizontal_whitespace, is_id_continue, is_id_start, is_whitespace,
 };
+use crate::erased::kernels::{ByteClass, Space};
 use crate::erased::lexemes::lexeme;
 use crate::erased::scan::{eat_while, eat_whitespace, next_is, split_first};
 use crate::erased::token::{FrontmatterAllowed, Token, TokenKind};
@@ -16,7 +17,22 @@ const MIN_DASHES: usize = 3;
 pub(crate) fn token_at(text: &str, allowed: FrontmatterAllowed) -> Token {
     match allowed {
         FrontmatterAllowed::No => lexeme(text),
-        FrontmatterAllowed::Yes => frontmatter_or_lexeme(text),
+        FrontmatterAllowed::Yes => {
+            if may_open(text) {
+                frontmatter_or_lexeme(text)
+            } else {
+                lexeme(text)
+            }
+        }
+    }
+}
+
+/// Returns whether a frontmatter may be at the front of the text, as its first byte determines.
+#[inline(always)]
+fn may_open(text: &str) -> bool {
+    match text.as_bytes().first() {
+        Some(byte) => *byte == b'-' || *byte >= 128 || Space::has(*byte),
+        None => false,
     }
 }
 
@@ -29,14 +45,10 @@ fn frontmatter_or_lexeme(text: &str) -> Token {
     }
 }
 
-/// Returns the frontmatter at the front of the text, or `None` if none opens there. Most texts begin with neither white
-/// space nor a dash, so it looks at one character first.
+/// Returns the frontmatter at the front of the text, or `None` if none opens there.
 ///
 /// White space before its dashes is part of it, unless the last character of that white space is a newline.
 pub(crate) fn frontmatter(text: &str) -> Option<Token> {
-    if !next_is(text, |c| c == '-' || is_whitespace(c)) {
-        return None;
-    }
     let fence = eat_whitespace(text);
     let label = eat_while(fence, |c| c == '-');
     let n_dashes = fence.len() - label.len();

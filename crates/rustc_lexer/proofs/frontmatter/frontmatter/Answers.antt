@@ -1,14 +1,9 @@
-use Rattle.std.proofs.Common.{arith, rules, ◌||◌, take, ap, sym, ◌∙◌}
-use Rattle.std.specs.Str.{chars}
+use Rattle.std.proofs.Common.{arith, rules, take, ap, ◌∙◌}
 use Rattle.std.proofs.lemmas.Grind.{common_steps}
-use Rattle.rustc_lexer.specs.laws.Frontmatter.{dashes_fence, opens-few, opens-line, opens-other, opens-yes, frontmatter-is}
+use Rattle.rustc_lexer.specs.laws.Frontmatter.{dashes_fence, opens-few, opens-line, opens-yes, frontmatter-is}
 use Rattle.rustc_lexer.proofs.frontmatter.frontmatter.Goals as goal
 use Rattle.rustc_lexer.proofs.frontmatter.frontmatter.Goals.{then-n_dashes-lt-MIN_DASHES-via-then-n_dashes-lt-MIN_DASHES, then-n_dashes-lt-MIN_DASHES-via-else-n_dashes-lt-MIN_DASHES+then-follows_newline}
-use Rattle.rustc_lexer.specs.Classes.{is_whitespace}
 use Rattle.rustc_lexer.specs.means.Frontmatter.{is_dash}
-
-pub returns-then-not-next_is : goal.returns-then-not-next_is
-returns-then-not-next_is c = opens-other (chars c.args.text.now) (sym (c.next_is.ensures (λ d. is_dash d || is_whitespace d) (λ d b e. search rules)) ∙ c.if-not-next_is.true)
 
 pub returns-then-n_dashes-lt-MIN_DASHES : goal.returns-then-n_dashes-lt-MIN_DASHES
 returns-then-n_dashes-lt-MIN_DASHES c = grind (arith, common_steps, rules, then-n_dashes-lt-MIN_DASHES-via-then-n_dashes-lt-MIN_DASHES, opens-few, opens-line)
