@@ -1,6 +1,6 @@
 -- What an iterator knows of the ends of runs past its place, and the tokens that it takes by them.
 use Rattle.std.proofs.lemmas.Grind.{common_steps}
-use Rattle.std.proofs.Common.{◌≡◌, ℕ, ◌+◌, ◌-◌, ◌^◌, ◌<◌, ◌≤◌, ◌==◌, false, true, List, length, length-drop, drop, take, get_or, sym, ap, subst, ◌∙◌, arith, drop-drop, Some}
+use Rattle.std.proofs.Common.{◌≡◌, ℕ, ◌+◌, ◌-◌, ◌^◌, ◌<◌, ◌≤◌, ◌==◌, false, true, List, length, length-drop, drop, take, get_or, sym, ap, subst, ◌∙◌, arith, drop-drop, refl, Option, Some, None, MatchOption}
 use Rattle.std.specs.Str.{IsCharBoundary, IsUtf8}
 use Rattle.std.proofs.lemmas.Bool.{ne_eqb}
 use Rattle.std.proofs.lemmas.List.{get_or-drop, take_rest}
@@ -13,7 +13,7 @@ use Rattle.rustc_lexer.specs.State.{State}
 use Rattle.rustc_lexer.specs.Tokens.{TakesToken}
 use Rattle.rustc_lexer.specs.laws.State.{state}
 use Rattle.rustc_lexer.specs.means.Edition.{first_token_in}
-use Rattle.rustc_lexer.specs.means.Ends.{bit, classified, AreEndsPast, IsEnds, IsLowest, IsUnclassified, StaysWithin}
+use Rattle.rustc_lexer.specs.means.Ends.{bit, classified, AreEndsPast, IsEnds, IsLowest, IsUnclassified, KnowsAhead, StaysWithin, TakesClassified}
 use Rattle.rustc_lexer.specs.means.Quick.{IsFirstToken}
 use Rattle.rustc_lexer.proofs.EndsLemmas.{all_past, classified_behind, classified_same, past_end}
 use Rattle.rustc_lexer.proofs.TokensLemmas.{takes_part}
@@ -92,3 +92,15 @@ pub takes_at : (allowed : FrontmatterAllowed) (edition : Edition) (text left : L
 takes_at allowed edition text left at s never view is e bound fits some token first =
     (takes_part allowed edition (drop at text) left s never view (e ∙ ap (λ (x : State). x.rest) view) (drop (at + token.len) text) token (left_utf8 text left at is bound e) (omega (arith, length-drop at text, ap length e)) some first
     (sym (drop-drop token.len at text) ∙ ap (drop token.len) (sym e))).takes
+
+-- taking the token that is determined, or finding none
+module _ (allowed : FrontmatterAllowed) (edition : Edition) (text : List ℕ) (s : State) (old new : Ahead) (known : KnowsAhead allowed text old) (view : state 0 (drop old.at text) (mode_in allowed edition) ≡ s) where
+  pub takes_told : (token : Token) → TakesClassified text old new token → TakesToken s token (state 0 (drop new.at text) (mode_in allowed edition))
+  takes_told token says =
+      let takes = takes_at allowed edition text (drop old.at text) old.at s (known.part token.kind says.classified) view says.utf8 refl known.tells.bound known.tells.fits (left_some text _ old.at refl says.some) token (says.first edition) in
+      subst (λ p. TakesToken s token (state 0 (drop p text) (mode_in allowed edition))) (sym says.offset) takes
+
+  pub told : (o : Option Token) → MatchOption o (IsUnclassified text old new) (λ token. TakesClassified text old new token)
+      → MatchOption o (state 0 (drop new.at text) (mode_in allowed edition) ≡ s) (λ token. TakesToken s token (state 0 (drop new.at text) (mode_in allowed edition)))
+  told None says = still text (mode_in allowed edition) s old new says view
+  told (Some token) says = takes_told token says

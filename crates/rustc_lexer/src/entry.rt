@@ -1,12 +1,12 @@
 //! The calls that lex a text, and their iterator.
-ghost use Rattle.std.specs.Prelude.{◌≡◌, drop, length};
+ghost use Rattle.std.specs.Prelude.{◌≡◌, drop, length, MatchOption};
 ghost use Rattle.std.specs.Iterator.{at_most};
 ghost use Rattle.std.specs.Str.{IsCharBoundary};
 ghost use Rattle.rustc_lexer.specs.{E2015, E2018, E2024, No};
 ghost use Rattle.rustc_lexer.specs.Classes.{Fits};
 ghost use Rattle.rustc_lexer.specs.LanguageText.{mode_after, mode_edition, mode_in, part};
 ghost use Rattle.rustc_lexer.specs.Locality.{AreLocal};
-ghost use Rattle.rustc_lexer.specs.Tokens.{ReadsAs, tokens_of, YieldsToken};
+ghost use Rattle.rustc_lexer.specs.Tokens.{ReadsAs, TakesToken, tokens_of, YieldsToken};
 
 use crate::edition::{Edition, choose_in, reserves_guards, token_as};
 use crate::entry::ahead::Ahead;
@@ -160,17 +160,38 @@ impl<'a> Tokens<'a> {
         self.text.len() - self.ahead.at
     }
 
-    /// Returns an iterator that is at the same offset.
+    /// Returns an iterator that is at the same offset. It knows nothing of the next token, so no kind is kept in memory.
     #[inline(always)]
-    fn copy(&self) -> Tokens<'a>
+    pub(crate) fn copy(&self) -> Tokens<'a>
         ensures { result ≡ self.now }
     {
         Tokens {
             text: self.text,
-            ahead: self.ahead,
+            ahead: Ahead {
+                classified: None,
+                ..self.ahead
+            },
             frontmatter_allowed: self.frontmatter_allowed,
             edition: self.edition,
         }
+    }
+
+    /// Begins to take tokens by the ends of runs, where they are determined in advance.
+    #[inline(always)]
+    fn begin(&mut self)
+        ensures { self.new ≡ self.old }
+    {
+        if let FrontmatterAllowed::No = self.frontmatter_allowed {
+            self.ahead.begin(self.text);
+        }
+    }
+
+    /// Returns the next token if the ends of runs determine it. A loop with a branch for these tokens is faster.
+    #[inline(always)]
+    pub(crate) fn told(&mut self) -> Option<Token>
+        ensures { MatchOption result (self.new ≡ self.old) (λ token. TakesToken self.old token self.new) }
+    {
+        self.ahead.take(self.text)
     }
 
     /// Moves on by this many bytes, whatever tokens they belong to.

@@ -107,7 +107,19 @@ impl<'a> Tokens<'a> {
     #[cfg(feature = "alloc")]
     #[must_use]
     pub fn into_vec(self) -> Vec<Token> {
-        self.collect()
+        // The loop takes from a copy, which stays in registers, and has a branch for the commonest tokens.
+        let mut tokens = self.0.copy();
+        let mut list = Vec::new();
+        loop {
+            if let Some(token) = tokens.told() {
+                list.push(token);
+                continue;
+            }
+            let Some(token) = tokens.next() else {
+                return list;
+            };
+            list.push(token);
+        }
     }
 }
 

@@ -51,6 +51,7 @@ impl<'a> Tokens<'a> {
     {
         // The loop takes from a copy, which stays in registers.
         let mut tokens = self.copy();
+        tokens.begin();
         let mut count = 0;
         'places: while count < buffer.len() {
             let Some(token) = tokens.next() else {

@@ -111,15 +111,32 @@ impl<'a> Tokens<'a> {
         self.text.len() - self.ahead.at
     }
 
-    /// Returns an iterator that is at the same offset.
+    /// Returns an iterator that is at the same offset. It knows nothing of the next token, so no kind is kept in memory.
     #[inline(always)]
-    fn copy(&self) -> Tokens<'a> {
+    pub(crate) fn copy(&self) -> Tokens<'a> {
         Tokens {
             text: self.text,
-            ahead: self.ahead,
+            ahead: Ahead {
+                classified: None,
+                ..self.ahead
+            },
             frontmatter_allowed: self.frontmatter_allowed,
             edition: self.edition,
         }
+    }
+
+    /// Begins to take tokens by the ends of runs, where they are determined in advance.
+    #[inline(always)]
+    fn begin(&mut self) {
+        if let FrontmatterAllowed::No = self.frontmatter_allowed {
+            self.ahead.begin(self.text);
+        }
+    }
+
+    /// Returns the next token if the ends of runs determine it. A loop with a branch for these tokens is faster.
+    #[inline(always)]
+    pub(crate) fn told(&mut self) -> Option<Token> {
+        self.ahead.take(self.text)
     }
 
     /// Moves on by this many bytes, whatever tokens they belong to.

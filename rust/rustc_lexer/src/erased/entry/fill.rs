@@ -37,6 +37,7 @@ impl<'a> Tokens<'a> {
     pub fn fill<R: Record>(&mut self, buffer: &mut [R]) -> usize {
         // The loop takes from a copy, which stays in registers.
         let mut tokens = self.copy();
+        tokens.begin();
         let mut count = 0;
         while count < buffer.len() {
             let Some(token) = tokens.next() else {

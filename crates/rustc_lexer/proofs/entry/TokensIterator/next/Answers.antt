@@ -11,19 +11,12 @@ use Rattle.rustc_lexer.specs.means.Edition.{first_token_in}
 use Rattle.rustc_lexer.specs.means.Taking.{token_at}
 use Rattle.rustc_lexer.specs.means.Quick.{BeginsWithNoHash}
 use Rattle.rustc_lexer.proofs.TokensLemmas.{goes, none_left, takes_own}
-use Rattle.rustc_lexer.proofs.ClassifiedLemmas.{left_is, left_none, left_some, left_utf8, still, takes_at}
+use Rattle.rustc_lexer.proofs.ClassifiedLemmas.{left_is, left_none, left_some, left_utf8, still, takes_at, takes_told}
 use Rattle.rustc_lexer.proofs.entry.TokensIterator.next.Goals as goal
 
 pub returns-in-Some : goal.returns-in-Some
 returns-in-Some c =
-    let inv = c.self.invariant in
-    let says = c.in-Some.ensures in
-    let text : List ℕ = c.self.inside.text.now in
-    let at : ℕ = c.self.inside.ahead.at in
-    let mode : Mode = mode_in c.self.inside.frontmatter_allowed c.self.inside.edition in
-    let never = inv.part c.in-Some.token.kind says.classified in
-    let takes = takes_at _ _ text (drop at text) at c.args.self.now never c.self.view_is says.utf8 refl inv.tells.bound inv.tells.fits (left_some text _ at refl says.some) c.in-Some.token (says.first c.self.inside.edition) in
-    let taken : TakesToken c.args.self.now c.in-Some.token (state 0 (drop c.take.new.self.at text) mode) = subst (λ p. TakesToken c.args.self.now c.in-Some.token (state 0 (drop p text) mode)) (sym says.offset) takes in
+    let taken = takes_told _ _ c.self.inside.text.now c.args.self.now _ _ c.self.invariant c.self.view_is c.in-Some.token c.in-Some.ensures in
     record { steps = taken; goes = goes _ _ _ taken }
 
 pub returns-then-self-clause-steps : goal.returns-then-self-clause-steps
