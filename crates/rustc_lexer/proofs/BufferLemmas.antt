@@ -1,5 +1,5 @@
 -- A buffer that is filled from the front with the tokens of a text.
-use Rattle.std.proofs.Common.{All, get_or, ◌≡◌, ℕ, zero, suc, ◌+◌, ◌<◌, ◌≤◌, List, [], ◌∷◌, ◌++◌, length, map, take, drop, min, inl, inr, refl, sym, ap, ◌∙◌, arith, slice_set, length-drop}
+use Rattle.std.proofs.Common.{All, get_or, ◌≡◌, ℕ, zero, suc, ◌+◌, ◌-◌, ◌<◌, ◌≤◌, List, [], ◌∷◌, ◌++◌, length, map, take, drop, min, inl, inr, refl, sym, ap, ◌∙◌, arith, slice_set, length-drop}
 use Rattle.std.proofs.lemmas.Bool.{cases_lt}
 use Rattle.std.proofs.lemmas.List.{take-append-drop, take_more_set, drop-set-lt, drop-drop, drop_all, length-set, map-append}
 use Rattle.std.proofs.lemmas.List.Elements.{All-head, All-tail}
@@ -12,7 +12,7 @@ use Rattle.rustc_lexer.specs.means.Tokens.{IsFilled}
 use Rattle.rustc_lexer.specs.State.{State}
 use Rattle.rustc_lexer.specs.Classes.{IsText}
 use Rattle.rustc_lexer.specs.Locality.{IsGrammar}
-use Rattle.rustc_lexer.specs.LanguageText.{Mode, part, mode_edition, mode_in}
+use Rattle.rustc_lexer.specs.LanguageText.{Mode, part, mode_after, mode_edition, mode_in}
 use Rattle.rustc_lexer.specs.means.Edition.{first_token_in}
 use Rattle.rustc_lexer.specs.means.Taking.{advance_by, take_next}
 use Rattle.rustc_lexer.specs.laws.Edition.{edition_grammar}
@@ -161,3 +161,28 @@ module _ (edition : Edition) (text : List ℕ) (is : IsText text) (s : State) (m
 
   pub some_left : 0 < length (tokens_left s)
   some_left = let long = ap (λ (ts : List Token). length ts) left_is in omega (arith, long)
+
+-- the tokens of a text in an edition are written so far, and all of these begin before the end
+pub record IsFilling {X : Type 0} (form : Token → X) (edition : Edition) (text : List ℕ) (end : ℕ) (buffer filled : List X) (count : ℕ) (s : State) : Type 0 where
+  pub mode : s.mode ≡ part edition
+  pub rest : s.rest ≡ drop (bound (tokens_by (first_token_in edition) text) count) text
+  pub written : IsWritten form (tokens_by (first_token_in edition) text) buffer filled count
+  pub begun : (k : ℕ) → k < count → bound (tokens_by (first_token_in edition) text) k < end
+
+-- one more of them
+pub filled_more : {X : Type 0} (written : Token → X) (edition : Edition) (text : List ℕ) (end : ℕ) (buffer filled : List X) (count : ℕ) (s t : State) (token : Token) (x : X) → IsText text → end ≤ length text → IsFilling written edition text end buffer filled count s
+    → length text - end < length s.rest → count < length filled → TakesToken s token t → x ≡ written token → IsFilling written edition text end buffer (slice_set filled count x) (count + 1) t
+filled_more written edition text end buffer filled count s t token x is inside at more room takes e =
+    let law = edition_grammar edition in
+    let first : List ℕ → Token = first_token_in edition in
+    let offset : ℕ = bound (tokens_by first text) count in
+    let early : offset < end = omega (arith, more, ap length at.rest, length-drop offset text) in
+    let here : offset < length text = omega (arith, early, inside) in
+    let past = (stands law text is count offset refl).past in
+    let token_is : token ≡ first (drop offset text) = token_taken edition (drop offset text) past s at.mode at.rest (omega (arith, here, length-drop offset text)) t token takes in
+    record {
+      mode = takes.mode ∙ ap (λ (m : Mode). mode_after m token.kind) at.mode;
+      rest = takes.rest ∙ (ap (drop token.len) at.rest ∙ (drop-drop token.len offset text ∙ ap (λ n. drop n text) (ap (λ (t : Token). offset + t.len) token_is ∙ next_offset law text is count offset refl here)));
+      written = one_written written (tokens_by first text) _ buffer filled count (first (drop offset text)) at.written (next_token law text is count offset refl here) room x (e ∙ ap written token_is);
+      begun = begun_more (tokens_by first text) count offset end refl early at.begun;
+    }
