@@ -50,10 +50,15 @@ pub fn is_horizontal_whitespace(c: char) -> bool
 ///
 /// Rust Reference, [Identifiers](https://doc.rust-lang.org/reference/identifiers.html).
 #[inline]
+#[tactic(auto, using(crate::proofs::PartLemmas::start_lemmas, std::proofs::lemmas::Grind::common_steps))]
 pub fn is_id_start(c: char) -> bool
     ensures { result ≡ Classes.is_id_start c }
 {
-    c == '_' || unicode_ident::is_xid_start(c)
+    if c.is_ascii() {
+        c.is_ascii_alphabetic() || c == '_'
+    } else {
+        unicode_ident::is_xid_start(c)
+    }
 }
 
 /// Returns whether an identifier may continue with the character: with an `XID_Continue` character of

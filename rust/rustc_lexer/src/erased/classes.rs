@@ -45,7 +45,11 @@ pub fn is_horizontal_whitespace(c: char) -> bool {
 /// Rust Reference, [Identifiers](https://doc.rust-lang.org/reference/identifiers.html).
 #[inline]
 pub fn is_id_start(c: char) -> bool {
-    c == '_' || unicode_ident::is_xid_start(c)
+    if c.is_ascii() {
+        c.is_ascii_alphabetic() || c == '_'
+    } else {
+        unicode_ident::is_xid_start(c)
+    }
 }
 
 /// Returns whether an identifier may continue with the character: with an `XID_Continue` character of
