@@ -3,6 +3,7 @@
 
 pub mod arriving;
 pub mod comments;
+pub mod joining;
 pub mod raw_strings;
 pub mod repaint;
 pub mod same;

@@ -1,4 +1,5 @@
 pub mod AdvanceLemmas
+pub mod ApartLemmas
 pub mod BitLemmas
 pub mod BlockCommentDepth
 pub mod BlockCommentLoop
@@ -24,10 +25,12 @@ pub mod FillLemmas
 pub mod FindLemmas
 pub mod FrontLemmas
 pub mod FrontmatterLemmas
+pub mod GrowingLemmas
 pub mod GuardedLemmas
 pub mod HeadLemmas
 pub mod HashLemmas
 pub mod IdentLemmas
+pub mod JoinedLemmas
 pub mod KeptEdits
 pub mod KeptLemmas
 pub mod KernelLemmas
@@ -59,6 +62,7 @@ pub mod RelexingLemmas
 pub mod RenewedLemmas
 pub mod RunLemmas
 pub mod SearchLemmas
+pub mod SeparatorLemmas
 pub mod SettledLemmas
 pub mod ShebangLemmas
 pub mod ShortCharLemmas

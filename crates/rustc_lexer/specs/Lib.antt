@@ -6,6 +6,7 @@ pub mod Document
 pub mod Edits
 pub mod FrontmatterGrammar
 pub mod GrammarLaws
+pub mod Joined
 pub mod Kinds
 pub mod Language
 pub mod LanguageCalls

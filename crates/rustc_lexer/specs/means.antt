@@ -10,6 +10,7 @@ pub mod Frontmatter
 pub mod Guarded
 pub mod Hash
 pub mod Ident
+pub mod Joined
 pub mod Checkpoints
 pub mod Least
 pub mod Lexeme

@@ -29,8 +29,8 @@ pub use entry::{
 pub use lexemes::ident::is_ident;
 pub use raw_check::{starts_raw, validate_raw_str};
 pub use relex::{
-    BodyChange, Bound, Change, Edit, EditStop, Head, LexedDocument, LexedText, Measured, Piece,
-    Pieces, Relexed, Relexing, settled,
+    BodyChange, Bound, Change, Edit, EditStop, Head, JoinError, JoinedText, LexedDocument,
+    LexedText, Measured, Piece, Pieces, Relexed, Relexing, is_seam, settled,
 };
 pub use shebang::strip_shebang;
 pub use token::{

@@ -20,6 +20,7 @@
 //! | the tokens of a file while it is edited | [`LexedDocument`], or [`LexedText`] for a part of a file |
 //! | the same on lists of your own | [`Relexing`], with [`Head`] for a whole file |
 //! | the final tokens of a text that is still arriving | [`settled`] |
+//! | to write tokens so that lexing gives them back | [`JoinedText`] |
 //! | to test what would panic | [`fits`], [`starts_raw`] |
 //!
 //! # What is proved
@@ -66,6 +67,8 @@ mod edit_error;
 #[doc(hidden)]
 pub mod erased;
 #[cfg(feature = "alloc")]
+mod joined_text;
+#[cfg(feature = "alloc")]
 mod kept_calls;
 #[cfg(feature = "alloc")]
 mod lexed_document;
@@ -106,6 +109,9 @@ pub use erased::Edition;
 /// ```
 #[doc(inline)]
 pub use erased::Head;
+#[cfg(feature = "alloc")]
+#[doc(inline)]
+pub use erased::JoinError;
 /// ```
 /// use rustc_lexer::LiteralKind;
 ///
@@ -198,6 +204,8 @@ pub use erased::{
 #[doc(inline)]
 pub use erased::{Edit, EditStop, Piece, Pieces};
 #[cfg(feature = "alloc")]
+pub use joined_text::JoinedText;
+#[cfg(feature = "alloc")]
 pub use lexed_document::LexedDocument;
 #[cfg(feature = "alloc")]
 pub use lexed_text::LexedText;
@@ -258,6 +266,27 @@ pub fn validate_raw_str(input: &str, prefix_len: u32) -> Result<(), RawStrError>
         "character number `prefix_len`, from 1, is not `r`"
     );
     erased::validate_raw_str(text, prefix_len)
+}
+
+/// Returns whether the tokens of a text in an edition are those of its part before `at`, and then those of its part after
+/// `at`. So a caller with a buffer of its own can find out whether what it wrote runs together with what was there.
+///
+/// ```
+/// use rustc_lexer::{Edition, is_seam};
+///
+/// assert!(is_seam("a+b", 1, Edition::E2024));
+/// assert!(!is_seam("a1", 1, Edition::E2024));
+/// assert!(is_seam("0..2", 1, Edition::E2024) && !is_seam("0..2", 2, Edition::E2024));
+/// ```
+///
+/// # Panics
+///
+/// Panics if the text has more than `u32::MAX` bytes, or if `at` is not on a char boundary.
+#[must_use]
+pub fn is_seam(text: &str, at: usize, edition: Edition) -> bool {
+    let text = fitting(text);
+    assert!(text.is_char_boundary(at), "`at` is not on a char boundary");
+    erased::is_seam(text, at, edition)
 }
 
 /// Returns the end of the last token that at least two characters follow, or 0 if there is none. However the text

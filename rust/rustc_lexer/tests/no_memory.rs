@@ -10,8 +10,9 @@ use rustc_lexer::LiteralKind::{self, Char, Float, Int, RawStr};
 use rustc_lexer::RawStrError::{self, InvalidStarter, NoTerminator, TooManyDelimiters};
 use rustc_lexer::TokenKind::{self, *};
 use rustc_lexer::{
-    Cursor, GuardedStr, Token, fits, is_horizontal_whitespace, is_id_continue, is_id_start,
-    is_ident, is_whitespace, settled, starts_raw, strip_shebang, tokenize, validate_raw_str,
+    Cursor, Edition, GuardedStr, Token, fits, is_horizontal_whitespace, is_id_continue,
+    is_id_start, is_ident, is_seam, is_whitespace, settled, starts_raw, strip_shebang, tokenize,
+    validate_raw_str,
 };
 
 /// A text, whether a frontmatter is allowed, its tokens, where its settled part ends, and why it is no raw string, if
@@ -158,4 +159,15 @@ fn others_hold() -> bool {
         && is_whitespace('\u{2028}')
         && !is_whitespace('\u{a0}')
         && is_id_start('é')
+}
+
+#[test]
+fn seams() {
+    for (text, at, touch) in [("a+", 1, true), ("ab", 1, false), ("\"é\"s", 4, false)] {
+        assert_eq!(
+            given(0, || is_seam(text, at, Edition::E2024)),
+            touch,
+            "{text:?}"
+        );
+    }
 }

@@ -8,8 +8,8 @@ use made::{counts, edit, token};
 use rattle_support::Global;
 use refusing::{given, in_turn, refused_once, requests};
 use rustc_lexer::{
-    AllocError, EditError, EditStop, Edition, LexedDocument, LexedText, Relexed, Stepper, Steps,
-    Token, TokenKind, erased, tokenize_document, tokenize_in,
+    AllocError, EditError, EditStop, Edition, JoinError, JoinedText, LexedDocument, LexedText,
+    Relexed, Stepper, Steps, Token, TokenKind, erased, tokenize_document, tokenize_in,
 };
 use std::ops::Range;
 use std::panic::{AssertUnwindSafe, catch_unwind};
@@ -286,4 +286,27 @@ fn unused_memory() {
     });
     asked.iter_mut().for_each(|asked| *asked -= 1);
     assert_eq!(asked, [0, 1, 2], "past that for the tokens that are lexed");
+}
+
+/// A piece takes one request for its room. If that is refused, the piece is not taken, and it can be taken later.
+#[test]
+fn joined_pieces() {
+    let long = "b".repeat(100);
+    for text in ["a", "// a", "a+"] {
+        let mut wanted = JoinedText::new();
+        wanted.push(text).unwrap();
+        let make = || wanted.clone();
+        let check = |mut joined: JoinedText, answer| {
+            if answer == Err(JoinError::Memory) {
+                assert_eq!(joined.as_str(), text);
+                joined.push(&long).unwrap();
+            }
+            assert!(joined.as_str().ends_with(&long) && joined.as_str().starts_with(text));
+        };
+        assert_eq!(
+            in_turn(make, |joined| joined.push(&long), check),
+            1,
+            "{text:?}"
+        );
+    }
 }

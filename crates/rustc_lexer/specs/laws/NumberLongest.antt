@@ -275,7 +275,7 @@ run-front p (suc n) [] all = refl
 run-front p (suc n) (d ∷ ds) all = let both = and_parts (p d) (list_all p ds) all in ap (λ (b : Bool). b && list_all p (take n ds)) both.0 ∙ run-front p n ds both.1
 
 -- the form of a number of some kind
-abbrev HasForm : List ℕ → List ℕ → Type 0
+abbrev pub HasForm : List ℕ → List ℕ → Type 0
 HasForm next w = (kind : LiteralKind) × HasNumberForm next kind w
 
 whole-form : (base : Base) (empty : Bool) (w next : List ℕ) → IsWholePart base empty w → HasForm next w
@@ -321,7 +321,7 @@ tail-front {next} (of_both {base = base} {d = d} {e = e} ds digit are is) (suc (
     longer zero = subst Tail (sym (append-nil ds)) (Float base false, of_fraction digit are)
     longer (suc m) = let x = exponent-front is m in (x.0, of_both ds digit are x.1)
 
-form-front : {next : List ℕ} {kind : LiteralKind} {w : List ℕ} → HasNumberForm next kind w → (n : ℕ) → HasForm (drop (suc (suc n)) w ++ next) (take (suc (suc n)) w)
+pub form-front : {next : List ℕ} {kind : LiteralKind} {w : List ℕ} → HasNumberForm next kind w → (n : ℕ) → HasForm (drop (suc (suc n)) w ++ next) (take (suc (suc n)) w)
 form-front {next} (of_prefix {whole = w} is) n = whole-front is n (drop (suc (suc n)) w ++ next)
 form-front {next} (of_parts {whole = w} {tail = t} is past) n = elim (split (suc (suc n)) w t) [
   | inl e ↦ subst (HasForm (drop (suc (suc n)) (w ++ t) ++ next)) (sym e) (whole-front is n (drop (suc (suc n)) (w ++ t) ++ next))
@@ -329,7 +329,7 @@ form-front {next} (of_parts {whole = w} {tail = t} is past) n = elim (split (suc
 ]
 
 -- what follows matters only behind a dot
-form-alike : {next : List ℕ} {kind : LiteralKind} {w : List ℕ} → HasNumberForm next kind w → (other : List ℕ)
+pub form-alike : {next : List ℕ} {kind : LiteralKind} {w : List ℕ} → HasNumberForm next kind w → (other : List ℕ)
     → ((base : Base) (whole : List ℕ) → IsWholePart base false whole → w ≡ whole ++ (46 ∷ []) → next_is is_no_fraction other ≡ next_is is_no_fraction next) → HasNumberForm other kind w
 form-alike (of_prefix is) other same = of_prefix is
 form-alike (of_parts is nothing) other same = of_parts is nothing
@@ -339,7 +339,7 @@ form-alike (of_parts is (of_exponent no_digit e)) other same = of_parts is (of_e
 form-alike (of_parts is (of_both ds digit are e)) other same = of_parts is (of_both ds digit are e)
 
 -- the longer of two fronts of a text goes on with a character
-one-more : (w x other rest : List ℕ) → x ++ rest ≡ w ++ other → length w < length x → (c : ℕ) × (other ≡ c ∷ drop 1 other) × (take (suc (length w)) x ≡ w ++ (c ∷ [])) × (drop (suc (length w)) x ++ rest ≡ drop 1 other)
+pub one-more : (w x other rest : List ℕ) → x ++ rest ≡ w ++ other → length w < length x → (c : ℕ) × (other ≡ c ∷ drop 1 other) × (take (suc (length w)) x ≡ w ++ (c ∷ [])) × (drop (suc (length w)) x ++ rest ≡ drop 1 other)
 one-more [] [] other rest text lt = absurd (omega arith)
 one-more [] (c ∷ x) other rest text lt = let left : x ++ rest ≡ drop 1 other = ap (drop 1) text in (c, sym text ∙ ap (λ (xs : List ℕ). c ∷ xs) left, refl, left)
 one-more (d ∷ w) [] other rest text lt = absurd (omega arith)

@@ -1,0 +1,12 @@
+-- Means: where the tokens of a growing text are sure.
+use Rattle.std.specs.Prelude.{ℕ, ◌≡◌, ◌<◌, ◌≤◌, true, List, length}
+use Rattle.rustc_lexer.specs.{Token}
+use Rattle.rustc_lexer.specs.Locality.{has_two}
+use Rattle.rustc_lexer.specs.Partition.{bound, tokens_by}
+
+-- the offset is a bound of the text that two characters follow, or 0
+pub record IsSure (first : List ℕ → Token) (text : List ℕ) (offset : ℕ) : Type 0 where
+  pub number : ℕ
+  pub few : number ≤ length (tokens_by first text)
+  pub offset_is : bound (tokens_by first text) number ≡ offset
+  pub two : 0 < offset → has_two text offset (length text) ≡ true
