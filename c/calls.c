@@ -24,6 +24,8 @@ static void check_bad_texts(void) {
         CHECK(error.error == 0 && error.bad_char == 0 && error.expected == 0 && error.found == 0);
         CHECK(rustc_lexer_guarded_str(text, len, &string) == RUSTC_LEXER_NOT_UTF8 && string.is_some == 0);
         CHECK(rustc_lexer_is_ident(text, len, &is) == RUSTC_LEXER_NOT_UTF8 && is == 0);
+        is = 9;
+        CHECK(rustc_lexer_is_seam(text, len, 0, 2024, &is) == RUSTC_LEXER_NOT_UTF8 && is == 0);
         struct rustc_lexer_edit edit = {0, 0, (uint32_t)len};
         struct rustc_lexer_relexing relexing = {0};
         CHECK(rustc_lexer_relex(text, len, buffer, 0, &edit, 2024, &relexing, buffer + 1, BUFFER_LEN - 1, &count) ==
@@ -45,6 +47,7 @@ static void check_empty_text(batch_call *tokens) {
     end = 99;
     CHECK(rustc_lexer_settled((const uint8_t *)"", 0, &end) == RUSTC_LEXER_OK && end == 0);
     CHECK(rustc_lexer_is_ident((const uint8_t *)"", 0, &is) == RUSTC_LEXER_OK && is == 0);
+    CHECK(rustc_lexer_is_seam((const uint8_t *)"", 0, 0, 2015, &is) == RUSTC_LEXER_OK && is == 1);
 }
 
 /* A pointer may be null where its length is 0. */
@@ -193,6 +196,23 @@ static void check_others(void) {
     CHECK(rustc_lexer_guarded_str((const uint8_t *)"##x", 3, &string) == RUSTC_LEXER_OK && string.is_some == 0);
     CHECK(rustc_lexer_settled((const uint8_t *)"ab cd ef", 8, &end) == RUSTC_LEXER_OK && end == 6);
     CHECK(rustc_lexer_settled((const uint8_t *)"k#", 2, &end) == RUSTC_LEXER_OK && end == 0);
+    static const struct {
+        const char *text;
+        size_t at;
+        uint32_t edition, is;
+    } seams[] = {{"a+b", 1, 2024, 1}, {"ab", 1, 2024, 0}, {"0..2", 1, 2021, 1}, {"0..2", 2, 2021, 0},
+                 {"z\"a\"", 1, 2018, 1}, {"z\"a\"", 1, 2021, 0}, {"k#a", 2, 2015, 0}, {"// a\nb", 4, 2015, 1}};
+    for (size_t i = 0; i < sizeof seams / sizeof seams[0]; i++) {
+        const uint8_t *text = (const uint8_t *)seams[i].text;
+        CHECK(rustc_lexer_is_seam(text, strlen(seams[i].text), seams[i].at, seams[i].edition, &is) == RUSTC_LEXER_OK);
+        CHECK(is == seams[i].is);
+    }
+    is = 9;
+    CHECK(rustc_lexer_is_seam((const uint8_t *)"\xc3\xa9", 2, 1, 2024, &is) == RUSTC_LEXER_BAD_PLACE && is == 0);
+    is = 9;
+    CHECK(rustc_lexer_is_seam((const uint8_t *)"ab", 2, 3, 2024, &is) == RUSTC_LEXER_BAD_PLACE && is == 0);
+    is = 9;
+    CHECK(rustc_lexer_is_seam((const uint8_t *)"ab", 2, 1, 2020, &is) == RUSTC_LEXER_BAD_EDITION && is == 0);
     CHECK(rustc_lexer_strip_shebang((const uint8_t *)"#!///x\n[a]", 10, &end) == RUSTC_LEXER_OK && end == 6);
     CHECK(rustc_lexer_strip_shebang_unchecked((const uint8_t *)"#!///x\n[a]", 10, &end) == RUSTC_LEXER_OK && end == 6);
     CHECK(rustc_lexer_is_ident_unchecked((const uint8_t *)"a1", 2));

@@ -172,6 +172,7 @@ static uint32_t call_all(const uint8_t *text, size_t len, enum placement placeme
     CHECK(answer <= len);
     find_head(text, len, status, placement);
     CHECK(rustc_lexer_is_ident(text, len, is.bytes) == status);
+    CHECK(rustc_lexer_is_seam(text, len, len, 2024, is.bytes) == status);
     CHECK(rustc_lexer_guarded_str(text, len, string.bytes) == status);
     for (uint32_t prefix_len = 0; prefix_len < 4; prefix_len++) {
         uint32_t raw = rustc_lexer_validate_raw_str(text, len, prefix_len, error.bytes);

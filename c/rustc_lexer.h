@@ -382,6 +382,14 @@ uint32_t rustc_lexer_strip_shebang_unchecked(const uint8_t *text, size_t len, si
  * there is none. However the text continues, its tokens up to there stay. No frontmatter is allowed. */
 uint32_t rustc_lexer_settled(const uint8_t *text, size_t len, size_t *end);
 
+/* Writes 1 if the texts before and after byte `at` may touch, otherwise 0: whether the tokens of the text are those of
+ * its part before `at`, and then those of its part after `at`. So a program that writes tokens finds out whether it has
+ * to write a space between two of them. The edition is a year, as in rustc_lexer_relex. No frontmatter is allowed.
+ *
+ * The end of the part before `at` is enough, from any end of a token on that at least two characters of that part
+ * follow: the last two of its tokens, for example. So a long text need not be passed. */
+uint32_t rustc_lexer_is_seam(const uint8_t *text, size_t len, size_t at, uint32_t edition, uint32_t *is);
+
 /* Checks the raw string that the text begins with, and writes what is wrong with it. `prefix_len` is the number of
  * characters of its prefix, with the r: 1 for r, 2 for br and cr. */
 uint32_t rustc_lexer_validate_raw_str(const uint8_t *text, size_t len, uint32_t prefix_len,

@@ -1,3 +1,4 @@
 pub mod ArrivingLemmas
+pub mod JoiningLemmas
 pub mod PieceLemmas
 pub mod RepaintLemmas

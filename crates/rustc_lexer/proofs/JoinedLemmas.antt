@@ -8,11 +8,10 @@ use Rattle.rustc_lexer.specs.{Edition, Token}
 use Rattle.rustc_lexer.specs.Answers.{first_in}
 use Rattle.rustc_lexer.specs.Classes.{IsText}
 use Rattle.rustc_lexer.specs.Joined as the
-use Rattle.rustc_lexer.specs.Joined.{IsJoined, IsParted, MayTouch, StayApart}
+use Rattle.rustc_lexer.specs.Joined.{IsJoined, IsSeparated, MayTouch, AreInseparable}
 use Rattle.rustc_lexer.specs.Locality.{has_two, IsGrammar}
 use Rattle.rustc_lexer.specs.Partition.{bound, tokens_by}
 use Rattle.rustc_lexer.specs.laws.Cuts.{IsCutAt, at_bound, tokens-nil, tokens_local}
-use Rattle.rustc_lexer.specs.means.Joined.{IsSure}
 use Rattle.rustc_lexer.proofs.BoundLemmas.{bound_mono, bound-last, rises}
 use Rattle.rustc_lexer.proofs.DocumentHead.{bound-append}
 use Rattle.rustc_lexer.proofs.EditLemmas.{bound-same, has_two-agree}
@@ -33,6 +32,13 @@ drop-front zero xs ys few = refl
 drop-front (suc n) [] ys few = absurd (omega arith)
 drop-front (suc n) (x ∷ xs) ys few = drop-front n xs ys (omega arith)
 
+-- the offset is a bound of the text that two characters follow, or 0
+pub record IsSure (first : List ℕ → Token) (text : List ℕ) (offset : ℕ) : Type 0 where
+  pub number : ℕ
+  pub few : number ≤ length (tokens_by first text)
+  pub offset_is : bound (tokens_by first text) number ≡ offset
+  pub two : 0 < offset → has_two text offset (length text) ≡ true
+
 -- the tokens up to a sure bound, and those of what is left, alone and with more text
 pub record IsSplit (first : List ℕ → Token) (left more : List ℕ) (from : ℕ) : Type 0 where
   pub front : List Token
@@ -40,14 +46,13 @@ pub record IsSplit (first : List ℕ → Token) (left more : List ℕ) (from : �
   pub together : tokens_by first (left ++ more) ≡ front ++ tokens_by first (drop from left ++ more)
   pub inside : from ≤ length left
 
--- a separator and a piece are put past a text, whose tokens are sure up to an offset
-pub record IsPut (first : List ℕ → Token) (text between piece whole : List ℕ) (from : ℕ) : Type 0 where
+-- a separator and a piece are put past a text
+pub record IsPut (text between piece whole : List ℕ) : Type 0 where
   pub text_utf8 : IsUtf8 text
   pub between_utf8 : IsUtf8 between
   pub piece_utf8 : IsUtf8 piece
   pub short : length text + (length between + length piece) < 2 ^ 32
   pub whole_is : whole ≡ text ++ between ++ piece
-  pub sure : IsSure first text from
 
 -- what two appended texts make
 pub put_whole : (text between piece : List ℕ) {one two whole : List ℕ} {a b : Bool} → one ≡ (if a then text ++ between else text) → a ≡ true → two ≡ (if b then one ++ piece else one) → b ≡ true → whole ≡ two → whole ≡ text ++ between ++ piece
@@ -118,17 +123,16 @@ module _ {first : List ℕ → Token} (law : IsGrammar first) where
         λ e. s.together ∙ (ap (λ (ts : List Token). s.front ++ ts) e ∙ sym apart),
       )
 
-  -- a separator parts two texts exactly if the end of the first touches it with the second, and it touches the second
-  pub parted : (left between right : List ℕ) (from : ℕ) → IsText left → IsText between → IsText (between ++ right) → IsText (left ++ (between ++ right)) → IsSure first left from
-      → (tokens_by first (drop from left ++ (between ++ right)) ≡ tokens_by first (drop from left) ++ tokens_by first (between ++ right)) × (tokens_by first (between ++ right) ≡ tokens_by first between ++ tokens_by first right)
+  -- a separator parts two texts exactly if it touches both
+  pub parted : (left between right : List ℕ) → IsText left → IsText (left ++ (between ++ right))
+      → (tokens_by first (left ++ (between ++ right)) ≡ tokens_by first left ++ tokens_by first (between ++ right)) × (tokens_by first (between ++ right) ≡ tokens_by first between ++ tokens_by first right)
       ↔ tokens_by first (left ++ (between ++ right)) ≡ tokens_by first left ++ (tokens_by first between ++ tokens_by first right)
-  parted left between right from is is_between is_rest whole at =
-      let s : IsSplit first left (between ++ right) from = sure_split left (between ++ right) from is whole at in (
-        λ both. (near_touch left (between ++ right) from _ s).1 both.0 ∙ ap (λ (ts : List Token). tokens_by first left ++ ts) both.1,
-        λ e.
-            let second : tokens_by first (between ++ right) ≡ tokens_by first between ++ tokens_by first right = past_left left (between ++ right) _ is whole e in
-            ((near_touch left (between ++ right) from _ s).0 (e ∙ ap (λ (ts : List Token). tokens_by first left ++ ts) (sym second)), second),
-      )
+  parted left between right is whole = (
+    λ both. both.0 ∙ ap (λ (ts : List Token). tokens_by first left ++ ts) both.1,
+    λ e.
+        let second : tokens_by first (between ++ right) ≡ tokens_by first between ++ tokens_by first right = past_left left (between ++ right) _ is whole e in
+        (e ∙ ap (λ (ts : List Token). tokens_by first left ++ ts) (sym second), second),
+  )
 
   -- ---- how to find it out
 
@@ -202,100 +206,64 @@ module _ {first : List ℕ → Token} (law : IsGrammar first) where
   abbrev pub Touch : List ℕ → List ℕ → Type 0
   Touch left right = tokens_by first (left ++ right) ≡ tokens_by first left ++ tokens_by first right
 
-  module _ {text between piece whole : List ℕ} {from : ℕ} (put : IsPut first text between piece whole from) where
+  module _ {text between piece whole : List ℕ} (put : IsPut text between piece whole) where
     is : IsText text
     is = record { utf8 = put.text_utf8; fits = let short = put.short in omega arith }
-
-    short : length text + (length between + length piece) < 2 ^ 32
-    short = put.short
-
-    its : IsUtf8 between
-    its = put.between_utf8
-
-    last : IsUtf8 piece
-    last = put.piece_utf8
-
-    sure : IsSure first text from
-    sure = put.sure
 
     joined : whole ≡ text ++ (between ++ piece)
     joined = put.whole_is ∙ append_assoc text between piece
 
     rest_is : IsText (between ++ piece)
-    rest_is = record { utf8 = IsUtf8-append between piece its last; fits = omega (arith, length-append between piece) }
+    rest_is = record { utf8 = IsUtf8-append between piece put.between_utf8 put.piece_utf8; fits = omega (arith, put.short, length-append between piece) }
 
-    between_is : IsText between
-    between_is = record { utf8 = its; fits = omega arith }
+    joined_is : IsText (text ++ (between ++ piece))
+    joined_is = record { utf8 = IsUtf8-append text (between ++ piece) is.utf8 rest_is.utf8; fits = omega (arith, put.short, length-append text (between ++ piece), length-append between piece) }
 
-    whole_is : IsText (text ++ (between ++ piece))
-    whole_is = record { utf8 = IsUtf8-append text (between ++ piece) is.utf8 rest_is.utf8; fits = omega (arith, length-append text (between ++ piece), length-append between piece) }
+    pub put_is : IsText whole
+    put_is = subst IsText (sym joined) joined_is
 
-    at : IsCutAt first text (tokens_by first text) sure.number
-    at = at_bound law sure.number text is
+    pub front_part : take (length text) whole ≡ text
+    front_part = ap (take (length text)) joined ∙ take-append_seam text (between ++ piece)
 
-    pub sure_inside : from ≤ length text
-    sure_inside = omega (arith, at.inside, sure.offset_is)
-
-    end_utf8 : IsUtf8 (drop from text)
-    end_utf8 = subst (λ (p : ℕ). IsUtf8 (drop p text)) sure.offset_is at.past.utf8
-
-    tail : drop from whole ≡ drop from text ++ (between ++ piece)
-    tail = ap (drop from) joined ∙ drop-front from text (between ++ piece) sure_inside
-
-    end_size : length (drop from text) ≡ length text - from
-    end_size = length-drop from text
-
-    pub sure_boundary : IsCharBoundary whole from
-    sure_boundary = IsCharBoundary-from_drop whole from (omega (arith, ap length joined, length-append text (between ++ piece), sure_inside)) (subst IsUtf8 (sym tail) (IsUtf8-append (drop from text) (between ++ piece) end_utf8 rest_is.utf8))
+    back_part : drop (length text) whole ≡ between ++ piece
+    back_part = ap (drop (length text)) joined ∙ drop-append_seam text (between ++ piece)
 
     pub end_boundary : IsCharBoundary whole (length text)
-    end_boundary = IsCharBoundary-from_drop whole (length text) (omega (arith, ap length joined, length-append text (between ++ piece))) (subst IsUtf8 (sym (ap (drop (length text)) joined ∙ drop-append_seam text (between ++ piece))) rest_is.utf8)
+    end_boundary = IsCharBoundary-from_drop whole (length text) (omega (arith, ap length joined, length-append text (between ++ piece))) (subst IsUtf8 (sym back_part) rest_is.utf8)
 
-    module _ (t : List ℕ) (there : t ≡ drop from whole) where
-      whole_tail : t ≡ drop from text ++ (between ++ piece)
-      whole_tail = there ∙ tail
-
-      front_part : take (length text - from) t ≡ drop from text
-      front_part = ap (λ (n : ℕ). take n t) (sym end_size) ∙ (ap (take (length (drop from text))) whole_tail ∙ take-append_seam (drop from text) (between ++ piece))
-
-      back_part : drop (length text - from) t ≡ between ++ piece
-      back_part = ap (λ (n : ℕ). drop n t) (sym end_size) ∙ (ap (drop (length (drop from text))) whole_tail ∙ drop-append_seam (drop from text) (between ++ piece))
-
-      pub tail_boundary : IsCharBoundary t (length text - from)
-      tail_boundary = IsCharBoundary-from_drop t (length text - from) (omega (arith, ap length whole_tail, length-append (drop from text) (between ++ piece), end_size)) (subst IsUtf8 (sym back_part) rest_is.utf8)
-
-      near : Touch (take (length text - from) t) (drop (length text - from) t) ≡ Touch (drop from text) (between ++ piece)
-      near = ap (λ (xs : List ℕ). Touch xs (drop (length text - from) t)) front_part ∙ ap (Touch (drop from text)) back_part
+    left_touch : Touch (take (length text) whole) (drop (length text) whole) ≡ Touch text (between ++ piece)
+    left_touch = ap (λ (xs : List ℕ). Touch xs (drop (length text) whole)) front_part ∙ ap (Touch text) back_part
 
     module _ (t : List ℕ) (there : t ≡ drop (length text) whole) where
       last_tail : t ≡ between ++ piece
-      last_tail = there ∙ (ap (drop (length text)) joined ∙ drop-append_seam text (between ++ piece))
+      last_tail = there ∙ back_part
+
+      pub rest_fits : IsText t
+      rest_fits = subst IsText (sym last_tail) rest_is
 
       pub between_boundary : IsCharBoundary t (length between)
-      between_boundary = IsCharBoundary-from_drop t (length between) (omega (arith, ap length last_tail, length-append between piece)) (subst IsUtf8 (sym (ap (drop (length between)) last_tail ∙ drop-append_seam between piece)) last)
+      between_boundary = IsCharBoundary-from_drop t (length between) (omega (arith, ap length last_tail, length-append between piece)) (subst IsUtf8 (sym (ap (drop (length between)) last_tail ∙ drop-append_seam between piece)) put.piece_utf8)
 
       past : Touch (take (length between) t) (drop (length between) t) ≡ Touch between piece
       past = ap (λ (xs : List ℕ). Touch xs (drop (length between) t)) (ap (take (length between)) last_tail ∙ take-append_seam between piece) ∙ ap (Touch between) (ap (drop (length between)) last_tail ∙ drop-append_seam between piece)
 
-    -- whether the separator parts them, by what the two calls answer
-    abbrev pub Apart : Type 0
-    Apart = tokens_by first (text ++ (between ++ piece)) ≡ tokens_by first text ++ (tokens_by first between ++ tokens_by first piece)
+      -- whether the separator parts them, by what the two calls answer
+      abbrev pub Apart : Type 0
+      Apart = tokens_by first (text ++ (between ++ piece)) ≡ tokens_by first text ++ (tokens_by first between ++ tokens_by first piece)
 
-    pub by_both : (r s : Bool) (t u : List ℕ) → t ≡ drop from whole → u ≡ drop (length text) whole
-        → IsTrue r ↔ Touch (take (length text - from) t) (drop (length text - from) t) → IsTrue s ↔ Touch (take (length between) u) (drop (length between) u) → r ≡ true → IsTrue s ↔ Apart
-    by_both r s t u h k a b holds =
-        let both = parted text between piece from is between_is rest_is whole_is sure in
-        let first_touch : Touch (drop from text) (between ++ piece) = cast (near t h) (a.0 holds) in (
-          λ x. both.0 (first_touch, cast (past u k) (b.0 x)),
-          λ x. b.1 (cast (sym (past u k)) (both.1 x).1),
-        )
+      pub by_both : (r s : Bool) → IsTrue r ↔ Touch (take (length between) t) (drop (length between) t) → IsTrue s ↔ Touch (take (length text) whole) (drop (length text) whole) → r ≡ true → IsTrue s ↔ Apart
+      by_both r s a b holds =
+          let both = parted text between piece is joined_is in (
+            λ x. both.0 (cast left_touch (b.0 x), cast past (a.0 holds)),
+            λ x. b.1 (cast (sym left_touch) (both.1 x).0),
+          )
 
-    pub by_one : (r : Bool) (t : List ℕ) → t ≡ drop from whole → IsTrue r ↔ Touch (take (length text - from) t) (drop (length text - from) t) → r ≡ false → IsTrue false ↔ Apart
-    by_one r t h a none =
-        let both = parted text between piece from is between_is rest_is whole_is sure in (
-          λ x. absurd (true≢false (sym x)),
-          λ x. absurd (true≢false (sym (a.1 (cast (sym (near t h)) (both.1 x).0)) ∙ none)),
-        )
+      pub by_one : (r : Bool) → IsTrue r ↔ Touch (take (length between) t) (drop (length between) t) → r ≡ false → IsTrue false ↔ Apart
+      by_one r a none =
+          let both = parted text between piece is joined_is in (
+            λ x. absurd (true≢false (sym x)),
+            λ x. absurd (true≢false (sym (a.1 (cast (sym past) (both.1 x).1)) ∙ none)),
+          )
 
 -- ---- the first separator that parts a text and a piece
 
@@ -306,7 +274,7 @@ module _ (edition : Edition) (text piece : List ℕ) where
   no_tokens : (us : List Token) → Tokens [] ++ us ≡ us
   no_tokens us = ap (λ (ts : List Token). ts ++ us) (tokens-nil (first_in edition))
 
-  pub touching : IsParted edition text [] piece ↔ MayTouch edition text piece
+  pub touching : IsSeparated edition text [] piece ↔ MayTouch edition text piece
   touching = (
     λ e. e ∙ ap (λ (ts : List Token). Tokens text ++ ts) (no_tokens (Tokens piece)),
     λ e. e ∙ ap (λ (ts : List Token). Tokens text ++ ts) (sym (no_tokens (Tokens piece))),
@@ -316,7 +284,7 @@ module _ (edition : Edition) (text piece : List ℕ) where
   abbrev pub Put : Bool → List ℕ → List ℕ → List ℕ → Type 0
   Put answer before between after = after ≡ (if answer then before ++ (between ++ piece) else before)
 
-  pub joined_touching : {answer : Bool} (after : List ℕ) → IsTrue answer ↔ IsParted edition text [] piece → Put answer text [] after → answer ≡ true → IsJoined edition text piece after
+  pub joined_touching : {answer : Bool} (after : List ℕ) → IsTrue answer ↔ IsSeparated edition text [] piece → Put answer text [] after → answer ≡ true → IsJoined edition text piece after
   joined_touching {answer} after parted put hit =
       let is : after ≡ text ++ piece = put ∙ rw hit refl in
       subst (IsJoined edition text piece) (sym is) (the.touching (touching.0 (parted.0 hit)))
@@ -325,28 +293,28 @@ module _ (edition : Edition) (text piece : List ℕ) where
   pub left_same : {answer : Bool} (before between after : List ℕ) → Put answer before between after → answer ≡ false → after ≡ before
   left_same before between after put miss = put ∙ rw miss refl
 
-  not_touching : {answer : Bool} → IsTrue answer ↔ IsParted edition text [] piece → answer ≡ false → MayTouch edition text piece → ⊥
+  not_touching : {answer : Bool} → IsTrue answer ↔ IsSeparated edition text [] piece → answer ≡ false → MayTouch edition text piece → ⊥
   not_touching parted miss touch = true≢false (sym (parted.1 (touching.1 touch)) ∙ miss)
 
-  not_parted : {answer : Bool} (before between : List ℕ) → before ≡ text → IsTrue answer ↔ IsParted edition before between piece → answer ≡ false → IsParted edition text between piece → ⊥
-  not_parted before between same parted miss apart = true≢false (sym (parted.1 (subst (λ (bytes : List ℕ). IsParted edition bytes between piece) (sym same) apart)) ∙ miss)
+  not_parted : {answer : Bool} (before between : List ℕ) → before ≡ text → IsTrue answer ↔ IsSeparated edition before between piece → answer ≡ false → IsSeparated edition text between piece → ⊥
+  not_parted before between same parted miss apart = true≢false (sym (parted.1 (subst (λ (bytes : List ℕ). IsSeparated edition bytes between piece) (sym same) apart)) ∙ miss)
 
-  pub joined_spaced : {one two : Bool} (before after : List ℕ) → IsTrue one ↔ IsParted edition text [] piece → one ≡ false → before ≡ text
-      → IsTrue two ↔ IsParted edition before (codes " ") piece → Put two before (codes " ") after → two ≡ true → IsJoined edition text piece after
+  pub joined_spaced : {one two : Bool} (before after : List ℕ) → IsTrue one ↔ IsSeparated edition text [] piece → one ≡ false → before ≡ text
+      → IsTrue two ↔ IsSeparated edition before (codes " ") piece → Put two before (codes " ") after → two ≡ true → IsJoined edition text piece after
   joined_spaced before after a miss same b put hit =
       let is : after ≡ text ++ (codes " " ++ piece) = put ∙ (rw hit refl ∙ ap (λ (bytes : List ℕ). bytes ++ (codes " " ++ piece)) same) in
-      subst (IsJoined edition text piece) (sym is) (the.spaced (not_touching a miss) (subst (λ (bytes : List ℕ). IsParted edition bytes (codes " ") piece) same (b.0 hit)))
+      subst (IsJoined edition text piece) (sym is) (the.spaced (not_touching a miss) (subst (λ (bytes : List ℕ). IsSeparated edition bytes (codes " ") piece) same (b.0 hit)))
 
-  pub joined_on_a_line : {one two three : Bool} (before again after : List ℕ) → IsTrue one ↔ IsParted edition text [] piece → one ≡ false → before ≡ text
-      → IsTrue two ↔ IsParted edition before (codes " ") piece → two ≡ false → again ≡ before
-      → IsTrue three ↔ IsParted edition again (codes "\n") piece → Put three again (codes "\n") after → three ≡ true → IsJoined edition text piece after
+  pub joined_on_a_line : {one two three : Bool} (before again after : List ℕ) → IsTrue one ↔ IsSeparated edition text [] piece → one ≡ false → before ≡ text
+      → IsTrue two ↔ IsSeparated edition before (codes " ") piece → two ≡ false → again ≡ before
+      → IsTrue three ↔ IsSeparated edition again (codes "\n") piece → Put three again (codes "\n") after → three ≡ true → IsJoined edition text piece after
   joined_on_a_line before again after a miss same b miss_too same_too d put hit =
       let is : after ≡ text ++ (codes "\n" ++ piece) = put ∙ (rw hit refl ∙ ap (λ (bytes : List ℕ). bytes ++ (codes "\n" ++ piece)) (same_too ∙ same)) in
-      subst (IsJoined edition text piece) (sym is) (the.on_a_line (not_touching a miss) (not_parted before (codes " ") same b miss_too) (subst (λ (bytes : List ℕ). IsParted edition bytes (codes "\n") piece) (same_too ∙ same) (d.0 hit)))
+      subst (IsJoined edition text piece) (sym is) (the.on_a_line (not_touching a miss) (not_parted before (codes " ") same b miss_too) (subst (λ (bytes : List ℕ). IsSeparated edition bytes (codes "\n") piece) (same_too ∙ same) (d.0 hit)))
 
-  pub stay_apart : {one two three : Bool} (before again : List ℕ) → IsTrue one ↔ IsParted edition text [] piece → one ≡ false → before ≡ text
-      → IsTrue two ↔ IsParted edition before (codes " ") piece → two ≡ false → again ≡ before
-      → IsTrue three ↔ IsParted edition again (codes "\n") piece → three ≡ false → StayApart edition text piece
+  pub stay_apart : {one two three : Bool} (before again : List ℕ) → IsTrue one ↔ IsSeparated edition text [] piece → one ≡ false → before ≡ text
+      → IsTrue two ↔ IsSeparated edition before (codes " ") piece → two ≡ false → again ≡ before
+      → IsTrue three ↔ IsSeparated edition again (codes "\n") piece → three ≡ false → AreInseparable edition text piece
   stay_apart before again a miss same b miss_too same_too d miss_last = record {
     touching = not_touching a miss;
     spaced = not_parted before (codes " ") same b miss_too;

@@ -19,13 +19,14 @@ pub mod EditLemmas
 pub mod EditListLemmas
 pub mod EditionLemmas
 pub mod EmojiLemmas
+pub mod EndingLemmas
 pub mod EndsLemmas
 pub mod FamilyLemmas
 pub mod FillLemmas
 pub mod FindLemmas
 pub mod FrontLemmas
 pub mod FrontmatterLemmas
-pub mod GrowingLemmas
+pub mod GoesOnLemmas
 pub mod GuardedLemmas
 pub mod HeadLemmas
 pub mod HashLemmas

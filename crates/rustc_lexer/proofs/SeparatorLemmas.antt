@@ -8,7 +8,7 @@ use Rattle.std.specs.Str.{encode_utf8_all}
 use Rattle.std.specs.List.{list_all}
 use Rattle.rustc_lexer.specs.{Edition, Token, TokenKind, LineComment, Whitespace, E2015, E2018, E2021, E2024}
 use Rattle.rustc_lexer.specs.Classes.{AreAll, IsText, NextIs, NextIsNot, bytes, is_whitespace}
-use Rattle.rustc_lexer.specs.Joined.{AreClosed, IsParted, MayTouch, RunsOn, StayApart, WhiteSpaceParts, is_open, last_takes_in, takes_in}
+use Rattle.rustc_lexer.specs.Joined.{AreClosed, IsSeparated, MayTouch, RunsOn, AreInseparable, WhiteSpaceSeparates, is_open, last_takes_in, takes_in}
 use Rattle.rustc_lexer.specs.Partition.{bound, tokens_by}
 use Rattle.rustc_lexer.specs.Language as the
 use Rattle.rustc_lexer.specs.Language.{IsTokenBefore}
@@ -54,13 +54,13 @@ module _ (edition : Edition) where
   Tokens text = tokens_by first text
 
   -- what follows the first token of a text
-  record First (text : List ℕ) : Type 0 where
-    at : Front edition (chars text) (first text)
-    len : (first text).len ≡ bytes (at.c ∷ at.w)
-    parts : Split text (at.c ∷ at.w) at.next
-    next_is : at.next ≡ chars (drop (first text).len text)
+  pub record First (text : List ℕ) : Type 0 where
+    pub at : Front edition (chars text) (first text)
+    pub len : (first text).len ≡ bytes (at.c ∷ at.w)
+    pub parts : Split text (at.c ∷ at.w) at.next
+    pub next_is : at.next ≡ chars (drop (first text).len text)
 
-  first-of : (text : List ℕ) → IsText text → 0 < length text → First text
+  pub first-of : (text : List ℕ) → IsText text → 0 < length text → First text
   first-of text is some =
       let at = first-front edition text (chars text) is some refl in
       let parts = split text (at.c ∷ at.w) at.next is (sym at.whole) in
@@ -88,18 +88,18 @@ module _ (edition : Edition) where
       (subst (λ (k : TokenKind). Goes k at.next past) (sym kind) (subst (λ (s : List ℕ). Goes (first text).kind s past) (sym f.next_is) go)) in
       token-read-in its other whole ∙ sym at.same
 
-  some-tokens : (text : List ℕ) (t : Token) (ts : List Token) → Tokens text ≡ t ∷ ts → 0 < length text
+  pub some-tokens : (text : List ℕ) (t : Token) (ts : List Token) → Tokens text ≡ t ∷ ts → 0 < length text
   some-tokens [] t ts e = absurd (let none : length (Tokens []) ≡ 0 = ap (λ (us : List Token). length us) (tokens-nil first) in omega (arith, none, ap (λ (us : List Token). length us) e))
   some-tokens (c ∷ cs) t ts e = omega arith
 
-  no-text : (text : List ℕ) → IsText text → Tokens text ≡ [] → text ≡ []
+  pub no-text : (text : List ℕ) → IsText text → Tokens text ≡ [] → text ≡ []
   no-text [] is e = refl
   no-text (c ∷ cs) is e = absurd (omega (arith, ap (λ (us : List Token). length us) (sym (tokens-cons (edition_grammar edition) (c ∷ cs) is (omega arith)) ∙ e)))
 
-  first-is : (text : List ℕ) (t : Token) (ts : List Token) → IsText text → Tokens text ≡ t ∷ ts → first text ≡ t
+  pub first-is : (text : List ℕ) (t : Token) (ts : List Token) → IsText text → Tokens text ≡ t ∷ ts → first text ≡ t
   first-is text t ts is e = ap (first_of t) (sym (tokens-cons (edition_grammar edition) text is (some-tokens text t ts e)) ∙ e)
 
-  rest-are : (text : List ℕ) (t : Token) (ts : List Token) → IsText text → Tokens text ≡ t ∷ ts → Tokens (drop (first text).len text) ≡ ts
+  pub rest-are : (text : List ℕ) (t : Token) (ts : List Token) → IsText text → Tokens text ≡ t ∷ ts → Tokens (drop (first text).len text) ≡ ts
   rest-are text t ts is e = ap (λ (us : List Token). drop 1 us) (sym (tokens-cons (edition_grammar edition) text is (some-tokens text t ts e)) ∙ e)
 
   -- what a token asks of the change, where other tokens may come before that
@@ -259,11 +259,11 @@ all-first : (s : List ℕ) → 0 < length s → AreAll is_whitespace s → NextI
 all-first [] some all = absurd (omega arith)
 all-first (c ∷ s) some all = (and_parts (is_whitespace c) (list_all is_whitespace s) all).0
 
-newline-encoded : encode_utf8_all (10 ∷ []) ≡ 10 ∷ []
+pub newline-encoded : encode_utf8_all (10 ∷ []) ≡ 10 ∷ []
 unfolding encode
 newline-encoded = refl
 
-space-encoded : encode_utf8_all (32 ∷ []) ≡ 32 ∷ []
+pub space-encoded : encode_utf8_all (32 ∷ []) ≡ 32 ∷ []
 unfolding encode
 space-encoded = refl
 
@@ -281,8 +281,8 @@ begins : (edition : Edition) (space text : List ℕ) → IsText space → IsText
 begins edition [] text is whole all stop = ap (λ (us : List Token). us ++ Tokens edition text) (sym (tokens-nil (first_token_in edition)))
 begins edition (c ∷ cs) text is whole all stop = space-touches edition (c ∷ cs) text whole is (omega arith) all stop
 
-pub white_space_parts : (edition : Edition) → WhiteSpaceParts edition
-white_space_parts edition = record {
+pub white_space_separates : (edition : Edition) → WhiteSpaceSeparates edition
+white_space_separates edition = record {
   keeps = λ text after is whole closed space out. touches edition text is closed after whole space out;
   begins = begins edition;
 }
@@ -335,7 +335,7 @@ module _ (edition : Edition) (text piece : List ℕ) (is : IsText text) (utf8 : 
           subst (AreAll is_whitespace) (sym (append-nil (f.at.c ∷ f.at.w)) ∙ (ap (λ (cs : List ℕ). (f.at.c ∷ f.at.w) ++ cs) (sym nothing) ∙ f.at.whole)) all
 
   -- a separator of one character
-  parts : (d : ℕ) → scalars (d ∷ []) ≡ true → encode_utf8_all (d ∷ []) ≡ d ∷ [] → is_whitespace d ≡ true → last_takes_in (Tokens edition text) d ≡ false → NextIsNot is_whitespace (chars piece) → IsParted edition text (d ∷ []) piece
+  parts : (d : ℕ) → scalars (d ∷ []) ≡ true → encode_utf8_all (d ∷ []) ≡ d ∷ [] → is_whitespace d ≡ true → last_takes_in (Tokens edition text) d ≡ false → NextIsNot is_whitespace (chars piece) → IsSeparated edition text (d ∷ []) piece
   parts d scalar encoded white out stop =
       let its : IsUtf8 (d ∷ []) = (d ∷ [], (scalar, encoded)) in
       let shown : chars (d ∷ []) ≡ d ∷ [] = ap chars (sym encoded) ∙ chars-encodes (d ∷ []) scalar in
@@ -347,7 +347,7 @@ module _ (edition : Edition) (text piece : List ℕ) (is : IsText text) (utf8 : 
       space-touches edition (d ∷ []) piece record { utf8 = longer; fits = omega arith } record { utf8 = its; fits = omega arith } (omega arith) (subst (AreAll is_whitespace) (sym shown) (rw white refl)) stop in
       left ∙ ap (λ (us : List Token). Tokens edition text ++ us) right
 
-  pub runs-on : StayApart edition text piece → RunsOn (Tokens edition text) (chars piece)
+  pub runs-on : AreInseparable edition text piece → RunsOn (Tokens edition text) (chars piece)
   runs-on apart = by_space (next_is is_whitespace (chars piece)) refl
     where
       by_take : (b : Bool) → next_is (last_takes_in (Tokens edition text)) (chars piece) ≡ b → NextIs is_whitespace (chars piece) → RunsOn (Tokens edition text) (chars piece)

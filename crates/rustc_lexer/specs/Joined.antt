@@ -1,40 +1,49 @@
--- Texts that are put together so that their tokens stay, and what is written between them for that.
-use Rattle.std.specs.Prelude.{ℕ, ◌≡◌, ◌+◌, ◌≤◌, ◌^◌, List, [], ◌∷◌, ◌++◌, length, codes, chars, Bool, true, false, not}
+-- Texts that are joined so that their tokens stay, and the separators that are written between them for that.
+use Rattle.std.specs.Prelude.{ℕ, ◌≡◌, ◌↔◌, ◌+◌, ◌≤◌, ◌^◌, List, [], ◌∷◌, ◌++◌, length, drop, codes, chars, Bool, true, false, not}
 use Rattle.rustc_lexer.specs.{Edition, Token, TokenKind, Literal, BlockComment, LineComment, Whitespace}
 use Rattle.rustc_lexer.specs.declared.relex.joined.JoinError.{JoinError}
-use Rattle.rustc_lexer.specs.declared.relex.joined.JoinError.TheVariants.{Apart, TooLong, Memory}
+use Rattle.rustc_lexer.specs.declared.relex.joined.JoinError.TheVariants.{Inseparable, TooLong, Memory}
 use Rattle.rustc_lexer.specs.Answers.{tokens_of}
 use Rattle.rustc_lexer.specs.Classes.{AreAll, Chars, IsText, NextIs, NextIsNot, Utf8, is_inline, is_whitespace}
 use Rattle.rustc_lexer.specs.LanguageText.{part}
+use Rattle.rustc_lexer.specs.Locality.{has_two}
+use Rattle.rustc_lexer.specs.Partition.{bound}
 use Rattle.rustc_lexer.specs.Tokens.{is_faulty}
 
--- the texts may touch: the tokens of both together are those of the first, and then those of the second
+-- the texts may touch: the tokens of both, one directly after the other, are those of the first and then those of the
+-- second
 abbrev pub MayTouch : Edition → Utf8 → Utf8 → Type 0
 MayTouch edition left right = tokens_of (part edition) (left ++ right) ≡ tokens_of (part edition) left ++ tokens_of (part edition) right
 
--- `between` parts the texts: the tokens of all three together are those of the first, of `between`, and of the second
-abbrev pub IsParted : Edition → Utf8 → Utf8 → Utf8 → Type 0
-IsParted edition left between right =
-    tokens_of (part edition) (left ++ (between ++ right))
-    ≡ tokens_of (part edition) left ++ (tokens_of (part edition) between ++ tokens_of (part edition) right)
+-- the separator keeps the texts apart: the tokens of all three are those of the first, of the separator and of the second
+abbrev pub IsSeparated : Edition → Utf8 → Utf8 → Utf8 → Type 0
+IsSeparated edition left separator right =
+    tokens_of (part edition) (left ++ (separator ++ right))
+    ≡ tokens_of (part edition) left ++ (tokens_of (part edition) separator ++ tokens_of (part edition) right)
 
--- the text to which a piece was added: the piece touches what was there; only if it may not, a space comes between
--- them; and only if that does not part them either, a newline
+-- a tail of the first text is enough to decide it, if it begins at a token boundary and has at least two characters
+abbrev pub TailDecides : Edition → Utf8 → Utf8 → Type 0
+TailDecides edition left right = (k : ℕ) → k ≤ length (tokens_of (part edition) left)
+    → has_two left (bound (tokens_of (part edition) left) k) (length left) ≡ true
+    → MayTouch edition left right ↔ MayTouch edition (drop (bound (tokens_of (part edition) left) k) left) right
+
+-- the text to which a piece was added: the piece comes directly after it; only if it may not, a space comes before the
+-- piece; and only if the tokens do not stay so either, a newline
 pub data IsJoined (edition : Edition) (left right : Utf8) : Utf8 → Type 0 where
   touching : MayTouch edition left right → IsJoined edition left right (left ++ right)
   spaced : (MayTouch edition left right → ⊥)
-      → IsParted edition left (codes " ") right
+      → IsSeparated edition left (codes " ") right
       → IsJoined edition left right (left ++ (codes " " ++ right))
   on_a_line : (MayTouch edition left right → ⊥)
-      → (IsParted edition left (codes " ") right → ⊥)
-      → IsParted edition left (codes "\n") right
+      → (IsSeparated edition left (codes " ") right → ⊥)
+      → IsSeparated edition left (codes "\n") right
       → IsJoined edition left right (left ++ (codes "\n" ++ right))
 
--- nothing of this parts them
-pub record StayApart (edition : Edition) (left right : Utf8) : Type 0 where
+-- none of these keeps the tokens of both
+pub record AreInseparable (edition : Edition) (left right : Utf8) : Type 0 where
   pub touching : MayTouch edition left right → ⊥
-  pub spaced : IsParted edition left (codes " ") right → ⊥
-  pub on_a_line : IsParted edition left (codes "\n") right → ⊥
+  pub spaced : IsSeparated edition left (codes " ") right → ⊥
+  pub on_a_line : IsSeparated edition left (codes "\n") right → ⊥
 
 -- whether a token is open: a literal that is malformed, or a block comment that nothing closes
 abbrev pub is_open : TokenKind → Bool
@@ -58,8 +67,8 @@ last_takes_in [] c = false
 last_takes_in (token ∷ []) c = takes_in token.kind c
 last_takes_in (token ∷ next ∷ tokens) c = last_takes_in (next ∷ tokens) c
 
--- white space parts tokens
-pub record WhiteSpaceParts (edition : Edition) : Type 0 where
+-- white space separates tokens
+pub record WhiteSpaceSeparates (edition : Edition) : Type 0 where
   -- a text of which no token is open keeps its tokens before white space that its last token does not take in
   pub keeps : (text after : Utf8) → IsText text → IsText (text ++ after)
       → AreClosed (tokens_of (part edition) text)
@@ -72,7 +81,7 @@ pub record WhiteSpaceParts (edition : Edition) : Type 0 where
       → NextIsNot is_whitespace (chars text)
       → MayTouch edition space text
 
--- the piece begins with white space, which the last of the tokens would take in
+-- the piece begins with white space that the last of the tokens would take in
 pub record RunsOn (tokens : List Token) (piece : Chars) : Type 0 where
   pub space : NextIs is_whitespace piece
   pub taken : NextIs (last_takes_in tokens) piece
@@ -82,15 +91,14 @@ pub record Joined : Type 0 where
   pub edition : Edition
   pub text : Utf8
 
--- why a piece was refused: nothing parts it from the text; with a separator the text might have 4 GiB; or an allocation
--- failed
+-- why a piece was refused: no separator keeps the tokens; with one, the text might have 4 GiB; or an allocation failed
 abbrev pub IsRefused : Joined → Utf8 → JoinError → Type 0
-IsRefused held piece Apart = StayApart held.edition held.text piece
+IsRefused held piece Inseparable = AreInseparable held.edition held.text piece
 IsRefused held piece TooLong = 2 ^ 32 ≤ length held.text + (length piece + 1)
 IsRefused held piece Memory = Unit {0}
 
 -- the text of the error
 abbrev pub error_text : JoinError → List ℕ
-error_text Apart = codes "nothing parts the piece from the text"
+error_text Inseparable = codes "no separator keeps the tokens of the text and the piece"
 error_text TooLong = codes "the text might have more than u32::MAX bytes"
 error_text Memory = codes "memory allocation failed"

@@ -4,6 +4,7 @@ mod checkpoints;
 mod document_edit;
 mod edit;
 mod edit_list;
+mod ending;
 mod front;
 mod head;
 mod joined;

@@ -5,5 +5,6 @@ pub mod Marks
 pub mod Numbers
 pub mod RawStr
 pub mod Relex
+pub mod Seam
 pub mod Buffer
 pub mod Status

@@ -6,25 +6,32 @@ use crate::support::Global;
 use alloc::string::String;
 use core::fmt;
 
-/// A text that is written piece by piece: lexing it gives the tokens of the pieces again, in order. A piece is one token
-/// or any other text.
+/// A text that is written piece by piece, so that lexing it gives the tokens of the pieces again, in order. A piece is
+/// one token or any other text.
 ///
-/// Where the tokens of two pieces would run together, a space comes between them, or past a line comment a newline;
-/// nowhere else.
+/// Where tokens would not stay, a space comes before the piece, or after a line comment a newline. Nowhere else does it
+/// write anything.
 ///
 /// ```
 /// use rustc_lexer::JoinedText;
 ///
-/// let mut text = JoinedText::new();
-/// for piece in ["let", "x", "=", "0", "..=", "y", ";", "// all", "r", "\"s\"", ";"] {
-///     text.push(piece)?;
-/// }
+/// let pieces = ["let", "x", "=", "0", "..=", "y", ";", "// all", "r", "\"s\"", ";"];
+/// let text: JoinedText = pieces.into_iter().collect();
 /// assert_eq!(text.as_str(), "let x=0..=y;// all\nr \"s\";");
-/// # Ok::<(), rustc_lexer::JoinError>(())
 /// ```
 ///
-/// White space is a piece like any other: push it where you want some. Signs that a parser may not read as one, like
-/// `&` and `&`, are yours to keep apart, since they are tokens of their own either way.
+/// - **White space** is a piece like any other: push it where you want some. A parser reads `&&` as one operator, though
+///   it is two tokens, so push a space between a `&` and a `&` that are two.
+/// - **Each piece is written for good**, before the next one is known. So `0`, `.` and `.` make `0 ..`, since `0.` is a
+///   number, and the pieces `0` and `..` make `0..`.
+/// - **The text is a part of a file.** Read as a whole file, it has other tokens if it begins with `#!` and no `[`
+///   follows, or with `---`, also after white space. Before you write it at the start of a file, test that
+///   [`strip_shebang`](crate::strip_shebang) returns `None`, and that no token of
+///   [`tokenize_document`](crate::tokenize_document) is a `Frontmatter`. No valid Rust begins so.
+///
+/// [`push`](JoinedText::push), and what collects or extends, panics where [`try_push`](JoinedText::try_push) returns an
+/// error. To push what a value displays, push `format!("{value}")`: it does not implement [`fmt::Write`], since values
+/// write themselves in parts, like the quote of a string alone.
 #[derive(Clone)]
 pub struct JoinedText(erased::JoinedText);
 
@@ -41,33 +48,50 @@ impl JoinedText {
     /// use rustc_lexer::{Edition, JoinedText};
     ///
     /// let mut text = JoinedText::new_in(Edition::E2018);
-    /// for piece in ["k", "#", "a"] {
-    ///     text.push(piece)?;
-    /// }
+    /// text.extend(["k", "#", "a"]);
     /// assert_eq!(text.as_str(), "k# a");
-    /// # Ok::<(), rustc_lexer::JoinError>(())
     /// ```
     #[must_use]
     pub fn new_in(edition: Edition) -> JoinedText {
         JoinedText(erased::JoinedText::new(Global, edition))
     }
 
-    /// Appends a piece, and what has to come before it so that its tokens and those of the text stay.
+    /// Appends a piece so that all tokens stay: directly after the text; if they would not stay so, after a space; and if
+    /// not so either, after a newline.
     ///
-    /// A piece is refused with [`JoinError::Apart`] only if the text has a token that is open, like a string that nothing
-    /// closes, or if white space of the piece would run on in the last token: in white space, or in a line comment that no
-    /// newline ends. Nothing changes then.
+    /// ```
+    /// use rustc_lexer::JoinedText;
+    ///
+    /// let mut text = JoinedText::new();
+    /// text.push("// a");
+    /// text.push("fn");
+    /// text.push("b");
+    /// assert_eq!(text.as_str(), "// a\nfn b");
+    /// ```
+    ///
+    /// # Panics
+    ///
+    /// Panics where [`try_push`](JoinedText::try_push) returns an error.
+    pub fn push(&mut self, piece: impl AsRef<str>) {
+        self.try_push(piece)
+            .unwrap_or_else(|error| panic!("{error}"));
+    }
+
+    /// Does what [`push`](JoinedText::push) does, or returns why the piece was refused. Then nothing has changed.
+    ///
+    /// The error is [`JoinError::Inseparable`] only if the text has a token that is open, like a string that nothing
+    /// closes, or if the piece begins with white space that the last token would take in: white space, or a line comment
+    /// that no newline ends.
     ///
     /// ```
     /// use rustc_lexer::{JoinError, JoinedText};
     ///
     /// let mut text = JoinedText::new();
-    /// text.push("\"open")?;
-    /// assert_eq!(text.push("x"), Err(JoinError::Apart));
+    /// text.push("\"open");
+    /// assert_eq!(text.try_push("x"), Err(JoinError::Inseparable));
     /// assert_eq!(text.into_string(), "\"open");
-    /// # Ok::<(), rustc_lexer::JoinError>(())
     /// ```
-    pub fn push(&mut self, piece: impl AsRef<str>) -> Result<(), JoinError> {
+    pub fn try_push(&mut self, piece: impl AsRef<str>) -> Result<(), JoinError> {
         self.0.push(piece.as_ref())
     }
 
@@ -93,6 +117,30 @@ impl JoinedText {
 impl Default for JoinedText {
     fn default() -> JoinedText {
         JoinedText::new()
+    }
+}
+
+impl<P: AsRef<str>> Extend<P> for JoinedText {
+    /// Pushes each of the pieces.
+    ///
+    /// # Panics
+    ///
+    /// Panics if one of them is refused. Those before it are in the text then.
+    fn extend<I: IntoIterator<Item = P>>(&mut self, pieces: I) {
+        pieces.into_iter().for_each(|piece| self.push(piece));
+    }
+}
+
+impl<P: AsRef<str>> FromIterator<P> for JoinedText {
+    /// Returns the text of the pieces, read in the newest edition.
+    ///
+    /// # Panics
+    ///
+    /// Panics if one of them is refused.
+    fn from_iter<I: IntoIterator<Item = P>>(pieces: I) -> JoinedText {
+        let mut text = JoinedText::new();
+        text.extend(pieces);
+        text
     }
 }
 

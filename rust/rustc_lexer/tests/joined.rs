@@ -6,7 +6,7 @@ use rustc_lexer::{Edition, JoinError, JoinedText, Token, is_seam, tokenize_in};
 fn joined(edition: Edition, pieces: &[&str]) -> Result<String, usize> {
     let mut text = JoinedText::new_in(edition);
     for (number, piece) in pieces.iter().enumerate() {
-        text.push(piece).map_err(|_| number)?;
+        text.try_push(piece).map_err(|_| number)?;
     }
     Ok(text.into_string())
 }
@@ -68,7 +68,7 @@ fn rows() {
 #[test]
 fn seams() {
     for text in [
-        "a+b", "1..2", "k#a", "'a'b", "// a\n b", "\"é\"s", "r#\"a\"#",
+        "a+b", "1..2", "k#a", "z\"a\"", "'a#b", "'a'b", "// a\n b", "\"é\"s", "r#\"a\"#",
     ] {
         for edition in Edition::ALL {
             for (at, _) in text.char_indices() {
@@ -89,8 +89,31 @@ fn seams() {
 #[test]
 fn refused_pieces_change_nothing() {
     let mut text = JoinedText::new();
-    text.push("\"a").unwrap();
-    assert_eq!(text.push("b"), Err(JoinError::Apart));
-    text.push("").unwrap();
+    text.push("\"a");
+    assert_eq!(text.try_push("b"), Err(JoinError::Inseparable));
+    text.push("");
     assert_eq!((text.as_str(), text.edition()), ("\"a", Edition::E2024));
+}
+
+#[test]
+fn errors_say_which_of_the_three_it_was() {
+    for (error, sentence) in [
+        (
+            JoinError::Inseparable,
+            "no separator keeps the tokens of the text and the piece",
+        ),
+        (
+            JoinError::TooLong,
+            "the text might have more than u32::MAX bytes",
+        ),
+        (JoinError::Memory, "memory allocation failed"),
+    ] {
+        assert_eq!(error.to_string(), sentence);
+    }
+}
+
+#[test]
+#[should_panic(expected = "no separator keeps the tokens")]
+fn a_refused_piece_panics() {
+    let _ = ["/* a", "b"].into_iter().collect::<JoinedText>();
 }

@@ -294,17 +294,17 @@ fn joined_pieces() {
     let long = "b".repeat(100);
     for text in ["a", "// a", "a+"] {
         let mut wanted = JoinedText::new();
-        wanted.push(text).unwrap();
+        wanted.push(text);
         let make = || wanted.clone();
         let check = |mut joined: JoinedText, answer| {
             if answer == Err(JoinError::Memory) {
                 assert_eq!(joined.as_str(), text);
-                joined.push(&long).unwrap();
+                joined.push(&long);
             }
             assert!(joined.as_str().ends_with(&long) && joined.as_str().starts_with(text));
         };
         assert_eq!(
-            in_turn(make, |joined| joined.push(&long), check),
+            in_turn(make, |joined| joined.try_push(&long), check),
             1,
             "{text:?}"
         );

@@ -92,6 +92,9 @@ calls! {
         fn rustc_lexer_strip_shebang_unchecked(text: &[u8], line_len: &mut usize) -> u32;
         fn rustc_lexer_settled(text: &[u8], end: &mut usize) -> u32;
     }
+    seam {
+        fn rustc_lexer_is_seam(text: &[u8], at: usize, edition: u32, is: &mut u32) -> u32;
+    }
     raw_str {
         fn rustc_lexer_validate_raw_str(text: &[u8], prefix_len: u32, error: &mut CRawStrError) -> u32;
         fn rustc_lexer_validate_raw_str_unchecked(text: &[u8], prefix_len: u32, error: &mut CRawStrError) -> u32;

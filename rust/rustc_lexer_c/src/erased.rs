@@ -15,5 +15,6 @@ pub mod marked;
 pub mod places;
 pub mod raw_str;
 pub mod relex;
+pub mod seam;
 pub mod status;
 pub mod token;

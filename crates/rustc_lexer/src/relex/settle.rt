@@ -22,7 +22,7 @@ pub fn settled(text: &str) -> usize
 }
 
 /// Returns where the last token that at least two characters follow ends, in bytes, or 0 if there is none.
-pub(crate) fn settled_by<S: Stepper>(stepper: &mut S, text: &str) -> usize
+fn settled_by<S: Stepper>(stepper: &mut S, text: &str) -> usize
     requires fits { Fits text.now }
     ensures { IsSettled text.now (tokens_by (S.grammar stepper.old) text.now) result }
 {

@@ -1,10 +1,11 @@
-use Rattle.std.proofs.Common.{◌≡◌, ◌+◌, ◌<◌, ◌∙◌, Bor, List, [], ◌∷◌, ◌++◌, ℕ, arith, get_or, length, map, subst, sym, take, take_all}
+use Rattle.std.proofs.Common.{◌≡◌, ◌+◌, ◌<◌, ◌∙◌, Bor, List, [], ◌∷◌, ◌++◌, ℕ, arith, get_or, length, map, subst, sym, take, take_all, string_bytes}
 use Rattle.std.proofs.lemmas.Grind.{common_steps}
 use Rattle.std.proofs.lemmas.List.{take_more}
 use Rattle.rustc_lexer.specs.declared.edition.Edition.{Edition}
 use Rattle.rustc_lexer.specs.Joined.{IsJoined}
 use Rattle.examples.specs.Joining as the
 use Rattle.examples.specs.Joining.{AreJoined}
+use Rattle.examples.proofs.JoiningLemmas.{tokens_of_joined}
 use Rattle.examples.proofs.joining.join.Goals as goal
 
 one_more : (pieces : List (Bor (List ℕ))) (i : ℕ) (d : Bor (List ℕ)) → i < length pieces → map (λ (p : Bor (List ℕ)). p.now) (take (i + 1) pieces) ≡ map (λ (p : Bor (List ℕ)). p.now) (take i pieces) ++ (get_or pieces i d).now ∷ []
@@ -27,7 +28,15 @@ loop-piece-preserved c = record {
   joined = more c.args.edition c.loop-piece.joined.edition c.args.pieces.now c.loop-piece.piece-index _ c.loop-piece.joined.text c.push.new.self.text c.loop-piece-test.true c.loop-piece.invariant.edition c.loop-piece.invariant.joined c.in_ok-push.ensures.joined;
 }
 
-pub returns : goal.returns
-returns c =
-    subst (AreJoined c.args.edition (map (λ (p : Bor (List ℕ)). p.now) c.args.pieces.now)) (sym c.into_string.ensures)
-    (subst (λ (ps : List (Bor (List ℕ))). AreJoined c.args.edition (map (λ (p : Bor (List ℕ)). p.now) ps) c.loop-piece.joined.text) (take_all c.loop-piece.piece-index c.args.pieces.now c.loop-piece-test.false) c.loop-piece.invariant.joined)
+-- what the loop made of all pieces
+whole : (edition : Edition) (pieces : List (Bor (List ℕ))) (i : ℕ) (text made : List ℕ) → (i < length pieces → ⊥) → made ≡ text
+    → AreJoined edition (map (λ (p : Bor (List ℕ)). p.now) (take i pieces)) text → AreJoined edition (map (λ (p : Bor (List ℕ)). p.now) pieces) made
+whole edition pieces i text made all same are =
+    subst (AreJoined edition (map (λ (p : Bor (List ℕ)). p.now) pieces)) (sym same)
+    (subst (λ (ps : List (Bor (List ℕ))). AreJoined edition (map (λ (p : Bor (List ℕ)). p.now) ps) text) (take_all i pieces (omega arith)) are)
+
+pub returns-clause-joined : goal.returns-clause-joined
+returns-clause-joined c = whole c.args.edition c.args.pieces.now c.loop-piece.piece-index c.loop-piece.joined.text (string_bytes c.into_string.result) c.loop-piece-test.false c.into_string.ensures c.loop-piece.invariant.joined
+
+pub returns-clause-tokens : goal.returns-clause-tokens
+returns-clause-tokens c = tokens_of_joined c.args.edition (whole c.args.edition c.args.pieces.now c.loop-piece.piece-index c.loop-piece.joined.text (string_bytes c.into_string.result) c.loop-piece-test.false c.into_string.ensures c.loop-piece.invariant.joined)

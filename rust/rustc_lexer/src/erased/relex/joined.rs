@@ -2,15 +2,13 @@
 use crate::support::String;
 
 use crate::erased::edition::{Edition, token_in};
-use crate::erased::entry::stepper::Steps;
-use crate::erased::relex::settle::settled_by;
+use crate::erased::relex::ending::Ending;
 use crate::support::Global;
 use core::error::Error;
 use core::fmt;
 
 /// Returns whether the texts before and after `at` may touch: whether the tokens of the text are those of its part before
-/// `at`, and then those of its part after `at`. It reads tokens only until the first one that differs, allocates
-/// nothing, and `at` is between two characters.
+/// `at`, and then those of its part after it. It reads tokens only until the first one that differs.
 pub fn is_seam(text: &str, at: usize, edition: Edition) -> bool {
     let mut offset = 0;
     while offset < at {
@@ -27,9 +25,9 @@ pub fn is_seam(text: &str, at: usize, edition: Edition) -> bool {
 /// Why a piece was refused.
 #[derive(Clone, Copy, Debug, PartialEq, Eq, Hash)]
 pub enum JoinError {
-    /// Neither side by side, nor with a space or a newline between them, do the text and the piece keep their tokens: the
-    /// text ends in something that is not closed, or white space would meet white space.
-    Apart,
+    /// Directly after the text, after a space and after a newline, the piece would change a token, or a token of it would
+    /// change: the text has a token that is open, or white space would meet white space.
+    Inseparable,
     /// The text might have had more than `u32::MAX` bytes.
     TooLong,
     /// An allocation failed.
@@ -39,7 +37,7 @@ pub enum JoinError {
 impl fmt::Display for JoinError {
     fn fmt(&self, f: &mut fmt::Formatter) -> fmt::Result {
         f.write_str(match self {
-            JoinError::Apart => "nothing parts the piece from the text",
+            JoinError::Inseparable => "no separator keeps the tokens of the text and the piece",
             JoinError::TooLong => "the text might have more than u32::MAX bytes",
             JoinError::Memory => "memory allocation failed",
         })
@@ -54,8 +52,7 @@ impl Error for JoinError {}
 pub struct JoinedText {
     text: String,
     edition: Edition,
-    /// A token boundary that at least two characters follow, or 0. The tokens before it stay, whatever is appended.
-    sure: usize,
+    ending: Ending,
 }
 
 impl JoinedText {
@@ -64,7 +61,7 @@ impl JoinedText {
         JoinedText {
             text: String::new(alloc),
             edition,
-            sure: 0,
+            ending: Ending::Empty,
         }
     }
 
@@ -84,39 +81,44 @@ impl JoinedText {
         text
     }
 
-    /// Appends a piece, which may be one token or any other text. Where the piece may not touch the text, a space comes
-    /// between them, and only if that does not part them either, a newline. A piece that is refused changes nothing.
+    /// Appends a piece, which may be one token or any other text, so that all tokens stay: directly after the text; if they
+    /// would not stay so, after a space; and if not so either, after a newline. A piece that is refused changes nothing.
     pub fn push(&mut self, piece: &str) -> Result<(), JoinError> {
-        if piece.len() >= u32::MAX as usize - self.text.len() {
+        let at = self.text.len();
+        if piece.len() >= u32::MAX as usize - at {
             return Err(JoinError::TooLong);
         }
         if self.text.reserve(piece.len() + 1).is_err() {
             return Err(JoinError::Memory);
         }
-        if !append_parted(&mut self.text, self.sure, self.edition, piece) {
-            return Err(JoinError::Apart);
+        if !append_separated(&mut self.text, self.ending, self.edition, piece) {
+            return Err(JoinError::Inseparable);
         }
-        let tail = &self.text.as_str()[self.sure..];
-        self.sure += settled_by(&mut Steps::new_in(self.edition), tail);
+        self.ending = self.ending.grown(self.text.as_str(), at, self.edition);
         Ok(())
     }
 }
 
-/// Appends the piece by the first separator that parts it from the text. Returns whether one does; if none does, the text
+/// Appends the piece after the first separator that keeps the tokens. Returns whether one does; if none does, the text
 /// stays. There is room for a separator of one byte.
-fn append_parted(text: &mut String, sure: usize, edition: Edition, piece: &str) -> bool {
-    if append(text, sure, edition, "", piece) {
+fn append_separated(text: &mut String, ending: Ending, edition: Edition, piece: &str) -> bool {
+    if append(text, ending, edition, "", piece) {
         return true;
     }
-    if append(text, sure, edition, " ", piece) {
+    if append(text, ending, edition, " ", piece) {
         return true;
     }
-    append(text, sure, edition, "\n", piece)
+    append(text, ending, edition, "\n", piece)
 }
 
-/// Appends the separator and the piece if the separator parts the text and the piece. Returns whether it did. There is
-/// room for them.
-fn append(text: &mut String, sure: usize, edition: Edition, separator: &str, piece: &str) -> bool {
+/// Appends the separator and the piece if the tokens stay so. Returns whether it did. There is room for them.
+fn append(
+    text: &mut String,
+    ending: Ending,
+    edition: Edition,
+    separator: &str,
+    piece: &str,
+) -> bool {
     let at = text.as_str().len();
     let put_separator = text.push_str(separator);
     // There is room, so neither of them allocates.
@@ -124,10 +126,9 @@ fn append(text: &mut String, sure: usize, edition: Edition, separator: &str, pie
     let put_piece = text.push_str(piece);
     debug_assert!(put_piece.is_ok());
     let whole = text.as_str();
-    let parted = is_seam(&whole[sure..], at - sure, edition)
-        && is_seam(&whole[at..], separator.len(), edition);
-    if !parted {
+    let stay = is_seam(&whole[at..], separator.len(), edition) && ending.stays(whole, at, edition);
+    if !stay {
         text.truncate(at);
     }
-    parted
+    stay
 }

@@ -12,7 +12,7 @@ pub fn settled(text: &str) -> usize {
 }
 
 /// Returns where the last token that at least two characters follow ends, in bytes, or 0 if there is none.
-pub(crate) fn settled_by<S: Stepper>(stepper: &mut S, text: &str) -> usize {
+fn settled_by<S: Stepper>(stepper: &mut S, text: &str) -> usize {
     let mut offset = 0;
     while offset < text.len() {
         let token = stepper.step(&text[offset..]);

@@ -3,6 +3,7 @@ use Rattle.rustc_lexer.specs.{Token}
 use Rattle.rustc_lexer.specs.Classes.{IsText}
 use Rattle.rustc_lexer.specs.laws.Edition.{edition_grammar}
 use Rattle.rustc_lexer.specs.laws.Same.{is_same, same_token, token_same}
+use Rattle.rustc_lexer.proofs.EndingLemmas.{tail-decides}
 use Rattle.rustc_lexer.proofs.JoinedLemmas.{alike_more, alike_no_more, alike_place, alike_rises, alike_whole}
 use Rattle.rustc_lexer.proofs.relex.joined.is_seam.Goals as goal
 
@@ -34,6 +35,9 @@ returns-then-ne-clause-touch c =
       λ touch. absurd (alike_no_more (edition_grammar c.args.edition) c.args.text.now c.args.at is c.requires.boundary c.loop-offset.offset c.loop-offset.invariant c.token_in-alone.result c.token_in-together.result _ _ c.loop-offset-test.true c.token_in-alone.ensures.token c.range.ensures.value c.token_in-together.ensures.token c.range_from.ensures.value (differ c.ne.result _ _ c.ne.ensures c.if-ne.true) touch),
     )
 
+pub returns-then-ne-clause-tail : goal.returns-then-ne-clause-tail
+returns-then-ne-clause-tail c = tail-decides c.args.edition c.args.text.now c.args.at record { utf8 = c.utf8.text; fits = c.requires.fits } c.requires.boundary
+
 pub loop-offset-smaller : goal.loop-offset-smaller
 loop-offset-smaller c =
     let is : IsText c.args.text.now = record { utf8 = c.utf8.text; fits = c.requires.fits } in
@@ -51,3 +55,6 @@ pub returns-clause-touch : goal.returns-clause-touch
 returns-clause-touch c =
     let is : IsText c.args.text.now = record { utf8 = c.utf8.text; fits = c.requires.fits } in
     (λ t. alike_whole (edition_grammar c.args.edition) c.args.text.now c.args.at is c.requires.boundary c.loop-offset.offset c.loop-offset.invariant c.loop-offset-test.false, λ e. refl)
+
+pub returns-clause-tail : goal.returns-clause-tail
+returns-clause-tail c = tail-decides c.args.edition c.args.text.now c.args.at record { utf8 = c.utf8.text; fits = c.requires.fits } c.requires.boundary

@@ -1,0 +1,31 @@
+//! Whether the parts of a text may touch.
+ghost use Rattle.std.specs.Prelude.{◌≡◌, ◌≢◌, Some};
+ghost use Rattle.rustc_lexer.specs.declared.edition.Edition.{Edition};
+ghost use Rattle.rustc_lexer.specs.LanguageCalls.{edition_of_year};
+ghost use Rattle.rustc_lexer_c.specs.Seam.{IsSeamStatus, TellsSeam};
+
+use crate::relex::edition_of;
+use crate::status::{Refusal, done, refuse, text_of};
+use rustc_lexer::is_seam;
+
+/// Writes whether the tokens of a text in an edition are those of its part before `at`, and then those of its part after
+/// `at`.
+#[unsafe(no_mangle)]
+pub extern "C" fn rustc_lexer_is_seam(text: &[u8], at: usize, edition: u32, is: &mut u32) -> u32
+    ensures status { IsSeamStatus text.now at edition result }
+    ensures seam { result ≡ 0 → (year : Edition) → edition_of_year edition ≡ Some year
+        → TellsSeam text.now at year is.new }
+    ensures refused { result ≢ 0 → is.new ≡ 0 }
+{
+    let text = match text_of(text) {
+        Ok(text) => text,
+        Err(refusal) => return refuse(refusal, 0, is),
+    };
+    if !text.is_char_boundary(at) {
+        return refuse(Refusal::BadPlace, 0, is);
+    }
+    match edition_of(edition) {
+        Some(edition) => done(u32::from(is_seam(text, at, edition)), is),
+        None => refuse(Refusal::BadEdition, 0, is),
+    }
+}
