@@ -1,4 +1,4 @@
-use Rattle.std.proofs.Common.{◌≡◌, ◌+◌, ◌<◌, ◌∙◌, Bor, List, [], ◌∷◌, ◌++◌, ℕ, arith, get_or, length, map, subst, sym, take, take_all, string_bytes}
+use Rattle.std.proofs.Common.{◌≡◌, ◌+◌, ◌<◌, ◌≤◌, ◌∙◌, Bor, List, [], ◌∷◌, ◌++◌, ℕ, arith, get_or, length, map, subst, sym, take, take_all, string_bytes}
 use Rattle.std.proofs.lemmas.Grind.{common_steps}
 use Rattle.std.proofs.lemmas.List.{take_more}
 use Rattle.rustc_lexer.specs.declared.edition.Edition.{Edition}
@@ -29,11 +29,11 @@ loop-piece-preserved c = record {
 }
 
 -- what the loop made of all pieces
-whole : (edition : Edition) (pieces : List (Bor (List ℕ))) (i : ℕ) (text made : List ℕ) → (i < length pieces → ⊥) → made ≡ text
+whole : (edition : Edition) (pieces : List (Bor (List ℕ))) (i : ℕ) (text made : List ℕ) → length pieces ≤ i → made ≡ text
     → AreJoined edition (map (λ (p : Bor (List ℕ)). p.now) (take i pieces)) text → AreJoined edition (map (λ (p : Bor (List ℕ)). p.now) pieces) made
 whole edition pieces i text made all same are =
     subst (AreJoined edition (map (λ (p : Bor (List ℕ)). p.now) pieces)) (sym same)
-    (subst (λ (ps : List (Bor (List ℕ))). AreJoined edition (map (λ (p : Bor (List ℕ)). p.now) ps) text) (take_all i pieces (omega arith)) are)
+    (subst (λ (ps : List (Bor (List ℕ))). AreJoined edition (map (λ (p : Bor (List ℕ)). p.now) ps) text) (take_all i pieces all) are)
 
 pub returns-clause-joined : goal.returns-clause-joined
 returns-clause-joined c = whole c.args.edition c.args.pieces.now c.loop-piece.piece-index c.loop-piece.joined.text (string_bytes c.into_string.result) c.loop-piece-test.false c.into_string.ensures c.loop-piece.invariant.joined

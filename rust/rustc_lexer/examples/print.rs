@@ -1,0 +1,22 @@
+//! Prints the texts of tokens, one in each line of the input, with the separators that they need and no other:
+//! `cargo run --example print < TOKENS`. A line that is not one token, or is refused, is told by its number.
+use rustc_lexer::{Edition, JoinedText, tokenize_in};
+use std::io;
+
+fn print(lines: &str) -> Result<String, String> {
+    let mut text = JoinedText::new_in(Edition::E2021);
+    for (number, line) in (1..).zip(lines.lines()) {
+        if tokenize_in(line, text.edition()).count() != 1 {
+            return Err(format!("line {number}: {line:?} is not one token"));
+        }
+        text.try_push(line)
+            .map_err(|error| format!("line {number}: {error}"))?;
+    }
+    Ok(text.into_string())
+}
+
+fn main() -> io::Result<()> {
+    let lines = io::read_to_string(io::stdin())?;
+    println!("{}", print(&lines).map_err(io::Error::other)?);
+    Ok(())
+}
