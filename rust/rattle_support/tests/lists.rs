@@ -94,7 +94,8 @@ fn lists() {
         assert_eq!(held.as_slice(), wanted, "call {number}");
         // As many as there is room for are there.
         let mut held = list();
-        while given(0, || held.push(2)).is_ok() {}
+        let is_full = (0..100).any(|_| given(0, || held.push(2)).is_err());
+        assert!(is_full, "call {number}: there is room for 100 more");
         let full = held.clone();
         let answer = given(0, || call(&mut held));
         // The third needs more room only where there is little.
