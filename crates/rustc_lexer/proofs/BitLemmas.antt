@@ -1,16 +1,16 @@
 -- One bit of a word, through each operation on it.
-use Rattle.std.proofs.Common.{◌≡◌, ℕ, zero, suc, ◌+◌, ◌-◌, ◌*◌, ◌/◌, ◌%◌, ◌^◌, ◌<◌, ◌≤◌, min, max, Bool, true, false, true≢false, not, ◌&&◌, ◌||◌, ◌==◌, List, length, map, get_or, refl, sym, ap, ap₂, ◌∙◌, subst, arith, w64, bit_and, bit_or, inl, inr}
+use Rattle.std.proofs.Common.{◌≡◌, ℕ, zero, suc, ◌+◌, ◌-◌, ◌*◌, ◌/◌, ◌%◌, ◌^◌, ◌<◌, ◌≤◌, min, max, Bool, true, false, true≢false, not, ◌&&◌, ◌||◌, ◌==◌, List, get_or, refl, sym, ap, ap₂, ◌∙◌, subst, arith, w64, bit_and, bit_or, inl, inr, nat_lt}
 use Rattle.std.specs.Int.{bit_at}
-use Rattle.std.proofs.lemmas.Bool.{agree_below_at, and_left, and_right, cases_lt, eqb-true}
-use Rattle.std.proofs.lemmas.Nat.{and_le_l, and_le_r, or_lt, shl-shr, shr-shr, shr_le}
-use Rattle.std.proofs.lemmas.Nat.Bits.{bit_at_and, bit_at_or, bit_at_not, bit_at_lowest, bit_at-lt, bit_at-suc, bit_at-zero, bit_at_above, bit_at_mask_below, bit_at_mask_inside, bit_at-trailing_zeros, ones_shl}
-use Rattle.std.proofs.lemmas.List.{get_or-map}
-use Rattle.std.proofs.lemmas.Simd.{bit_mask_l, length-chunk, get_or-chunk}
+use Rattle.std.proofs.lemmas.Bool.{agree_below_at, and_left, and_right, cases_lt, eqb-true, le-ltb, lt-ltb}
+use Rattle.std.proofs.lemmas.Nat.{pow_pos, and_le_l, and_le_r, or_lt, shl-shr, shr-shr, shr_le}
+use Rattle.std.proofs.lemmas.Nat.Bits.{bit_at_and, bit_at_or, bit_at_not, bit_at_lowest, bit_at-lt, bit_at-suc, bit_at-zero, bit_at_above, bit_at_cat_high, bit_at_cat_low, bit_at_mask_below, bit_at_mask_inside, bit_at-trailing_zeros, ones_shl}
+use Rattle.std.proofs.lemmas.Simd.{bit_mask_l}
 use Rattle.std.proofs.Math.Bool.{and-true, and_self}
+use Rattle.std.proofs.Math.Nat.{add-zero}
 use Rattle.std.proofs.lemmas.Grind.{common_steps}
 use lib.Count.{count_trailing_zeros}
 use lib.Pow.{field, mod-mod-pow}
-use lib.Lanes.{chunk, mask_l}
+use lib.Lanes.{mask_l}
 use Rattle.rustc_lexer.specs.means.Ends.{bit, IsLowest}
 
 bit_cases : (P : ℕ → Type 0) → P 0 → P 1 → (x : ℕ) → x < 2 → P x
@@ -19,18 +19,18 @@ bit_cases w0 p q w3 h = grind (arith, common_steps)
 two_bits : (P : ℕ → ℕ → Type 0) → P 0 0 → P 0 1 → P 1 0 → P 1 1 → (a b i : ℕ) → P (bit_at a i) (bit_at b i)
 two_bits P p q r s a b i = bit_cases (λ x. P x (bit_at b i)) (bit_cases (P 0) p q (bit_at b i) (bit_at-lt b i)) (bit_cases (P 1) r s (bit_at b i) (bit_at-lt b i)) (bit_at a i) (bit_at-lt a i)
 
-bit-and : (a b i : ℕ) → bit (bit_and a b) i ≡ (bit a i && bit b i)
+pub bit-and : (a b i : ℕ) → bit (bit_and a b) i ≡ (bit a i && bit b i)
 unfolding bit
 bit-and a b i = ap (λ n. n == 1) (bit_at_and a b i) ∙ two_bits (λ x y. (min x y == 1) ≡ ((x == 1) && (y == 1))) refl refl refl refl a b i
 
-bit-or : (a b i : ℕ) → bit (bit_or a b) i ≡ (bit a i || bit b i)
+pub bit-or : (a b i : ℕ) → bit (bit_or a b) i ≡ (bit a i || bit b i)
 unfolding bit
 bit-or a b i = ap (λ n. n == 1) (bit_at_or a b i) ∙ two_bits (λ x y. (max x y == 1) ≡ ((x == 1) || (y == 1))) refl refl refl refl a b i
 
-abbrev flip : ℕ → ℕ
+abbrev pub flip : ℕ → ℕ
 flip a = 2 ^ 64 - 1 - a
 
-bit-flip : (a i : ℕ) → a < 2 ^ 64 → i < 64 → bit (flip a) i ≡ not (bit a i)
+pub bit-flip : (a i : ℕ) → a < 2 ^ 64 → i < 64 → bit (flip a) i ≡ not (bit a i)
 unfolding bit
 bit-flip a i ha hi = ap (λ n. n == 1) (bit_at_not w64 a i ha hi) ∙ bit_cases (λ x. ((1 - x) == 1) ≡ not (x == 1)) refl refl (bit_at a i) (bit_at-lt a i)
 
@@ -45,17 +45,37 @@ bit-shl_one : (k y : ℕ) → suc k < 64 → bit (y * 2 % 2 ^ 64) (suc k) ≡ bi
 unfolding bit
 bit-shl_one k y h = bit-mod (y * 2) (suc k) h ∙ ap (λ x. x % 2 == 1) (ap (λ n. y * 2 / 2 ^ n) (let e : suc k ≡ 1 + k = omega arith in e) ∙ (sym (shr-shr (y * 2) 1 k) ∙ ap (λ x. x / 2 ^ k) (shl-shr y 1)))
 
+ones : (k : ℕ) → k < 64 → bit (2 ^ 64 - 1) k ≡ true
+unfolding bit
+ones k l = agree_below_at (λ j. bit (2 ^ 64 - 1) j) (λ _. true) 64 k refl l
+
+-- a word that is shifted: the bits come to stand higher, and none stands below
+pub bit-shl_below : (y n k : ℕ) → k < n → k < 64 → bit (y * 2 ^ n % 2 ^ 64) k ≡ false
+unfolding bit
+bit-shl_below y n k less l = bit-mod (y * 2 ^ n) k l ∙ ap (λ x. x == 1) (ap (λ x. bit_at x k) (sym (add-zero (y * 2 ^ n))) ∙ (bit_at_cat_low y n 0 k less ∙ bit_at-zero k))
+
+pub bit-shl_on : (y n k : ℕ) → n ≤ k → k < 64 → bit (y * 2 ^ n % 2 ^ 64) k ≡ bit y (k - n)
+unfolding bit
+bit-shl_on y n k le l = bit-mod (y * 2 ^ n) k l ∙ ap (λ x. x == 1) (ap (λ x. bit_at x k) (sym (add-zero (y * 2 ^ n))) ∙ bit_at_cat_high y n 0 k (pow_pos n) le)
+
 bit-shr : (y n k : ℕ) → bit (y / 2 ^ n) k ≡ bit y (n + k)
 unfolding bit
 bit-shr y n k = ap (λ x. x % 2 == 1) (shr-shr y n k)
 
-pub bit-mask_l : (ms : List Bool) (i : ℕ) → bit (mask_l ms) i ≡ get_or ms i false
-unfolding bit
-bit-mask_l ms i = grind (arith, common_steps, bit_mask_l)
-
 pub bit-above : (x i : ℕ) → x < 2 ^ 64 → 64 ≤ i → bit x i ≡ false
 unfolding bit
 bit-above x i small far = ap (λ n. n == 1) (bit_at_above x 64 i small far)
+
+-- the bits below n
+pub bit-below : (n k : ℕ) → n ≤ 64 → k < 64 → bit ((2 ^ 64 - 1) / 2 ^ (64 - n)) k ≡ nat_lt k n
+bit-below n k few l = bit-shr (2 ^ 64 - 1) (64 - n) k ∙ elim (cases_lt k n) [
+  | inl less ↦ ones (64 - n + k) (omega arith) ∙ sym (lt-ltb k n less)
+  | inr more ↦ bit-above (2 ^ 64 - 1) (64 - n + k) (omega arith) (omega arith) ∙ sym (le-ltb k n more)
+]
+
+pub bit-mask_l : (ms : List Bool) (i : ℕ) → bit (mask_l ms) i ≡ get_or ms i false
+unfolding bit
+bit-mask_l ms i = grind (arith, common_steps, bit_mask_l)
 
 -- a bit that is set is among the 64
 pub within : (x i : ℕ) → x < 2 ^ 64 → bit x i ≡ true → i < 64
@@ -64,13 +84,6 @@ within x i small set = elim (cases_lt i 64) [ inl near ↦ near | inr far ↦ ab
 pub bit-zero : (i : ℕ) → bit 0 i ≡ false
 unfolding bit
 bit-zero i = ap (λ n. n == 1) (bit_at-zero i)
-
--- the mask of a test of the first 64 bytes
-pub bit-at_byte : (p : ℕ → Bool) (text : List ℕ) (mask k : ℕ) → 64 ≤ length text → mask ≡ mask_l (map p (chunk 0 64 text)) → k < 64 → bit mask k ≡ p (get_or text k 0)
-bit-at_byte p text mask k long e l =
-    let lanes = length-chunk 0 64 text long in
-    ap (λ x. bit x k) e ∙ (bit-mask_l (map p (chunk 0 64 text)) k ∙ (get_or-map p (chunk 0 64 text) k 0 false (omega (arith, lanes))
-    ∙ ap p (get_or-chunk 0 64 text k 0 l ∙ ap (λ i. get_or text i 0) (let z : 0 + k ≡ k = omega arith in z))))
 
 -- ---- all bits but the lowest
 
@@ -109,10 +122,6 @@ module _ (w s : ℕ) (fits : w < 2 ^ 64) (fits_too : s < 2 ^ 64) where
       both x = bit-and (x * 2 % 2 ^ 64) x (suc k) ∙ ap (λ t. t && bit x (suc k)) (bit-shl_one k x h)
 
 -- ---- bits that another follows, or all of them
-
-ones : (k : ℕ) → k < 64 → bit (2 ^ 64 - 1) k ≡ true
-unfolding bit
-ones k l = agree_below_at (λ j. bit (2 ^ 64 - 1) j) (λ _. true) 64 k refl l
 
 pub followed-at : (q h n : ℕ) → n ≤ 1 → (k : ℕ) → k < 64 → bit (bit_and q (bit_or (h / 2) ((n + 18446744073709551615) % 18446744073709551616))) k ≡ (bit q k && (bit h (suc k) || (n == 0)))
 followed-at q h n few k l = bit-and q _ k ∙ ap (λ t. bit q k && t) (bit-or (h / 2) _ k ∙ ap₂ (λ a b. a || b) (bit-shr h 1 k ∙ ap (bit h) (let e : 1 + k ≡ suc k = omega arith in e)) (any n few))

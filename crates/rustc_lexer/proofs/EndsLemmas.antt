@@ -1,16 +1,16 @@
 -- The ends of runs, what is known past them, and the tokens that are classified by them.
-use Rattle.std.proofs.Common.{◌≡◌, ℕ, zero, suc, ◌+◌, ◌-◌, ◌/◌, ◌^◌, bit_and, ◌<◌, ◌≤◌, Bool, true, false, true≢false, not, ◌&&◌, ◌||◌, List, ◌∷◌, length, map, drop, get_or, refl, sym, ap, ap₂, subst, ◌∙◌, arith, length-drop, ◌⊎◌, inl, inr, Option, Some, None, is_some}
+use Rattle.std.proofs.Common.{◌≡◌, ℕ, zero, suc, ◌+◌, ◌-◌, ◌/◌, nat_lt, ◌^◌, bit_and, ◌<◌, ◌≤◌, Bool, true, false, true≢false, not, ◌&&◌, ◌||◌, List, ◌∷◌, length, drop, get_or, refl, sym, ap, ap₂, subst, ◌∙◌, arith, length-drop, ◌⊎◌, inl, inr, Option, Some, None, is_some}
 use Rattle.std.specs.List.{prefix_len}
 use Rattle.std.specs.Str.{IsUtf8}
 use Rattle.std.proofs.Math.Seq.{drop-cons}
-use Rattle.std.proofs.lemmas.Bool.{agree_below_at, and_from, and_parts, and_cases, or_parts, or_cases, cases_lt, not-true, not-false, le-ltb, lt-ltb}
+use Rattle.std.proofs.lemmas.Bool.{agree_below_at, and_from, and_parts, and_cases, or_parts, or_cases, cases_lt, not-true, not-false, le-ltb, lt-ltb, ltb-true}
+use Rattle.std.proofs.lemmas.Nat.{and_le_r, shr_le}
 use Rattle.std.proofs.lemmas.List.{get_or-drop}
 use Rattle.std.proofs.lemmas.Option.{none-some, same_Some}
 use Rattle.std.proofs.lemmas.List.FromFn.{get_or-map-range_with_len}
 use Rattle.std.proofs.lemmas.List.Sums.{prefix_len_is}
-use Rattle.std.proofs.Math.Bool.{and_comm, or_comm}
+use Rattle.std.proofs.Math.Bool.{and_comm, and-true, not-not, or_comm}
 use Rattle.std.proofs.lemmas.Grind.{common_steps}
-use lib.Lanes.{chunk, mask_l}
 use Rattle.unicode_ident.proofs.Computing.{unicode_ident}
 use Rattle.rustc_lexer.specs.{Edition, TokenKind, Ident, Whitespace}
 use Rattle.rustc_lexer.specs.declared.lexemes.family.TheConstants.{CLASSIFIED}
@@ -24,7 +24,7 @@ use Rattle.rustc_lexer.specs.means.Lexeme.{family_of, symbol_kind}
 use Rattle.rustc_lexer.specs.means.Quick.{is_space_lead, turns_word, IsFirstToken}
 use Rattle.rustc_lexer.specs.means.Scan.{next_is}
 use Rattle.rustc_lexer.proofs.EditionLemmas.{is_newer, older}
-use Rattle.rustc_lexer.proofs.BitLemmas.{bit-at_byte, bit-zero, high, past-first, past-later, within}
+use Rattle.rustc_lexer.proofs.BitLemmas.{bit-and, bit-below, bit-flip, bit-zero, flip, high, past-first, past-later, within}
 use Rattle.rustc_lexer.proofs.QuickLemmas.{word_first, space_first, symbol_first}
 
 -- none is set at the front
@@ -34,18 +34,31 @@ all_past text ends w2 = grind (arith, common_steps)
 pub no_ends : (text : List ℕ) → IsEnds text 0
 no_ends text j set = absurd (true≢false (sym set ∙ bit-zero j))
 
--- the ends of runs of the first 64 bytes
-module _ (text : List ℕ) (m words spaces : ℕ) (long : 64 ≤ length text) (small : m < 2 ^ 64) (of_words : words ≡ mask_l (map is_continue_byte (chunk 0 64 text))) (of_spaces : spaces ≡ mask_l (map is_space_byte (chunk 0 64 text)))
-    (first : bit m 0 ≡ false) (later : (k : ℕ) → suc k < 64 → bit m (suc k) ≡ not ((bit words k && bit words (suc k)) || (bit spaces k && bit spaces (suc k)))) where
-  is_at : (k : ℕ) → k < 64 → bit m k ≡ is_end text k
+-- the ends of runs of the first n bytes, by the bits of those that stop a word, and of those that stop white space
+module _ (text : List ℕ) (n a b edges : ℕ) (few : n ≤ 64) (inside : n ≤ length text) (small : a < 2 ^ 64) (small_too : b < 2 ^ 64)
+    (of_words : (k : ℕ) → k < n → bit a k ≡ not (is_continue_byte (get_or text k 0))) (of_spaces : (k : ℕ) → k < n → bit b k ≡ not (is_space_byte (get_or text k 0)))
+    (first : bit edges 0 ≡ false) (later : (k : ℕ) → suc k < 64 → bit edges (suc k) ≡ not ((bit (flip a) k && bit (flip a) (suc k)) || (bit (flip b) k && bit (flip b) (suc k)))) where
+  is_at : (k : ℕ) → k < n → bit edges k ≡ is_end text k
   is_at zero l = first
-  is_at (suc k) l = later k l ∙ ap not (ap₂ (λ a b. a || b) (both is_continue_byte words of_words) (both is_space_byte spaces of_spaces))
+  is_at (suc k) l = later k (omega arith) ∙ ap not (ap₂ (λ a b. a || b) (both is_continue_byte a small of_words) (both is_space_byte b small_too of_spaces))
     where
-      both : (p : ℕ → Bool) (mask : ℕ) → mask ≡ mask_l (map p (chunk 0 64 text)) → (bit mask k && bit mask (suc k)) ≡ (p (get_or text k 0) && p (get_or text (suc k) 0))
-      both p mask e = ap₂ (λ a b. a && b) (bit-at_byte p text mask k long e (omega arith)) (bit-at_byte p text mask (suc k) long e l)
+      both : (p : ℕ → Bool) (mask : ℕ) → mask < 2 ^ 64 → ((k : ℕ) → k < n → bit mask k ≡ not (p (get_or text k 0))) → (bit (flip mask) k && bit (flip mask) (suc k)) ≡ (p (get_or text k 0) && p (get_or text (suc k) 0))
+      both p mask fits of = ap₂ (λ a b. a && b) (at k (omega arith)) (at (suc k) l)
+        where
+          at : (j : ℕ) → j < n → bit (flip mask) j ≡ p (get_or text j 0)
+          at j less = bit-flip mask j fits (omega arith) ∙ (ap not (of j less) ∙ not-not (p (get_or text j 0)))
 
-  pub are_ends : IsEnds text m
-  are_ends j set = grind (arith, common_steps, within m j small set, is_at)
+  abbrev kept : ℕ
+  kept = bit_and edges ((2 ^ 64 - 1) / 2 ^ (64 - n))
+
+  bit-kept : (k : ℕ) → k < 64 → bit kept k ≡ (bit edges k && nat_lt k n)
+  bit-kept k l = bit-and edges ((2 ^ 64 - 1) / 2 ^ (64 - n)) k ∙ ap (λ t. bit edges k && t) (bit-below n k few l)
+
+  pub are_ends : IsEnds text kept
+  are_ends j set =
+      let near : j < 64 = within kept j (omega (arith, and_le_r edges ((2 ^ 64 - 1) / 2 ^ (64 - n)), shr_le (2 ^ 64 - 1) (64 - n))) set in
+      let less : j < n = ltb-true j n (and_parts (bit edges j) (nat_lt j n) (sym (bit-kept j near) ∙ set)).1 in
+      (omega arith, λ k le. bit-kept k (omega arith) ∙ (rw (lt-ltb k n (omega arith)) (and-true (bit edges k)) ∙ is_at k (omega arith)))
 
 -- ---- what is known past some bytes
 

@@ -68,6 +68,7 @@ pub mod SettledLemmas
 pub mod ShebangLemmas
 pub mod ShortCharLemmas
 pub mod SpaceLemmas
+pub mod StopLemmas
 pub mod TallyWalk
 pub mod TextLemmas
 pub mod TokensLemmas

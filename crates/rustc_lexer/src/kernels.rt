@@ -1,6 +1,6 @@
 //! Searches over bytes that look at 16 or 64 bytes at a time: where a run ends, and where a byte is.
 ghost use Rattle.memchr.specs.Find.{IsFirstByte, is_byte, is_byte2};
-ghost use Rattle.std.specs.Prelude.{◌≡◌, ◌≤◌, ◌<◌, ◌&&◌, ◌||◌, ◌==◌, ℕ, suc, Bool, true, false, drop, length, map, not, take};
+ghost use Rattle.std.specs.Prelude.{◌≡◌, ◌≤◌, ◌<◌, ◌&&◌, ◌||◌, ◌==◌, ℕ, suc, Bool, true, false, drop, length, map, not, slice_index, take};
 ghost use Rattle.std.specs.List.{prefix_len};
 ghost use Rattle.std.specs.Simd.Lanes.{mask_l};
 ghost use Rattle.std.proofs.Common.{arith};
@@ -88,25 +88,23 @@ impl ByteClass for Space {
     }
 }
 
-/// Returns a mask. Bit k is set if lane k belongs to a word.
+/// Returns a mask of the first `len` bytes, at most 64. Bit k is set if byte k is outside the class. The last look
+/// begins where it ends with these bytes, so some are looked at twice.
 #[inline(always)]
-fn words(v: u8x64) -> u64
-    ensures { result ≡ mask_l (map is_continue_byte v) }
+fn stops_within<C: ByteClass>(bytes: &[u8], len: usize) -> u64
+    requires wide { C.WIDTH ≤ len }
+    requires few { len ≤ 64 }
+    requires inside { len ≤ length bytes.now }
+    ensures { (k : ℕ) → k < len → bit result k ≡ outside C.passes (slice_index bytes.now k) }
 {
-    let from_a = (v | u8x64::splat(0x20)) - u8x64::splat(b'a');
-    let from_0 = v - u8x64::splat(b'0');
-    (from_a.simd_lt(u8x64::splat(26))
-        | from_0.simd_lt(u8x64::splat(10))
-        | v.simd_eq(u8x64::splat(b'_'))).to_bitmask()
-}
-
-/// Returns a mask. Bit k is set if lane k is white space.
-#[inline(always)]
-fn spaces(v: u8x64) -> u64
-    ensures { result ≡ mask_l (map is_space_byte v) }
-{
-    let from_tab = v - u8x64::splat(b'\t');
-    (v.simd_eq(u8x64::splat(b' ')) | from_tab.simd_lt(u8x64::splat(5))).to_bitmask()
+    let last = len - C::WIDTH;
+    let mut stops = C::stops(&bytes[last..]) << last;
+    let mut at = 0;
+    'looks: while at < last {
+        stops |= C::stops(&bytes[at..]) << at;
+        at += C::WIDTH;
+    }
+    stops
 }
 
 /// Returns a mask. Bit k is set unless bytes k - 1 and k both belong to a word or are both white space.
@@ -120,18 +118,33 @@ fn run_edges(words: u64, spaces: u64) -> u64
     !(((words << 1) & words) | ((spaces << 1) & spaces)) & !1
 }
 
-/// Returns where the runs of words and of white space end in the next 64 bytes. Returns no ends if fewer bytes are
-/// left.
+/// Returns where the runs of words and of white space end in the first `len` bytes, at least 16 and at most 64.
+#[inline(always)]
+fn ends_within(bytes: &[u8], len: usize) -> u64
+    requires wide { 16 ≤ len }
+    requires few { len ≤ 64 }
+    requires inside { len ≤ length bytes.now }
+    ensures { IsEnds bytes.now result }
+{
+    let words = !stops_within::<Continue>(bytes, len);
+    let spaces = !stops_within::<Space>(bytes, len);
+    run_edges(words, spaces) & (u64::MAX >> (64 - len))
+}
+
+/// Returns where the runs of words and of white space end in the next 64 bytes, or in those that are left. Returns no
+/// ends if fewer than 16 are left.
 #[inline(never)]
-#[tactic(auto, using(crate::proofs::EndsLemmas::no_ends, crate::proofs::EndsLemmas::are_ends, std::proofs::lemmas::Grind::common_steps))]
+#[tactic(auto, using(crate::proofs::EndsLemmas::no_ends, std::proofs::lemmas::Grind::common_steps))]
 pub(crate) fn ends_of_runs(bytes: &[u8]) -> u64
     ensures { IsEnds bytes.now result }
 {
-    if bytes.len() < 64 {
-        return 0;
+    if bytes.len() >= 64 {
+        ends_within(bytes, 64)
+    } else if bytes.len() >= 16 {
+        ends_within(bytes, bytes.len())
+    } else {
+        0
     }
-    let v = u8x64::from_slice(bytes);
-    run_edges(words(v), spaces(v))
 }
 
 /// Returns how many bytes at the front are in the class. The run mostly ends within `WIDTH` bytes.

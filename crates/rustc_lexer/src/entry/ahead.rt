@@ -7,8 +7,8 @@ use crate::lexemes::classified::{ends_after, may_continue, past_lowest};
 use crate::lexemes::family::classified_by;
 use crate::token::{Token, TokenKind};
 
-/// How many bytes are searched at once for the ends of runs. For fewer bytes the search costs more than it saves.
-const SEARCHED: usize = 64;
+/// How many bytes are left at least where the ends of runs are searched for.
+const SEARCHED: usize = 16;
 
 /// An offset in a text, and what is known about the bytes after it.
 #[derive(Clone, Copy)]

@@ -59,22 +59,18 @@ impl ByteClass for Space {
     }
 }
 
-/// Returns a mask. Bit k is set if lane k belongs to a word.
+/// Returns a mask of the first `len` bytes, at most 64. Bit k is set if byte k is outside the class. The last look
+/// begins where it ends with these bytes, so some are looked at twice.
 #[inline(always)]
-fn words(v: u8x64) -> u64 {
-    let from_a = (v | u8x64::splat(0x20)) - u8x64::splat(b'a');
-    let from_0 = v - u8x64::splat(b'0');
-    (from_a.simd_lt(u8x64::splat(26))
-        | from_0.simd_lt(u8x64::splat(10))
-        | v.simd_eq(u8x64::splat(b'_')))
-    .to_bitmask()
-}
-
-/// Returns a mask. Bit k is set if lane k is white space.
-#[inline(always)]
-fn spaces(v: u8x64) -> u64 {
-    let from_tab = v - u8x64::splat(b'\t');
-    (v.simd_eq(u8x64::splat(b' ')) | from_tab.simd_lt(u8x64::splat(5))).to_bitmask()
+fn stops_within<C: ByteClass>(bytes: &[u8], len: usize) -> u64 {
+    let last = len - C::WIDTH;
+    let mut stops = C::stops(&bytes[last..]) << last;
+    let mut at = 0;
+    while at < last {
+        stops |= C::stops(&bytes[at..]) << at;
+        at += C::WIDTH;
+    }
+    stops
 }
 
 /// Returns a mask. Bit k is set unless bytes k - 1 and k both belong to a word or are both white space.
@@ -83,15 +79,25 @@ fn run_edges(words: u64, spaces: u64) -> u64 {
     !(((words << 1) & words) | ((spaces << 1) & spaces)) & !1
 }
 
-/// Returns where the runs of words and of white space end in the next 64 bytes. Returns no ends if fewer bytes are
-/// left.
+/// Returns where the runs of words and of white space end in the first `len` bytes, at least 16 and at most 64.
+#[inline(always)]
+fn ends_within(bytes: &[u8], len: usize) -> u64 {
+    let words = !stops_within::<Continue>(bytes, len);
+    let spaces = !stops_within::<Space>(bytes, len);
+    run_edges(words, spaces) & (u64::MAX >> (64 - len))
+}
+
+/// Returns where the runs of words and of white space end in the next 64 bytes, or in those that are left. Returns no
+/// ends if fewer than 16 are left.
 #[inline(never)]
 pub(crate) fn ends_of_runs(bytes: &[u8]) -> u64 {
-    if bytes.len() < 64 {
-        return 0;
+    if bytes.len() >= 64 {
+        ends_within(bytes, 64)
+    } else if bytes.len() >= 16 {
+        ends_within(bytes, bytes.len())
+    } else {
+        0
     }
-    let v = u8x64::from_slice(bytes);
-    run_edges(words(v), spaces(v))
 }
 
 /// Returns how many bytes at the front are in the class. The run mostly ends within `WIDTH` bytes.
