@@ -10,6 +10,8 @@ mod edits;
 #[cfg(test)]
 mod emoji;
 #[cfg(test)]
+mod joined;
+#[cfg(test)]
 mod rows;
 #[cfg(test)]
 mod runs;
