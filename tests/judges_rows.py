@@ -227,6 +227,8 @@ def of_gate(top):
     yield ".ci/run", [*gate, ("tests/wrong_bodies", None, SHELL + '[ "$1" != --proved ]\n')], "failed with status 1: wrong_bodies"
     yield ".ci/run", [*gate, (".ci/run", "begin tests/c_library tests/trusted", "begin tests/c_library")], "tests/trusted is neither run nor manual"
     yield ".ci/run", [*gate, stand_in("rt", f"{proved}{built}[ $1 != ci ]\n")], "failed with status 1: rt_ci"
+    yield ".ci/quick", [*gate, ("tests/layers", None, planted)], "== failed: tests/layers"
+    yield ".ci/quick", [*gate, ("tests/prove", None, planted)], "== failed: tests/prove"
 
 
 def of_quick(change, words):
