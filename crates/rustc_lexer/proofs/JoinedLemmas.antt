@@ -58,6 +58,10 @@ pub record IsPut (text between piece whole : List ℕ) : Type 0 where
 pub put_whole : (text between piece : List ℕ) {one two whole : List ℕ} {a b : Bool} → one ≡ (if a then text ++ between else text) → a ≡ true → two ≡ (if b then one ++ piece else one) → b ≡ true → whole ≡ two → whole ≡ text ++ between ++ piece
 put_whole text between piece {one} {two} {whole} {a} {b} p q r s t = grind (arith, common_steps)
 
+pub put_by : {text between piece one two whole : List ℕ} {a b : Bool} → IsUtf8 text → IsUtf8 between → IsUtf8 piece → length text + (length between + length piece) < 2 ^ 32
+    → one ≡ (if a then text ++ between else text) → a ≡ true → two ≡ (if b then one ++ piece else one) → b ≡ true → whole ≡ two → IsPut text between piece whole
+put_by {text} {between} {piece} is its last short p q r s t = record { text_utf8 = is; between_utf8 = its; piece_utf8 = last; short = short; whole_is = put_whole text between piece p q r s t }
+
 -- the same tokens are the first ones of both texts
 pub record AreAlike (first : List ℕ → Token) (left text : List ℕ) (offset : ℕ) : Type 0 where
   pub items : List Token
