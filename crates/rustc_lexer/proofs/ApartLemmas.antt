@@ -87,16 +87,10 @@ changes-past w next other ch = record {
 
 -- a class with no white space sees no change
 at-end : (p : ℕ → Bool) → IsSolid p → (before : List ℕ) → NextIsNot is_solid before → next_is p before ≡ false
-at-end p out [] stops = refl
-at-end p out (c ∷ s) stops = out c (space (is_whitespace c) stops)
-  where
-    space : (b : Bool) → not b ≡ false → b ≡ true
-    space true e = refl
-    space false e = absurd (true≢false e)
+at-end p w1 before w3 = grind (arith, common_steps)
 
 at-space : (p : ℕ → Bool) → IsSolid p → (after : List ℕ) → NextIs is_whitespace after → next_is p after ≡ false
-at-space p out [] spaced = refl
-at-space p out (c ∷ s) spaced = out c spaced
+at-space p w1 after w3 = grind (arith, common_steps)
 
 same-front : (p : ℕ → Bool) → IsSolid p → (front before after : List ℕ) → NextIsNot is_solid before → NextIs is_whitespace after → next_is p (front ++ after) ≡ next_is p (front ++ before)
 same-front p out [] before after stops spaced = at-space p out after spaced ∙ sym (at-end p out before stops)
@@ -110,24 +104,15 @@ abbrev begins_then : (ℕ → Bool) → List ℕ → List ℕ → Bool
 begins_then p cs s = begins cs s && next_is p (drop (length cs) s)
 
 begins-solid : (c : ℕ) (cs s : List ℕ) → is_solid c ≡ true → NextIsNot is_solid s → begins (c ∷ cs) s ≡ false
-begins-solid c cs [] solid stops = refl
-begins-solid c cs (d ∷ s) solid stops = let other : (d == c) ≡ false = false_from_ne_true (d == c) (λ e. differ e) in rw other refl
-  where
-    differ : (d == c) ≡ true → ⊥
-    differ e = grind (arith, common_steps)
+begins-solid c cs s w3 w4 = grind (arith, common_steps, false_from_ne_true)
 
 solid-space : (after : List ℕ) → NextIs is_whitespace after → NextIsNot is_solid after
-solid-space [] spaced = refl
-solid-space (c ∷ s) spaced = rw spaced refl
+solid-space after w1 = grind (arith, common_steps)
 
 begins-front : (cs u before after : List ℕ) → list_all is_solid cs ≡ true → NextIsNot is_solid before → NextIsNot is_solid after → begins cs (u ++ after) ≡ begins cs (u ++ before)
 begins-front [] u before after solid stops spaced = refl
-begins-front (c ∷ cs) [] before after solid stops spaced =
-    let both = and_parts (is_solid c) (list_all is_solid cs) solid in
-    begins-solid c cs after both.0 spaced ∙ sym (begins-solid c cs before both.0 stops)
-begins-front (c ∷ cs) (x ∷ u) before after solid stops spaced =
-    let both = and_parts (is_solid c) (list_all is_solid cs) solid in
-    ap (λ (b : Bool). (x == c) && b) (begins-front cs u before after both.1 stops spaced)
+begins-front (c ∷ cs) [] before after solid stops spaced = grind (arith, common_steps, and_parts, begins-solid)
+begins-front (c ∷ cs) (x ∷ u) before after solid stops spaced = grind (arith, common_steps, and_parts, begins-front cs u before after (and_parts (is_solid c) (list_all is_solid cs) solid).1 stops spaced)
 
 pub same-begins : (cs w : List ℕ) → list_all is_solid cs ≡ true → {next other : List ℕ} → Changes next other → begins cs (w ++ other) ≡ begins cs (w ++ next)
 same-begins cs w solid {next} {other} ch =
@@ -136,13 +121,8 @@ same-begins cs w solid {next} {other} ch =
 
 then-front : (p : ℕ → Bool) → IsSolid p → (cs u before after : List ℕ) → list_all is_solid cs ≡ true → NextIsNot is_solid before → NextIs is_whitespace after → begins_then p cs (u ++ after) ≡ begins_then p cs (u ++ before)
 then-front p out [] u before after solid stops spaced = same-front p out u before after stops spaced
-then-front p out (c ∷ cs) [] before after solid stops spaced =
-    let both = and_parts (is_solid c) (list_all is_solid cs) solid in
-    rw (begins-solid c cs after both.0 (solid-space after spaced), begins-solid c cs before both.0 stops) refl
-then-front p out (c ∷ cs) (x ∷ u) before after solid stops spaced =
-    let both = and_parts (is_solid c) (list_all is_solid cs) solid in
-    let rest : begins_then p cs (u ++ after) ≡ begins_then p cs (u ++ before) = then-front p out cs u before after both.1 stops spaced in
-    elim (x == c) as (λ (b : Bool). ((b && begins cs (u ++ after)) && next_is p (drop (length cs) (u ++ after))) ≡ ((b && begins cs (u ++ before)) && next_is p (drop (length cs) (u ++ before)))) [ true ↦ rest | false ↦ refl ]
+then-front p out (c ∷ cs) [] before after solid stops spaced = grind (arith, common_steps, and_parts, begins-solid, solid-space)
+then-front p out (c ∷ cs) (x ∷ u) before after solid stops spaced = grind (arith, common_steps, and_parts, then-front p out cs u before after (and_parts (is_solid c) (list_all is_solid cs) solid).1 stops spaced)
 
 pub same-ident : (cs w : List ℕ) → list_all is_solid cs ≡ true → {next other : List ℕ} → Changes next other → begins_ident_after cs (w ++ other) ≡ begins_ident_after cs (w ++ next)
 same-ident cs w solid {next} {other} ch =
@@ -161,30 +141,20 @@ first-solid : (d : ℕ) (ds : List ℕ) (p : ℕ → Bool) → IsSolid p → p d
 first-solid d ds p out e all = rw (in-solid p out d e) all
 
 whole-solid : {base : Base} {empty : Bool} {w : List ℕ} → IsWholePart base empty w → list_all is_solid w ≡ true
-whole-solid (number.plain {d} {ds} digit are) = first-solid d ds is_ascii_digit (solid-by is_ascii_digit refl) digit (all-solid _ digit-solid ds are)
-whole-solid (number.with_b {ds} are) = all-solid _ digit-solid ds are
-whole-solid (number.with_o {ds} are) = all-solid _ digit-solid ds are
-whole-solid (number.with_x {ds} are) = all-solid _ hexdigit-solid ds are
+whole-solid w0 = grind (arith, common_steps, first-solid, solid-by, all-solid, digit-solid, hexdigit-solid)
 
 exponent-solid : {base : Base} {kind : LiteralKind} {t : List ℕ} → IsExponent base kind t → list_all is_solid t ≡ true
-exponent-solid (number.signed {e = e} {g = g} {ds = ds} letter sign are) =
-    first-solid e (g ∷ ds) is_exponent_letter (solid-by is_exponent_letter refl) letter (first-solid g ds is_sign (solid-by is_sign refl) sign (all-solid _ digit-solid ds are))
-exponent-solid (number.unsigned {e = e} {ds = ds} letter are) = first-solid e ds is_exponent_letter (solid-by is_exponent_letter refl) letter (all-solid _ digit-solid ds are)
+exponent-solid w0 = grind (arith, common_steps, first-solid, solid-by, all-solid, digit-solid)
 
 both-solid : (v w : List ℕ) → list_all is_solid v ≡ true → list_all is_solid w ≡ true → list_all is_solid (v ++ w) ≡ true
 both-solid [] w a b = b
 both-solid (c ∷ v) w a b = let parts = and_parts (is_solid c) (list_all is_solid v) a in rw parts.0 (both-solid v w parts.1 b)
 
 tail-solid : {next : List ℕ} {base : Base} {kind : LiteralKind} {t : List ℕ} → IsTailBefore next base kind t → list_all is_solid t ≡ true
-tail-solid number.nothing = refl
-tail-solid (number.dot free) = refl
-tail-solid (number.of_fraction {d = d} {ds = ds} digit are) = first-solid d ds is_ascii_digit (solid-by is_ascii_digit refl) digit (all-solid _ digit-solid ds are)
-tail-solid (number.of_exponent no_digit is) = exponent-solid is
-tail-solid (number.of_both {d = d} {e = e} ds digit are is) = first-solid d (ds ++ e) is_ascii_digit (solid-by is_ascii_digit refl) digit (both-solid ds e (all-solid _ digit-solid ds are) (exponent-solid is))
+tail-solid w0 = grind (arith, common_steps, first-solid, solid-by, all-solid, digit-solid, exponent-solid, both-solid)
 
 form-solid : {next : List ℕ} {kind : LiteralKind} {w : List ℕ} → HasNumberForm next kind w → list_all is_solid w ≡ true
-form-solid (number.of_prefix whole) = whole-solid whole
-form-solid (number.of_parts {whole = v} {tail = t} whole tail) = both-solid v t (whole-solid whole) (tail-solid tail)
+form-solid w0 = grind (arith, common_steps, whole-solid, both-solid, tail-solid)
 
 last-solid : (w : List ℕ) (c : ℕ) → list_all is_solid (w ++ c ∷ []) ≡ true → is_solid c ≡ true
 last-solid [] c e = (and_parts (is_solid c) true e).0
@@ -232,8 +202,7 @@ prefix-solid : IsSolid ends_prefix
 prefix-solid = solid-by ends_prefix refl
 
 faulty-not : (t : Bool) → not t ≡ false → t ≡ true
-faulty-not true e = refl
-faulty-not false e = absurd (true≢false e)
+faulty-not t w1 = grind (arith, common_steps)
 
 double-apart : {next : List ℕ} {t : Bool} {w : List ℕ} → IsDoubleQuoted next t w → t ≡ true → (other : List ℕ) → IsDoubleQuoted other t w
 double-apart (lit.closed q) t other = lit.closed q
@@ -319,10 +288,7 @@ token-apart (the.symbol is) some good other ch go = the.symbol is
 
 -- of a kind that asks for nothing
 goes-free : (kind : TokenKind) (next other : List ℕ) → (kind ≡ Whitespace → ⊥) → is_line kind ≡ false → Goes kind next other
-goes-free kind next other no_space no_line = record {
-  space = λ e. absurd (no_space e);
-  line = λ e. absurd (true≢false (sym e ∙ no_line));
-}
+goes-free kind next other no_space no_line = grind (arith, common_steps)
 
 pub in-apart : {edition : Edition} {next : List ℕ} {kind : TokenKind} {w : List ℕ} → IsTokenIn edition next kind w → 0 < length w → is_open kind ≡ false → (other : List ℕ) → Changes next other → Goes kind next other → IsTokenIn edition other kind w
 in-apart (kept le p) some good other ch go = kept le (token-apart p some good other ch go)

@@ -1,4 +1,5 @@
 -- The last two tokens of a text decide whether its tokens stay where it goes on; and the last two of the longer text.
+use Rattle.std.proofs.lemmas.Grind.{common_steps}
 use Rattle.std.proofs.Common.{◌≡◌, ◌↔◌, ℕ, zero, suc, ◌+◌, ◌-◌, ◌^◌, ◌<◌, ◌≤◌, Bool, true, false, true≢false, IsTrue, List, [], ◌∷◌, ◌++◌, codes, length, take, drop, refl, sym, ap, ◌∙◌, subst, arith, append_assoc, length-append, length-drop, length-take, length-take-le, take-append-drop, drop-drop, take_all, chars, IsUtf8, IsCharBoundary}
 use Rattle.std.proofs.Math.Seq.{drop-append_seam, take-append_seam}
 use Rattle.std.proofs.lemmas.List.{append-nil, take-append-le}
@@ -159,15 +160,7 @@ module _ (edition : Edition) where
     size = length-take-le at text cut.0
 
     pub touch-end : at ≡ length text → MayTouch edition left right
-    touch-end e =
-        let none : right ≡ [] = no-rest text at (omega (arith, e)) in
-        ap (λ (xs : List ℕ). Tokens edition (left ++ xs)) none ∙ (ap (Tokens edition) (append-nil left) ∙ (sym (append-nil (Tokens edition left)) ∙ ap (λ (ts : List Token). Tokens edition left ++ ts) (sym (ap (Tokens edition) none ∙ tokens-nil first))))
-      where
-        no-rest : (xs : List ℕ) (n : ℕ) → length xs ≤ n → drop n xs ≡ []
-        no-rest [] zero le = refl
-        no-rest [] (suc n) le = refl
-        no-rest (x ∷ xs) zero le = absurd (omega arith)
-        no-rest (x ∷ xs) (suc n) le = no-rest xs n (omega arith)
+    touch-end e = grind (arith, common_steps, append-nil, tokens-nil)
 
     pub touch-none : IsEnding (Tokens edition left) Empty → MayTouch edition left right
     touch-none (means.empty are) =
@@ -382,15 +375,7 @@ module _ (edition : Edition) where
 
   -- no other text is joined so
   pub joined-only : {text piece one other : List ℕ} → IsJoined edition text piece one → IsJoined edition text piece other → other ≡ one
-  joined-only (the.touching touch) (the.touching too) = refl
-  joined-only (the.touching touch) (the.spaced apart kept) = absurd (apart touch)
-  joined-only (the.touching touch) (the.on_a_line apart close kept) = absurd (apart touch)
-  joined-only (the.spaced apart kept) (the.touching touch) = absurd (apart touch)
-  joined-only (the.spaced apart kept) (the.spaced away too) = refl
-  joined-only (the.spaced apart kept) (the.on_a_line away close too) = absurd (close kept)
-  joined-only (the.on_a_line apart close kept) (the.touching touch) = absurd (apart touch)
-  joined-only (the.on_a_line apart close kept) (the.spaced away too) = absurd (close too)
-  joined-only (the.on_a_line apart close kept) (the.on_a_line away near too) = refl
+  joined-only w0 w1 = grind (arith, common_steps)
 
   -- the text that was there is a part of the new one, which may be cut there
   pub record IsPast (text new : List ℕ) : Type 0 where

@@ -1,4 +1,6 @@
 -- What a token takes in by its kind alone: no token of the grammar ends before that.
+use Rattle.std.proofs.lemmas.Grind.{common_steps}
+use Rattle.std.proofs.Common.{arith}
 use Rattle.std.proofs.Common.{◌≡◌, ℕ, ◌==◌, ◌&&◌, not, codes, Bool, true, false, true≢false, List, [], ◌∷◌, ◌++◌, refl, sym, ap, ◌∙◌, subst}
 use Rattle.std.proofs.lemmas.Bool.{false_from_ne_true, not-true}
 use Rattle.rustc_lexer.specs.{Base, Edition, LiteralKind, TokenKind, Eof, BlockComment, Ident, InvalidIdent, RawIdent, ForcedKeywordIdent, UnknownPrefix, UnknownPrefixLifetime, RawLifetime, Lifetime, Literal, GuardedStrPrefix, Slash, Pound}
@@ -17,8 +19,7 @@ use Rattle.rustc_lexer.specs.means.Lexeme.{symbol_kind}
 
 -- a kind that takes in nothing by itself
 nothing-in : (p : ℕ → Bool) → ((c : ℕ) → p c ≡ false) → (next : List ℕ) → NextIsNot p next
-nothing-in p out [] = refl
-nothing-in p out (c ∷ next) = out c
+nothing-in p w1 next = grind (arith, common_steps)
 
 -- nor does one that ends at the end of the text
 at-the-end : (p : ℕ → Bool) → {next : List ℕ} → next ≡ [] → NextIsNot p next
@@ -27,82 +28,37 @@ at-the-end p e = rw e refl
 -- ---- literals
 
 exponent-free : {base : Base} {kind : LiteralKind} {w : List ℕ} → IsExponent base kind w → (c : ℕ) → literal_goes_on kind c ≡ false
-exponent-free (number.signed letter sign are) c = refl
-exponent-free (number.unsigned letter are) c = refl
+exponent-free w0 c = grind (arith, common_steps)
 
 tail-free : {next : List ℕ} {base : Base} {kind : LiteralKind} {w : List ℕ} → IsTailBefore next base kind w → (c : ℕ) → literal_goes_on kind c ≡ false
-tail-free number.nothing c = refl
-tail-free (number.dot free) c = refl
-tail-free (number.of_fraction digit are) c = refl
-tail-free (number.of_exponent no_digit is) c = exponent-free is c
-tail-free (number.of_both ds digit are is) c = exponent-free is c
+tail-free w0 c = grind (arith, common_steps, exponent-free)
 
 form-free : {next : List ℕ} {kind : LiteralKind} {w : List ℕ} → HasNumberForm next kind w → (c : ℕ) → literal_goes_on kind c ≡ false
-form-free (number.of_prefix whole) c = refl
-form-free (number.of_parts whole tail) c = tail-free tail c
+form-free w0 c = grind (arith, common_steps, tail-free)
 
 -- a literal that may have a suffix takes in nothing by itself
 closed-free : {next : List ℕ} {kind : LiteralKind} {may : Bool} {w : List ℕ} → IsLiteralBefore next kind may w → may ≡ true → (c : ℕ) → literal_goes_on kind c ≡ false
-closed-free (lit.char_of_one one) e c = refl
-closed-free (lit.char is first) e c = rw e refl
-closed-free (lit.char_of_name w first all) e c = refl
-closed-free (lit.byte_char is) e c = rw e refl
-closed-free (lit.str is) e c = rw e refl
-closed-free (lit.byte_str is) e c = rw e refl
-closed-free (lit.c_str is) e c = rw e refl
-closed-free (lit.raw_str is first) e c = refl
-closed-free (lit.raw_byte_str is) e c = refl
-closed-free (lit.raw_c_str is) e c = refl
-closed-free (lit.number is) e c = form-free is.form c
+closed-free w0 w1 c = grind (arith, common_steps, form-free)
 
 double-ends : {next : List ℕ} {t : Bool} {w : List ℕ} → IsDoubleQuoted next t w → t ≡ false → next ≡ []
-double-ends (lit.closed q) e = absurd (true≢false e)
-double-ends (lit.unclosed none q) e = none
-double-ends (lit.unclosed_escape none q) e = none
+double-ends w0 w1 = grind (arith, common_steps)
 
 -- what an open single quote takes in
 abbrev in_quote : ℕ → Bool
 in_quote c = not (c == 47) && not (c == 10)
 
 slash-out : (next : List ℕ) → NextIn (codes "/") next → NextIsNot in_quote next
-slash-out [] is = refl
-slash-out (c ∷ next) is = out (c == 47) refl is
-  where
-    out : (b : Bool) → (c == 47) ≡ b → is_among (codes "/") c ≡ true → in_quote c ≡ false
-    out true e is = rw e refl
-    out false e is = absurd (true≢false (sym is ∙ rw e refl))
+slash-out next w1 = grind (arith, common_steps)
 
 line-out : (next : List ℕ) → NextIn (codes "\n") next → NextIsNot in_quote next
-line-out [] is = refl
-line-out (c ∷ next) is = out (c == 10) refl is (c == 47) refl
-  where
-    out : (b : Bool) → (c == 10) ≡ b → is_among (codes "\n") c ≡ true → (d : Bool) → (c == 47) ≡ d → in_quote c ≡ false
-    out true e is true f = rw f refl
-    out true e is false f = rw (f, e) refl
-    out false e is d f = absurd (true≢false (sym is ∙ rw e refl))
+line-out next w1 = grind (arith, common_steps)
 
 single-ends : {next : List ℕ} {t : Bool} {w : List ℕ} → IsSingleQuoted next t w → t ≡ false → NextIsNot in_quote next
-single-ends (lit.one c) e = absurd (true≢false e)
-single-ends (lit.closed q free) e = absurd (true≢false e)
-single-ends (lit.closed_line q) e = absurd (true≢false e)
-single-ends {next} (lit.at_slash q slash free) e = slash-out next slash
-single-ends {next} (lit.at_newline q line free) e = line-out next line
-single-ends (lit.unclosed none q) e = at-the-end in_quote none
-single-ends (lit.unclosed_escape none q) e = at-the-end in_quote none
+single-ends w0 w1 = grind (arith, common_steps, slash-out, line-out, at-the-end)
 
 -- nor does any other literal end before what it takes in
 literal-ends : {next : List ℕ} {kind : LiteralKind} {may : Bool} {w : List ℕ} → IsLiteralBefore next kind may w → may ≡ false → NextIsNot (literal_goes_on kind) next
-literal-ends (lit.char_of_one one) e = absurd (true≢false e)
-literal-ends (lit.char is first) e = rw e (single-ends is e)
-literal-ends {next} (lit.char_of_name w first all) e = nothing-in _ (λ c. refl) next
-literal-ends (lit.byte_char is) e = rw e (single-ends is e)
-literal-ends (lit.str is) e = at-the-end _ (double-ends is e)
-literal-ends (lit.byte_str is) e = at-the-end _ (double-ends is e)
-literal-ends (lit.c_str is) e = at-the-end _ (double-ends is e)
-literal-ends {next} (lit.raw_str is first) e = nothing-in _ (λ c. refl) next
-literal-ends {next} (lit.raw_byte_str is) e = nothing-in _ (λ c. refl) next
-literal-ends {next} (lit.raw_c_str is) e = nothing-in _ (λ c. refl) next
-literal-ends (lit.number is) e = absurd (true≢false e)
+literal-ends w0 w1 = grind (arith, common_steps, single-ends, nothing-in, at-the-end, double-ends)
 
 -- ---- tokens
 

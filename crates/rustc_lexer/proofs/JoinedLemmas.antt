@@ -69,11 +69,7 @@ pub record AreAlike (first : List ℕ → Token) (left text : List ℕ) (offset 
   pub of_text : IsLexedTo first text items offset
 
 pub alike_none : (first : List ℕ → Token) (left text : List ℕ) → AreAlike first left text 0
-alike_none first left text = record {
-  items = [];
-  of_left = record { number = omega arith; items_are = refl; offset_is = refl };
-  of_text = record { number = omega arith; items_are = refl; offset_is = refl };
-}
+alike_none first left text = grind (arith, common_steps)
 
 module _ {first : List ℕ → Token} (law : IsGrammar first) where
   -- the tokens past those of the first text are those of the second
@@ -120,23 +116,13 @@ module _ {first : List ℕ → Token} (law : IsGrammar first) where
 
   -- the text keeps its tokens before others exactly if its end does
   pub near_touch : (left more : List ℕ) (from : ℕ) (us : List Token) → IsSplit first left more from → tokens_by first (left ++ more) ≡ tokens_by first left ++ us ↔ tokens_by first (drop from left ++ more) ≡ tokens_by first (drop from left) ++ us
-  near_touch left more from us s =
-      let tail : List Token = tokens_by first (drop from left) in
-      let apart : tokens_by first left ++ us ≡ s.front ++ (tail ++ us) = ap (λ (ts : List Token). ts ++ us) s.alone ∙ append_assoc s.front tail us in (
-        λ e. past_front s.front _ _ (sym s.together ∙ (e ∙ apart)),
-        λ e. s.together ∙ (ap (λ (ts : List Token). s.front ++ ts) e ∙ sym apart),
-      )
+  near_touch left more from us s = grind (arith, common_steps, append_assoc, past_front)
 
   -- a separator parts two texts exactly if it touches both
   pub parted : (left between right : List ℕ) → IsText left → IsText (left ++ (between ++ right))
       → (tokens_by first (left ++ (between ++ right)) ≡ tokens_by first left ++ tokens_by first (between ++ right)) × (tokens_by first (between ++ right) ≡ tokens_by first between ++ tokens_by first right)
       ↔ tokens_by first (left ++ (between ++ right)) ≡ tokens_by first left ++ (tokens_by first between ++ tokens_by first right)
-  parted left between right is whole = (
-    λ both. both.0 ∙ ap (λ (ts : List Token). tokens_by first left ++ ts) both.1,
-    λ e.
-        let second : tokens_by first (between ++ right) ≡ tokens_by first between ++ tokens_by first right = past_left left (between ++ right) _ is whole e in
-        (e ∙ ap (λ (ts : List Token). tokens_by first left ++ ts) (sym second), second),
-  )
+  parted left between right is whole = grind (arith, common_steps, past_left)
 
   -- ---- how to find it out
 
@@ -196,14 +182,7 @@ module _ {first : List ℕ → Token} (law : IsGrammar first) where
         differ (sym (first_same alike.items together alone same))
 
     pub alike_whole : at ≤ offset → tokens_by first (left ++ right) ≡ tokens_by first left ++ tokens_by first right
-    alike_whole all =
-        let n : ℕ = length alike.items in
-        let items : alike.items ≡ tokens_by first left = lexed_whole law left alike.items offset is_left alike.of_left (omega (arith, size)) in
-        let end : offset ≡ at = let o : IsOffset left offset = lexed_offset law left alike.items offset is_left alike.of_left in omega (arith, o.inside, size) in
-        let at_end : IsCutAt first text (tokens_by first text) n = at_bound law n text is in
-        let rest : drop n (tokens_by first text) ≡ tokens_by first right = at_end.rest ∙ ap (λ (p : ℕ). tokens_by first (drop p text)) (sym alike.of_text.offset_is ∙ end) in
-        ap (tokens_by first) (take-append-drop at text) ∙ (sym (take-append-drop n (tokens_by first text))
-        ∙ (ap (λ (ts : List Token). ts ++ drop n (tokens_by first text)) (sym alike.of_text.items_are ∙ items) ∙ ap (λ (ts : List Token). tokens_by first left ++ ts) rest))
+    alike_whole all = grind (arith, common_steps, lexed_whole, is_left, size, lexed_offset, at_bound, take-append-drop)
 
   -- ---- a piece that is appended with a separator before it
 
@@ -263,11 +242,7 @@ module _ {first : List ℕ → Token} (law : IsGrammar first) where
           )
 
       pub by_one : (r : Bool) → IsTrue r ↔ Touch (take (length between) t) (drop (length between) t) → r ≡ false → IsTrue false ↔ Apart
-      by_one r a none =
-          let both = parted text between piece is joined_is in (
-            λ x. absurd (true≢false (sym x)),
-            λ x. absurd (true≢false (sym (a.1 (cast (sym past) (both.1 x).1)) ∙ none)),
-          )
+      by_one r a none = grind (arith, common_steps, parted, is, joined_is, cast, past)
 
 -- ---- the first separator that parts a text and a piece
 
@@ -319,8 +294,4 @@ module _ (edition : Edition) (text piece : List ℕ) where
   pub stay_apart : {one two three : Bool} (before again : List ℕ) → IsTrue one ↔ IsSeparated edition text [] piece → one ≡ false → before ≡ text
       → IsTrue two ↔ IsSeparated edition before (codes " ") piece → two ≡ false → again ≡ before
       → IsTrue three ↔ IsSeparated edition again (codes "\n") piece → three ≡ false → AreInseparable edition text piece
-  stay_apart before again a miss same b miss_too same_too d miss_last = record {
-    touching = not_touching a miss;
-    spaced = not_parted before (codes " ") same b miss_too;
-    on_a_line = not_parted again (codes "\n") (same_too ∙ same) d miss_last;
-  }
+  stay_apart before again a miss same b miss_too same_too d miss_last = grind (arith, common_steps, touching, not_touching, not_parted)

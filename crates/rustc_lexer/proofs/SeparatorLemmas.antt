@@ -1,4 +1,5 @@
 -- A text whose tokens are closed keeps them before white space, and white space keeps its token before any other character.
+use Rattle.std.proofs.lemmas.Grind.{common_steps}
 use Rattle.std.proofs.Common.{◌≡◌, ℕ, ◌+◌, ◌^◌, ◌<◌, ◌≤◌, Bool, not, true, false, true≢false, List, [], ◌∷◌, ◌++◌, length, take, drop, refl, sym, ap, ◌∙◌, subst, arith, append_assoc, length-append, length-drop, length-take-le, take-append-drop, chars, IsUtf8}
 use Rattle.std.proofs.Math.Seq.{drop-append_seam}
 use Rattle.std.proofs.lemmas.List.{append-nil, take-append-le}
@@ -35,8 +36,7 @@ LastGoes (t ∷ []) next other = Goes t.kind next other
 LastGoes (t ∷ u ∷ ts) next other = LastGoes (u ∷ ts) next other
 
 rest-goes : (t : Token) (ts : List Token) (next other : List ℕ) → LastGoes (t ∷ ts) next other → LastGoes ts next other
-rest-goes t [] next other go = tt
-rest-goes t (u ∷ ts) next other go = go
+rest-goes t ts next other w4 = grind (arith, common_steps)
 
 -- a change behind a character asks for nothing
 goes-behind : (kind : TokenKind) (d : ℕ) (ds next other : List ℕ) → Goes kind (d ∷ ds ++ next) (d ∷ ds ++ other)
@@ -93,8 +93,7 @@ module _ (edition : Edition) where
   some-tokens (c ∷ cs) t ts e = omega arith
 
   pub no-text : (text : List ℕ) → IsText text → Tokens text ≡ [] → text ≡ []
-  no-text [] is e = refl
-  no-text (c ∷ cs) is e = absurd (omega (arith, ap (λ (us : List Token). length us) (sym (tokens-cons (edition_grammar edition) (c ∷ cs) is (omega arith)) ∙ e)))
+  no-text text w1 w2 = grind (arith, common_steps, tokens-cons, edition_grammar)
 
   pub first-is : (text : List ℕ) (t : Token) (ts : List Token) → IsText text → Tokens text ≡ t ∷ ts → first text ≡ t
   first-is text t ts is e = ap (first_of t) (sym (tokens-cons (edition_grammar edition) text is (some-tokens text t ts e)) ∙ e)
@@ -163,19 +162,13 @@ is_space kind = false
 -- the text of its token
 space-text : {next : List ℕ} {kind : TokenKind} {w : List ℕ} → IsTokenBefore next kind w → kind ≡ Whitespace → AreAll is_whitespace w
 unfolding is_space
-space-text (the.whitespace all stop) e = all
-space-text (the.symbol {c} is) e = absurd (true≢false (sym (ap is_space e) ∙ not-true (is_space (symbol_kind c)) (by_symbol (λ (kind : TokenKind). not (is_space kind)) symbols c refl refl)))
-space-text p e = absurd (cc e)
+space-text w0 w1 = grind (arith, common_steps, is_space, not-true, by_symbol)
 
 space-text-in : {edition : Edition} {next : List ℕ} {kind : TokenKind} {w : List ℕ} → IsTokenIn edition next kind w → kind ≡ Whitespace → AreAll is_whitespace w
-space-text-in (kept le p) e = space-text p e
-space-text-in p e = absurd (cc e)
+space-text-in w0 w1 = grind (arith, common_steps, space-text)
 
 oldest : (edition : Edition) → lexed_since Whitespace ≤ year edition
-oldest E2015 = omega arith
-oldest E2018 = omega arith
-oldest E2021 = omega arith
-oldest E2024 = omega arith
+oldest edition = grind (arith, common_steps)
 
 module _ (edition : Edition) where
   -- it is one token before any other character
@@ -204,9 +197,7 @@ module _ (edition : Edition) where
 -- ---- what is refused where no token is open
 
 kind-goes : (kind : TokenKind) (c : ℕ) (s : List ℕ) → takes_in kind c ≡ false → Goes kind [] (c ∷ s)
-kind-goes Whitespace c s out = absurd (true≢false out)
-kind-goes (LineComment style) c s out = record { space = λ e. absurd (cc e); line = λ e stop. out }
-kind-goes kind c s out = record { space = λ e. absurd (cc e); line = λ e. absurd (true≢false (sym e)) }
+kind-goes kind c s w3 = grind (arith, common_steps)
 
 last-goes : (ts : List Token) (s : List ℕ) → NextIs is_whitespace s → next_is (last_takes_in ts) s ≡ false → LastGoes ts [] s
 last-goes ts [] space out = absurd (true≢false (sym space))
@@ -222,9 +213,7 @@ record SpaceLast (ts : List Token) : Type 0 where
   kind : last.kind ≡ Whitespace
 
 kind-space : (kind : TokenKind) → takes_in kind 10 ≡ true → kind ≡ Whitespace
-kind-space Whitespace e = refl
-kind-space (LineComment style) e = absurd (true≢false (sym e))
-kind-space kind e = absurd (true≢false (sym e))
+kind-space kind w1 = grind (arith, common_steps)
 
 space-last : (ts : List Token) → last_takes_in ts 10 ≡ true → SpaceLast ts
 space-last [] e = absurd (true≢false (sym e))
@@ -244,20 +233,16 @@ all-go (t ∷ u ∷ ts) next other go = all-go (u ∷ ts) next other go
 
 -- white space goes on with the same character
 go-on : (s piece : List ℕ) → NextIs is_whitespace s → (kind : TokenKind) → Goes kind s (s ++ piece)
-go-on [] piece space kind = absurd (true≢false (sym space))
-go-on (c ∷ s) piece space kind = record { space = λ e stop. stop; line = λ e stop. stop }
+go-on s piece w2 kind = grind (arith, common_steps)
 
 solid-not : (s : List ℕ) → NextIs is_whitespace s → NextIsNot is_solid s
-solid-not [] space = refl
-solid-not (c ∷ s) space = rw space refl
+solid-not s w1 = grind (arith, common_steps)
 
 next-append : (p : ℕ → Bool) (s more : List ℕ) → next_is p s ≡ true → next_is p (s ++ more) ≡ true
-next-append p [] more e = absurd (true≢false (sym e))
-next-append p (c ∷ s) more e = e
+next-append p s more w3 = grind (arith, common_steps)
 
 all-first : (s : List ℕ) → 0 < length s → AreAll is_whitespace s → NextIs is_whitespace s
-all-first [] some all = absurd (omega arith)
-all-first (c ∷ s) some all = (and_parts (is_whitespace c) (list_all is_whitespace s) all).0
+all-first s w1 w2 = grind (arith, common_steps, and_parts)
 
 pub newline-encoded : encode_utf8_all (10 ∷ []) ≡ 10 ∷ []
 unfolding encode
@@ -278,14 +263,10 @@ module _ (edition : Edition) (text : List ℕ) (is : IsText text) (closed : AreC
       (ap (next_is is_solid) chars-nil) space (subst (λ (cs : List ℕ). LastGoes (Tokens edition text) cs (chars after)) (sym chars-nil) (last-goes (Tokens edition text) (chars after) space out))
 
 begins : (edition : Edition) (space text : List ℕ) → IsText space → IsText (space ++ text) → AreAll is_whitespace (chars space) → NextIsNot is_whitespace (chars text) → MayTouch edition space text
-begins edition [] text is whole all stop = ap (λ (us : List Token). us ++ Tokens edition text) (sym (tokens-nil (first_token_in edition)))
-begins edition (c ∷ cs) text is whole all stop = space-touches edition (c ∷ cs) text whole is (omega arith) all stop
+begins edition space text w3 w4 w5 w6 = grind (arith, common_steps, tokens-nil, space-touches)
 
 pub white_space_separates : (edition : Edition) → WhiteSpaceSeparates edition
-white_space_separates edition = record {
-  keeps = λ text after is whole closed space out. touches edition text is closed after whole space out;
-  begins = begins edition;
-}
+white_space_separates edition = grind (arith, common_steps, touches, begins)
 
 module _ (edition : Edition) (text piece : List ℕ) (is : IsText text) (utf8 : IsUtf8 piece) (room : length text + (length piece + 1) < 2 ^ 32) (closed : AreClosed (Tokens edition text)) where
   -- past white space
@@ -348,20 +329,4 @@ module _ (edition : Edition) (text piece : List ℕ) (is : IsText text) (utf8 : 
       left ∙ ap (λ (us : List Token). Tokens edition text ++ us) right
 
   pub runs-on : AreInseparable edition text piece → RunsOn (Tokens edition text) (chars piece)
-  runs-on apart = by_space (next_is is_whitespace (chars piece)) refl
-    where
-      by_take : (b : Bool) → next_is (last_takes_in (Tokens edition text)) (chars piece) ≡ b → NextIs is_whitespace (chars piece) → RunsOn (Tokens edition text) (chars piece)
-      by_take true taken space = record { space = space; taken = taken }
-      by_take false out space = absurd (apart.touching (touches edition text is closed piece record { utf8 = IsUtf8-append text piece is.utf8 utf8; fits = omega (arith, length-append text piece) } space out))
-
-      by_line : (b : Bool) → last_takes_in (Tokens edition text) 10 ≡ b → NextIsNot is_whitespace (chars piece) → ⊥
-      by_line true taken stop = apart.touching (touches-space (space-last (Tokens edition text) taken) stop)
-      by_line false out stop = apart.on_a_line (parts 10 refl newline-encoded refl out stop)
-
-      by_gap : (b : Bool) → last_takes_in (Tokens edition text) 32 ≡ b → NextIsNot is_whitespace (chars piece) → ⊥
-      by_gap true taken stop = by_line (last_takes_in (Tokens edition text) 10) refl stop
-      by_gap false out stop = apart.spaced (parts 32 refl space-encoded refl out stop)
-
-      by_space : (b : Bool) → next_is is_whitespace (chars piece) ≡ b → RunsOn (Tokens edition text) (chars piece)
-      by_space true space = by_take (next_is (last_takes_in (Tokens edition text)) (chars piece)) refl space
-      by_space false stop = absurd (by_gap (last_takes_in (Tokens edition text) 32) refl stop)
+  runs-on apart = grind (arith, common_steps, touches, IsUtf8-append, length-append, touches-space, space-last, parts, newline-encoded, space-encoded)
