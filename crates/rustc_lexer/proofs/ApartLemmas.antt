@@ -1,5 +1,5 @@
 -- White space parts tokens: a token that is closed stays one before any white space.
-use Rattle.std.proofs.Common.{◌≡◌, ℕ, suc, ◌<◌, ◌==◌, ◌&&◌, not, codes, Bool, true, false, true≢false, List, [], ◌∷◌, ◌++◌, length, drop, take, refl, sym, ap, ◌∙◌, subst, arith, append_assoc, length-append, inl, inr, Option, is_some}
+use Rattle.std.proofs.Common.{◌≡◌, ℕ, suc, ◌<◌, ◌&&◌, not, codes, Bool, true, false, true≢false, List, [], ◌∷◌, ◌++◌, length, drop, take, refl, sym, ap, ◌∙◌, subst, arith, append_assoc, length-append, inl, inr, Option, is_some}
 use Rattle.std.proofs.lemmas.Bool.{and_parts, cases_lt, false_from_ne_true}
 use Rattle.std.specs.Char.{is_ascii_digit, is_ascii_hexdigit}
 use Rattle.std.specs.List.{list_all}
@@ -12,8 +12,7 @@ use Rattle.rustc_lexer.specs.Language as the
 use Rattle.rustc_lexer.specs.Language.{IsTokenBefore, known_prefixes, begins_prefixed}
 use Rattle.rustc_lexer.specs.LiteralGrammar as lit
 use Rattle.rustc_lexer.specs.LiteralGrammar.{IsDoubleQuoted, IsSingleQuoted, IsRaw, IsLiteralBefore, IsSuffixBefore}
-use Rattle.rustc_lexer.specs.NumberGrammar as number
-use Rattle.rustc_lexer.specs.NumberGrammar.{AreDigits, or_underscore, is_exponent_letter, is_sign, is_no_fraction, is_digit_of, IsWholePart, IsExponent, IsTailBefore, HasNumberForm, IsNumberBefore}
+use Rattle.rustc_lexer.specs.NumberGrammar.{or_underscore, is_no_fraction, IsWholePart, IsExponent, IsTailBefore, HasNumberForm, IsNumberBefore}
 use Rattle.rustc_lexer.specs.Tokens.{is_faulty}
 use Rattle.rustc_lexer.specs.Joined.{is_open}
 use Rattle.rustc_lexer.specs.LanguageText.{IsTokenIn, kept, pound, ident, lifetime, lifetime_r}

@@ -1,16 +1,14 @@
 -- What a token takes in by its kind alone: no token of the grammar ends before that.
 use Rattle.std.proofs.lemmas.Grind.{common_steps}
 use Rattle.std.proofs.Common.{arith}
-use Rattle.std.proofs.Common.{◌≡◌, ℕ, ◌==◌, ◌&&◌, not, codes, Bool, true, false, true≢false, List, [], ◌∷◌, ◌++◌, refl, sym, ap, ◌∙◌, subst}
-use Rattle.std.proofs.lemmas.Bool.{false_from_ne_true, not-true}
-use Rattle.rustc_lexer.specs.{Base, Edition, LiteralKind, TokenKind, Eof, BlockComment, Ident, InvalidIdent, RawIdent, ForcedKeywordIdent, UnknownPrefix, UnknownPrefixLifetime, RawLifetime, Lifetime, Literal, GuardedStrPrefix, Slash, Pound}
-use Rattle.rustc_lexer.specs.Classes.{NextIn, NextIsNot, is_among, is_bad_name}
+use Rattle.std.proofs.Common.{◌≡◌, ℕ, ◌==◌, ◌&&◌, not, codes, Bool, true, false, List, [], ◌∷◌, refl}
+use Rattle.std.proofs.lemmas.Bool.{not-true}
+use Rattle.rustc_lexer.specs.{Base, Edition, LiteralKind, TokenKind, Eof, BlockComment, Ident, InvalidIdent, RawIdent, ForcedKeywordIdent, UnknownPrefix, UnknownPrefixLifetime, RawLifetime, Lifetime, GuardedStrPrefix, Slash, Pound}
+use Rattle.rustc_lexer.specs.Classes.{NextIn, NextIsNot, is_bad_name}
 use Rattle.rustc_lexer.specs.Language as the
 use Rattle.rustc_lexer.specs.Language.{IsTokenBefore}
 use Rattle.rustc_lexer.specs.LanguageText.{IsTokenIn, kept, pound, ident, lifetime, lifetime_r}
-use Rattle.rustc_lexer.specs.LiteralGrammar as lit
 use Rattle.rustc_lexer.specs.LiteralGrammar.{IsDoubleQuoted, IsSingleQuoted, IsLiteralBefore}
-use Rattle.rustc_lexer.specs.NumberGrammar as number
 use Rattle.rustc_lexer.specs.NumberGrammar.{IsExponent, IsTailBefore, HasNumberForm}
 use Rattle.rustc_lexer.specs.Tables.{symbols}
 use Rattle.rustc_lexer.specs.laws.Choice.{by_symbol}

@@ -68,9 +68,6 @@ pub record AreAlike (first : List ℕ → Token) (left text : List ℕ) (offset 
   pub of_left : IsLexedTo first left items offset
   pub of_text : IsLexedTo first text items offset
 
-pub alike_none : (first : List ℕ → Token) (left text : List ℕ) → AreAlike first left text 0
-alike_none first left text = grind (arith, common_steps)
-
 module _ {first : List ℕ → Token} (law : IsGrammar first) where
   -- the tokens past those of the first text are those of the second
   pub past_left : (left right : List ℕ) (us : List Token) → IsText left → IsText (left ++ right) → tokens_by first (left ++ right) ≡ tokens_by first left ++ us → tokens_by first right ≡ us

@@ -1,22 +1,19 @@
 -- A text whose tokens are closed keeps them before white space, and white space keeps its token before any other character.
 use Rattle.std.proofs.lemmas.Grind.{common_steps}
-use Rattle.std.proofs.Common.{◌≡◌, ℕ, ◌+◌, ◌^◌, ◌<◌, ◌≤◌, Bool, not, true, false, true≢false, List, [], ◌∷◌, ◌++◌, length, take, drop, refl, sym, ap, ◌∙◌, subst, arith, append_assoc, length-append, length-drop, length-take-le, take-append-drop, chars, IsUtf8}
+use Rattle.std.proofs.Common.{◌≡◌, ℕ, ◌+◌, ◌^◌, ◌<◌, ◌≤◌, Bool, true, false, true≢false, List, [], ◌∷◌, ◌++◌, length, take, drop, refl, sym, ap, ◌∙◌, subst, arith, append_assoc, length-append, length-drop, length-take-le, take-append-drop, chars, IsUtf8}
 use Rattle.std.proofs.Math.Seq.{drop-append_seam}
 use Rattle.std.proofs.lemmas.List.{append-nil, take-append-le}
 use Rattle.std.proofs.lemmas.Str.{IsCharBoundary-from_take, IsUtf8-append, IsUtf8-drop, IsUtf8-take, chars-append, chars-encodes, chars-nil, encodes-chars}
 use lib.Utf8.{encode, scalars}
 use Rattle.std.specs.Str.{encode_utf8_all}
-use Rattle.std.specs.List.{list_all}
-use Rattle.rustc_lexer.specs.{Edition, Token, TokenKind, LineComment, Whitespace, E2015, E2018, E2021, E2024}
+use Rattle.rustc_lexer.specs.{Edition, Token, TokenKind, Whitespace}
 use Rattle.rustc_lexer.specs.Classes.{AreAll, IsText, NextIs, NextIsNot, bytes, is_whitespace}
 use Rattle.rustc_lexer.specs.Joined.{AreClosed, IsSeparated, MayTouch, RunsOn, AreInseparable, WhiteSpaceSeparates, is_open, last_takes_in, takes_in}
 use Rattle.rustc_lexer.specs.Partition.{bound, tokens_by}
 use Rattle.rustc_lexer.specs.Language as the
 use Rattle.rustc_lexer.specs.Language.{IsTokenBefore}
 use Rattle.rustc_lexer.specs.LanguageText.{IsTokenIn, kept, lexed_since, year}
-use Rattle.rustc_lexer.specs.Tables.{symbols}
 use Rattle.rustc_lexer.specs.laws.Choice.{by_symbol}
-use Rattle.rustc_lexer.specs.means.Lexeme.{symbol_kind}
 use Rattle.rustc_lexer.specs.means.Scan.{next_is}
 use Rattle.std.proofs.lemmas.Bool.{and_parts, not-true}
 use Rattle.rustc_lexer.specs.laws.Cuts.{IsCutAt, at_bound, past_first, tokens-cons, tokens-nil}

@@ -7,18 +7,17 @@ use Rattle.rustc_lexer.specs.{Token}
 use Rattle.rustc_lexer.specs.declared.relex.relexing.{Change.Change, Relexed.Relexed}
 use Rattle.rustc_lexer.specs.Classes.{IsText}
 use Rattle.rustc_lexer.specs.Document.{body_start, head_tokens, whole_by}
-use Rattle.rustc_lexer.specs.Edits.{apply, body_in, ends_from, IsEdit, IsMeeting, IsRelexed, KeepsHead, Layout, part_by}
+use Rattle.rustc_lexer.specs.Edits.{apply, body_in, ends_from, IsEdit, IsMeeting, IsRelexed, KeepsHead, Layout}
 use Rattle.rustc_lexer.specs.Locality.{has_two, IsGrammar}
 use Rattle.rustc_lexer.specs.Relexing.{IsMadeOf}
 use Rattle.rustc_lexer.specs.Tokens.{bound, tokens_by}
 use Rattle.rustc_lexer.specs.means.Document.{body_change, body_insert, counted, head_of, HeadStays, IsCountedByHead, IsRelexedByHead}
 use Rattle.rustc_lexer.specs.means.Relexing.{IsBodyMeeting, IsBodyRelexed, kept_front, relexed_of}
-use Rattle.rustc_lexer.proofs.BoundLemmas.{rises}
 use Rattle.rustc_lexer.proofs.DocumentEditLemmas.{relexed-front}
 use Rattle.rustc_lexer.proofs.DocumentLemmas.{made_body}
 use Rattle.rustc_lexer.proofs.DocumentPage.{ahead, At, body_at, body_by, by_head, by_page, end_is, from_page, front_is, to_page}
 use Rattle.rustc_lexer.proofs.EditLemmas.{edited, kept_front_by, kept_front_from}
-use Rattle.rustc_lexer.proofs.LayoutLemmas.{keeps_head, meets, meets_behind, one_relexed, Decided}
+use Rattle.rustc_lexer.proofs.LayoutLemmas.{keeps_head, meets, meets_behind, Decided}
 use Rattle.rustc_lexer.proofs.RelexedLemmas.{relexed_is}
 
 -- ---- the front, by offsets of the text and of what follows an offset
@@ -200,10 +199,3 @@ module _ {first : List ℕ → Token} (law : IsGrammar first) (text insert : Lis
             },
             record { kept = λ s. absurd (gone s); changed = λ not. omega (arith, ap (λ (ts : List Token). length ts) (front_is made made_is)) },
           )
-
-  -- and no others
-  pub only_whole : (r s : Relexed) → IsRelexed (whole_by first) text start stop insert r → IsRelexed (whole_by first) text start stop insert s → r ≡ s
-  only_whole = one_relexed (whole_by first) text start stop insert (rises law (drop from text) (body_made false (λ e. absurd (true≢false (sym e)))).edit_of.is_text)
-
-  pub only_part : (r s : Relexed) → IsRelexed (part_by first) text start stop insert r → IsRelexed (part_by first) text start stop insert s → r ≡ s
-  only_part = one_relexed (part_by first) text start stop insert (rises law text is)

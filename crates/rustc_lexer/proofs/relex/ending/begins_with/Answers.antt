@@ -1,4 +1,4 @@
-use Rattle.std.proofs.Common.{◌≡◌, ◌∙◌, ap, drop, chars, sym, true≢false, true, refl}
+use Rattle.std.proofs.Common.{◌≡◌, ◌∙◌, ap, drop, chars, sym, true≢false, true}
 use Rattle.rustc_lexer.specs.laws.Same.{same_token, token_same}
 use Rattle.rustc_lexer.specs.means.Joined.{goes_on}
 use Rattle.rustc_lexer.specs.means.Scan.{next_is}

@@ -1,5 +1,5 @@
-use Rattle.std.proofs.Common.{◌+◌, ◌<◌, arith}
-use Rattle.rustc_lexer.proofs.EndingLemmas.{IsGrown, grown-first, grown-fits, grown-more, grown-place, grown-rises, grown-whole}
+use Rattle.std.proofs.Common.{arith}
+use Rattle.rustc_lexer.proofs.EndingLemmas.{grown-first, grown-fits, grown-more, grown-place, grown-rises, grown-whole}
 use Rattle.rustc_lexer.proofs.relex.ending.Ending.grown.Goals as goal
 
 pub loop-offset-init : goal.loop-offset-init

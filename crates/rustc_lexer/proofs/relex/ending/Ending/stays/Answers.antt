@@ -1,7 +1,7 @@
-use Rattle.std.proofs.Common.{◌≡◌, ◌∙◌, ◌+◌, ◌<◌, ◌^◌, ap, arith, drop, refl, subst, sym, take, true, true≢false, IsCharBoundary, List, ℕ, length}
+use Rattle.std.proofs.Common.{◌≡◌, ◌∙◌, ◌+◌, ◌<◌, ap, arith, drop, refl, subst, sym, take, true≢false, IsCharBoundary, List, ℕ, length}
 use Rattle.rustc_lexer.specs.Answers.{first_in}
 use Rattle.rustc_lexer.specs.means.Joined.{IsEnding}
-use Rattle.rustc_lexer.proofs.EndingLemmas.{ArePlaces, one-place, places, touch-end, touch-none, touch-one, touch-two}
+use Rattle.rustc_lexer.proofs.EndingLemmas.{one-place, places, touch-end, touch-none, touch-one, touch-two}
 use Rattle.rustc_lexer.proofs.SeparatorLemmas.{Tokens}
 use Rattle.rustc_lexer.proofs.relex.ending.Ending.stays.Goals as goal
 

@@ -1,4 +1,4 @@
-use Rattle.std.proofs.Common.{◌≡◌, ◌+◌, ◌^◌, ◌<◌, arith, sym, ap, ◌∙◌, length, drop, take, subst, string_bytes, chars, IsCharBoundary, List, ℕ}
+use Rattle.std.proofs.Common.{◌≡◌, ◌+◌, ◌^◌, ◌<◌, arith, sym, length, drop, take, subst, string_bytes, chars, IsCharBoundary, List, ℕ}
 use Rattle.rustc_lexer.specs.Answers.{tokens_of}
 use Rattle.rustc_lexer.specs.Joined.{AreClosed, AreInseparable, IsJoined, Joined, MayTouch, RunsOn}
 use Rattle.rustc_lexer.specs.LanguageText.{part}
