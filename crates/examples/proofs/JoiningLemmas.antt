@@ -1,5 +1,5 @@
 -- The tokens of the text that pieces make.
-use Rattle.std.proofs.Common.{◌≡◌, List, [], ◌∷◌, ◌++◌, ap, subst, sym}
+use Rattle.std.proofs.Common.{◌≡◌, List, [], ◌∷◌, ◌++◌, subst, sym}
 use Rattle.rustc_lexer.specs.Answers.{first_in}
 use Rattle.rustc_lexer.specs.Classes.{Utf8}
 use Rattle.rustc_lexer.specs.Joined as step
