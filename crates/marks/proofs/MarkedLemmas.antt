@@ -1,5 +1,5 @@
 -- What a marked text says, and the calls that write it.
-use Rattle.std.proofs.Common.{◌≡◌, ℕ, List, [], ◌∷◌, ◌++◌, length, take, drop, refl, sym, ap, ◌∙◌, arith, take-add, Option, append-nil}
+use Rattle.std.proofs.Common.{◌≡◌, ℕ, List, [], ◌∷◌, length, take, drop, refl, ap, ◌∙◌, arith, take-add, Option, append-nil}
 use Rattle.std.specs.Fmt.{WritesInCalls}
 use Rattle.std.proofs.lemmas.List.Concat.{flat_map-append}
 use Rattle.std.proofs.lemmas.Grind.{common_steps}
@@ -13,10 +13,7 @@ use Rattle.marks.specs.declared.class.Class.TheVariants.{Comment}
 use Rattle.marks.specs.declared.fault.Fault.{Fault}
 use Rattle.marks.specs.declared.style.Style.{Style}
 use Rattle.marks.specs.declared.style.Style.TheVariants.{Html}
-use Rattle.marks.specs.Class.{class_of}
 use Rattle.marks.specs.Escape.{unescaped, untagged}
-use Rattle.marks.specs.Fault.{fault_of}
-use Rattle.marks.specs.Literal.{mode_of}
 use Rattle.marks.specs.Marked.{marked, marked_tokens, parts, parts_by, text_parts, token_parts}
 use Rattle.marks.specs.Part.{Own, own, with_marks, without_marks}
 use Rattle.marks.proofs.EscapeLemmas.{unescaped_escaped}
