@@ -11,7 +11,8 @@ use Rattle.marks.specs.declared.fault.Fault.{Fault}
 use Rattle.marks.specs.declared.style.Style.{Style}
 use Rattle.marks.specs.declared.style.Style.TheVariants.{Html}
 use Rattle.marks.specs.Escape.{escaped, escaped_byte, untagged, untagged_from}
-use Rattle.marks.specs.Fault.{error_sentence, sentence}
+use Rattle.marks.specs.Fault.{sentence}
+use Rattle.rustc_literal_escaper.specs.Numbers.{error_sentence}
 use Rattle.marks.specs.Mark.{class_open, class_close, fault_open, fault_close}
 use Rattle.marks.specs.Part.{Part, Own, Close, fault_parts, first_line, own, shown, with_marks, without_marks, written}
 use Rattle.marks.proofs.CallLemmas.{no_calls, one_call, writes_both}

@@ -1,5 +1,5 @@
 -- The error of a token, and the sentence that describes it.
-use Rattle.std.specs.Prelude.{ℕ, ◌-◌, ◌==◌, Bool, true, false, ◌&&◌, nat_lt, if◌then◌else◌, List, [], ◌++◌, codes, decimal, drop, get_or, map, Option, Some, None, Result, Ok, Err}
+use Rattle.std.specs.Prelude.{ℕ, ◌-◌, ◌==◌, Bool, true, false, ◌&&◌, nat_lt, if◌then◌else◌, List, ◌++◌, codes, decimal, drop, Option, Some, None, Result, Ok, Err}
 use Rattle.std.specs.Str.{byte, chars}
 use Rattle.rustc_lexer.specs.declared.token.LiteralKind.{LiteralKind}
 use Rattle.rustc_lexer.specs.declared.token.LiteralKind.TheVariants.{Int, Float, Char, Byte, Str, ByteStr, CStr, RawStr, RawByteStr, RawCStr}
@@ -11,9 +11,8 @@ use Rattle.rustc_lexer.specs.Answers.{raw_check}
 use Rattle.rustc_lexer.specs.Classes.{next_is}
 use Rattle.marks.specs.declared.fault.Fault.{Fault}
 use Rattle.marks.specs.declared.fault.Fault.TheVariants.{OpenComment, FrontmatterSpace, FrontmatterInfostring, InvalidName, UnknownPrefix, UnknownLifetimePrefix, GuardedString, InvalidLifetime, UnknownCharacter, EmptyNumber, EmptyExponent, OpenCharacter, OpenByte, OpenString, RawStarter, OpenRawString, FewHashes, ManyHashes, InLiteral}
-use Rattle.marks.specs.declared.fault.TheConstants.{ERRORS, OPEN_COMMENT, FRONTMATTER_SPACE, FRONTMATTER_INFOSTRING, INVALID_NAME, UNKNOWN_PREFIX, UNKNOWN_LIFETIME_PREFIX, GUARDED_STRING, INVALID_LIFETIME, UNKNOWN_CHARACTER, EMPTY_NUMBER, EMPTY_EXPONENT, OPEN_CHARACTER, OPEN_BYTE, OPEN_STRING, RAW_STARTER}
-use Rattle.rustc_literal_escaper.specs.declared.error.EscapeError.{EscapeError}
-use Rattle.rustc_literal_escaper.specs.Numbers.{error_number}
+use Rattle.marks.specs.declared.fault.TheConstants.{OPEN_COMMENT, FRONTMATTER_SPACE, FRONTMATTER_INFOSTRING, INVALID_NAME, UNKNOWN_PREFIX, UNKNOWN_LIFETIME_PREFIX, GUARDED_STRING, INVALID_LIFETIME, UNKNOWN_CHARACTER, EMPTY_NUMBER, EMPTY_EXPONENT, OPEN_CHARACTER, OPEN_BYTE, OPEN_STRING, RAW_STARTER}
+use Rattle.rustc_literal_escaper.specs.Numbers.{error_sentence}
 
 -- the error for a reader, by the reason why a raw string is refused
 abbrev pub refusal : RawStrError → Fault
@@ -59,10 +58,6 @@ fault_of (Lifetime true) text = Some InvalidLifetime
 fault_of Unknown text = Some UnknownCharacter
 fault_of (Literal kind suffix_start) text = literal_fault kind text
 fault_of kind text = None
-
--- the sentence for an error between the quotes of a literal
-abbrev pub error_sentence : EscapeError → List ℕ
-error_sentence error = get_or (map (λ words. words.now) ERRORS) (error_number error - 1) []
 
 unfoldable pub sentence : Fault → List ℕ
 sentence OpenComment = OPEN_COMMENT.now

@@ -1,7 +1,7 @@
 //! The faults of tokens.
 ghost use Rattle.std.specs.Prelude.{◌≡◌, Some};
 ghost use Rattle.rustc_lexer.specs.Classes.{Fits};
-ghost use Rattle.marks.specs.Fault.{error_sentence, fault_of, literal_fault, raw_fault, sentence};
+ghost use Rattle.marks.specs.Fault.{fault_of, literal_fault, raw_fault, sentence};
 
 use rustc_lexer::{LiteralKind, RawStrError, TokenKind, starts_raw, validate_raw_str};
 use rustc_literal_escaper::EscapeError;
@@ -166,40 +166,6 @@ const OPEN_STRING: &str = "nothing closes this string";
 
 const RAW_STARTER: &str = "no quote follows: a raw string begins with hashes and a quote";
 
-/// What is said of each error between the quotes of a literal, in the order of `EscapeError`.
-const ERRORS: [&str; 23] = [
-    "nothing is between these quotes: one character goes there",
-    "more than one character is between these quotes",
-    "nothing follows this backslash, which begins an escape",
-    "there is no such escape: a backslash itself is written twice",
-    "a carriage return cannot stand here itself: it is written as \\r",
-    "a raw string cannot hold a carriage return",
-    "this character cannot stand here itself: it is written as an escape",
-    "this escape ends too early: \\x takes two hexadecimal digits",
-    "this is no hexadecimal digit: \\x takes two of them",
-    "this escape is out of range: here \\x goes up to 7f",
-    "no brace follows here: \\u takes its digits in braces",
-    "this is neither a hexadecimal digit nor an underscore nor a closing brace",
-    "no digit is between these braces: \\u takes one to six",
-    "nothing closes this escape: a brace would",
-    "an underscore is the first here: \\u takes a digit first",
-    "too many digits are between these braces: \\u takes six at most",
-    "this is the number of a surrogate, which is no character",
-    "no character has so great a number: the greatest is 10ffff",
-    "no byte is written like this: \\x writes one",
-    "this character is not in ASCII, and so is no byte",
-    "a C string cannot hold a NUL, which ends it",
-    "not all white space after this line end is skipped: spaces, tabs and line ends are",
-    "more than one line end is skipped here",
-];
-
-/// Returns a sentence that says what is wrong between the quotes of a literal.
-fn error_sentence(error: EscapeError) -> &'static str
-    ensures { result.now ≡ error_sentence error }
-{
-    ERRORS[error as usize]
-}
-
 impl fmt::Display for Fault {
     ghost output = { λ fault. Some (sentence fault) };
 
@@ -221,7 +187,7 @@ impl fmt::Display for Fault {
             Fault::OpenByte => f.write_str(OPEN_BYTE),
             Fault::OpenString => f.write_str(OPEN_STRING),
             Fault::RawStarter => f.write_str(RAW_STARTER),
-            Fault::InLiteral(error) => f.write_str(error_sentence(*error)),
+            Fault::InLiteral(error) => error.fmt(f),
             Fault::OpenRawString { expected } => write!(
                 f,
                 "nothing closes this raw string: a quote and {expected} # would"

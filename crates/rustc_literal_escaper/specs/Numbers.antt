@@ -1,7 +1,8 @@
--- The numbers of errors, for other languages and for tables.
-use Rattle.std.specs.Prelude.{ℕ}
+-- The numbers of errors, for other languages and for tables, and the sentence about each.
+use Rattle.std.specs.Prelude.{ℕ, ◌-◌, List, [], get_or, map}
 use Rattle.rustc_literal_escaper.specs.declared.error.EscapeError.{EscapeError}
 use Rattle.rustc_literal_escaper.specs.declared.error.EscapeError.TheVariants.{ZeroChars, MoreThanOneChar, LoneSlash, InvalidEscape, BareCarriageReturn, BareCarriageReturnInRawString, EscapeOnlyChar, TooShortHexEscape, InvalidCharInHexEscape, OutOfRangeHexEscape, NoBraceInUnicodeEscape, InvalidCharInUnicodeEscape, EmptyUnicodeEscape, UnclosedUnicodeEscape, LeadingUnderscoreUnicodeEscape, OverlongUnicodeEscape, LoneSurrogateUnicodeEscape, OutOfRangeUnicodeEscape, UnicodeEscapeInByte, NonAsciiCharInByte, NulInCStr, UnskippedWhitespaceWarning, MultipleSkippedLinesWarning}
+use Rattle.rustc_literal_escaper.specs.declared.error.TheConstants.{ERRORS}
 
 -- errors are numbered in order, from 1 on. A number never changes: a new error gets a new one
 abbrev pub error_number : EscapeError → ℕ
@@ -28,3 +29,7 @@ error_number NonAsciiCharInByte = 20
 error_number NulInCStr = 21
 error_number UnskippedWhitespaceWarning = 22
 error_number MultipleSkippedLinesWarning = 23
+
+-- the sentence about an error
+abbrev pub error_sentence : EscapeError → List ℕ
+error_sentence error = get_or (map (λ words. words.now) ERRORS) (error_number error - 1) []

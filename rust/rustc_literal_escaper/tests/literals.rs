@@ -406,5 +406,29 @@ fn modes_and_units() {
     let units: HashSet<MixedUnit> = twice.map(Result::unwrap).collect();
     assert_eq!(units.len(), 255);
     fn is_key<T: Copy + Eq + std::hash::Hash + std::fmt::Debug>() {}
-    is_key::<MixedUnit>();
+    is_key::<(MixedUnit, Mode, EscapeError)>();
+}
+
+/// An error goes behind `?`, and says what is wrong. tests/sentences.rs of marks has each sentence.
+#[test]
+fn errors_have_sentences() {
+    fn is_error<T: std::error::Error + Send + Sync + 'static>() {}
+    is_error::<EscapeError>();
+    for (error, sentence) in [
+        (
+            ZeroChars,
+            "nothing is between these quotes: one character goes there",
+        ),
+        (
+            LoneSlash,
+            "nothing follows this backslash, which begins an escape",
+        ),
+        (NulInCStr, "a C string cannot hold a NUL, which ends it"),
+        (
+            MultipleSkippedLinesWarning,
+            "more than one line end is skipped here",
+        ),
+    ] {
+        assert_eq!(error.to_string(), sentence);
+    }
 }

@@ -1,6 +1,9 @@
 //! The errors and warnings of a literal.
 
-/// An error in a literal, or a warning about it.
+use core::error::Error;
+use core::fmt;
+
+/// An error in a literal, or a warning about it. Its `Display` writes a sentence about it.
 #[derive(Clone, Copy, Debug, PartialEq, Eq)]
 pub enum EscapeError {
     /// A character or byte literal with nothing in it: `''`.
@@ -67,3 +70,38 @@ impl EscapeError {
         )
     }
 }
+
+/// What is said of each error, in the order of `EscapeError`.
+const ERRORS: [&str; 23] = [
+    "nothing is between these quotes: one character goes there",
+    "more than one character is between these quotes",
+    "nothing follows this backslash, which begins an escape",
+    "there is no such escape: a backslash itself is written twice",
+    "a carriage return cannot stand here itself: it is written as \\r",
+    "a raw string cannot hold a carriage return",
+    "this character cannot stand here itself: it is written as an escape",
+    "this escape ends too early: \\x takes two hexadecimal digits",
+    "this is no hexadecimal digit: \\x takes two of them",
+    "this escape is out of range: here \\x goes up to 7f",
+    "no brace follows here: \\u takes its digits in braces",
+    "this is neither a hexadecimal digit nor an underscore nor a closing brace",
+    "no digit is between these braces: \\u takes one to six",
+    "nothing closes this escape: a brace would",
+    "an underscore is the first here: \\u takes a digit first",
+    "too many digits are between these braces: \\u takes six at most",
+    "this is the number of a surrogate, which is no character",
+    "no character has so great a number: the greatest is 10ffff",
+    "no byte is written like this: \\x writes one",
+    "this character is not in ASCII, and so is no byte",
+    "a C string cannot hold a NUL, which ends it",
+    "not all white space after this line end is skipped: spaces, tabs and line ends are",
+    "more than one line end is skipped here",
+];
+
+impl fmt::Display for EscapeError {
+    fn fmt(&self, f: &mut fmt::Formatter) -> fmt::Result {
+        f.write_str(ERRORS[*self as usize])
+    }
+}
+
+impl Error for EscapeError {}
