@@ -28,6 +28,17 @@ WRITES = [(f"crates/{name}/out/{name}", None, SHELL + "echo planted\n") for name
 FAILS = [(f"crates/{name}/out/{name}", None, SHELL + "exit 1\n") for name in ("lexdump", "highlight")]
 NO_CARGO = stand_in("cargo", "echo planted\nexit 1\n")
 
+
+def documented(sentence):
+    """A `cargo` that does nothing, but writes an index with this sentence in the place of rustdoc."""
+    page = f'<dt><a title="struct planted">planted</a></dt><dd>{sentence}</dd>'
+    return stand_in("cargo", f"""case $1 in
+tree) echo 'rattle_support portable' ;;
+doc) mkdir -p "$CARGO_TARGET_DIR/doc/rattle_support" && echo '{page}' > "$CARGO_TARGET_DIR/doc/rattle_support/index.html" ;;
+esac
+""")
+
+
 LAYERS = [
     (f"{LEXER}/src/planted.rt", None, "//! A module.\n", "planted is not in the drawing"),
     ("docs/DECISIONS.md", "    bytes:     kernels", "    bytes:     kernels, planted", "the drawing has planted, which is no module"),
@@ -103,7 +114,8 @@ PACKAGES = [
     ("rust/ends/src/stop.rs", "", None, "ends/src/stop.rs is not what is made"),
     (f"{LEXER}/src/relex/edit.rt", "(put.is_ok())", "(text.replace_range(start..stop, insert).is_ok())", "a condition that a release does not run"),
     ("crates/ends/src/stop.rt", "    pub fn status", "    #[planted]\n    pub fn status", "stop.rt: line 34: an attribute that is not known"),
-    ("tools/erase", '"Pieces",\n}', '"Planted",\n}', "not each item of ATTRIBUTES stands once"),
+    ("tools/erase", " Pieces ", " Planted ", "not each item of ATTRIBUTES stands once"),
+    ("tools/erase", "Head::find", "Head::planted", "not each item of ATTRIBUTES stands once"),
 ]
 ERASED = [
     ("rust/ends/src/stop.rs", "=> 2,", "=> 9,", "2 -> 9 in ends/stop.rt"),
@@ -190,7 +202,9 @@ CALLED = [
     ("tests/rust", [stand_in("cargo", "echo 'warning: planted'\n")], "warning: planted"),
     ("tests/rust", [stand_in("cargo", "[ $1 != test ]\n")], "rust: failed: cargo test"),
     ("tests/rust", [stand_in("cargo", "")], "portable does not reach rattle_support"),
-    ("tests/rust", [stand_in("cargo", "[ $1 != tree ] || echo 'rattle_support portable'\n")], "has not each of its files"),
+    ("tests/rust", [stand_in("cargo", "[ $1 != tree ] || echo 'rattle_support portable'\n")], "rustdoc has no index"),
+    ("tests/rust", [documented("Something planted.")], "has not each of its files"),
+    *(("tests/rust", [documented(it)], "does not say what struct planted is") for it in ("", "What is <b>planted</b>: ")),
     ("tests/c_library", [rt("echo planted\nexit 1\n")], "c_library: failed: rt lib"),
     ("tests/c_library", [*LIBRARY, NO_CARGO], "c_library: failed: env"),
     ("tests/c_library", [*LIBRARY, stand_in("cargo", ""), stand_in("nm", "")], "exports other names than the header has"),
@@ -201,7 +215,7 @@ CALLED = [
     ("tests/keys", [("tests/keys.py", "(name, self.with_imports(item), self.names(item))", "(name, item, self.names(item))")], "keys: FAILED"),
     ("tests/keys", [("tests/keys.py", "reached(names, [*below, crate])", "reached(names, [crate])")], "keys: FAILED"),
     ("tests/erased", [(f"{LEXER}/src/relex/edit.rt", *EFFECT), ("rust/rustc_lexer/src/erased/relex/edit.rs", *EFFECT)], "a release does not run what this may change: replace_range"),
-    ("tests/erased", [(f"{ERASED_SRC}/edition.rs", "Ord, Hash)]", "Ord)]"), (f"{ERASED_SRC}/relex/edit.rs", "PartialEq, Eq)]", "PartialEq, Eq, Hash)]")], "nothing -> , Hash in rustc_lexer/relex/edit.rt at Edit"),
+    ("tests/erased", [(f"{ERASED_SRC}/edition.rs", "Ord, Hash)]", "Ord)]"), (f"{ERASED_SRC}/relex/head.rs", "(Clone, Copy)]", "(Clone, Copy, Hash)]")], "nothing -> , Hash in rustc_lexer/relex/head.rt at Whole"),
     ("tests/erased", [(f"{ERASED_SRC}/relex/pieces.rs", "#[must_use]\n", ""), (f"{ERASED_SRC}/relex/edit.rs", "pub struct Edit<", "#[must_use]\npub struct Edit<")], "must_use"),
     ("tests/erase", [("tools/erase", '    ("", "final", "fn", ""),\n', "")], "and not"),
     ("tests/erase", [("tools/erase", 'set("ghost requires', 'set("requires')], "and not"),

@@ -4,6 +4,7 @@ use rustc_lexer::{
     Edition, FrontmatterAllowed, LexedDocument, LexedText, Pieces, Relexed, Token, TokenKind,
     tokenize, tokenize_document, tokenize_in,
 };
+use std::array::from_fn;
 use std::ops::Range;
 
 /// How many editions there are.
@@ -26,9 +27,9 @@ enum Held {
 impl Held {
     fn new(text: &str, document: bool) -> Held {
         if document {
-            Held::Document(Edition::ALL.map(|edition| LexedDocument::new_in(text, edition)))
+            Held::Document(from_fn(|at| LexedDocument::new_in(text, Edition::ALL[at])))
         } else {
-            Held::Part(Edition::ALL.map(|edition| LexedText::new_in(text, edition)))
+            Held::Part(from_fn(|at| LexedText::new_in(text, Edition::ALL[at])))
         }
     }
 
@@ -172,7 +173,7 @@ impl Source {
     /// `yes`, or the first year whose tokens are not those of lexing the text anew.
     pub fn as_lexed_anew(&self) -> String {
         let text = self.text();
-        for (number, edition) in Edition::ALL.into_iter().enumerate() {
+        for (number, &edition) in Edition::ALL.iter().enumerate() {
             let held = || self.tokens(number).iter().copied();
             let same = match self.held {
                 Held::Document(_) => tokenize_document(text, edition).eq(held()),

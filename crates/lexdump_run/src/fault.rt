@@ -71,7 +71,7 @@ impl From<EditStop> for Fault {
         match stop {
             EditStop::Range { at } => Fault::EditRange { at },
             EditStop::TooLong { at } => Fault::EditTooLong { at },
-            EditStop::Memory { at: _ } => Fault::Memory,
+            _ => Fault::Memory,
         }
     }
 }

@@ -37,7 +37,7 @@ pub enum Edition {
 
 impl Edition {
     /// All editions, ordered by their years.
-    pub const ALL: [Edition; 4] = [
+    pub const ALL: &'static [Edition] = &[
         Edition::E2015,
         Edition::E2018,
         Edition::E2021,

@@ -35,6 +35,8 @@ pub mod erased;
 
 #[doc(inline)]
 pub use erased::Style;
+/// Finds what stands between the quotes of a literal, for the calls of `rustc_literal_escaper`.
+///
 /// ```
 /// use marks::inside;
 /// use rustc_lexer::{FrontmatterAllowed, tokenize};
@@ -78,11 +80,14 @@ fn fitting(text: &str) -> &str {
 /// );
 /// ```
 ///
-/// An error comes from the output, which then has a beginning of what was to be written.
-///
 /// # Panics
 ///
 /// Panics if the text has more than `u32::MAX` bytes.
+///
+/// # Errors
+///
+/// An error comes from the output, which then has a beginning of what was to be written.
+#[doc(alias = "highlight")]
 pub fn write_marked<W: fmt::Write>(
     style: Style,
     edition: Edition,
@@ -108,11 +113,14 @@ pub fn write_marked<W: fmt::Write>(
 /// assert_eq!(seen, "a &lt; b");
 /// ```
 ///
-/// An error comes from the output, which then has a beginning of what was to be written.
-///
 /// # Panics
 ///
 /// Panics if the text has more than `u32::MAX` bytes.
+///
+/// # Errors
+///
+/// An error comes from the output, which then has a beginning of what was to be written.
+#[doc(alias = "highlight")]
 pub fn write_first_tokens<W: fmt::Write>(
     style: Style,
     edition: Edition,

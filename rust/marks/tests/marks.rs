@@ -105,7 +105,7 @@ fn an_edition_has_its_tokens() {
     assert_eq!(first(Style::Html, Edition::E2018, 3, "'a#b"), older);
     assert_eq!(whole(Style::Html, Edition::E2021, "'a#b"), lifetime);
     assert_eq!(whole(Style::Html, Edition::E2018, "'a#b"), older);
-    for edition in Edition::ALL {
+    for &edition in Edition::ALL {
         let keyword = "\x1b[35mfn\x1b[0m";
         assert_eq!(
             first(Style::Colours, edition, 1, "fn"),
@@ -170,4 +170,11 @@ fn a_text_that_is_too_long() {
     }
     // One byte fewer fits. This call reads only the front of it.
     assert!(write_first_tokens(Style::Html, NEWEST, 0, &text[1..], &mut Few(0)).is_ok());
+}
+
+/// A style may be a key of a map.
+#[test]
+fn a_style_is_a_key() {
+    fn is_key<T: Copy + Eq + std::hash::Hash>() {}
+    is_key::<Style>();
 }

@@ -48,10 +48,13 @@ pub struct Bytes<const N: usize>([Lanes; N]);
 #[derive(Clone, Copy)]
 pub struct Mask<const N: usize>([Lanes; N]);
 
+/// 16 bytes side by side.
 #[allow(non_camel_case_types)]
 pub type u8x16 = Bytes<{ 16 / COUNT }>;
+/// 32 bytes side by side.
 #[allow(non_camel_case_types)]
 pub type u8x32 = Bytes<{ 32 / COUNT }>;
+/// 64 bytes side by side.
 #[allow(non_camel_case_types)]
 pub type u8x64 = Bytes<{ 64 / COUNT }>;
 

@@ -14,6 +14,7 @@ use core::fmt;
 /// assert_eq!(lexed.text(), "é");
 /// ```
 #[derive(Clone, Copy, Debug, PartialEq, Eq, Hash)]
+#[non_exhaustive]
 pub enum EditError {
     /// The range is out of bounds, or not on char boundaries.
     Range,

@@ -79,10 +79,6 @@ impl JoinedText {
 
     /// Does what [`push`](JoinedText::push) does, or returns why the piece was refused. Then nothing has changed.
     ///
-    /// The error is [`JoinError::Inseparable`] only if the text has a token that is open, like a string that nothing
-    /// closes, or if the piece begins with white space that the last token would take in: white space, or a line comment
-    /// that no newline ends.
-    ///
     /// ```
     /// use rustc_lexer::{JoinError, JoinedText};
     ///
@@ -91,6 +87,12 @@ impl JoinedText {
     /// assert_eq!(text.try_push("x"), Err(JoinError::Inseparable));
     /// assert_eq!(text.into_string(), "\"open");
     /// ```
+    ///
+    /// # Errors
+    ///
+    /// The error is [`JoinError::Inseparable`] only if the text has a token that is open, like a string that nothing
+    /// closes, or if the piece begins with white space that the last token would take in: white space, or a line comment
+    /// that no newline ends.
     pub fn try_push(&mut self, piece: impl AsRef<str>) -> Result<(), JoinError> {
         self.0.push(piece.as_ref())
     }

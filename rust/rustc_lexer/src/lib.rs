@@ -12,13 +12,13 @@
 //!
 //! | You want | Take |
 //! |---|---|
-//! | the tokens of a text | [`tokenize`] |
+//! | the tokens of a text, in the edition of 2024 | [`tokenize`] |
 //! | those of a whole file, after its shebang line, in an edition | [`tokenize_document`] |
 //! | those of a part of a file, in an edition | [`tokenize_in`]; [`tokenize_as`] also allows a frontmatter |
 //! | many tokens at once | [`Tokens::fill`], `Tokens::into_vec` |
-//! | to take tokens one by one, and look ahead | [`Cursor`] |
+//! | to take those of [`tokenize`] one by one, and look ahead | [`Cursor`] |
 //! | the tokens of a file while it is edited | [`LexedDocument`], or [`LexedText`] for a part of a file |
-//! | the same on lists of your own | [`Relexing`], with [`Head`] for a whole file |
+//! | the same on lists of your own | the module [`lists`] |
 //! | the final tokens of a text that is still arriving | [`settled`] |
 //! | to write tokens so that lexing gives them back | [`JoinedText`] |
 //! | to test what would panic | [`fits`], [`starts_raw`] |
@@ -29,8 +29,8 @@
 //! contracts. It is proved of that source that, for every text under 4 GiB, its tokens are the only ones that a grammar
 //! of the language allows. The rest of this crate is written by hand: the calls of the original, of [`LexedText`] and
 //! of [`LexedDocument`] test what the contracts require of a caller, and where the tokens of a [`Stepper`] end.
-//! [`Relexing`] and a [`Head`] test nothing: lists or a head that are not those of the old text give wrong tokens or a
-//! panic. The repository's `docs/ERASED.md` says what is claimed and what is trusted.
+//! The module [`lists`] tests nothing: lists or a head that are not those of the old text give wrong tokens or a panic.
+//! The repository's `docs/ERASED.md` says what is claimed and what is trusted.
 //!
 //! # A program that keeps the tokens of a file
 //!
@@ -40,6 +40,7 @@
 //! ```
 
 #![no_std]
+#![cfg_attr(docsrs, feature(doc_cfg))]
 #![deny(missing_docs)]
 #![forbid(unsafe_code)]
 
@@ -74,6 +75,7 @@ mod kept_calls;
 mod lexed_document;
 #[cfg(feature = "alloc")]
 mod lexed_text;
+pub mod lists;
 mod tokens;
 mod traits;
 
@@ -84,34 +86,28 @@ pub use classes::{
 pub use cursor::Cursor;
 #[cfg(feature = "alloc")]
 pub use edit_error::EditError;
+#[doc(alias("offset", "position"))]
+#[doc(inline)]
+pub use erased::Bound;
+/// The version of the language that a text is written in, by the year that names it.
+///
+/// The editions differ in a few tokens, like `#"` and `'a#`. One difference is left to a compiler: in each edition `c"`,
+/// `cr"`, `cr#` and `k#` begin one token, where a compiler reads an identifier before 2021.
+///
 /// ```
 /// use rustc_lexer::Edition;
 ///
 /// assert_eq!("2021".parse(), Ok(Edition::E2021));
 /// assert_eq!(Edition::try_from(2018), Ok(Edition::E2018));
-/// assert_eq!(Edition::ALL.map(Edition::year)[..2], [2015, 2018]);
+/// assert_eq!(Edition::ALL[0].year(), 2015);
 /// ```
 #[doc(inline)]
 pub use erased::Edition;
-/// The change of a document's body, which [`Relexing`] then lexes again:
-///
-/// ```
-/// use rustc_lexer::{Change, Head};
-///
-/// let (old, new) = ("#!/bin/sh\nlet a;", "#!/bin/sh\nlet ab;");
-/// // A `b` was inserted at 15.
-/// let change = Change { start: 15, old_stop: 15, new_stop: 16 };
-/// let (head, now) = (Head::find(old), Head::find(new));
-/// let body = head.change_to(now, change);
-/// assert!(body.keeps_head);
-/// assert_eq!(&new[now.body..], "\nlet ab;");
-/// assert_eq!(body.change, Change { start: 6, old_stop: 6, new_stop: 7 });
-/// ```
-#[doc(inline)]
-pub use erased::Head;
 #[cfg(feature = "alloc")]
 #[doc(inline)]
 pub use erased::JoinError;
+/// Which literal a token is: a number, a character, a byte or a string, and whether it is whole.
+///
 /// ```
 /// use rustc_lexer::LiteralKind;
 ///
@@ -121,7 +117,13 @@ pub use erased::JoinError;
 /// ```
 #[doc(inline)]
 pub use erased::LiteralKind;
-/// A record of the kind alone, for a buffer of [`Tokens::fill`]:
+#[cfg(feature = "alloc")]
+#[doc(alias("offset", "range", "span"))]
+#[doc(inline)]
+pub use erased::Piece;
+/// What [`Tokens::fill`] writes of a token into a buffer.
+///
+/// Here it is the kind alone:
 ///
 /// ```
 /// use rustc_lexer::{FrontmatterAllowed, Record, Token, TokenKind, tokenize};
@@ -141,32 +143,12 @@ pub use erased::LiteralKind;
 /// ```
 #[doc(inline)]
 pub use erased::Record;
-/// It needs only the lengths of the old tokens, and the caller stores the new ones:
-///
-/// ```
-/// use rustc_lexer::{Bound, Change, FrontmatterAllowed, Relexing, Steps, Token, tokenize};
-///
-/// let (old, new) = ("let ab = cd;", "let abc = cd;");
-/// let mut tokens: Vec<Token> = tokenize(old, FrontmatterAllowed::No).collect();
-/// // A `c` was inserted at 6.
-/// let change = Change { start: 6, old_stop: 6, new_stop: 7 };
-/// let first = Bound { number: 0, offset: 0 };
-///
-/// let mut steps = Steps::new();
-/// let mut relexing = Relexing::begin(new, &tokens, change, first);
-/// let mut lexed = Vec::new();
-/// while let Some(token) = relexing.next(&mut steps, new, &tokens, change) {
-///     lexed.push(token);
-/// }
-/// let counts = relexing.counts(tokens.len());
-/// let back = tokens.len() - counts.kept_back;
-/// tokens.splice(counts.kept_front..back, lexed);
-/// assert!(tokenize(new, FrontmatterAllowed::No).eq(tokens));
-/// assert_eq!((counts.kept_front, counts.lexed, counts.kept_back), (2, 1, 5));
-/// ```
 #[doc(inline)]
-pub use erased::Relexing;
-/// A grammar whose tokens are single characters:
+pub use erased::Relexed;
+/// A lexer of your own, which gives the first token of a text.
+///
+/// `try_with` of a [`LexedText`] takes one. It calls `step` alone, and tests where each token ends. The module [`lists`]
+/// tests nothing: there tokens of no length never come to an end. By this one each character is a token:
 ///
 /// ```
 /// use rustc_lexer::{Stepper, Token, TokenKind};
@@ -182,33 +164,39 @@ pub use erased::Relexing;
 ///
 /// assert_eq!(Characters.step("é+").len, 2);
 /// ```
-///
-/// [`LexedText::try_with`] takes one. It calls `step` alone, and tests where each token ends. [`Relexing`] tests nothing:
-/// there tokens of no length never come to an end.
 #[doc(inline)]
 pub use erased::Stepper;
+/// What a token is: white space, a comment, a word, a literal, a lifetime or a symbol. Words are not told from keywords.
+///
 /// ```
 /// use rustc_lexer::TokenKind;
 ///
 /// assert_eq!(TokenKind::Plus.name(), "Plus");
 /// assert_eq!(TokenKind::Plus.number(), 37);
 /// ```
+#[doc(alias("highlight", "keyword"))]
 #[doc(inline)]
 pub use erased::TokenKind;
 #[doc(inline)]
 pub use erased::{
-    Base, BodyChange, Bound, Change, DocStyle, FrontmatterAllowed, GuardedStr, Measured,
-    RawStrError, Relexed, Steps, Token, UnknownEdition,
+    Base, DocStyle, FrontmatterAllowed, GuardedStr, RawStrError, Steps, Token, UnknownEdition,
 };
 #[cfg(feature = "alloc")]
 #[doc(inline)]
-pub use erased::{Edit, EditStop, Piece, Pieces};
+pub use erased::{Edit, EditStop, Pieces};
 #[cfg(feature = "alloc")]
 pub use joined_text::JoinedText;
 #[cfg(feature = "alloc")]
+#[doc(alias("edit", "incremental", "relex", "reparse"))]
 pub use lexed_document::LexedDocument;
 #[cfg(feature = "alloc")]
+#[doc(alias("edit", "incremental", "relex", "reparse"))]
 pub use lexed_text::LexedText;
+// What links in the texts name: some are elsewhere, and some are hidden where there is no memory.
+#[cfg(all(doc, not(feature = "alloc")))]
+use erased::{JoinedText, LexedDocument, LexedText, Pieces};
+#[cfg(doc)]
+use lists::{Head, Relexing};
 use rattle_support as support;
 pub use rattle_support::AllocError;
 pub use tokens::{EditionTokens, Tokens, tokenize, tokenize_as, tokenize_document, tokenize_in};
@@ -259,6 +247,10 @@ pub fn strip_shebang(input: &str) -> Option<usize> {
 /// # Panics
 ///
 /// Panics if the text has more than `u32::MAX` bytes, or if [`starts_raw`] is false.
+///
+/// # Errors
+///
+/// Returns what is wrong: what stands where its quote should, how many hashes are missing, or that they are too many.
 pub fn validate_raw_str(input: &str, prefix_len: u32) -> Result<(), RawStrError> {
     let text = fitting(input);
     assert!(
@@ -290,7 +282,10 @@ pub fn is_seam(text: &str, at: usize, edition: Edition) -> bool {
 }
 
 /// Returns the end of the last token that at least two characters follow, or 0 if there is none. However the text
-/// continues, its tokens up to there stay. It is read with `FrontmatterAllowed::No`.
+/// continues, its tokens up to there stay. It is read in the edition of 2024, with `FrontmatterAllowed::No`.
+///
+/// Each call lexes the text from its start. Of a text that comes in parts, call it on what is not final yet, so that
+/// only a token that is still open, like a long comment, is lexed again with each part.
 ///
 /// ```
 /// use rustc_lexer::settled;

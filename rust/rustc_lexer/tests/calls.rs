@@ -2,9 +2,9 @@
 
 use RawStrError::{InvalidStarter, NoTerminator, TooManyDelimiters};
 use rustc_lexer::{
-    Base, Cursor, DocStyle, Edition, FrontmatterAllowed, GuardedStr, LiteralKind, RawStrError,
-    Steps, Token, TokenKind, Tokens, UNICODE_VERSION, UnknownEdition, erased,
-    is_horizontal_whitespace, is_id_continue, is_id_start, is_ident, is_whitespace, settled,
+    Base, Bound, Cursor, DocStyle, Edition, FrontmatterAllowed, GuardedStr, LiteralKind,
+    RawStrError, Steps, Token, TokenKind, Tokens, UNICODE_VERSION, UnknownEdition, erased,
+    is_horizontal_whitespace, is_id_continue, is_id_start, is_ident, is_whitespace, lists, settled,
     starts_raw, strip_shebang, tokenize, tokenize_as, tokenize_document, tokenize_in,
     validate_raw_str,
 };
@@ -124,7 +124,10 @@ fn orders_and_numbers() {
     let bases = [Binary, Octal, Decimal, Hexadecimal];
     assert_eq!(bases.map(|base| base as u32), [2, 8, 10, 16]);
     ascend(&bases);
-    ascend(&Edition::ALL);
+    ascend(Edition::ALL);
+    let bounds = [(0, 0), (0, 1), (1, 0), (2, 9)].map(|(number, offset)| Bound { number, offset });
+    assert_eq!(bounds[0], Bound::default());
+    ascend(&bounds);
     ascend(&[
         Int { base: Binary, empty_int: true }, Int { base: Octal, empty_int: false },
         Int { base: Octal, empty_int: true }, Float { base: Binary, empty_exponent: false },
@@ -424,11 +427,11 @@ fn a_mark_in_front() {
             Cursor::new(text, allowed).advance_token(),
             token(TokenKind::Unknown, 3)
         );
-        for edition in Edition::ALL {
+        for &edition in Edition::ALL {
             assert_eq!(lens(tokenize_as(text, allowed, edition)), wanted);
         }
     }
-    for edition in Edition::ALL {
+    for &edition in Edition::ALL {
         assert_eq!(lens(tokenize_in(text, edition)), wanted);
         assert_eq!(lens(tokenize_document(text, edition)), wanted);
     }
@@ -584,8 +587,7 @@ fn a_check_of_no_raw_string() {
 fn traits_that_are_taken_for_granted() {
     fn is_error<T: std::error::Error + Send + Sync + Copy + 'static>() {}
     fn stays_at_its_end<T: std::iter::FusedIterator + Clone + std::fmt::Debug>() {}
-    fn is_measured<T: rustc_lexer::Measured>() {}
-    fn is_there<T>() {}
+    fn is_measured<T: lists::Measured>() {}
     fn steps<T: rustc_lexer::Stepper + Clone + std::fmt::Debug>() {}
     fn is_key<T: Copy + Eq + std::hash::Hash>() {}
     fn crosses_threads<T: Send + Sync + std::panic::UnwindSafe + std::panic::RefUnwindSafe>() {}
@@ -595,9 +597,13 @@ fn traits_that_are_taken_for_granted() {
     stays_at_its_end::<rustc_lexer::EditionTokens<'_>>();
     is_measured::<Token>();
     steps::<Steps>();
-    is_there::<rustc_lexer::BodyChange>();
-    is_there::<(rustc_lexer::Bound, rustc_lexer::Change, rustc_lexer::Head)>();
-    is_there::<(rustc_lexer::Relexed, rustc_lexer::Relexing)>();
+    is_key::<(
+        lists::BodyChange,
+        lists::Change,
+        lists::Head,
+        lists::Relexing,
+    )>();
+    is_key::<(Bound, rustc_lexer::Relexed, rustc_lexer::UnknownEdition)>();
     is_key::<(Token, TokenKind, LiteralKind, Base, DocStyle)>();
     is_key::<(GuardedStr, RawStrError, FrontmatterAllowed, Edition)>();
     crosses_threads::<(rustc_lexer::Tokens<'_>, Cursor<'_>, Steps)>();
@@ -605,11 +611,34 @@ fn traits_that_are_taken_for_granted() {
     {
         is_error::<rustc_lexer::EditError>();
         is_error::<rustc_lexer::EditStop>();
-        is_key::<rustc_lexer::EditError>();
-        is_there::<rustc_lexer::Piece<'_>>();
+        is_key::<(rustc_lexer::EditError, rustc_lexer::EditStop)>();
+        is_key::<(rustc_lexer::Edit<'_>, rustc_lexer::Piece<'_>)>();
         stays_at_its_end::<rustc_lexer::Pieces<'_>>();
         crosses_threads::<(rustc_lexer::LexedText, rustc_lexer::LexedDocument)>();
         crosses_threads::<rustc_lexer::Pieces<'_>>();
+    }
+}
+
+/// More editions and more reasons may come, so that an arm for them is no arm for nothing.
+#[test]
+#[deny(unreachable_patterns)]
+fn more_may_come() {
+    use Edition::*;
+    match E2024 {
+        E2015 | E2018 | E2021 | E2024 => {}
+        _ => unreachable!(),
+    }
+    #[cfg(feature = "alloc")]
+    {
+        use rustc_lexer::{EditError, EditStop};
+        match EditError::Range {
+            EditError::Range | EditError::TooLong | EditError::Memory => {}
+            _ => unreachable!(),
+        }
+        match (EditStop::Range { at: 0 }) {
+            EditStop::Range { .. } | EditStop::TooLong { .. } | EditStop::Memory { .. } => {}
+            _ => unreachable!(),
+        }
     }
 }
 
@@ -643,7 +672,7 @@ fn runs_of_each_length() {
 #[test]
 fn a_long_document_is_filled_as_it_is_stepped() {
     let text = format!("\n---\na = 1\n---\n{}", "let x = 'r#a + \"b\";".repeat(30));
-    for edition in Edition::ALL {
+    for &edition in Edition::ALL {
         let start = || tokenize_as(&text, FrontmatterAllowed::Yes, edition);
         let mut tokens = start();
         let stepped: Vec<Token> = std::iter::from_fn(|| tokens.next()).collect();
@@ -709,7 +738,7 @@ fn what_is_written_of_values() {
     let lines = format!("{cursor:#?} {tokens:#?}");
     assert_eq!(lines, "Cursor(\n    \"a b\",\n) Tokens(\n    \" b\",\n)");
     assert_eq!(format!("{:>6}", Edition::E2021), "  2021");
-    for edition in Edition::ALL {
+    for &edition in Edition::ALL {
         let year = edition.to_string();
         assert_eq!(format!("{edition:?}"), format!("E{year}"));
         let number = edition.year();

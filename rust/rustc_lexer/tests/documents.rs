@@ -6,10 +6,10 @@ mod random;
 use made::{counts, edit, token};
 use random::Random;
 use rattle_support::Global;
+use rustc_lexer::lists::{Change, Head, Relexing};
 use rustc_lexer::{
-    Bound, Change, EditStop, Edition, FrontmatterAllowed, Head, LexedDocument, LexedText, Relexed,
-    Relexing, Stepper, Steps, Token, TokenKind, erased, strip_shebang, tokenize_as,
-    tokenize_document,
+    Bound, EditStop, Edition, FrontmatterAllowed, LexedDocument, LexedText, Relexed, Stepper,
+    Steps, Token, TokenKind, erased, strip_shebang, tokenize_as, tokenize_document,
 };
 use std::ops::Range;
 
@@ -118,7 +118,7 @@ fn edit_and_check(lexed: &mut LexedDocument, range: Range<usize>, insert: &str) 
 fn random_edits_in_each_edition() {
     let asked = std::env::var("EDITS").map(|count| count.parse());
     let count: usize = asked.map_or(10_000, |count| count.expect("EDITS is a number"));
-    for edition in Edition::ALL {
+    for &edition in Edition::ALL {
         let mut random = Random(u64::from(edition.year()), BITS);
         let mut lexed = LexedDocument::new_in("", edition);
         for number in 0..count {
@@ -137,7 +137,7 @@ fn random_edits_in_each_edition() {
 fn a_document_in_each_edition() {
     let mut lexed = LexedDocument::new("#!/bin/sh\n---\na\n---\n'r#a");
     check(&lexed, Edition::E2024, "at the start");
-    for edition in Edition::ALL {
+    for &edition in Edition::ALL {
         lexed.set_edition(edition);
         check(&lexed, edition, "in another edition");
         let made = LexedDocument::new_in(lexed.text(), edition);

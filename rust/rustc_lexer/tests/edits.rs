@@ -114,7 +114,7 @@ fn random_edits_of_short_texts() {
 fn many_edits_of_one_text_in_each_edition() {
     let asked = std::env::var("EDITS").map(|count| count.parse());
     let count = asked.map_or(10_000, |count| count.expect("EDITS is a number"));
-    for edition in Edition::ALL {
+    for &edition in Edition::ALL {
         let mut random = Random(u64::from(edition.year()), BITS);
         let mut lexed = LexedText::new_in(random.text(200), edition);
         for _ in 0..count {
@@ -168,7 +168,7 @@ fn the_example_of_the_documents() {
 
 #[test]
 fn editions() {
-    for edition in Edition::ALL {
+    for &edition in Edition::ALL {
         let count = match edition.year() {
             ..2021 => 5,
             2021..2024 => 3,
@@ -475,12 +475,11 @@ fn what_is_equal_and_given_back() {
             assert_eq!($Kept::default().into_string(), "");
             // The tokens of both texts are the same.
             assert_ne!($Kept::new("a"), $Kept::new("b"));
-            for (left, right) in Edition::ALL
-                .map(|left| Edition::ALL.map(|right| (left, right)))
-                .concat()
-            {
-                let equal = $Kept::new_in("a", left) == $Kept::new_in("a", right);
-                assert_eq!(equal, left.year() == right.year(), "{left} and {right}");
+            for &left in Edition::ALL {
+                for &right in Edition::ALL {
+                    let equal = $Kept::new_in("a", left) == $Kept::new_in("a", right);
+                    assert_eq!(equal, left.year() == right.year(), "{left} and {right}");
+                }
             }
         };
     }

@@ -55,7 +55,7 @@ const ROWS: &[Row] = &[
 #[test]
 fn rows() {
     for (pieces, made) in ROWS {
-        for (edition, made) in Edition::ALL.into_iter().zip(made) {
+        for (&edition, made) in Edition::ALL.iter().zip(made) {
             assert_eq!(
                 joined(edition, pieces).as_deref(),
                 made.as_ref().map(|text| &**text),
@@ -70,7 +70,7 @@ fn seams() {
     for text in [
         "a+b", "1..2", "k#a", "z\"a\"", "'a#b", "'a'b", "// a\n b", "\"é\"s", "r#\"a\"#",
     ] {
-        for edition in Edition::ALL {
+        for &edition in Edition::ALL {
             for (at, _) in text.char_indices() {
                 let (left, right) = text.split_at(at);
                 let parts: Vec<Token> = tokenize_in(left, edition)

@@ -81,7 +81,7 @@ fn pairs(every: usize) {
         }
     };
     thread::scope(|scope| {
-        for edition in Edition::ALL {
+        for &edition in Edition::ALL {
             scope.spawn(move || compare(edition));
         }
     });
@@ -106,7 +106,7 @@ fn lists(count: usize, seed: u64) {
         }
     };
     thread::scope(|scope| {
-        for edition in Edition::ALL {
+        for &edition in Edition::ALL {
             scope.spawn(move || compare(edition));
         }
     });

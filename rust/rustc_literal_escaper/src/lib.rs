@@ -21,6 +21,7 @@
 //! its contracts. The rest is written by hand. The repository's `docs/ERASED.md` says what is claimed and what is trusted.
 
 #![no_std]
+#![cfg_attr(docsrs, feature(doc_cfg))]
 #![deny(missing_docs)]
 #![forbid(unsafe_code)]
 
@@ -43,13 +44,19 @@ mod unit;
 #[cfg(feature = "alloc")]
 mod written;
 
+/// What is wrong in a literal, or worth a warning. It writes itself as a sentence.
+///
 /// ```
 /// use rustc_literal_escaper::EscapeError;
 ///
-/// assert!(EscapeError::LoneSlash.is_fatal() && !EscapeError::UnskippedWhitespaceWarning.is_fatal());
+/// let error = EscapeError::LoneSlash;
+/// assert!(error.is_fatal() && !EscapeError::UnskippedWhitespaceWarning.is_fatal());
+/// assert_eq!(error.to_string(), "nothing follows this backslash, which begins an escape");
 /// ```
 #[doc(inline)]
 pub use erased::EscapeError;
+/// How the text of a literal is read, by the quotes and the prefix that the literal has.
+///
 /// ```
 /// use rustc_literal_escaper::Mode;
 ///
@@ -58,6 +65,8 @@ pub use erased::EscapeError;
 /// ```
 #[doc(inline)]
 pub use erased::Mode;
+/// Finds what is wrong in a literal of any kind, and needs no room for what it stands for.
+///
 /// ```
 /// use rustc_literal_escaper::{EscapeError, Mode, check_for_errors};
 ///
@@ -67,6 +76,8 @@ pub use erased::Mode;
 /// ```
 #[doc(inline)]
 pub use erased::check_for_errors;
+/// Gives each byte of a raw byte string, or its error.
+///
 /// ```
 /// use rustc_literal_escaper::{EscapeError, check_raw_byte_str};
 ///
@@ -76,6 +87,8 @@ pub use erased::check_for_errors;
 /// ```
 #[doc(inline)]
 pub use erased::check_raw_byte_str;
+/// Gives each character of a raw string, or its error.
+///
 /// ```
 /// use rustc_literal_escaper::check_raw_str;
 ///
@@ -85,6 +98,8 @@ pub use erased::check_raw_byte_str;
 /// ```
 #[doc(inline)]
 pub use erased::check_raw_str;
+/// Reads a byte literal: the text between the quotes of `b''`.
+///
 /// ```
 /// use rustc_literal_escaper::{EscapeError, unescape_byte};
 ///
@@ -93,6 +108,8 @@ pub use erased::check_raw_str;
 /// ```
 #[doc(inline)]
 pub use erased::unescape_byte;
+/// Gives each byte that a byte string stands for, or its error.
+///
 /// ```
 /// use rustc_literal_escaper::unescape_byte_str;
 ///
@@ -102,6 +119,8 @@ pub use erased::unescape_byte;
 /// ```
 #[doc(inline)]
 pub use erased::unescape_byte_str;
+/// Reads a character literal: the text between two single quotes.
+///
 /// ```
 /// use rustc_literal_escaper::{EscapeError, unescape_char};
 ///
@@ -110,6 +129,8 @@ pub use erased::unescape_byte_str;
 /// ```
 #[doc(inline)]
 pub use erased::unescape_char;
+/// Gives each character that a string stands for, or its error.
+///
 /// ```
 /// use rustc_literal_escaper::unescape_str;
 ///

@@ -26,8 +26,8 @@ pub struct Piece<'a> {
 
 /// An iterator over the pieces of a text.
 ///
-/// [`LexedText::pieces`](crate::LexedText::pieces) and [`LexedText::pieces_of`](crate::LexedText::pieces_of) return
-/// it. Each piece begins where the one before it ends, and its text is the part of the text that its token takes.
+/// `pieces`, `pieces_of` and `pieces_in` of a [`LexedText`](crate::LexedText) and of a document return it. Each piece
+/// begins where the one before it ends, and its text is the part of the text that its token takes.
 #[derive(Drop)]
 pub struct Pieces<'a> {
     text: &'a str,

@@ -58,12 +58,12 @@ impl Change {
     }
 }
 
-/// The counts of one edit.
+/// The counts of an edit, or of a list of edits.
 #[derive(Clone, Copy, Debug, PartialEq, Eq)]
 pub struct Relexed {
     /// How many tokens at the front stay as they are.
     pub kept_front: usize,
-    /// How many tokens were lexed.
+    /// How many tokens are between those two: after a single edit, those that were lexed.
     pub lexed: usize,
     /// How many tokens at the back stay as they are.
     pub kept_back: usize,

@@ -43,6 +43,7 @@ pub fn mode_of(kind: TokenKind) -> Option<Mode> {
 /// escapes are read. Returns `None` for a number, for a literal that is not closed, and for a token that is not a literal.
 ///
 /// These are the arguments that the calls of `rustc_literal_escaper` take. A suffix may follow the closing quote.
+#[must_use]
 pub fn inside(kind: TokenKind, text: &str) -> Option<(Mode, &str)> {
     let mode = mode_of(kind)?;
     let (start, end) = between_quotes(mode, text)?;

@@ -5,7 +5,7 @@ use crate::erased::fault::Fault;
 use core::fmt;
 
 /// The style of the marks.
-#[derive(Clone, Copy, Debug, PartialEq, Eq)]
+#[derive(Clone, Copy, Debug, PartialEq, Eq, Hash)]
 pub enum Style {
     /// Tags of a page.
     Html,

@@ -12,6 +12,7 @@ use core::str::FromStr;
 
 /// An edition of Rust. Editions are ordered by their years.
 #[derive(Clone, Copy, Debug, PartialEq, Eq, PartialOrd, Ord, Hash)]
+#[non_exhaustive]
 pub enum Edition {
     /// Rust 2015.
     E2015,
@@ -25,7 +26,7 @@ pub enum Edition {
 
 impl Edition {
     /// All editions, ordered by their years.
-    pub const ALL: [Edition; 4] = [
+    pub const ALL: &'static [Edition] = &[
         Edition::E2015,
         Edition::E2018,
         Edition::E2021,
@@ -33,6 +34,7 @@ impl Edition {
     ];
 
     /// Returns the year that names the edition.
+    #[must_use]
     pub fn year(self) -> u16 {
         match self {
             Edition::E2015 => 2015,
@@ -83,7 +85,7 @@ impl TryFrom<u16> for Edition {
 }
 
 /// The error for a word or a number that names no edition.
-#[derive(Clone, Copy, Debug, PartialEq, Eq)]
+#[derive(Clone, Copy, Debug, PartialEq, Eq, Hash)]
 pub struct UnknownEdition;
 
 impl fmt::Display for UnknownEdition {

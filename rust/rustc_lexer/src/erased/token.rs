@@ -172,12 +172,14 @@ pub enum TokenKind {
 
 impl TokenKind {
     /// Returns the name of the kind, which is the name of its variant, like `Ident`.
+    #[must_use]
     pub fn name(self) -> &'static str {
         self.entry().1
     }
 
     /// Returns the number of the kind. Numbers begin at 1 and never change: a new kind gets a new number.
     #[inline(always)]
+    #[must_use]
     pub fn number(self) -> u8 {
         self.entry().0
     }
@@ -312,12 +314,14 @@ pub enum LiteralKind {
 
 impl LiteralKind {
     /// Returns the name of the kind, which is the name of its variant, like `Int`.
+    #[must_use]
     pub fn name(self) -> &'static str {
         self.entry().1
     }
 
     /// Returns the number of the kind. Numbers begin at 1 and never change: a new kind gets a new number.
     #[inline(always)]
+    #[must_use]
     pub fn number(self) -> u8 {
         self.entry().0
     }

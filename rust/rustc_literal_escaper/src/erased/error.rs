@@ -4,7 +4,7 @@ use core::error::Error;
 use core::fmt;
 
 /// An error in a literal, or a warning about it. Its `Display` writes a sentence about it.
-#[derive(Clone, Copy, Debug, PartialEq, Eq)]
+#[derive(Clone, Copy, Debug, PartialEq, Eq, Hash)]
 pub enum EscapeError {
     /// A character or byte literal with nothing in it: `''`.
     ZeroChars,
@@ -63,6 +63,7 @@ pub enum EscapeError {
 
 impl EscapeError {
     /// Returns whether this is an error. The two warnings are not.
+    #[must_use]
     pub fn is_fatal(&self) -> bool {
         !matches!(
             self,

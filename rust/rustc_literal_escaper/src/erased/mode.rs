@@ -3,7 +3,7 @@
 /// The kind of a literal.
 ///
 /// Rust Reference, [Literals](https://doc.rust-lang.org/reference/tokens.html#literals).
-#[derive(Clone, Copy, Debug, PartialEq, Eq)]
+#[derive(Clone, Copy, Debug, PartialEq, Eq, Hash)]
 pub enum Mode {
     /// A character, like `'a'`.
     Char,
@@ -25,11 +25,13 @@ pub enum Mode {
 
 impl Mode {
     /// Returns whether such a literal has double quotes. All have except a character and a byte.
+    #[must_use]
     pub fn in_double_quotes(self) -> bool {
         !matches!(self, Mode::Char | Mode::Byte)
     }
 
     /// Returns the prefix of such a literal, without the `r` of a raw one: `""`, `"b"` or `"c"`.
+    #[must_use]
     pub fn prefix_noraw(self) -> &'static str {
         match self {
             Mode::CStr | Mode::RawCStr => "c",

@@ -5,7 +5,7 @@ use crate::erased::scan::split_first;
 use crate::support::AllocError;
 
 /// The reason why a C string was not written.
-#[derive(Clone, Copy, Debug, PartialEq, Eq)]
+#[derive(Clone, Copy, Debug, PartialEq, Eq, Hash)]
 pub enum EscapeCStrError {
     /// A byte is 0. No C string has such a byte, and no escape writes it.
     Nul,

@@ -45,11 +45,13 @@ pub struct Steps {
 
 impl Steps {
     /// Returns the lexer of the edition of 2024, before its first step.
+    #[must_use]
     pub fn new() -> Steps {
         Steps::new_in(Edition::E2024)
     }
 
     /// Returns the lexer of an edition, before its first step.
+    #[must_use]
     pub fn new_in(edition: Edition) -> Steps {
         Steps {
             edition,

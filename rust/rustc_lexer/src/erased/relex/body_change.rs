@@ -5,7 +5,7 @@ use crate::erased::relex::head::Head;
 use crate::erased::relex::relexing::Change;
 
 /// What an edit of a document changes in its body.
-#[derive(Clone, Copy, Debug, PartialEq, Eq)]
+#[derive(Clone, Copy, Debug, PartialEq, Eq, Hash)]
 pub struct BodyChange {
     /// Whether the edit keeps the head: whether it comes after the head, and the head stays the same.
     pub keeps_head: bool,
@@ -19,6 +19,7 @@ impl Head {
     ///
     /// If the head stays, the change is the edit itself. Otherwise it is everything from the start of the body up to
     /// the first position after the edit at which both bodies have begun. Then no token of the body is kept before it.
+    #[must_use]
     pub fn change_to(self, now: Head, edit: Change) -> BodyChange {
         let keeps_head = keeps_head(self, now, edit.start);
         BodyChange {

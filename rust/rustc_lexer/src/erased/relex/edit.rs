@@ -9,7 +9,7 @@ use crate::erased::token::Token;
 use crate::support::{AllocError, Global};
 
 /// One edit, which borrows its insertion.
-#[derive(Clone, Copy, Debug, PartialEq, Eq)]
+#[derive(Clone, Copy, Debug, PartialEq, Eq, Hash)]
 pub struct Edit<'a> {
     /// Where the replaced bytes begin, in bytes from the start of the text.
     pub start: usize,

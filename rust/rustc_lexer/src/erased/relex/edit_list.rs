@@ -9,7 +9,8 @@ use core::error::Error;
 use core::fmt;
 
 /// The reason why a list of edits stopped, and at which edit, counted from 0. The edits before it stay made.
-#[derive(Clone, Copy, Debug, PartialEq, Eq)]
+#[derive(Clone, Copy, Debug, PartialEq, Eq, Hash)]
+#[non_exhaustive]
 pub enum EditStop {
     /// The range is not inside the text as it was then, or cuts a character.
     Range {

@@ -18,7 +18,7 @@ impl Measured for Token {
 }
 
 /// A token boundary: how many tokens come before it, and its offset.
-#[derive(Clone, Copy, Debug, PartialEq, Eq)]
+#[derive(Clone, Copy, Debug, PartialEq, Eq, Default, PartialOrd, Ord, Hash)]
 pub struct Bound {
     /// How many tokens come before it.
     pub number: usize,

@@ -11,7 +11,7 @@ use crate::support::AllocError;
 ///
 /// It is for a program that keeps the tokens of a whole document in lists of its own. [`Head::change_to`] returns what
 /// an edit of the document changes in its body, and [`Relexing`](crate::Relexing) lexes that again.
-#[derive(Clone, Copy, Debug, PartialEq, Eq)]
+#[derive(Clone, Copy, Debug, PartialEq, Eq, Hash)]
 pub struct Head {
     /// The length of the shebang line in bytes, or 0.
     pub shebang_len: usize,
@@ -56,6 +56,7 @@ impl Extent for Part {
 
 impl Head {
     /// Returns the head of a document. The text may have at most `u32::MAX` bytes, which is not tested.
+    #[must_use]
     pub fn find(text: &str) -> Head {
         Whole.find_head(text)
     }
@@ -93,6 +94,7 @@ impl Head {
     }
 
     /// Returns how many tokens the head has.
+    #[must_use]
     pub fn count(self) -> usize {
         match self.frontmatter {
             None => 0,

@@ -7,7 +7,7 @@ use crate::erased::token::Token;
 use core::iter::{ExactSizeIterator, Iterator};
 
 /// A token, the offset at which it begins, and its text.
-#[derive(Clone, Copy, Debug, PartialEq, Eq)]
+#[derive(Clone, Copy, Debug, PartialEq, Eq, Hash)]
 pub struct Piece<'a> {
     /// Where the token begins, in bytes from the start of the text.
     pub start: u32,
@@ -19,8 +19,8 @@ pub struct Piece<'a> {
 
 /// An iterator over the pieces of a text.
 ///
-/// [`LexedText::pieces`](crate::LexedText::pieces) and [`LexedText::pieces_of`](crate::LexedText::pieces_of) return
-/// it. Each piece begins where the one before it ends, and its text is the part of the text that its token takes.
+/// `pieces`, `pieces_of` and `pieces_in` of a [`LexedText`](crate::LexedText) and of a document return it. Each piece
+/// begins where the one before it ends, and its text is the part of the text that its token takes.
 #[derive(Clone)]
 #[must_use]
 pub struct Pieces<'a> {

@@ -10,7 +10,7 @@ const MOST: usize = usize::MAX / 2;
 
 /// An edit that was made, by its offsets in bytes. It replaced the bytes from `start` up to `old_stop` of the old text
 /// with those from `start` up to `new_stop` of the present text.
-#[derive(Clone, Copy, Debug, PartialEq, Eq)]
+#[derive(Clone, Copy, Debug, PartialEq, Eq, Hash)]
 pub struct Change {
     /// Where the change begins, in both texts.
     pub start: usize,
@@ -24,6 +24,7 @@ impl Change {
     /// Returns whether the change may have made the text: whether its offsets are in order, the inserted bytes are
     /// inside the text, between characters, and its old offset is below 2^32. It does not know whether the old text had
     /// these offsets.
+    #[must_use]
     pub fn may_make(&self, text: &str) -> bool {
         self.start <= self.old_stop
             && self.old_stop <= u32::MAX as usize
@@ -43,12 +44,12 @@ impl Change {
     }
 }
 
-/// The counts of one edit.
-#[derive(Clone, Copy, Debug, PartialEq, Eq)]
+/// The counts of an edit, or of a list of edits.
+#[derive(Clone, Copy, Debug, PartialEq, Eq, Hash)]
 pub struct Relexed {
     /// How many tokens at the front stay as they are.
     pub kept_front: usize,
-    /// How many tokens were lexed.
+    /// How many tokens are between those two: after a single edit, those that were lexed.
     pub lexed: usize,
     /// How many tokens at the back stay as they are.
     pub kept_back: usize,
@@ -59,7 +60,7 @@ pub struct Relexed {
 /// It knows the old tokens only by their lengths. If these are the lengths of the tokens of an old text, and the change
 /// made the present text from it, then all numbers are exact. Any other lengths may be passed too, but then the numbers
 /// mean nothing.
-#[derive(Clone, Copy, Debug, PartialEq, Eq)]
+#[derive(Clone, Copy, Debug, PartialEq, Eq, Hash)]
 pub struct Relexing {
     /// How many of the old tokens stay at the front, and where they end.
     pub front: Bound,
@@ -93,6 +94,7 @@ impl Relexing {
 
     /// Returns whether `next` may be called with this text and this many old tokens. It may be after `begin` and after
     /// `next`. The test is for numbers from elsewhere.
+    #[must_use]
     pub fn may_go_on(&self, text: &str, old_count: usize) -> bool {
         text.is_char_boundary(self.at)
             && self.back.number <= old_count
@@ -103,6 +105,7 @@ impl Relexing {
 
     /// Returns whether lexing has met the old tokens, or no text is left. If the lengths are those of an old text,
     /// then text runs out only when the old tokens are met.
+    #[must_use]
     pub fn is_over(&self, text: &str) -> bool {
         self.met || self.at == text.len()
     }
@@ -157,6 +160,7 @@ impl Relexing {
     }
 
     /// Returns the counts of the edit, once the old tokens are met. `old_count` is how many tokens `begin` was passed.
+    #[must_use]
     pub fn counts(&self, old_count: usize) -> Relexed {
         Relexed {
             kept_front: self.front.number,

@@ -13,8 +13,8 @@ impl Documents {
     /// A document that begins with what scripts begin with, or not.
     pub fn new(random: &mut Random) -> Documents {
         let text = random.document();
-        let lexed = |edition| LexedDocument::new_in(&text, edition);
-        Documents(Edition::ALL.map(lexed).into())
+        let lexed = |edition: &Edition| LexedDocument::new_in(&text, *edition);
+        Documents(Edition::ALL.iter().map(lexed).collect())
     }
 
     /// The text.

@@ -31,7 +31,7 @@ fn line(lines: &mut String, kind: impl Debug, len: u32) {
 
 /// Writes the tokens of each edition, with and without a frontmatter, as the original's make them.
 fn theirs(text: &str, lines: &mut String) {
-    for edition in Edition::ALL {
+    for &edition in Edition::ALL {
         for is_document in [false, true] {
             let (mut rest, mut allowed) = (text, is_document);
             while let Some(token) = first(rest, edition.year(), allowed) {
@@ -77,7 +77,7 @@ fn tokens(text: &str, edition: Edition, allowed: FrontmatterAllowed) -> Vec<Toke
 
 /// Writes the tokens of each edition, with and without a frontmatter, as ours gives them.
 fn ours(text: &str, lines: &mut String) {
-    for edition in Edition::ALL {
+    for &edition in Edition::ALL {
         for allowed in [FrontmatterAllowed::No, FrontmatterAllowed::Yes] {
             for token in tokens(text, edition, allowed) {
                 line(lines, token.kind, token.len);
