@@ -27,6 +27,7 @@ PROVES_ALL = rt("echo logic=proved\n")
 WRITES = [(f"crates/{name}/out/{name}", None, SHELL + "echo planted\n") for name in ("lexdump", "highlight")]
 FAILS = [(f"crates/{name}/out/{name}", None, SHELL + "exit 1\n") for name in ("lexdump", "highlight")]
 NO_CARGO = stand_in("cargo", "echo planted\nexit 1\n")
+FIRST_LINE = "// Made by tools/erase from crates/ends/src/stop.rt: edit that file.\n"
 
 
 def documented(sentence):
@@ -109,6 +110,8 @@ REDECLARE = [
 ]
 PACKAGES = [
     ("rust/ends/src/stop.rs", "no memory", "planted", "is not what is made of the proved source"),
+    ("rust/ends/src/stop.rs", FIRST_LINE, "", "ends/src/stop.rs is not what is made"),
+    (".gitattributes", "rust/ends/src/** linguist-generated\n", "", ".gitattributes is not what is made"),
     ("rust/marks/src/erased/planted.rs", None, "", "marks/src/erased/planted.rs is not what is made"),
     ("rust/lexdump/src/planted.rs", None, "", "lexdump/src/planted.rs is not what is made"),
     ("rust/ends/src/stop.rs", "", None, "ends/src/stop.rs is not what is made"),
@@ -119,6 +122,8 @@ PACKAGES = [
 ]
 ERASED = [
     ("rust/ends/src/stop.rs", "=> 2,", "=> 9,", "2 -> 9 in ends/stop.rt"),
+    ("rust/ends/src/stop.rs", FIRST_LINE, "", "rust/ends/src/stop.rs -> its first line does not name its source"),
+    ("rust/ends/src/stop.rs", FIRST_LINE, FIRST_LINE.replace("stop", "lib"), "its first line does not name its source"),
     ("rust/ends/src/planted.rs", None, "", "no file -> rust/ends/src/planted.rs"),
     ("rust/ends/src/stop.rs", "", None, "crates/ends/src/stop.rt -> no file"),
     ("rust/ends/src/stop.rs", "use rattle_std::io::Write;", "use rattle_std::fmt::Write;", "found, and not in the list"),
@@ -219,6 +224,7 @@ CALLED = [
     ("tests/erased", [(f"{ERASED_SRC}/relex/pieces.rs", "#[must_use]\n", ""), (f"{ERASED_SRC}/relex/edit.rs", "pub struct Edit<", "#[must_use]\npub struct Edit<")], "must_use"),
     ("tests/erase", [("tools/erase", '    ("", "final", "fn", ""),\n', "")], "and not"),
     ("tests/erase", [("tools/erase", 'set("ghost requires', 'set("requires')], "and not"),
+    ("tests/erase", [("tools/erase", ": edit that file", "")], "and not"),
 ]
 
 

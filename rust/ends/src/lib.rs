@@ -1,3 +1,4 @@
+// Made by tools/erase from crates/ends/src/lib.rt: edit that file.
 //! What the programs share: readers and writers that record how they failed, functions that read and write texts over
 //! them, the arguments, and why a program stops.
 

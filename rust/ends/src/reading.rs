@@ -1,3 +1,4 @@
+// Made by tools/erase from crates/ends/src/reading.rt: edit that file.
 //! Reading all of an input.
 use rattle_std::prelude::Vec;
 

@@ -1,3 +1,4 @@
+// Made by tools/erase from crates/ends/src/run.rt: edit that file.
 //! Reading a whole text, and writing one.
 use rattle_std::prelude::String;
 

@@ -1,3 +1,4 @@
+// Made by tools/erase from crates/ends/src/stop.rt: edit that file.
 //! Why a program stops, and what it says then.
 
 use crate::reading::ReadStop;

@@ -1,3 +1,4 @@
+// Made by tools/erase from crates/ends/src/watched.rt: edit that file.
 //! Readers and writers that record how they failed.
 
 use rattle_std::io;

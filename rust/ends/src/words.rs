@@ -1,3 +1,4 @@
+// Made by tools/erase from crates/ends/src/words.rt: edit that file.
 //! The arguments of a program.
 use rattle_std::prelude::String;
 

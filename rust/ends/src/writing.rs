@@ -1,3 +1,4 @@
+// Made by tools/erase from crates/ends/src/writing.rt: edit that file.
 //! Writing all of some bytes.
 
 use crate::watched::{Watched, is_closed};

@@ -1,3 +1,4 @@
+// Made by tools/erase from crates/highlight/src/main.rt: edit that file.
 //! Writes a Rust source in colours, for a terminal or as a web page.
 
 use ends::Watched;

@@ -1,3 +1,4 @@
+// Made by tools/erase from crates/highlight_run/src/job.rt: edit that file.
 //! What a run has to do, as its arguments say.
 use rattle_std::prelude::String;
 

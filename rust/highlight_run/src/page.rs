@@ -1,3 +1,4 @@
+// Made by tools/erase from crates/highlight_run/src/page.rt: edit that file.
 //! The web page around a marked text.
 
 use marks::{Style, write_marked};

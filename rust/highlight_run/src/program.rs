@@ -1,3 +1,4 @@
+// Made by tools/erase from crates/highlight_run/src/program.rt: edit that file.
 //! The whole program, for any reader and writers.
 use rattle_std::prelude::String;
 

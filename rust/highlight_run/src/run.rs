@@ -1,3 +1,4 @@
+// Made by tools/erase from crates/highlight_run/src/run.rt: edit that file.
 //! A whole run, from a reader to a writer.
 use rattle_std::prelude::String;
 

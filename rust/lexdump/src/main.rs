@@ -1,3 +1,4 @@
+// Made by tools/erase from crates/lexdump/src/main.rt: edit that file.
 //! Prints the tokens of a Rust source, one per line.
 
 use ends::Watched;

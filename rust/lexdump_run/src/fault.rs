@@ -1,3 +1,4 @@
+// Made by tools/erase from crates/lexdump_run/src/fault.rt: edit that file.
 //! Why a run fails.
 
 use ends::{Stop, WriteStop};

@@ -1,3 +1,4 @@
+// Made by tools/erase from crates/lexdump_run/src/listing.rt: edit that file.
 //! The listing: one line per token, with its start, its length, its kind and the kind's fields.
 
 use crate::fault::Fault;

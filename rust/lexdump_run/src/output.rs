@@ -1,3 +1,4 @@
+// Made by tools/erase from crates/lexdump_run/src/output.rt: edit that file.
 //! Output in blocks: collects bytes until a block is full, then writes it at once.
 
 use crate::fault::Fault;

@@ -1,3 +1,4 @@
+// Made by tools/erase from crates/lexdump_run/src/program.rt: edit that file.
 //! The whole program, for any reader and writers.
 
 use crate::fault::Fault;

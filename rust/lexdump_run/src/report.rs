@@ -1,3 +1,4 @@
+// Made by tools/erase from crates/lexdump_run/src/report.rt: edit that file.
 //! The error message of a run, and its exit status.
 
 use crate::fault::{Fault, status};

@@ -1,3 +1,4 @@
+// Made by tools/erase from crates/lexdump_run/src/run_job.rt: edit that file.
 //! A whole run, from a reader to a writer.
 
 use crate::fault::Fault;

@@ -1,3 +1,4 @@
+// Made by tools/erase from crates/marks/src/lib.rt: edit that file.
 //! Writes the tokens of a Rust source between marks, for a terminal or a page. The marks show the class of each
 //! token, and what is wrong with it.
 

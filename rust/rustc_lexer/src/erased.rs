@@ -1,3 +1,4 @@
+// Made by tools/erase from crates/rustc_lexer/src/lib.rt: edit that file.
 //! A lexer for Rust source: it splits a text into tokens.
 //!
 //! A token is a kind and a length in bytes. The lexer accepts every text: a fault, like a comment that nothing

@@ -1,3 +1,4 @@
+// Made by tools/erase from crates/rustc_lexer_c/src/lib.rt: edit that file.
 //! The lexer for C, and for any language that can call C: a static library over `rustc_lexer`,
 //! `rustc_literal_escaper` and `marks`.
 //!

@@ -1,3 +1,4 @@
+// Made by tools/erase from crates/rustc_literal_escaper/src/lib.rt: edit that file.
 //! Reads the literals of Rust: what they stand for, their escapes and their faults.
 //!
 //! The lexer takes `"\q"` as one token. This crate reads the text between the quotes. It returns what a literal

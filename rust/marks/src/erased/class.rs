@@ -1,3 +1,4 @@
+// Made by tools/erase from crates/marks/src/class.rt: edit that file.
 //! Classes of tokens. The class of a token decides its colour.
 
 use rustc_lexer::erased::{LiteralKind, TokenKind};

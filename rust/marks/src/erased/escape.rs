@@ -1,3 +1,4 @@
+// Made by tools/erase from crates/marks/src/escape.rt: edit that file.
 //! Writes a text for a page, with entities for the bytes that a page would read as its own.
 
 use core::fmt;

@@ -1,3 +1,4 @@
+// Made by tools/erase from crates/marks/src/fault.rt: edit that file.
 //! The faults of tokens.
 
 use core::fmt;

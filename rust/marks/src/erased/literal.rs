@@ -1,3 +1,4 @@
+// Made by tools/erase from crates/marks/src/literal.rt: edit that file.
 //! Writes literals: their escapes, and what is wrong in them.
 
 use crate::erased::class::Class;

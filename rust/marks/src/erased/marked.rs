@@ -1,3 +1,4 @@
+// Made by tools/erase from crates/marks/src/marked.rt: edit that file.
 //! Writes a text between marks, with its shebang line and its tokens, for a terminal or as the inside of a page.
 
 use crate::erased::class::{Class, class_of};

@@ -1,3 +1,4 @@
+// Made by tools/erase from crates/marks/src/part.rt: edit that file.
 //! Writes a part of a text between the marks of its class and of its fault.
 
 use crate::erased::class::Class;

@@ -1,3 +1,4 @@
+// Made by tools/erase from crates/marks/src/style.rt: edit that file.
 //! The marks around a token: tags of a page, or escape sequences of a terminal.
 
 use crate::erased::class::Class;

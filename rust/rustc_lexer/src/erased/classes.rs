@@ -1,3 +1,4 @@
+// Made by tools/erase from crates/rustc_lexer/src/classes.rt: edit that file.
 //! Classes of characters.
 
 pub(crate) mod emoji;

@@ -1,3 +1,4 @@
+// Made by tools/erase from crates/rustc_lexer/src/cursor.rt: edit that file.
 //! A cursor, which takes the tokens of a text one by one.
 
 use crate::erased::entry::{Tokens, tokenize};

@@ -1,3 +1,4 @@
+// Made by tools/erase from crates/rustc_lexer/src/edition.rt: edit that file.
 //! The editions of Rust, and how their tokens differ from those of the newest edition.
 
 use crate::erased::classes::emoji::is_emoji;

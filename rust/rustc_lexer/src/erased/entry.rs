@@ -1,3 +1,4 @@
+// Made by tools/erase from crates/rustc_lexer/src/entry.rt: edit that file.
 //! The calls that lex a text, and their iterator.
 
 use crate::erased::edition::{Edition, choose_in, reserves_guards, token_as};

@@ -1,3 +1,4 @@
+// Made by tools/erase from crates/rustc_lexer/src/frontmatter.rt: edit that file.
 //! Frontmatter: a block between two fences of dashes, which may come before the first token.
 
 use crate::erased::classes::{

@@ -1,3 +1,4 @@
+// Made by tools/erase from crates/rustc_lexer/src/kernels.rt: edit that file.
 //! Searches over bytes that look at 16 or 64 bytes at a time: where a run ends, and where a byte is.
 
 use crate::support::simd::*;

@@ -1,3 +1,4 @@
+// Made by tools/erase from crates/rustc_lexer/src/lexemes.rt: edit that file.
 //! The first token of a text: its first character chooses it, and most families of tokens have a function.
 
 use crate::erased::lexemes::comment::slash;

@@ -1,3 +1,4 @@
+// Made by tools/erase from crates/rustc_lexer/src/raw_check.rt: edit that file.
 //! The check of a raw string.
 
 use crate::erased::lexemes::raw::raw_double_quoted_string;

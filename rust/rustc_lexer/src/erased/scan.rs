@@ -1,3 +1,4 @@
+// Made by tools/erase from crates/rustc_lexer/src/scan.rt: edit that file.
 //! Looks at the characters that are left of a text, and skips runs of a class at its front.
 
 use crate::erased::classes::{is_id_continue, is_whitespace};

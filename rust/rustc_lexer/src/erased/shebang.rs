@@ -1,3 +1,4 @@
+// Made by tools/erase from crates/rustc_lexer/src/shebang.rt: edit that file.
 //! The shebang line that a document may begin with.
 
 use crate::erased::entry::tokenize;

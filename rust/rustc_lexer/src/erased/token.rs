@@ -1,3 +1,4 @@
+// Made by tools/erase from crates/rustc_lexer/src/token.rt: edit that file.
 //! Tokens: their kinds and their lengths.
 
 use core::error::Error;

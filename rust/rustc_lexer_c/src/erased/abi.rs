@@ -1,3 +1,4 @@
+// Made by tools/erase from crates/rustc_lexer_c/src/abi.rt: edit that file.
 //! The version of the interface.
 
 /// Returns the version of this interface, which is also in the name of the call. It rises with each change that

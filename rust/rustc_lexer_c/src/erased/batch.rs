@@ -1,3 +1,4 @@
+// Made by tools/erase from crates/rustc_lexer_c/src/batch.rt: edit that file.
 //! Writes tokens in batches.
 
 use crate::erased::status::{Refusal, done, refuse, text_of, utf8_text_of};

@@ -1,3 +1,4 @@
+// Made by tools/erase from crates/rustc_lexer_c/src/buffer.rt: edit that file.
 //! A caller's buffer, which is written from its front on.
 
 use core::fmt;

@@ -1,3 +1,4 @@
+// Made by tools/erase from crates/rustc_lexer_c/src/classes.rt: edit that file.
 //! Classes of characters. A caller passes the code of a character.
 
 use crate::erased::status::{done, refuse, text_of};

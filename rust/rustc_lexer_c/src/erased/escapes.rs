@@ -1,3 +1,4 @@
+// Made by tools/erase from crates/rustc_lexer_c/src/escapes.rt: edit that file.
 //! The units of a literal, and what is wrong in it.
 
 use crate::erased::status::{Refusal, done, refuse, text_of, utf8_text_of};

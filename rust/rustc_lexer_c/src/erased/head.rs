@@ -1,3 +1,4 @@
+// Made by tools/erase from crates/rustc_lexer_c/src/head.rt: edit that file.
 //! The head of a document, and what an edit of the document changes in its body.
 
 use crate::erased::batch::NO_TOKEN;

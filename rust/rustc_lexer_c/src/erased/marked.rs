@@ -1,3 +1,4 @@
+// Made by tools/erase from crates/rustc_lexer_c/src/marked.rt: edit that file.
 //! Writes the tokens of a text between marks.
 
 use crate::erased::buffer::Buffer;

@@ -1,3 +1,4 @@
+// Made by tools/erase from crates/rustc_lexer_c/src/places.rt: edit that file.
 //! Places in a text: the end of its shebang line, and the end of the tokens that are certain.
 
 use crate::erased::status::{done, refuse, text_of, utf8_text_of};

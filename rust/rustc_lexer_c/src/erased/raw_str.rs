@@ -1,3 +1,4 @@
+// Made by tools/erase from crates/rustc_lexer_c/src/raw_str.rt: edit that file.
 //! Raw strings and guarded strings.
 
 use crate::erased::status::{Refusal, done, refuse, text_of, utf8_text_of};

@@ -1,3 +1,4 @@
+// Made by tools/erase from crates/rustc_lexer_c/src/relex.rt: edit that file.
 //! Lexes an edited text again, from its old tokens.
 
 use crate::erased::status::{OK, Refusal, refuse, text_of, utf8_text_of};

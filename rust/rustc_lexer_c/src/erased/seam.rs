@@ -1,3 +1,4 @@
+// Made by tools/erase from crates/rustc_lexer_c/src/seam.rt: edit that file.
 //! Whether the parts of a text may touch.
 
 use crate::erased::relex::edition_of;

@@ -1,3 +1,4 @@
+// Made by tools/erase from crates/rustc_lexer_c/src/status.rt: edit that file.
 //! The statuses of calls, and the checks that give them.
 
 /// The status of a call that succeeded.

@@ -1,3 +1,4 @@
+// Made by tools/erase from crates/rustc_lexer_c/src/token.rt: edit that file.
 //! Tokens as numbers.
 
 use rustc_lexer::erased::{DocStyle, LiteralKind, Record, Token, TokenKind};

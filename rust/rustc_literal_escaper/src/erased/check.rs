@@ -1,3 +1,4 @@
+// Made by tools/erase from crates/rustc_literal_escaper/src/check.rt: edit that file.
 //! Finds the errors and warnings in a literal, and nothing else.
 
 use crate::erased::element::Element;

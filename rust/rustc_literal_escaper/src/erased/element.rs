@@ -1,3 +1,4 @@
+// Made by tools/erase from crates/rustc_literal_escaper/src/element.rt: edit that file.
 //! The elements of a literal.
 
 use crate::erased::error::EscapeError;

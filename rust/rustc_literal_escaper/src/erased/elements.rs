@@ -1,3 +1,4 @@
+// Made by tools/erase from crates/rustc_literal_escaper/src/elements.rt: edit that file.
 //! The elements of the text between double quotes.
 
 use crate::erased::element::Element;

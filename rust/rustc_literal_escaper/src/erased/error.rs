@@ -1,3 +1,4 @@
+// Made by tools/erase from crates/rustc_literal_escaper/src/error.rt: edit that file.
 //! The errors and warnings of a literal.
 
 use core::error::Error;

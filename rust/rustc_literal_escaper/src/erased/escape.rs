@@ -1,3 +1,4 @@
+// Made by tools/erase from crates/rustc_literal_escaper/src/escape.rt: edit that file.
 //! The escapes after a backslash.
 
 use crate::erased::element::Element;

@@ -1,3 +1,4 @@
+// Made by tools/erase from crates/rustc_literal_escaper/src/faults.rt: edit that file.
 //! The errors and warnings of a literal, one after another.
 
 use crate::erased::check::{is_raw, single_error};

@@ -1,3 +1,4 @@
+// Made by tools/erase from crates/rustc_literal_escaper/src/mode.rt: edit that file.
 //! The kinds of literal that have escapes or could have them.
 
 /// The kind of a literal.

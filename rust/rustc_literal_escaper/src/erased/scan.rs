@@ -1,3 +1,4 @@
+// Made by tools/erase from crates/rustc_literal_escaper/src/scan.rt: edit that file.
 //! Reads the characters at the front of a text.
 
 use memchr::{memchr, memchr3};

@@ -1,3 +1,4 @@
+// Made by tools/erase from crates/rustc_literal_escaper/src/simple.rt: edit that file.
 //! Skips simple characters, which are wrong in no kind of string, at the front of a text, 32 bytes at a time.
 
 use crate::support::simd::*;

@@ -1,3 +1,4 @@
+// Made by tools/erase from crates/rustc_literal_escaper/src/single.rt: edit that file.
 //! Reads characters and bytes, the literals between single quotes.
 
 use crate::erased::element::Element;

@@ -1,3 +1,4 @@
+// Made by tools/erase from crates/rustc_literal_escaper/src/steps.rt: edit that file.
 //! The steps that read the text between double quotes.
 
 use crate::erased::element::Element;

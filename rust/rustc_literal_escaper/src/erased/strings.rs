@@ -1,3 +1,4 @@
+// Made by tools/erase from crates/rustc_literal_escaper/src/strings.rt: edit that file.
 //! Reads strings of every kind, and passes their units to a callback.
 
 use crate::erased::element::Element;

@@ -1,3 +1,4 @@
+// Made by tools/erase from crates/rustc_literal_escaper/src/unit.rt: edit that file.
 //! The units of C strings.
 
 use crate::erased::error::EscapeError;

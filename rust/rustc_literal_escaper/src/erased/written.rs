@@ -1,3 +1,4 @@
+// Made by tools/erase from crates/rustc_literal_escaper/src/written.rt: edit that file.
 //! Writes texts and bytes in the form that they have between double quotes.
 use crate::support::String;
 

@@ -1,3 +1,4 @@
+// Made by tools/erase from crates/rustc_lexer/src/classes/emoji.rt: edit that file.
 //! The class of emoji.
 
 use core::cmp::Ordering;

@@ -1,3 +1,4 @@
+// Made by tools/erase from crates/rustc_lexer/src/cursor/guarded.rt: edit that file.
 //! Guarded strings.
 
 use crate::erased::cursor::Cursor;

@@ -1,3 +1,4 @@
+// Made by tools/erase from crates/rustc_lexer/src/entry/ahead.rt: edit that file.
 //! The place of the iterator in its text, and the tokens past it that the ends of runs tell, 64 bytes at a time.
 
 use crate::erased::kernels::ends_of_runs;

@@ -1,3 +1,4 @@
+// Made by tools/erase from crates/rustc_lexer/src/entry/document.rt: edit that file.
 //! The tokens of a whole document.
 
 use crate::erased::edition::Edition;

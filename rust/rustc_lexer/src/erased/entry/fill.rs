@@ -1,3 +1,4 @@
+// Made by tools/erase from crates/rustc_lexer/src/entry/fill.rt: edit that file.
 //! Writes many tokens of a text at once.
 
 use crate::erased::entry::Tokens;

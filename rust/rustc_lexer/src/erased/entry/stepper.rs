@@ -1,3 +1,4 @@
+// Made by tools/erase from crates/rustc_lexer/src/entry/stepper.rt: edit that file.
 //! Steppers: they lex by a grammar, one token at a time or many at once.
 
 use crate::erased::edition::{Edition, token_in};

@@ -1,3 +1,4 @@
+// Made by tools/erase from crates/rustc_lexer/src/entry/tally.rt: edit that file.
 //! A count that only contracts see.
 
 use core::marker::PhantomData;

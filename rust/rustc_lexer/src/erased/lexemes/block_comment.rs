@@ -1,3 +1,4 @@
+// Made by tools/erase from crates/rustc_lexer/src/lexemes/block_comment.rt: edit that file.
 //! Block comments, which nest.
 
 use crate::erased::scan::{begins_with, eat_until_either, split_first, strip};

@@ -1,3 +1,4 @@
+// Made by tools/erase from crates/rustc_lexer/src/lexemes/classified.rt: edit that file.
 //! The ends of runs, and the bytes after a run that may change its token.
 
 use crate::erased::token::TokenKind;

@@ -1,3 +1,4 @@
+// Made by tools/erase from crates/rustc_lexer/src/lexemes/comment.rt: edit that file.
 //! Comments.
 
 use crate::erased::lexemes::block_comment::block_comment;

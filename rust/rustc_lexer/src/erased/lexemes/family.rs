@@ -1,3 +1,4 @@
+// Made by tools/erase from crates/rustc_lexer/src/lexemes/family.rt: edit that file.
 //! Families of tokens, which the first character of a token chooses, and the kinds that a byte tells.
 
 use crate::erased::classes::emoji::is_emoji;

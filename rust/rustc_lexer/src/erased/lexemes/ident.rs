@@ -1,3 +1,4 @@
+// Made by tools/erase from crates/rustc_lexer/src/lexemes/ident.rt: edit that file.
 //! Identifiers, and the marks that may come before and after them.
 
 use crate::erased::classes::emoji::is_emoji;

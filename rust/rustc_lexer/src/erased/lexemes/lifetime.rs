@@ -1,3 +1,4 @@
+// Made by tools/erase from crates/rustc_lexer/src/lexemes/lifetime.rt: edit that file.
 //! Tokens that begin with a single quote: character literals and lifetimes.
 
 use crate::erased::classes::emoji::is_emoji;

@@ -1,3 +1,4 @@
+// Made by tools/erase from crates/rustc_lexer/src/lexemes/literal.rt: edit that file.
 //! The suffix of a literal, and the offset where it begins.
 
 use crate::erased::classes::is_id_start;

@@ -1,3 +1,4 @@
+// Made by tools/erase from crates/rustc_lexer/src/lexemes/number.rt: edit that file.
 //! Numbers.
 
 use crate::erased::classes::is_id_start;

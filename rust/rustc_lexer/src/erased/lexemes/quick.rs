@@ -1,3 +1,4 @@
+// Made by tools/erase from crates/rustc_lexer/src/lexemes/quick.rt: edit that file.
 //! The most common tokens, found by their bytes alone: identifiers, white space, hashes and symbols.
 
 use crate::erased::kernels::{Continue, Space, ends_space, ends_word, run_end, short_run_end};

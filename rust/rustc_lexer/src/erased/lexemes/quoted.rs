@@ -1,3 +1,4 @@
+// Made by tools/erase from crates/rustc_lexer/src/lexemes/quoted.rt: edit that file.
 //! Text in quotes: strings and characters.
 
 use crate::erased::lexemes::literal::{eat_literal_suffix, literal};

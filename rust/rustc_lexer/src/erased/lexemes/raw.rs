@@ -1,3 +1,4 @@
+// Made by tools/erase from crates/rustc_lexer/src/lexemes/raw.rt: edit that file.
 //! Raw strings.
 
 use crate::erased::lexemes::literal::eat_literal_suffix;

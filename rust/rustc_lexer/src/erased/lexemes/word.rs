@@ -1,3 +1,4 @@
+// Made by tools/erase from crates/rustc_lexer/src/lexemes/word.rt: edit that file.
 //! Tokens that begin with a letter: identifiers, and literals with a letter in front.
 
 use crate::erased::lexemes::ident::{eat_marked, ident_or_unknown_prefix};

@@ -1,3 +1,4 @@
+// Made by tools/erase from crates/rustc_lexer/src/relex/checkpoints.rt: edit that file.
 //! Bounds that are remembered, so that a search begins near its target.
 
 use crate::erased::relex::front::{Bound, FIRST};

@@ -1,3 +1,4 @@
+// Made by tools/erase from crates/rustc_lexer/src/relex/document_edit.rt: edit that file.
 //! One edit of a document: what it changes in the body, and how the head counts.
 use crate::support::Vec;
 

@@ -1,3 +1,4 @@
+// Made by tools/erase from crates/rustc_lexer/src/relex/edit.rt: edit that file.
 //! One edit: the text that it makes, and the tokens that it lexes.
 use crate::support::{String, Vec};
 

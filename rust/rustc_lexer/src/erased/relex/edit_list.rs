@@ -1,3 +1,4 @@
+// Made by tools/erase from crates/rustc_lexer/src/relex/edit_list.rt: edit that file.
 //! Several edits, one after another.
 
 use crate::erased::entry::stepper::Stepper;

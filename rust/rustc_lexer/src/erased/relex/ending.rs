@@ -1,3 +1,4 @@
+// Made by tools/erase from crates/rustc_lexer/src/relex/ending.rt: edit that file.
 //! The last tokens of a text that grows at its end.
 
 use crate::erased::classes::is_whitespace;

@@ -1,3 +1,4 @@
+// Made by tools/erase from crates/rustc_lexer/src/relex/front.rt: edit that file.
 //! Finds the old tokens that an edit keeps.
 //!
 //! The functions here read only the lengths of the old tokens. They may be called with any lengths. What they

@@ -1,3 +1,4 @@
+// Made by tools/erase from crates/rustc_lexer/src/relex/joined.rt: edit that file.
 //! A text that is made of pieces whose tokens stay.
 use crate::support::String;
 

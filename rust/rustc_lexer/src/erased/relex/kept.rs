@@ -1,3 +1,4 @@
+// Made by tools/erase from crates/rustc_lexer/src/relex/kept.rt: edit that file.
 //! A text with its tokens, kept while it is edited: what a whole document and a part of one have in common.
 use crate::support::{String, Vec};
 

@@ -1,3 +1,4 @@
+// Made by tools/erase from crates/rustc_lexer/src/relex/lex.rt: edit that file.
 //! Lexes all tokens of a text, with a stepper.
 use crate::support::Vec;
 

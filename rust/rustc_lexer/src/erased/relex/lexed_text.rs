@@ -1,3 +1,4 @@
+// Made by tools/erase from crates/rustc_lexer/src/relex/lexed_text.rt: edit that file.
 //! A text that is kept with its tokens.
 use crate::support::String;
 

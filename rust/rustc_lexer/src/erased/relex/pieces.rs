@@ -1,3 +1,4 @@
+// Made by tools/erase from crates/rustc_lexer/src/relex/pieces.rt: edit that file.
 //! The pieces of a text that is kept with its tokens.
 
 use crate::erased::entry::stepper::Stepper;

@@ -1,3 +1,4 @@
+// Made by tools/erase from crates/rustc_lexer/src/relex/relexing.rt: edit that file.
 //! Lexes again what an edit changed, on lists that the caller holds.
 
 use crate::erased::entry::fill::Record;

@@ -1,3 +1,4 @@
+// Made by tools/erase from crates/rustc_lexer/src/relex/replace.rt: edit that file.
 //! Replaces the middle of a list of tokens in place.
 use crate::support::Vec;
 

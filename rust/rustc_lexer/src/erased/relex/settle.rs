@@ -1,3 +1,4 @@
+// Made by tools/erase from crates/rustc_lexer/src/relex/settle.rt: edit that file.
 //! Which tokens of a text are certain, however the text continues.
 
 use crate::erased::entry::stepper::{Stepper, Steps};

@@ -1,3 +1,4 @@
+// Made by tools/erase from crates/rustc_lexer/src/relex/lexed_document/in_edition.rt: edit that file.
 //! A document that is kept with its tokens in an edition.
 
 use crate::erased::edition::Edition;
