@@ -82,7 +82,8 @@ IN_CLAIM = [
     (f"{LEXER}/src/lib.rt", "pub use shebang::strip_shebang;", "pub fn planted() {}", "lib.rt passes on in another form"),
 ]
 KINDS = [
-    (HEADER, "RUSTC_LEXER_WHITESPACE = 3", "RUSTC_LEXER_WHITESPACE = 5", f"{HEADER} is not as token.rt"),
+    (HEADER, "RUSTC_LEXER_WHITESPACE = 3", "RUSTC_LEXER_WHITESPACE = 5", f"{HEADER} is not as token.rt or the files have it; tests/kinds --write writes it"),
+    ("crates/lex_vectors/src/tables/first_path.rt", "(Tilde, 1), ", "", "no row of crates/lex_vectors has Tilde"),
     (f"{LEXER}/src/token.rt", '=> (1, "LineComment")', '=> (3, "LineComment")', "LineComment is not number 1"),
     (f"{LEXER}/src/token.rt", '=> (1, "LineComment")', '=> (1, "Comment")', "LineComment has another name"),
     (f"{LEXER}/src/token.rt", 'TokenKind::Tilde => (26, "Tilde"),\n', "", "Tilde has no number"),
@@ -219,6 +220,12 @@ CALLED = [
     ("tests/release pages", [("rust/rustc_lexer/README.md", "\n", "\nrt run\n")], "the repository is needed"),
     ("tests/keys", [("tests/keys.py", "(name, self.with_imports(item), self.names(item))", "(name, item, self.names(item))")], "keys: FAILED"),
     ("tests/keys", [("tests/keys.py", "reached(names, [*below, crate])", "reached(names, [crate])")], "keys: FAILED"),
+    # the second command finds what the first one wrote
+    ("tests/kinds --write; ! grep 'WHITESPACE = 3' c/rustc_lexer.h", [tuple(KINDS[0][:3]), tuple(KINDS[1][:3])], "no row of crates/lex_vectors has Tilde\n    RUSTC_LEXER_WHITESPACE = 3"),
+    ("tests/kinds --write; ! grep 'WHITESPACE = 5' c/rustc_lexer.h", [tuple(KINDS[0][:3]), tuple(KINDS[2][:3])], "is not written before that\n    RUSTC_LEXER_WHITESPACE = 5"),
+    ("tests/layers --who planted", [], "layers: the modules are classes/emoji classes"),
+    ("tests/layers --who kernels && false", [(f"{LEXER}/src/shebang.rt", "\nuse ", "\nuse crate::kernels::planted;\nuse ")], "scan shebang\nneed"),
+    ("tests/layers --who entry/stepper && false", [(f"{LEXER}/src/scan.rt", "\nuse ", "\nuse crate::entry::{Stepper};\nuse ")], "relex/settle scan\nneed"),
     ("tests/erased", [(f"{LEXER}/src/relex/edit.rt", *EFFECT), ("rust/rustc_lexer/src/erased/relex/edit.rs", *EFFECT)], "a release does not run what this may change: replace_range"),
     ("tests/erased", [(f"{ERASED_SRC}/edition.rs", "Ord, Hash)]", "Ord)]"), (f"{ERASED_SRC}/relex/head.rs", "(Clone, Copy)]", "(Clone, Copy, Hash)]")], "nothing -> , Hash in rustc_lexer/relex/head.rt at Whole"),
     ("tests/erased", [(f"{ERASED_SRC}/relex/pieces.rs", "#[must_use]\n", ""), (f"{ERASED_SRC}/relex/edit.rs", "pub struct Edit<", "#[must_use]\npub struct Edit<")], "must_use"),
