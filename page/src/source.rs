@@ -177,7 +177,7 @@ impl Source {
             let held = || self.tokens(number).iter().copied();
             let same = match self.held {
                 Held::Document(_) => tokenize_document(text, edition).eq(held()),
-                Held::Part(_) if edition == Edition::E2024 => {
+                Held::Part(_) if edition == Edition::NEWEST => {
                     tokenize(text, FrontmatterAllowed::No).eq(held())
                 }
                 Held::Part(_) => tokenize_in(text, edition).eq(held()),

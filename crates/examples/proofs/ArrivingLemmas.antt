@@ -4,12 +4,11 @@ use Rattle.std.proofs.Math.Seq.{drop-append_seam}
 use Rattle.std.proofs.lemmas.Grind.{common_steps}
 use Rattle.std.proofs.lemmas.List.{append-nil, drop-append-le, take_more}
 use Rattle.std.proofs.lemmas.Str.{IsCharBoundary-from_take, IsUtf8-append, IsUtf8-drop}
-use Rattle.rustc_lexer.specs.declared.edition.Edition.TheVariants.{E2024}
 use Rattle.rustc_lexer.specs.declared.token.Token.{Token}
 use Rattle.rustc_lexer.specs.Tokens.{bound, tokens_of}
 use Rattle.rustc_lexer.specs.means.Lexeme.{first_token}
 use Rattle.rustc_lexer.specs.laws.Edition.{first_token_grammar}
-use Rattle.rustc_lexer.specs.LanguageText.{part}
+use Rattle.rustc_lexer.specs.LanguageText.{part, newest}
 use Rattle.rustc_lexer.specs.Locality.{IsSettled, StaysUpTo}
 use Rattle.rustc_lexer.specs.Classes.{IsText}
 use Rattle.rustc_lexer.specs.laws.Cuts.{IsCutAt, at_bound}
@@ -45,27 +44,27 @@ taken_none tokens items left start place at past = subst (λ ts. IsFirstUpTo pla
     by zero few end = refl
     by (suc k) few end = absurd (let high = past k (omega arith) in omega arith)
 
-at_bound_now : (k : ℕ) (text : List ℕ) → IsText text → IsCutAt first_token text (tokens_of (part E2024) text) k
+at_bound_now : (k : ℕ) (text : List ℕ) → IsText text → IsCutAt first_token text (tokens_of (part newest) text) k
 at_bound_now = at_bound first_token_grammar
 
 -- past a settled place the tokens are those of the rest, however the text goes on
-pub gives_first : (text rest : List ℕ) (place : ℕ) (given : List Token) → IsText text → IsSettled text (tokens_of (part E2024) text) place → StaysUpTo place text (tokens_of (part E2024))
-    → IsFirstUpTo place given (tokens_of (part E2024) text) → rest ≡ drop place text → GivesFirst text given rest
+pub gives_first : (text rest : List ℕ) (place : ℕ) (given : List Token) → IsText text → IsSettled text (tokens_of (part newest) text) place → StaysUpTo place text (tokens_of (part newest))
+    → IsFirstUpTo place given (tokens_of (part newest) text) → rest ≡ drop place text → GivesFirst text given rest
 gives_first text rest place given is settled stays first left =
     let k : ℕ = settled.at_bound.0 in
-    let few : k ≤ length (tokens_of (part E2024) text) = settled.at_bound.1 in
-    let at : bound (tokens_of (part E2024) text) k ≡ place = settled.at_bound.2 in
+    let few : k ≤ length (tokens_of (part newest) text) = settled.at_bound.1 in
+    let at : bound (tokens_of (part newest) text) k ≡ place = settled.at_bound.2 in
     let inside : place ≤ length text = subst (λ p. p ≤ length text) at (at_bound_now k text is).inside in
     let all : GivesFirst text given (drop place text) = λ more its. (
-    let whole : List Token = tokens_of (part E2024) (text ++ more) in
-    let front : take k whole ≡ take k (tokens_of (part E2024) text) = stays more k its few (omega arith) in
-    let there : bound whole k ≡ place = bound-same k whole (tokens_of (part E2024) text) front ∙ at in
-    let back : drop k whole ≡ tokens_of (part E2024) (drop place text ++ more) =
-    (at_bound_now k (text ++ more) its).rest ∙ ap (tokens_of (part E2024)) (ap (λ p. drop p (text ++ more)) there ∙ drop-append-le place text more inside) in
+    let whole : List Token = tokens_of (part newest) (text ++ more) in
+    let front : take k whole ≡ take k (tokens_of (part newest) text) = stays more k its few (omega arith) in
+    let there : bound whole k ≡ place = bound-same k whole (tokens_of (part newest) text) front ∙ at in
+    let back : drop k whole ≡ tokens_of (part newest) (drop place text ++ more) =
+    (at_bound_now k (text ++ more) its).rest ∙ ap (tokens_of (part newest)) (ap (λ p. drop p (text ++ more)) there ∙ drop-append-le place text more inside) in
     sym (take-append-drop k whole) ∙ (ap (λ ts. ts ++ drop k whole) (front ∙ sym (first k few at)) ∙ ap (λ ts. given ++ ts) back)) in
     subst (λ bs. GivesFirst text given bs) (sym left) all
 
-pub settled_boundary : (text : List ℕ) (place : ℕ) → IsText text → IsSettled text (tokens_of (part E2024) text) place → ((k : ℕ) → k ≤ length (tokens_of (part E2024) text) → IsCharBoundary text (bound (tokens_of (part E2024) text) k)) → IsCharBoundary text place
+pub settled_boundary : (text : List ℕ) (place : ℕ) → IsText text → IsSettled text (tokens_of (part newest) text) place → ((k : ℕ) → k ≤ length (tokens_of (part newest) text) → IsCharBoundary text (bound (tokens_of (part newest) text) k)) → IsCharBoundary text place
 settled_boundary text place is settled boundaries = subst (IsCharBoundary text) settled.at_bound.2 (boundaries settled.at_bound.0 settled.at_bound.1)
 
 -- ---- many pieces
@@ -87,7 +86,7 @@ pub gives_more : (taken piece rest past : List ℕ) (given more : List Token) �
     → HasGiven (taken ++ piece) (given ++ more) past
 gives_more taken piece rest past given more at first sure =
     let text : IsUtf8 (taken ++ piece) = IsUtf8-append taken piece at.text (utf8_past rest piece at.held sure.is_text.utf8) in
-    let left : IsText (drop (bound (tokens_of (part E2024) (rest ++ piece)) sure.settled.at_bound.0) (rest ++ piece)) = (at_bound_now sure.settled.at_bound.0 (rest ++ piece) sure.is_text).past in
+    let left : IsText (drop (bound (tokens_of (part newest) (rest ++ piece)) sure.settled.at_bound.0) (rest ++ piece)) = (at_bound_now sure.settled.at_bound.0 (rest ++ piece) sure.is_text).past in
     record {
       text = text;
       held = subst IsUtf8 (sym sure.past) (subst (λ n. IsUtf8 (drop n (rest ++ piece))) sure.settled.at_bound.2 left.utf8);
@@ -98,11 +97,11 @@ gives_more taken piece rest past given more at first sure =
             utf8 = IsUtf8-append (rest ++ piece) others sure.is_text.utf8 (utf8_past (taken ++ piece) others text its.utf8);
             fits = omega (arith, at.short, length-append (rest ++ piece) others, length-append rest piece, length-append (taken ++ piece) others, length-append taken piece);
           } in
-          cc (append_assoc taken piece others, at.first (piece ++ others) (subst IsText (append_assoc taken piece others) its), append_assoc rest piece others, first others here, append_assoc given more (tokens_of (part E2024) (past ++ others)));
+          cc (append_assoc taken piece others, at.first (piece ++ others) (subst IsText (append_assoc taken piece others) its), append_assoc rest piece others, first others here, append_assoc given more (tokens_of (part newest) (past ++ others)));
     }
 
 -- nothing more comes
-pub all_given : (whole rest : List ℕ) (given : List Token) → HasGiven whole given rest → length whole < 2 ^ 32 → given ++ tokens_of (part E2024) rest ≡ tokens_of (part E2024) whole
+pub all_given : (whole rest : List ℕ) (given : List Token) → HasGiven whole given rest → length whole < 2 ^ 32 → given ++ tokens_of (part newest) rest ≡ tokens_of (part newest) whole
 all_given whole rest given at fits = grind (arith, common_steps)
 
 pub joined_more : (pieces : List (Bor (List ℕ))) (i : ℕ) (d : Bor (List ℕ)) → i < length pieces → joined (take (i + 1) pieces) ≡ joined (take i pieces) ++ (get_or pieces i d).now

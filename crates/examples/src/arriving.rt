@@ -1,8 +1,7 @@
 //! The tokens of a text that arrives in pieces.
 ghost use Rattle.std.specs.Prelude.{◌≡◌, ◌+◌, ◌<◌, ◌^◌, ◌++◌, IfOk, OnErr, List, ℕ, length, []};
 ghost use Rattle.rustc_lexer.specs.Classes.{Fits};
-ghost use Rattle.rustc_lexer.specs.declared.edition.Edition.TheVariants.{E2024};
-ghost use Rattle.rustc_lexer.specs.LanguageText.{part};
+ghost use Rattle.rustc_lexer.specs.LanguageText.{part, newest};
 ghost use Rattle.rustc_lexer.specs.Tokens.{tokens_of};
 ghost use Rattle.examples.specs.Arriving.{GivesFirst, GivesSure, IsFirstUpTo};
 ghost use Rattle.examples.specs.Joined.{joined};
@@ -71,7 +70,7 @@ impl Arriving {
 pub fn lex_pieces(alloc: Global, pieces: &[&str]) -> Result<Vec<Token>, AllocError>
     requires fits { length (joined pieces.now) < 2 ^ 32 }
     ensures { IfOk result
-        (λ tokens. tokens.items ≡ tokens_of (part E2024) (joined pieces.now)) }
+        (λ tokens. tokens.items ≡ tokens_of (part newest) (joined pieces.now)) }
 {
     let mut arriving = Arriving::new(alloc);
     let mut tokens = Vec::new(alloc);
@@ -99,7 +98,7 @@ fn sure_tokens<'a>(alloc: Global, text: &'a str) -> Result<(Vec<Token>, &'a str)
 fn first_tokens(alloc: Global, text: &str, place: usize) -> Result<Vec<Token>, AllocError>
     requires fits { Fits text.now }
     ensures { IfOk result
-        (λ first. IsFirstUpTo place first.items (tokens_of (part E2024) text.now)) }
+        (λ first. IsFirstUpTo place first.items (tokens_of (part newest) text.now)) }
 {
     let mut first = Vec::new(alloc);
     let mut start = 0;

@@ -1,8 +1,7 @@
 //! Skips the comments before the code of a text.
 ghost use Rattle.std.specs.Prelude.{◌≡◌};
 ghost use Rattle.rustc_lexer.specs.Classes.{Fits};
-ghost use Rattle.rustc_lexer.specs.declared.edition.Edition.TheVariants.{E2024};
-ghost use Rattle.rustc_lexer.specs.LanguageText.{part};
+ghost use Rattle.rustc_lexer.specs.LanguageText.{part, newest};
 ghost use Rattle.rustc_lexer.specs.Tokens.{tokens_of};
 ghost use Rattle.examples.specs.Comments.{is_skipped, past_comments};
 
@@ -11,7 +10,7 @@ use rustc_lexer::{Cursor, FrontmatterAllowed, TokenKind};
 /// Returns the text from its first token that is neither white space nor a comment.
 pub fn skip_comments(text: &str) -> &str
     requires fits { Fits text.now }
-    ensures { result.now ≡ past_comments text.now (tokens_of (part E2024) text.now) }
+    ensures { result.now ≡ past_comments text.now (tokens_of (part newest) text.now) }
 {
     let mut cursor = Cursor::new(text, FrontmatterAllowed::No);
     loop {

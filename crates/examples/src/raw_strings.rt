@@ -2,8 +2,8 @@
 ghost use Rattle.std.specs.Prelude.{◌≡◌, IfOk};
 ghost use Rattle.rustc_lexer.specs.Classes.{Fits};
 ghost use Rattle.rustc_lexer.specs.Edits.{pieces_from};
-ghost use Rattle.rustc_lexer.specs.declared.edition.Edition.TheVariants.{E2024};
 ghost use Rattle.rustc_lexer.specs.Document.{document_tokens, shebang_len};
+ghost use Rattle.rustc_lexer.specs.LanguageText.{newest};
 ghost use Rattle.rustc_lexer.specs.Tokens.{HasText};
 ghost use Rattle.examples.specs.RawStrings.{faults_of, raw_fault, raw_prefix_len};
 
@@ -26,10 +26,10 @@ pub fn raw_faults(alloc: Global, text: &str) -> Result<Vec<RawFault>, AllocError
     requires fits { Fits text.now }
     ensures { IfOk result
         (λ faults. faults.items
-        ≡ faults_of (pieces_from text.now (shebang_len text.now) (document_tokens E2024 text.now))) }
+        ≡ faults_of (pieces_from text.now (shebang_len text.now) (document_tokens newest text.now))) }
 {
     let mut faults = Vec::new(alloc);
-    let tokens = tokenize_document(text, Edition::E2024);
+    let tokens = tokenize_document(text, Edition::NEWEST);
     let mut start = text.len() - tokens.as_str().len();
     for token in tokens {
         let stop = start + token.len as usize;

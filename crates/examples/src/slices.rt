@@ -2,8 +2,7 @@
 ghost use Rattle.std.specs.Prelude.{◌≡◌};
 ghost use Rattle.rustc_lexer.specs.Classes.{Fits};
 ghost use Rattle.rustc_lexer.specs.Edits.{pieces_from};
-ghost use Rattle.rustc_lexer.specs.declared.edition.Edition.TheVariants.{E2024};
-ghost use Rattle.rustc_lexer.specs.LanguageText.{part};
+ghost use Rattle.rustc_lexer.specs.LanguageText.{part, newest};
 ghost use Rattle.rustc_lexer.specs.Tokens.{tokens_of};
 ghost use Rattle.examples.specs.Slices.{find_start};
 
@@ -13,7 +12,7 @@ use rustc_lexer::{FrontmatterAllowed, TokenKind, tokenize};
 pub fn find_word(text: &str, word: &str) -> Option<usize>
     requires fits { Fits text.now }
     ensures { result
-        ≡ find_start word.now (pieces_from text.now 0 (tokens_of (part E2024) text.now)) }
+        ≡ find_start word.now (pieces_from text.now 0 (tokens_of (part newest) text.now)) }
 {
     let mut start = 0;
     for token in tokenize(text, FrontmatterAllowed::No) {

@@ -3,8 +3,8 @@ use Rattle.std.specs.Prelude.{ℕ, Bool, true, false, if◌then◌else◌, List,
 use Rattle.std.specs.Option.{option_and_then, option_map}
 use Rattle.std.specs.Str.{bytes_eq}
 use Rattle.rustc_lexer.specs.declared.edition.Edition.{Edition}
-use Rattle.rustc_lexer.specs.declared.edition.Edition.TheVariants.{E2024}
 use Rattle.rustc_lexer.specs.LanguageCalls.{edition_of}
+use Rattle.rustc_lexer.specs.LanguageText.{newest}
 use Rattle.highlight_run.specs.declared.job.Job.{Job}
 use Rattle.highlight_run.specs.declared.job.Job.TheVariants.{Show, Help}
 use Rattle.highlight_run.specs.declared.job.Options.{Options}
@@ -72,7 +72,7 @@ style_of options colours = if options.html then Html else (if coloured options.c
 
 -- to show a text by options: where no edition is named it is the newest one
 abbrev pub show : Bool → Options → Job
-show colours options = Show (style_of options colours) (unwrap_or options.edition E2024)
+show colours options = Show (style_of options colours) (unwrap_or options.edition newest)
 
 abbrev pub is_help : List (List ℕ) → Bool
 is_help (word ∷ []) = bytes_eq word (codes "--help")

@@ -168,9 +168,10 @@ fn holds(alloc: Global, row: &EditRow) -> Result<bool, AllocError> {
     if !fits(text) {
         return Ok(false);
     }
-    let mut kept = match row.edition {
-        Edition::E2024 => LexedText::new(alloc, text)?,
-        edition => LexedText::new_in(alloc, text, edition)?,
+    let mut kept = if row.edition == Edition::NEWEST {
+        LexedText::new(alloc, text)?
+    } else {
+        LexedText::new_in(alloc, text, row.edition)?
     };
     Ok(
         is_edited(&mut kept, row)?

@@ -3,9 +3,9 @@ use Rattle.std.specs.Prelude.{ℕ, ◌≡◌, ◌+◌, ◌*◌, ◌-◌, ◌&&�
 use Rattle.std.specs.Option.{option_map, option_zip}
 use Rattle.std.specs.Str.{all_ascii_digits, bytes_eq}
 use Rattle.rustc_lexer.specs.declared.edition.Edition.{Edition}
-use Rattle.rustc_lexer.specs.declared.edition.Edition.TheVariants.{E2024}
 use Rattle.rustc_lexer.specs.declared.relex.edit.Edit.{Edit as TextEdit}
 use Rattle.rustc_lexer.specs.LanguageCalls.{edition_of}
+use Rattle.rustc_lexer.specs.LanguageText.{newest}
 use Rattle.lexdump_run.specs.declared.fault.Fault.{Fault}
 use Rattle.lexdump_run.specs.declared.fault.Fault.TheVariants.{Arguments, Memory}
 use Rattle.lexdump_run.specs.declared.job.Job.{Job}
@@ -75,12 +75,12 @@ job_by (Some edition) words = job_in edition words
 -- the length of its shebang line, `--edition` and a year for what the words after them ask for in that edition, and else
 -- what they ask for in the newest one
 abbrev pub job_of : List (List ℕ) → Option Command
-job_of [] = job_in E2024 []
+job_of [] = job_in newest []
 job_of (word ∷ []) =
     if bytes_eq word (codes "front") then Some front
     else (if bytes_eq word (codes "shebang") then Some shebang
-    else job_in E2024 (word ∷ []))
-job_of (word ∷ second ∷ words) = if bytes_eq word (codes "--edition") then job_by (edition_of second) words else job_in E2024 (word ∷ second ∷ words)
+    else job_in newest (word ∷ []))
+job_of (word ∷ second ∷ words) = if bytes_eq word (codes "--edition") then job_by (edition_of second) words else job_in newest (word ∷ second ∷ words)
 
 abbrev pub replacement : TextEdit → Replacement
 replacement e = record { start = e.start; stop = e.stop; insert = e.insert.now }

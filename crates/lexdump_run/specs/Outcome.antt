@@ -3,14 +3,13 @@ use Rattle.std.specs.Prelude.{ℕ, ◌<◌, ◌≤◌, ◌^◌, ◌≡◌, List,
 use Rattle.std.specs.Str.{IsUtf8}
 use Rattle.std.specs.Io.KnownBytes.{Keeps, Appends}
 use Rattle.ends.specs.Known.{AppendsFront}
-use Rattle.rustc_lexer.specs.declared.edition.Edition.TheVariants.{E2024}
 use Rattle.rustc_lexer.specs.declared.relex.edit.Edit.{Edit as TextEdit}
 use Rattle.rustc_lexer.specs.declared.relex.edit_list.EditStop.{EditStop}
 use Rattle.rustc_lexer.specs.declared.relex.edit_list.EditStop.TheVariants.{Range as RangeStop, TooLong as TooLongStop}
 use Rattle.rustc_lexer.specs.Answers.{shebang}
 use Rattle.rustc_lexer.specs.Classes.{IsText}
 use Rattle.rustc_lexer.specs.Edits.{apply_list, stop_at, AreEdits, IsStop}
-use Rattle.rustc_lexer.specs.LanguageText.{document, part}
+use Rattle.rustc_lexer.specs.LanguageText.{document, part, newest}
 use Rattle.rustc_lexer.specs.Tokens.{tokens_of}
 use Rattle.lexdump_run.specs.declared.fault.Fault.{Fault}
 use Rattle.lexdump_run.specs.declared.fault.Fault.TheVariants.{NotUtf8, TooLong, EditRange, EditTooLong, Memory, Read, Write}
@@ -21,7 +20,7 @@ use Rattle.lexdump_run.specs.Listing.{listing, shebang_line}
 -- what is printed for a text. If there are edits, all are valid, each for the text that those before it leave
 abbrev pub IsPrinted : Job → List ℕ → List ℕ → Type 0
 IsPrinted (Plain edition) text made = made ≡ listing (tokens_of (part edition) text)
-IsPrinted Front text made = made ≡ listing (tokens_of (document E2024) text)
+IsPrinted Front text made = made ≡ listing (tokens_of (document newest) text)
 IsPrinted Shebang text made = made ≡ shebang_line (shebang text)
 IsPrinted (Edit edition edits) text made = AreEdits text edits.items × (made ≡ listing (tokens_of (part edition) (apply_list text edits.items)))
 

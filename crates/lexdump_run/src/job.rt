@@ -39,7 +39,7 @@ pub fn read_job<'a>(alloc: Global, words: &'a [String]) -> Result<Job<'a>, Fault
             let edition = Edition::from_str(year.as_str()).map_err(|_| Fault::Arguments)?;
             read_job_in(alloc, rest, edition)
         }
-        _ => read_job_in(alloc, words, Edition::E2024),
+        _ => read_job_in(alloc, words, Edition::NEWEST),
     }
 }
 

@@ -60,7 +60,10 @@ fn print<W: Write>(
         Job::Plain { edition } => {
             list_tokens(lines, output, text, FrontmatterAllowed::No, *edition)
         }
-        Job::Front => { list_tokens(lines, output, text, FrontmatterAllowed::Yes, Edition::E2024) }
+        Job::Front => {
+            let newest = Edition::NEWEST;
+            list_tokens(lines, output, text, FrontmatterAllowed::Yes, newest)
+        }
         Job::Shebang => tell_shebang(lines, output, text),
         Job::Edit { edition, edits } => {
             let lexed = edited(alloc, text, *edition, edits.as_slice())?;

@@ -6,8 +6,8 @@ use Rattle.std.specs.Str.{IsCharBoundary}
 use Rattle.std.proofs.lemmas.Bool.{ne_eqb}
 use Rattle.std.proofs.lemmas.List.Elements.{All-head}
 use Rattle.std.proofs.lemmas.Str.{IsUtf8-drop}
-use Rattle.rustc_lexer.specs.{FrontmatterAllowed, Token, TokenKind, E2024, Eof}
-use Rattle.rustc_lexer.specs.LanguageText.{Mode, mode_in}
+use Rattle.rustc_lexer.specs.{FrontmatterAllowed, Token, TokenKind, Eof}
+use Rattle.rustc_lexer.specs.LanguageText.{Mode, mode_in, newest}
 use Rattle.rustc_lexer.specs.State.{State, kind_past, token_past, HasSuffixWithin}
 use Rattle.rustc_lexer.specs.means.Taking.{IsCursor, token_at, take_next}
 use Rattle.rustc_lexer.specs.Classes.{IsText}
@@ -100,5 +100,5 @@ module _ (pending : ℕ) (tokens : State) (is : IsCursor pending tokens) (s : St
     still_cursor left few = grind (arith, common_steps, length-drop, next_is, edition-after, IsUtf8-drop)
 
 -- a cursor at the start of a text
-pub at_start : (allowed : FrontmatterAllowed) (text : List ℕ) → IsText text → (s : State) → s ≡ state 0 text (mode_in allowed E2024) → IsCursor 0 s
+pub at_start : (allowed : FrontmatterAllowed) (text : List ℕ) → IsText text → (s : State) → s ≡ state 0 text (mode_in allowed newest) → IsCursor 0 s
 at_start allowed text is s e = grind (arith, common_steps)

@@ -2,7 +2,7 @@
 use Rattle.std.proofs.Common.{◌++◌, ◌≡◌, ℕ, ◌+◌, Bool, true, false, List, length, take, drop, refl, sym, subst, ap, ap₂, ◌∙◌, arith, chars, length-take-le, Option, None, Some, IsCharBoundary}
 use Rattle.std.proofs.Math.Seq.{take-append_seam}
 use Rattle.std.proofs.lemmas.Grind.{common_steps}
-use Rattle.rustc_lexer.specs.{Token, E2024}
+use Rattle.rustc_lexer.specs.{Token}
 use Rattle.rustc_lexer.specs.declared.relex.head.Head.{Head}
 use Rattle.rustc_lexer.specs.declared.relex.relexing.Change.{Change}
 use Rattle.rustc_lexer.specs.declared.relex.relexing.Relexed.{Relexed}
@@ -10,6 +10,7 @@ use Rattle.rustc_lexer.specs.Classes.{IsText}
 use Rattle.rustc_lexer.specs.Document.{body_start, document_tokens_by, head_tokens, shebang_len, whole_by}
 use Rattle.rustc_lexer.specs.means.Document.{body_change, body_insert, counted, document_by, front_tokens, head_of, HeadStays, IsRelexedWith, tokens_of_head}
 use Rattle.rustc_lexer.specs.Edits.{apply, body_in, KeepsHead}
+use Rattle.rustc_lexer.specs.LanguageText.{newest}
 use Rattle.rustc_lexer.specs.Tokens.{bound, tokens_by}
 use Rattle.rustc_lexer.proofs.EditLemmas.{bound-take}
 use Rattle.rustc_lexer.specs.means.Frontmatter.{frontmatter, opens, spaces_len}
@@ -41,10 +42,10 @@ module _ (text : List ℕ) (is : IsText text) where
   ahead = by_front (opens (chars rest)) refl (opens (chars past_space)) refl
 
   pub end_is : (head_of text).body ≡ body_start text
-  end_is = head_end E2024 text is ahead.boundary
+  end_is = head_end newest text is ahead.boundary
 
   pub front_is : tokens_of_head (head_of text) ≡ head_tokens text
-  front_is = sym (ap₂ take (head_count-tokens E2024 text is ahead.boundary) (head_whole E2024 text is ahead.boundary) ∙ take-append_seam (tokens_of_head (head_of text)) _)
+  front_is = sym (ap₂ take (head_count-tokens newest text is ahead.boundary) (head_whole newest text is ahead.boundary) ∙ take-append_seam (tokens_of_head (head_of text)) _)
 
 -- the tokens of a document, by those of the grammar
 pub past_law : (first : List ℕ → Token) (text : List ℕ) → IsText text → document_by head_of first text ≡ document_tokens_by first text

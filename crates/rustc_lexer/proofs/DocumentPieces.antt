@@ -5,11 +5,11 @@ use Rattle.std.proofs.Math.Seq.{drop-append_seam}
 use Rattle.std.proofs.lemmas.Bool.{cases_lt}
 use Rattle.std.proofs.lemmas.List.{take-append-le}
 use Rattle.std.proofs.lemmas.Str.{IsCharBoundary-from_rest, IsUtf8-drop}
-use Rattle.rustc_lexer.specs.{Token, E2024}
+use Rattle.rustc_lexer.specs.{Token}
 use Rattle.rustc_lexer.specs.Classes.{IsText}
 use Rattle.rustc_lexer.specs.Document.{shebang_len, document_tokens}
 use Rattle.rustc_lexer.specs.means.Document.{document_by, head_of, tokens_of_head}
-use Rattle.rustc_lexer.specs.LanguageText.{document, part}
+use Rattle.rustc_lexer.specs.LanguageText.{document, part, newest}
 use Rattle.rustc_lexer.specs.Locality.{IsGrammar}
 use Rattle.rustc_lexer.specs.Tokens.{bound, tokens_by}
 use Rattle.rustc_lexer.specs.laws.Tokens.{partitions}
@@ -41,10 +41,10 @@ module _ {first : List ℕ → Token} (law : IsGrammar first) (text : List ℕ) 
 
   cut_front : (k : ℕ) → k ≤ length heads → IsCharBoundary text (shebang_len text + bound tokens k)
   cut_front k few =
-      let all = head_whole E2024 text is (ahead text is).boundary in
-      let front : take k (document_tokens E2024 text) ≡ take k tokens = ap (take k) all ∙ (take-append-le k heads _ few ∙ sym (ap (take k) e ∙ take-append-le k heads _ few)) in
-      let same : bound (document_tokens E2024 text) k ≡ bound tokens k = bound-same k (document_tokens E2024 text) tokens front in
-      let there : IsCharBoundary rest (bound (document_tokens E2024 text) k) = (partitions rest (document E2024) rest_text).boundaries k (omega (arith, ap length all, length-append heads (read_tokens (part E2024) body))) in
+      let all = head_whole newest text is (ahead text is).boundary in
+      let front : take k (document_tokens newest text) ≡ take k tokens = ap (take k) all ∙ (take-append-le k heads _ few ∙ sym (ap (take k) e ∙ take-append-le k heads _ few)) in
+      let same : bound (document_tokens newest text) k ≡ bound tokens k = bound-same k (document_tokens newest text) tokens front in
+      let there : IsCharBoundary rest (bound (document_tokens newest text) k) = (partitions rest (document newest) rest_text).boundaries k (omega (arith, ap length all, length-append heads (read_tokens (part newest) body))) in
       IsCharBoundary-from_rest text (shebang_len text) (bound tokens k) (shebang-boundary text is).0 (subst (IsCharBoundary rest) same there)
 
   -- the bounds of the tokens of the body

@@ -1,7 +1,7 @@
 -- What an edition has in place of some tokens.
 use Rattle.std.proofs.Common.{◌≡◌, ◌≢◌, ◌<◌, ℕ, suc, Bool, true, false, List, [], ◌∷◌, length, ◌⊎◌, refl, codes, ap, ◌∙◌, IsCharBoundary, arith}
 use Rattle.rustc_lexer.specs.{Edition, FrontmatterAllowed, Token, TokenKind, E2015, E2018, E2021, E2024, Yes, No, Pound, GuardedStrPrefix, RawLifetime, UnknownPrefix, UnknownPrefixLifetime}
-use Rattle.rustc_lexer.specs.LanguageText.{mode_in}
+use Rattle.rustc_lexer.specs.LanguageText.{mode_in, newest}
 use Rattle.rustc_lexer.specs.laws.Choice.{by_either}
 use Rattle.rustc_lexer.specs.laws.Edition.{edition_grammar}
 use Rattle.rustc_lexer.specs.laws.Language.{lexeme-sound}
@@ -59,7 +59,7 @@ unfolding frontmatter
 front-same edition text = grind (arith, common_steps)
 
 -- a frontmatter is the same in each edition, and what else a text begins with is changed
-pub changed-at : (allowed : FrontmatterAllowed) (edition : Edition) (text : List ℕ) → changed edition (chars text) (token_at (mode_in allowed E2024) text) ≡ token_at (mode_in allowed edition) text
+pub changed-at : (allowed : FrontmatterAllowed) (edition : Edition) (text : List ℕ) → changed edition (chars text) (token_at (mode_in allowed newest) text) ≡ token_at (mode_in allowed edition) text
 changed-at No edition text = refl
 changed-at Yes edition text = by_either (opens (chars text))
     (λ e. rw e (front-same edition text))
@@ -91,7 +91,7 @@ first_by guards text t is old = grind (arith, common_steps, older)
 
 -- the newest edition reserves guarded strings
 pub newest_first : (text : List ℕ) (t : Token) → IsFirstBy true text t → IsFirstToken text t
-newest_first text t is = record { token = is.token E2024 refl; inside = is.inside; boundary = is.boundary; suffix = is.suffix }
+newest_first text t is = record { token = is.token newest refl; inside = is.inside; boundary = is.boundary; suffix = is.suffix }
 
 -- a hash before a mark, where the edition reserves it
 pub guard_by : (text : List ℕ) → IsFirstToken text record { kind = GuardedStrPrefix; len = 2 } → IsFirstBy true text record { kind = GuardedStrPrefix; len = 2 }

@@ -5,11 +5,10 @@ use Rattle.std.proofs.Math.Seq.{drop-cons}
 use Rattle.std.proofs.lemmas.Bool.{cases_lt, eqb-true, eq-eqb, ne_eqb}
 use Rattle.std.proofs.lemmas.List.Sums.{prefix_len-le-length, prefix_len_passes, prefix_len_stops}
 use Rattle.std.proofs.lemmas.Grind.{common_steps}
-use Rattle.rustc_lexer.specs.{E2024}
 use Rattle.rustc_lexer.specs.Classes.{is_inline}
 use Rattle.rustc_lexer.specs.means.Scan.{begins}
 use Rattle.rustc_lexer.specs.means.Shebang.{is_attribute, before_newline, line_len, shebang_past, read_shebang}
-use Rattle.rustc_lexer.specs.LanguageText.{part}
+use Rattle.rustc_lexer.specs.LanguageText.{part, newest}
 use Rattle.rustc_lexer.specs.Tokens.{tokens_of}
 use Rattle.rustc_lexer.specs.laws.LanguageShebang.{front-is, short}
 
@@ -22,10 +21,10 @@ module _ (s tail : List ℕ) (n : ℕ) (two : n ≡ 2) (front : s ≡ 35 ∷ 33 
   unfolding read_shebang
   past_front = grind (arith, common_steps)
 
-  pub attribute_here : is_attribute (tokens_of (part E2024) tail) ≡ true → None ≡ read_shebang s
+  pub attribute_here : is_attribute (tokens_of (part newest) tail) ≡ true → None ≡ read_shebang s
   attribute_here e = sym (past_front ∙ ap (λ (b : Bool). let r : Option ℕ = if b then None else Some (2 + line_len tail) in r) e)
 
-  pub line_here : (len : ℕ) → is_attribute (tokens_of (part E2024) tail) ≡ false → len ≡ line_len tail → Some (2 + len) ≡ read_shebang s
+  pub line_here : (len : ℕ) → is_attribute (tokens_of (part newest) tail) ≡ false → len ≡ line_len tail → Some (2 + len) ≡ read_shebang s
   line_here len e f = ap (λ (k : ℕ). Some (2 + k)) f ∙ sym (past_front ∙ ap (λ (b : Bool). let r : Option ℕ = if b then None else Some (2 + line_len tail) in r) e)
 
 -- the first line of a text

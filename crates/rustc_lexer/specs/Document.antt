@@ -1,9 +1,9 @@
 -- A whole document: its tokens; its head, which is a shebang line and a frontmatter; and its body, which is the rest.
 use Rattle.std.specs.Prelude.{ℕ, suc, ◌+◌, List, ◌++◌, take, drop, Bool, true, false, unwrap_or}
 use Rattle.std.specs.{List.position, Option.option_map_or}
-use Rattle.rustc_lexer.specs.{Edition, Token, TokenKind, E2024, Frontmatter}
+use Rattle.rustc_lexer.specs.{Edition, Token, TokenKind, Frontmatter}
 use Rattle.rustc_lexer.specs.Answers.{shebang, tokens_of}
-use Rattle.rustc_lexer.specs.LanguageText.{document}
+use Rattle.rustc_lexer.specs.LanguageText.{document, newest}
 use Rattle.rustc_lexer.specs.Edits.{Layout}
 use Rattle.rustc_lexer.specs.Partition.{bound, tokens_by}
 
@@ -28,11 +28,11 @@ head_count tokens = option_map_or (λ before. suc before) (position (λ token. i
 
 -- the tokens of the head: the frontmatter, and the white space before it. They are the same in all editions
 abbrev pub head_tokens : List ℕ → List Token
-head_tokens text = take (head_count (document_tokens E2024 text)) (document_tokens E2024 text)
+head_tokens text = take (head_count (document_tokens newest text)) (document_tokens newest text)
 
 -- the offset at which the body begins: after the shebang line and the tokens of the head
 abbrev pub body_start : List ℕ → ℕ
-body_start text = shebang_len text + bound (document_tokens E2024 text) (head_count (document_tokens E2024 text))
+body_start text = shebang_len text + bound (document_tokens newest text) (head_count (document_tokens newest text))
 
 -- the tokens of a document if its body is lexed by a grammar: a function that returns the first token of each text
 abbrev pub whole_by : (List ℕ → Token) → List ℕ → Layout

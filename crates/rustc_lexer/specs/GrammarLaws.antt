@@ -1,9 +1,9 @@
 -- The lookahead of each kind of token, and the laws of the grammar.
 use Rattle.std.specs.Prelude.{ℕ, ◌≡◌, ◌↔◌, ◌<◌, ◌&&◌, ◌++◌, length, take, drop, codes, true, false, not, if◌then◌else◌, bytes_eq, chars}
-use Rattle.rustc_lexer.specs.{Edition, TokenKind, E2024, Int, Char, Byte, LineComment, BlockComment, Eof, Whitespace, Ident, InvalidIdent, RawIdent, ForcedKeywordIdent, UnknownPrefix, RawLifetime, UnknownPrefixLifetime, Literal, Lifetime, Slash, Pound}
+use Rattle.rustc_lexer.specs.{Edition, TokenKind, Int, Char, Byte, LineComment, BlockComment, Eof, Whitespace, Ident, InvalidIdent, RawIdent, ForcedKeywordIdent, UnknownPrefix, RawLifetime, UnknownPrefixLifetime, Literal, Lifetime, Slash, Pound}
 use Rattle.rustc_lexer.specs.Classes.{is_among, Chars, next_is, is_name_start, IsText, Utf8}
 use Rattle.rustc_lexer.specs.Language.{IsTokenBefore}
-use Rattle.rustc_lexer.specs.LanguageText.{Mode, part, AreTokens, TheOnly, IsTokenIn}
+use Rattle.rustc_lexer.specs.LanguageText.{Mode, newest, part, AreTokens, TheOnly, IsTokenIn}
 use Rattle.rustc_lexer.specs.Partition.{tokens_by}
 use Rattle.rustc_lexer.specs.State.{IsFirst}
 
@@ -53,7 +53,7 @@ pub record TheLaws : Type 0 where
   -- each list of characters begins with exactly one token of the grammar, which is not `Eof` unless the list is empty
   pub one_token : (s : Chars) → TheOnly (Unit {0}) (BeginsWith s)
   -- in the newest edition the tokens are those of Language.antt
-  pub newest : (next w : Chars) (kind : TokenKind) → IsTokenIn E2024 next kind w ↔ IsTokenBefore next kind w
+  pub newest : (next w : Chars) (kind : TokenKind) → IsTokenIn newest next kind w ↔ IsTokenBefore next kind w
   -- a token stays a token if the text after it is replaced by one that begins with the same `reach` characters
   pub looks_no_further : (next other w : Chars) (kind : TokenKind) → IsTokenBefore next kind w
       → take (reach kind w) other ≡ take (reach kind w) next → IsTokenBefore other kind w

@@ -17,6 +17,9 @@ year E2018 = 2018
 year E2021 = 2021
 year E2024 = 2024
 
+abbrev pub newest : Edition
+newest = E2024
+
 -- the year of the first edition in which the lexer has tokens of this kind as Language.antt defines them. In an older
 -- one it splits them, or gives them another kind. A C string, which Rust has since 2021, is the same token in each
 abbrev pub lexed_since : TokenKind → ℕ

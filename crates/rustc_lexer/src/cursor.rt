@@ -1,10 +1,9 @@
 //! A cursor, which takes the tokens of a text one by one.
 ghost use Rattle.std.specs.Prelude.{◌≡◌, [], ◌≢◌, ◌+◌, ◌^◌, ◌<◌, slice_index};
 ghost use Rattle.std.specs.Str.{chars};
-ghost use Rattle.rustc_lexer.specs.{E2024};
 ghost use Rattle.rustc_lexer.specs.Classes.{Fits};
 ghost use Rattle.rustc_lexer.specs.Tokens.{TakesFirst, tokens_left};
-ghost use Rattle.rustc_lexer.specs.LanguageText.{mode_edition, mode_in};
+ghost use Rattle.rustc_lexer.specs.LanguageText.{mode_edition, mode_in, newest};
 ghost use Rattle.rustc_lexer.specs.Answers.{advance};
 ghost use Rattle.rustc_lexer.specs.State.{token_past, HasSuffixWithin};
 
@@ -62,7 +61,7 @@ impl<'a> Cursor<'a> {
     pub fn new(input: &'a str, frontmatter_allowed: FrontmatterAllowed) -> Cursor<'a>
         requires fits { Fits input.now }
         ensures { result
-            ≡ record { pending = 0; rest = input.now; mode = mode_in frontmatter_allowed E2024 } }
+            ≡ record { pending = 0; rest = input.now; mode = mode_in frontmatter_allowed newest } }
     {
         Cursor {
             tokens: tokenize(input, frontmatter_allowed),
@@ -74,7 +73,7 @@ impl<'a> Cursor<'a> {
     #[inline(always)]
     pub fn as_str(&self) -> &'a str
         ensures rest { result.now ≡ self.now.rest }
-        ensures newest { mode_edition self.now.mode ≡ E2024 }
+        ensures newest { mode_edition self.now.mode ≡ newest }
         ensures fits { Fits result.now }
     {
         self.tokens.as_str()

@@ -31,7 +31,7 @@ pub enum Edition {
     E2018,
     /// Rust 2021.
     E2021,
-    /// Rust 2024, the newest edition.
+    /// Rust 2024.
     E2024,
 }
 
@@ -43,6 +43,9 @@ impl Edition {
         Edition::E2021,
         Edition::E2024,
     ];
+
+    /// The newest edition, in which each call lexes that takes no edition.
+    pub const NEWEST: Edition = Edition::E2024;
 
     /// Returns the year that names the edition.
     pub fn year(self) -> u16

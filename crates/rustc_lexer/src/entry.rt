@@ -2,9 +2,9 @@
 ghost use Rattle.std.specs.Prelude.{◌≡◌, drop, length, MatchOption};
 ghost use Rattle.std.specs.Iterator.{at_most};
 ghost use Rattle.std.specs.Str.{IsCharBoundary};
-ghost use Rattle.rustc_lexer.specs.{E2015, E2018, E2024, No};
+ghost use Rattle.rustc_lexer.specs.{E2015, E2018, No};
 ghost use Rattle.rustc_lexer.specs.Classes.{Fits};
-ghost use Rattle.rustc_lexer.specs.LanguageText.{mode_after, mode_edition, mode_in, part};
+ghost use Rattle.rustc_lexer.specs.LanguageText.{mode_after, mode_edition, mode_in, part, newest};
 ghost use Rattle.rustc_lexer.specs.Locality.{AreLocal};
 ghost use Rattle.rustc_lexer.specs.Tokens.{ReadsAs, TakesToken, tokens_of, YieldsToken};
 
@@ -45,16 +45,16 @@ pub use stepper::{Stepper, Steps};
 /// ```
 pub fn tokenize<'a>(input: &'a str, frontmatter_allowed: FrontmatterAllowed) -> Tokens<'a>
     requires fits { Fits input.now }
-    ensures { ReadsAs frontmatter_allowed E2024 input.now result }
+    ensures { ReadsAs frontmatter_allowed newest input.now result }
 {
-    tokenize_as(input, frontmatter_allowed, Edition::E2024)
+    tokenize_as(input, frontmatter_allowed, Edition::NEWEST)
 }
 
 /// Returns an iterator over the tokens of a text in an edition. The text may have at most `u32::MAX` bytes. It is
 /// read as a part of a document, so dashes at its start are never a frontmatter.
 ///
 /// The lengths of the tokens add up to the length of the text, each token ends between two characters, and the text
-/// from the end of any token has the remaining tokens. With `Edition::E2024` the tokens are those of [`tokenize`]
+/// from the end of any token has the remaining tokens. With `Edition::NEWEST` the tokens are those of [`tokenize`]
 /// with `FrontmatterAllowed::No`.
 ///
 /// `docs/EDITIONS.md` has a table of the tokens that differ in other editions. The loop at [`tokenize`] shows how to
@@ -64,7 +64,7 @@ pub fn tokenize_in<'a>(text: &'a str, edition: Edition) -> EditionTokens<'a>
     requires fits { Fits text.now }
     ensures reads { ReadsAs No edition text.now result }
     ensures local { AreLocal (tokens_of (part edition)) }
-    ensures newest { tokens_of (part E2024) text.now ≡ tokens_of (mode_in No E2024) text.now }
+    ensures newest { tokens_of (part newest) text.now ≡ tokens_of (mode_in No newest) text.now }
     ensures oldest { tokens_of (part E2015) text.now ≡ tokens_of (part E2018) text.now }
 {
     tokenize_as(text, FrontmatterAllowed::No, edition)

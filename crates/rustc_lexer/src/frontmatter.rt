@@ -2,11 +2,10 @@
 ghost use Rattle.std.specs.Prelude.{◌≡◌, ℕ, ◌+◌, ◌-◌, ◌≤◌, ◌<◌, ◌==◌, ◌&&◌, true, false, length, nat_lt, slice_index, take, drop, codes, MatchOption, IfSome, ◌∷◌};
 ghost use Rattle.std.specs.Str.{chars, IsCharBoundary};
 ghost use Rattle.memchr.specs.Find.{IsFirstByte, is_byte};
-ghost use Rattle.rustc_lexer.specs.{E2024};
 ghost use Rattle.rustc_lexer.specs.Classes;
 ghost use Rattle.rustc_lexer.specs.Classes.{Fits, begins, is_among, next_is};
 ghost use Rattle.rustc_lexer.specs.FrontmatterGrammar.{fence};
-ghost use Rattle.rustc_lexer.specs.LanguageText.{document, mode_in};
+ghost use Rattle.rustc_lexer.specs.LanguageText.{document, mode_in, newest};
 ghost use Rattle.rustc_lexer.specs.means.Frontmatter as spec;
 ghost use Rattle.rustc_lexer.specs.means.Scan.{past, run_len};
 ghost use Rattle.rustc_lexer.specs.means.Taking as state;
@@ -26,7 +25,7 @@ const MIN_DASHES: usize = 3;
 #[inline(always)]
 pub(crate) fn token_at(text: &str, allowed: FrontmatterAllowed) -> Token
     requires fits { Fits text.now }
-    ensures token { result ≡ state.token_at (mode_in allowed E2024) text.now }
+    ensures token { result ≡ state.token_at (mode_in allowed newest) text.now }
     ensures inside { result.len ≤ length text.now }
     ensures boundary { IsCharBoundary text.now result.len }
     ensures suffix { HasSuffixWithin result }
@@ -59,7 +58,7 @@ fn may_open(text: &str) -> bool
 #[inline(never)]
 fn frontmatter_or_lexeme(text: &str) -> Token
     requires fits { Fits text.now }
-    ensures token { result ≡ state.token_at (document E2024) text.now }
+    ensures token { result ≡ state.token_at (document newest) text.now }
     ensures inside { result.len ≤ length text.now }
     ensures boundary { IsCharBoundary text.now result.len }
     ensures suffix { HasSuffixWithin result }

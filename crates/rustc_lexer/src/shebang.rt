@@ -1,11 +1,10 @@
 //! The shebang line that a document may begin with.
 ghost use Rattle.std.specs.Prelude.{◌≡◌, ◌≤◌, IfSome, IsNone, codes, false, length};
 ghost use Rattle.std.specs.Str.{IsCharBoundary};
-ghost use Rattle.rustc_lexer.specs.{E2024};
 ghost use Rattle.rustc_lexer.specs.Answers.{shebang};
 ghost use Rattle.rustc_lexer.specs.Classes.{Fits, begins};
 ghost use Rattle.rustc_lexer.specs.Document as document;
-ghost use Rattle.rustc_lexer.specs.LanguageText.{part};
+ghost use Rattle.rustc_lexer.specs.LanguageText.{part, newest};
 ghost use Rattle.rustc_lexer.specs.means.Shebang as spec;
 ghost use Rattle.rustc_lexer.specs.Tokens.{tokens_of};
 
@@ -51,7 +50,7 @@ pub(crate) fn shebang_len(text: &str) -> usize
 /// Returns whether the text after `#!` makes it an attribute.
 fn is_attribute(tail: &str) -> bool
     requires fits { Fits tail.now }
-    ensures { result ≡ spec.is_attribute (tokens_of (part E2024) tail.now) }
+    ensures { result ≡ spec.is_attribute (tokens_of (part newest) tail.now) }
 {
     for token in tokenize(tail, FrontmatterAllowed::No) {
         if !is_passed(token.kind) {

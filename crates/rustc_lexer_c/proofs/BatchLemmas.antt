@@ -3,11 +3,10 @@ use Rattle.std.proofs.Common.{◌≡◌, ℕ, ◌+◌, ◌-◌, ◌≤◌, List,
 use Rattle.std.proofs.lemmas.Grind.{common_steps}
 use Rattle.std.proofs.lemmas.Str.{IsCharBoundary-from_rest, IsUtf8-drop}
 use Rattle.std.proofs.Math.Nat.{min-le_right}
-use Rattle.rustc_lexer.specs.declared.edition.Edition.TheVariants.{E2024}
 use Rattle.rustc_lexer.specs.declared.token.FrontmatterAllowed.{FrontmatterAllowed}
 use Rattle.rustc_lexer.specs.Tokens.{bound, tokens_of, tokens_left}
 use Rattle.rustc_lexer.specs.means.Tokens.{IsFilled}
-use Rattle.rustc_lexer.specs.LanguageText.{Mode, mode_edition, mode_in}
+use Rattle.rustc_lexer.specs.LanguageText.{Mode, mode_edition, mode_in, newest}
 use Rattle.rustc_lexer.specs.Classes.{IsText}
 use Rattle.rustc_lexer.specs.State.{State}
 use Rattle.rustc_lexer.specs.laws.Tokens.{partitions}
@@ -21,10 +20,10 @@ allowed_back : (allowed : FrontmatterAllowed) → allowed_of (allowed_number all
 allowed_back allowed = grind (arith, common_steps)
 
 -- the number of a flag is that of what it asks for, which is of the newest edition
-number_of-mode : (allowed : FrontmatterAllowed) → allowed_number allowed ≡ mode_number (mode_in allowed E2024)
+number_of-mode : (allowed : FrontmatterAllowed) → allowed_number allowed ≡ mode_number (mode_in allowed newest)
 number_of-mode allowed = grind (arith, common_steps)
 
-mode_of-edition : (allowed : FrontmatterAllowed) → mode_edition (mode_in allowed E2024) ≡ E2024
+mode_of-edition : (allowed : FrontmatterAllowed) → mode_edition (mode_in allowed newest) ≡ newest
 mode_of-edition allowed = grind (arith, common_steps)
 
 module _ (text : List ℕ) (is : IsText text) (place : CPlace) (boundary : IsCharBoundary text place.at) (s t : State) (buffer filled : List CToken) (count : ℕ) (begun : s ≡ state_at text place)
@@ -33,7 +32,7 @@ module _ (text : List ℕ) (is : IsText text) (place : CPlace) (boundary : IsCha
   cut = drop place.at text
 
   abbrev mode : Mode
-  mode = mode_in (allowed_of place.frontmatter_allowed) E2024
+  mode = mode_in (allowed_of place.frontmatter_allowed) newest
 
   cut_is : IsText cut
   cut_is = record { utf8 = IsUtf8-drop text place.at is.utf8 boundary; fits = let f = is.fits in omega (arith, length-drop place.at text) }
@@ -65,7 +64,7 @@ module _ (text : List ℕ) (is : IsText text) (place : CPlace) (boundary : IsCha
   state_is : state_past count (state_at text place) ≡ t
   state_is = ap (state_past count) (sym begun) ∙ sym past
 
-  newest : mode_edition t.mode ≡ E2024
+  newest : mode_edition t.mode ≡ newest
   newest = leaves.edition ∙ (ap (λ (x : State). mode_edition x.mode) begun ∙ mode_of-edition (allowed_of place.frontmatter_allowed))
 
   pub batch_is : (place' : CPlace) (allowed : FrontmatterAllowed) → place'.at ≡ length text - length t.rest → t.mode ≡ mode_in allowed (mode_edition t.mode) → place'.frontmatter_allowed ≡ allowed_number allowed → IsBatch text (state_at text place) buffer place' filled count

@@ -2,13 +2,13 @@
 use Rattle.std.proofs.Common.{◌≡◌, ℕ, zero, suc, Bool, true, not, List, length, map, drop, nat_eq, refl, sym, ap, ◌∙◌, subst, arith, Option, Some, None}
 use Rattle.std.proofs.lemmas.Grind.{common_steps}
 use Rattle.rustc_lexer.specs.declared.relex.head.Head.{Head}
-use Rattle.rustc_lexer.specs.declared.edition.Edition.TheVariants.{E2024}
 use Rattle.rustc_lexer.specs.declared.relex.relexing.Change.{Change}
 use Rattle.rustc_lexer.specs.declared.token.Token.{Token}
 use Rattle.rustc_lexer.specs.declared.token.TokenKind.{TokenKind}
 use Rattle.rustc_lexer.specs.Answers.{first_in}
 use Rattle.rustc_lexer.specs.Classes.{IsText}
 use Rattle.rustc_lexer.specs.Document.{is_frontmatter}
+use Rattle.rustc_lexer.specs.LanguageText.{newest}
 use Rattle.rustc_lexer.specs.Locality.{IsGrammar}
 use Rattle.rustc_lexer.specs.Relexing.{IsChange, IsEditOf, IsMadeOf, IsBodyChange, IsHeadOf}
 use Rattle.rustc_lexer.specs.Tokens.{tokens_by}
@@ -52,13 +52,13 @@ module _ (text : List ℕ) (is : IsText text) where
 -- ---- an edit of the body
 
 abbrev first : List ℕ → Token
-first = first_in E2024
+first = first_in newest
 
 -- an edit that made the text is one that may have made it
 made_fine : (before insert text : List ℕ) (edit : Change) → IsEditOf before edit insert text → IsChange text edit
 made_fine before insert text edit e =
     let made : IsMadeOf first before (map (λ (t : Token). t.len) (tokens_by first before)) edit insert text = record { edit_of = e; lengths_are = refl } in
-    made_change (edition_grammar E2024) before _ insert text edit made
+    made_change (edition_grammar newest) before _ insert text edit made
 
 -- what `change_to` promises of each text before
 abbrev pub Changes : CHead → CEdit → Head → Bool → Change → Type 0
@@ -78,8 +78,8 @@ module _ (text : List ℕ) (is : IsText text) (edit : CEdit) (c : CHead) (body :
   module _ (now : Head) (keeps : Bool) (change : Change) (is_now : IsHeadOf text now) (all : Changes c edit now keeps change) where
     pub refused_body : ¬ (IsChange (drop now.body text) change) → FindsHead text edit c c body body kept kept 6
     refused_body not = refused_with (λ before insert e same.
-        let b = all first before insert text (edition_grammar E2024) e (of_old before insert e same) is_now in
-        not (subst (λ (n : ℕ). IsChange (drop n text) change) (sym is_now.end_is) (made_change (edition_grammar E2024) _ _ _ _ change b.made_of)))
+        let b = all first before insert text (edition_grammar newest) e (of_old before insert e same) is_now in
+        not (subst (λ (n : ℕ). IsChange (drop n text) change) (sym is_now.end_is) (made_change (edition_grammar newest) _ _ _ _ change b.made_of)))
 
     pub found : IsChange text (change_of edit) → IsChange (drop now.body text) change → FindsHead text edit c (numbers_of_head now) body (record { start = change.start; old_stop = change.old_stop; new_stop = change.new_stop }) kept (bool_number keeps) 0
     found fine may = record {

@@ -1,12 +1,11 @@
 -- Tokens in batches: as many as the buffer has room for, and where the next batch begins.
 use Rattle.std.specs.Prelude.{ℕ, zero, suc, ◌≡◌, ◌≢◌, List, [], ◌∷◌, ◌++◌, length, map, take, drop, min}
 use Rattle.std.specs.Str.{IsCharBoundary}
-use Rattle.rustc_lexer.specs.declared.edition.Edition.TheVariants.{E2024}
 use Rattle.rustc_lexer.specs.declared.token.FrontmatterAllowed.{FrontmatterAllowed}
 use Rattle.rustc_lexer.specs.declared.token.FrontmatterAllowed.TheVariants.{Yes, No}
 use Rattle.rustc_lexer.specs.declared.token.Token.{Token}
 pub use Rattle.rustc_lexer.specs.Tokens.{state_past}
-use Rattle.rustc_lexer.specs.LanguageText.{Mode, document, part, mode_in}
+use Rattle.rustc_lexer.specs.LanguageText.{Mode, document, newest, part, mode_in}
 use Rattle.rustc_lexer.specs.State.{State}
 use Rattle.rustc_lexer.specs.Tokens.{tokens_left}
 use Rattle.rustc_lexer_c.specs.declared.batch.CPlace.{CPlace}
@@ -39,7 +38,7 @@ first_numbers (token ∷ tokens) = token_numbers token
 
 -- the state of a cursor at this offset, with nothing pending
 abbrev pub state_at : List ℕ → CPlace → State
-state_at text place = record { pending = 0; rest = drop place.at text; mode = mode_in (allowed_of place.frontmatter_allowed) E2024 }
+state_at text place = record { pending = 0; rest = drop place.at text; mode = mode_in (allowed_of place.frontmatter_allowed) newest }
 
 -- the batch from a state on. The start of the buffer holds the next tokens as numbers, as many as are left or as there
 -- is room for, and the rest of the buffer is unchanged. `place` is where the next batch begins, with the tokens that

@@ -1,11 +1,10 @@
 -- The numbers that C gets for the check of a raw string, and for a guarded string.
 use Rattle.std.specs.Prelude.{ℕ, List, Option, Some, None, Result, Ok, Err}
-use Rattle.rustc_lexer.specs.declared.edition.Edition.TheVariants.{E2024}
 use Rattle.rustc_lexer.specs.declared.token.GuardedStr.{GuardedStr}
 use Rattle.rustc_lexer.specs.declared.token.RawStrError.{RawStrError}
 use Rattle.rustc_lexer.specs.declared.token.RawStrError.TheVariants.{InvalidStarter, NoTerminator, TooManyDelimiters}
 use Rattle.rustc_lexer.specs.Answers.{guarded}
-use Rattle.rustc_lexer.specs.LanguageText.{part}
+use Rattle.rustc_lexer.specs.LanguageText.{part, newest}
 use Rattle.rustc_lexer_c.specs.declared.raw_str.CGuardedStr.{CGuardedStr}
 use Rattle.rustc_lexer_c.specs.declared.raw_str.CRawStrError.{CRawStrError}
 use Rattle.rustc_lexer_c.specs.Numbers.{bool_number, some_number, some_or_zero}
@@ -28,4 +27,4 @@ guarded_numbers (Some s) = record { is_some = 1; n_hashes = s.n_hashes; terminat
 
 -- the numbers of the guarded string that a text begins with
 abbrev pub guarded_at : List ℕ → CGuardedStr
-guarded_at text = guarded_numbers (guarded record { pending = 0; rest = text; mode = part E2024 }).0
+guarded_at text = guarded_numbers (guarded record { pending = 0; rest = text; mode = part newest }).0

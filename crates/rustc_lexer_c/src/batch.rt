@@ -1,9 +1,8 @@
 //! Writes tokens in batches.
 ghost use Rattle.std.specs.Prelude.{◌≡◌};
 ghost use Rattle.std.specs.Str.{IsUtf8, IsCharBoundary};
-ghost use Rattle.rustc_lexer.specs.declared.edition.Edition.TheVariants.{E2024};
 ghost use Rattle.rustc_lexer.specs.Classes.{Fits};
-ghost use Rattle.rustc_lexer.specs.LanguageText.{mode_in};
+ghost use Rattle.rustc_lexer.specs.LanguageText.{mode_in, newest};
 ghost use Rattle.rustc_lexer.specs.Tokens.{tokens_of};
 ghost use Rattle.rustc_lexer_c.specs.Batch as spec;
 
@@ -65,7 +64,7 @@ pub extern "C" fn rustc_lexer_tokens_unchecked(
 pub extern "C" fn rustc_lexer_first_token_unchecked(text: &[u8], frontmatter_allowed: u32) -> CToken
     requires utf8 { IsUtf8 text.now }
     ensures token { Fits text.now
-        → result ≡ spec.first_numbers (tokens_of (mode_in (spec.allowed_of frontmatter_allowed) E2024) text.now) }
+        → result ≡ spec.first_numbers (tokens_of (mode_in (spec.allowed_of frontmatter_allowed) newest) text.now) }
     ensures too_long { ¬ (Fits text.now) → result ≡ spec.no_token }
 {
     match utf8_text_of(text) {
@@ -81,7 +80,7 @@ pub extern "C" fn rustc_lexer_first_token_unchecked(text: &[u8], frontmatter_all
 #[inline(always)]
 fn first_token(text: &str, allowed: FrontmatterAllowed) -> CToken
     requires fits { Fits text.now }
-    ensures { result ≡ spec.first_numbers (tokens_of (mode_in allowed E2024) text.now) }
+    ensures { result ≡ spec.first_numbers (tokens_of (mode_in allowed newest) text.now) }
 {
     tokenize(text, allowed)
         .next()

@@ -2,8 +2,7 @@
 ghost use Rattle.std.specs.Prelude.{◌≡◌, ◌≢◌};
 ghost use Rattle.std.specs.Str.{IsUtf8};
 ghost use Rattle.rustc_lexer.specs.Classes.{Fits};
-ghost use Rattle.rustc_lexer.specs.declared.edition.Edition.TheVariants.{E2024};
-ghost use Rattle.rustc_lexer.specs.LanguageText.{part};
+ghost use Rattle.rustc_lexer.specs.LanguageText.{part, newest};
 ghost use Rattle.rustc_lexer.specs.Locality.{IsSettled, StaysUpTo};
 ghost use Rattle.rustc_lexer.specs.Answers.{shebang};
 ghost use Rattle.rustc_lexer.specs.Tokens.{tokens_of};
@@ -43,8 +42,8 @@ pub extern "C" fn rustc_lexer_strip_shebang_unchecked(text: &[u8], line_len: &mu
 #[unsafe(no_mangle)]
 pub extern "C" fn rustc_lexer_settled(text: &[u8], end: &mut usize) -> u32
     ensures status { IsTextStatus text.now result }
-    ensures settled { result ≡ 0 → IsSettled text.now (tokens_of (part E2024) text.now) end.new }
-    ensures stays { result ≡ 0 → StaysUpTo end.new text.now (tokens_of (part E2024)) }
+    ensures settled { result ≡ 0 → IsSettled text.now (tokens_of (part newest) text.now) end.new }
+    ensures stays { result ≡ 0 → StaysUpTo end.new text.now (tokens_of (part newest)) }
     ensures refused { result ≢ 0 → end.new ≡ 0 }
 {
     match text_of(text) {

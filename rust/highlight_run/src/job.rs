@@ -48,7 +48,7 @@ pub fn read_job(words: &[String], colours: bool) -> Option<Job> {
     let options = read_options(NO_OPTIONS, words)?;
     Some(Job::Show {
         style: style_of(options, colours),
-        edition: options.edition.unwrap_or(Edition::E2024),
+        edition: options.edition.unwrap_or(Edition::NEWEST),
     })
 }
 

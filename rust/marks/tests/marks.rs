@@ -5,7 +5,7 @@ use marks::{Edition, Style, inside, write_first_tokens, write_marked};
 use rustc_lexer::{FrontmatterAllowed, tokenize};
 use rustc_literal_escaper::Mode;
 
-const NEWEST: Edition = Edition::E2024;
+const NEWEST: Edition = Edition::NEWEST;
 
 /// What is written of the first tokens of a text.
 fn first(style: Style, edition: Edition, count: usize, text: &str) -> String {

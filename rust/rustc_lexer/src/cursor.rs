@@ -3,7 +3,7 @@
 use crate::{FrontmatterAllowed, GuardedStr, Token, erased, fitting};
 use core::fmt;
 
-/// Takes the tokens of a text one by one, as [`Edition::E2024`](crate::Edition::E2024) has them.
+/// Takes the tokens of a text one by one, as [`Edition::NEWEST`](crate::Edition::NEWEST) has them.
 ///
 /// ```
 /// use rustc_lexer::{Cursor, FrontmatterAllowed, TokenKind};

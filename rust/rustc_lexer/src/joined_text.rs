@@ -39,7 +39,7 @@ impl JoinedText {
     /// Returns an empty text, whose pieces are read in the newest edition.
     #[must_use]
     pub fn new() -> JoinedText {
-        JoinedText::new_in(Edition::E2024)
+        JoinedText::new_in(Edition::NEWEST)
     }
 
     /// Returns an empty text, whose pieces are read in an edition.

@@ -24,7 +24,7 @@ macro_rules! kept_calls {
             /// ```
             #[doc = concat!("use rustc_lexer::{Edition, ", stringify!($Kept), "};")]
             ///
-            #[doc = concat!("assert_eq!(", stringify!($Kept), "::new(\"\").edition(), Edition::E2024);")]
+            #[doc = concat!("assert_eq!(", stringify!($Kept), "::new(\"\").edition(), Edition::NEWEST);")]
             /// ```
             #[must_use]
             pub fn edition(&self) -> Edition {

@@ -50,7 +50,7 @@ impl LexedDocument {
     /// Panics if the text has more than `u32::MAX` bytes, or if an allocation fails.
     #[must_use]
     pub fn new(text: impl AsRef<str>) -> LexedDocument {
-        LexedDocument::new_in(text, Edition::E2024)
+        LexedDocument::new_in(text, Edition::NEWEST)
     }
 
     /// Returns the document with its tokens in an edition.

@@ -54,7 +54,7 @@ impl LexedText {
     /// Panics if the text has more than `u32::MAX` bytes, or if an allocation fails.
     #[must_use]
     pub fn new(text: impl AsRef<str>) -> LexedText {
-        LexedText::new_in(text, Edition::E2024)
+        LexedText::new_in(text, Edition::NEWEST)
     }
 
     /// Returns the text with its tokens in an edition.

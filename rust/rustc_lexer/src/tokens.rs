@@ -6,7 +6,7 @@ use alloc::vec::Vec;
 use core::fmt;
 use core::iter::FusedIterator;
 
-/// Returns the tokens of a text, in order, as [`Edition::E2024`] has them.
+/// Returns the tokens of a text, in order, as [`Edition::NEWEST`] has them.
 ///
 /// The lengths of the tokens sum to that of the text, and each token ends between two characters.
 ///
@@ -31,7 +31,7 @@ use core::iter::FusedIterator;
 /// Panics if the text has more than `u32::MAX` bytes.
 #[inline]
 pub fn tokenize(input: &str, frontmatter_allowed: FrontmatterAllowed) -> Tokens<'_> {
-    tokenize_as(input, frontmatter_allowed, Edition::E2024)
+    tokenize_as(input, frontmatter_allowed, Edition::NEWEST)
 }
 
 /// An iterator over the tokens of a text, made by [`tokenize`], [`tokenize_in`], [`tokenize_as`] and
@@ -146,7 +146,7 @@ impl fmt::Debug for Tokens<'_> {
     }
 }
 
-/// Returns the tokens of a text in an edition, in order. No frontmatter is allowed: with `Edition::E2024` they are
+/// Returns the tokens of a text in an edition, in order. No frontmatter is allowed: with `Edition::NEWEST` they are
 /// those of [`tokenize`] with `FrontmatterAllowed::No`.
 ///
 /// ```
@@ -203,7 +203,7 @@ pub fn tokenize_as(
 /// use rustc_lexer::{tokenize_document, Edition};
 ///
 /// let text = "#!/bin/sh\n---\n[package]\n---\nfn main() {}";
-/// let tokens = tokenize_document(text, Edition::E2024);
+/// let tokens = tokenize_document(text, Edition::NEWEST);
 /// let mut start = text.len() - tokens.as_str().len();
 /// assert_eq!(start, 9);
 /// let mut texts = Vec::new();

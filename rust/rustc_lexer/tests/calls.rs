@@ -160,6 +160,7 @@ fn years() {
         ("2024", 2024, Edition::E2024),
     ];
     assert_eq!(Edition::ALL, years.map(|row| row.2));
+    assert_eq!(Edition::NEWEST, Edition::E2024);
     for (word, year, edition) in years {
         assert_eq!(word.parse(), Ok(edition));
         assert_eq!(Edition::try_from(year), Ok(edition));

@@ -4,11 +4,11 @@ use Rattle.std.specs.Str.{IsCharBoundary}
 use Rattle.std.proofs.lemmas.Str.{length-le-encodes}
 use Rattle.std.proofs.lemmas.Grind.{common_steps}
 use Rattle.rustc_lexer.specs.Locality.{IsGrammar, AgreePast}
-use Rattle.rustc_lexer.specs.{Edition, Token, TokenKind, E2024}
+use Rattle.rustc_lexer.specs.{Edition, Token, TokenKind}
 use Rattle.rustc_lexer.specs.Classes.{bytes, IsText}
 use Rattle.rustc_lexer.specs.GrammarLaws.{reach}
 use Rattle.rustc_lexer.specs.Language.{IsTokenBefore}
-use Rattle.rustc_lexer.specs.LanguageText.{IsTokenIn, kept, pound, ident, lifetime, lifetime_r}
+use Rattle.rustc_lexer.specs.LanguageText.{newest, IsTokenIn, kept, pound, ident, lifetime, lifetime_r}
 use Rattle.rustc_lexer.specs.laws.Ident.{marks_ident-decided}
 use Rattle.rustc_lexer.specs.laws.LanguageIn.{Front, first-front, token-read-in}
 use Rattle.rustc_lexer.specs.laws.Language.{token-alike}
@@ -59,4 +59,4 @@ module _ (edition : Edition) where
   }
 
 pub first_token_grammar : IsGrammar first_token
-first_token_grammar = edition_grammar E2024
+first_token_grammar = edition_grammar newest

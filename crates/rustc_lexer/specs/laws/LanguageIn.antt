@@ -5,9 +5,9 @@ use Rattle.std.proofs.Math.Seq.{take-append_seam}
 use Rattle.std.proofs.lemmas.Bool.{and_parts, leb-true, leb-false, eqb-true}
 use Rattle.std.specs.Str.{chars}
 use Rattle.std.proofs.lemmas.Grind.{common_steps}
-use Rattle.rustc_lexer.specs.{Edition, Token, TokenKind, E2024, Ident, UnknownPrefix, UnknownPrefixLifetime, RawLifetime, Lifetime, GuardedStrPrefix, Pound}
+use Rattle.rustc_lexer.specs.{Edition, Token, TokenKind, Ident, UnknownPrefix, UnknownPrefixLifetime, RawLifetime, Lifetime, GuardedStrPrefix, Pound}
 use Rattle.rustc_lexer.specs.Classes.{is_among, is_id_continue, is_ident, is_word_continue, is_word_start, begins_ident_after, AreAll, NextIs, bytes, IsText, is_bad_name}
-use Rattle.rustc_lexer.specs.LanguageText.{year, lexed_since, IsTokenIn, kept, pound, ident, lifetime, lifetime_r}
+use Rattle.rustc_lexer.specs.LanguageText.{year, lexed_since, newest, IsTokenIn, kept, pound, ident, lifetime, lifetime_r}
 use Rattle.rustc_lexer.specs.means.Edition.{token, has_marked_name, before_2024, before_2021, changed, first_token_in}
 use Rattle.rustc_lexer.specs.Language as the
 use Rattle.rustc_lexer.specs.Language.{IsTokenBefore}
@@ -159,11 +159,11 @@ first-front edition text (c ∷ s) is some e =
 
 -- ---- the newest edition has the tokens of the grammar
 
-pub in_grammar : {edition : Edition} {next : List ℕ} {kind : TokenKind} {w : List ℕ} → edition ≡ E2024 → IsTokenIn edition next kind w → IsTokenBefore next kind w
-in_grammar newest w1 = grind (arith, common_steps)
+pub in_grammar : {edition : Edition} {next : List ℕ} {kind : TokenKind} {w : List ℕ} → edition ≡ newest → IsTokenIn edition next kind w → IsTokenBefore next kind w
+in_grammar is w1 = grind (arith, common_steps)
 
-pub of_grammar : {edition : Edition} {next : List ℕ} {kind : TokenKind} {w : List ℕ} → edition ≡ E2024 → IsTokenBefore next kind w → IsTokenIn edition next kind w
-of_grammar {edition} {next} {kind} newest p = kept (subst (λ (x : Edition). lexed_since kind ≤ year x) (sym newest) (grind (arith, common_steps))) p
+pub of_grammar : {edition : Edition} {next : List ℕ} {kind : TokenKind} {w : List ℕ} → edition ≡ newest → IsTokenBefore next kind w → IsTokenIn edition next kind w
+of_grammar {edition} {next} {kind} is p = kept (subst (λ (x : Edition). lexed_since kind ≤ year x) (sym is) (grind (arith, common_steps))) p
 
-pub newest_has : (next w : List ℕ) (kind : TokenKind) → IsTokenIn E2024 next kind w ↔ IsTokenBefore next kind w
+pub newest_has : (next w : List ℕ) (kind : TokenKind) → IsTokenIn newest next kind w ↔ IsTokenBefore next kind w
 newest_has next w kind = (in_grammar refl, of_grammar refl)

@@ -10,7 +10,8 @@ use Rattle.std.proofs.Math.Seq.{drop-append_seam}
 use Rattle.std.proofs.Math.Bool.{and-false}
 use Rattle.std.proofs.lemmas.Grind.{common_steps}
 use Rattle.unicode_ident.proofs.Computing.{unicode_ident}
-use Rattle.rustc_lexer.specs.{Token, TokenKind, E2024, LineComment, BlockComment, Whitespace, OpenBracket}
+use Rattle.rustc_lexer.specs.{Token, TokenKind, LineComment, BlockComment, Whitespace, OpenBracket}
+use Rattle.rustc_lexer.specs.LanguageText.{newest}
 use Rattle.rustc_lexer.specs.Partition.{tokens_by}
 use Rattle.rustc_lexer.specs.Tables.{is_emoji, emoji_ranges}
 use Rattle.rustc_lexer.specs.Language as grammar
@@ -103,7 +104,7 @@ attribute-is n [] is le t = absurd (true≢false (sym t ∙ ap is_attribute (tok
 attribute-is zero (b ∷ bs) is le t = absurd (omega arith)
 attribute-is (suc n) (b ∷ bs) is le t =
     let text : List ℕ = b ∷ bs in
-    let f = first-front E2024 text (chars text) is (omega arith) refl in
+    let f = first-front newest text (chars text) is (omega arith) refl in
     let p : IsTokenBefore f.next f.kind (f.c ∷ f.w) = in_grammar refl f.is in
     let r = rest-is text f.kind f.c f.w f.next is (sym f.whole) p in
     let left : List ℕ = drop (first_token text).len text in

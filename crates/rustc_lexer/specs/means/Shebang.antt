@@ -1,8 +1,8 @@
 -- Means, by how it is read: the shebang line that a document may begin with.
 use Rattle.std.specs.Prelude.{ℕ, ◌+◌, ◌-◌, Bool, true, false, if◌then◌else◌, List, [], ◌∷◌, drop, codes, Option, Some, None}
 use Rattle.std.specs.List.{prefix_len}
-use Rattle.rustc_lexer.specs.{Token, TokenKind, E2024, LineComment, BlockComment, Whitespace, OpenBracket}
-use Rattle.rustc_lexer.specs.LanguageText.{part}
+use Rattle.rustc_lexer.specs.{Token, TokenKind, LineComment, BlockComment, Whitespace, OpenBracket}
+use Rattle.rustc_lexer.specs.LanguageText.{part, newest}
 use Rattle.rustc_lexer.specs.Classes.{is_inline}
 use Rattle.rustc_lexer.specs.means.Scan.{begins}
 use Rattle.rustc_lexer.specs.means.Tokens.{read_tokens}
@@ -33,7 +33,7 @@ line_len text = if begins (codes "\r\n") (drop (before_newline text - 1) text) t
 
 -- what follows `#!`
 abbrev pub shebang_past : List ℕ → Option ℕ
-shebang_past tail = if is_attribute (read_tokens (part E2024) tail) then None else Some (2 + line_len tail)
+shebang_past tail = if is_attribute (read_tokens (part newest) tail) then None else Some (2 + line_len tail)
 
 -- the length of the shebang line at the front of a text, if one stands there
 unfoldable pub read_shebang : List ℕ → Option ℕ

@@ -1,9 +1,9 @@
 -- Means, by how it is read: the token that a cursor takes, and the state after it.
 use Rattle.std.specs.Prelude.{◌≡◌, ◌+◌, ◌^◌, ◌<◌, ℕ, List, [], ◌∷◌, drop, length, if◌then◌else◌}
 use Rattle.std.specs.Str.{chars}
-use Rattle.rustc_lexer.specs.{Token, E2024, Eof}
+use Rattle.rustc_lexer.specs.{Token, Eof}
 use Rattle.rustc_lexer.specs.Classes.{IsText}
-use Rattle.rustc_lexer.specs.LanguageText.{Mode, document, part, mode_after, mode_edition}
+use Rattle.rustc_lexer.specs.LanguageText.{Mode, document, newest, part, mode_after, mode_edition}
 use Rattle.rustc_lexer.specs.State.{State, token_past}
 use Rattle.rustc_lexer.specs.means.Edition.{first_token_in}
 use Rattle.rustc_lexer.specs.means.Frontmatter.{frontmatter, opens}
@@ -32,6 +32,6 @@ take_next s = advance_by s.rest s
 -- together with these bytes
 pub record IsCursor (pending : ℕ) (tokens : State) : Type 0 where
   pub alone : tokens.pending ≡ 0
-  pub newest : mode_edition tokens.mode ≡ E2024
+  pub newest : mode_edition tokens.mode ≡ newest
   pub text : IsText tokens.rest
   pub fits : pending + length tokens.rest < 2 ^ 32

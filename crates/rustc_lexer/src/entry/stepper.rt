@@ -1,10 +1,10 @@
 //! Steppers: they lex by a grammar, one token at a time or many at once.
 ghost use Rattle.std.specs.Prelude.{◌≡◌, ◌+◌, ◌<◌, ◌≤◌, List, ℕ, length};
-ghost use Rattle.rustc_lexer.specs.{Token, E2024};
+ghost use Rattle.rustc_lexer.specs.{Token};
 ghost use Rattle.rustc_lexer.specs.Tokens.{IsFilledTo, bound, tokens_by};
 ghost use Rattle.rustc_lexer.specs.Classes.{Fits};
 ghost use Rattle.rustc_lexer.specs.Answers.{first_in};
-ghost use Rattle.rustc_lexer.specs.LanguageText.{year};
+ghost use Rattle.rustc_lexer.specs.LanguageText.{year, newest};
 ghost use Rattle.rustc_lexer.specs.Locality.{IsGrammar};
 
 use crate::edition::{Edition, token_in};
@@ -78,13 +78,13 @@ pub struct Steps {
 }
 
 impl Steps {
-    /// Returns the lexer of the edition of 2024, before its first step.
+    /// Returns the lexer of the newest edition, before its first step.
     pub fn new() -> Steps
         ensures count { ⟦<Steps as Stepper>⟧.count result ≡ 0 }
-        ensures number { ⟦<Steps as Stepper>⟧.number result ≡ 2024 }
-        ensures grammar { ⟦<Steps as Stepper>⟧.grammar result ≡ first_in E2024 }
+        ensures number { ⟦<Steps as Stepper>⟧.number result ≡ year newest }
+        ensures grammar { ⟦<Steps as Stepper>⟧.grammar result ≡ first_in newest }
     {
-        Steps::new_in(Edition::E2024)
+        Steps::new_in(Edition::NEWEST)
     }
 
     /// Returns the lexer of an edition, before its first step.

@@ -1,12 +1,11 @@
 //! A text that is kept with its tokens.
 ghost use Rattle.std.specs.Prelude.{◌≡◌, ◌+◌, ◌-◌, ◌<◌, ◌≤◌, ◌↔◌, IfOk, IfErr, IfSome, IsSome, OnOk, OnErr, IsTrue, ℕ, drop, length, take};
 ghost use Rattle.std.specs.String.{string_bytes};
-ghost use Rattle.rustc_lexer.specs.{E2024};
 ghost use Rattle.rustc_lexer.specs.declared.relex.relexing.Relexed.{Relexed};
 ghost use Rattle.rustc_lexer.specs.Classes.{Fits};
 ghost use Rattle.rustc_lexer.specs.Tokens.{tokens_by, tokens_of};
 ghost use Rattle.rustc_lexer.specs.Edits.{AreEdits, AreStepped, AreTouched, ContainsByte, IsEdit, IsRelexed, IsRelexedList, IsStop, IsStopStepped, apply, apply_list, part_by, pieces_from, stop_at};
-ghost use Rattle.rustc_lexer.specs.LanguageText.{part};
+ghost use Rattle.rustc_lexer.specs.LanguageText.{part, newest, year};
 ghost use Rattle.rustc_lexer.specs.Answers.{first_in};
 
 use crate::edition::Edition;
@@ -279,11 +278,11 @@ impl LexedText<Steps> {
     pub fn new(alloc: Global, text: &str) -> Result<LexedText<Steps>, AllocError>
         requires fits { Fits text.now }
         ensures text { IfOk result (λ l. l.text ≡ text.now) }
-        ensures from_scratch { IfOk result (λ l. l.tokens ≡ tokens_of (part E2024) text.now) }
-        ensures grammar { IfOk result (λ l. ⟦<Steps as Stepper>⟧.grammar l.stepper ≡ first_in E2024) }
-        ensures number { IfOk result (λ l. ⟦<Steps as Stepper>⟧.number l.stepper ≡ 2024) }
+        ensures from_scratch { IfOk result (λ l. l.tokens ≡ tokens_of (part newest) text.now) }
+        ensures grammar { IfOk result (λ l. ⟦<Steps as Stepper>⟧.grammar l.stepper ≡ first_in newest) }
+        ensures number { IfOk result (λ l. ⟦<Steps as Stepper>⟧.number l.stepper ≡ year newest) }
         ensures count { IfOk result (λ l. ⟦<Steps as Stepper>⟧.count l.stepper ≡ length l.tokens) }
     {
-        LexedText::new_in(alloc, text, Edition::E2024)
+        LexedText::new_in(alloc, text, Edition::NEWEST)
     }
 }

@@ -1,8 +1,7 @@
 //! Which tokens of a text are certain, however the text continues.
-ghost use Rattle.rustc_lexer.specs.{E2024};
 ghost use Rattle.rustc_lexer.specs.Classes.{Fits};
 ghost use Rattle.rustc_lexer.specs.Tokens.{tokens_by, tokens_of};
-ghost use Rattle.rustc_lexer.specs.LanguageText.{part};
+ghost use Rattle.rustc_lexer.specs.LanguageText.{part, newest};
 ghost use Rattle.rustc_lexer.specs.Locality.{AreLocal, IsSettled, StaysUpTo};
 
 use crate::entry::stepper::{Stepper, Steps};
@@ -14,9 +13,9 @@ use crate::relex::front::two_stand;
 /// Whatever is appended to the text, its tokens up to this place stay as they are.
 pub fn settled(text: &str) -> usize
     requires fits { Fits text.now }
-    ensures settled { IsSettled text.now (tokens_of (part E2024) text.now) result }
-    ensures stays { StaysUpTo result text.now (tokens_of (part E2024)) }
-    ensures local { AreLocal (tokens_of (part E2024)) }
+    ensures settled { IsSettled text.now (tokens_of (part newest) text.now) result }
+    ensures stays { StaysUpTo result text.now (tokens_of (part newest)) }
+    ensures local { AreLocal (tokens_of (part newest)) }
 {
     settled_by(&mut Steps::new(), text)
 }

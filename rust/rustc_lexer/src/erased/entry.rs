@@ -36,14 +36,14 @@ pub use stepper::{Stepper, Steps};
 /// }
 /// ```
 pub fn tokenize<'a>(input: &'a str, frontmatter_allowed: FrontmatterAllowed) -> Tokens<'a> {
-    tokenize_as(input, frontmatter_allowed, Edition::E2024)
+    tokenize_as(input, frontmatter_allowed, Edition::NEWEST)
 }
 
 /// Returns an iterator over the tokens of a text in an edition. The text may have at most `u32::MAX` bytes. It is
 /// read as a part of a document, so dashes at its start are never a frontmatter.
 ///
 /// The lengths of the tokens add up to the length of the text, each token ends between two characters, and the text
-/// from the end of any token has the remaining tokens. With `Edition::E2024` the tokens are those of [`tokenize`]
+/// from the end of any token has the remaining tokens. With `Edition::NEWEST` the tokens are those of [`tokenize`]
 /// with `FrontmatterAllowed::No`.
 ///
 /// `docs/EDITIONS.md` has a table of the tokens that differ in other editions. The loop at [`tokenize`] shows how to

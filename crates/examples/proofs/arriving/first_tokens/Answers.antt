@@ -1,7 +1,6 @@
 use Rattle.std.proofs.lemmas.Str.{IsCharBoundary-start}
 use Rattle.std.proofs.Common.{ap, sym, ◌∙◌, length, arith}
-use Rattle.rustc_lexer.specs.declared.edition.Edition.TheVariants.{E2024}
-use Rattle.rustc_lexer.specs.LanguageText.{part}
+use Rattle.rustc_lexer.specs.LanguageText.{part, newest}
 use Rattle.rustc_lexer.specs.State.{State}
 use Rattle.rustc_lexer.specs.Tokens.{tokens_of, tokens_left}
 use Rattle.rustc_lexer.proofs.PlaceLemmas.{stands_past}
@@ -27,7 +26,7 @@ loop-token-preserved c =
 
 pub returns : goal.returns
 returns c =
-    taken_none (tokens_of (part E2024) c.args.text.now) c.loop-token.first.items (tokens_left c.loop-token.token-iterator) c.loop-token.start c.args.place c.loop-token.invariant.taken
+    taken_none (tokens_of (part newest) c.args.text.now) c.loop-token.first.items (tokens_left c.loop-token.token-iterator) c.loop-token.start c.args.place c.loop-token.invariant.taken
     (elim c.match-next.branch [
       | in-None w ↦ λ k less. absurd (omega (arith, ap length w.in-None.ensures.steps.0))
       | in-Some+then-start-place w ↦ λ k less. let step = w.in-Some.ensures.steps in rw step.first (omega (arith, w.if-start-place.true, step.not_empty))

@@ -1,6 +1,5 @@
 use Rattle.std.proofs.Common.{◌≡◌, ◌++◌, take}
-use Rattle.rustc_lexer.specs.declared.edition.Edition.TheVariants.{E2024}
-use Rattle.rustc_lexer.specs.LanguageText.{part}
+use Rattle.rustc_lexer.specs.LanguageText.{part, newest}
 use Rattle.rustc_lexer.specs.Tokens.{tokens_of, tokens_left}
 use Rattle.examples.specs.Joined.{joined}
 use Rattle.examples.proofs.ArrivingLemmas.{HasGiven}
@@ -10,4 +9,4 @@ abbrev pub invariant-loop-piece : goal.invariant-loop-piece
 invariant-loop-piece l = HasGiven (joined (take l.piece-index l.pieces)) l.tokens.items l.arriving
 
 abbrev pub invariant-loop-token : goal.invariant-loop-token
-invariant-loop-token l = l.tokens.items ++ tokens_left l.token-iterator ≡ tokens_of (part E2024) (joined l.pieces)
+invariant-loop-token l = l.tokens.items ++ tokens_left l.token-iterator ≡ tokens_of (part newest) (joined l.pieces)

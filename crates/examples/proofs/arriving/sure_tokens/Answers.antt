@@ -1,5 +1,4 @@
-use Rattle.rustc_lexer.specs.declared.edition.Edition.TheVariants.{E2024}
-use Rattle.rustc_lexer.specs.LanguageText.{part}
+use Rattle.rustc_lexer.specs.LanguageText.{part, newest}
 use Rattle.rustc_lexer.specs.Classes.{IsText}
 use Rattle.rustc_lexer.specs.laws.Tokens.{partitions}
 use Rattle.examples.proofs.ArrivingLemmas.{gives_first, settled_boundary}
@@ -9,7 +8,7 @@ pub range_from-requires : goal.range_from-requires
 range_from-requires c =
     let text = c.args.text.now in
     let is : IsText text = record { utf8 = c.utf8.text; fits = c.requires.fits } in
-    λ some. settled_boundary text c.settled-sure.result is c.settled-sure.ensures.settled (partitions text (part E2024) is).boundaries
+    λ some. settled_boundary text c.settled-sure.result is c.settled-sure.ensures.settled (partitions text (part newest) is).boundaries
 
 pub returns-clause-given : goal.returns-clause-given
 returns-clause-given c =

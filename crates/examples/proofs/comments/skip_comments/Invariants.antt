@@ -1,6 +1,5 @@
 use Rattle.std.proofs.Common.{◌≡◌, length}
-use Rattle.rustc_lexer.specs.declared.edition.Edition.TheVariants.{E2024}
-use Rattle.rustc_lexer.specs.LanguageText.{part}
+use Rattle.rustc_lexer.specs.LanguageText.{part, newest}
 use Rattle.rustc_lexer.specs.Tokens.{tokens_of, tokens_left}
 use Rattle.examples.specs.Comments.{past_comments}
 use Rattle.examples.proofs.comments.skip_comments.Given as goal
@@ -8,7 +7,7 @@ use Rattle.examples.proofs.comments.skip_comments.Given as goal
 abbrev pub invariant-loop-cursor : goal.invariant-loop-cursor
 invariant-loop-cursor l = record {
   alone : l.cursor.pending ≡ 0;
-  left : past_comments l.cursor.rest (tokens_left l.cursor) ≡ past_comments l.text (tokens_of (part E2024) l.text);
+  left : past_comments l.cursor.rest (tokens_left l.cursor) ≡ past_comments l.text (tokens_of (part newest) l.text);
 }
 
 abbrev pub decreases-loop-cursor : goal.decreases-loop-cursor

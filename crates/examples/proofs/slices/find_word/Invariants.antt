@@ -1,7 +1,6 @@
 use Rattle.std.proofs.Common.{◌≡◌}
-use Rattle.rustc_lexer.specs.declared.edition.Edition.TheVariants.{E2024}
 use Rattle.rustc_lexer.specs.Edits.{pieces_from}
-use Rattle.rustc_lexer.specs.LanguageText.{part}
+use Rattle.rustc_lexer.specs.LanguageText.{part, newest}
 use Rattle.rustc_lexer.specs.laws.State.{StandsAt}
 use Rattle.rustc_lexer.specs.Tokens.{tokens_of, tokens_left}
 use Rattle.examples.specs.Slices.{find_start}
@@ -10,5 +9,5 @@ use Rattle.examples.proofs.slices.find_word.Given as goal
 abbrev pub invariant-loop-token : goal.invariant-loop-token
 invariant-loop-token l = record {
   place : StandsAt l.text l.start l.token-iterator;
-  found : find_start l.word (pieces_from l.text l.start (tokens_left l.token-iterator)) ≡ find_start l.word (pieces_from l.text 0 (tokens_of (part E2024) l.text));
+  found : find_start l.word (pieces_from l.text l.start (tokens_left l.token-iterator)) ≡ find_start l.word (pieces_from l.text 0 (tokens_of (part newest) l.text));
 }

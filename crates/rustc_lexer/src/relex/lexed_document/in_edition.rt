@@ -1,10 +1,10 @@
 //! A document that is kept with its tokens in an edition.
 ghost use Rattle.std.specs.Prelude.{◌≡◌, ◌+◌, IfOk, OnErr, OnOk, drop, length};
-ghost use Rattle.rustc_lexer.specs.{E2024, Edition};
+ghost use Rattle.rustc_lexer.specs.{Edition};
 ghost use Rattle.rustc_lexer.specs.Answers.{first_in};
 ghost use Rattle.rustc_lexer.specs.Classes.{Fits};
 ghost use Rattle.rustc_lexer.specs.Document as spec;
-ghost use Rattle.rustc_lexer.specs.LanguageText.{part, year};
+ghost use Rattle.rustc_lexer.specs.LanguageText.{part, year, newest};
 ghost use Rattle.rustc_lexer.specs.Tokens.{tokens_of};
 
 use crate::edition::Edition;
@@ -19,14 +19,14 @@ impl LexedDocument<Steps> {
     pub fn new(alloc: Global, text: &str) -> Result<LexedDocument<Steps>, AllocError>
         requires fits { Fits text.now }
         ensures text { IfOk result (λ l. l.text ≡ text.now) }
-        ensures from_scratch { IfOk result (λ l. l.tokens ≡ spec.document_tokens E2024 text.now) }
-        ensures grammar { IfOk result (λ l. ⟦<Steps as Stepper>⟧.grammar l.stepper ≡ first_in E2024) }
-        ensures number { IfOk result (λ l. ⟦<Steps as Stepper>⟧.number l.stepper ≡ 2024) }
+        ensures from_scratch { IfOk result (λ l. l.tokens ≡ spec.document_tokens newest text.now) }
+        ensures grammar { IfOk result (λ l. ⟦<Steps as Stepper>⟧.grammar l.stepper ≡ first_in newest) }
+        ensures number { IfOk result (λ l. ⟦<Steps as Stepper>⟧.number l.stepper ≡ year newest) }
         ensures count { IfOk result
             (λ l. ⟦<Steps as Stepper>⟧.count l.stepper + length (spec.head_tokens text.now)
             ≡ length l.tokens) }
     {
-        LexedDocument::new_in(alloc, text, Edition::E2024)
+        LexedDocument::new_in(alloc, text, Edition::NEWEST)
     }
 
     /// Copies the text and lexes it in the edition. The text may have at most `u32::MAX` bytes. `Err` means that

@@ -1,7 +1,6 @@
 use Rattle.std.proofs.Common.{◌≡◌, ◌-◌, ℕ, List, length, ap, ◌∙◌, arith}
-use Rattle.rustc_lexer.specs.declared.edition.Edition.TheVariants.{E2024}
 use Rattle.rustc_lexer.specs.declared.token.FrontmatterAllowed.{FrontmatterAllowed}
-use Rattle.rustc_lexer.specs.LanguageText.{mode_in}
+use Rattle.rustc_lexer.specs.LanguageText.{mode_in, newest}
 use Rattle.rustc_lexer.specs.Classes.{IsText}
 use Rattle.rustc_lexer.specs.State.{State}
 use Rattle.rustc_lexer.specs.laws.State.{state}
@@ -9,9 +8,9 @@ use Rattle.rustc_lexer_c.specs.Batch.{state_at}
 use Rattle.rustc_lexer_c.proofs.BatchLemmas.{batch_is, left_within}
 use Rattle.rustc_lexer_c.proofs.batch.fill.Goals as goal
 
-begun : (rest cut : List ℕ) (allowed given : FrontmatterAllowed) (s : State) → s ≡ record { pending = 0; rest = rest; mode = mode_in allowed E2024 } → rest ≡ cut → allowed ≡ given
-    → s ≡ record { pending = 0; rest = cut; mode = mode_in given E2024 }
-begun rest cut allowed given s e f g = e ∙ (ap (λ xs. state 0 xs (mode_in allowed E2024)) f ∙ ap (λ (a : FrontmatterAllowed). state 0 cut (mode_in a E2024)) g)
+begun : (rest cut : List ℕ) (allowed given : FrontmatterAllowed) (s : State) → s ≡ record { pending = 0; rest = rest; mode = mode_in allowed newest } → rest ≡ cut → allowed ≡ given
+    → s ≡ record { pending = 0; rest = cut; mode = mode_in given newest }
+begun rest cut allowed given s e f g = e ∙ (ap (λ xs. state 0 xs (mode_in allowed newest)) f ∙ ap (λ (a : FrontmatterAllowed). state 0 cut (mode_in a newest)) g)
 
 pub returns : goal.returns
 returns c =

@@ -45,10 +45,10 @@ pub struct Steps {
 }
 
 impl Steps {
-    /// Returns the lexer of the edition of 2024, before its first step.
+    /// Returns the lexer of the newest edition, before its first step.
     #[must_use]
     pub fn new() -> Steps {
-        Steps::new_in(Edition::E2024)
+        Steps::new_in(Edition::NEWEST)
     }
 
     /// Returns the lexer of an edition, before its first step.

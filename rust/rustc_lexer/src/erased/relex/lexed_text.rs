@@ -120,6 +120,6 @@ impl<S: Stepper> LexedText<S> {
 impl LexedText<Steps> {
     /// Copies the text and lexes it. The text may have at most `u32::MAX` bytes. `Err` means that an allocation failed.
     pub fn new(alloc: Global, text: &str) -> Result<LexedText<Steps>, AllocError> {
-        LexedText::new_in(alloc, text, Edition::E2024)
+        LexedText::new_in(alloc, text, Edition::NEWEST)
     }
 }

@@ -34,7 +34,7 @@ impl Documents {
             let start = made.len() - anew.as_str().len();
             let kept = answers(lexed.text(), lexed.shebang_len(), lexed.tokens().iter());
             count += same(&[answers(&made, start, anew), kept.clone()])?;
-            if lexed.edition() == Edition::E2024 {
+            if lexed.edition() == Edition::NEWEST {
                 let start = original::strip_shebang(&made).unwrap_or(0);
                 let tokens = original::tokenize(&made[start..], original::FrontmatterAllowed::Yes);
                 count += same(&[answers(&made, start, tokens), kept])?;

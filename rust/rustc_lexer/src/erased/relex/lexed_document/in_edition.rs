@@ -11,7 +11,7 @@ impl LexedDocument<Steps> {
     /// Copies the text and lexes it in the newest edition. The text may have at most `u32::MAX` bytes. `Err` means
     /// that an allocation failed.
     pub fn new(alloc: Global, text: &str) -> Result<LexedDocument<Steps>, AllocError> {
-        LexedDocument::new_in(alloc, text, Edition::E2024)
+        LexedDocument::new_in(alloc, text, Edition::NEWEST)
     }
 
     /// Copies the text and lexes it in the edition. The text may have at most `u32::MAX` bytes. `Err` means that
