@@ -9,9 +9,9 @@ use crate::classes::is_whitespace;
 use crate::lexemes::family::Family::{Hash, Number, Quote, Slash, Space, Str, Symbol, Word};
 use crate::token::TokenKind;
 use crate::token::TokenKind::{
-    And, At, Bang, Caret, CloseBrace, CloseBracket as ShutSquare, CloseParen, Colon, Comma, Dollar,
-    Dot, Eq, Gt, Ident, Lt, Minus, OpenBrace, OpenBracket as OpenSquare, OpenParen, Or, Percent,
-    Plus, Question, Semi, Star, Tilde, Unknown, Whitespace,
+    And, At, Bang, Caret, CloseBrace, CloseBracket, CloseParen, Colon, Comma, Dollar, Dot, Eq, Gt,
+    Ident, Lt, Minus, OpenBrace, OpenBracket, OpenParen, Or, Percent, Plus, Question, Semi, Star,
+    Tilde, Unknown, Whitespace,
 };
 
 /// A family of tokens, which the first character of a token chooses.
@@ -37,98 +37,78 @@ pub(crate) enum Family {
     Symbol,
 }
 
+/// What a table of the families or of the kinds has for a cell of the picture.
+macro_rules! cell {
+    (family '"') => { Str };
+    (family '#') => { Hash };
+    (family '\'') => { Quote };
+    (family '/') => { Slash };
+    (family 0) => { Number };
+    (family s) => { Space };
+    (family w) => { Word };
+    (family $symbol:tt) => { Symbol };
+    (kind w) => { Some(Ident) };
+    (kind s) => { Some(Whitespace) };
+    (kind u) => { Some(Unknown) };
+    (kind '!') => { Some(Bang) };
+    (kind '$') => { Some(Dollar) };
+    (kind '%') => { Some(Percent) };
+    (kind '&') => { Some(And) };
+    (kind '(') => { Some(OpenParen) };
+    (kind ')') => { Some(CloseParen) };
+    (kind '*') => { Some(Star) };
+    (kind '+') => { Some(Plus) };
+    (kind ',') => { Some(Comma) };
+    (kind '-') => { Some(Minus) };
+    (kind '.') => { Some(Dot) };
+    (kind ':') => { Some(Colon) };
+    (kind ';') => { Some(Semi) };
+    (kind '<') => { Some(Lt) };
+    (kind '=') => { Some(Eq) };
+    (kind '>') => { Some(Gt) };
+    (kind '?') => { Some(Question) };
+    (kind '@') => { Some(At) };
+    (kind '[') => { Some(OpenBracket) };
+    (kind ']') => { Some(CloseBracket) };
+    (kind '^') => { Some(Caret) };
+    (kind '{') => { Some(OpenBrace) };
+    (kind '|') => { Some(Or) };
+    (kind '}') => { Some(CloseBrace) };
+    (kind '~') => { Some(Tilde) };
+    (kind $other:tt) => { None };
+}
+
+macro_rules! cells {
+    ($of:ident $($char:tt)*) => { &[$(cell!($of $char)),*] };
+}
+
+/// A table with what `cell` has for each character of ASCII, 16 in a row, and for the cells past them. A cell is the
+/// character, or for many a `w` for a word's, `s` for white space, `0` for a digit and `u` for what begins no token.
+macro_rules! picture {
+    ($of:ident $($past:tt)*) => {
+        cells!($of
+             u    u    u    u    u    u    u    u    u    s    s    s    s    s    u    u
+             u    u    u    u    u    u    u    u    u    u    u    u    u    u    u    u
+             s   '!'  '"'  '#'  '$'  '%'  '&'  '\'' '('  ')'  '*'  '+'  ','  '-'  '.'  '/'
+             0    0    0    0    0    0    0    0    0    0   ':'  ';'  '<'  '='  '>'  '?'
+            '@'   w    w    w    w    w    w    w    w    w    w    w    w    w    w    w
+             w    w    w    w    w    w    w    w    w    w    w   '['   u   ']'  '^'   w
+             u    w    w    w    w    w    w    w    w    w    w    w    w    w    w    w
+             w    w    w    w    w    w    w    w    w    w    w   '{'  '|'  '}'  '~'   u
+            $($past)*)
+    };
+}
+
 /// The families of the characters in ASCII.
-const FAMILIES: &[Family; 128] = &[
-    Symbol, Symbol, Symbol, Symbol, Symbol, Symbol, Symbol, Symbol, Symbol, Space, Space, Space,
-    Space, Space, Symbol, Symbol, Symbol, Symbol, Symbol, Symbol, Symbol, Symbol, Symbol, Symbol,
-    Symbol, Symbol, Symbol, Symbol, Symbol, Symbol, Symbol, Symbol, Space, Symbol, Str, Hash,
-    Symbol, Symbol, Symbol, Quote, Symbol, Symbol, Symbol, Symbol, Symbol, Symbol, Symbol, Slash,
-    Number, Number, Number, Number, Number, Number, Number, Number, Number, Number, Symbol, Symbol,
-    Symbol, Symbol, Symbol, Symbol, Symbol, Word, Word, Word, Word, Word, Word, Word, Word, Word,
-    Word, Word, Word, Word, Word, Word, Word, Word, Word, Word, Word, Word, Word, Word, Word, Word,
-    Word, Symbol, Symbol, Symbol, Symbol, Word, Symbol, Word, Word, Word, Word, Word, Word, Word,
-    Word, Word, Word, Word, Word, Word, Word, Word, Word, Word, Word, Word, Word, Word, Word, Word,
-    Word, Word, Word, Symbol, Symbol, Symbol, Symbol, Symbol,
-];
-
-// Short names keep the table in rows.
-const AND: Option<TokenKind> = Some(And);
-
-const AT: Option<TokenKind> = Some(At);
-
-const BANG: Option<TokenKind> = Some(Bang);
-
-const CARET: Option<TokenKind> = Some(Caret);
-
-const COLON: Option<TokenKind> = Some(Colon);
-
-const COMMA: Option<TokenKind> = Some(Comma);
-
-const DOLLAR: Option<TokenKind> = Some(Dollar);
-
-const DOT: Option<TokenKind> = Some(Dot);
-
-const EQUALS: Option<TokenKind> = Some(Eq);
-
-const GREATER: Option<TokenKind> = Some(Gt);
-
-const LESS: Option<TokenKind> = Some(Lt);
-
-const MINUS: Option<TokenKind> = Some(Minus);
-
-const OPEN: Option<TokenKind> = Some(OpenParen);
-
-const OPEN_BR: Option<TokenKind> = Some(OpenBrace);
-
-const OPEN_SQ: Option<TokenKind> = Some(OpenSquare);
-
-const OR: Option<TokenKind> = Some(Or);
-
-const OTHER: Option<TokenKind> = Some(Unknown);
-
-const PERCENT: Option<TokenKind> = Some(Percent);
-
-const PLUS: Option<TokenKind> = Some(Plus);
-
-const QUESTION: Option<TokenKind> = Some(Question);
-
-const SEMI: Option<TokenKind> = Some(Semi);
-
-const SHUT: Option<TokenKind> = Some(CloseParen);
-
-const SHUT_BR: Option<TokenKind> = Some(CloseBrace);
-
-const SHUT_SQ: Option<TokenKind> = Some(ShutSquare);
-
-const SPACE: Option<TokenKind> = Some(Whitespace);
-
-const STAR: Option<TokenKind> = Some(Star);
-
-const TILDE: Option<TokenKind> = Some(Tilde);
-
-const WORD: Option<TokenKind> = Some(Ident);
+const FAMILIES: &[Family; 128] = picture!(family);
 
 /// The kind of the token that begins with a byte, if the token's run and the byte past the run determine all of it. A
 /// look in a table costs less than a branch, since the next byte is hard to predict.
-const CLASSIFIED: &[Option<TokenKind>; 256] = &[
-    OTHER, OTHER, OTHER, OTHER, OTHER, OTHER, OTHER, OTHER, OTHER, SPACE, SPACE, SPACE, SPACE,
-    SPACE, OTHER, OTHER, OTHER, OTHER, OTHER, OTHER, OTHER, OTHER, OTHER, OTHER, OTHER, OTHER,
-    OTHER, OTHER, OTHER, OTHER, OTHER, OTHER, SPACE, BANG, None, None, DOLLAR, PERCENT, AND, None,
-    OPEN, SHUT, STAR, PLUS, COMMA, MINUS, DOT, None, None, None, None, None, None, None, None,
-    None, None, None, COLON, SEMI, LESS, EQUALS, GREATER, QUESTION, AT, WORD, WORD, WORD, WORD,
-    WORD, WORD, WORD, WORD, WORD, WORD, WORD, WORD, WORD, WORD, WORD, WORD, WORD, WORD, WORD, WORD,
-    WORD, WORD, WORD, WORD, WORD, WORD, OPEN_SQ, OTHER, SHUT_SQ, CARET, WORD, OTHER, WORD, WORD,
-    WORD, WORD, WORD, WORD, WORD, WORD, WORD, WORD, WORD, WORD, WORD, WORD, WORD, WORD, WORD, WORD,
-    WORD, WORD, WORD, WORD, WORD, WORD, WORD, WORD, OPEN_BR, OR, SHUT_BR, TILDE, OTHER, None, None,
-    None, None, None, None, None, None, None, None, None, None, None, None, None, None, None, None,
-    None, None, None, None, None, None, None, None, None, None, None, None, None, None, None, None,
-    None, None, None, None, None, None, None, None, None, None, None, None, None, None, None, None,
-    None, None, None, None, None, None, None, None, None, None, None, None, None, None, None, None,
-    None, None, None, None, None, None, None, None, None, None, None, None, None, None, None, None,
-    None, None, None, None, None, None, None, None, None, None, None, None, None, None, None, None,
-    None, None, None, None, None, None, None, None, None, None, None, None, None, None, None, None,
-    None, None, None, None, None, None, None, None, None, None, None, None, None, None,
-];
+const CLASSIFIED: &[Option<TokenKind>; 256] = picture!(kind
+    n n n n n n n n n n n n n n n n n n n n n n n n n n n n n n n n
+    n n n n n n n n n n n n n n n n n n n n n n n n n n n n n n n n
+    n n n n n n n n n n n n n n n n n n n n n n n n n n n n n n n n
+    n n n n n n n n n n n n n n n n n n n n n n n n n n n n n n n n);
 
 /// Returns the family that the character chooses.
 #[inline(always)]
