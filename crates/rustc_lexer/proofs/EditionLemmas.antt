@@ -54,17 +54,6 @@ older edition cs t old = grind (arith, common_steps)
 pub boundary-of : (edition : Edition) (text : List ℕ) (token : Token) → IsText text → 0 < length text → token ≡ first_token_in edition text → IsCharBoundary text token.len
 boundary-of edition text token is some e = grind (arith, common_steps, e, (edition_grammar edition).boundary text is some)
 
-front-same : (edition : Edition) (text : List ℕ) → changed edition (chars text) (frontmatter text) ≡ frontmatter text
-unfolding frontmatter
-front-same edition text = grind (arith, common_steps)
-
--- a frontmatter is the same in each edition, and what else a text begins with is changed
-pub changed-at : (allowed : FrontmatterAllowed) (edition : Edition) (text : List ℕ) → changed edition (chars text) (token_at (mode_in allowed newest) text) ≡ token_at (mode_in allowed edition) text
-changed-at No edition text = refl
-changed-at Yes edition text = by_either (opens (chars text))
-    (λ e. rw e (front-same edition text))
-    (λ e. rw e refl)
-
 -- ---- tokens of the newest edition that another one has too
 
 hash_family : family_of 35 ≡ Hash
@@ -88,10 +77,6 @@ first_oldest edition text w2 = grind (arith, common_steps)
 -- a token whose kind each edition keeps
 pub first_by : (guards : Bool) (text : List ℕ) (t : Token) → IsFirstToken text t → is_newer t.kind ≡ false → IsFirstBy guards text t
 first_by guards text t is old = grind (arith, common_steps, older)
-
--- the newest edition reserves guarded strings
-pub newest_first : (text : List ℕ) (t : Token) → IsFirstBy true text t → IsFirstToken text t
-newest_first text t is = record { token = is.token newest refl; inside = is.inside; boundary = is.boundary; suffix = is.suffix }
 
 -- a hash before a mark, where the edition reserves it
 pub guard_by : (text : List ℕ) → IsFirstToken text record { kind = GuardedStrPrefix; len = 2 } → IsFirstBy true text record { kind = GuardedStrPrefix; len = 2 }

@@ -6,18 +6,16 @@ ghost use Rattle.std.specs.Str.{chars};
 ghost use Rattle.rustc_lexer.specs.{E2018};
 ghost use Rattle.rustc_lexer.specs.Classes.{Fits, is_id_continue, is_word_continue};
 ghost use Rattle.rustc_lexer.specs.LanguageCalls.{edition_of, edition_of_year};
-ghost use Rattle.rustc_lexer.specs.LanguageText.{year, mode_in};
+ghost use Rattle.rustc_lexer.specs.LanguageText.{year};
 ghost use Rattle.rustc_lexer.specs.means.Edition as spec;
 ghost use Rattle.rustc_lexer.specs.means.Quick.{BeginsWithNoHash};
 ghost use Rattle.rustc_lexer.specs.means.Scan.{run_len};
-ghost use Rattle.rustc_lexer.specs.means.Taking as state;
 
 use crate::classes::emoji::is_emoji;
-use crate::frontmatter::token_at;
 use crate::lexemes::choose_token;
 use crate::lexemes::quick::quick_token;
 use crate::scan::{eat_continue, next_is, split_first};
-use crate::token::{FrontmatterAllowed, Token, TokenKind};
+use crate::token::{Token, TokenKind};
 use std::error::Error;
 use std::fmt;
 use std::str::FromStr;
@@ -118,32 +116,6 @@ impl fmt::Display for UnknownEdition {
 
 impl Error for UnknownEdition {}
 
-/// Returns the first token of a text in an edition, with or without a frontmatter at the start. The text is not empty.
-#[inline(always)]
-pub(crate) fn token_as(rest: &str, allowed: FrontmatterAllowed, edition: Edition) -> Token
-    requires not_empty { 0 < length rest.now }
-    requires fits { Fits rest.now }
-    ensures token { result ≡ state.token_at (mode_in allowed edition) rest.now }
-    ensures boundary { IsCharBoundary rest.now result.len }
-{
-    match edition {
-        Edition::E2024 => token_at(rest, allowed),
-        _ => older_token(rest, allowed, edition),
-    }
-}
-
-/// Returns what [`token_as`] returns, for any edition. It is not inlined, so that the code for the newest edition
-/// stays short.
-#[inline(never)]
-fn older_token(rest: &str, allowed: FrontmatterAllowed, edition: Edition) -> Token
-    requires not_empty { 0 < length rest.now }
-    requires fits { Fits rest.now }
-    ensures token { result ≡ state.token_at (mode_in allowed edition) rest.now }
-    ensures boundary { IsCharBoundary rest.now result.len }
-{
-    changed(token_at(rest, allowed), rest, edition)
-}
-
 /// Returns the first token of a text in an edition, where no frontmatter is allowed. The text is not empty.
 #[inline(always)]
 pub(crate) fn token_in(rest: &str, edition: Edition) -> Token
@@ -172,20 +144,8 @@ pub(crate) fn choose_in(rest: &str, edition: Edition) -> Token
 {
     match edition {
         Edition::E2024 | Edition::E2021 => choose_token(rest),
-        Edition::E2018 | Edition::E2015 => choose_older(rest),
+        Edition::E2018 | Edition::E2015 => choose_before_2021(rest),
     }
-}
-
-/// Returns what [`choose_in`] returns, for the two oldest editions. It is not inlined, so that the code for the others
-/// stays short.
-#[inline(never)]
-fn choose_older(rest: &str) -> Token
-    requires fits { Fits rest.now }
-    requires no_hash { BeginsWithNoHash rest.now }
-    ensures { result ≡ spec.first_token_in E2018 rest.now }
-{
-    let token = choose_token(rest);
-    before_2021(token, rest)
 }
 
 /// Returns whether guarded strings are reserved in the edition, so that their prefixes are tokens.
@@ -196,35 +156,15 @@ pub(crate) fn reserves_guards(edition: Edition) -> bool
     matches!(edition, Edition::E2024)
 }
 
-/// Returns the token that the edition has in place of the text's first token.
-#[inline(always)]
-fn changed(token: Token, text: &str, edition: Edition) -> Token
-    ensures { result ≡ spec.changed edition (chars text.now) token }
+/// Returns what [`choose_in`] returns, for an edition before 2021. It is not inlined, so that the code for the others
+/// stays short.
+#[inline(never)]
+fn choose_before_2021(rest: &str) -> Token
+    requires fits { Fits rest.now }
+    requires no_hash { BeginsWithNoHash rest.now }
+    ensures { result ≡ spec.first_token_in E2018 rest.now }
 {
-    match edition {
-        Edition::E2024 => token,
-        Edition::E2021 => before_2024(token),
-        Edition::E2018 | Edition::E2015 => before_2021(token, text),
-    }
-}
-
-/// Returns the token that an edition before 2024 has in place of this one.
-fn before_2024(token: Token) -> Token
-    ensures { result ≡ spec.before_2024 token.kind token.len }
-{
-    match token.kind {
-        TokenKind::GuardedStrPrefix => Token {
-            kind: TokenKind::Pound,
-            len: 1,
-        },
-        _ => token,
-    }
-}
-
-/// Returns the token that an edition before 2021 has in place of the text's first token.
-fn before_2021(token: Token, text: &str) -> Token
-    ensures { result ≡ spec.before_2021 (chars text.now) token.kind token.len }
-{
+    let token = choose_token(rest);
     match token.kind {
         TokenKind::RawLifetime => Token {
             kind: TokenKind::Lifetime {
@@ -238,16 +178,16 @@ fn before_2021(token: Token, text: &str) -> Token
         },
         TokenKind::UnknownPrefixLifetime => Token {
             kind: TokenKind::Lifetime {
-                starts_with_number: has_marked_name(text),
+                starts_with_number: has_bad_name(rest),
             },
             len: token.len,
         },
-        _ => before_2024(token),
+        _ => token,
     }
 }
 
 /// Returns whether the name after the quote at the start of the text is invalid as the name of a lifetime.
-fn has_marked_name(text: &str) -> bool
+fn has_bad_name(text: &str) -> bool
     ensures { result ≡ spec.has_marked_name (chars text.now) }
 {
     let Some((_, name)) = split_first(text) else {

@@ -8,8 +8,9 @@ ghost use Rattle.rustc_lexer.specs.LanguageText.{mode_after, mode_edition, mode_
 ghost use Rattle.rustc_lexer.specs.Locality.{AreLocal};
 ghost use Rattle.rustc_lexer.specs.Tokens.{ReadsAs, TakesToken, tokens_of, YieldsToken};
 
-use crate::edition::{Edition, choose_in, reserves_guards, token_as};
+use crate::edition::{Edition, choose_in, reserves_guards};
 use crate::entry::ahead::Ahead;
+use crate::frontmatter::token_at;
 use crate::lexemes::quick::quick_token;
 use crate::token::{FrontmatterAllowed, Token, TokenKind};
 use std::iter::Iterator;
@@ -237,7 +238,7 @@ impl<'a> Iterator for Tokens<'a> {
             self.ahead.at += chosen.len as usize;
             return Some(chosen);
         }
-        let token = token_as(self.as_str(), self.frontmatter_allowed, self.edition);
+        let token = token_at(self.as_str(), self.frontmatter_allowed, self.edition);
         self.ahead.at += token.len as usize;
         self.frontmatter_allowed = next_allowed(self.frontmatter_allowed, token.kind);
         Some(token)

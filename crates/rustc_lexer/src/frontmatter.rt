@@ -9,11 +9,10 @@ ghost use Rattle.rustc_lexer.specs.LanguageText.{document, mode_in, newest};
 ghost use Rattle.rustc_lexer.specs.means.Frontmatter as spec;
 ghost use Rattle.rustc_lexer.specs.means.Scan.{past, run_len};
 ghost use Rattle.rustc_lexer.specs.means.Taking as state;
-ghost use Rattle.rustc_lexer.specs.State.{HasSuffixWithin};
 
 use crate::classes::{is_horizontal_whitespace, is_id_continue, is_id_start, is_whitespace};
+use crate::edition::{Edition, token_in};
 use crate::kernels::{ByteClass, Space};
-use crate::lexemes::lexeme;
 use crate::scan::{eat_while, eat_whitespace, next_is, split_first};
 use crate::token::{FrontmatterAllowed, Token, TokenKind};
 use memchr::memchr;
@@ -21,22 +20,21 @@ use memchr::memchr;
 /// The least number of dashes in a fence.
 const MIN_DASHES: usize = 3;
 
-/// Returns the first token of a text. At the end of the text it is `Eof`, of length 0.
+/// Returns the first token of a text in an edition, with or without a frontmatter at the start. The text is not empty.
 #[inline(always)]
-pub(crate) fn token_at(text: &str, allowed: FrontmatterAllowed) -> Token
+pub(crate) fn token_at(text: &str, allowed: FrontmatterAllowed, edition: Edition) -> Token
+    requires not_empty { 0 < length text.now }
     requires fits { Fits text.now }
-    ensures token { result ≡ state.token_at (mode_in allowed newest) text.now }
-    ensures inside { result.len ≤ length text.now }
+    ensures token { result ≡ state.token_at (mode_in allowed edition) text.now }
     ensures boundary { IsCharBoundary text.now result.len }
-    ensures suffix { HasSuffixWithin result }
 {
     match allowed {
-        FrontmatterAllowed::No => lexeme(text),
+        FrontmatterAllowed::No => token_in(text, edition),
         FrontmatterAllowed::Yes => {
             if may_open(text) {
-                frontmatter_or_lexeme(text)
+                frontmatter_or_token(text, edition)
             } else {
-                lexeme(text)
+                token_in(text, edition)
             }
         }
     }
@@ -54,18 +52,17 @@ fn may_open(text: &str) -> bool
     }
 }
 
-/// Returns the first token of a text where a frontmatter is allowed.
+/// Returns the first token of a text in an edition, where a frontmatter is allowed. The text is not empty.
 #[inline(never)]
-fn frontmatter_or_lexeme(text: &str) -> Token
+fn frontmatter_or_token(text: &str, edition: Edition) -> Token
+    requires not_empty { 0 < length text.now }
     requires fits { Fits text.now }
-    ensures token { result ≡ state.token_at (document newest) text.now }
-    ensures inside { result.len ≤ length text.now }
+    ensures token { result ≡ state.token_at (document edition) text.now }
     ensures boundary { IsCharBoundary text.now result.len }
-    ensures suffix { HasSuffixWithin result }
 {
     match frontmatter(text) {
         Some(token) => token,
-        None => lexeme(text),
+        None => token_in(text, edition),
     }
 }
 

@@ -11,7 +11,6 @@ use crate::lexemes::family::{Family, family_of, symbol_kind};
 use crate::lexemes::ident::invalid_ident;
 use crate::lexemes::lifetime::lifetime_or_char;
 use crate::lexemes::number::number;
-use crate::lexemes::quick::quick_token;
 use crate::lexemes::quoted::{QuotedPrefix, quoted_literal};
 use crate::lexemes::word::word;
 use crate::scan::{eat_whitespace, split_first};
@@ -29,22 +28,6 @@ pub(crate) mod quick;
 pub(crate) mod quoted;
 pub(crate) mod raw;
 mod word;
-
-/// Returns the first token of a text. At the end of the text it is `Eof`, of length 0.
-///
-/// The bytes alone determine the most common tokens and each token that begins with a hash. For the others it looks
-/// at the first character. Both branches promise the same.
-#[inline(always)]
-#[tactic(auto, using(crate::proofs::EditionLemmas::newest_first, std::proofs::lemmas::Grind::common_steps))]
-pub(crate) fn lexeme(text: &str) -> Token
-    requires fits { Fits text.now }
-    ensures { IsFirstToken text.now result }
-{
-    match quick_token(text.as_bytes(), true) {
-        Some(token) => token,
-        None => choose_token(text),
-    }
-}
 
 /// Returns the first token of a text that does not begin with a hash, as its first character chooses.
 #[inline(never)]

@@ -2,11 +2,10 @@
 //! The editions of Rust, and how their tokens differ from those of the newest edition.
 
 use crate::erased::classes::emoji::is_emoji;
-use crate::erased::frontmatter::token_at;
 use crate::erased::lexemes::choose_token;
 use crate::erased::lexemes::quick::quick_token;
 use crate::erased::scan::{eat_continue, next_is, split_first};
-use crate::erased::token::{FrontmatterAllowed, Token, TokenKind};
+use crate::erased::token::{Token, TokenKind};
 use core::error::Error;
 use core::fmt;
 use core::str::FromStr;
@@ -100,22 +99,6 @@ impl fmt::Display for UnknownEdition {
 
 impl Error for UnknownEdition {}
 
-/// Returns the first token of a text in an edition, with or without a frontmatter at the start. The text is not empty.
-#[inline(always)]
-pub(crate) fn token_as(rest: &str, allowed: FrontmatterAllowed, edition: Edition) -> Token {
-    match edition {
-        Edition::E2024 => token_at(rest, allowed),
-        _ => older_token(rest, allowed, edition),
-    }
-}
-
-/// Returns what [`token_as`] returns, for any edition. It is not inlined, so that the code for the newest edition
-/// stays short.
-#[inline(never)]
-fn older_token(rest: &str, allowed: FrontmatterAllowed, edition: Edition) -> Token {
-    changed(token_at(rest, allowed), rest, edition)
-}
-
 /// Returns the first token of a text in an edition, where no frontmatter is allowed. The text is not empty.
 #[inline(always)]
 pub(crate) fn token_in(rest: &str, edition: Edition) -> Token {
@@ -133,16 +116,8 @@ pub(crate) fn token_in(rest: &str, edition: Edition) -> Token {
 pub(crate) fn choose_in(rest: &str, edition: Edition) -> Token {
     match edition {
         Edition::E2024 | Edition::E2021 => choose_token(rest),
-        Edition::E2018 | Edition::E2015 => choose_older(rest),
+        Edition::E2018 | Edition::E2015 => choose_before_2021(rest),
     }
-}
-
-/// Returns what [`choose_in`] returns, for the two oldest editions. It is not inlined, so that the code for the others
-/// stays short.
-#[inline(never)]
-fn choose_older(rest: &str) -> Token {
-    let token = choose_token(rest);
-    before_2021(token, rest)
 }
 
 /// Returns whether guarded strings are reserved in the edition, so that their prefixes are tokens.
@@ -151,29 +126,11 @@ pub(crate) fn reserves_guards(edition: Edition) -> bool {
     matches!(edition, Edition::E2024)
 }
 
-/// Returns the token that the edition has in place of the text's first token.
-#[inline(always)]
-fn changed(token: Token, text: &str, edition: Edition) -> Token {
-    match edition {
-        Edition::E2024 => token,
-        Edition::E2021 => before_2024(token),
-        Edition::E2018 | Edition::E2015 => before_2021(token, text),
-    }
-}
-
-/// Returns the token that an edition before 2024 has in place of this one.
-fn before_2024(token: Token) -> Token {
-    match token.kind {
-        TokenKind::GuardedStrPrefix => Token {
-            kind: TokenKind::Pound,
-            len: 1,
-        },
-        _ => token,
-    }
-}
-
-/// Returns the token that an edition before 2021 has in place of the text's first token.
-fn before_2021(token: Token, text: &str) -> Token {
+/// Returns what [`choose_in`] returns, for an edition before 2021. It is not inlined, so that the code for the others
+/// stays short.
+#[inline(never)]
+fn choose_before_2021(rest: &str) -> Token {
+    let token = choose_token(rest);
     match token.kind {
         TokenKind::RawLifetime => Token {
             kind: TokenKind::Lifetime {
@@ -187,16 +144,16 @@ fn before_2021(token: Token, text: &str) -> Token {
         },
         TokenKind::UnknownPrefixLifetime => Token {
             kind: TokenKind::Lifetime {
-                starts_with_number: has_marked_name(text),
+                starts_with_number: has_bad_name(rest),
             },
             len: token.len,
         },
-        _ => before_2024(token),
+        _ => token,
     }
 }
 
 /// Returns whether the name after the quote at the start of the text is invalid as the name of a lifetime.
-fn has_marked_name(text: &str) -> bool {
+fn has_bad_name(text: &str) -> bool {
     let Some((_, name)) = split_first(text) else {
         return false;
     };

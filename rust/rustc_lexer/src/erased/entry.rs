@@ -1,8 +1,9 @@
 // Made by tools/erase from crates/rustc_lexer/src/entry.rt: edit that file.
 //! The calls that lex a text, and their iterator.
 
-use crate::erased::edition::{Edition, choose_in, reserves_guards, token_as};
+use crate::erased::edition::{Edition, choose_in, reserves_guards};
 use crate::erased::entry::ahead::Ahead;
+use crate::erased::frontmatter::token_at;
 use crate::erased::lexemes::quick::quick_token;
 use crate::erased::token::{FrontmatterAllowed, Token, TokenKind};
 use core::iter::Iterator;
@@ -176,7 +177,7 @@ impl<'a> Iterator for Tokens<'a> {
             self.ahead.at += chosen.len as usize;
             return Some(chosen);
         }
-        let token = token_as(self.as_str(), self.frontmatter_allowed, self.edition);
+        let token = token_at(self.as_str(), self.frontmatter_allowed, self.edition);
         self.ahead.at += token.len as usize;
         self.frontmatter_allowed = next_allowed(self.frontmatter_allowed, token.kind);
         Some(token)

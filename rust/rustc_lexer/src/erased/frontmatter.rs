@@ -4,8 +4,8 @@
 use crate::erased::classes::{
     is_horizontal_whitespace, is_id_continue, is_id_start, is_whitespace,
 };
+use crate::erased::edition::{Edition, token_in};
 use crate::erased::kernels::{ByteClass, Space};
-use crate::erased::lexemes::lexeme;
 use crate::erased::scan::{eat_while, eat_whitespace, next_is, split_first};
 use crate::erased::token::{FrontmatterAllowed, Token, TokenKind};
 use memchr::memchr;
@@ -13,16 +13,16 @@ use memchr::memchr;
 /// The least number of dashes in a fence.
 const MIN_DASHES: usize = 3;
 
-/// Returns the first token of a text. At the end of the text it is `Eof`, of length 0.
+/// Returns the first token of a text in an edition, with or without a frontmatter at the start. The text is not empty.
 #[inline(always)]
-pub(crate) fn token_at(text: &str, allowed: FrontmatterAllowed) -> Token {
+pub(crate) fn token_at(text: &str, allowed: FrontmatterAllowed, edition: Edition) -> Token {
     match allowed {
-        FrontmatterAllowed::No => lexeme(text),
+        FrontmatterAllowed::No => token_in(text, edition),
         FrontmatterAllowed::Yes => {
             if may_open(text) {
-                frontmatter_or_lexeme(text)
+                frontmatter_or_token(text, edition)
             } else {
-                lexeme(text)
+                token_in(text, edition)
             }
         }
     }
@@ -37,12 +37,12 @@ fn may_open(text: &str) -> bool {
     }
 }
 
-/// Returns the first token of a text where a frontmatter is allowed.
+/// Returns the first token of a text in an edition, where a frontmatter is allowed. The text is not empty.
 #[inline(never)]
-fn frontmatter_or_lexeme(text: &str) -> Token {
+fn frontmatter_or_token(text: &str, edition: Edition) -> Token {
     match frontmatter(text) {
         Some(token) => token,
-        None => lexeme(text),
+        None => token_in(text, edition),
     }
 }
 

@@ -6,7 +6,6 @@ use crate::erased::lexemes::family::{Family, family_of, symbol_kind};
 use crate::erased::lexemes::ident::invalid_ident;
 use crate::erased::lexemes::lifetime::lifetime_or_char;
 use crate::erased::lexemes::number::number;
-use crate::erased::lexemes::quick::quick_token;
 use crate::erased::lexemes::quoted::{QuotedPrefix, quoted_literal};
 use crate::erased::lexemes::word::word;
 use crate::erased::scan::{eat_whitespace, split_first};
@@ -24,18 +23,6 @@ pub(crate) mod quick;
 pub(crate) mod quoted;
 pub(crate) mod raw;
 mod word;
-
-/// Returns the first token of a text. At the end of the text it is `Eof`, of length 0.
-///
-/// The bytes alone determine the most common tokens and each token that begins with a hash. For the others it looks
-/// at the first character. Both branches promise the same.
-#[inline(always)]
-pub(crate) fn lexeme(text: &str) -> Token {
-    match quick_token(text.as_bytes(), true) {
-        Some(token) => token,
-        None => choose_token(text),
-    }
-}
 
 /// Returns the first token of a text that does not begin with a hash, as its first character chooses.
 #[inline(never)]

@@ -73,7 +73,7 @@ returns c =
     let view = still text _ c.args.self.now _ _ c.in_default.ensures c.self.view_is in
     let left = left_is text c.as_bytes.result.now at c.as_bytes.ensures.value in
     let rest = c.as_str-2.ensures.rest ∙ sym left in
-    let token : Token = c.token_as-token.result in
+    let token : Token = c.token_at-token.result in
     let taken = takes_own _ _ (drop at text) _ c.args.self.now view (left ∙ ap (λ (x : State). x.rest) view) _ token (left_utf8 text _ at (subst IsUtf8 c.as_bytes.ensures.value c.as_bytes.ensures.utf8) known.bound left) (subst Fits rest c.as_str-2.ensures.fits) (left_some text _ at left c.if-self.false)
-    (c.token_as-token.ensures.token ∙ ap (token_at (mode_in c.self.inside.frontmatter_allowed c.self.inside.edition)) rest) (sym (drop-drop token.len at text) ∙ ap (drop token.len) (sym left)) (c.next_allowed-self-inside.ensures c.self.inside.edition) in
+    (c.token_at-token.ensures.token ∙ ap (token_at (mode_in c.self.inside.frontmatter_allowed c.self.inside.edition)) rest) (sym (drop-drop token.len at text) ∙ ap (drop token.len) (sym left)) (c.next_allowed-self-inside.ensures c.self.inside.edition) in
     record { steps = taken.takes; goes = goes _ _ _ taken.takes }
