@@ -1,7 +1,7 @@
 //! The ends of runs, and the bytes after a run that may change its token.
 ghost use Rattle.std.specs.Prelude.{◌≡◌, ◌≢◌, ◌≤◌, ◌<◌, ℕ, false, true, IsFalse};
 ghost use Rattle.rustc_lexer.specs.means.Ends.{bit, IsLowest, StaysWithin};
-ghost use Rattle.rustc_lexer.specs.means.Quick.{turns_word};
+ghost use Rattle.rustc_lexer.specs.means.Quick;
 
 use crate::token::TokenKind;
 
@@ -34,7 +34,7 @@ pub(crate) fn past_lowest(ends: u64) -> u64
 pub(crate) fn may_continue(kind: TokenKind, next: u8) -> bool
     ensures { IsFalse result → StaysWithin kind next }
 {
-    is_mark(next)
+    turns_word(next)
         && match kind {
             TokenKind::Ident => true,
             TokenKind::Whitespace => next == 0xC2 || next == 0xE2,
@@ -44,8 +44,8 @@ pub(crate) fn may_continue(kind: TokenKind, next: u8) -> bool
 
 /// Returns whether a word that the byte follows may be something other than an identifier.
 #[inline(always)]
-fn is_mark(next: u8) -> bool
-    ensures { result ≡ turns_word next }
+fn turns_word(next: u8) -> bool
+    ensures { result ≡ Quick.turns_word next }
 {
     next >= 128 || matches!(next, b'#' | b'"' | b'\'')
 }

@@ -1,4 +1,4 @@
-//! Identifiers, and the marks that may come before and after them.
+//! Identifiers, and the hashes and prefixes that may stand beside them.
 ghost use Rattle.std.specs.Prelude.{◌≡◌, ◌+◌, true, false, MatchOption, drop};
 ghost use Rattle.std.specs.Str.{chars};
 ghost use Rattle.rustc_lexer.specs.Classes;
@@ -41,7 +41,7 @@ pub(crate) fn invalid_ident(tail: &str) -> (TokenKind, &str)
 
 /// Returns the text after a hash and an identifier, or `None` if the text does not begin with these.
 #[inline(always)]
-pub(crate) fn eat_marked(tail: &str) -> Option<&str>
+pub(crate) fn eat_hash_ident(tail: &str) -> Option<&str>
     ensures { MatchOption result (spec.marks_ident (chars tail.now) ≡ false)
         (λ rest. (spec.marks_ident (chars tail.now) ≡ true)
         × (rest.now ≡ past (2 + run_len Classes.is_id_continue (drop 2 (chars tail.now)))

@@ -11,7 +11,7 @@ ghost use Rattle.rustc_lexer.specs.means.Scan.{begins, scanned};
 
 use crate::classes::emoji::is_emoji;
 use crate::classes::is_id_start;
-use crate::lexemes::ident::{eat_marked, is_word_continue};
+use crate::lexemes::ident::{eat_hash_ident, is_word_continue};
 use crate::lexemes::literal::{eat_literal_suffix, literal};
 use crate::lexemes::quoted::{QuotedPrefix, quoted_literal};
 use crate::scan::{eat_continue, eat_while, split_first, strip};
@@ -83,7 +83,7 @@ fn lifetime(first: char, rest: &str) -> (TokenKind, &str)
     ensures { (result.0, result.1.now) ≡ scanned (spec.lifetime first) rest.now }
 {
     if first == 'r' {
-        if let Some(left) = eat_marked(rest) {
+        if let Some(left) = eat_hash_ident(rest) {
             return (TokenKind::RawLifetime, left);
         }
     }

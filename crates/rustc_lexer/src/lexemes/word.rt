@@ -5,7 +5,7 @@ ghost use Rattle.rustc_lexer.specs.means.Lexeme as spec;
 ghost use Rattle.rustc_lexer.specs.means.Raw.{prefix_len};
 ghost use Rattle.rustc_lexer.specs.means.Scan.{next_is, scanned};
 
-use crate::lexemes::ident::{eat_marked, ident_or_unknown_prefix};
+use crate::lexemes::ident::{eat_hash_ident, ident_or_unknown_prefix};
 use crate::lexemes::quoted::{QuotedPrefix, quoted_literal};
 use crate::lexemes::raw::{RawPrefix, raw_literal};
 use crate::scan::strip;
@@ -33,7 +33,7 @@ fn letter_r(tail: &str) -> (TokenKind, &str)
     requires fits { length tail.now + 1 < 2 ^ 32 }
     ensures { (result.0, result.1.now) ≡ scanned spec.letter_r tail.now }
 {
-    if let Some(rest) = eat_marked(tail) {
+    if let Some(rest) = eat_hash_ident(tail) {
         return (TokenKind::RawIdent, rest);
     }
     if begins_raw(tail) {
@@ -56,7 +56,7 @@ fn begins_raw(rest: &str) -> bool
 fn letter_k(tail: &str) -> (TokenKind, &str)
     ensures { (result.0, result.1.now) ≡ scanned spec.letter_k tail.now }
 {
-    match eat_marked(tail) {
+    match eat_hash_ident(tail) {
         Some(rest) => (TokenKind::ForcedKeywordIdent, rest),
         None => ident_or_unknown_prefix(tail),
     }

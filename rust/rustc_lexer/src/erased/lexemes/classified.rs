@@ -22,7 +22,7 @@ pub(crate) fn past_lowest(ends: u64) -> u64 {
 /// Returns whether the byte `next` after the run may change the token of that kind, or continue it.
 #[inline(always)]
 pub(crate) fn may_continue(kind: TokenKind, next: u8) -> bool {
-    is_mark(next)
+    turns_word(next)
         && match kind {
             TokenKind::Ident => true,
             TokenKind::Whitespace => next == 0xC2 || next == 0xE2,
@@ -32,6 +32,6 @@ pub(crate) fn may_continue(kind: TokenKind, next: u8) -> bool {
 
 /// Returns whether a word that the byte follows may be something other than an identifier.
 #[inline(always)]
-fn is_mark(next: u8) -> bool {
+fn turns_word(next: u8) -> bool {
     next >= 128 || matches!(next, b'#' | b'"' | b'\'')
 }

@@ -1,5 +1,5 @@
 // Made by tools/erase from crates/rustc_lexer/src/lexemes/ident.rt: edit that file.
-//! Identifiers, and the marks that may come before and after them.
+//! Identifiers, and the hashes and prefixes that may stand beside them.
 
 use crate::erased::classes::emoji::is_emoji;
 use crate::erased::classes::{is_id_continue, is_id_start};
@@ -33,7 +33,7 @@ pub(crate) fn invalid_ident(tail: &str) -> (TokenKind, &str) {
 
 /// Returns the text after a hash and an identifier, or `None` if the text does not begin with these.
 #[inline(always)]
-pub(crate) fn eat_marked(tail: &str) -> Option<&str> {
+pub(crate) fn eat_hash_ident(tail: &str) -> Option<&str> {
     let (first, word) = split_first(strip(tail, b'#')?)?;
     if !is_id_start(first) {
         return None;

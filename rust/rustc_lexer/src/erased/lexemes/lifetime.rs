@@ -3,7 +3,7 @@
 
 use crate::erased::classes::emoji::is_emoji;
 use crate::erased::classes::is_id_start;
-use crate::erased::lexemes::ident::{eat_marked, is_word_continue};
+use crate::erased::lexemes::ident::{eat_hash_ident, is_word_continue};
 use crate::erased::lexemes::literal::{eat_literal_suffix, literal};
 use crate::erased::lexemes::quoted::{QuotedPrefix, quoted_literal};
 use crate::erased::scan::{eat_continue, eat_while, split_first, strip};
@@ -60,7 +60,7 @@ fn is_name_start(c: char) -> bool {
 #[inline(always)]
 fn lifetime(first: char, rest: &str) -> (TokenKind, &str) {
     if first == 'r' {
-        if let Some(left) = eat_marked(rest) {
+        if let Some(left) = eat_hash_ident(rest) {
             return (TokenKind::RawLifetime, left);
         }
     }

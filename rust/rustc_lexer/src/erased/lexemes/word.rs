@@ -1,7 +1,7 @@
 // Made by tools/erase from crates/rustc_lexer/src/lexemes/word.rt: edit that file.
 //! Tokens that begin with a letter: identifiers, and literals with a letter in front.
 
-use crate::erased::lexemes::ident::{eat_marked, ident_or_unknown_prefix};
+use crate::erased::lexemes::ident::{eat_hash_ident, ident_or_unknown_prefix};
 use crate::erased::lexemes::quoted::{QuotedPrefix, quoted_literal};
 use crate::erased::lexemes::raw::{RawPrefix, raw_literal};
 use crate::erased::scan::strip;
@@ -23,7 +23,7 @@ pub(crate) fn word(first: char, tail: &str) -> (TokenKind, &str) {
 /// Lexes a token that begins with `r`: a raw identifier, a raw string, or an identifier.
 #[inline(always)]
 fn letter_r(tail: &str) -> (TokenKind, &str) {
-    if let Some(rest) = eat_marked(tail) {
+    if let Some(rest) = eat_hash_ident(tail) {
         return (TokenKind::RawIdent, rest);
     }
     if begins_raw(tail) {
@@ -42,7 +42,7 @@ fn begins_raw(rest: &str) -> bool {
 /// Lexes a token that begins with `k`: a forced keyword, or an identifier.
 #[inline(always)]
 fn letter_k(tail: &str) -> (TokenKind, &str) {
-    match eat_marked(tail) {
+    match eat_hash_ident(tail) {
         Some(rest) => (TokenKind::ForcedKeywordIdent, rest),
         None => ident_or_unknown_prefix(tail),
     }

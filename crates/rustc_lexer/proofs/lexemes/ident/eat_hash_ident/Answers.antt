@@ -1,5 +1,5 @@
 use Rattle.rustc_lexer.proofs.IdentLemmas.{marks-none, marks-by, past-marked}
-use Rattle.rustc_lexer.proofs.lexemes.ident.eat_marked.Goals as goal
+use Rattle.rustc_lexer.proofs.lexemes.ident.eat_hash_ident.Goals as goal
 
 pub returns-in_err-first : goal.returns-in_err-first
 returns-in_err-first c = rw c.from_residual-in_err-first.ensures (marks-none _ _ c.utf8.tail c.in_ok-strip.ensures.1 c.in_ok-strip.ensures.0 c.in_err-first.ensures)
