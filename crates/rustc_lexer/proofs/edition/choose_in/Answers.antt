@@ -7,4 +7,4 @@ returns-in-E2024-clause-token c = c.choose_token.ensures.token ∙ first_newer c
 
 pub returns-in-E2018-clause-boundary : goal.returns-in-E2018-clause-boundary
 returns-in-E2018-clause-boundary c =
-    boundary-of c.args.edition c.args.rest.now c.choose_older.result record { utf8 = c.utf8.rest; fits = c.requires.fits } c.requires.not_empty (c.choose_older.ensures ∙ first_oldest c.args.edition c.args.rest.now c.in-E2018.is)
+    boundary-of c.args.edition c.args.rest.now c.choose_before_2021.result record { utf8 = c.utf8.rest; fits = c.requires.fits } c.requires.not_empty (c.choose_before_2021.ensures ∙ first_oldest c.args.edition c.args.rest.now c.in-E2018.is)
