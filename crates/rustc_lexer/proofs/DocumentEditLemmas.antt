@@ -139,9 +139,12 @@ module _ {heads : List ℕ → Head} {first : List ℕ → Token} (law : IsGramm
   new_is : new ≡ tokens_of_head now ++ r.behind
   new_is = r.now_is ∙ ap (λ ts. ts ++ r.behind) head_are
 
+  pub behind_are : r.behind ≡ tokens_by first body
+  behind_are = renewed_are law b.old_body whole_made whole_renewed
+
   -- they are the tokens of the changed document
   pub new_are : new ≡ document_by heads first made
-  new_are = new_is ∙ (ap (λ ts. tokens_of_head now ++ ts) (renewed_are law b.old_body whole_made whole_renewed ∙ ap (tokens_by first) b.body_is) ∙ ap (λ (h : Head). tokens_of_head h ++ tokens_by first (drop h.body made)) b.now_is)
+  new_are = new_is ∙ (ap (λ ts. tokens_of_head now ++ ts) (behind_are ∙ ap (tokens_by first) b.body_is) ∙ ap (λ (h : Head). tokens_of_head h ++ tokens_by first (drop h.body made)) b.now_is)
 
   pub new_behind : drop (length (tokens_of_head now)) new ≡ r.behind
   new_behind = ap (drop (length (tokens_of_head now))) new_is ∙ drop-append_seam (tokens_of_head now) r.behind

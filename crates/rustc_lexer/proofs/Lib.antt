@@ -43,6 +43,7 @@ pub mod LengthLemmas
 pub mod LexemeLemmas
 pub mod LifetimeLemmas
 pub mod LiteralLemmas
+pub mod ManyLemmas
 pub mod MeetingLemmas
 pub mod NumberLemmas
 pub mod OffsetLemmas

@@ -5,7 +5,7 @@ ghost use Rattle.memchr.specs.Find.{IsFirstByte, is_byte};
 ghost use Rattle.rustc_lexer.specs.Classes;
 ghost use Rattle.rustc_lexer.specs.Classes.{Fits, begins, is_among, next_is};
 ghost use Rattle.rustc_lexer.specs.FrontmatterGrammar.{fence};
-ghost use Rattle.rustc_lexer.specs.LanguageText.{document, mode_in, newest};
+ghost use Rattle.rustc_lexer.specs.LanguageText.{document, mode_in};
 ghost use Rattle.rustc_lexer.specs.means.Frontmatter as spec;
 ghost use Rattle.rustc_lexer.specs.means.Scan.{past, run_len};
 ghost use Rattle.rustc_lexer.specs.means.Taking as state;

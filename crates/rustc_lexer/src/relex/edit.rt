@@ -14,8 +14,11 @@ use crate::entry::stepper::Stepper;
 use crate::relex::checkpoints::Checkpoints;
 use crate::relex::front::Bound;
 use crate::relex::relexing::{Change, Relexing};
-use crate::token::Token;
+use crate::token::{Token, TokenKind};
 use std::alloc::{AllocError, Global};
+
+/// How many tokens are lexed at once, but for the first one.
+const BUFFER_LEN: usize = 128;
 
 /// One edit, which borrows its insertion.
 #[derive(Clone, Copy, Debug, PartialEq, Eq)]
@@ -62,7 +65,7 @@ pub(crate) fn put_in_place(text: &mut String, start: usize, stop: usize, insert:
 }
 
 /// Lexes the new text from the end of the kept front until it meets the old tokens. Returns the tokens in between, and
-/// where they meet the old ones.
+/// where they meet the old ones. It remembers boundaries among them as `marks`.
 pub(crate) fn relex<S: Stepper>(
     alloc: Global,
     stepper: &mut S,
@@ -70,6 +73,7 @@ pub(crate) fn relex<S: Stepper>(
     near: Bound,
     text: &str,
     change: Change,
+    marks: &mut Checkpoints,
 ) -> Result<(Vec<Token>, Relexing), AllocError>
     requires fits { Fits text.now }
     requires change { IsChange text.now change }
@@ -86,6 +90,13 @@ pub(crate) fn relex<S: Stepper>(
         → IsBound (tokens_by (S.grammar stepper.old) before) near
         → IsLexed (S.grammar stepper.old) before change text.now r.0.items r.1) }
     ensures may_go_on { IfOk result (λ r. MayGoOn text.now (length old.now) r.1) }
+    ensures marks { IfOk result
+        (λ _. (before insert : List ℕ)
+        → IsMadeOf (S.grammar stepper.old) before (map (λ (t : Token). t.len) old.now)
+        change insert text.now
+        → IsBound (tokens_by (S.grammar stepper.old) before) near
+        → AreBounds (tokens_by (S.grammar stepper.old) text.now) marks.old
+        → AreBounds (tokens_by (S.grammar stepper.old) text.now) marks.new) }
 
     // How many steps were taken, also if it fails.
     ensures count { IfOk result
@@ -102,25 +113,55 @@ pub(crate) fn relex<S: Stepper>(
 {
     let mut tokens = Vec::new(alloc);
     let mut at = Relexing::begin(text, old, change, near);
-    while let Some(token) = at.next(stepper, text, old, change) {
-        tokens.push(token)?;
+    let Some(token) = at.next(stepper, text, old, change) else {
+        return Ok((tokens, at));
+    };
+    tokens.push(token)?;
+    let mut buffer = [Token {
+        kind: TokenKind::Eof,
+        len: 0,
+    }; BUFFER_LEN];
+    'left: while !at.is_over(text) {
+        let count = at.block(stepper, text, old, change, &mut buffer);
+        tokens.extend_from_slice(&buffer[..count])?;
+        marks.remember(end_of(at), text.len());
     }
     Ok((tokens, at))
 }
 
-/// Returns the checkpoints after an edit that was relexed up to `at`, in a text of `len` bytes. The kept front is
-/// one of them.
-pub(crate) fn past_edit(checkpoints: &Checkpoints, at: Relexing, len: usize) -> Checkpoints
+/// Returns where the last token ends that was lexed.
+fn end_of(at: Relexing) -> Bound
+    requires small { known at < 2 ^ 64 }
+    ensures { result ≡ end_of at }
+{
+    Bound {
+        number: at.front.number + at.lexed,
+        offset: at.at,
+    }
+}
+
+/// Returns the checkpoints after an edit that was relexed up to `at`, in a text of `len` bytes. They have the kept front
+/// and, where many tokens were lexed, the marks among them.
+pub(crate) fn past_edit(
+    checkpoints: &Checkpoints,
+    at: Relexing,
+    marks: &Checkpoints,
+    len: usize,
+) -> Checkpoints
     requires small { known at < 2 ^ 64 }
     requires movable { All (IsMovable at.back (end_of at)) checkpoints.now.bounds }
     ensures { (old new : List Token) → IsReplaced old new at.front at.back (end_of at)
-        → AreBounds old checkpoints.now → AreBounds new result }
+        → AreBounds old checkpoints.now → AreBounds new marks.now → AreBounds new result }
 {
-    let now = Bound {
-        number: at.front.number + at.lexed,
-        offset: at.at,
-    };
-    let mut checkpoints = checkpoints.after(at.front, at.back, now);
-    checkpoints.remember(at.front, len);
-    checkpoints
+    let mut moved = checkpoints.after(at.front, at.back, end_of(at));
+    if at.lexed <= BUFFER_LEN {
+        moved.remember(at.front, len);
+        return moved;
+    }
+    let mut all = moved.joined(marks, len);
+    if at.front.number == 0 {
+        return all;
+    }
+    all.remember(at.front, len);
+    all
 }

@@ -241,6 +241,76 @@ impl Relexing {
         count
     }
 
+    /// Lexes many tokens at once, and writes them into the buffer: as many as there is room for, or up to the next
+    /// place where they may meet the old ones. Returns how many.
+    pub(crate) fn block<S: Stepper, T: Measured, R: Record>(
+        &mut self,
+        stepper: &mut S,
+        text: &str,
+        old: &[T],
+        change: Change,
+        buffer: &mut [R],
+    ) -> usize
+        requires fits { Fits text.now }
+        requires change { IsChange text.now change }
+        requires may_go_on { MayGoOn text.now (length old.now) self.old }
+        requires going { is_over text.now self.old ≡ false }
+        requires room { 0 < length buffer.old }
+        ensures may_go_on { MayGoOn text.now (length old.now) self.new }
+        ensures grammar { S.grammar stepper.new ≡ S.grammar stepper.old }
+        ensures number { S.number stepper.new ≡ S.number stepper.old }
+        ensures count { S.count stepper.new ≡ S.count stepper.old + result }
+        ensures steps { TakesSteps (S.grammar stepper.old) text.now change.new_stop
+            self.old result self.new }
+        ensures tokens { buffer.new
+            ≡ map R.written (take result (tokens_by (S.grammar stepper.old) (drop self.old.at text.now)))
+            ++ drop result buffer.old }
+        ensures some { 0 < result }
+        ensures buffer { result ≤ length buffer.old }
+        ensures under_way { GoesOn (S.grammar stepper.old) (map T.bytes old.now) text.now change
+            self.old self.new }
+    {
+        let end = self.least_meeting(text, change);
+        let (count, bytes) = stepper.fill(&text[self.at..], end - self.at, buffer);
+        let at = self.at + bytes;
+        let to = follow(old, self.back, at, change.damage(text));
+        *self = Relexing {
+            front: self.front,
+            lexed: self.lexed + count,
+            back: to.at,
+            at,
+            met: to.met,
+        };
+        count
+    }
+
+    /// Returns an offset past `at`, and none between the two is one where the old tokens may be met.
+    fn least_meeting(&self, text: &str, change: Change) -> usize
+        requires fits { Fits text.now }
+        requires change { IsChange text.now change }
+        requires inside { self.now.at < length text.now }
+        requires small { self.now.back.offset < 2 ^ 63 }
+        ensures past { self.now.at < result }
+        ensures inside { result ≤ length text.now }
+        ensures none { (offset : ℕ) → self.now.at < offset → offset < result → change.new_stop ≤ offset
+            → (change.new_stop ≤ self.now.at)
+            × (offset + change.old_stop < self.now.back.offset + change.new_stop) }
+    {
+        if self.at < change.new_stop {
+            return change.new_stop;
+        }
+        let back = self.back.offset + change.new_stop;
+        if back <= self.at + change.old_stop {
+            return self.at + 1;
+        }
+        let least = back - change.old_stop;
+        if least < text.len() {
+            least
+        } else {
+            text.len()
+        }
+    }
+
     /// Returns the counts of the edit, once the old tokens are met. `old_count` is how many tokens `begin` was passed.
     pub fn counts(&self, old_count: usize) -> Relexed
         requires number { self.now.back.number ≤ old_count }

@@ -27,6 +27,17 @@ impl Checkpoints {
         self.bounds[index] = bound;
     }
 
+    /// Returns the boundaries of both, each for the share of a text of `len` bytes in which it is.
+    pub(crate) fn joined(&self, more: &Checkpoints, len: usize) -> Checkpoints {
+        let mut all = *more;
+        for bound in &self.bounds {
+            if bound.number > 0 {
+                all.remember(*bound, len);
+            }
+        }
+        all
+    }
+
     /// Returns the checkpoint that is nearest to `offset`.
     pub(crate) fn nearest(&self, offset: usize) -> Bound {
         let mut nearest = self.bounds[0];

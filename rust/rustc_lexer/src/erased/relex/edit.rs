@@ -6,8 +6,11 @@ use crate::erased::entry::stepper::Stepper;
 use crate::erased::relex::checkpoints::Checkpoints;
 use crate::erased::relex::front::Bound;
 use crate::erased::relex::relexing::{Change, Relexing};
-use crate::erased::token::Token;
+use crate::erased::token::{Token, TokenKind};
 use crate::support::{AllocError, Global};
+
+/// How many tokens are lexed at once, but for the first one.
+const BUFFER_LEN: usize = 128;
 
 /// One edit, which borrows its insertion.
 #[derive(Clone, Copy, Debug, PartialEq, Eq, Hash)]
@@ -43,7 +46,7 @@ pub(crate) fn put_in_place(text: &mut String, start: usize, stop: usize, insert:
 }
 
 /// Lexes the new text from the end of the kept front until it meets the old tokens. Returns the tokens in between, and
-/// where they meet the old ones.
+/// where they meet the old ones. It remembers boundaries among them as `marks`.
 pub(crate) fn relex<S: Stepper>(
     alloc: Global,
     stepper: &mut S,
@@ -51,23 +54,51 @@ pub(crate) fn relex<S: Stepper>(
     near: Bound,
     text: &str,
     change: Change,
+    marks: &mut Checkpoints,
 ) -> Result<(Vec<Token>, Relexing), AllocError> {
     let mut tokens = Vec::new(alloc);
     let mut at = Relexing::begin(text, old, change, near);
-    while let Some(token) = at.next(stepper, text, old, change) {
-        tokens.push(token)?;
+    let Some(token) = at.next(stepper, text, old, change) else {
+        return Ok((tokens, at));
+    };
+    tokens.push(token)?;
+    let mut buffer = [Token {
+        kind: TokenKind::Eof,
+        len: 0,
+    }; BUFFER_LEN];
+    while !at.is_over(text) {
+        let count = at.block(stepper, text, old, change, &mut buffer);
+        tokens.extend_from_slice(&buffer[..count])?;
+        marks.remember(end_of(at), text.len());
     }
     Ok((tokens, at))
 }
 
-/// Returns the checkpoints after an edit that was relexed up to `at`, in a text of `len` bytes. The kept front is
-/// one of them.
-pub(crate) fn past_edit(checkpoints: &Checkpoints, at: Relexing, len: usize) -> Checkpoints {
-    let now = Bound {
+/// Returns where the last token ends that was lexed.
+fn end_of(at: Relexing) -> Bound {
+    Bound {
         number: at.front.number + at.lexed,
         offset: at.at,
-    };
-    let mut checkpoints = checkpoints.after(at.front, at.back, now);
-    checkpoints.remember(at.front, len);
-    checkpoints
+    }
+}
+
+/// Returns the checkpoints after an edit that was relexed up to `at`, in a text of `len` bytes. They have the kept front
+/// and, where many tokens were lexed, the marks among them.
+pub(crate) fn past_edit(
+    checkpoints: &Checkpoints,
+    at: Relexing,
+    marks: &Checkpoints,
+    len: usize,
+) -> Checkpoints {
+    let mut moved = checkpoints.after(at.front, at.back, end_of(at));
+    if at.lexed <= BUFFER_LEN {
+        moved.remember(at.front, len);
+        return moved;
+    }
+    let mut all = moved.joined(marks, len);
+    if at.front.number == 0 {
+        return all;
+    }
+    all.remember(at.front, len);
+    all
 }

@@ -104,10 +104,19 @@ impl<S: Stepper, E: Extent> Kept<S, E> {
         let body = &made[now.body..];
         let old = &self.tokens.as_slice()[old_count..];
         let left = old.len();
-        let (lexed, at) = relex(self.alloc, &mut self.stepper, old, near, body, change)?;
+        let mut marks = Checkpoints::new();
+        let (lexed, at) = relex(
+            self.alloc,
+            &mut self.stepper,
+            old,
+            near,
+            body,
+            change,
+            &mut marks,
+        )?;
         let new_head = new_head(kept, now);
         put_tokens(self.alloc, &mut self.tokens, old_count, new_head, at, lexed)?;
-        self.checkpoints = past_edit(&self.checkpoints, at, body.len());
+        self.checkpoints = past_edit(&self.checkpoints, at, &marks, body.len());
         self.head = now;
         Ok(counted(kept, old_count, now.count(), at.counts(left)))
     }

@@ -160,6 +160,47 @@ impl Relexing {
         count
     }
 
+    /// Lexes many tokens at once, and writes them into the buffer: as many as there is room for, or up to the next
+    /// place where they may meet the old ones. Returns how many.
+    pub(crate) fn block<S: Stepper, T: Measured, R: Record>(
+        &mut self,
+        stepper: &mut S,
+        text: &str,
+        old: &[T],
+        change: Change,
+        buffer: &mut [R],
+    ) -> usize {
+        let end = self.least_meeting(text, change);
+        let (count, bytes) = stepper.fill(&text[self.at..], end - self.at, buffer);
+        let at = self.at + bytes;
+        let to = follow(old, self.back, at, change.damage(text));
+        *self = Relexing {
+            front: self.front,
+            lexed: self.lexed + count,
+            back: to.at,
+            at,
+            met: to.met,
+        };
+        count
+    }
+
+    /// Returns an offset past `at`, and none between the two is one where the old tokens may be met.
+    fn least_meeting(&self, text: &str, change: Change) -> usize {
+        if self.at < change.new_stop {
+            return change.new_stop;
+        }
+        let back = self.back.offset + change.new_stop;
+        if back <= self.at + change.old_stop {
+            return self.at + 1;
+        }
+        let least = back - change.old_stop;
+        if least < text.len() {
+            least
+        } else {
+            text.len()
+        }
+    }
+
     /// Returns the counts of the edit, once the old tokens are met. `old_count` is how many tokens `begin` was passed.
     #[must_use]
     pub fn counts(&self, old_count: usize) -> Relexed {

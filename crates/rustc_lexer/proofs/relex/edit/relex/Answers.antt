@@ -1,93 +1,139 @@
-use Rattle.std.proofs.Common.{◌≡◌, ◌+◌, ◌∷◌, ◌++◌, List, ℕ, true, length, map, drop, refl, sym, ap, ◌∙◌, subst, arith, length-append, []}
+use Rattle.std.proofs.Common.{◌≡◌, ◌+◌, ◌∷◌, ◌++◌, List, ℕ, true, length, map, drop, take, refl, sym, ap, ◌∙◌, subst, arith, length-append, length-take-le, []}
+use Rattle.rustc_lexer.specs.declared.relex.front.Bound.{Bound}
 use Rattle.rustc_lexer.specs.declared.relex.relexing.Relexing.{Relexing}
 use Rattle.rustc_lexer.specs.{Token}
+use Rattle.rustc_lexer.specs.Classes.{IsText}
 use Rattle.rustc_lexer.specs.Tokens.{tokens_by}
-use Rattle.rustc_lexer.specs.Edits.{known}
+use Rattle.rustc_lexer.specs.Edits.{IsBound, known}
 use Rattle.rustc_lexer.specs.Relexing.{IsMadeOf, IsUnderWay}
-use Rattle.rustc_lexer.proofs.RelexStepLemmas.{step_of}
+use Rattle.rustc_lexer.proofs.BlockLemmas.{front_of}
 use Rattle.rustc_lexer.proofs.EditLemmas.{IfErr-always}
+use Rattle.rustc_lexer.proofs.ManyLemmas.{block_count, more_lexed}
+use Rattle.rustc_lexer.proofs.RelexStepLemmas.{step_of}
 use Rattle.rustc_lexer.proofs.RelexingLemmas.{few_lexed, all_lexed, one_lexed}
 use Rattle.rustc_lexer.proofs.UnderWayLemmas.{of_stands, to_stands}
 use Rattle.rustc_lexer.proofs.relex.edit.relex.Goals as goal
 
-pub loop-token-init : goal.loop-token-init
-loop-token-init g c =
-    let none = c.new-tokens.ensures.items in
-    let zero_lexed = c.begin-at.ensures.none in
-    let empty : length c.new-tokens.result.items ≡ 0 = ap length none in (
-      c.begin-at.ensures.may_go_on,
-      refl,
-      refl,
-      omega (arith, empty),
-      omega (arith, zero_lexed, empty),
-      λ before insert is near.
-          let first = g.S.Stepper.grammar c.args.stepper.now in
-          let law = g.S.Stepper.law c.args.stepper.now in
-          let stands = to_stands law before _ insert _ c.args.change is _ (c.begin-at.ensures.under_way first before insert law is near) in
-          (stands, all_lexed (tokens_by first c.args.text.now) c.begin-at.result c.new-tokens.result.items none zero_lexed),
-    )
-
-pub loop-token-smaller : goal.loop-token-smaller
-loop-token-smaller g c =
-    let step = step_of (g.S.Stepper.law c.loop-token.stepper) c.args.text.now record { utf8 = c.utf8.text; fits = c.requires.fits } c.args.change.new_stop _ c.loop-token.at c.in-Some.token _ c.next.new.self c.loop-token.invariant.0.boundary c.in-Some.ensures.step in
-    omega (arith, step.offset, step.not_empty, step.inside)
-
-pub loop-token-preserved : goal.loop-token-preserved
-loop-token-preserved g c =
+pub returns-in_default-clause-lexed : goal.returns-in_default-clause-lexed
+returns-in_default-clause-lexed g c = λ before insert is near.
     let first = g.S.Stepper.grammar c.args.stepper.now in
-    let text = c.args.text.now in
-    let at = c.loop-token.at in
-    let past = c.next.new.self in
-    let token = c.in-Some.token in
-    let inv = c.loop-token.invariant in
-    let step = step_of (g.S.Stepper.law c.loop-token.stepper) c.args.text.now record { utf8 = c.utf8.text; fits = c.requires.fits } c.args.change.new_stop _ c.loop-token.at c.in-Some.token _ c.next.new.self c.loop-token.invariant.0.boundary c.in-Some.ensures.step in
-    let lexed = step.lexed in
-    let more = c.in_ok-push.ensures.items in
-    let count : length c.push.new.self.items ≡ length c.loop-token.tokens.items + 1 = rw more (omega (arith, length-append c.loop-token.tokens.items (token ∷ []))) in
-    let grammar = c.in-Some.ensures.grammar ∙ inv.1 in
-    let number = c.in-Some.ensures.number ∙ inv.2 in
-    let new = tokens_by first text in
-    let Next : (before insert : List ℕ) → (List ℕ → Token) → Type 0 = λ before insert f. IsMadeOf f before (map (λ (t : Token). t.len) c.args.old.now) c.args.change insert text → IsUnderWay f before c.args.change text at → IsUnderWay f before c.args.change text past × (drop (known at) (tokens_by f text) ≡ token ∷ drop (known past) (tokens_by f text)) in (
-      c.in-Some.ensures.may_go_on,
-      grammar,
-      number,
-      omega (arith, c.in-Some.ensures.step.2, count, inv.3),
-      omega (arith, lexed, count, inv.4),
-      λ before insert is near.
-          let law = g.S.Stepper.law c.args.stepper.now in
-          let so = inv.5 before insert is near in
-          let next = subst (Next before insert) inv.1 (c.in-Some.ensures.under_way before insert) is (of_stands law before _ insert _ c.args.change is at so.0) in
-          let pushed = one_lexed new at past c.loop-token.tokens.items c.push.new.self.items token step.front so.1 next.1 more in
-          (to_stands law before _ insert _ c.args.change is past next.0, pushed),
-    )
+    let law = g.S.Stepper.law c.args.stepper.now in
+    let new : List Token = tokens_by first c.args.text.now in
+    let at = c.begin-at.result in
+    let end = c.next.new.self in
+    let same : end ≡ at = c.in_default.ensures.step.0 in
+    let none = c.new-tokens.ensures.items in
+    let last = c.in_default.ensures.under_way before insert is (c.begin-at.ensures.under_way first before insert law is near) in
+    record {
+      stands = to_stands law before _ insert _ c.args.change is end last.0;
+      met = last.1;
+      lexed = ap (λ (a : Relexing). a.lexed) same ∙ (c.begin-at.ensures.none ∙ sym (ap (λ (ts : List Token). length ts) none));
+      tokens_are = subst (λ (a : Relexing). drop a.front.number new ≡ c.new-tokens.result.items ++ drop (known a) new) (sym same) (all_lexed new at c.new-tokens.result.items none c.begin-at.ensures.none);
+    }
 
 pub returns-in_err-push-clause-few : goal.returns-in_err-push-clause-few
 returns-in_err-push-clause-few g c =
     let first = g.S.Stepper.grammar c.args.stepper.now in
-    let at = c.loop-token.at in
-    let past = c.next.new.self in
-    let step = step_of (g.S.Stepper.law c.loop-token.stepper) c.args.text.now record { utf8 = c.utf8.text; fits = c.requires.fits } c.args.change.new_stop _ c.loop-token.at c.in-Some.token _ c.next.new.self c.loop-token.invariant.0.boundary c.in-Some.ensures.step in
-    let lexed = step.lexed in
-    IfErr-always c.from_residual.result (λ before insert is near.
     let law = g.S.Stepper.law c.args.stepper.now in
-    let so = c.loop-token.invariant.5 before insert is near in
-    let next = subst (λ (f : List ℕ → Token). IsMadeOf f before (map (λ (t : Token). t.len) c.args.old.now) c.args.change insert c.args.text.now → IsUnderWay f before c.args.change c.args.text.now at → IsUnderWay f before c.args.change c.args.text.now past × (drop (known at) (tokens_by f c.args.text.now) ≡ c.in-Some.token ∷ drop (known past) (tokens_by f c.args.text.now))) c.loop-token.invariant.1 (c.in-Some.ensures.under_way before insert) is (of_stands law before _ insert _ c.args.change is at so.0) in
-    omega (arith, c.in-Some.ensures.step.2, lexed, c.loop-token.invariant.3, c.loop-token.invariant.4, few_lexed law before _ insert _ c.args.change is past (to_stands law before _ insert _ c.args.change is past next.0)))
+    let at = c.begin-at.result in
+    let past = c.next.new.self in
+    let is_text : IsText c.args.text.now = record { utf8 = c.utf8.text; fits = c.requires.fits } in
+    let step = step_of law c.args.text.now is_text c.args.change.new_stop _ at c.in-Some.token _ past c.begin-at.ensures.may_go_on.boundary c.in-Some.ensures.step in
+    IfErr-always c.from_residual.result (λ before insert is near.
+    let next = c.in-Some.ensures.under_way before insert is (c.begin-at.ensures.under_way first before insert law is near) in
+    omega (arith, c.in-Some.ensures.step.2, step.lexed, few_lexed law before _ insert _ c.args.change is past (to_stands law before _ insert _ c.args.change is past next.0)))
+
+pub left-init : goal.left-init
+left-init g c =
+    let first = g.S.Stepper.grammar c.args.stepper.now in
+    let law = g.S.Stepper.law c.args.stepper.now in
+    let text : List ℕ = c.args.text.now in
+    let at = c.begin-at.result in
+    let past = c.next.new.self in
+    let token = c.in-Some.token in
+    let none = c.new-tokens.ensures.items in
+    let empty : length c.new-tokens.result.items ≡ 0 = ap (λ (ts : List Token). length ts) none in
+    let is_text : IsText text = record { utf8 = c.utf8.text; fits = c.requires.fits } in
+    let step = step_of law text is_text c.args.change.new_stop _ at token _ past c.begin-at.ensures.may_go_on.boundary c.in-Some.ensures.step in
+    let more = c.in_ok-push.ensures.items in
+    let count : length c.push.new.self.items ≡ length c.new-tokens.result.items + 1 = rw more (omega (arith, length-append c.new-tokens.result.items (token ∷ []))) in
+    record {
+      may_go_on = c.in-Some.ensures.may_go_on;
+      grammar = c.in-Some.ensures.grammar;
+      number = c.in-Some.ensures.number;
+      count = omega (arith, c.in-Some.ensures.step.2, count, empty);
+      lexed = omega (arith, step.lexed, count, empty, c.begin-at.ensures.none);
+      stands = λ before insert is near.
+          let next = c.in-Some.ensures.under_way before insert is (c.begin-at.ensures.under_way first before insert law is near) in
+          let so = all_lexed (tokens_by first text) at c.new-tokens.result.items none c.begin-at.ensures.none in
+          let pushed = one_lexed (tokens_by first text) at past c.new-tokens.result.items c.push.new.self.items token step.front so next.1 more in
+          (to_stands law before _ insert _ c.args.change is past next.0, pushed, λ are. are);
+    }
+
+pub left-smaller : goal.left-smaller
+left-smaller g c =
+    let text : List ℕ = c.args.text.now in
+    let is : IsText text = record { utf8 = c.utf8.text; fits = c.requires.fits } in
+    let at = c.left.at in
+    let steps = c.block-count.ensures.steps in
+    let end = c.block-count.ensures.may_go_on.boundary.0 in
+    let fewer = block_count (g.S.Stepper.law c.left.stepper) text (drop at.at text) is at.at c.left.invariant.may_go_on.boundary refl c.block-count.result _ steps.inside refl in
+    omega (arith, steps.offset, fewer, c.block-count.ensures.some, end)
+
+pub left-preserved : goal.left-preserved
+left-preserved g c =
+    let law = g.S.Stepper.law c.args.stepper.now in
+    let first : List ℕ → Token = g.S.Stepper.grammar c.args.stepper.now in
+    let text : List ℕ = c.args.text.now in
+    let inv = c.left.invariant in
+    let at = c.left.at in
+    let past = c.block-count.new.self in
+    let count : ℕ = c.block-count.result in
+    let steps = c.block-count.ensures.steps in
+    let left : List Token = tokens_by (g.S.Stepper.grammar c.left.stepper) (drop at.at text) in
+    let written = front_of left c.left.buffer c.block-count.new.buffer count steps.inside c.block-count.ensures.tokens in
+    let block : List Token = take count c.block-count.new.buffer in
+    let long : length block ≡ count = length-take-le count c.block-count.new.buffer written.within in
+    let items = c.in_ok-extend_from_slice.ensures.items in
+    let size = ap (λ (ts : List Token). length ts) items in
+    record {
+      may_go_on = c.block-count.ensures.may_go_on;
+      grammar = c.block-count.ensures.grammar ∙ inv.grammar;
+      number = c.block-count.ensures.number ∙ inv.number;
+      count = omega (arith, c.block-count.ensures.count, inv.count, size, long, length-append c.left.tokens.items block);
+      lexed = omega (arith, steps.lexed, inv.lexed, size, long, length-append c.left.tokens.items block);
+      stands = λ before insert is near.
+          let so = inv.stands before insert is near in
+          let Goes : (List ℕ → Token) → Type 0 = λ f. IsMadeOf f before (map (λ (t : Token). t.len) c.args.old.now) c.args.change insert text → IsUnderWay f before c.args.change text at → IsUnderWay f before c.args.change text past × (tokens_by f (drop at.at text) ≡ drop (known at) (tokens_by f text)) in
+          let goes = subst Goes inv.grammar (c.block-count.ensures.under_way before insert) is (of_stands law before _ insert _ c.args.change is at so.0) in
+          let stands = to_stands law before _ insert _ c.args.change is past goes.0 in
+          let here = ap (λ (f : List ℕ → Token). tokens_by f (drop at.at text)) inv.grammar ∙ goes.1 in (
+            stands,
+            more_lexed (tokens_by first text) left c.left.tokens.items block at past count steps.front steps.lexed so.1 here written.front ∙ ap (λ (ts : List Token). ts ++ drop (known past) (tokens_by first text)) (sym items),
+            λ are. c.remember.ensures (tokens_by first text) (so.2 are) (subst (λ (b : Bound). IsBound (tokens_by first text) b) (sym c.end_of.ensures) (stands.inside, stands.offset)),
+          );
+    }
+
+pub returns-in_err-extend_from_slice-clause-few : goal.returns-in_err-extend_from_slice-clause-few
+returns-in_err-extend_from_slice-clause-few g c =
+    let law = g.S.Stepper.law c.args.stepper.now in
+    let text : List ℕ = c.args.text.now in
+    let inv = c.left.invariant in
+    let at = c.left.at in
+    let past = c.block-count.new.self in
+    IfErr-always c.from_residual-in_err-extend_from_slice.result (λ before insert is near.
+    let so = inv.stands before insert is near in
+    let Goes : (List ℕ → Token) → Type 0 = λ f. IsMadeOf f before (map (λ (t : Token). t.len) c.args.old.now) c.args.change insert text → IsUnderWay f before c.args.change text at → IsUnderWay f before c.args.change text past × (tokens_by f (drop at.at text) ≡ drop (known at) (tokens_by f text)) in
+    let goes = subst Goes inv.grammar (c.block-count.ensures.under_way before insert) is (of_stands law before _ insert _ c.args.change is at so.0) in
+    omega (arith, c.block-count.ensures.count, c.block-count.ensures.steps.lexed, inv.count, inv.lexed, few_lexed law before _ insert _ c.args.change is past (to_stands law before _ insert _ c.args.change is past goes.0)))
 
 pub returns-clause-lexed : goal.returns-clause-lexed
 returns-clause-lexed g c = λ before insert is near.
     let law = g.S.Stepper.law c.args.stepper.now in
-    let new : List Token = tokens_by (g.S.Stepper.grammar c.args.stepper.now) c.args.text.now in
-    let at = c.loop-token.at in
-    let end = c.next.new.self in
-    let inv = c.loop-token.invariant in
-    let so = inv.5 before insert is near in
-    let same : end ≡ at = c.in_default.ensures.step.0 in
-    let Last : (List ℕ → Token) → Type 0 = λ f. IsMadeOf f before (map (λ (t : Token). t.len) c.args.old.now) c.args.change insert c.args.text.now → IsUnderWay f before c.args.change c.args.text.now at → IsUnderWay f before c.args.change c.args.text.now end × (end.met ≡ true) in
-    let last = subst Last inv.1 (c.in_default.ensures.under_way before insert) is (of_stands law before _ insert _ c.args.change is at so.0) in
+    let so = c.left.invariant.stands before insert is near in
     record {
-      stands = to_stands law before _ insert _ c.args.change is end last.0;
-      met = last.1;
-      lexed = ap (λ (a : Relexing). a.lexed) same ∙ inv.4;
-      tokens_are = subst (λ (a : Relexing). drop a.front.number new ≡ c.loop-token.tokens.items ++ drop (known a) new) (sym same) so.1;
+      stands = so.0;
+      met = sym (c.is_over.ensures.met (g.S.Stepper.grammar c.args.stepper.now) before _ insert c.args.change law is (of_stands law before _ insert _ c.args.change is c.left.at so.0)) ∙ c.left-test.false;
+      lexed = c.left.invariant.lexed;
+      tokens_are = so.1;
     }

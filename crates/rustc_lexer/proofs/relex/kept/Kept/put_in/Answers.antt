@@ -5,7 +5,7 @@ use Rattle.rustc_lexer.specs.{Token}
 use Rattle.rustc_lexer.specs.Classes.{IsText}
 use Rattle.rustc_lexer.specs.means.Document.{document_by, head_by, IsCountedByHead, IsRelexedByHead}
 use Rattle.rustc_lexer.specs.means.Checkpoints.{AreBounds}
-use Rattle.rustc_lexer.proofs.DocumentEditLemmas.{body_edit, made_read, near_behind, new_are, new_behind, renewed_by, bounds_move, counted_all, counted_front, counted_back, counted_few, counted_relexed, counted_steps, few_body, OnErr-always}
+use Rattle.rustc_lexer.proofs.DocumentEditLemmas.{body_edit, made_read, near_behind, new_are, behind_are, new_behind, renewed_by, bounds_move, counted_all, counted_front, counted_back, counted_few, counted_relexed, counted_steps, few_body, OnErr-always}
 use Rattle.rustc_lexer.proofs.EditLemmas.{edited}
 use Rattle.rustc_lexer.proofs.LayoutLemmas.{body_by_part}
 use Rattle.rustc_lexer.proofs.RelexingLemmas.{few_lexed, made_change}
@@ -71,7 +71,7 @@ returns g c =
         new_are law b c.new_head-new_head.ensures r ∙ ap₂ (document_by (head_by g.E.Extent.whole)) (sym c.relex.ensures.grammar) c.as_str-made.ensures.value,
         c.find_head-now.ensures.head ∙ ap (head_by g.E.Extent.whole) c.as_str-made.ensures.value,
         subst (λ (xs : List ℕ). IsCharBoundary xs c.find_head-now.result.body) c.as_str-made.ensures.value c.find_head-now.ensures.boundary,
-        subst (λ (ts : List Token). AreBounds ts c.past_edit-self.result) (sym (new_behind law b c.new_head-new_head.ensures r)) (c.past_edit-self.ensures _ _ moved.1 (subst (λ k. AreBounds (drop k c.args.self.now.tokens.items) c.args.self.now.checkpoints) (sym b.n_is) c.requires.kept.4)),
+        subst (λ (ts : List Token). AreBounds ts c.past_edit-self.result) (sym (new_behind law b c.new_head-new_head.ensures r)) (c.past_edit-self.ensures _ _ moved.1 (subst (λ k. AreBounds (drop k c.args.self.now.tokens.items) c.args.self.now.checkpoints) (sym b.n_is) c.requires.kept.4) (subst (λ (ts : List Token). AreBounds ts c.relex.new.marks) (sym (behind_are law b c.new_head-new_head.ensures r)) (c.in_ok-lexed.ensures.marks _ _ made near (c.new-marks.ensures _)))),
       );
       relexed = subst (λ (x : Relexed). IsRelexedByHead (head_by g.E.Extent.whole) (g.S.Stepper.grammar c.args.self.now.stepper) (string_bytes c.args.self.now.text) c.args.start c.args.stop c.args.insert.now x) (sym c.counted.ensures) (counted_relexed law b c.new_head-new_head.ensures r _ c.count.ensures size c.counts.ensures.counts (body_by_part _ _ _ _ _ _ exact.0));
       all = subst (λ (x : Relexed). x.kept_front + x.lexed + x.kept_back ≡ length c.put_tokens.new.tokens.items) (sym c.counted.ensures) (counted_all law b c.new_head-new_head.ensures r _ c.count.ensures size c.counts.ensures.counts);

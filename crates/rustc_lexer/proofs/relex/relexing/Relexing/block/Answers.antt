@@ -1,0 +1,91 @@
+use Rattle.std.proofs.Common.{◌≡◌, ◌+◌, ◌-◌, ◌<◌, ◌++◌, List, ℕ, length, map, take, drop, refl, sym, ap, ◌∙◌, subst, arith}
+use Rattle.rustc_lexer.specs.declared.relex.front.Damage.{Damage}
+use Rattle.rustc_lexer.specs.{Token}
+use Rattle.rustc_lexer.specs.Classes.{IsText}
+use Rattle.rustc_lexer.specs.Tokens.{IsFilledTo, bound, tokens_by}
+use Rattle.rustc_lexer.specs.means.Relexing.{IsFollowed, old_stop_of}
+use Rattle.rustc_lexer.proofs.ManyLemmas.{block_boundary, block_count, block_inside, some_filled, stands_many}
+use Rattle.rustc_lexer.proofs.RelexingLemmas.{below_later, damage_stop, end_last, not_over}
+use Rattle.rustc_lexer.proofs.RelexStepLemmas.{left_at}
+use Rattle.rustc_lexer.proofs.UnderWayLemmas.{of_stands, to_stands}
+use Rattle.rustc_lexer.proofs.relex.relexing.Relexing.block.Goals as goal
+
+pub range_from-requires : goal.range_from-requires
+range_from-requires g c = λ some. c.requires.may_go_on.boundary
+
+pub least_meeting-end-requires-clause-inside : goal.least_meeting-end-requires-clause-inside
+least_meeting-end-requires-clause-inside g c = (not_over c.args.self.now.met c.args.self.now.at (length c.args.text.now) c.requires.may_go_on.boundary.0 c.requires.going).1
+
+pub overflow_add-at : goal.overflow_add-at
+overflow_add-at g c =
+    let is : IsText c.args.text.now = record { utf8 = c.utf8.text; fits = c.requires.fits } in
+    let inside = block_inside (g.S.Stepper.law c.args.stepper.now) c.args.text.now c.range_from.result.now is c.args.self.now.at c.requires.may_go_on.boundary c.range_from.ensures.value _ _ c.fill-count.ensures.filled.few c.fill-count.ensures.bytes in
+    omega (arith, inside)
+
+pub overflow_add-self : goal.overflow_add-self
+overflow_add-self g c =
+    let is : IsText c.args.text.now = record { utf8 = c.utf8.text; fits = c.requires.fits } in
+    let law = g.S.Stepper.law c.args.stepper.now in
+    let inside = block_inside law c.args.text.now c.range_from.result.now is c.args.self.now.at c.requires.may_go_on.boundary c.range_from.ensures.value _ _ c.fill-count.ensures.filled.few c.fill-count.ensures.bytes in
+    let fewer = block_count law c.args.text.now c.range_from.result.now is c.args.self.now.at c.requires.may_go_on.boundary c.range_from.ensures.value _ _ c.fill-count.ensures.filled.few c.fill-count.ensures.bytes in
+    let few = c.requires.may_go_on.few in
+    omega (arith, inside, fewer, few)
+
+pub follow-to-requires-clause-offset_fits : goal.follow-to-requires-clause-offset_fits
+follow-to-requires-clause-offset_fits g c =
+    let is : IsText c.args.text.now = record { utf8 = c.utf8.text; fits = c.requires.fits } in
+    let inside = block_inside (g.S.Stepper.law c.args.stepper.now) c.args.text.now c.range_from.result.now is c.args.self.now.at c.requires.may_go_on.boundary c.range_from.ensures.value _ _ c.fill-count.ensures.filled.few c.fill-count.ensures.bytes in
+    rw c.damage.ensures (omega (arith, inside))
+
+pub returns : goal.returns
+returns g c =
+    let law = g.S.Stepper.law c.args.stepper.now in
+    let first : List ℕ → Token = g.S.Stepper.grammar c.args.stepper.now in
+    let text : List ℕ = c.args.text.now in
+    let is : IsText text = record { utf8 = c.utf8.text; fits = c.requires.fits } in
+    let may = c.requires.may_go_on in
+    let change = c.args.change in
+    let at = c.args.self.now in
+    let to = c.follow-to.result in
+    let count : ℕ = c.fill-count.result.0 in
+    let bytes : ℕ = c.fill-count.result.1 in
+    let end : ℕ = c.least_meeting-end.result - at.at in
+    let filled : IsFilledTo g.R.Record.written end (tokens_by first (drop at.at text)) c.args.buffer.now c.fill-count.new.buffer count = subst (λ (l : List ℕ). IsFilledTo g.R.Record.written end (tokens_by first l) c.args.buffer.now c.fill-count.new.buffer count) c.range_from.ensures.value c.fill-count.ensures.filled in
+    let bytes_is : bytes ≡ bound (tokens_by first (drop at.at text)) count = c.fill-count.ensures.bytes ∙ ap (λ (l : List ℕ). bound (tokens_by first l) count) c.range_from.ensures.value in
+    let some = some_filled g.R.Record.written end (tokens_by first (drop at.at text)) c.args.buffer.now c.fill-count.new.buffer count filled c.requires.room (let past = c.least_meeting-end.ensures.past in omega arith) in
+    let fewer = block_count law text (drop at.at text) is at.at may.boundary refl count bytes filled.few bytes_is in
+    let stays : at.at + bytes < change.new_stop → to.at ≡ at.back = λ early. c.follow-to.ensures.stays (rw c.damage.ensures early) in
+    record {
+      may_go_on = record {
+        boundary = block_boundary law text (drop at.at text) is at.at may.boundary refl count bytes filled.few bytes_is;
+        number = c.follow-to.ensures.number;
+        order = (let order = may.order in let ahead = c.follow-to.ensures.ahead in omega arith);
+        small = c.follow-to.ensures.small;
+        few = (let few = may.few in omega (arith, few, fewer));
+      };
+      grammar = c.fill-count.ensures.grammar;
+      number = c.fill-count.ensures.number;
+      count = c.fill-count.ensures.count;
+      steps = record {
+        inside = filled.few;
+        none = λ e. absurd (omega (arith, some, e));
+        front = refl;
+        lexed = refl;
+        offset = ap (λ n. at.at + n) bytes_is;
+        same_back = stays;
+        not_met = λ more early. c.follow-to.ensures.early (rw c.damage.ensures early);
+      };
+      tokens = filled.tokens;
+      some = some;
+      buffer = filled.within;
+      under_way = λ before insert made begun.
+          let stands = to_stands law before _ insert text change made at begun in
+          let out = (not_over at.met at.at (length text) may.boundary.0 c.requires.going).0 in
+          let later = below_later law before _ insert text change made at stands (at.at + bytes) (omega arith) in
+          let ended = c.follow-to.ensures.followed (tokens_by first before) made.lengths_are stands.back_bound (rw c.damage.ensures (λ n less. let b = later n less in let e = damage_stop text change c.requires.change in omega arith)) (rw c.damage.ensures (end_last law before _ insert text change made (at.at + bytes))) in
+          let Followed : Damage → Type 0 = λ d. IsFollowed (tokens_by first before) (old_stop_of d) d.past (at.at + bytes) to.at to.met in
+          let followed = subst (λ n. IsFollowed (tokens_by first before) n change.new_stop (at.at + bytes) to.at to.met) (damage_stop text change c.requires.change) (subst Followed c.damage.ensures ended) in (
+            of_stands law before _ insert text change made _ (stands_many law before _ insert text change made at stands out count bytes c.least_meeting-end.result to c.least_meeting-end.ensures.none filled.few bytes_is filled.begun followed stays),
+            left_at law before _ insert text change made at stands,
+          );
+    }
