@@ -10,7 +10,8 @@ use rustc_literal_escaper::{
 
 /// What a literal with quotes stands for, written with escapes. `None` for what is no such literal, or is not closed.
 pub fn value(kind: TokenKind, text: &str) -> Option<String> {
-    let (mode, inside) = inside(kind, text)?;
+    let (mode, range) = inside(kind, text)?;
+    let inside = &text[range];
     let mut read = Read::default();
     match mode {
         Mode::Char => read.char(unescape_char(inside)),

@@ -1,5 +1,6 @@
 pub mod CallLemmas
 pub mod EscapeLemmas
+pub mod FrontmatterLemmas
 pub mod LiteralLemmas
 pub mod MarkedLemmas
 pub mod PartLemmas

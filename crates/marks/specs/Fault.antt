@@ -10,8 +10,9 @@ use Rattle.rustc_lexer.specs.declared.token.TokenKind.TheVariants.{BlockComment,
 use Rattle.rustc_lexer.specs.Answers.{raw_check}
 use Rattle.rustc_lexer.specs.Classes.{next_is}
 use Rattle.marks.specs.declared.fault.Fault.{Fault}
-use Rattle.marks.specs.declared.fault.Fault.TheVariants.{OpenComment, FrontmatterSpace, FrontmatterInfostring, InvalidName, UnknownPrefix, UnknownLifetimePrefix, GuardedString, InvalidLifetime, UnknownCharacter, EmptyNumber, EmptyExponent, OpenCharacter, OpenByte, OpenString, RawStarter, OpenRawString, FewHashes, ManyHashes, InLiteral}
-use Rattle.marks.specs.declared.fault.TheConstants.{OPEN_COMMENT, FRONTMATTER_SPACE, FRONTMATTER_INFOSTRING, INVALID_NAME, UNKNOWN_PREFIX, UNKNOWN_LIFETIME_PREFIX, GUARDED_STRING, INVALID_LIFETIME, UNKNOWN_CHARACTER, EMPTY_NUMBER, EMPTY_EXPONENT, OPEN_CHARACTER, OPEN_BYTE, OPEN_STRING, RAW_STARTER}
+use Rattle.marks.specs.declared.fault.Fault.TheVariants.{OpenComment, FrontmatterSpace, FrontmatterInfostring, OpenFrontmatter, FrontmatterIndent, FrontmatterDashes, FrontmatterWords, InvalidName, UnknownPrefix, UnknownLifetimePrefix, GuardedString, InvalidLifetime, UnknownCharacter, EmptyNumber, EmptyExponent, OpenCharacter, OpenByte, OpenString, RawStarter, OpenRawString, FewHashes, ManyHashes, InLiteral}
+use Rattle.marks.specs.declared.fault.TheConstants.{OPEN_COMMENT, FRONTMATTER_SPACE, FRONTMATTER_INFOSTRING, OPEN_FRONTMATTER, FRONTMATTER_INDENT, FRONTMATTER_WORDS, INVALID_NAME, UNKNOWN_PREFIX, UNKNOWN_LIFETIME_PREFIX, GUARDED_STRING, INVALID_LIFETIME, UNKNOWN_CHARACTER, EMPTY_NUMBER, EMPTY_EXPONENT, OPEN_CHARACTER, OPEN_BYTE, OPEN_STRING, RAW_STARTER}
+use Rattle.marks.specs.Frontmatter.{end_fault}
 use Rattle.rustc_literal_escaper.specs.Numbers.{error_sentence}
 
 -- the error for a reader, by the reason why a raw string is refused
@@ -45,11 +46,17 @@ literal_fault (RawByteStr None) text = raw_fault text 2
 literal_fault (RawCStr None) text = raw_fault text 2
 literal_fault kind text = None
 
--- the error of a token; if it has two, the first
+-- the error of a frontmatter that no white space precedes: that of its end, or else of its first line
+abbrev pub front_fault : Bool → Option Fault → Option Fault
+front_fault invalid_infostring (Some fault) = Some fault
+front_fault true None = Some FrontmatterInfostring
+front_fault false None = None
+
+-- the error of a token; if it has two, one of them
 abbrev pub fault_of : TokenKind → List ℕ → Option Fault
 fault_of (BlockComment doc_style false) text = Some OpenComment
 fault_of (Frontmatter true invalid_infostring) text = Some FrontmatterSpace
-fault_of (Frontmatter false true) text = Some FrontmatterInfostring
+fault_of (Frontmatter false invalid_infostring) text = front_fault invalid_infostring (end_fault text)
 fault_of InvalidIdent text = Some InvalidName
 fault_of UnknownPrefixToken text = Some UnknownPrefix
 fault_of UnknownPrefixLifetime text = Some UnknownLifetimePrefix
@@ -59,10 +66,39 @@ fault_of Unknown text = Some UnknownCharacter
 fault_of (Literal kind suffix_start) text = literal_fault kind text
 fault_of kind text = None
 
+-- the number of an error, in the same way as that of a class
+abbrev pub fault_number : Fault → ℕ
+fault_number OpenComment = 1
+fault_number FrontmatterSpace = 2
+fault_number FrontmatterInfostring = 3
+fault_number OpenFrontmatter = 4
+fault_number FrontmatterIndent = 5
+fault_number (FrontmatterDashes opening closing) = 6
+fault_number FrontmatterWords = 7
+fault_number InvalidName = 8
+fault_number UnknownPrefix = 9
+fault_number UnknownLifetimePrefix = 10
+fault_number GuardedString = 11
+fault_number InvalidLifetime = 12
+fault_number UnknownCharacter = 13
+fault_number EmptyNumber = 14
+fault_number EmptyExponent = 15
+fault_number OpenCharacter = 16
+fault_number OpenByte = 17
+fault_number OpenString = 18
+fault_number RawStarter = 19
+fault_number (OpenRawString expected) = 20
+fault_number (FewHashes expected found end) = 21
+fault_number (ManyHashes found) = 22
+fault_number (InLiteral error) = 23
+
 unfoldable pub sentence : Fault → List ℕ
 sentence OpenComment = OPEN_COMMENT.now
 sentence FrontmatterSpace = FRONTMATTER_SPACE.now
 sentence FrontmatterInfostring = FRONTMATTER_INFOSTRING.now
+sentence OpenFrontmatter = OPEN_FRONTMATTER.now
+sentence FrontmatterIndent = FRONTMATTER_INDENT.now
+sentence FrontmatterWords = FRONTMATTER_WORDS.now
 sentence InvalidName = INVALID_NAME.now
 sentence UnknownPrefix = UNKNOWN_PREFIX.now
 sentence UnknownLifetimePrefix = UNKNOWN_LIFETIME_PREFIX.now
@@ -75,6 +111,8 @@ sentence OpenCharacter = OPEN_CHARACTER.now
 sentence OpenByte = OPEN_BYTE.now
 sentence OpenString = OPEN_STRING.now
 sentence RawStarter = RAW_STARTER.now
+sentence (FrontmatterDashes opening closing) =
+    codes "this frontmatter opens with " ++ (decimal opening ++ (codes " dashes and closes with " ++ decimal closing))
 sentence (OpenRawString expected) = codes "nothing closes this raw string: a quote and " ++ (decimal expected ++ codes " # would")
 sentence (FewHashes expected found end) =
     codes "a quote and " ++ (decimal expected ++ (codes " # would close this raw string; at byte " ++ (decimal end ++ (codes " it has " ++ decimal found))))

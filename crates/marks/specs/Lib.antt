@@ -1,6 +1,8 @@
 pub mod Class
 pub mod Escape
 pub mod Fault
+pub mod Frontmatter
+pub mod Keyword
 pub mod Literal
 pub mod Mark
 pub mod Marked

@@ -4,6 +4,7 @@ use Rattle.std.specs.Fmt.{WritesInCalls}
 use Rattle.std.specs.List.{position_or_len, starts_with, suffix_len}
 use Rattle.std.specs.Option.{option_and_then, option_map}
 use Rattle.std.specs.Result.{result_err}
+use Rattle.std.specs.declared.ops.Range.{Range}
 use Rattle.std.specs.Str.{byte, chars}
 use Rattle.rustc_lexer.specs.declared.token.LiteralKind.{LiteralKind}
 use Rattle.rustc_lexer.specs.declared.token.LiteralKind.TheVariants.{Char as CharToken, Byte as ByteToken, Str as StrToken, ByteStr as ByteStrToken, CStr as CStrToken, RawStr as RawStrToken, RawByteStr as RawByteStrToken, RawCStr as RawCStrToken}
@@ -64,11 +65,11 @@ between_places first last = if nat_lt first last then Some (first + 1, last) els
 abbrev pub between_quotes : Mode → List ℕ → Option (ℕ × ℕ)
 between_quotes mode text = between_places (first_place (quote_of mode) text) (last_place (quote_of mode) text)
 
--- the text between the quotes of a literal that is closed, with its mode
-abbrev pub inside_in : Mode → List ℕ → Option (Mode × List ℕ)
-inside_in mode text = option_map (λ (places : ℕ × ℕ). (mode, between places.0 places.1 text)) (between_quotes mode text)
+-- the range between the quotes of a literal that is closed, with its mode
+abbrev pub inside_in : Mode → List ℕ → Option (Mode × Range ℕ)
+inside_in mode text = option_map (λ (places : ℕ × ℕ). (mode, record { start = places.0; end = places.1 })) (between_quotes mode text)
 
-abbrev pub inside : TokenKind → List ℕ → Option (Mode × List ℕ)
+abbrev pub inside : TokenKind → List ℕ → Option (Mode × Range ℕ)
 inside kind text = option_and_then (λ (mode : Mode). inside_in mode text) (mode_of kind)
 
 -- ---- the stretches, each with its places in the literal

@@ -5,11 +5,16 @@
 mod class;
 mod escape;
 mod fault;
+mod frontmatter;
+mod keyword;
 mod literal;
 mod marked;
 mod part;
 mod style;
 
+pub use class::{Class, class_of};
+pub use fault::{Fault, fault_of};
+pub use keyword::{Keyword, keyword_in};
 pub use literal::inside;
 pub use marked::{write_first_tokens, write_marked};
 pub use style::Style;

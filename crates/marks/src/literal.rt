@@ -1,6 +1,5 @@
 //! Writes literals: their escapes, and what is wrong in them.
 ghost use Rattle.std.specs.Prelude.{◌≡◌, ◌+◌, ◌≤◌, ◌<◌, length, IfSome, MatchResult, OnOk};
-ghost use Rattle.std.specs.Option.{option_map};
 ghost use Rattle.std.specs.Fmt.{WritesInCalls};
 ghost use Rattle.std.specs.Str.{IsCharBoundary};
 ghost use Rattle.rustc_lexer.specs.Classes.{Fits};
@@ -18,6 +17,7 @@ use memchr::{memchr, memrchr};
 use rustc_lexer::{LiteralKind, TokenKind};
 use rustc_literal_escaper::{Element, Elements, EscapeError, Mode, unescape_byte, unescape_char};
 use std::fmt;
+use std::ops::Range;
 
 /// The look of a stretch of a literal that is not plain.
 #[derive(Clone, Copy, Debug, PartialEq, Eq)]
@@ -49,16 +49,20 @@ pub fn mode_of(kind: TokenKind) -> Option<Mode>
     }
 }
 
-/// Returns the text between the quotes of a literal, given the literal's kind and text, and the `Mode` in which its
-/// escapes are read. Returns `None` for a number, for a literal that is not closed, and for a token that is not a literal.
+/// Returns where the text between the quotes of a literal is, in bytes from the start of the literal, and the `Mode` in which
+/// its escapes are read. Takes the literal's kind and text. Returns `None` for a number, for a literal that is not closed,
+/// and for a token that is not a literal. A suffix may follow the closing quote.
 ///
-/// These are the arguments that the calls of `rustc_literal_escaper` take. A suffix may follow the closing quote.
-pub fn inside(kind: TokenKind, text: &str) -> Option<(Mode, &str)>
-    ensures { option_map (λ found. (found.0, found.1.now)) result ≡ spec.inside kind text.now }
+/// These are the arguments that the calls of `rustc_literal_escaper` take. The ranges that they give count from the start
+/// of the range that this call returns.
+pub fn inside(kind: TokenKind, text: &str) -> Option<(Mode, Range<usize>)>
+    ensures value { result ≡ spec.inside kind text.now }
+    ensures places { IfSome result (λ found. IsCharBoundary text.now found.1.start
+        × IsCharBoundary text.now found.1.end × (found.1.start ≤ found.1.end)) }
 {
     let mode = mode_of(kind)?;
     let (start, end) = between_quotes(mode, text)?;
-    Some((mode, &text[start..end]))
+    Some((mode, start..end))
 }
 
 /// Returns where the text between the quotes of a literal begins and ends, or `None` if there are no two quotes.

@@ -13,6 +13,9 @@
 //! );
 //! ```
 //!
+//! [`class_of`], [`fault_of`], [`keyword_in`] and [`inside`] tell the same of a single token, for those who show it in their
+//! own way.
+//!
 //! Nothing here allocates, and the crate needs no `std`.
 //!
 //! The modules below `erased` are generated from a proved source in Rattle, which is Rust with contracts, by deleting
@@ -33,29 +36,57 @@
 #[doc(hidden)]
 pub mod erased;
 
+/// What a token is to a reader, as `highlight` shows it by a colour.
+///
+/// ```
+/// use marks::{Class, class_of};
+/// use rustc_lexer::TokenKind;
+///
+/// assert_eq!(class_of(TokenKind::Ident, "while"), Class::Keyword);
+/// assert_eq!(class_of(TokenKind::Ident, "Vec"), Class::TypeName);
+/// assert_eq!(class_of(TokenKind::RawIdent, "r#while"), Class::Plain);
+/// ```
+///
 #[doc(inline)]
-pub use erased::Style;
-/// Finds what stands between the quotes of a literal, for the calls of `rustc_literal_escaper`.
+pub use erased::class_of;
+/// Finds where the contents of a literal are, and how to read them.
 ///
 /// ```
 /// use marks::inside;
 /// use rustc_lexer::{FrontmatterAllowed, tokenize};
-/// use rustc_literal_escaper::{Mode, unescape_str};
+/// use rustc_literal_escaper::{Mode, check_for_errors};
 ///
-/// let text = r#""a\tb"suffix"#;
+/// let text = r#"b"a\q"suffix"#;
 /// let token = tokenize(text, FrontmatterAllowed::No).next().unwrap();
-/// let (mode, between) = inside(token.kind, text).unwrap();
-/// assert_eq!((mode, between), (Mode::Str, r"a\tb"));
+/// let (mode, range) = inside(token.kind, text).unwrap();
+/// assert_eq!((mode, range.clone()), (Mode::ByteStr, 2..5));
 ///
-/// let mut value = String::new();
-/// unescape_str(between, |_, c| value.extend(c));
-/// assert_eq!(value, "a\tb");
+/// check_for_errors(&text[range.clone()], mode, |wrong, _| {
+///     assert_eq!(&text[range.start + wrong.start..range.start + wrong.end], r"\q");
+/// });
 /// ```
+///
 #[doc(inline)]
 pub use erased::inside;
+/// Whether a word is a keyword, and of which sort.
+///
+/// ```
+/// use marks::{Edition, Keyword, keyword_in};
+///
+/// assert_eq!(keyword_in("async", Edition::E2015), None);
+/// assert_eq!(keyword_in("async", Edition::E2018), Some(Keyword::Strict));
+/// assert_eq!(keyword_in("gen", Edition::E2024), Some(Keyword::Reserved));
+/// assert_eq!(keyword_in("union", Edition::E2024), Some(Keyword::Weak));
+/// ```
+///
+#[doc(inline)]
+pub use erased::keyword_in;
+#[doc(inline)]
+pub use erased::{Class, Fault, Keyword, Style};
 pub use rustc_lexer::Edition;
 
 use core::fmt;
+use rustc_lexer::TokenKind;
 
 /// Returns the text. Panics if it is too long.
 fn fitting(text: &str) -> &str {
@@ -64,6 +95,32 @@ fn fitting(text: &str) -> &str {
         "the text has more than u32::MAX bytes"
     );
     text
+}
+
+/// Returns what is wrong with a token, by its kind and its text. Returns `None` if nothing is wrong. If two things are, it
+/// returns one.
+///
+/// A frontmatter's kind does not say how it ends: the text does.
+///
+/// ```
+/// use marks::{Edition, Fault, fault_of};
+///
+/// let text = "---\nname\n";
+/// let token = rustc_lexer::tokenize_document(text, Edition::E2024).next().unwrap();
+/// let fault = fault_of(token.kind, text).unwrap();
+/// assert_eq!(fault, Fault::OpenFrontmatter);
+/// assert_eq!(
+///     fault.to_string(),
+///     "nothing closes this frontmatter: a line of as many dashes would"
+/// );
+/// ```
+///
+/// # Panics
+///
+/// Panics if the text has more than `u32::MAX` bytes.
+#[must_use]
+pub fn fault_of(kind: TokenKind, text: &str) -> Option<Fault> {
+    erased::fault_of(kind, fitting(text))
 }
 
 /// Writes a whole file in an edition: its shebang line, if it has one, between the marks of a comment, then each token

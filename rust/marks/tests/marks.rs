@@ -56,7 +56,24 @@ fn what_is_between_the_quotes() {
         ("a", None),
     ] {
         let kind = tokenize(text, FrontmatterAllowed::No).next().unwrap().kind;
-        assert_eq!(inside(kind, text), wanted, "of {text}");
+        let found = inside(kind, text).map(|(mode, range)| (mode, &text[range]));
+        assert_eq!(found, wanted, "of {text}");
+    }
+}
+
+/// The place of an error counts from the start of the range, also where characters of two bytes come before.
+#[test]
+fn where_it_is_between_the_quotes() {
+    for (text, wanted) in [
+        ("'a'", 1..2),
+        ("b'a'x", 2..3),
+        ("\"é\"", 1..3),
+        ("b\"\"", 2..2),
+        ("cr##\"a\"#\"##", 5..8),
+        ("br\"a\"", 3..4),
+    ] {
+        let kind = tokenize(text, FrontmatterAllowed::No).next().unwrap().kind;
+        assert_eq!(inside(kind, text).unwrap().1, wanted, "of {text}");
     }
 }
 

@@ -1,10 +1,14 @@
 // Made by tools/erase from crates/marks/src/class.rt: edit that file.
 //! Classes of tokens. The class of a token decides its colour.
 
-use rustc_lexer::erased::{LiteralKind, TokenKind};
+use crate::erased::keyword::is_strict;
+use rustc_lexer::erased::{Edition, LiteralKind, TokenKind};
 
 /// The class of a token: what it is to a reader.
+///
+/// [`class_of`] never returns `Escape`, which is of a part of a literal.
 #[derive(Clone, Copy, Debug, PartialEq, Eq)]
+#[non_exhaustive]
 pub enum Class {
     /// White space, a symbol, or a name that is in no other class.
     Plain,
@@ -12,8 +16,8 @@ pub enum Class {
     Comment,
     /// A doc comment, or a frontmatter.
     Doc,
-    /// A keyword, like `while`. One list serves all editions: `async`, `await` and `dyn` are keywords in 2015 too,
-    /// and `try` and `gen` in no edition.
+    /// A strict keyword of the newest edition, like `while`. So `async`, `await` and `dyn` are of this class in 2015 too,
+    /// and reserved words, like `try`, and weak keywords, like `union`, in no edition.
     Keyword,
     /// A name that begins with a capital letter of ASCII.
     TypeName,
@@ -25,6 +29,13 @@ pub enum Class {
     Number,
     /// A lifetime or a label.
     Lifetime,
+}
+
+impl Class {
+    /// Returns the number of the class, from 1 on, for other languages. It never changes.
+    pub fn number(self) -> u8 {
+        self as u8 + 1
+    }
 }
 
 /// Returns the class of a token by its kind and its text.
@@ -51,7 +62,7 @@ pub fn class_of(kind: TokenKind, text: &str) -> Class {
 
 /// Returns the class of an identifier or a keyword.
 fn word_class(word: &str) -> Class {
-    if KEYWORDS.contains(&word) {
+    if is_strict(word, Edition::E2024) {
         Class::Keyword
     } else if is_type_name(word) {
         Class::TypeName
@@ -64,12 +75,3 @@ fn word_class(word: &str) -> Class {
 fn is_type_name(word: &str) -> bool {
     word.as_bytes().first().is_some_and(u8::is_ascii_uppercase)
 }
-
-/// Words that are keywords everywhere. A word that is a keyword in some places and a name in others, like `union`,
-/// is not in the list, because its token alone does not show which it is.
-const KEYWORDS: [&str; 38] = [
-    "as", "async", "await", "break", "const", "continue", "crate", "dyn", "else", "enum", "extern",
-    "false", "fn", "for", "if", "impl", "in", "let", "loop", "match", "mod", "move", "mut", "pub",
-    "ref", "return", "self", "Self", "static", "struct", "super", "trait", "true", "type",
-    "unsafe", "use", "where", "while",
-];

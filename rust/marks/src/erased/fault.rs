@@ -1,12 +1,17 @@
 // Made by tools/erase from crates/marks/src/fault.rt: edit that file.
 //! The faults of tokens.
 
+use crate::erased::frontmatter::end_fault;
 use core::fmt;
 use rustc_lexer::erased::{LiteralKind, RawStrError, TokenKind, starts_raw, validate_raw_str};
 use rustc_literal_escaper::erased::EscapeError;
 
 /// A fault of a token. Its `Display` writes a sentence about it.
+///
+/// [`fault_of`] never returns `InLiteral`, since a literal may have many such faults: [`inside`](crate::inside) returns
+/// the text that has them, for the calls of `rustc_literal_escaper`.
 #[derive(Clone, Copy, Debug, PartialEq, Eq)]
+#[non_exhaustive]
 pub enum Fault {
     /// Nothing closes a block comment.
     OpenComment,
@@ -14,6 +19,14 @@ pub enum Fault {
     FrontmatterSpace,
     /// The first line of a frontmatter has more on it than is allowed.
     FrontmatterInfostring,
+    /// No line closes a frontmatter.
+    OpenFrontmatter,
+    /// White space comes before the dashes that close a frontmatter.
+    FrontmatterIndent,
+    /// A frontmatter opens and closes with these numbers of dashes.
+    FrontmatterDashes { opening: u32, closing: u32 },
+    /// The last line of a frontmatter has more on it than dashes.
+    FrontmatterWords,
     /// A name holds an emoji.
     InvalidName,
     /// A name comes right before a quote or a hash.
@@ -49,7 +62,39 @@ pub enum Fault {
     InLiteral(EscapeError),
 }
 
-/// Returns what is wrong with a token, by its kind and its text. Returns `None` if nothing is wrong.
+impl Fault {
+    /// Returns the number of the fault, from 1 on, for other languages. It never changes.
+    pub fn number(self) -> u8 {
+        match self {
+            Fault::OpenComment => 1,
+            Fault::FrontmatterSpace => 2,
+            Fault::FrontmatterInfostring => 3,
+            Fault::OpenFrontmatter => 4,
+            Fault::FrontmatterIndent => 5,
+            Fault::FrontmatterDashes { .. } => 6,
+            Fault::FrontmatterWords => 7,
+            Fault::InvalidName => 8,
+            Fault::UnknownPrefix => 9,
+            Fault::UnknownLifetimePrefix => 10,
+            Fault::GuardedString => 11,
+            Fault::InvalidLifetime => 12,
+            Fault::UnknownCharacter => 13,
+            Fault::EmptyNumber => 14,
+            Fault::EmptyExponent => 15,
+            Fault::OpenCharacter => 16,
+            Fault::OpenByte => 17,
+            Fault::OpenString => 18,
+            Fault::RawStarter => 19,
+            Fault::OpenRawString { .. } => 20,
+            Fault::FewHashes { .. } => 21,
+            Fault::ManyHashes { .. } => 22,
+            Fault::InLiteral(_) => 23,
+        }
+    }
+}
+
+/// Returns what is wrong with a token, by its kind and its text. Returns `None` if nothing is wrong. If two things are, it
+/// returns one.
 pub fn fault_of(kind: TokenKind, text: &str) -> Option<Fault> {
     match kind {
         TokenKind::BlockComment {
@@ -60,9 +105,11 @@ pub fn fault_of(kind: TokenKind, text: &str) -> Option<Fault> {
             ..
         } => Some(Fault::FrontmatterSpace),
         TokenKind::Frontmatter {
-            invalid_infostring: true,
-            ..
-        } => Some(Fault::FrontmatterInfostring),
+            invalid_infostring, ..
+        } => match end_fault(text) {
+            None if invalid_infostring => Some(Fault::FrontmatterInfostring),
+            fault => fault,
+        },
         TokenKind::InvalidIdent => Some(Fault::InvalidName),
         TokenKind::UnknownPrefix => Some(Fault::UnknownPrefix),
         TokenKind::UnknownPrefixLifetime => Some(Fault::UnknownLifetimePrefix),
@@ -127,6 +174,12 @@ const FRONTMATTER_SPACE: &str = "white space comes before this frontmatter, whic
 
 const FRONTMATTER_INFOSTRING: &str = "the first line of this frontmatter holds more than a name";
 
+const OPEN_FRONTMATTER: &str = "nothing closes this frontmatter: a line of as many dashes would";
+
+const FRONTMATTER_INDENT: &str = "white space comes before the dashes that close this frontmatter";
+
+const FRONTMATTER_WORDS: &str = "the last line of this frontmatter holds more than dashes";
+
 const INVALID_NAME: &str = "this name holds an emoji";
 
 const UNKNOWN_PREFIX: &str = "no literal has this prefix";
@@ -157,6 +210,9 @@ impl fmt::Display for Fault {
             Fault::OpenComment => f.write_str(OPEN_COMMENT),
             Fault::FrontmatterSpace => f.write_str(FRONTMATTER_SPACE),
             Fault::FrontmatterInfostring => f.write_str(FRONTMATTER_INFOSTRING),
+            Fault::OpenFrontmatter => f.write_str(OPEN_FRONTMATTER),
+            Fault::FrontmatterIndent => f.write_str(FRONTMATTER_INDENT),
+            Fault::FrontmatterWords => f.write_str(FRONTMATTER_WORDS),
             Fault::InvalidName => f.write_str(INVALID_NAME),
             Fault::UnknownPrefix => f.write_str(UNKNOWN_PREFIX),
             Fault::UnknownLifetimePrefix => f.write_str(UNKNOWN_LIFETIME_PREFIX),
@@ -181,6 +237,10 @@ impl fmt::Display for Fault {
             } => write!(
                 f,
                 "a quote and {expected} # would close this raw string; at byte {end} it has {found}"
+            ),
+            Fault::FrontmatterDashes { opening, closing } => write!(
+                f,
+                "this frontmatter opens with {opening} dashes and closes with {closing}"
             ),
             Fault::ManyHashes { found } => write!(
                 f,

@@ -6,6 +6,7 @@ use crate::erased::fault::Fault;
 use crate::erased::part::{write_in_class, write_with_fault};
 use crate::erased::style::Style;
 use core::fmt;
+use core::ops::Range;
 use memchr::{memchr, memrchr};
 use rustc_lexer::erased::{LiteralKind, TokenKind};
 use rustc_literal_escaper::erased::{
@@ -40,15 +41,17 @@ pub fn mode_of(kind: TokenKind) -> Option<Mode> {
     }
 }
 
-/// Returns the text between the quotes of a literal, given the literal's kind and text, and the `Mode` in which its
-/// escapes are read. Returns `None` for a number, for a literal that is not closed, and for a token that is not a literal.
+/// Returns where the text between the quotes of a literal is, in bytes from the start of the literal, and the `Mode` in which
+/// its escapes are read. Takes the literal's kind and text. Returns `None` for a number, for a literal that is not closed,
+/// and for a token that is not a literal. A suffix may follow the closing quote.
 ///
-/// These are the arguments that the calls of `rustc_literal_escaper` take. A suffix may follow the closing quote.
+/// These are the arguments that the calls of `rustc_literal_escaper` take. The ranges that they give count from the start
+/// of the range that this call returns.
 #[must_use]
-pub fn inside(kind: TokenKind, text: &str) -> Option<(Mode, &str)> {
+pub fn inside(kind: TokenKind, text: &str) -> Option<(Mode, Range<usize>)> {
     let mode = mode_of(kind)?;
     let (start, end) = between_quotes(mode, text)?;
-    Some((mode, &text[start..end]))
+    Some((mode, start..end))
 }
 
 /// Returns where the text between the quotes of a literal begins and ends, or `None` if there are no two quotes.

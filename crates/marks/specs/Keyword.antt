@@ -1,0 +1,48 @@
+-- The keywords of each edition, as the chapter Keywords of the Rust Reference lists them.
+use Rattle.std.specs.Prelude.{ℕ, Bool, ◌||◌, if◌then◌else◌, List, [], ◌∷◌, codes, Option, Some, None}
+use Rattle.std.specs.List.{list_any}
+use Rattle.std.specs.Str.{bytes_eq}
+use Rattle.rustc_lexer.specs.declared.edition.Edition.{Edition}
+use Rattle.rustc_lexer.specs.declared.edition.Edition.TheVariants.{E2015, E2018, E2024}
+use Rattle.marks.specs.declared.keyword.Keyword.{Keyword}
+use Rattle.marks.specs.declared.keyword.Keyword.TheVariants.{Strict, Reserved, Weak}
+
+-- the words that an edition made keywords of a sort; those of E2015 were there before it
+abbrev pub made : Keyword → Edition → List (List ℕ)
+made Strict E2015 =
+    codes "_" ∷ codes "as" ∷ codes "break" ∷ codes "const" ∷ codes "continue" ∷ codes "crate"
+    ∷ codes "else" ∷ codes "enum" ∷ codes "extern" ∷ codes "false" ∷ codes "fn" ∷ codes "for"
+    ∷ codes "if" ∷ codes "impl" ∷ codes "in" ∷ codes "let" ∷ codes "loop" ∷ codes "match"
+    ∷ codes "mod" ∷ codes "move" ∷ codes "mut" ∷ codes "pub" ∷ codes "ref" ∷ codes "return"
+    ∷ codes "self" ∷ codes "Self" ∷ codes "static" ∷ codes "struct" ∷ codes "super"
+    ∷ codes "trait" ∷ codes "true" ∷ codes "type" ∷ codes "unsafe" ∷ codes "use" ∷ codes "where"
+    ∷ codes "while" ∷ []
+made Strict E2018 = codes "async" ∷ codes "await" ∷ codes "dyn" ∷ []
+made Reserved E2015 =
+    codes "abstract" ∷ codes "become" ∷ codes "box" ∷ codes "do" ∷ codes "final" ∷ codes "macro"
+    ∷ codes "override" ∷ codes "priv" ∷ codes "typeof" ∷ codes "unsized" ∷ codes "virtual"
+    ∷ codes "yield" ∷ []
+made Reserved E2018 = codes "try" ∷ []
+made Reserved E2024 = codes "gen" ∷ []
+made Weak E2015 =
+    codes "'static" ∷ codes "dyn" ∷ codes "macro_rules" ∷ codes "raw" ∷ codes "safe"
+    ∷ codes "union" ∷ []
+made sort edition = []
+
+abbrev pub is_in : List (List ℕ) → List ℕ → Bool
+is_in words word = list_any (λ keyword. bytes_eq keyword word) words
+
+-- whether the word is a keyword of a sort in an edition: this one made it, or one before. That of 2021 made none
+abbrev pub has : Keyword → Edition → List ℕ → Bool
+has sort E2015 word = is_in (made sort E2015) word
+has sort E2024 word = is_in (made sort E2015) word || is_in (made sort E2018) word
+    || is_in (made sort E2024) word
+has sort edition word = is_in (made sort E2015) word || is_in (made sort E2018) word
+
+-- a word that is a keyword of two sorts, as `dyn` is from 2018 on, is of the stricter one
+abbrev pub keyword_in : List ℕ → Edition → Option Keyword
+keyword_in word edition =
+    if has Strict edition word then Some Strict
+    else if has Reserved edition word then Some Reserved
+    else if is_in (made Weak E2015) word then Some Weak
+    else None

@@ -1,0 +1,194 @@
+//! What a single token is: its class, the sort of a keyword, and its fault.
+
+use marks::Edition::{self, E2015, E2018, E2021, E2024};
+use marks::Keyword::{self, Reserved, Strict, Weak};
+use marks::{Class, Fault, class_of, fault_of, keyword_in};
+use rustc_lexer::{DocStyle, LiteralKind, TokenKind, tokenize_document, tokenize_in};
+
+/// The strict keywords of all editions, as the Rust Reference lists them.
+const STRICT: &str = "_ as break const continue crate else enum extern false fn for if impl in let loop match mod move \
+    mut pub ref return self Self static struct super trait true type unsafe use where while";
+
+/// The reserved ones.
+const RESERVED: &str =
+    "abstract become box do final macro override priv typeof unsized virtual yield";
+
+/// Words that editions took, and words that are none: what each is in the four editions, in their order.
+#[rustfmt::skip]
+const WORDS: [(&str, [Option<Keyword>; 4]); 26] = [
+    ("async", [None, Some(Strict), Some(Strict), Some(Strict)]),
+    ("await", [None, Some(Strict), Some(Strict), Some(Strict)]),
+    ("dyn", [Some(Weak), Some(Strict), Some(Strict), Some(Strict)]),
+    ("try", [None, Some(Reserved), Some(Reserved), Some(Reserved)]),
+    ("gen", [None, None, None, Some(Reserved)]),
+    ("macro_rules", [Some(Weak); 4]),
+    ("union", [Some(Weak); 4]),
+    ("raw", [Some(Weak); 4]),
+    ("safe", [Some(Weak); 4]),
+    ("'static", [Some(Weak); 4]),
+    ("", [None; 4]),
+    ("a", [None; 4]),
+    ("__", [None; 4]),
+    ("As", [None; 4]),
+    ("as_", [None; 4]),
+    ("SELF", [None; 4]),
+    ("r#fn", [None; 4]),
+    ("k#fn", [None; 4]),
+    ("'fn", [None; 4]),
+    ("static", [Some(Strict); 4]),
+    ("'_", [None; 4]),
+    ("default", [None; 4]),
+    ("auto", [None; 4]),
+    ("usize", [None; 4]),
+    ("while ", [None; 4]),
+    ("fnfn", [None; 4]),
+];
+
+#[test]
+fn words_are_keywords_by_edition() {
+    for edition in Edition::ALL {
+        for word in STRICT.split(' ').filter(|word| !word.is_empty()) {
+            assert_eq!(
+                keyword_in(word, edition),
+                Some(Strict),
+                "{word} in {edition}"
+            );
+        }
+        for word in RESERVED.split(' ') {
+            assert_eq!(
+                keyword_in(word, edition),
+                Some(Reserved),
+                "{word} in {edition}"
+            );
+        }
+    }
+    for (word, wanted) in WORDS {
+        let found = [E2015, E2018, E2021, E2024].map(|edition| keyword_in(word, edition));
+        assert_eq!(found, wanted, "{word}");
+    }
+}
+
+/// The class of each token of texts.
+#[test]
+fn tokens_have_classes() {
+    use Class::*;
+    for (text, wanted) in [
+        ("// a", Comment),
+        ("/* a", Comment),
+        ("//! a", Doc),
+        ("/** a */", Doc),
+        (" ", Plain),
+        ("fn", Keyword),
+        ("async", Keyword),
+        ("_", Keyword),
+        ("gen", Plain),
+        ("union", Plain),
+        ("yield", Plain),
+        ("r#fn", Plain),
+        ("Vec", TypeName),
+        ("Self", Keyword),
+        ("\u{c4}", Plain),
+        ("vec", Plain),
+        ("1", Number),
+        ("1.5e", Number),
+        ("'a'", Text),
+        ("br\"", Text),
+        ("'a", Lifetime),
+        ("'r#a", Lifetime),
+        ("+", Plain),
+        ("\u{ac}", Plain),
+    ] {
+        let token = tokenize_in(text, E2024).next().unwrap();
+        assert_eq!(token.len as usize, text.len(), "{text}");
+        assert_eq!(class_of(token.kind, text), wanted, "{text}");
+    }
+    let doc_style = Some(DocStyle::Outer);
+    assert_eq!(class_of(TokenKind::LineComment { doc_style }, "///"), Doc);
+}
+
+/// The numbers that `c/rustc_lexer.h` has.
+#[test]
+fn numbers_of_classes_and_faults() {
+    assert_eq!(
+        [Class::Plain, Class::Doc, Class::Lifetime].map(Class::number),
+        [1, 3, 9]
+    );
+    let dashes = Fault::FrontmatterDashes {
+        opening: 3,
+        closing: 4,
+    };
+    let faults = [
+        Fault::OpenComment,
+        dashes,
+        Fault::OpenByte,
+        Fault::ManyHashes { found: 256 },
+    ];
+    assert_eq!(faults.map(Fault::number), [1, 6, 17, 22]);
+}
+
+/// How the frontmatter that a text begins with ends. rustc has an error for each of these: of an unclosed frontmatter, of
+/// white space before its closing dashes, of their number, and of what follows them.
+#[test]
+fn frontmatters_end_well_or_not() {
+    use Fault::*;
+    let dashes = |opening, closing| Some(FrontmatterDashes { opening, closing });
+    for (text, wanted) in [
+        ("---\n---", None),
+        ("---\n---\n", None),
+        ("---\na\n---\nfn", None),
+        ("--- cargo\na\n--- \t\n", None),
+        ("----\n---\n----", None),
+        ("---", Some(OpenFrontmatter)),
+        ("---\n", Some(OpenFrontmatter)),
+        ("---\nabc\nfn x", Some(OpenFrontmatter)),
+        ("---\na\n--\n", Some(OpenFrontmatter)),
+        ("---\nuse a;", Some(OpenFrontmatter)),
+        ("---\na\nuse b;\n", Some(OpenFrontmatter)),
+        ("---\na ---\n//! b", Some(OpenFrontmatter)),
+        ("----\na\n---", dashes(4, 3)),
+        ("----\na\n---x", dashes(4, 3)),
+        ("---\na\n----", dashes(3, 4)),
+        ("---\na\n------ b", dashes(3, 6)),
+        ("---\na\n--- x", Some(FrontmatterWords)),
+        ("---cargo\n---cargo", Some(FrontmatterWords)),
+        ("---\na\n---\u{a0}\n", Some(FrontmatterWords)),
+        ("---\na\n ---\n", Some(FrontmatterIndent)),
+        ("---\na\n\t ----\nb", Some(FrontmatterIndent)),
+        (" ---\na", Some(FrontmatterSpace)),
+        ("---a b\n---", Some(FrontmatterInfostring)),
+        ("---a b\nc", Some(OpenFrontmatter)),
+    ] {
+        for edition in Edition::ALL {
+            let token = tokenize_document(text, edition).next().unwrap();
+            assert!(
+                matches!(token.kind, TokenKind::Frontmatter { .. }),
+                "{text}"
+            );
+            let found = fault_of(token.kind, &text[..token.len as usize]);
+            assert_eq!(found, wanted, "{text}");
+        }
+    }
+}
+
+/// The fault of a token depends on its text only where its kind does not tell.
+#[test]
+fn a_fault_has_what_its_text_has() {
+    let kind = LiteralKind::RawStr { n_hashes: None };
+    let suffix_start = 0;
+    let token = TokenKind::Literal { kind, suffix_start };
+    let fault = |text| fault_of(token, text);
+    assert_eq!(
+        fault("r##\"abc\"#"),
+        Some(Fault::FewHashes {
+            expected: 2,
+            found: 1,
+            end: 8
+        })
+    );
+    assert_eq!(fault("r#\"abc"), Some(Fault::OpenRawString { expected: 1 }));
+    assert_eq!(
+        fault_of(TokenKind::Unknown, "\u{ac}"),
+        Some(Fault::UnknownCharacter)
+    );
+    assert_eq!(fault_of(TokenKind::Ident, "a"), None);
+}
