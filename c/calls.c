@@ -419,6 +419,82 @@ static void check_many(batch_call *tokens, unescape_call *unescape) {
     CHECK(count == MANY && many_units[MANY - 1].end == MANY);
 }
 
+/* The class and the fault of the first token of a text, which has so many bytes. */
+static void check_token(const char *text, size_t len, uint32_t class_wanted, uint32_t fault_wanted) {
+    const uint8_t *bytes = (const uint8_t *)text;
+    struct rustc_lexer_token token = rustc_lexer_first_token_unchecked(bytes, strlen(text), 1);
+    uint32_t number = 99;
+    CHECK(token.len == len);
+    CHECK(rustc_lexer_class(bytes, len, &token, &number) == RUSTC_LEXER_OK && number == class_wanted);
+    number = 99;
+    CHECK(rustc_lexer_fault(bytes, len, &token, &number) == RUSTC_LEXER_OK && number == fault_wanted);
+}
+
+static void check_classes(void) {
+    static char many[600];
+    static const struct {
+        const char *text;
+        size_t len;
+        uint32_t class_wanted, fault_wanted;
+    } rows[] = {
+        {" ", 1, RUSTC_LEXER_CLASS_PLAIN, 0},
+        {"r#fn", 4, RUSTC_LEXER_CLASS_PLAIN, 0},
+        {"k#fn", 4, RUSTC_LEXER_CLASS_PLAIN, 0},
+        {"%", 1, RUSTC_LEXER_CLASS_PLAIN, 0},
+        {"a", 1, RUSTC_LEXER_CLASS_PLAIN, 0},
+        {"// a", 4, RUSTC_LEXER_CLASS_COMMENT, 0},
+        {"/* a", 4, RUSTC_LEXER_CLASS_COMMENT, RUSTC_LEXER_FAULT_OPEN_COMMENT},
+        {"/// a", 5, RUSTC_LEXER_CLASS_DOC, 0},
+        {"/*! */", 6, RUSTC_LEXER_CLASS_DOC, 0},
+        {"while", 5, RUSTC_LEXER_CLASS_KEYWORD, 0},
+        {"Vec", 3, RUSTC_LEXER_CLASS_TYPE_NAME, 0},
+        {"---\na\n---\n", 9, RUSTC_LEXER_CLASS_DOC, 0},
+        {" ---\n", 5, RUSTC_LEXER_CLASS_DOC, RUSTC_LEXER_FAULT_FRONTMATTER_SPACE},
+        {"---a b\n---", 10, RUSTC_LEXER_CLASS_DOC, RUSTC_LEXER_FAULT_FRONTMATTER_INFOSTRING},
+        {"---\na", 5, RUSTC_LEXER_CLASS_DOC, RUSTC_LEXER_FAULT_OPEN_FRONTMATTER},
+        {"---\n ---", 8, RUSTC_LEXER_CLASS_DOC, RUSTC_LEXER_FAULT_FRONTMATTER_INDENT},
+        {"---\n----", 8, RUSTC_LEXER_CLASS_DOC, RUSTC_LEXER_FAULT_FRONTMATTER_DASHES},
+        {"---\n--- a", 9, RUSTC_LEXER_CLASS_DOC, RUSTC_LEXER_FAULT_FRONTMATTER_WORDS},
+        {"a\xf0\x9f\x99\x82", 5, RUSTC_LEXER_CLASS_PLAIN, RUSTC_LEXER_FAULT_INVALID_NAME},
+        {"z\"a\"", 1, RUSTC_LEXER_CLASS_PLAIN, RUSTC_LEXER_FAULT_UNKNOWN_PREFIX},
+        {"'z#", 2, RUSTC_LEXER_CLASS_LIFETIME, RUSTC_LEXER_FAULT_UNKNOWN_LIFETIME_PREFIX},
+        {"##", 2, RUSTC_LEXER_CLASS_PLAIN, RUSTC_LEXER_FAULT_GUARDED_STRING},
+        {"'a", 2, RUSTC_LEXER_CLASS_LIFETIME, 0},
+        {"'r#a", 4, RUSTC_LEXER_CLASS_LIFETIME, 0},
+        {"'1a", 3, RUSTC_LEXER_CLASS_LIFETIME, RUSTC_LEXER_FAULT_INVALID_LIFETIME},
+        {"\xc2\xac", 2, RUSTC_LEXER_CLASS_PLAIN, RUSTC_LEXER_FAULT_UNKNOWN_CHARACTER},
+        {"1u8", 3, RUSTC_LEXER_CLASS_NUMBER, 0},
+        {"0x", 2, RUSTC_LEXER_CLASS_NUMBER, RUSTC_LEXER_FAULT_EMPTY_NUMBER},
+        {"1.5", 3, RUSTC_LEXER_CLASS_NUMBER, 0},
+        {"1e", 2, RUSTC_LEXER_CLASS_NUMBER, RUSTC_LEXER_FAULT_EMPTY_EXPONENT},
+        {"'a'", 3, RUSTC_LEXER_CLASS_TEXT, 0},
+        {"'", 1, RUSTC_LEXER_CLASS_TEXT, RUSTC_LEXER_FAULT_OPEN_CHARACTER},
+        {"b'", 2, RUSTC_LEXER_CLASS_TEXT, RUSTC_LEXER_FAULT_OPEN_BYTE},
+        {"\"\\q\"", 4, RUSTC_LEXER_CLASS_TEXT, 0},
+        {"\"a", 2, RUSTC_LEXER_CLASS_TEXT, RUSTC_LEXER_FAULT_OPEN_STRING},
+        {"b\"a", 3, RUSTC_LEXER_CLASS_TEXT, RUSTC_LEXER_FAULT_OPEN_STRING},
+        {"c\"a", 3, RUSTC_LEXER_CLASS_TEXT, RUSTC_LEXER_FAULT_OPEN_STRING},
+        {"r\"a\"", 4, RUSTC_LEXER_CLASS_TEXT, 0},
+        {"r#~", 3, RUSTC_LEXER_CLASS_TEXT, RUSTC_LEXER_FAULT_RAW_STARTER},
+        {"br\"a", 4, RUSTC_LEXER_CLASS_TEXT, RUSTC_LEXER_FAULT_OPEN_RAW_STRING},
+        {"cr##\"a\"#", 8, RUSTC_LEXER_CLASS_TEXT, RUSTC_LEXER_FAULT_FEW_HASHES},
+    };
+    for (size_t i = 0; i < sizeof rows / sizeof rows[0]; i++)
+        check_token(rows[i].text, rows[i].len, rows[i].class_wanted, rows[i].fault_wanted);
+    memset(many, '#', 515);
+    memcpy(many, "r", 1);
+    memcpy(many + 257, "\"\"", 2);
+    check_token(many, 515, RUSTC_LEXER_CLASS_TEXT, RUSTC_LEXER_FAULT_MANY_HASHES);
+
+    struct rustc_lexer_token token = {.kind = RUSTC_LEXER_IDENT, .len = 1};
+    uint32_t number = 9;
+    CHECK(rustc_lexer_class((const uint8_t *)"\xff", 1, &token, &number) == RUSTC_LEXER_NOT_UTF8 && number == 0);
+    number = 9;
+    CHECK(rustc_lexer_fault((const uint8_t *)"\xff", 1, &token, &number) == RUSTC_LEXER_NOT_UTF8 && number == 0);
+    CHECK(rustc_lexer_class(NULL, 0, &token, &number) == RUSTC_LEXER_OK && number == RUSTC_LEXER_CLASS_PLAIN);
+    CHECK(rustc_lexer_fault(NULL, 0, &token, &number) == RUSTC_LEXER_OK && number == 0);
+}
+
 int main(void) {
     batch_call *const calls[] = {rustc_lexer_tokens, rustc_lexer_tokens_unchecked};
     CHECK(sizeof(struct rustc_lexer_token) == 12 && sizeof(struct rustc_lexer_relexing) == 7 * sizeof(size_t));
@@ -443,5 +519,6 @@ int main(void) {
     check_records();
     check_others();
     check_marks();
+    check_classes();
     return 0;
 }

@@ -232,6 +232,24 @@ static void check_parts(void) {
     }
 }
 
+/* The class and the fault of the first token of a text, and of a token of any numbers. */
+static void check_classes(const uint8_t *text, size_t len, enum placement placement) {
+    struct block token = block_of(sizeof(struct rustc_lexer_token), placement);
+    struct block number = block_of(sizeof(uint32_t), placement);
+    struct rustc_lexer_token first = rustc_lexer_first_token_unchecked(text, len, 0);
+    uint8_t *numbers = token.bytes;
+    for (int i = 0; i < 2; i++) {
+        memcpy(token.bytes, &first, sizeof first);
+        CHECK(rustc_lexer_class(text, first.len, token.bytes, number.bytes) == RUSTC_LEXER_OK);
+        CHECK(rustc_lexer_fault(text, first.len, token.bytes, number.bytes) == RUSTC_LEXER_OK);
+        for (size_t j = 0; j < 4; j++)
+            numbers[j] = (uint8_t)below(j == 0 ? 45 : 12);
+        memcpy(&first, numbers, 4);
+    }
+    release(number);
+    release(token);
+}
+
 /* A text between its marks, in a buffer that may be too small. */
 static void check_marks(const uint8_t *text, size_t len, enum placement placement) {
     struct block count = block_of(sizeof(size_t), placement);
@@ -283,6 +301,7 @@ static void check_text(const uint8_t *bytes, size_t len) {
                 }
             }
             check_literal(text.bytes, len, placement);
+            check_classes(text.bytes, len, placement);
             check_marks(text.bytes, len, placement);
         }
         release(text);

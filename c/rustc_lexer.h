@@ -11,8 +11,8 @@
  *   - each pointer that is not const points to memory that the caller may write to, that is aligned for its type,
  *     and that nothing else uses during the call: `buffer` to `buffer_len` tokens, units or bytes, the others to
  *     one value. What is there before the call does not matter, except in `place`, `head` and `relexing`;
- *   - `old_len` tokens can be read at `old`, and one value at `edit`. Both pointers are aligned for their types, and
- *     nothing writes to what they point to during the call;
+ *   - `old_len` tokens can be read at `old`, and one value at `edit` and at `token`. These pointers are aligned for their
+ *     types, and nothing writes to what they point to during the call;
  *   - what the calls with `_unchecked` say about their texts.
  * Everything else is tested. Most calls return a status. If it is not 0, the call wrote zeros, or nothing where its
  * comment says so.
@@ -273,6 +273,46 @@ struct rustc_lexer_unit {
     uint32_t value; /* the character, the byte, or the number of the error */
 };
 
+/* Classes of tokens: what a token is to a reader. */
+enum {
+    RUSTC_LEXER_CLASS_PLAIN = 1, /* white space, a symbol, or a name of no other class */
+    RUSTC_LEXER_CLASS_COMMENT = 2, /* a comment that is no doc comment */
+    RUSTC_LEXER_CLASS_DOC = 3, /* a doc comment, or a frontmatter */
+    RUSTC_LEXER_CLASS_KEYWORD = 4, /* a strict keyword of the newest edition, in every edition */
+    RUSTC_LEXER_CLASS_TYPE_NAME = 5, /* a name that begins with a capital letter of ASCII */
+    RUSTC_LEXER_CLASS_TEXT = 6, /* a string, a character or a byte */
+    RUSTC_LEXER_CLASS_ESCAPE = 7, /* an escape in one of these; no token has this class */
+    RUSTC_LEXER_CLASS_NUMBER = 8, /* a number */
+    RUSTC_LEXER_CLASS_LIFETIME = 9 /* a lifetime or a label */
+};
+
+/* Faults of tokens. */
+enum {
+    RUSTC_LEXER_FAULT_OPEN_COMMENT = 1, /* nothing closes a block comment */
+    RUSTC_LEXER_FAULT_FRONTMATTER_SPACE = 2, /* white space comes before a frontmatter on its line */
+    RUSTC_LEXER_FAULT_FRONTMATTER_INFOSTRING = 3, /* the first line of a frontmatter is malformed */
+    RUSTC_LEXER_FAULT_OPEN_FRONTMATTER = 4, /* no line closes a frontmatter */
+    RUSTC_LEXER_FAULT_FRONTMATTER_INDENT = 5, /* white space comes before the dashes that close a frontmatter */
+    RUSTC_LEXER_FAULT_FRONTMATTER_DASHES = 6, /* a frontmatter closes with more or fewer dashes than it opens with */
+    RUSTC_LEXER_FAULT_FRONTMATTER_WORDS = 7, /* more than dashes is on the last line of a frontmatter */
+    RUSTC_LEXER_FAULT_INVALID_NAME = 8, /* a name has an emoji */
+    RUSTC_LEXER_FAULT_UNKNOWN_PREFIX = 9, /* no literal has this prefix */
+    RUSTC_LEXER_FAULT_UNKNOWN_LIFETIME_PREFIX = 10, /* no lifetime has this prefix */
+    RUSTC_LEXER_FAULT_GUARDED_STRING = 11, /* #" or ##, which are reserved */
+    RUSTC_LEXER_FAULT_INVALID_LIFETIME = 12, /* a lifetime begins with a digit or has an emoji */
+    RUSTC_LEXER_FAULT_UNKNOWN_CHARACTER = 13, /* no token begins with the character */
+    RUSTC_LEXER_FAULT_EMPTY_NUMBER = 14, /* a number has no digits */
+    RUSTC_LEXER_FAULT_EMPTY_EXPONENT = 15, /* an exponent has no digits */
+    RUSTC_LEXER_FAULT_OPEN_CHARACTER = 16, /* nothing closes a character */
+    RUSTC_LEXER_FAULT_OPEN_BYTE = 17, /* nothing closes a byte */
+    RUSTC_LEXER_FAULT_OPEN_STRING = 18, /* nothing closes a string */
+    RUSTC_LEXER_FAULT_RAW_STARTER = 19, /* no quote follows where a raw string begins */
+    RUSTC_LEXER_FAULT_OPEN_RAW_STRING = 20, /* nothing closes a raw string */
+    RUSTC_LEXER_FAULT_FEW_HASHES = 21, /* nothing closes a raw string: too few hashes follow a quote */
+    RUSTC_LEXER_FAULT_MANY_HASHES = 22, /* a raw string has more than 255 hashes on each side */
+    RUSTC_LEXER_FAULT_IN_LITERAL = 23 /* something between the quotes of a literal; no token has this fault */
+};
+
 /* Styles of marks. */
 enum {
     RUSTC_LEXER_STYLE_HTML = 1,      /* HTML tags, with entities in the text */
@@ -432,6 +472,13 @@ uint32_t rustc_lexer_literal_errors(const uint8_t *text, size_t len, uint32_t mo
                                     struct rustc_lexer_unit *buffer, size_t buffer_len, size_t *count);
 uint32_t rustc_lexer_literal_errors_unchecked(const uint8_t *text, size_t len, uint32_t mode, size_t passed,
                                               struct rustc_lexer_unit *buffer, size_t buffer_len, size_t *count);
+
+/* Writes the class of a token, RUSTC_LEXER_CLASS_.., into `number`. The text is that of the token. */
+uint32_t rustc_lexer_class(const uint8_t *text, size_t len, const struct rustc_lexer_token *token, uint32_t *number);
+
+/* Writes what is wrong with a token, RUSTC_LEXER_FAULT_.., into `number`, or 0 if nothing is. The text is that of the
+ * token. What is wrong between the quotes of a literal that is closed, rustc_lexer_literal_errors writes. */
+uint32_t rustc_lexer_fault(const uint8_t *text, size_t len, const struct rustc_lexer_token *token, uint32_t *number);
 
 /* Writes the first `count` tokens of the text, or all if it has fewer, each between its marks, into the buffer, and the
  * number of bytes into `written`. The marks show the class of a token, a message if it is malformed, and in a literal

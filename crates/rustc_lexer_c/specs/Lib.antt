@@ -1,5 +1,6 @@
 pub mod Batch
 pub mod Escapes
+pub mod Faults
 pub mod Head
 pub mod Marks
 pub mod Numbers

@@ -11,6 +11,7 @@ pub mod batch;
 mod buffer;
 pub mod classes;
 pub mod escapes;
+pub mod faults;
 pub mod head;
 pub mod marked;
 pub mod places;

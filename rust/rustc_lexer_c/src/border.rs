@@ -114,6 +114,10 @@ calls! {
             text: &[u8], mode: u32, passed: usize, buffer: &mut [CUnit], count: &mut usize
         ) -> u32;
     }
+    faults {
+        fn rustc_lexer_class(text: &[u8], token: &CToken, number: &mut u32) -> u32;
+        fn rustc_lexer_fault(text: &[u8], token: &CToken, number: &mut u32) -> u32;
+    }
     marked {
         fn rustc_lexer_marks(
             text: &[u8], style: u32, edition: u32, count: usize, buffer: &mut [u8], written: &mut usize

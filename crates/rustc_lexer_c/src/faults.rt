@@ -1,0 +1,110 @@
+//! The class and the fault of a token.
+ghost use Rattle.std.specs.Prelude.{◌≡◌};
+ghost use Rattle.rustc_lexer.specs.declared.token.Token.{Token};
+ghost use Rattle.marks.specs.Class.{class_number, class_of};
+ghost use Rattle.marks.specs.Fault.{fault_of};
+ghost use Rattle.rustc_lexer_c.specs.Faults as spec;
+ghost use Rattle.rustc_lexer_c.specs.Numbers.{token_numbers};
+ghost use Rattle.rustc_lexer_c.specs.Status.{Writes};
+
+use crate::status::{done, refuse, text_of};
+use crate::token::CToken;
+use marks::{Fault, class_of, fault_of};
+use rustc_lexer::{Base, DocStyle, LiteralKind, TokenKind};
+
+/// Writes the number of the class of a token, by its numbers and its text.
+#[tactic(auto, using(crate::proofs::FaultLemmas::same_class))]
+#[unsafe(no_mangle)]
+pub extern "C" fn rustc_lexer_class(text: &[u8], token: &CToken, number: &mut u32) -> u32
+    ensures class { Writes text.now (Unit {0}) 0
+        (class_number (class_of (spec.kind_of token.now) text.now)) 0 number.new result }
+    ensures same { (it : Token) → token_numbers it ≡ token.now
+        → class_of (spec.kind_of token.now) text.now ≡ class_of it.kind text.now }
+{
+    match text_of(text) {
+        Ok(text) => done(u32::from(class_of(kind_of(token), text).number()), number),
+        Err(refusal) => refuse(refusal, 0, number),
+    }
+}
+
+/// Writes the number of the fault of a token, by its numbers and its text, or 0 if it has none.
+#[tactic(auto, using(crate::proofs::FaultLemmas::same_fault))]
+#[unsafe(no_mangle)]
+pub extern "C" fn rustc_lexer_fault(text: &[u8], token: &CToken, number: &mut u32) -> u32
+    ensures fault { Writes text.now (Unit {0}) 0
+        (spec.number_of (fault_of (spec.kind_of token.now) text.now)) 0 number.new result }
+    ensures same { (it : Token) → token_numbers it ≡ token.now
+        → fault_of (spec.kind_of token.now) text.now ≡ fault_of it.kind text.now }
+{
+    match text_of(text) {
+        Ok(text) => done(number_of(fault_of(kind_of(token), text)), number),
+        Err(refusal) => refuse(refusal, 0, number),
+    }
+}
+
+/// Returns the number of a fault, or 0 if there is none.
+fn number_of(fault: Option<Fault>) -> u32
+    ensures { result ≡ spec.number_of fault }
+{
+    match fault {
+        Some(fault) => u32::from(fault.number()),
+        None => 0,
+    }
+}
+
+/// Returns the kind with these numbers, as far as a class or a fault depends on it.
+fn kind_of(token: &CToken) -> TokenKind
+    ensures { result ≡ spec.kind_of token.now }
+{
+    let (first, second) = (token.first != 0, token.second != 0);
+    let doc_style = if first { Some(DocStyle::Outer) } else { None };
+    match token.kind {
+        1 => TokenKind::LineComment { doc_style },
+        2 => TokenKind::BlockComment {
+            doc_style,
+            terminated: second,
+        },
+        4 => TokenKind::Frontmatter {
+            has_invalid_preceding_whitespace: first,
+            invalid_infostring: second,
+        },
+        5 => TokenKind::Ident,
+        6 => TokenKind::InvalidIdent,
+        9 => TokenKind::UnknownPrefix,
+        10 => TokenKind::UnknownPrefixLifetime,
+        12 => TokenKind::GuardedStrPrefix,
+        13 => TokenKind::Literal {
+            kind: literal_of(token),
+            suffix_start: 0,
+        },
+        11 | 14 => TokenKind::Lifetime {
+            starts_with_number: first,
+        },
+        42 => TokenKind::Unknown,
+        _ => TokenKind::Whitespace,
+    }
+}
+
+/// Returns the kind of literal with these numbers, as far as a class or a fault depends on it.
+fn literal_of(token: &CToken) -> LiteralKind
+    ensures { result ≡ spec.literal_of token.now }
+{
+    let base = Base::Decimal;
+    let (terminated, empty) = (token.second != 0, token.third != 0);
+    let n_hashes = if terminated { Some(token.third) } else { None };
+    match token.first {
+        1 => LiteralKind::Int {
+            base,
+            empty_int: empty,
+        },
+        2 => LiteralKind::Float {
+            base,
+            empty_exponent: empty,
+        },
+        3 => LiteralKind::Char { terminated },
+        4 => LiteralKind::Byte { terminated },
+        5..=7 => LiteralKind::Str { terminated },
+        8 => LiteralKind::RawStr { n_hashes },
+        _ => LiteralKind::RawCStr { n_hashes },
+    }
+}

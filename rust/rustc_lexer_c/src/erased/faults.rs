@@ -1,0 +1,84 @@
+// Made by tools/erase from crates/rustc_lexer_c/src/faults.rt: edit that file.
+//! The class and the fault of a token.
+
+use crate::erased::status::{done, refuse, text_of};
+use crate::erased::token::CToken;
+use marks::{Fault, class_of, fault_of};
+use rustc_lexer::erased::{Base, DocStyle, LiteralKind, TokenKind};
+
+/// Writes the number of the class of a token, by its numbers and its text.
+pub fn rustc_lexer_class(text: &[u8], token: &CToken, number: &mut u32) -> u32 {
+    match text_of(text) {
+        Ok(text) => done(u32::from(class_of(kind_of(token), text).number()), number),
+        Err(refusal) => refuse(refusal, 0, number),
+    }
+}
+
+/// Writes the number of the fault of a token, by its numbers and its text, or 0 if it has none.
+pub fn rustc_lexer_fault(text: &[u8], token: &CToken, number: &mut u32) -> u32 {
+    match text_of(text) {
+        Ok(text) => done(number_of(fault_of(kind_of(token), text)), number),
+        Err(refusal) => refuse(refusal, 0, number),
+    }
+}
+
+/// Returns the number of a fault, or 0 if there is none.
+fn number_of(fault: Option<Fault>) -> u32 {
+    match fault {
+        Some(fault) => u32::from(fault.number()),
+        None => 0,
+    }
+}
+
+/// Returns the kind with these numbers, as far as a class or a fault depends on it.
+fn kind_of(token: &CToken) -> TokenKind {
+    let (first, second) = (token.first != 0, token.second != 0);
+    let doc_style = if first { Some(DocStyle::Outer) } else { None };
+    match token.kind {
+        1 => TokenKind::LineComment { doc_style },
+        2 => TokenKind::BlockComment {
+            doc_style,
+            terminated: second,
+        },
+        4 => TokenKind::Frontmatter {
+            has_invalid_preceding_whitespace: first,
+            invalid_infostring: second,
+        },
+        5 => TokenKind::Ident,
+        6 => TokenKind::InvalidIdent,
+        9 => TokenKind::UnknownPrefix,
+        10 => TokenKind::UnknownPrefixLifetime,
+        12 => TokenKind::GuardedStrPrefix,
+        13 => TokenKind::Literal {
+            kind: literal_of(token),
+            suffix_start: 0,
+        },
+        11 | 14 => TokenKind::Lifetime {
+            starts_with_number: first,
+        },
+        42 => TokenKind::Unknown,
+        _ => TokenKind::Whitespace,
+    }
+}
+
+/// Returns the kind of literal with these numbers, as far as a class or a fault depends on it.
+fn literal_of(token: &CToken) -> LiteralKind {
+    let base = Base::Decimal;
+    let (terminated, empty) = (token.second != 0, token.third != 0);
+    let n_hashes = if terminated { Some(token.third) } else { None };
+    match token.first {
+        1 => LiteralKind::Int {
+            base,
+            empty_int: empty,
+        },
+        2 => LiteralKind::Float {
+            base,
+            empty_exponent: empty,
+        },
+        3 => LiteralKind::Char { terminated },
+        4 => LiteralKind::Byte { terminated },
+        5..=7 => LiteralKind::Str { terminated },
+        8 => LiteralKind::RawStr { n_hashes },
+        _ => LiteralKind::RawCStr { n_hashes },
+    }
+}
