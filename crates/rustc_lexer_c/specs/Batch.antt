@@ -11,7 +11,8 @@ use Rattle.rustc_lexer.specs.Tokens.{tokens_left}
 use Rattle.rustc_lexer_c.specs.declared.batch.CPlace.{CPlace}
 use Rattle.rustc_lexer_c.specs.declared.token.CToken.{CToken}
 use Rattle.rustc_lexer_c.specs.Numbers.{token_numbers}
-use Rattle.rustc_lexer_c.specs.Status.{IsStatus}
+use Rattle.rustc_lexer_c.specs.declared.status.Refusal.TheVariants.{BadPlace}
+use Rattle.rustc_lexer_c.specs.Status.{IsStatus, OK, refusal_number}
 
 -- the flag for a number: 0 is `No`, and any other number is `Yes`
 abbrev pub allowed_of : ℕ → FrontmatterAllowed
@@ -54,6 +55,6 @@ pub record IsBatch (text : List ℕ) (s : State) (buffer : List CToken) (place :
 -- a call that returns the tokens from a place on, whose offset must be between characters. If the call is refused,
 -- nothing is written
 pub record TakesTokens (text : List ℕ) (place place' : CPlace) (buffer filled : List CToken) (count status : ℕ) : Type 0 where
-  pub status_is : IsStatus text (IsCharBoundary text place.at) 3 status
-  pub batch : status ≡ 0 → IsBatch text (state_at text place) buffer place' filled count
-  pub refused : status ≢ 0 → (place' ≡ place) × (filled ≡ buffer) × (count ≡ 0)
+  pub status_is : IsStatus text (IsCharBoundary text place.at) (refusal_number BadPlace) status
+  pub batch : status ≡ OK → IsBatch text (state_at text place) buffer place' filled count
+  pub refused : status ≢ OK → (place' ≡ place) × (filled ≡ buffer) × (count ≡ 0)

@@ -4,19 +4,19 @@ use Rattle.std.specs.Option.{IsSomeAnd}
 use Rattle.std.specs.Str.{chars}
 use Rattle.std.specs.declared.ops.Range.{Range}
 use Rattle.rustc_literal_escaper.specs.declared.error.EscapeError.{EscapeError}
-use Rattle.rustc_literal_escaper.specs.declared.error.EscapeError.TheVariants.{UnskippedWhitespaceWarning, MultipleSkippedLinesWarning}
 use Rattle.rustc_literal_escaper.specs.declared.mode.Mode.{Mode}
 use Rattle.rustc_literal_escaper.specs.declared.mode.Mode.TheVariants.{Char, Byte, Str, RawStr, ByteStr, RawByteStr, CStr, RawCStr}
 use Rattle.rustc_literal_escaper.specs.declared.unit.MixedUnit.{MixedUnit}
 use Rattle.rustc_literal_escaper.specs.declared.unit.MixedUnit.TheVariants.{Char as CharUnit, HighByte}
 use Rattle.rustc_literal_escaper.specs.Grammar.{Error, Item}
 use Rattle.rustc_literal_escaper.specs.Answers.{byte_literal, char_literal, errors_of, items_of}
-use Rattle.rustc_literal_escaper.specs.Meaning.{byte_of, char_of, is_raw, is_single, raw_unit_of, unit_of}
+use Rattle.rustc_literal_escaper.specs.Meaning.{byte_of, char_of, is_fatal, is_raw, is_single, raw_unit_of, unit_of}
 pub use Rattle.rustc_literal_escaper.specs.Numbers.{error_number}
 use Rattle.rustc_lexer_c.specs.declared.escapes.CUnit.{CUnit}
 use Rattle.rustc_lexer_c.specs.declared.escapes.Listing.{Listing}
 use Rattle.rustc_lexer_c.specs.declared.escapes.Listing.TheVariants.{Units, Errors}
-use Rattle.rustc_lexer_c.specs.Status.{IsStatus}
+use Rattle.rustc_lexer_c.specs.declared.status.Refusal.TheVariants.{BadMode}
+use Rattle.rustc_lexer_c.specs.Status.{IsStatus, OK, refusal_number}
 
 -- the mode with this number. It is the number of the literal's kind in a token
 abbrev pub mode_of : ℕ → Option Mode
@@ -31,11 +31,21 @@ mode_of number =
     else if nat_eq number 10 then Some RawCStr
     else None
 
--- 3 for an error, 4 for a warning
+-- the kinds of units, by the names that the header has for them
+abbrev pub UNIT_CHAR : ℕ
+UNIT_CHAR = 1
+
+abbrev pub UNIT_BYTE : ℕ
+UNIT_BYTE = 2
+
+abbrev pub UNIT_ERROR : ℕ
+UNIT_ERROR = 3
+
+abbrev pub UNIT_WARNING : ℕ
+UNIT_WARNING = 4
+
 abbrev pub wrong_kind : EscapeError → ℕ
-wrong_kind UnskippedWhitespaceWarning = 4
-wrong_kind MultipleSkippedLinesWarning = 4
-wrong_kind error = 3
+wrong_kind error = if is_fatal error then UNIT_ERROR else UNIT_WARNING
 
 abbrev pub unit_at : Range ℕ → ℕ → ℕ → CUnit
 unit_at place kind value = record { start = place.start; end = place.end; kind = kind; value = value }
@@ -43,34 +53,34 @@ unit_at place kind value = record { start = place.start; end = place.end; kind =
 abbrev pub wrong_unit : Range ℕ → EscapeError → CUnit
 wrong_unit place error = unit_at place (wrong_kind error) (error_number error)
 
--- the unit of a character, with kind 1, or of a byte, with kind 2
+-- the unit of a character or of a byte
 abbrev pub coded_unit : ℕ → Range ℕ → Result ℕ EscapeError → CUnit
 coded_unit kind place (Ok code) = unit_at place kind code
 coded_unit kind place (Err error) = wrong_unit place error
 
 abbrev pub mixed_unit : Range ℕ → Result MixedUnit EscapeError → CUnit
-mixed_unit place (Ok (CharUnit c)) = unit_at place 1 c
-mixed_unit place (Ok (HighByte b)) = unit_at place 2 b
+mixed_unit place (Ok (CharUnit c)) = unit_at place UNIT_CHAR c
+mixed_unit place (Ok (HighByte b)) = unit_at place UNIT_BYTE b
 mixed_unit place (Err error) = wrong_unit place error
 
 -- the unit of an element between double quotes
 abbrev pub item_unit : Mode → Item → CUnit
-item_unit Char item = coded_unit 1 item.0 (char_of item.1)
-item_unit Str item = coded_unit 1 item.0 (char_of item.1)
-item_unit RawStr item = coded_unit 1 item.0 (char_of item.1)
-item_unit Byte item = coded_unit 2 item.0 (byte_of item.1)
-item_unit ByteStr item = coded_unit 2 item.0 (byte_of item.1)
-item_unit RawByteStr item = coded_unit 2 item.0 (byte_of item.1)
+item_unit Char item = coded_unit UNIT_CHAR item.0 (char_of item.1)
+item_unit Str item = coded_unit UNIT_CHAR item.0 (char_of item.1)
+item_unit RawStr item = coded_unit UNIT_CHAR item.0 (char_of item.1)
+item_unit Byte item = coded_unit UNIT_BYTE item.0 (byte_of item.1)
+item_unit ByteStr item = coded_unit UNIT_BYTE item.0 (byte_of item.1)
+item_unit RawByteStr item = coded_unit UNIT_BYTE item.0 (byte_of item.1)
 item_unit CStr item = mixed_unit item.0 (unit_of item.1)
-item_unit RawCStr item = coded_unit 1 item.0 (raw_unit_of item.1)
+item_unit RawCStr item = coded_unit UNIT_CHAR item.0 (raw_unit_of item.1)
 
 -- the text between single quotes is one unit, whose range is the whole text
 abbrev pub whole : List ℕ → Range ℕ
 whole text = record { start = 0; end = length text }
 
 abbrev pub single_unit : Mode → List ℕ → CUnit
-single_unit Byte text = coded_unit 2 (whole text) (byte_literal (chars text))
-single_unit mode text = coded_unit 1 (whole text) (char_literal (chars text))
+single_unit Byte text = coded_unit UNIT_BYTE (whole text) (byte_literal (chars text))
+single_unit mode text = coded_unit UNIT_CHAR (whole text) (char_literal (chars text))
 
 -- the units of the text between a literal's quotes
 abbrev pub units_of : Mode → List ℕ → List CUnit
@@ -98,7 +108,7 @@ listed Errors mode text = wrong_units_of mode text
 -- bytes, but may have 1 unit for an empty text, so a buffer of that length is enough. If the call is refused, nothing
 -- is written
 pub record Lists (list : Mode → List ℕ → List CUnit) (mode : Option Mode) (text : List ℕ) (passed : ℕ) (buffer filled : List CUnit) (count status : ℕ) : Type 0 where
-  pub status_is : IsStatus text (mode ≢ None) 7 status
-  pub units : status ≡ 0 → IsSomeAnd mode (λ kind. IsUnits (list kind text) passed buffer filled count)
-  pub bound : status ≡ 0 → IsSomeAnd mode (λ kind. length (list kind text) ≤ max 1 (length text))
-  pub refused : status ≢ 0 → (filled ≡ buffer) × (count ≡ 0)
+  pub status_is : IsStatus text (mode ≢ None) (refusal_number BadMode) status
+  pub units : status ≡ OK → IsSomeAnd mode (λ kind. IsUnits (list kind text) passed buffer filled count)
+  pub bound : status ≡ OK → IsSomeAnd mode (λ kind. length (list kind text) ≤ max 1 (length text))
+  pub refused : status ≢ OK → (filled ≡ buffer) × (count ≡ 0)

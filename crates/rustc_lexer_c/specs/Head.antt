@@ -14,6 +14,8 @@ use Rattle.rustc_lexer_c.specs.declared.token.CToken.{CToken}
 use Rattle.rustc_lexer_c.specs.Batch.{no_token}
 use Rattle.rustc_lexer_c.specs.Numbers.{bool_number, token_numbers}
 use Rattle.rustc_lexer_c.specs.Relex.{change_of}
+use Rattle.rustc_lexer_c.specs.declared.status.Refusal.TheVariants.{BadEdit, NotUtf8, TooLong}
+use Rattle.rustc_lexer_c.specs.Status.{OK, refusal_number}
 
 -- at most two tokens as numbers, filled up with zeros
 abbrev pub two_of : List Token → List CToken
@@ -44,19 +46,19 @@ head_of c = head_with c.shebang_len c.body c.count (get_or c.tokens 0 no_token) 
 
 -- the status of a call that gets an edit of a document and the old head. An edit that made the text is not refused
 pub record IsHeadStatus (bytes : List ℕ) (edit : CEdit) (c : CHead) (status : ℕ) : Type 0 where
-  pub ok : IsText bytes → (before insert : List ℕ) → IsEditOf before (change_of edit) insert bytes → c ≡ head_numbers before → status ≡ 0
-  pub not_utf8 : length bytes < 2 ^ 32 → ¬ (IsUtf8 bytes) → status ≡ 1
-  pub too_long : 2 ^ 32 ≤ length bytes → status ≡ 2
-  pub bad_edit : IsText bytes → ¬ (IsChange bytes (change_of edit)) → status ≡ 6
-  pub no_other : IsText bytes → status ≢ 0 → status ≡ 6
+  pub ok : IsText bytes → (before insert : List ℕ) → IsEditOf before (change_of edit) insert bytes → c ≡ head_numbers before → status ≡ OK
+  pub not_utf8 : length bytes < 2 ^ 32 → ¬ (IsUtf8 bytes) → status ≡ refusal_number NotUtf8
+  pub too_long : 2 ^ 32 ≤ length bytes → status ≡ refusal_number TooLong
+  pub bad_edit : IsText bytes → ¬ (IsChange bytes (change_of edit)) → status ≡ refusal_number BadEdit
+  pub no_other : IsText bytes → status ≢ OK → status ≡ refusal_number BadEdit
 
 -- the call writes the head of the text, and an edit of the body from which relexing can begin. For every old text that
 -- has the old head, and that the edit made into the present text, it is what the edit means for the body. If the call
 -- is refused, nothing is written
 pub record FindsHead (text : List ℕ) (edit : CEdit) (c c' : CHead) (body body' : CEdit) (kept kept' status : ℕ) : Type 0 where
   pub status_is : IsHeadStatus text edit c status
-  pub head : status ≡ 0 → c' ≡ head_numbers text
-  pub may_relex : status ≡ 0 → IsChange (drop (body_start text) text) (change_of body')
-  pub change : status ≡ 0 → (first : List ℕ → Token) (before insert : List ℕ) → IsGrammar first → IsEditOf before (change_of edit) insert text → c ≡ head_numbers before
+  pub head : status ≡ OK → c' ≡ head_numbers text
+  pub may_relex : status ≡ OK → IsChange (drop (body_start text) text) (change_of body')
+  pub change : status ≡ OK → (first : List ℕ → Token) (before insert : List ℕ) → IsGrammar first → IsEditOf before (change_of edit) insert text → c ≡ head_numbers before
       → (k : Bool) × (kept' ≡ bool_number k) × IsBodyChange first before (change_of edit) insert text k (change_of body')
-  pub refused : status ≢ 0 → (c' ≡ c) × (body' ≡ body) × (kept' ≡ kept)
+  pub refused : status ≢ OK → (c' ≡ c) × (body' ≡ body) × (kept' ≡ kept)

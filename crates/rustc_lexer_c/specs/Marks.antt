@@ -6,6 +6,8 @@ use Rattle.rustc_lexer.specs.LanguageCalls.{edition_of_year}
 use Rattle.rustc_lexer.specs.Classes.{IsText}
 use Rattle.marks.specs.declared.style.Style.{Style}
 use Rattle.marks.specs.declared.style.Style.TheVariants.{Html, Colours, NoColours}
+use Rattle.rustc_lexer_c.specs.declared.status.Refusal.TheVariants.{BadEdition, BadStyle, NotUtf8, SmallBuffer, TooLong}
+use Rattle.rustc_lexer_c.specs.Status.{OK, refusal_number}
 
 -- the style with this number. Numbers never change: a new style gets a new one
 abbrev pub style_of : ℕ → Option Style
@@ -23,8 +25,8 @@ pub record IsFront (bytes buffer filled : List ℕ) (written : ℕ) : Type 0 whe
 
 -- the status of a call that takes a text, a style, a year and a buffer of any length
 pub record IsMarksStatus (bytes : List ℕ) (style year : ℕ) (status : ℕ) : Type 0 where
-  pub ok : IsText bytes → (edition : Edition) → edition_of_year year ≡ Some edition → (kind : Style) → style_of style ≡ Some kind → (status ≡ 0) ⊎ (status ≡ 9)
-  pub not_utf8 : length bytes < 2 ^ 32 → ¬ (IsUtf8 bytes) → status ≡ 1
-  pub too_long : 2 ^ 32 ≤ length bytes → status ≡ 2
-  pub bad_edition : IsText bytes → edition_of_year year ≡ None → status ≡ 5
-  pub bad_style : IsText bytes → (edition : Edition) → edition_of_year year ≡ Some edition → style_of style ≡ None → status ≡ 8
+  pub ok : IsText bytes → (edition : Edition) → edition_of_year year ≡ Some edition → (kind : Style) → style_of style ≡ Some kind → (status ≡ OK) ⊎ (status ≡ refusal_number SmallBuffer)
+  pub not_utf8 : length bytes < 2 ^ 32 → ¬ (IsUtf8 bytes) → status ≡ refusal_number NotUtf8
+  pub too_long : 2 ^ 32 ≤ length bytes → status ≡ refusal_number TooLong
+  pub bad_edition : IsText bytes → edition_of_year year ≡ None → status ≡ refusal_number BadEdition
+  pub bad_style : IsText bytes → (edition : Edition) → edition_of_year year ≡ Some edition → style_of style ≡ None → status ≡ refusal_number BadStyle

@@ -17,6 +17,18 @@ use Rattle.rustc_lexer_c.specs.declared.relex.CEdit.{CEdit}
 use Rattle.rustc_lexer_c.specs.declared.relex.CRelexing.{CRelexing}
 use Rattle.rustc_lexer_c.specs.declared.token.CToken.{CToken}
 use Rattle.rustc_lexer_c.specs.Numbers.{token_numbers}
+use Rattle.rustc_lexer_c.specs.declared.status.Refusal.TheVariants.{BadEdit, BadEdition, NotUtf8, TooLong}
+use Rattle.rustc_lexer_c.specs.Status.{OK, refusal_number}
+
+-- the stages, by the names that the header has for them
+abbrev pub STAGE_BEGIN : ℕ
+STAGE_BEGIN = 0
+
+abbrev pub STAGE_MORE : ℕ
+STAGE_MORE = 1
+
+abbrev pub STAGE_DONE : ℕ
+STAGE_DONE = 2
 
 abbrev pub change_of : CEdit → Change
 change_of c = record { start = c.start; old_stop = c.old_stop; new_stop = c.new_stop }
@@ -32,28 +44,28 @@ relexing_of count c = record {
   lexed = c.lexed;
   back = record { number = count - c.kept_back; offset = c.back_offset };
   at = c.at;
-  met = nat_eq c.stage 2;
+  met = nat_eq c.stage STAGE_DONE;
 }
 
 -- how many tokens earlier calls have written
 abbrev pub lexed_before : CRelexing → ℕ
-lexed_before c = if nat_eq c.stage 0 then 0 else c.lexed
+lexed_before c = if nat_eq c.stage STAGE_BEGIN then 0 else c.lexed
 
 -- a call may begin with these numbers, or go on from them
 abbrev pub MayRelex : List ℕ → ℕ → CRelexing → Type 0
-MayRelex text count c = c.stage ≢ 0 → (c.kept_back ≤ count) × MayGoOn text count (relexing_of count c)
+MayRelex text count c = c.stage ≢ STAGE_BEGIN → (c.kept_back ≤ count) × MayGoOn text count (relexing_of count c)
 
 -- a call may begin with these numbers, of which only a boundary of the old tokens matters, or they are what an earlier
 -- call returned
 pub record IsPassed (first : List ℕ → Token) (before : List ℕ) (change : Change) (text : List ℕ) (count : ℕ) (c : CRelexing) : Type 0 where
-  pub near : c.stage ≡ 0 → IsBound (tokens_by first before) (front_of c)
-  pub under_way : c.stage ≢ 0 → IsUnderWay first before change text (relexing_of count c)
+  pub near : c.stage ≡ STAGE_BEGIN → IsBound (tokens_by first before) (front_of c)
+  pub under_way : c.stage ≢ STAGE_BEGIN → IsUnderWay first before change text (relexing_of count c)
 
 -- the first `lexed` tokens of the present text after those of the front, as numbers
 abbrev pub written : List Token → ℕ → ℕ → List CToken
 written tokens front lexed = map token_numbers (take lexed (drop front tokens))
 
--- the call writes the tokens of the present text that follow the front and those of earlier calls. Once the stage is 2,
+-- the call writes the tokens of the present text that follow the front and those of earlier calls. Once it is done,
 -- the counts are those of the edit, and the present text has exactly the old tokens of the front, all tokens that were
 -- written, and the old tokens of the back
 pub record HasRelexed (first : List ℕ → Token) (before : List ℕ) (edit : CEdit) (insert text : List ℕ) (old : List CToken) (c : CRelexing) (buffer : List CToken) (c' : CRelexing) (filled : List CToken) (count : ℕ) : Type 0 where
@@ -61,8 +73,8 @@ pub record HasRelexed (first : List ℕ → Token) (before : List ℕ) (edit : C
   pub tokens : filled ≡ map token_numbers (take count (drop (c'.kept_front + lexed_before c) (tokens_by first text))) ++ drop count buffer
   pub more : written (tokens_by first text) c'.kept_front c'.lexed ≡ written (tokens_by first text) c'.kept_front (lexed_before c) ++ take count filled
   pub few : (r : Relexed) × IsRelexed (part_by first) before edit.start edit.old_stop insert r × (c'.lexed ≤ r.lexed)
-  pub counts : c'.stage ≡ 2 → IsRelexed (part_by first) before edit.start edit.old_stop insert (record { kept_front = c'.kept_front; lexed = c'.lexed; kept_back = c'.kept_back })
-  pub list : c'.stage ≡ 2 → old ≡ map token_numbers (tokens_by first before)
+  pub counts : c'.stage ≡ STAGE_DONE → IsRelexed (part_by first) before edit.start edit.old_stop insert (record { kept_front = c'.kept_front; lexed = c'.lexed; kept_back = c'.kept_back })
+  pub list : c'.stage ≡ STAGE_DONE → old ≡ map token_numbers (tokens_by first before)
       → take c'.kept_front old ++ (written (tokens_by first text) c'.kept_front c'.lexed ++ drop (length old - c'.kept_back) old) ≡ map token_numbers (tokens_by first text)
 
 -- what a call does for any numbers, and what it does for those of an edit. `relexed` is about every old text that has
@@ -71,25 +83,25 @@ pub record IsRelexBatch (edition : Edition) (text : List ℕ) (old : List CToken
   pub within : count ≤ length buffer
   pub rest : drop count filled ≡ drop count buffer
   pub lexed : c'.lexed ≡ lexed_before c + count
-  pub goes_on : c'.stage ≢ 2 → (c'.stage ≡ 1) × (count ≡ length buffer)
-  pub front : c.stage ≢ 0 → front_of c' ≡ front_of c
+  pub goes_on : c'.stage ≢ STAGE_DONE → (c'.stage ≡ STAGE_MORE) × (count ≡ length buffer)
+  pub front : c.stage ≢ STAGE_BEGIN → front_of c' ≡ front_of c
   pub may_relex : MayRelex text (length old) c'
   pub relexed : (before insert : List ℕ) → IsMadeOf (first_in edition) before (map (λ (t : CToken). t.len) old) (change_of edit) insert text → IsPassed (first_in edition) before (change_of edit) text (length old) c
       → HasRelexed (first_in edition) before edit insert text old c buffer c' filled count
 
 -- the status of a call that relexes
 pub record IsRelexStatus (bytes : List ℕ) (edit : CEdit) (year count : ℕ) (c : CRelexing) (status : ℕ) : Type 0 where
-  pub ok : IsText bytes → (edition : Edition) → edition_of_year year ≡ Some edition → IsChange bytes (change_of edit) → MayRelex bytes count c → status ≡ 0
-  pub not_utf8 : length bytes < 2 ^ 32 → ¬ (IsUtf8 bytes) → status ≡ 1
-  pub too_long : 2 ^ 32 ≤ length bytes → status ≡ 2
-  pub bad_edition : IsText bytes → edition_of_year year ≡ None → status ≡ 5
-  pub bad_edit : IsText bytes → (edition : Edition) → edition_of_year year ≡ Some edition → ¬ (IsChange bytes (change_of edit) × MayRelex bytes count c) → status ≡ 6
+  pub ok : IsText bytes → (edition : Edition) → edition_of_year year ≡ Some edition → IsChange bytes (change_of edit) → MayRelex bytes count c → status ≡ OK
+  pub not_utf8 : length bytes < 2 ^ 32 → ¬ (IsUtf8 bytes) → status ≡ refusal_number NotUtf8
+  pub too_long : 2 ^ 32 ≤ length bytes → status ≡ refusal_number TooLong
+  pub bad_edition : IsText bytes → edition_of_year year ≡ None → status ≡ refusal_number BadEdition
+  pub bad_edit : IsText bytes → (edition : Edition) → edition_of_year year ≡ Some edition → ¬ (IsChange bytes (change_of edit) × MayRelex bytes count c) → status ≡ refusal_number BadEdit
 
 -- a call that relexes in the edition of a year. If it is refused, nothing is written
 pub record Relexes (text : List ℕ) (old : List CToken) (edit : CEdit) (year : ℕ) (c c' : CRelexing) (buffer filled : List CToken) (count status : ℕ) : Type 0 where
   pub status_is : IsRelexStatus text edit year (length old) c status
-  pub batch : status ≡ 0 → (edition : Edition) → edition_of_year year ≡ Some edition → IsRelexBatch edition text old edit c buffer c' filled count
-  pub refused : status ≢ 0 → (c' ≡ c) × (filled ≡ buffer) × (count ≡ 0)
+  pub batch : status ≡ OK → (edition : Edition) → edition_of_year year ≡ Some edition → IsRelexBatch edition text old edit c buffer c' filled count
+  pub refused : status ≢ OK → (c' ≡ c) × (filled ≡ buffer) × (count ≡ 0)
 
 -- the state of relexing as numbers
 abbrev pub numbers_of : List ℕ → ℕ → Relexing → CRelexing
@@ -100,5 +112,5 @@ numbers_of text count at = record {
   kept_back = count - at.back.number;
   back_offset = at.back.offset;
   at = at.at;
-  stage = if is_over text at then 2 else 1;
+  stage = if is_over text at then STAGE_DONE else STAGE_MORE;
 }

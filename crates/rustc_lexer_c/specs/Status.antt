@@ -1,9 +1,13 @@
--- The statuses of calls from C. A status of 0 means that the call was done.
+-- The statuses of calls from C.
 use Rattle.std.specs.Prelude.{ℕ, ◌≡◌, ◌≢◌, ◌<◌, ◌≤◌, ◌^◌, List, length}
 use Rattle.std.specs.Str.{IsUtf8}
 use Rattle.rustc_lexer.specs.Classes.{IsText}
 use Rattle.rustc_lexer_c.specs.declared.status.Refusal.{Refusal}
 use Rattle.rustc_lexer_c.specs.declared.status.Refusal.TheVariants.{NotUtf8, TooLong, BadPlace, NotRaw, BadEdition, BadEdit, BadMode, BadStyle, SmallBuffer}
+
+-- the call was done
+abbrev pub OK : ℕ
+OK = 0
 
 abbrev pub refusal_number : Refusal → ℕ
 refusal_number NotUtf8 = 1
@@ -24,17 +28,17 @@ IsNoText bytes refusal = ⊥
 
 -- the status of a call that takes a text and requires something. If that does not hold, the status is `number`
 pub record IsStatus (bytes : List ℕ) (Asked : Type 0) (number status : ℕ) : Type 0 where
-  pub ok : IsText bytes → Asked → status ≡ 0
-  pub not_utf8 : length bytes < 2 ^ 32 → ¬ (IsUtf8 bytes) → status ≡ 1
-  pub too_long : 2 ^ 32 ≤ length bytes → status ≡ 2
+  pub ok : IsText bytes → Asked → status ≡ OK
+  pub not_utf8 : length bytes < 2 ^ 32 → ¬ (IsUtf8 bytes) → status ≡ refusal_number NotUtf8
+  pub too_long : 2 ^ 32 ≤ length bytes → status ≡ refusal_number TooLong
   pub refused : IsText bytes → ¬ Asked → status ≡ number
 
 -- the status of a call that takes any text
 abbrev pub IsTextStatus : List ℕ → ℕ → Type 0
-IsTextStatus bytes status = IsStatus bytes (Unit {0}) 0 status
+IsTextStatus bytes status = IsStatus bytes (Unit {0}) OK status
 
 -- a call with such a status writes its answer, or `none` if it is refused
 pub record Writes {X : Type 0} (bytes : List ℕ) (Asked : Type 0) (number : ℕ) (answer none written : X) (status : ℕ) : Type 0 where
   pub status_is : IsStatus bytes Asked number status
-  pub answer_is : status ≡ 0 → written ≡ answer
-  pub none_is : status ≢ 0 → written ≡ none
+  pub answer_is : status ≡ OK → written ≡ answer
+  pub none_is : status ≢ OK → written ≡ none

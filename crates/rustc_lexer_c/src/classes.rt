@@ -3,7 +3,7 @@ ghost use Rattle.std.specs.Prelude.{◌≡◌, false};
 ghost use Rattle.std.specs.Char.{IsScalar};
 ghost use Rattle.std.specs.Str.{IsUtf8, chars};
 ghost use Rattle.rustc_lexer.specs.Classes;
-ghost use Rattle.rustc_lexer_c.specs.Status.{Writes};
+ghost use Rattle.rustc_lexer_c.specs.Status.{OK, Writes};
 ghost use Rattle.rustc_lexer_c.specs.Numbers.{bool_number};
 
 use crate::status::{done, refuse, text_of};
@@ -49,7 +49,7 @@ pub extern "C" fn rustc_lexer_is_id_continue(code: u32) -> bool
 /// Writes whether the text is an identifier.
 #[unsafe(no_mangle)]
 pub extern "C" fn rustc_lexer_is_ident(text: &[u8], is: &mut u32) -> u32
-    ensures { Writes text.now (Unit {0}) 0 (bool_number (Classes.is_ident (chars text.now))) 0 is.new result }
+    ensures { Writes text.now (Unit {0}) OK (bool_number (Classes.is_ident (chars text.now))) 0 is.new result }
 {
     match text_of(text) {
         Ok(text) => done(u32::from(is_ident(text)), is),

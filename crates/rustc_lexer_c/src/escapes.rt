@@ -8,13 +8,23 @@ ghost use Rattle.rustc_literal_escaper.specs.Answers.{items_of};
 ghost use Rattle.rustc_literal_escaper.specs.Items.{TakesFirst};
 ghost use Rattle.rustc_literal_escaper.specs.Meaning.{is_raw, is_single, unit_of};
 ghost use Rattle.rustc_lexer_c.specs.Escapes as spec;
-ghost use Rattle.rustc_lexer_c.specs.Status.{IsStatus};
+ghost use Rattle.rustc_lexer_c.specs.declared.status.Refusal.TheVariants.{BadMode};
+ghost use Rattle.rustc_lexer_c.specs.Status.{IsStatus, OK, refusal_number};
 
 use crate::status::{Refusal, done, refuse, text_of, utf8_text_of};
 use rustc_literal_escaper::{
     Element, Elements, EscapeError, Faults, Mode, unescape_byte, unescape_char,
 };
 use std::ops::Range;
+
+/// The kinds of units.
+const UNIT_CHAR: u32 = 1;
+
+const UNIT_BYTE: u32 = 2;
+
+const UNIT_ERROR: u32 = 3;
+
+const UNIT_WARNING: u32 = 4;
 
 /// A unit that a literal stands for, or an error or warning, and its place in bytes.
 #[repr(C)]
@@ -126,12 +136,12 @@ fn write(
     count: &mut usize,
 ) -> u32
     requires text { IsText text.now }
-    ensures status { IsStatus text.now (spec.mode_of mode ≢ None) 7 result }
-    ensures listed { result ≡ 0 → IsSomeAnd (spec.mode_of mode)
+    ensures status { IsStatus text.now (spec.mode_of mode ≢ None) (refusal_number BadMode) result }
+    ensures listed { result ≡ OK → IsSomeAnd (spec.mode_of mode)
         (λ kind. spec.IsUnits (spec.listed listing kind text.now) passed buffer.old buffer.new count.new) }
-    ensures bound { result ≡ 0 → IsSomeAnd (spec.mode_of mode)
+    ensures bound { result ≡ OK → IsSomeAnd (spec.mode_of mode)
         (λ kind. length (spec.listed listing kind text.now) ≤ max 1 (length text.now)) }
-    ensures refused { result ≢ 0 → (buffer.new ≡ buffer.old) × (count.new ≡ 0) }
+    ensures refused { result ≢ OK → (buffer.new ≡ buffer.old) × (count.new ≡ 0) }
 {
     match mode_of(mode) {
         None => refuse(Refusal::BadMode, 0, count),
@@ -209,8 +219,8 @@ fn single_unit(text: &str, mode: Mode) -> CUnit
     ensures { result ≡ spec.single_unit mode text.now }
 {
     match mode {
-        Mode::Byte => coded_unit(0..text.len(), 2, unescape_byte(text).map(u32::from)),
-        _ => coded_unit(0..text.len(), 1, unescape_char(text).map(u32::from)),
+        Mode::Byte => coded_unit(0..text.len(), UNIT_BYTE, unescape_byte(text).map(u32::from)),
+        _ => coded_unit(0..text.len(), UNIT_CHAR, unescape_char(text).map(u32::from)),
     }
 }
 
@@ -296,17 +306,21 @@ fn item_unit(mode: Mode, place: Range<usize>, element: Element) -> CUnit
 {
     match mode {
         Mode::Char | Mode::Str | Mode::RawStr => {
-            coded_unit(place, 1, element.to_char().map(u32::from))
+            coded_unit(place, UNIT_CHAR, element.to_char().map(u32::from))
         }
         Mode::Byte | Mode::ByteStr | Mode::RawByteStr => {
-            coded_unit(place, 2, element.to_byte().map(u32::from))
+            coded_unit(place, UNIT_BYTE, element.to_byte().map(u32::from))
         }
         Mode::CStr => mixed_unit(place, element),
-        Mode::RawCStr => coded_unit(place, 1, element.to_raw_unit().map(|c| c.get() as u32)),
+        Mode::RawCStr => coded_unit(
+            place,
+            UNIT_CHAR,
+            element.to_raw_unit().map(|c| c.get() as u32),
+        ),
     }
 }
 
-/// Returns a unit of a kind, 1 or 2, by its number, or the error.
+/// Returns a unit of a kind by its number, or the error.
 fn coded_unit(place: Range<usize>, kind: u32, meaning: Result<u32, EscapeError>) -> CUnit
     ensures { result ≡ spec.coded_unit kind place meaning }
 {
@@ -332,10 +346,10 @@ fn sound_unit(place: Range<usize>, element: Element) -> CUnit
     ensures { result ≡ spec.mixed_unit place (unit_of element) }
 {
     match element {
-        Element::Plain(c) => unit_at(place, 1, c as u32),
-        Element::Byte(byte) if byte < 128 => unit_at(place, 1, u32::from(byte)),
-        Element::Byte(byte) => unit_at(place, 2, u32::from(byte)),
-        Element::Unicode(_) => coded_unit(place, 1, element.to_char().map(u32::from)),
+        Element::Plain(c) => unit_at(place, UNIT_CHAR, c as u32),
+        Element::Byte(byte) if byte < 128 => unit_at(place, UNIT_CHAR, u32::from(byte)),
+        Element::Byte(byte) => unit_at(place, UNIT_BYTE, u32::from(byte)),
+        Element::Unicode(_) => coded_unit(place, UNIT_CHAR, element.to_char().map(u32::from)),
         Element::Fault(error) => wrong_unit(place, error),
     }
 }
@@ -363,9 +377,10 @@ fn unit_at(place: Range<usize>, kind: u32, value: u32) -> CUnit
 fn wrong_kind(error: EscapeError) -> u32
     ensures { result ≡ spec.wrong_kind error }
 {
-    match error {
-        EscapeError::UnskippedWhitespaceWarning | EscapeError::MultipleSkippedLinesWarning => 4,
-        _ => 3,
+    if error.is_fatal() {
+        UNIT_ERROR
+    } else {
+        UNIT_WARNING
     }
 }
 

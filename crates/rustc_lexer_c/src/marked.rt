@@ -8,6 +8,8 @@ ghost use Rattle.rustc_lexer.specs.Tokens.{tokens_of};
 ghost use Rattle.marks.specs.declared.style.Style.{Style};
 ghost use Rattle.marks.specs.Marked.{marked_tokens};
 ghost use Rattle.rustc_lexer_c.specs.Marks as spec;
+ghost use Rattle.rustc_lexer_c.specs.declared.status.Refusal.TheVariants.{SmallBuffer};
+ghost use Rattle.rustc_lexer_c.specs.Status.{OK, refusal_number};
 
 use crate::buffer::Buffer;
 use crate::relex::edition_of;
@@ -30,12 +32,12 @@ pub extern "C" fn rustc_lexer_marks(
     written: &mut usize,
 ) -> u32
     ensures status { spec.IsMarksStatus text.now style edition result }
-    ensures marks { result ≡ 0 → (kind : Style) → spec.style_of style ≡ Some kind
+    ensures marks { result ≡ OK → (kind : Style) → spec.style_of style ≡ Some kind
         → (year : Edition) → edition_of_year edition ≡ Some year
         → spec.IsFront (marked_tokens kind text.now (take count (tokens_of (part year) text.now)))
         buffer.old buffer.new written.new }
-    ensures refused { result ≢ 0 → written.new ≡ 0 }
-    ensures same { result ≢ 0 → result ≢ 9 → buffer.new ≡ buffer.old }
+    ensures refused { result ≢ OK → written.new ≡ 0 }
+    ensures same { result ≢ OK → result ≢ refusal_number SmallBuffer → buffer.new ≡ buffer.old }
 {
     *written = 0;
     let text = match text_of(text) {

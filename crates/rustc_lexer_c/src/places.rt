@@ -7,7 +7,7 @@ ghost use Rattle.rustc_lexer.specs.Locality.{IsSettled, StaysUpTo};
 ghost use Rattle.rustc_lexer.specs.Answers.{shebang};
 ghost use Rattle.rustc_lexer.specs.Tokens.{tokens_of};
 ghost use Rattle.rustc_lexer_c.specs.Numbers.{some_or_zero};
-ghost use Rattle.rustc_lexer_c.specs.Status.{IsTextStatus, Writes};
+ghost use Rattle.rustc_lexer_c.specs.Status.{IsTextStatus, OK, Writes};
 
 use crate::status::{done, refuse, text_of, utf8_text_of};
 use rustc_lexer::{settled, strip_shebang};
@@ -16,7 +16,7 @@ use rustc_lexer::{settled, strip_shebang};
 /// there is none.
 #[unsafe(no_mangle)]
 pub extern "C" fn rustc_lexer_strip_shebang(text: &[u8], line_len: &mut usize) -> u32
-    ensures { Writes text.now (Unit {0}) 0 (some_or_zero (shebang text.now)) 0 line_len.new result }
+    ensures { Writes text.now (Unit {0}) OK (some_or_zero (shebang text.now)) 0 line_len.new result }
 {
     match text_of(text) {
         Ok(text) => done(shebang_len(text), line_len),
@@ -29,7 +29,7 @@ pub extern "C" fn rustc_lexer_strip_shebang(text: &[u8], line_len: &mut usize) -
 #[unsafe(no_mangle)]
 pub extern "C" fn rustc_lexer_strip_shebang_unchecked(text: &[u8], line_len: &mut usize) -> u32
     requires utf8 { IsUtf8 text.now }
-    ensures { Writes text.now (Unit {0}) 0 (some_or_zero (shebang text.now)) 0 line_len.new result }
+    ensures { Writes text.now (Unit {0}) OK (some_or_zero (shebang text.now)) 0 line_len.new result }
 {
     match utf8_text_of(text) {
         Ok(text) => done(shebang_len(text), line_len),
@@ -42,9 +42,9 @@ pub extern "C" fn rustc_lexer_strip_shebang_unchecked(text: &[u8], line_len: &mu
 #[unsafe(no_mangle)]
 pub extern "C" fn rustc_lexer_settled(text: &[u8], end: &mut usize) -> u32
     ensures status { IsTextStatus text.now result }
-    ensures settled { result ≡ 0 → IsSettled text.now (tokens_of (part newest) text.now) end.new }
-    ensures stays { result ≡ 0 → StaysUpTo end.new text.now (tokens_of (part newest)) }
-    ensures refused { result ≢ 0 → end.new ≡ 0 }
+    ensures settled { result ≡ OK → IsSettled text.now (tokens_of (part newest) text.now) end.new }
+    ensures stays { result ≡ OK → StaysUpTo end.new text.now (tokens_of (part newest)) }
+    ensures refused { result ≢ OK → end.new ≡ 0 }
 {
     match text_of(text) {
         Ok(text) => done(settled(text), end),

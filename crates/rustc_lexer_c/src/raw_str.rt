@@ -5,7 +5,8 @@ ghost use Rattle.rustc_lexer.specs.Classes.{Fits};
 ghost use Rattle.rustc_lexer.specs.LanguageCalls.{StartsRaw};
 ghost use Rattle.rustc_lexer.specs.Answers.{raw_check};
 ghost use Rattle.rustc_lexer_c.specs.RawStr as spec;
-ghost use Rattle.rustc_lexer_c.specs.Status.{Writes};
+ghost use Rattle.rustc_lexer_c.specs.declared.status.Refusal.TheVariants.{NotRaw};
+ghost use Rattle.rustc_lexer_c.specs.Status.{OK, Writes, refusal_number};
 
 use crate::status::{Refusal, done, refuse, text_of, utf8_text_of};
 use rustc_lexer::{
@@ -52,7 +53,7 @@ pub extern "C" fn rustc_lexer_validate_raw_str(
     prefix_len: u32,
     error: &mut CRawStrError,
 ) -> u32
-    ensures { Writes text.now (StartsRaw text.now prefix_len) 4
+    ensures { Writes text.now (StartsRaw text.now prefix_len) (refusal_number NotRaw)
         (spec.answer_numbers (raw_check text.now prefix_len)) spec.no_error error.new result }
 {
     match text_of(text) {
@@ -70,7 +71,7 @@ pub extern "C" fn rustc_lexer_validate_raw_str_unchecked(
     error: &mut CRawStrError,
 ) -> u32
     requires utf8 { IsUtf8 text.now }
-    ensures { Writes text.now (StartsRaw text.now prefix_len) 4
+    ensures { Writes text.now (StartsRaw text.now prefix_len) (refusal_number NotRaw)
         (spec.answer_numbers (raw_check text.now prefix_len)) spec.no_error error.new result }
 {
     match utf8_text_of(text) {
@@ -82,7 +83,7 @@ pub extern "C" fn rustc_lexer_validate_raw_str_unchecked(
 /// Checks the raw string at the front of a text.
 fn raw_str(text: &str, prefix_len: u32, error: &mut CRawStrError) -> u32
     requires fits { Fits text.now }
-    ensures { Writes text.now (StartsRaw text.now prefix_len) 4
+    ensures { Writes text.now (StartsRaw text.now prefix_len) (refusal_number NotRaw)
         (spec.answer_numbers (raw_check text.now prefix_len)) spec.no_error error.new result }
 {
     if !starts_raw(text, prefix_len) {
@@ -109,7 +110,7 @@ pub extern "C" fn rustc_lexer_starts_raw_unchecked(text: &[u8], prefix_len: u32)
 /// of the next token.
 #[unsafe(no_mangle)]
 pub extern "C" fn rustc_lexer_guarded_str(text: &[u8], string: &mut CGuardedStr) -> u32
-    ensures { Writes text.now (Unit {0}) 0 (spec.guarded_at text.now) (spec.guarded_numbers None) string.new result }
+    ensures { Writes text.now (Unit {0}) OK (spec.guarded_at text.now) (spec.guarded_numbers None) string.new result }
 {
     match text_of(text) {
         Ok(text) => done(guarded_str(text), string),
@@ -122,7 +123,7 @@ pub extern "C" fn rustc_lexer_guarded_str(text: &[u8], string: &mut CGuardedStr)
 #[unsafe(no_mangle)]
 pub extern "C" fn rustc_lexer_guarded_str_unchecked(text: &[u8], string: &mut CGuardedStr) -> u32
     requires utf8 { IsUtf8 text.now }
-    ensures { Writes text.now (Unit {0}) 0 (spec.guarded_at text.now) (spec.guarded_numbers None) string.new result }
+    ensures { Writes text.now (Unit {0}) OK (spec.guarded_at text.now) (spec.guarded_numbers None) string.new result }
 {
     match utf8_text_of(text) {
         Ok(text) => done(guarded_str(text), string),

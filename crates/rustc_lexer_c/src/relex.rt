@@ -8,6 +8,7 @@ ghost use Rattle.rustc_lexer.specs.LanguageCalls.{edition_of_year};
 ghost use Rattle.rustc_lexer.specs.Relexing.{IsChange, IsMadeOf, IsUnderWay, MayGoOn};
 ghost use Rattle.rustc_lexer.specs.Locality.{IsGrammar};
 ghost use Rattle.rustc_lexer_c.specs.Relex as spec;
+ghost use Rattle.rustc_lexer_c.specs.Status.{OK};
 
 use crate::status::{OK, Refusal, refuse, text_of, utf8_text_of};
 use crate::token::CToken;
@@ -22,6 +23,13 @@ pub struct CEdit {
     pub old_stop: u32,
     pub new_stop: u32,
 }
+
+/// The stages of lexing an edited text again: before the first call, while tokens are left to write, and after the last.
+const STAGE_BEGIN: usize = 0;
+
+const STAGE_MORE: usize = 1;
+
+const STAGE_DONE: usize = 2;
 
 /// How far an edited text has been lexed again.
 #[repr(C)]
@@ -111,10 +119,10 @@ fn relex(
 ) -> u32
     requires fits { Fits text.now }
     ensures status { spec.IsRelexStatus text.now edit.now edition (length old.now) relexing.old result }
-    ensures batch { result ≡ 0 → (year : Edition) → edition_of_year edition ≡ Some year
+    ensures batch { result ≡ OK → (year : Edition) → edition_of_year edition ≡ Some year
         → spec.IsRelexBatch year text.now old.now edit.now relexing.old
         buffer.old relexing.new buffer.new count.new }
-    ensures refused { result ≢ 0
+    ensures refused { result ≢ OK
         → (relexing.new ≡ relexing.old) × (buffer.new ≡ buffer.old) × (count.new ≡ 0) }
 {
     let Some(edition) = edition_of(edition) else {
@@ -157,7 +165,7 @@ fn standing(text: &str, old: &[CToken], change: Change, relexing: &CRelexing) ->
     ensures none { result ≡ None ↔ ¬ (spec.MayRelex text.now (length old.now) relexing.now) }
     ensures some { IfSome result (λ at. MayGoOn text.now (length old.now) at
         × (at.lexed ≡ spec.lexed_before relexing.now)
-        × (relexing.now.stage ≢ 0 → at.front ≡ spec.front_of relexing.now)
+        × (relexing.now.stage ≢ spec.STAGE_BEGIN → at.front ≡ spec.front_of relexing.now)
         × ((first : List ℕ → Token) (before insert : List ℕ) → IsGrammar first
         → IsMadeOf first before (map (λ (t : CToken). t.len) old.now) change insert text.now
         → spec.IsPassed first before change text.now (length old.now) relexing.now
@@ -167,7 +175,7 @@ fn standing(text: &str, old: &[CToken], change: Change, relexing: &CRelexing) ->
         number: relexing.kept_front,
         offset: relexing.front_offset,
     };
-    if relexing.stage == 0 {
+    if relexing.stage == STAGE_BEGIN {
         return Some(Relexing::begin(text, old, change, front));
     }
     if relexing.kept_back > old.len() {
@@ -181,7 +189,7 @@ fn standing(text: &str, old: &[CToken], change: Change, relexing: &CRelexing) ->
             offset: relexing.back_offset,
         },
         at: relexing.at,
-        met: relexing.stage == 2,
+        met: relexing.stage == STAGE_DONE,
     };
     at.may_go_on(text, old.len()).then_some(at)
 }
@@ -198,6 +206,10 @@ fn relexing_numbers(at: &Relexing, text: &str, old_count: usize) -> CRelexing
         kept_back: old_count - at.back.number,
         back_offset: at.back.offset,
         at: at.at,
-        stage: if at.is_over(text) { 2 } else { 1 },
+        stage: if at.is_over(text) {
+            STAGE_DONE
+        } else {
+            STAGE_MORE
+        },
     }
 }

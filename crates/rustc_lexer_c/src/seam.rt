@@ -3,6 +3,7 @@ ghost use Rattle.std.specs.Prelude.{◌≡◌, ◌≢◌, Some};
 ghost use Rattle.rustc_lexer.specs.declared.edition.Edition.{Edition};
 ghost use Rattle.rustc_lexer.specs.LanguageCalls.{edition_of_year};
 ghost use Rattle.rustc_lexer_c.specs.Seam.{IsSeamStatus, TellsSeam};
+ghost use Rattle.rustc_lexer_c.specs.Status.{OK};
 
 use crate::relex::edition_of;
 use crate::status::{Refusal, done, refuse, text_of};
@@ -13,9 +14,9 @@ use rustc_lexer::is_seam;
 #[unsafe(no_mangle)]
 pub extern "C" fn rustc_lexer_is_seam(text: &[u8], at: usize, edition: u32, is: &mut u32) -> u32
     ensures status { IsSeamStatus text.now at edition result }
-    ensures seam { result ≡ 0 → (year : Edition) → edition_of_year edition ≡ Some year
+    ensures seam { result ≡ OK → (year : Edition) → edition_of_year edition ≡ Some year
         → TellsSeam text.now at year is.new }
-    ensures refused { result ≢ 0 → is.new ≡ 0 }
+    ensures refused { result ≢ OK → is.new ≡ 0 }
 {
     let text = match text_of(text) {
         Ok(text) => text,

@@ -7,6 +7,15 @@ use rustc_literal_escaper::erased::{
     Element, Elements, EscapeError, Faults, Mode, unescape_byte, unescape_char,
 };
 
+/// The kinds of units.
+const UNIT_CHAR: u32 = 1;
+
+const UNIT_BYTE: u32 = 2;
+
+const UNIT_ERROR: u32 = 3;
+
+const UNIT_WARNING: u32 = 4;
+
 /// A unit that a literal stands for, or an error or warning, and its place in bytes.
 #[repr(C)]
 #[derive(Clone, Copy, Debug, PartialEq, Eq)]
@@ -164,8 +173,8 @@ fn fill_one(unit: CUnit, passed: usize, buffer: &mut [CUnit]) -> usize {
 /// Returns the unit between single quotes.
 fn single_unit(text: &str, mode: Mode) -> CUnit {
     match mode {
-        Mode::Byte => coded_unit(0..text.len(), 2, unescape_byte(text).map(u32::from)),
-        _ => coded_unit(0..text.len(), 1, unescape_char(text).map(u32::from)),
+        Mode::Byte => coded_unit(0..text.len(), UNIT_BYTE, unescape_byte(text).map(u32::from)),
+        _ => coded_unit(0..text.len(), UNIT_CHAR, unescape_char(text).map(u32::from)),
     }
 }
 
@@ -233,17 +242,21 @@ fn fill_all<U: Units>(mut units: U, passed: usize, buffer: &mut [CUnit]) -> usiz
 fn item_unit(mode: Mode, place: Range<usize>, element: Element) -> CUnit {
     match mode {
         Mode::Char | Mode::Str | Mode::RawStr => {
-            coded_unit(place, 1, element.to_char().map(u32::from))
+            coded_unit(place, UNIT_CHAR, element.to_char().map(u32::from))
         }
         Mode::Byte | Mode::ByteStr | Mode::RawByteStr => {
-            coded_unit(place, 2, element.to_byte().map(u32::from))
+            coded_unit(place, UNIT_BYTE, element.to_byte().map(u32::from))
         }
         Mode::CStr => mixed_unit(place, element),
-        Mode::RawCStr => coded_unit(place, 1, element.to_raw_unit().map(|c| c.get() as u32)),
+        Mode::RawCStr => coded_unit(
+            place,
+            UNIT_CHAR,
+            element.to_raw_unit().map(|c| c.get() as u32),
+        ),
     }
 }
 
-/// Returns a unit of a kind, 1 or 2, by its number, or the error.
+/// Returns a unit of a kind by its number, or the error.
 fn coded_unit(place: Range<usize>, kind: u32, meaning: Result<u32, EscapeError>) -> CUnit {
     match meaning {
         Ok(code) => unit_at(place, kind, code),
@@ -262,10 +275,10 @@ fn mixed_unit(place: Range<usize>, element: Element) -> CUnit {
 /// Returns a unit of a C string with which nothing is wrong, as numbers.
 fn sound_unit(place: Range<usize>, element: Element) -> CUnit {
     match element {
-        Element::Plain(c) => unit_at(place, 1, c as u32),
-        Element::Byte(byte) if byte < 128 => unit_at(place, 1, u32::from(byte)),
-        Element::Byte(byte) => unit_at(place, 2, u32::from(byte)),
-        Element::Unicode(_) => coded_unit(place, 1, element.to_char().map(u32::from)),
+        Element::Plain(c) => unit_at(place, UNIT_CHAR, c as u32),
+        Element::Byte(byte) if byte < 128 => unit_at(place, UNIT_CHAR, u32::from(byte)),
+        Element::Byte(byte) => unit_at(place, UNIT_BYTE, u32::from(byte)),
+        Element::Unicode(_) => coded_unit(place, UNIT_CHAR, element.to_char().map(u32::from)),
         Element::Fault(error) => wrong_unit(place, error),
     }
 }
@@ -287,9 +300,10 @@ fn unit_at(place: Range<usize>, kind: u32, value: u32) -> CUnit {
 
 /// Returns the kind of the unit for an error or a warning.
 fn wrong_kind(error: EscapeError) -> u32 {
-    match error {
-        EscapeError::UnskippedWhitespaceWarning | EscapeError::MultipleSkippedLinesWarning => 4,
-        _ => 3,
+    if error.is_fatal() {
+        UNIT_ERROR
+    } else {
+        UNIT_WARNING
     }
 }
 

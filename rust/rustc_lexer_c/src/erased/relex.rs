@@ -15,6 +15,13 @@ pub struct CEdit {
     pub new_stop: u32,
 }
 
+/// The stages of lexing an edited text again: before the first call, while tokens are left to write, and after the last.
+const STAGE_BEGIN: usize = 0;
+
+const STAGE_MORE: usize = 1;
+
+const STAGE_DONE: usize = 2;
+
 /// How far an edited text has been lexed again.
 #[repr(C)]
 #[derive(Clone, Copy, Debug, PartialEq, Eq)]
@@ -125,7 +132,7 @@ fn standing(text: &str, old: &[CToken], change: Change, relexing: &CRelexing) ->
         number: relexing.kept_front,
         offset: relexing.front_offset,
     };
-    if relexing.stage == 0 {
+    if relexing.stage == STAGE_BEGIN {
         return Some(Relexing::begin(text, old, change, front));
     }
     if relexing.kept_back > old.len() {
@@ -139,7 +146,7 @@ fn standing(text: &str, old: &[CToken], change: Change, relexing: &CRelexing) ->
             offset: relexing.back_offset,
         },
         at: relexing.at,
-        met: relexing.stage == 2,
+        met: relexing.stage == STAGE_DONE,
     };
     at.may_go_on(text, old.len()).then_some(at)
 }
@@ -153,6 +160,10 @@ fn relexing_numbers(at: &Relexing, text: &str, old_count: usize) -> CRelexing {
         kept_back: old_count - at.back.number,
         back_offset: at.back.offset,
         at: at.at,
-        stage: if at.is_over(text) { 2 } else { 1 },
+        stage: if at.is_over(text) {
+            STAGE_DONE
+        } else {
+            STAGE_MORE
+        },
     }
 }

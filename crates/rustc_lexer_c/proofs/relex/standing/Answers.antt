@@ -1,8 +1,8 @@
 use Rattle.rustc_lexer_c.proofs.relex.standing.Goals as goal
 
-pub returns-then-relexing-eq0-clause-some : goal.returns-then-relexing-eq0-clause-some
-returns-then-relexing-eq0-clause-some c =
-    let zero_stage = c.if-relexing-eq0.true in (
+pub returns-then-relexing-eq-STAGE_BEGIN-clause-some : goal.returns-then-relexing-eq-STAGE_BEGIN-clause-some
+returns-then-relexing-eq-STAGE_BEGIN-clause-some c =
+    let zero_stage = c.if-relexing-eq-STAGE_BEGIN.true in (
       c.begin.ensures.may_go_on,
       rw zero_stage c.begin.ensures.none,
       λ later. absurd (later zero_stage),
