@@ -46,7 +46,7 @@ const WORDS: [(&str, [Option<Keyword>; 4]); 26] = [
 
 #[test]
 fn words_are_keywords_by_edition() {
-    for edition in Edition::ALL {
+    for &edition in Edition::ALL {
         for word in STRICT.split(' ').filter(|word| !word.is_empty()) {
             assert_eq!(
                 keyword_in(word, edition),
@@ -158,7 +158,7 @@ fn frontmatters_end_well_or_not() {
         ("---a b\n---", Some(FrontmatterInfostring)),
         ("---a b\nc", Some(OpenFrontmatter)),
     ] {
-        for edition in Edition::ALL {
+        for &edition in Edition::ALL {
             let token = tokenize_document(text, edition).next().unwrap();
             assert!(
                 matches!(token.kind, TokenKind::Frontmatter { .. }),
