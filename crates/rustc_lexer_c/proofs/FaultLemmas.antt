@@ -1,26 +1,53 @@
 -- The kind that numbers stand for has the class and the error of each token with these numbers.
-use Rattle.std.proofs.Common.{◌≡◌, List, ℕ, ap, arith, sym, ◌∙◌}
+use Rattle.std.proofs.Common.{◌≡◌, Bool, true, false, List, ℕ, Option, None, Some, ap, arith, refl, sym, ◌∙◌}
 use Rattle.std.proofs.lemmas.Grind.{common_steps}
 use Rattle.rustc_lexer.specs.declared.token.Token.{Token}
 use Rattle.rustc_lexer.specs.declared.token.LiteralKind.{LiteralKind}
+use Rattle.rustc_lexer.specs.declared.token.LiteralKind.TheVariants.{Int, Float, Char, Byte, Str, ByteStr, CStr, RawStr, RawByteStr, RawCStr}
 use Rattle.rustc_lexer.specs.declared.token.TokenKind.{TokenKind}
+use Rattle.rustc_lexer.specs.declared.token.TokenKind.TheVariants.{Literal}
 use Rattle.rustc_lexer.specs.Kinds.{kind_entry, literal_entry}
 use Rattle.rustc_lexer_c.specs.declared.token.CToken.{CToken}
-use Rattle.rustc_lexer_c.specs.Faults.{kind_of}
+use Rattle.rustc_lexer_c.specs.Faults.{kind_of, literal_of}
 use Rattle.rustc_lexer_c.specs.Numbers.{first_of, literal_second, literal_third, second_of, third_of, token_numbers}
-use Rattle.marks.specs.Class.{class_of}
-use Rattle.marks.specs.Fault.{fault_of}
+use Rattle.marks.specs.Class.{class_of, literal_class}
+use Rattle.marks.specs.Fault.{fault_of, literal_fault}
 
-class_kept : (it : Token) (text : List ℕ) → class_of (kind_of (token_numbers it)) text ≡ class_of it.kind text
-unfolding kind_entry literal_entry token_numbers first_of second_of third_of literal_second literal_third
-class_kept it text = grind (arith, common_steps)
+abbrev AreKept : TokenKind → ℕ → List ℕ → Type 0
+AreKept kind len text =
+    let numbers : CToken = token_numbers record { kind = kind; len = len } in
+    (class_of (kind_of numbers) text ≡ class_of kind text) × (fault_of (kind_of numbers) text ≡ fault_of kind text)
 
-fault_kept : (it : Token) (text : List ℕ) → fault_of (kind_of (token_numbers it)) text ≡ fault_of it.kind text
+literal_kept : (kind : LiteralKind) (suffix_start len : ℕ) (text : List ℕ) → AreKept (Literal kind suffix_start) len text
 unfolding kind_entry literal_entry token_numbers first_of second_of third_of literal_second literal_third
-fault_kept it text = grind (arith, common_steps)
+literal_kept (Int base true) s len text = (refl, refl)
+literal_kept (Int base false) s len text = (refl, refl)
+literal_kept (Float base true) s len text = (refl, refl)
+literal_kept (Float base false) s len text = (refl, refl)
+literal_kept (Char true) s len text = (refl, refl)
+literal_kept (Char false) s len text = (refl, refl)
+literal_kept (Byte true) s len text = (refl, refl)
+literal_kept (Byte false) s len text = (refl, refl)
+literal_kept (Str true) s len text = (refl, refl)
+literal_kept (Str false) s len text = (refl, refl)
+literal_kept (ByteStr true) s len text = (refl, refl)
+literal_kept (ByteStr false) s len text = (refl, refl)
+literal_kept (CStr true) s len text = (refl, refl)
+literal_kept (CStr false) s len text = (refl, refl)
+literal_kept (RawStr None) s len text = (refl, refl)
+literal_kept (RawStr (Some n)) s len text = (refl, refl)
+literal_kept (RawByteStr None) s len text = (refl, refl)
+literal_kept (RawByteStr (Some n)) s len text = (refl, refl)
+literal_kept (RawCStr None) s len text = (refl, refl)
+literal_kept (RawCStr (Some n)) s len text = (refl, refl)
+
+are_kept : (kind : TokenKind) (len : ℕ) (text : List ℕ) → AreKept kind len text
+unfolding kind_entry token_numbers first_of second_of third_of
+are_kept (Literal kind suffix_start) len text = literal_kept kind suffix_start len text
+are_kept kind len text = grind (arith, common_steps, literal_kept)
 
 pub same_class : (it : Token) (token : CToken) (text : List ℕ) → token_numbers it ≡ token → class_of (kind_of token) text ≡ class_of it.kind text
-same_class it token text same = ap (λ (t : CToken). class_of (kind_of t) text) (sym same) ∙ class_kept it text
+same_class it token text same = ap (λ (t : CToken). class_of (kind_of t) text) (sym same) ∙ (are_kept it.kind it.len text).0
 
 pub same_fault : (it : Token) (token : CToken) (text : List ℕ) → token_numbers it ≡ token → fault_of (kind_of token) text ≡ fault_of it.kind text
-same_fault it token text same = ap (λ (t : CToken). fault_of (kind_of t) text) (sym same) ∙ fault_kept it text
+same_fault it token text same = ap (λ (t : CToken). fault_of (kind_of t) text) (sym same) ∙ (are_kept it.kind it.len text).1
