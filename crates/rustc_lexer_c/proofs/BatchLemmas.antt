@@ -64,9 +64,9 @@ module _ (text : List ℕ) (is : IsText text) (place : CPlace) (boundary : IsCha
   state_is : state_past count (state_at text place) ≡ t
   state_is = ap (state_past count) (sym begun) ∙ sym past
 
-  newest : mode_edition t.mode ≡ newest
-  newest = leaves.edition ∙ (ap (λ (x : State). mode_edition x.mode) begun ∙ mode_of-edition (allowed_of place.frontmatter_allowed))
+  newest_token : mode_edition t.mode ≡ newest
+  newest_token = leaves.edition ∙ (ap (λ (x : State). mode_edition x.mode) begun ∙ mode_of-edition (allowed_of place.frontmatter_allowed))
 
   pub batch_is : (place' : CPlace) (allowed : FrontmatterAllowed) → place'.at ≡ length text - length t.rest → t.mode ≡ mode_in allowed (mode_edition t.mode) → place'.frontmatter_allowed ≡ allowed_number allowed → IsBatch text (state_at text place) buffer place' filled count
   batch_is place' allowed at held number =
-      grind (arith, common_steps, place_is, rest_is, newest, here, IsCharBoundary-from_rest, inside, state_is, number_of-mode, allowed_back, leaves)
+      grind (arith, common_steps, place_is, rest_is, newest_token, here, IsCharBoundary-from_rest, inside, state_is, number_of-mode, allowed_back, leaves)
