@@ -4,7 +4,7 @@ use Rattle.std.proofs.Common.{arith}
 use Rattle.std.proofs.Common.{◌≡◌, ℕ, ◌+◌, List, ◌∷◌, ◌++◌, ap, append_assoc}
 use Rattle.std.specs.Fmt.{WritesInCalls}
 use Rattle.rustc_lexer.specs.declared.token.Token.{Token}
-use Rattle.rustc_lexer.specs.Edits.{Placed, pieces_from}
+use Rattle.rustc_lexer.specs.Kept.{Placed, pieces_from}
 use Rattle.examples.specs.Repaint.{close_mark, marked, open_mark}
 
 -- what was gathered of the pieces in front of a token, and then what the token gives

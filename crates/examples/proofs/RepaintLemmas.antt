@@ -5,7 +5,8 @@ use Rattle.std.proofs.lemmas.List.{drop-take}
 use Rattle.rustc_lexer.specs.declared.relex.relexing.Relexed.{Relexed}
 use Rattle.rustc_lexer.specs.declared.token.Token.{Token}
 use Rattle.rustc_lexer.specs.Tokens.{bound, tokens_by}
-use Rattle.rustc_lexer.specs.Edits.{IsEdit, IsRelexed, apply, part_by, Placed, pieces_from}
+use Rattle.rustc_lexer.specs.Edits.{IsEdit, IsRelexed, apply, part_by}
+use Rattle.rustc_lexer.specs.Kept.{Placed, pieces_from}
 use Rattle.rustc_lexer.specs.means.Relexing.{IsBodyMeeting, kept_front}
 use Rattle.rustc_lexer.specs.Locality.{has_two, IsGrammar}
 use Rattle.rustc_lexer.specs.Classes.{IsText}

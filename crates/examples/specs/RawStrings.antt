@@ -4,7 +4,7 @@ use Rattle.rustc_lexer.specs.declared.token.LiteralKind.TheVariants.{RawStr, Raw
 use Rattle.rustc_lexer.specs.declared.token.RawStrError.{RawStrError}
 use Rattle.rustc_lexer.specs.declared.token.TokenKind.{TokenKind}
 use Rattle.rustc_lexer.specs.declared.token.TokenKind.TheVariants.{Literal}
-use Rattle.rustc_lexer.specs.Edits.{Placed}
+use Rattle.rustc_lexer.specs.Kept.{Placed}
 use Rattle.rustc_lexer.specs.Answers.{raw_check}
 use Rattle.examples.specs.declared.raw_strings.RawFault.{RawFault}
 

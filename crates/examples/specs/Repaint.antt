@@ -3,7 +3,7 @@ use Rattle.std.specs.Prelude.{ℕ, ◌+◌, ◌-◌, List, [], ◌∷◌, ◌++�
 use Rattle.rustc_lexer.specs.declared.token.TokenKind.{TokenKind}
 use Rattle.rustc_lexer.specs.declared.token.TokenKind.TheVariants.{LineComment, BlockComment, Literal, Lifetime, RawLifetime, UnknownPrefixLifetime, Unknown}
 use Rattle.rustc_lexer.specs.declared.relex.relexing.Relexed.{Relexed}
-use Rattle.rustc_lexer.specs.Edits.{Placed}
+use Rattle.rustc_lexer.specs.Kept.{Placed}
 
 -- the pieces of the new text that were lexed
 abbrev pub changed : Relexed → List Placed → List Placed

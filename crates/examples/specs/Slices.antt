@@ -3,7 +3,7 @@ use Rattle.std.specs.Prelude.{ℕ, Bool, true, false, ◌&&◌, if◌then◌else
 use Rattle.std.specs.Str.{bytes_eq}
 use Rattle.rustc_lexer.specs.declared.token.TokenKind.{TokenKind}
 use Rattle.rustc_lexer.specs.declared.token.TokenKind.TheVariants.{Ident}
-use Rattle.rustc_lexer.specs.Edits.{Placed}
+use Rattle.rustc_lexer.specs.Kept.{Placed}
 
 abbrev pub is_ident_kind : TokenKind → Bool
 is_ident_kind Ident = true

@@ -1,7 +1,7 @@
 //! Checks the raw strings of a file.
 ghost use Rattle.std.specs.Prelude.{◌≡◌, IfOk};
 ghost use Rattle.rustc_lexer.specs.Classes.{Fits};
-ghost use Rattle.rustc_lexer.specs.Edits.{pieces_from};
+ghost use Rattle.rustc_lexer.specs.Kept.{pieces_from};
 ghost use Rattle.rustc_lexer.specs.Document.{document_tokens, shebang_len};
 ghost use Rattle.rustc_lexer.specs.LanguageText.{newest};
 ghost use Rattle.rustc_lexer.specs.Tokens.{HasText};

@@ -1,7 +1,8 @@
 //! Repaints the tokens of a text that an edit changed.
 ghost use Rattle.std.specs.Prelude.{◌≡◌, ◌+◌, ◌-◌, OnOk, OnErr, IfOk, length};
 ghost use Rattle.std.specs.Fmt.{WritesInCalls};
-ghost use Rattle.rustc_lexer.specs.Edits.{IsEdit, apply, pieces_from};
+ghost use Rattle.rustc_lexer.specs.Edits.{IsEdit, apply};
+ghost use Rattle.rustc_lexer.specs.Kept.{pieces_from};
 ghost use Rattle.examples.specs.Repaint.{changed, close_mark, marked, open_mark, shown_after};
 
 use rustc_lexer::{LexedText, Relexed, Stepper, TokenKind};

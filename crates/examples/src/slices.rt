@@ -1,7 +1,7 @@
 //! Slices a text by its tokens.
 ghost use Rattle.std.specs.Prelude.{◌≡◌};
 ghost use Rattle.rustc_lexer.specs.Classes.{Fits};
-ghost use Rattle.rustc_lexer.specs.Edits.{pieces_from};
+ghost use Rattle.rustc_lexer.specs.Kept.{pieces_from};
 ghost use Rattle.rustc_lexer.specs.LanguageText.{part, newest};
 ghost use Rattle.rustc_lexer.specs.Tokens.{tokens_of};
 ghost use Rattle.examples.specs.Slices.{find_start};

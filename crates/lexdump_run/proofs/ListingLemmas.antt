@@ -4,7 +4,7 @@ use Rattle.std.proofs.lemmas.Grind.{common_steps}
 use Rattle.std.proofs.lemmas.List.{nil_from_length}
 use Rattle.std.specs.Str.{IsUtf8}
 use Rattle.rustc_lexer.specs.declared.token.Token.{Token}
-use Rattle.rustc_lexer.specs.Edits.{Placed, pieces_from}
+use Rattle.rustc_lexer.specs.Kept.{Placed, pieces_from}
 use Rattle.rustc_lexer.specs.LanguageText.{Mode}
 use Rattle.rustc_lexer.specs.State.{State}
 use Rattle.rustc_lexer.specs.Tokens.{bound, tokens_left, tokens_of}

@@ -8,7 +8,8 @@ use Rattle.rustc_lexer.specs.{Token}
 use Rattle.rustc_lexer.specs.Classes.{IsText}
 use Rattle.rustc_lexer.specs.Locality.{IsGrammar}
 use Rattle.rustc_lexer.specs.Tokens.{bound, tokens_by}
-use Rattle.rustc_lexer.specs.Edits.{apply, IsEdit, IsBound}
+use Rattle.rustc_lexer.specs.Edits.{apply, IsEdit}
+use Rattle.rustc_lexer.specs.Offsets.{IsBound}
 use Rattle.rustc_lexer.specs.means.Checkpoints.{AreBounds, IsMovable, IsReplaced}
 use Rattle.rustc_lexer.proofs.BoundLemmas.{bound_mono, tokens_le_bytes}
 use Rattle.rustc_lexer.proofs.EditLemmas.{edited, bound-same}

@@ -15,7 +15,8 @@ use Rattle.rustc_lexer.specs.declared.relex.relexing.Relexing.{Relexing}
 use Rattle.rustc_lexer.specs.{Token}
 use Rattle.rustc_lexer.specs.Classes.{IsText}
 use Rattle.rustc_lexer.specs.means.Document.{body_change, body_insert, counted, document_by, head_put, head_unless, HeadStays, IsCountedByHead, IsRelexedAs, IsRelexedByHead, IsRelexedWith, IsRenewedBehind, tokens_of_head}
-use Rattle.rustc_lexer.specs.Edits.{apply, IsBound, IsEdit}
+use Rattle.rustc_lexer.specs.Edits.{apply, IsEdit}
+use Rattle.rustc_lexer.specs.Offsets.{IsBound}
 use Rattle.rustc_lexer.specs.Relexing.{IsMadeOf}
 use Rattle.rustc_lexer.specs.Locality.{IsGrammar}
 use Rattle.rustc_lexer.specs.Tokens.{tokens_by}

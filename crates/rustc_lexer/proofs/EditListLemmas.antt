@@ -1,12 +1,15 @@
 -- A list of edits, one edit at a time.
-use Rattle.std.proofs.Common.{◌≡◌, ℕ, zero, suc, ◌+◌, ◌-◌, ◌<◌, ◌≤◌, min, List, [], ◌∷◌, length, take, drop, get_or, refl, sym, ap, ◌∙◌, subst, arith, length-drop, length-take-le, drop-drop}
+use Rattle.std.proofs.Common.{◌≡◌, ℕ, zero, suc, ◌+◌, ◌-◌, ◌<◌, ◌≤◌, min, List, [], ◌∷◌, length, take, drop, get_or, refl, sym, ap, ◌∙◌, subst, arith, length-drop, length-take-le, drop-drop, Option, IfSome}
 use Rattle.std.proofs.lemmas.List.{length-take}
+use Rattle.std.proofs.lemmas.Option.{slice_get-get_or}
 use Rattle.std.proofs.lemmas.Grind.{common_steps}
 use Rattle.rustc_lexer.specs.{Token}
 use Rattle.rustc_lexer.specs.laws.Reach.{cut}
 use Rattle.rustc_lexer.specs.declared.relex.edit.Edit.{Edit}
+use Rattle.rustc_lexer.specs.declared.relex.edit_list.EditStop.{EditStop}
+use Rattle.rustc_lexer.specs.declared.relex.edit_list.EditStop.TheVariants.{Memory}
 use Rattle.rustc_lexer.specs.declared.relex.relexing.Relexed.{Relexed}
-use Rattle.rustc_lexer.specs.Edits.{IsEdit, IsRelexed, Layout, applied, apply, apply_list, AreEdits, AreLeast, AreStepped}
+use Rattle.rustc_lexer.specs.Edits.{IsEdit, IsRelexed, Layout, applied, apply, apply_list, AreEdits, AreLeast, AreStepped, IsRefusedOn, IsStop, IsStopStepped, stop_at}
 
 pub apply-next : (text : List ℕ) (es : List Edit) (n : ℕ) (d : Edit) → n < length es → apply_list text (take (suc n) es) ≡ applied (apply_list text (take n es)) (get_or es n d)
 apply-next text [] n d few = absurd (omega arith)
@@ -26,7 +29,7 @@ IsStepped layout text start stop insert before after =
     (r : Relexed) × IsRelexed layout text start stop insert r × (after + (length (layout (apply text start stop insert)).head - r.kept_front) ≡ before + r.lexed)
 
 -- what takes no more than these
-pub most_of : (layout : List ℕ → Layout) (text : List ℕ) (start stop : ℕ) (insert : List ℕ) (before after : ℕ)
+most_of : (layout : List ℕ → Layout) (text : List ℕ) (start stop : ℕ) (insert : List ℕ) (before after : ℕ)
     → (r : Relexed) × IsRelexed layout text start stop insert r × (after + (length (layout (apply text start stop insert)).head - r.kept_front) ≤ before + r.lexed)
     → (most : ℕ) × IsStepped layout text start stop insert before most × (after ≤ most)
 most_of layout text start stop insert before after few =
@@ -52,6 +55,13 @@ module _ (layout : (List ℕ → Token) → List ℕ → Layout) (first : List �
       let here : IsSteppedBy (apply_list text (take n es)) e between after = subst (λ f. IsStepped (layout f) (apply_list text (take n es)) e.start e.stop e.insert.now between after) same (subst (λ xs. IsStepped (layout then) xs e.start e.stop e.insert.now between after) is one) in
       subst (λ k. AreStepped (layout first) text (take k es) before after) more (stepped-next text es n none before between after few are here)
 
+  -- where memory is refused, the steps are at most those of one edit more
+  pub stop-stepped : (then : List ℕ → Token) (text now : List ℕ) (es : List Edit) (n before between after : ℕ) → n < length es → now ≡ apply_list text (take n es) → then ≡ first → AreStepped (layout first) text (take n es) before between → between ≤ after
+      → (r : Relexed) × IsRelexed (layout then) now (get_or es n none).start (get_or es n none).stop (get_or es n none).insert.now r × (after + (length (layout then (applied now (get_or es n none))).head - r.kept_front) ≤ between + r.lexed) → IsStopStepped (Memory n) (layout first) text es before after
+  stop-stepped then text now es n before between after few is same are rose at_most =
+      let most = most_of (layout then) now (get_or es n none).start (get_or es n none).stop (get_or es n none).insert.now between after at_most in
+      (between, most.0, are, rose, stepped-more then text now es n before between most.0 few is same are most.1, most.2)
+
 -- one more edit keeps no more
 module _ (layout : (List ℕ → Token) → List ℕ → Layout) (first : List ℕ → Token) (r : Relexed) where
   least-next : (text : List ℕ) (es : List Edit) (n : ℕ) (d : Edit) (f b front back next_front next_back : ℕ) → n < length es → next_front ≡ min front r.kept_front → next_back ≡ min back r.kept_back → AreLeast (layout first) text (take n es) f b front back
@@ -71,6 +81,10 @@ edits-next text (e ∷ es) (suc n) d few are is = (are.0, edits-next (applied te
 
 pub edits-more : (text now : List ℕ) (es : List Edit) (n : ℕ) → n < length es → now ≡ apply_list text (take n es) → AreEdits text (take n es) → IsEdit now (get_or es n none).start (get_or es n none).stop (get_or es n none).insert.now → AreEdits text (take (n + 1) es)
 edits-more text now es n few same are is = grind (arith, common_steps, edits-next)
+
+-- which edit stopped the list, and why
+pub stop_of : (text : List ℕ) (es : List Edit) (s : EditStop) → stop_at s < length es → IsRefusedOn s text (get_or es (stop_at s) none) → IsStop s text es
+stop_of text es s few refused = (few, subst (λ (o : Option Edit). IfSome o (IsRefusedOn s text)) (sym (slice_get-get_or es (stop_at s) none few)) refused)
 
 -- so many of the tokens stay at the front, and so many at the back
 pub record StayAtEnds (old new : List Token) (front back : ℕ) : Type 0 where

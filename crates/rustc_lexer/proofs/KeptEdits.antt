@@ -5,7 +5,8 @@ use Rattle.rustc_lexer.specs.declared.relex.relexing.Relexed.{Relexed}
 use Rattle.rustc_lexer.specs.Classes.{IsText}
 use Rattle.rustc_lexer.specs.Edits.{apply, IsEdit, IsRelexed}
 use Rattle.rustc_lexer.specs.Locality.{IsGrammar}
-use Rattle.rustc_lexer.specs.means.Document.{head_by, IsCountedByHead, IsRelexedByHead, layout_in}
+use Rattle.rustc_lexer.specs.means.Document.{head_by, IsCountedByHead, IsRelexedByHead}
+use Rattle.rustc_lexer.specs.Kept.{layout_in}
 use Rattle.rustc_lexer.specs.means.Relexing.{relexed_of}
 use Rattle.rustc_lexer.proofs.LayoutLemmas.{part_by_body}
 use Rattle.rustc_lexer.proofs.PartEdits.{counted_part, part_counted, part_relexed, relexed_part}

@@ -8,11 +8,12 @@ use Rattle.rustc_lexer.specs.declared.relex.front.Bound.{Bound}
 use Rattle.rustc_lexer.specs.declared.relex.head.Head.{Head}
 use Rattle.rustc_lexer.specs.{Token}
 use Rattle.rustc_lexer.specs.Classes.{IsText}
-use Rattle.rustc_lexer.specs.Edits.{IsBound}
+use Rattle.rustc_lexer.specs.Offsets.{IsBound}
 use Rattle.rustc_lexer.specs.means.Checkpoints.{IsBoundFrom}
 use Rattle.rustc_lexer.specs.Locality.{IsGrammar}
 use Rattle.rustc_lexer.specs.Tokens.{bound, tokens_by}
-use Rattle.rustc_lexer.specs.means.Document.{AreKeptOf, document_by, head_by, start_in, tokens_of_head}
+use Rattle.rustc_lexer.specs.means.Document.{AreKeptOf, document_by, head_by, tokens_of_head}
+use Rattle.rustc_lexer.specs.Kept.{start_in}
 use Rattle.rustc_lexer.specs.means.Pieces.{AreBoundariesFrom}
 use Rattle.rustc_lexer.proofs.BoundLemmas.{bound-last, bound_mono}
 use Rattle.rustc_lexer.proofs.DocumentHead.{bound-append, front_of}

@@ -40,6 +40,7 @@ pub mod CheckpointLemmas
 pub mod LaneLemmas
 pub mod LayoutLemmas
 pub mod LengthLemmas
+pub mod LexedLemmas
 pub mod LexemeLemmas
 pub mod LifetimeLemmas
 pub mod LiteralLemmas

@@ -4,7 +4,7 @@ use Rattle.std.proofs.lemmas.Bool.{cases_lt}
 use Rattle.std.proofs.lemmas.Grind.{common_steps}
 use Rattle.rustc_lexer.specs.declared.relex.front.Bound.{Bound}
 use Rattle.rustc_lexer.specs.{Token}
-use Rattle.rustc_lexer.specs.Edits.{AreTouched, ContainsByte}
+use Rattle.rustc_lexer.specs.Offsets.{AreTouched, ContainsByte}
 use Rattle.rustc_lexer.specs.Tokens.{bound}
 use Rattle.rustc_lexer.proofs.BoundLemmas.{bound_mono}
 use Rattle.rustc_lexer.proofs.FrontLemmas.{bound-next}

@@ -11,7 +11,9 @@ use Rattle.rustc_lexer.specs.declared.relex.relexing.Change.{Change}
 use Rattle.rustc_lexer.specs.declared.relex.relexing.Relexing.{Relexing}
 use Rattle.rustc_lexer.specs.{Token}
 use Rattle.rustc_lexer.specs.Tokens.{bound, tokens_by}
-use Rattle.rustc_lexer.specs.Edits.{apply, IsEdit, IsBound, known}
+use Rattle.rustc_lexer.specs.Edits.{apply, IsEdit}
+use Rattle.rustc_lexer.specs.Offsets.{IsBound}
+use Rattle.rustc_lexer.specs.Relexing.{known}
 use Rattle.rustc_lexer.specs.Relexing.{IsChange, IsMadeOf, IsWhole}
 use Rattle.rustc_lexer.specs.means.Relexing.{IsFollowed, IsFront, IsLast, kept_front, damage_of, old_stop_of, least_from, meet, meets_at, relexed_of, Stands}
 use Rattle.rustc_lexer.specs.Locality.{has_two, IsGrammar}

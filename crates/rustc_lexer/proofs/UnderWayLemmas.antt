@@ -3,7 +3,8 @@ use Rattle.std.proofs.Common.{◌≡◌, ℕ, ◌-◌, ◌≤◌, Bool, true, fa
 use Rattle.std.proofs.lemmas.Bool.{cases_lt}
 use Rattle.rustc_lexer.specs.declared.relex.relexing.{Change.Change, Relexing.Relexing}
 use Rattle.rustc_lexer.specs.{Token}
-use Rattle.rustc_lexer.specs.Edits.{apply, known}
+use Rattle.rustc_lexer.specs.Edits.{apply}
+use Rattle.rustc_lexer.specs.Relexing.{known}
 use Rattle.rustc_lexer.specs.Locality.{IsGrammar}
 use Rattle.rustc_lexer.specs.Relexing.{IsMadeOf, IsUnderWay}
 use Rattle.rustc_lexer.specs.Tokens.{bound, tokens_by}

@@ -1,6 +1,6 @@
--- What edits make of a text, which of its tokens they keep, and a text that is kept with its tokens.
+-- What edits make of a text, and which of its tokens they keep.
 use Rattle.std.specs.Prelude.{ℕ, ◌+◌, ◌-◌, ◌<◌, ◌≤◌, ◌^◌, List, [], ◌∷◌, ◌++◌, length, take, drop, min, IsCharBoundary, ◌≡◌, ◌↔◌, slice_get, IfSome, Option, Some, None, codes, decimal, count_by}
-use Rattle.rustc_lexer.specs.declared.relex.{edit.Edit.Edit, edit_list.EditStop.EditStop, front.Bound.Bound, pieces.Piece.Piece, relexing.Relexed.Relexed, relexing.Relexing.Relexing}
+use Rattle.rustc_lexer.specs.declared.relex.{edit.Edit.Edit, edit_list.EditStop.EditStop, relexing.Relexed.Relexed}
 use Rattle.rustc_lexer.specs.declared.relex.edit_list.EditStop.TheVariants.{Range, TooLong, Memory}
 use Rattle.rustc_lexer.specs.{Token}
 use Rattle.rustc_lexer.specs.Locality.{has_two}
@@ -66,13 +66,16 @@ pub record IsMeeting (old new : Layout) (old_stop new_stop number back : ℕ) : 
 -- the counts of an edit. It keeps the tokens of the head, and of the body those that end at least two characters before
 -- it; but if it does not keep the head, it keeps none in front. From there on, tokens are new up to the first boundary
 -- that matches one of the old tokens, and the old tokens after that are kept
-pub record IsRelexed (layout : List ℕ → Layout) (text : List ℕ) (start stop : ℕ) (insert : List ℕ) (r : Relexed) : Type 0 where
-  pub kept : KeepsHead (layout text) (layout (apply text start stop insert)) start
-      → r.kept_front ≡ length (layout text).head + count_by (λ end. has_two text end start) (ends_from (body_in (layout text)) (layout text).body)
-  pub changed : (KeepsHead (layout text) (layout (apply text start stop insert)) start → ⊥) → r.kept_front ≡ 0
-  pub meeting : IsMeeting (layout text) (layout (apply text start stop insert)) stop (start + length insert) (r.kept_front + r.lexed) r.kept_back
+pub record IsRelexedTo (old new : Layout) (text : List ℕ) (start stop new_stop : ℕ) (r : Relexed) : Type 0 where
+  pub kept : KeepsHead old new start
+      → r.kept_front ≡ length old.head + count_by (λ end. has_two text end start) (ends_from (body_in old) old.body)
+  pub changed : (KeepsHead old new start → ⊥) → r.kept_front ≡ 0
+  pub meeting : IsMeeting old new stop new_stop (r.kept_front + r.lexed) r.kept_back
   pub none_before : (number back : ℕ) → r.kept_front ≤ number → number < r.kept_front + r.lexed
-      → IsMeeting (layout text) (layout (apply text start stop insert)) stop (start + length insert) number back → ⊥
+      → IsMeeting old new stop new_stop number back → ⊥
+
+abbrev pub IsRelexed : (List ℕ → Layout) → List ℕ → ℕ → ℕ → List ℕ → Relexed → Type 0
+IsRelexed layout text start stop insert = IsRelexedTo (layout text) (layout (apply text start stop insert)) text start stop (start + length insert)
 
 -- ---- lists of edits
 
@@ -138,59 +141,3 @@ IsStopStepped (Memory at) layout text edits before after =
     (least most : ℕ) × AreStepped layout text (take at edits) before least × (least ≤ after)
     × AreStepped layout text (take (at + 1) edits) before most × (after ≤ most)
 IsStopStepped s layout text edits before after = AreStepped layout text (take (stop_at s) edits) before after
-
--- ---- a text that is kept with its tokens, and its pieces
-
--- the contents of a lexed text
-pub record Held (S : Type 0) : Type 0 where
-  pub text : List ℕ
-  pub tokens : List Token
-  pub stepper : S
-
--- a piece: the offset of a token, the token, and its text
-pub record Placed : Type 0 where
-  pub start : ℕ
-  pub token : Token
-  pub text : List ℕ
-
-abbrev pub placed : Piece → Placed
-placed piece = record { start = piece.start; token = piece.token; text = piece.text.now }
-
--- the pieces of the tokens, if the first of them begins at `start`
-abbrev pub pieces_from : List ℕ → ℕ → List Token → List Placed
-pieces_from text start [] = []
-pieces_from text start (token ∷ tokens) = record { start = start; token = token; text = take token.len (drop start text) } ∷ pieces_from text (start + token.len) tokens
-
--- what `next` does. If no piece is left, it returns None and changes nothing. Otherwise it takes the first piece, whose
--- text is as long as its token, and whose end is below 2 ^ 32
-abbrev pub YieldsPiece : List Placed → Option Piece → List Placed → Type 0
-YieldsPiece s None t = (s ≡ []) × (t ≡ s)
-YieldsPiece s (Some piece) t =
-    (s ≡ placed piece ∷ t) × (length piece.text.now ≡ piece.token.len) × (piece.start + piece.token.len < 2 ^ 32)
-
--- ---- from an offset to a token
-
--- the token with this number and this start contains the byte at `offset`, if the first token begins at `first`
-pub record ContainsByte (first : ℕ) (tokens : List Token) (offset : ℕ) (at : Bound) : Type 0 where
-  pub number : at.number < length tokens
-  pub start : at.offset ≡ first + bound tokens at.number
-  pub begins : at.offset ≤ offset
-  pub ends : offset < first + bound tokens (at.number + 1)
-
--- the tokens from number `from` up to number `to` are those that contain a byte of the range from `start` up to `stop`:
--- that begin before its end, and end past its start. An empty range has no byte
-pub record AreTouched (first : ℕ) (tokens : List Token) (start stop from to : ℕ) : Type 0 where
-  pub order : from ≤ to
-  pub inside : to ≤ length tokens
-  pub touched : (k : ℕ) → k < length tokens
-      → ((from ≤ k) × (k < to)) ↔ ((start < stop) × (first + bound tokens k < stop) × (start < first + bound tokens (k + 1)))
-
--- ---- how far a text is lexed again
-
--- `at` is a boundary of the tokens, by its number and its offset
-abbrev pub IsBound : List Token → Bound → Type 0
-IsBound tokens at = (at.number ≤ length tokens) × (at.offset ≡ bound tokens at.number)
-
--- how many of the new tokens are known: those that are kept at the front, and those that were lexed
-abbrev pub known : Relexing → ℕ
-known at = at.front.number + at.lexed

@@ -7,6 +7,7 @@ pub mod Edits
 pub mod FrontmatterGrammar
 pub mod GrammarLaws
 pub mod Joined
+pub mod Kept
 pub mod Kinds
 pub mod Language
 pub mod LanguageCalls
@@ -14,6 +15,7 @@ pub mod LanguageText
 pub mod LiteralGrammar
 pub mod Locality
 pub mod NumberGrammar
+pub mod Offsets
 pub mod Partition
 pub mod Relexing
 pub mod State

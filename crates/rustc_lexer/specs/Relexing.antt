@@ -4,7 +4,8 @@ use Rattle.rustc_lexer.specs.declared.relex.{head.Head.Head, relexing.Change.Cha
 use Rattle.rustc_lexer.specs.{Token, Whitespace}
 use Rattle.rustc_lexer.specs.Classes.{IsText}
 use Rattle.rustc_lexer.specs.Document.{body_start, head_tokens, shebang_len, whole_by}
-use Rattle.rustc_lexer.specs.Edits.{IsBound, IsEdit, IsInside, IsMeeting, IsRelexed, KeepsHead, apply, ends_from, known, part_by}
+use Rattle.rustc_lexer.specs.Offsets.{IsBound}
+use Rattle.rustc_lexer.specs.Edits.{IsEdit, IsInside, IsMeeting, IsRelexed, KeepsHead, apply, ends_from, part_by}
 use Rattle.rustc_lexer.specs.Locality.{has_two}
 use Rattle.rustc_lexer.specs.Partition.{bound, tokens_by}
 
@@ -27,6 +28,10 @@ pub record IsEditOf (before : List ℕ) (edit : Change) (insert text : List ℕ)
 pub record IsMadeOf (first : List ℕ → Token) (before lengths : List ℕ) (edit : Change) (insert text : List ℕ) : Type 0 where
   pub edit_of : IsEditOf before edit insert text
   pub lengths_are : lengths ≡ map (λ (t : Token). t.len) (tokens_by first before)
+
+-- how many of the new tokens are known: those that are kept at the front, and those that were lexed
+abbrev pub known : Relexing → ℕ
+known at = at.front.number + at.lexed
 
 -- relexing can go on from these numbers
 pub record MayGoOn (text : List ℕ) (count : ℕ) (at : Relexing) : Type 0 where

@@ -30,7 +30,7 @@ pub use entry::{
 pub use lexemes::ident::is_ident;
 pub use raw_check::{starts_raw, validate_raw_str};
 pub use relex::{
-    BodyChange, Bound, Change, Edit, EditStop, Head, JoinError, JoinedText, LexedDocument,
+    BodyChange, Bound, Change, Edit, EditStop, Head, JoinError, JoinedText, Lexed, LexedDocument,
     LexedText, Measured, Piece, Pieces, Relexed, Relexing, is_seam, settled,
 };
 pub use shebang::strip_shebang;

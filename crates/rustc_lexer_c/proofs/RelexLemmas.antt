@@ -9,7 +9,8 @@ use Rattle.rustc_lexer.specs.declared.token.Token.{Token}
 use Rattle.rustc_lexer.specs.Tokens.{tokens_by, tokens_of}
 use Rattle.rustc_lexer.specs.Answers.{first_in}
 use Rattle.rustc_lexer.specs.LanguageText.{part}
-use Rattle.rustc_lexer.specs.Edits.{IsRelexed, known, part_by}
+use Rattle.rustc_lexer.specs.Edits.{IsRelexed, part_by}
+use Rattle.rustc_lexer.specs.Relexing.{known}
 use Rattle.rustc_lexer.specs.Relexing.{IsMadeOf, IsUnderWay, IsWhole, MayGoOn, TakesSteps, is_over}
 use Rattle.rustc_lexer.specs.means.Relexing.{relexed_of}
 use Rattle.rustc_lexer.specs.Locality.{IsGrammar}

@@ -10,7 +10,8 @@ use Rattle.rustc_lexer.specs.declared.token.Token.{Token}
 use Rattle.rustc_lexer.specs.Tokens.{tokens_by}
 use Rattle.rustc_lexer.specs.LanguageCalls.{edition_of_year}
 use Rattle.rustc_lexer.specs.Answers.{first_in}
-use Rattle.rustc_lexer.specs.Edits.{IsBound, IsRelexed, part_by}
+use Rattle.rustc_lexer.specs.Offsets.{IsBound}
+use Rattle.rustc_lexer.specs.Edits.{IsRelexed, part_by}
 use Rattle.rustc_lexer.specs.Relexing.{IsChange, IsMadeOf, IsUnderWay, MayGoOn, is_over}
 use Rattle.rustc_lexer.specs.Classes.{IsText}
 use Rattle.rustc_lexer_c.specs.declared.relex.CEdit.{CEdit}

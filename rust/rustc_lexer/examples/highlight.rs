@@ -24,7 +24,7 @@ fn main() -> io::Result<()> {
     for line in io::stdin().lines() {
         let line = line?;
         let mut words = line.splitn(3, ' ');
-        let mut place = || words.next().and_then(|word| word.parse().ok());
+        let mut place = || words.next().and_then(|word| word.parse::<usize>().ok());
         let (Some(start), Some(stop)) = (place(), place()) else {
             continue;
         };

@@ -1,10 +1,71 @@
-//! The calls of a kept text that are the same of a part of a file and of a whole one.
+//! The calls of a kept text, which are the same of a part of a file and of a whole one.
 
-/// Writes these calls for a type that wraps the erased type of its name.
+use crate::Token;
+use core::ops::{Bound, Range, RangeBounds};
+
+/// Returns the range in a text or a list of `len`. One that ends past `usize::MAX` is in no text.
+pub(crate) fn range_in(range: &impl RangeBounds<usize>, len: usize) -> Range<usize> {
+    let start = match range.start_bound() {
+        Bound::Included(&at) => at,
+        Bound::Excluded(&at) => at.saturating_add(1),
+        Bound::Unbounded => 0,
+    };
+    let stop = match range.end_bound() {
+        Bound::Included(&at) => at.saturating_add(1),
+        Bound::Excluded(&at) => at,
+        Bound::Unbounded => len,
+    };
+    start..stop
+}
+
+/// Returns the numbers of tokens. Panics if there are no such tokens.
+pub(crate) fn checked_range(numbers: &impl RangeBounds<usize>, tokens: &[Token]) -> Range<usize> {
+    let numbers = range_in(numbers, tokens.len());
+    assert!(
+        numbers.start <= numbers.end && numbers.end <= tokens.len(),
+        "token range {numbers:?} out of range for {} tokens",
+        tokens.len()
+    );
+    numbers
+}
+
+/// Writes these calls for a type with `kept`, the erased type of its name, and `in_edit`.
 macro_rules! kept_calls {
     ($Kept:ident) => {
         impl $Kept {
-            /// Returns the text with its tokens in an edition, or why it could not be made: `TooLong` or `Memory`.
+            /// Returns the text with its tokens in the newest edition.
+            ///
+            /// ```
+            #[doc = concat!("use rustc_lexer::", stringify!($Kept), ";")]
+            ///
+            #[doc = concat!("assert_eq!(", stringify!($Kept), "::new(\"let x;\").tokens().len(), 4);")]
+            /// ```
+            ///
+            /// # Panics
+            ///
+            /// Panics if the text has more than `u32::MAX` bytes, or if an allocation fails.
+            #[must_use]
+            pub fn new(text: impl AsRef<str>) -> $Kept {
+                $Kept::new_in(text, Edition::NEWEST)
+            }
+
+            /// Returns the text with its tokens in an edition.
+            ///
+            /// ```
+            #[doc = concat!("use rustc_lexer::{Edition, ", stringify!($Kept), "};")]
+            ///
+            #[doc = concat!("assert_eq!(", stringify!($Kept), "::new_in(\"'r#a\", Edition::E2018).tokens().len(), 3);")]
+            /// ```
+            ///
+            /// # Panics
+            ///
+            /// Panics if the text has more than `u32::MAX` bytes, or if an allocation fails.
+            #[must_use]
+            pub fn new_in(text: impl AsRef<str>, edition: Edition) -> $Kept {
+                $Kept::try_new_in(text, edition).unwrap_or_else(|error| panic!("{error}"))
+            }
+
+            /// Returns the text with its tokens in an edition.
             ///
             /// ```
             #[doc = concat!("use rustc_lexer::{Edition, ", stringify!($Kept), "};")]
@@ -13,10 +74,13 @@ macro_rules! kept_calls {
             /// assert_eq!(lexed.tokens().len(), 4);
             /// # Ok::<(), rustc_lexer::EditError>(())
             /// ```
+            ///
+            /// # Errors
+            ///
+            /// `TooLong` if the text has more than `u32::MAX` bytes, `Memory` if an allocation failed.
             pub fn try_new_in(text: impl AsRef<str>, edition: Edition) -> Result<$Kept, EditError> {
                 let text = try_fitting(text.as_ref())?;
-                let stepper = Checked::steps_in(edition);
-                Ok($Kept(erased::$Kept::with(Global, text, stepper)?))
+                Ok($Kept::of(erased::$Kept::new_in(Global, text, edition)?))
             }
 
             /// Returns the edition of the tokens. Edits keep it.
@@ -28,10 +92,10 @@ macro_rules! kept_calls {
             /// ```
             #[must_use]
             pub fn edition(&self) -> Edition {
-                self.stepper().edition()
+                self.kept.edition()
             }
 
-            /// Lexes the text again, in another edition.
+            /// Lexes the text again, in another edition. It copies no text.
             ///
             /// ```
             #[doc = concat!("use rustc_lexer::{Edition, ", stringify!($Kept), "};")]
@@ -49,7 +113,7 @@ macro_rules! kept_calls {
                     .unwrap_or_else(|error| panic!("{error}"));
             }
 
-            /// Lexes the text again, in another edition. If an allocation fails, nothing changes.
+            /// Lexes the text again, in another edition.
             ///
             /// ```
             #[doc = concat!("use rustc_lexer::{Edition, ", stringify!($Kept), "};")]
@@ -59,27 +123,119 @@ macro_rules! kept_calls {
             /// assert_eq!(lexed.tokens().len(), 3);
             /// # Ok::<(), rustc_lexer::AllocError>(())
             /// ```
+            ///
+            /// # Errors
+            ///
+            /// If an allocation fails. Nothing changes then.
             pub fn try_set_edition(&mut self, edition: Edition) -> Result<(), AllocError> {
-                let stepper = Checked::steps_in(edition);
-                self.0 = erased::$Kept::with(Global, self.text(), stepper)?;
-                Ok(())
+                self.kept.set_edition(edition)
+            }
+
+            /// Returns the stepper that the tokens came from.
+            ///
+            /// ```
+            #[doc = concat!("use rustc_lexer::{", stringify!($Kept), ", Stepper};")]
+            ///
+            #[doc = concat!("let mut steps = ", stringify!($Kept), "::new(\"a b\").stepper().clone();")]
+            /// assert_eq!(steps.step("let x").len, 3);
+            /// ```
+            #[must_use]
+            pub fn stepper(&self) -> &Steps {
+                self.kept.stepper()
+            }
+        }
+
+        impl<S: Stepper> $Kept<Checked<S>> {
+            /// Returns the text with its tokens by a stepper of your own. The head of a whole file is not lexed by it.
+            ///
+            /// ```
+            #[doc = concat!("use rustc_lexer::{", stringify!($Kept), ", Steps};")]
+            ///
+            #[doc = concat!("let lexed = ", stringify!($Kept), "::try_with(\"let x;\", Steps::new()).unwrap();")]
+            /// assert_eq!(lexed.tokens().len(), 4);
+            /// ```
+            ///
+            /// The tokens are taken by `step`, and where each ends is tested. For [`Steps`] itself `try_new_in` is twice as
+            /// fast.
+            ///
+            /// # Panics
+            ///
+            /// Panics if `step` does, or if a token of it is empty, is longer than the text or ends inside a character. So
+            /// do edits: `text` then has the edit, and each call that needs the tokens panics. An edit that is refused needs
+            /// none.
+            ///
+            /// # Errors
+            ///
+            /// `TooLong` if the text has more than `u32::MAX` bytes, `Memory` if an allocation failed.
+            pub fn try_with(text: impl AsRef<str>, stepper: S) -> Result<Self, EditError> {
+                let text = try_fitting(text.as_ref())?;
+                Ok($Kept::of(erased::$Kept::with(Global, text, Checked(stepper))?))
+            }
+
+            /// Returns the stepper that the tokens came from.
+            ///
+            /// ```
+            #[doc = concat!("use rustc_lexer::{", stringify!($Kept), ", Stepper, Steps};")]
+            ///
+            #[doc = concat!("let lexed = ", stringify!($Kept), "::try_with(\"a b\", Steps::new()).unwrap();")]
+            /// let mut steps = lexed.stepper().clone();
+            /// assert_eq!(steps.step("let x").len, 3);
+            /// ```
+            #[must_use]
+            pub fn stepper(&self) -> &S {
+                &self.kept.stepper().0
             }
         }
 
         impl<S: Stepper> $Kept<S> {
-            /// Returns what is kept. Panics if a step of an edit panicked: then the tokens are not those of the text.
-            fn whole(&self) -> &erased::$Kept<Checked<S>> {
-                assert!(
-                    self.0.stepper().is_sound(),
-                    "a panic in `Stepper::step` left this text without tokens"
-                );
-                &self.0
+            fn of(kept: erased::$Kept<S>) -> $Kept<S> {
+                $Kept {
+                    kept,
+                    in_edit: false,
+                }
             }
 
-            /// Returns what is kept, as `whole` does.
-            fn whole_mut(&mut self) -> &mut erased::$Kept<Checked<S>> {
+            /// Returns what is kept. Panics if a step of an edit panicked: then the tokens are not those of the text.
+            fn whole(&self) -> &erased::$Kept<S> {
+                assert!(
+                    !self.in_edit,
+                    "a panic in `Stepper::step` left this text without tokens"
+                );
+                &self.kept
+            }
+
+            /// Makes edits. If a step panics on the way, the text is left without tokens.
+            fn change<T>(&mut self, edits: impl FnOnce(&mut erased::$Kept<S>) -> T) -> T {
                 self.whole();
-                &mut self.0
+                self.in_edit = true;
+                let answer = edits(&mut self.kept);
+                self.in_edit = false;
+                answer
+            }
+
+            /// Returns the text.
+            ///
+            /// ```
+            #[doc = concat!("use rustc_lexer::", stringify!($Kept), ";")]
+            ///
+            #[doc = concat!("assert_eq!(", stringify!($Kept), "::new(\"#!/bin/sh\\n\").text(), \"#!/bin/sh\\n\");")]
+            /// ```
+            #[must_use]
+            pub fn text(&self) -> &str {
+                self.kept.text()
+            }
+
+            /// Returns its tokens, in order.
+            ///
+            /// ```
+            #[doc = concat!("use rustc_lexer::{", stringify!($Kept), ", TokenKind};")]
+            ///
+            #[doc = concat!("let lexed = ", stringify!($Kept), "::new(\"a + b\");")]
+            /// assert_eq!(lexed.tokens()[2].kind, TokenKind::Plus);
+            /// ```
+            #[must_use]
+            pub fn tokens(&self) -> &[Token] {
+                self.whole().tokens()
             }
 
             /// Returns the text, and drops its tokens. It copies nothing.
@@ -93,7 +249,38 @@ macro_rules! kept_calls {
             /// ```
             #[must_use]
             pub fn into_string(self) -> String {
-                self.0.into_string().into()
+                self.kept.into_string().into()
+            }
+
+            /// Returns the tokens with their offsets and their texts, in order.
+            ///
+            /// ```
+            #[doc = concat!("use rustc_lexer::", stringify!($Kept), ";")]
+            ///
+            #[doc = concat!("let lexed = ", stringify!($Kept), "::new(\"a + b\");")]
+            /// assert_eq!(lexed.pieces().nth(2).map(|piece| (piece.start, piece.text)), Some((2, "+")));
+            /// ```
+            pub fn pieces(&self) -> Pieces<'_> {
+                self.whole().pieces()
+            }
+
+            /// Returns the pieces of some tokens, by their numbers. After an edit, repaint those of `relexed.range()`.
+            ///
+            /// ```
+            #[doc = concat!("use rustc_lexer::", stringify!($Kept), ";")]
+            ///
+            #[doc = concat!("let mut lexed = ", stringify!($Kept), "::new(\"a + b + c + d\");")]
+            /// let relexed = lexed.edit(8..8, "x");
+            /// let painted: Vec<&str> = lexed.pieces_of(relexed.range()).map(|piece| piece.text).collect();
+            /// assert_eq!(painted, ["+", " ", "xc"]);
+            /// ```
+            ///
+            /// # Panics
+            ///
+            /// Panics if there are no such tokens.
+            pub fn pieces_of(&self, numbers: impl RangeBounds<usize>) -> Pieces<'_> {
+                let numbers = checked_range(&numbers, self.tokens());
+                self.whole().pieces_of(numbers.start, numbers.end)
             }
 
             /// Returns the token that contains the byte at `offset`: its number, and where it begins. `None` at and past the
@@ -123,7 +310,8 @@ macro_rules! kept_calls {
             /// let seen: Vec<&str> = lexed.pieces_in(5..9).map(|piece| piece.text).collect();
             /// assert_eq!(seen, ["abc", " ", "="]);
             /// ```
-            pub fn pieces_in(&self, range: Range<usize>) -> Pieces<'_> {
+            pub fn pieces_in(&self, range: impl RangeBounds<usize>) -> Pieces<'_> {
+                let range = range_in(&range, self.text().len());
                 self.whole().pieces_in(range.start, range.end)
             }
 
@@ -137,11 +325,31 @@ macro_rules! kept_calls {
             /// assert!(lexed.accepts(0..2, "e") && !lexed.accepts(1..2, "e"));
             /// ```
             #[must_use]
-            pub fn accepts(&self, range: Range<usize>, insert: &str) -> bool {
-                self.0.accepts(range.start, range.end, insert)
+            pub fn accepts(&self, range: impl RangeBounds<usize>, insert: &str) -> bool {
+                let range = range_in(&range, self.text().len());
+                self.kept.accepts(range.start, range.end, insert)
             }
 
-            /// Replaces the bytes of the range by `insert`, or returns why not. Text and tokens are then as they were.
+            /// Replaces the bytes of the range by `insert`.
+            ///
+            /// ```
+            #[doc = concat!("use rustc_lexer::", stringify!($Kept), ";")]
+            ///
+            #[doc = concat!("let mut lexed = ", stringify!($Kept), "::new(\"let x = 1;\");")]
+            /// lexed.edit(8..9, "\"one\"");
+            /// assert_eq!((lexed.text(), lexed.tokens().len()), ("let x = \"one\";", 8));
+            /// ```
+            ///
+            /// # Panics
+            ///
+            /// Panics if `try_edit` returns an error. Text and tokens are then as they were.
+            pub fn edit(&mut self, range: impl RangeBounds<usize>, insert: &str) -> Relexed {
+                let range = range_in(&range, self.text().len());
+                self.try_edit(range.clone(), insert)
+                    .unwrap_or_else(|error| panic!("the edit of {range:?}: {error}"))
+            }
+
+            /// Replaces the bytes of the range by `insert`.
             ///
             /// ```
             #[doc = concat!("use rustc_lexer::{EditError, ", stringify!($Kept), "};")]
@@ -151,16 +359,22 @@ macro_rules! kept_calls {
             /// assert_eq!(lexed.try_edit(4..6, "e").map(|relexed| relexed.lexed), Ok(3));
             /// assert_eq!(lexed.text(), "let e;");
             /// ```
+            ///
+            /// # Errors
+            ///
+            /// `Range` if the range is out of bounds or not on char boundaries, `TooLong` if the new text has more than
+            /// `u32::MAX` bytes, `Memory` if an allocation failed. Text and tokens are then as they were.
             pub fn try_edit(
                 &mut self,
-                range: Range<usize>,
+                range: impl RangeBounds<usize>,
                 insert: &str,
             ) -> Result<Relexed, EditError> {
+                let range = range_in(&range, self.text().len());
                 check_accepted(|insert| self.accepts(range.clone(), insert), insert)?;
-                Ok(self.whole_mut().edit(range.start, range.end, insert)?)
+                Ok(self.change(|kept| kept.edit(range.start, range.end, insert))?)
             }
 
-            /// Makes the edits in order, up to the first that is refused, and returns which that is, and why.
+            /// Makes the edits in order, each on the text that those before it leave.
             ///
             /// ```
             #[doc = concat!("use rustc_lexer::{Edit, EditStop, ", stringify!($Kept), "};")]
@@ -170,8 +384,12 @@ macro_rules! kept_calls {
             /// assert_eq!(lexed.edit_all(&edits), Err(EditStop::Range { at: 1 }));
             /// assert_eq!(lexed.text(), "a+b");
             /// ```
+            ///
+            /// # Errors
+            ///
+            /// Which edit is the first that is refused, and why. Those before it are made.
             pub fn edit_all(&mut self, edits: &[Edit<'_>]) -> Result<(), EditStop> {
-                self.whole_mut().edit_all(edits)
+                self.change(|kept| kept.edit_all(edits))
             }
 
             /// Makes the edits as `edit_all` does, and returns which tokens all of them kept: what to repaint is between.
@@ -186,8 +404,12 @@ macro_rules! kept_calls {
             /// assert_eq!(lexed.text(), "a b - d + f g");
             /// # Ok::<(), rustc_lexer::EditStop>(())
             /// ```
+            ///
+            /// # Errors
+            ///
+            /// Which edit is the first that is refused, and why. Those before it are made.
             pub fn edit_each(&mut self, edits: &[Edit<'_>]) -> Result<Relexed, EditStop> {
-                self.whole_mut().edit_each(edits)
+                self.change(|kept| kept.edit_each(edits))
             }
 
             /// Gives back the memory that edits have left unused, by copying what is kept. If an allocation fails, the
@@ -202,7 +424,7 @@ macro_rules! kept_calls {
             /// assert_eq!(lexed.tokens().len(), 1);
             /// ```
             pub fn shrink_to_fit(&mut self) {
-                self.0.shrink_to_fit();
+                self.kept.shrink_to_fit();
             }
         }
 
@@ -210,7 +432,7 @@ macro_rules! kept_calls {
             fn fmt(&self, f: &mut fmt::Formatter<'_>) -> fmt::Result {
                 let mut shown = f.debug_struct(stringify!($Kept));
                 shown.field("text", &self.text());
-                if self.0.stepper().is_sound() {
+                if !self.in_edit {
                     shown.field("tokens", &self.tokens());
                 }
                 shown.finish_non_exhaustive()
@@ -232,7 +454,7 @@ macro_rules! kept_calls {
             fn eq(&self, other: &$Kept<S>) -> bool {
                 self.text() == other.text()
                     && self.tokens() == other.tokens()
-                    && self.stepper() == other.stepper()
+                    && self.kept.stepper() == other.kept.stepper()
             }
         }
 

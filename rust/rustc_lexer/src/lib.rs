@@ -79,6 +79,8 @@ pub mod lists;
 mod tokens;
 mod traits;
 
+#[cfg(feature = "alloc")]
+pub use checked::Checked;
 pub use classes::{
     fits, is_horizontal_whitespace, is_id_continue, is_id_start, is_ident, is_whitespace,
     starts_raw,

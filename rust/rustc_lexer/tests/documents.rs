@@ -40,15 +40,19 @@ impl Random {
     }
 }
 
-/// Whether the tokens, and all that is told of them, are those of the text.
+/// Whether the edition is this one, and the tokens, and all that is told of them, are those of the text.
 fn check(lexed: &LexedDocument, edition: Edition, context: &str) {
+    assert_eq!(lexed.edition(), edition, "{context}");
+    check_tokens(lexed, edition, context);
+}
+
+fn check_tokens<S: Stepper>(lexed: &LexedDocument<S>, edition: Edition, context: &str) {
     let text = lexed.text();
     let line = strip_shebang(text).unwrap_or(0);
     let scratch: Vec<Token> =
         tokenize_as(&text[line..], FrontmatterAllowed::Yes, edition).collect();
     assert_eq!(lexed.tokens(), scratch, "{context}");
-    let told = (lexed.edition(), lexed.shebang_len());
-    assert_eq!(told, (edition, line), "{context}");
+    assert_eq!(lexed.shebang_len(), line, "{context}");
     assert!(tokenize_document(text, edition).eq(scratch.iter().copied()));
     let is_frontmatter = |token: &Token| matches!(token.kind, TokenKind::Frontmatter { .. });
     let head = scratch.iter().position(is_frontmatter);
@@ -285,7 +289,7 @@ fn steppers_fill_up_to_an_end() {
 #[test]
 fn what_is_held() {
     let lexed = LexedDocument::try_with(SCRIPT, Steps::new_in(Edition::E2018)).unwrap();
-    check(&lexed, Edition::E2018, "by a stepper");
+    check_tokens(&lexed, Edition::E2018, "by a stepper");
     let by_characters = LexedDocument::try_with("#!a\nbé", Characters(0)).unwrap();
     let lens = by_characters.tokens().iter().map(|token| token.len);
     assert!(lens.eq([1, 1, 2]));

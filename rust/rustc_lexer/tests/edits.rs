@@ -442,7 +442,6 @@ fn clones_and_defaults() {
     assert_eq!(empty.edition(), Edition::E2024);
     assert_eq!(LexedDocument::default().edition(), Edition::E2024);
     let by_default = LexedText::try_with("'r#a", Steps::default()).unwrap();
-    assert_eq!(by_default.edition(), Edition::E2024);
     assert_eq!(by_default.tokens().len(), 1);
 }
 
@@ -453,7 +452,9 @@ fn what_is_equal_and_given_back() {
         ($Kept:ident) => {
             let mut lexed = $Kept::new("#!a\nlet x;");
             assert_eq!(lexed, lexed.clone());
-            assert_eq!(lexed, $Kept::try_with(lexed.text(), Steps::new()).unwrap());
+            let by_stepper = |edition| $Kept::try_with("a", Steps::new_in(edition)).unwrap();
+            assert_eq!(by_stepper(Edition::E2021), by_stepper(Edition::E2021));
+            assert_ne!(by_stepper(Edition::E2021), by_stepper(Edition::E2024));
             // The tokens of both editions are the same.
             let older = $Kept::new_in(lexed.text(), Edition::E2021);
             assert_eq!(lexed.tokens(), older.tokens());
@@ -495,18 +496,20 @@ fn texts_that_are_handed_over() {
         Ok(LexedText::new(text())),
         Ok(LexedText::new_in(text(), Edition::E2024)),
         LexedText::try_new_in(text(), Edition::E2024),
-        LexedText::try_with(text(), Steps::new()),
     ] {
         assert_eq!(lexed.unwrap().tokens().len(), 5);
     }
+    let lexed = LexedText::try_with(text(), Steps::new()).unwrap();
+    assert_eq!(lexed.tokens().len(), 5);
     for lexed in [
         Ok(LexedDocument::new(text())),
         Ok(LexedDocument::new_in(text(), Edition::E2024)),
         LexedDocument::try_new_in(text(), Edition::E2024),
-        LexedDocument::try_with(text(), Steps::new()),
     ] {
         assert_eq!(lexed.unwrap().tokens().len(), 5);
     }
+    let lexed = LexedDocument::try_with(text(), Steps::new()).unwrap();
+    assert_eq!(lexed.tokens().len(), 5);
 }
 
 #[test]
@@ -537,11 +540,12 @@ fn marks_at_the_ends_of_a_text() {
     macro_rules! keeps_them {
         ($lexed:ident) => {
             let text = "\u{feff}a";
+            let by_stepper = $lexed::try_with(text, Steps::new()).unwrap();
+            assert_eq!(by_stepper.text(), text);
             for lexed in [
                 Ok($lexed::new(text)),
                 Ok($lexed::new_in(text, Edition::E2018)),
                 $lexed::try_new_in(text, Edition::E2015),
-                $lexed::try_with(text, Steps::new()),
             ] {
                 let mut lexed = lexed.unwrap();
                 assert_eq!(lexed.text(), text);

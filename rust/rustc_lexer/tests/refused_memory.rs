@@ -6,10 +6,10 @@ mod refusing;
 
 use made::{counts, edit, token};
 use rattle_support::Global;
-use refusing::{given, in_turn, refused_once, requests};
+use refusing::{given, greatest_request, in_turn, refused_once, requests};
 use rustc_lexer::{
-    AllocError, EditError, EditStop, Edition, JoinError, JoinedText, LexedDocument, LexedText,
-    Relexed, Stepper, Steps, Token, TokenKind, erased, tokenize_document, tokenize_in,
+    AllocError, Checked, EditError, EditStop, Edition, JoinError, JoinedText, LexedDocument,
+    LexedText, Relexed, Stepper, Steps, Token, TokenKind, erased, tokenize_document, tokenize_in,
 };
 use std::ops::Range;
 use std::panic::{AssertUnwindSafe, catch_unwind};
@@ -67,7 +67,7 @@ macro_rules! edits {
             let make = || $Kept::try_with(text, Counting(Steps::new(), 0)).unwrap();
             let (old, mut new) = (make(), make());
             let wanted = new.edit(range.clone(), insert);
-            let steps_past = |lexed: &$Kept<Counting>| lexed.stepper().1 - old.stepper().1;
+            let steps_past = |lexed: &$Kept<Checked<Counting>>| lexed.stepper().1 - old.stepper().1;
             let asked = in_turn(
                 make,
                 |lexed| lexed.try_edit(range.clone(), insert),
@@ -211,6 +211,20 @@ fn editions() {
     let proved = || erased::LexedDocument::new(Global, text).unwrap();
     editions!(new(), try_set_edition, text, tokenize_document, 3);
     editions!(proved(), set_edition, text, tokenize_document, 3);
+}
+
+/// Another edition takes memory for tokens alone: here for one. A new text takes its length.
+#[test]
+fn an_edition_copies_no_text() {
+    let text = format!("/*{}*/", "a".repeat(1_000_000));
+    let (mut part, mut document) = (LexedText::new(&text), LexedDocument::new(&text));
+    for greatest in [
+        greatest_request(|| part.set_edition(Edition::E2015)),
+        greatest_request(|| document.set_edition(Edition::E2015)),
+    ] {
+        assert!(greatest < text.len() / 10, "{greatest} bytes");
+    }
+    assert!(greatest_request(|| LexedText::new(&text)) >= text.len());
 }
 
 /// A text of `u32::MAX` bytes is not too long: what it lacks is memory.

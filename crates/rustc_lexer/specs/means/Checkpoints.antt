@@ -5,7 +5,8 @@ use Rattle.rustc_lexer.specs.declared.relex.front.Bound.{Bound}
 use Rattle.rustc_lexer.specs.declared.relex.checkpoints.Checkpoints.{Checkpoints}
 use Rattle.rustc_lexer.specs.{Token}
 use Rattle.rustc_lexer.specs.declared.relex.relexing.Relexing.{Relexing}
-use Rattle.rustc_lexer.specs.Edits.{IsBound, known}
+use Rattle.rustc_lexer.specs.Offsets.{IsBound}
+use Rattle.rustc_lexer.specs.Relexing.{known}
 use Rattle.rustc_lexer.specs.Partition.{bound}
 
 -- a boundary of the tokens, by its number and its offset, if the first of them begins at `first`

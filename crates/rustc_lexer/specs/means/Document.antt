@@ -92,15 +92,3 @@ pub record IsRenewedBehind (first : List ℕ → Token) (body : List ℕ) (chang
   pub behind : List Token
   pub renewed : IsRenewed first body change made (drop count tokens) behind at
   pub now_is : now ≡ head_put (take count tokens) head ++ behind
-
--- ---- a whole document or a part of one, in the words of each
-
--- where the tokens begin
-abbrev pub start_in : Bool → List ℕ → ℕ
-start_in true = shebang_len
-start_in false = λ text. 0
-
--- the tokens
-abbrev pub layout_in : Bool → (List ℕ → Token) → List ℕ → Layout
-layout_in true = whole_by
-layout_in false = part_by

@@ -4,7 +4,7 @@
 //! promise holds for lengths that are those of a text's tokens.
 ghost use Rattle.std.specs.Prelude.{◌≡◌, ◌+◌, ◌-◌, ◌*◌, ◌<◌, ◌≤◌, ◌^◌, List, length, map, ℕ, true, false, IsCharBoundary, max};
 ghost use Rattle.rustc_lexer.specs.{Token};
-ghost use Rattle.rustc_lexer.specs.Edits.{IsBound};
+ghost use Rattle.rustc_lexer.specs.Offsets.{IsBound};
 ghost use Rattle.rustc_lexer.specs.Locality.{has_two};
 ghost use Rattle.rustc_lexer.specs.Tokens.{bound};
 ghost use Rattle.rustc_lexer.specs.means.Relexing.{IsFollowed, IsFront, IsLast, HasLengths, kept_front, old_stop_of};

@@ -28,12 +28,12 @@ pub struct Head {
 }
 
 /// How much of a file a text is: a whole document, which may have a head, or a part of one, which has none.
-pub(crate) trait Extent: Copy {
+pub trait Extent: Copy {
     /// Whether it is a whole document.
     ghost whole: { Bool };
 
     /// Finds the head of a text.
-    fn find_head(self, text: &str) -> Head
+    fn find_head(text: &str) -> Head
         requires fits { Fits text.now }
         ensures head { result ≡ means.head_by whole text.now }
         ensures boundary { IsCharBoundary text.now result.body };
@@ -41,50 +41,12 @@ pub(crate) trait Extent: Copy {
 
 /// A whole document.
 #[derive(Clone, Copy)]
-pub(crate) struct Whole;
+pub struct Whole;
 
 impl Extent for Whole {
     ghost whole = { true };
 
-    fn find_head(self, text: &str) -> Head {
-        Head::of(text)
-    }
-}
-
-/// A part of a document.
-#[derive(Clone, Copy)]
-pub(crate) struct Part;
-
-impl Extent for Part {
-    ghost whole = { false };
-
-    fn find_head(self, _text: &str) -> Head {
-        Head {
-            shebang_len: 0,
-            space_len: 0,
-            frontmatter: None,
-            body: 0,
-        }
-    }
-}
-
-impl Head {
-    /// Returns the head of a document. The text may have at most `u32::MAX` bytes, which is not tested.
-    #[tactic(auto, using(crate::proofs::BodyChangeLemmas::is_head, std::proofs::lemmas::Grind::common_steps))]
-    pub fn find(text: &str) -> Head
-        requires fits { Fits text.now }
-        ensures head { spec.IsHeadOf text.now result }
-        ensures boundary { IsCharBoundary text.now result.body }
-    {
-        Whole.find_head(text)
-    }
-
-    /// Finds the head of a document.
-    pub(crate) fn of(text: &str) -> Head
-        requires fits { Fits text.now }
-        ensures head { result ≡ means.head_of text.now }
-        ensures boundary { IsCharBoundary text.now result.body }
-    {
+    fn find_head(text: &str) -> Head {
         let shebang = shebang_len(text);
         let rest = &text[shebang..];
         if let Some(front) = frontmatter(rest) {
@@ -113,6 +75,35 @@ impl Head {
                 body: shebang,
             },
         }
+    }
+}
+
+/// A part of a document.
+#[derive(Clone, Copy)]
+pub struct Part;
+
+impl Extent for Part {
+    ghost whole = { false };
+
+    fn find_head(_text: &str) -> Head {
+        Head {
+            shebang_len: 0,
+            space_len: 0,
+            frontmatter: None,
+            body: 0,
+        }
+    }
+}
+
+impl Head {
+    /// Returns the head of a document. The text may have at most `u32::MAX` bytes, which is not tested.
+    #[tactic(auto, using(crate::proofs::BodyChangeLemmas::is_head, std::proofs::lemmas::Grind::common_steps))]
+    pub fn find(text: &str) -> Head
+        requires fits { Fits text.now }
+        ensures head { spec.IsHeadOf text.now result }
+        ensures boundary { IsCharBoundary text.now result.body }
+    {
+        Whole::find_head(text)
     }
 
     /// Returns how many tokens the head has.

@@ -1,14 +1,9 @@
 //! The pieces of a text that is kept with its tokens.
-ghost use Rattle.std.specs.Prelude.{◌≡◌, ◌-◌, ◌≤◌, IfSome, Some, drop, length, take};
+ghost use Rattle.std.specs.Prelude.{◌≡◌, IfSome, Some, length};
 ghost use Rattle.std.specs.Iterator.{UpTo, at_most};
 ghost use Rattle.std.specs.Iterator.SizeHint.{IsWithinCount};
-ghost use Rattle.std.specs.String.{string_bytes};
-ghost use Rattle.rustc_lexer.specs.Edits.{pieces_from, YieldsPiece};
-ghost use Rattle.rustc_lexer.specs.means.Document as means;
+ghost use Rattle.rustc_lexer.specs.Kept.{YieldsPiece};
 
-use crate::entry::stepper::Stepper;
-use crate::relex::head::Extent;
-use crate::relex::kept::Kept;
 use crate::token::Token;
 use std::iter::{ExactSizeIterator, Iterator};
 use std::marker::Model;
@@ -30,14 +25,14 @@ pub struct Piece<'a> {
 /// begins where the one before it ends, and its text is the part of the text that its token takes.
 #[derive(Drop)]
 pub struct Pieces<'a> {
-    text: &'a str,
-    start: u32,
-    tokens: &'a [Token],
+    pub(crate) text: &'a str,
+    pub(crate) start: u32,
+    pub(crate) tokens: &'a [Token],
 }
 
 impl<'a> Model for Pieces<'a> {
     ghost use Rattle.std.specs.Prelude.{◌≡◌, ◌<◌, ◌^◌, List, length};
-    ghost use Rattle.rustc_lexer.specs.Edits.{Placed, pieces_from};
+    ghost use Rattle.rustc_lexer.specs.Kept.{Placed, pieces_from};
     ghost use Rattle.rustc_lexer.specs.means.Pieces.{AreBoundariesFrom};
 
     ghost Value = { List Placed };
@@ -86,46 +81,5 @@ impl<'a> ExactSizeIterator for Pieces<'a> {
     #[tactic(auto, using(crate::proofs::PieceLemmas::as_many_left, std::proofs::lemmas::Grind::common_steps))]
     fn len(&self) -> usize {
         self.tokens.len()
-    }
-}
-
-impl<S: Stepper, E: Extent> Kept<S, E> {
-    /// Returns an iterator over the pieces of the text, one for each token, in order.
-    pub(crate) fn pieces(&self) -> Pieces<'_>
-        requires kept { means.AreKeptOf E.whole (S.grammar self.now.stepper) (string_bytes self.now.text)
-            self.now.tokens.items self.now.head self.now.checkpoints }
-        ensures pieces { result
-            ≡ pieces_from (string_bytes self.now.text)
-            (means.start_in E.whole (string_bytes self.now.text)) self.now.tokens.items }
-        ensures number { length result ≡ length self.now.tokens.items }
-    {
-        let start = self.head.shebang_len as u32;
-        Pieces {
-            text: self.text.as_str(),
-            start,
-            tokens: self.tokens.as_slice(),
-        }
-    }
-
-    /// Returns an iterator over the pieces of the tokens from number `from` up to number `to`. It reads few of the
-    /// tokens before them.
-    pub(crate) fn pieces_of(&self, from: usize, to: usize) -> Pieces<'_>
-        requires kept { means.AreKeptOf E.whole (S.grammar self.now.stepper) (string_bytes self.now.text)
-            self.now.tokens.items self.now.head self.now.checkpoints }
-        requires from_le_to { from ≤ to }
-        requires to_inside { to ≤ length self.now.tokens.items }
-        ensures pieces { result
-            ≡ take (to - from)
-            (drop from (pieces_from (string_bytes self.now.text)
-            (means.start_in E.whole (string_bytes self.now.text)) self.now.tokens.items)) }
-        ensures number { length result ≡ to - from }
-    {
-        let start = self.offset_of(from);
-        let tokens = &self.tokens.as_slice()[from..to];
-        Pieces {
-            text: self.text.as_str(),
-            start,
-            tokens,
-        }
     }
 }

@@ -9,12 +9,15 @@ thread_local! {
     static GIVEN: Cell<usize> = const { Cell::new(usize::MAX) };
     /// Whether what follows the first that is refused is given.
     static ONCE: Cell<bool> = const { Cell::new(false) };
+    /// The bytes of the greatest request of this thread.
+    static GREATEST: Cell<usize> = const { Cell::new(0) };
 }
 
 /// The allocator of the system, which refuses what is not given.
 struct Refusing;
 
-fn is_given() -> bool {
+fn is_given(size: usize) -> bool {
+    GREATEST.set(GREATEST.get().max(size));
     let left = GIVEN.get().checked_sub(1);
     let after = if ONCE.get() { usize::MAX } else { 0 };
     GIVEN.set(left.unwrap_or(after));
@@ -24,7 +27,7 @@ fn is_given() -> bool {
 // SAFETY: each call is that of the system's allocator, or answers null, which says that it was refused.
 unsafe impl GlobalAlloc for Refusing {
     unsafe fn alloc(&self, layout: Layout) -> *mut u8 {
-        if is_given() {
+        if is_given(layout.size()) {
             unsafe { System.alloc(layout) }
         } else {
             null_mut()
@@ -36,7 +39,7 @@ unsafe impl GlobalAlloc for Refusing {
     }
 
     unsafe fn realloc(&self, at: *mut u8, layout: Layout, size: usize) -> *mut u8 {
-        if is_given() {
+        if is_given(size) {
             unsafe { System.realloc(at, layout, size) }
         } else {
             null_mut()
@@ -95,4 +98,12 @@ pub fn requests<T>(call: impl FnOnce() -> T) -> usize {
     GIVEN.set(100);
     call();
     100 - GIVEN.replace(usize::MAX)
+}
+
+/// How many bytes the greatest request of a call has.
+#[allow(dead_code)] // not each test measures them
+pub fn greatest_request<T>(call: impl FnOnce() -> T) -> usize {
+    GREATEST.set(0);
+    call();
+    GREATEST.get()
 }

@@ -1,6 +1,6 @@
 use Rattle.std.proofs.Common.{◌≡◌, ◌++◌}
 use Rattle.rustc_lexer.specs.Document.{document_tokens, shebang_len}
-use Rattle.rustc_lexer.specs.Edits.{pieces_from}
+use Rattle.rustc_lexer.specs.Kept.{pieces_from}
 use Rattle.rustc_lexer.specs.laws.State.{StandsAt}
 use Rattle.rustc_lexer.specs.LanguageText.{newest}
 use Rattle.rustc_lexer.specs.Tokens.{tokens_left, HaveTexts}

@@ -1,5 +1,5 @@
 use Rattle.std.proofs.Common.{◌≡◌}
-use Rattle.rustc_lexer.specs.Edits.{pieces_from}
+use Rattle.rustc_lexer.specs.Kept.{pieces_from}
 use Rattle.rustc_lexer.specs.LanguageText.{part, newest}
 use Rattle.rustc_lexer.specs.laws.State.{StandsAt}
 use Rattle.rustc_lexer.specs.Tokens.{tokens_of, tokens_left}

@@ -1,7 +1,7 @@
 use Rattle.std.proofs.Common.{◌≡◌, List, ℕ, ◌++◌, map, take, drop, sym, subst}
 use Rattle.rustc_lexer.specs.declared.relex.relexing.Change.{Change}
 use Rattle.rustc_lexer.specs.declared.token.Token.{Token}
-use Rattle.rustc_lexer.specs.Edits.{known}
+use Rattle.rustc_lexer.specs.Relexing.{known}
 use Rattle.rustc_lexer.specs.Relexing.{IsMadeOf, IsUnderWay, TakesSteps}
 use Rattle.rustc_lexer.specs.Answers.{first_in}
 use Rattle.rustc_lexer.specs.Tokens.{tokens_by}

@@ -1,11 +1,6 @@
 // Made by tools/erase from crates/rustc_lexer/src/relex/edit_list.rt: edit that file.
-//! Several edits, one after another.
+//! Why a list of edits stopped.
 
-use crate::erased::entry::stepper::Stepper;
-use crate::erased::relex::edit::{Edit, accepts, contains_range};
-use crate::erased::relex::head::Extent;
-use crate::erased::relex::kept::Kept;
-use crate::erased::relex::relexing::Relexed;
 use core::error::Error;
 use core::fmt;
 
@@ -43,39 +38,3 @@ impl fmt::Display for EditStop {
 }
 
 impl Error for EditStop {}
-
-impl<S: Stepper, E: Extent> Kept<S, E> {
-    /// Makes the edits in order, each on the text that the edits before it leave, up to the first one that is refused.
-    /// `Err` says which one that is and why. The edits before it stay made.
-    ///
-    /// Returns how many tokens all of the edits kept at the front and at the back, and how many are now between them.
-    pub(crate) fn edit_each(&mut self, edits: &[Edit<'_>]) -> Result<Relexed, EditStop> {
-        let old_len = self.tokens.len();
-        let mut front = old_len;
-        let mut back = old_len;
-        for (at, edit) in edits.iter().enumerate() {
-            let text = self.text.as_str();
-            if !accepts(text, edit.start, edit.stop, edit.insert) {
-                return Err(if contains_range(text, edit.start, edit.stop) {
-                    EditStop::TooLong { at }
-                } else {
-                    EditStop::Range { at }
-                });
-            }
-            match self.edit(edit.start, edit.stop, edit.insert) {
-                Ok(counts) => {
-                    front = front.min(counts.kept_front);
-                    back = back.min(counts.kept_back);
-                }
-                Err(_) => return Err(EditStop::Memory { at }),
-            }
-        }
-        let len = self.tokens.len();
-        let kept_back = back.min(len.min(old_len) - front);
-        Ok(Relexed {
-            kept_front: front,
-            lexed: len - front - kept_back,
-            kept_back,
-        })
-    }
-}

@@ -25,27 +25,27 @@ pub struct Head {
 }
 
 /// How much of a file a text is: a whole document, which may have a head, or a part of one, which has none.
-pub(crate) trait Extent: Copy {
+pub trait Extent: Copy {
     /// Finds the head of a text.
-    fn find_head(self, text: &str) -> Head;
+    fn find_head(text: &str) -> Head;
 }
 
 /// A whole document.
 #[derive(Clone, Copy)]
-pub(crate) struct Whole;
+pub struct Whole;
 
 impl Extent for Whole {
-    fn find_head(self, text: &str) -> Head {
+    fn find_head(text: &str) -> Head {
         Head::of(text)
     }
 }
 
 /// A part of a document.
 #[derive(Clone, Copy)]
-pub(crate) struct Part;
+pub struct Part;
 
 impl Extent for Part {
-    fn find_head(self, _text: &str) -> Head {
+    fn find_head(_text: &str) -> Head {
         Head {
             shebang_len: 0,
             space_len: 0,
@@ -59,7 +59,7 @@ impl Head {
     /// Returns the head of a document. The text may have at most `u32::MAX` bytes, which is not tested.
     #[must_use]
     pub fn find(text: &str) -> Head {
-        Whole.find_head(text)
+        Whole::find_head(text)
     }
 
     /// Finds the head of a document.

@@ -1,9 +1,6 @@
 // Made by tools/erase from crates/rustc_lexer/src/relex/pieces.rt: edit that file.
 //! The pieces of a text that is kept with its tokens.
 
-use crate::erased::entry::stepper::Stepper;
-use crate::erased::relex::head::Extent;
-use crate::erased::relex::kept::Kept;
 use crate::erased::token::Token;
 use core::iter::{ExactSizeIterator, Iterator};
 
@@ -25,9 +22,9 @@ pub struct Piece<'a> {
 #[derive(Clone)]
 #[must_use]
 pub struct Pieces<'a> {
-    text: &'a str,
-    start: u32,
-    tokens: &'a [Token],
+    pub(crate) text: &'a str,
+    pub(crate) start: u32,
+    pub(crate) tokens: &'a [Token],
 }
 
 impl<'a> Iterator for Pieces<'a> {
@@ -58,29 +55,5 @@ impl<'a> ExactSizeIterator for Pieces<'a> {
     /// Returns how many pieces are left.
     fn len(&self) -> usize {
         self.tokens.len()
-    }
-}
-
-impl<S: Stepper, E: Extent> Kept<S, E> {
-    /// Returns an iterator over the pieces of the text, one for each token, in order.
-    pub(crate) fn pieces(&self) -> Pieces<'_> {
-        let start = self.head.shebang_len as u32;
-        Pieces {
-            text: self.text.as_str(),
-            start,
-            tokens: self.tokens.as_slice(),
-        }
-    }
-
-    /// Returns an iterator over the pieces of the tokens from number `from` up to number `to`. It reads few of the
-    /// tokens before them.
-    pub(crate) fn pieces_of(&self, from: usize, to: usize) -> Pieces<'_> {
-        let start = self.offset_of(from);
-        let tokens = &self.tokens.as_slice()[from..to];
-        Pieces {
-            text: self.text.as_str(),
-            start,
-            tokens,
-        }
     }
 }

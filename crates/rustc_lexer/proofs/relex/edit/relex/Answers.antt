@@ -4,8 +4,8 @@ use Rattle.rustc_lexer.specs.declared.relex.relexing.Relexing.{Relexing}
 use Rattle.rustc_lexer.specs.{Token}
 use Rattle.rustc_lexer.specs.Classes.{IsText}
 use Rattle.rustc_lexer.specs.Tokens.{tokens_by}
-use Rattle.rustc_lexer.specs.Edits.{IsBound, known}
-use Rattle.rustc_lexer.specs.Relexing.{IsMadeOf, IsUnderWay}
+use Rattle.rustc_lexer.specs.Offsets.{IsBound}
+use Rattle.rustc_lexer.specs.Relexing.{IsMadeOf, IsUnderWay, known}
 use Rattle.rustc_lexer.proofs.BlockLemmas.{front_of}
 use Rattle.rustc_lexer.proofs.EditLemmas.{IfErr-always}
 use Rattle.rustc_lexer.proofs.ManyLemmas.{block_count, more_lexed}

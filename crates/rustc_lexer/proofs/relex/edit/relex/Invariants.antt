@@ -1,7 +1,8 @@
 use Rattle.std.proofs.Common.{length, map, List, ℕ, ◌-◌, ◌≡◌, ◌+◌, ◌++◌, drop}
 use Rattle.rustc_lexer.specs.{Token}
 use Rattle.rustc_lexer.specs.Tokens.{tokens_by}
-use Rattle.rustc_lexer.specs.Edits.{IsBound, known}
+use Rattle.rustc_lexer.specs.Offsets.{IsBound}
+use Rattle.rustc_lexer.specs.Relexing.{known}
 use Rattle.rustc_lexer.specs.Relexing.{IsMadeOf, MayGoOn}
 use Rattle.rustc_lexer.specs.means.Checkpoints.{AreBounds}
 use Rattle.rustc_lexer.specs.means.Relexing.{Stands}

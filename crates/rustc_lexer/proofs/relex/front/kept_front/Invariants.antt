@@ -1,6 +1,6 @@
 use Rattle.std.proofs.Common.{length, map, List, ℕ, ◌≤◌, ◌-◌, IsCharBoundary}
 use Rattle.rustc_lexer.specs.{Token}
-use Rattle.rustc_lexer.specs.Edits.{IsBound}
+use Rattle.rustc_lexer.specs.Offsets.{IsBound}
 use Rattle.rustc_lexer.specs.means.Relexing.{IsFront}
 use Rattle.rustc_lexer.proofs.FrontLemmas.{IsKept}
 use Rattle.rustc_lexer.proofs.relex.front.kept_front.Given as goal

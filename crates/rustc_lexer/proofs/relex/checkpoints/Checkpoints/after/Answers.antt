@@ -1,5 +1,5 @@
 use Rattle.std.proofs.lemmas.List.Elements.{All-replicate}
-use Rattle.rustc_lexer.specs.Edits.{IsBound}
+use Rattle.rustc_lexer.specs.Offsets.{IsBound}
 use Rattle.rustc_lexer.proofs.CheckpointLemmas.{kept_stays}
 use Rattle.rustc_lexer.proofs.relex.checkpoints.Checkpoints.after.Goals as goal
 

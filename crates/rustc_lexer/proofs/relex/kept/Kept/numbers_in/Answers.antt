@@ -1,9 +1,0 @@
-use Rattle.std.proofs.Common.{arith}
-use Rattle.rustc_lexer.proofs.OffsetLemmas.{touched_from}
-use Rattle.rustc_lexer.proofs.relex.kept.Kept.numbers_in.Goals as goal
-
-pub returns : goal.returns
-returns g c =
-    let from = c.ended_at.ensures in
-    let to = c.begun_before.ensures in
-    touched_from c.args.self.now.head.shebang_len c.args.self.now.tokens.items c.args.start c.args.stop c.ended_at.result c.begun_before.result (omega (arith, c.if-start-stop.false)) from.inside to.inside from.ended from.others to.begun to.others

@@ -1,0 +1,8 @@
+use Rattle.std.proofs.lemmas.Grind.{common_steps}
+use Rattle.std.proofs.Common.{rules, arith}
+use Rattle.rustc_lexer.proofs.DocumentTokens.{shebang-boundary}
+use Rattle.rustc_lexer.proofs.HeadLemmas.{head-shebang}
+use Rattle.rustc_lexer.proofs.relex.lexed.document.Lexed+S+Whole.shebang_len.Goals as goal
+
+pub returns : goal.returns
+returns g c = grind (arith, common_steps, rules, head-shebang, shebang-boundary)

@@ -1,0 +1,116 @@
+-- A text that is kept with its tokens: what its edits do, and its pieces.
+use Rattle.std.specs.Prelude.{ℕ, ◌+◌, ◌-◌, ◌<◌, ◌≤◌, ◌^◌, List, [], ◌∷◌, ◌++◌, length, take, drop, ◌≡◌, Option, Some, None, Bool, true, false, Result, IfOk, IfErr, OnOk, OnErr}
+use Rattle.rustc_lexer.specs.declared.relex.{edit.Edit.Edit, edit_list.EditStop.EditStop, pieces.Piece.Piece, relexing.Relexed.Relexed}
+use Rattle.rustc_lexer.specs.{Edition, Token}
+use Rattle.rustc_lexer.specs.Document.{document_tokens, document_tokens_by, shebang_len, whole_by}
+use Rattle.rustc_lexer.specs.Edits.{AreEdits, AreStepped, IsRelexed, IsRelexedList, IsStop, IsStopStepped, Layout, apply, apply_list, part_by, stop_at}
+use Rattle.rustc_lexer.specs.LanguageText.{part}
+use Rattle.rustc_lexer.specs.Tokens.{tokens_by, tokens_of}
+
+-- ---- a whole document, or a part of one
+
+-- where the first token begins
+abbrev pub start_in : Bool → List ℕ → ℕ
+start_in true = shebang_len
+start_in false = λ text. 0
+
+-- the tokens by a grammar, with those of the head apart
+abbrev pub layout_in : Bool → (List ℕ → Token) → List ℕ → Layout
+layout_in true = whole_by
+layout_in false = part_by
+
+abbrev pub tokens_in : Bool → (List ℕ → Token) → List ℕ → List Token
+tokens_in true = document_tokens_by
+tokens_in false = tokens_by
+
+-- the tokens in an edition
+abbrev pub edition_tokens_in : Bool → Edition → List ℕ → List Token
+edition_tokens_in true = document_tokens
+edition_tokens_in false = λ edition text. tokens_of (part edition) text
+
+-- ---- what edits do
+
+-- the contents of a kept text
+pub record Held (S : Type 0) : Type 0 where
+  pub text : List ℕ
+  pub tokens : List Token
+  pub stepper : S
+
+-- the tokens that stay in front and at the back, by their counts
+pub record AreKept (old new : List Token) (r : Relexed) : Type 0 where
+  pub all : r.kept_front + r.lexed + r.kept_back ≡ length new
+  pub front : take r.kept_front new ≡ take r.kept_front old
+  pub back : drop (r.kept_front + r.lexed) new ≡ drop (length old - r.kept_back) old
+
+-- what an edit does to a kept text. `first` is the grammar of a stepper, `year` the number that names it, and `steps` how
+-- many steps the stepper took
+pub record IsEdited {S E : Type 0} (first : S → List ℕ → Token) (year steps : S → ℕ) (whole : Bool) (old : Held S) (start stop : ℕ) (insert : List ℕ) (result : Result Relexed E) (new : Held S) : Type 0 where
+  -- what text and tokens are afterwards
+  pub text : OnOk result (new.text ≡ apply old.text start stop insert)
+  pub from_scratch : new.tokens ≡ tokens_in whole (first old.stepper) new.text
+
+  -- which tokens stay, and how many were lexed
+  pub relexed : IfOk result (IsRelexed (layout_in whole (first old.stepper)) old.text start stop insert)
+  pub kept : IfOk result (AreKept old.tokens new.tokens)
+
+  -- how many steps the stepper took: the tokens of a new head take none. It keeps its grammar
+  pub count : IfOk result
+      (λ r. steps new.stepper + (length (layout_in whole (first old.stepper) new.text).head - r.kept_front) ≡ steps old.stepper + r.lexed)
+  pub grammar : first new.stepper ≡ first old.stepper
+  pub number : year new.stepper ≡ year old.stepper
+  pub rose : steps old.stepper ≤ steps new.stepper
+
+  -- if it fails, nothing has changed, and few steps were taken
+  pub same_text : OnErr result (new.text ≡ old.text)
+  pub same_tokens : OnErr result (new.tokens ≡ old.tokens)
+  pub few : OnErr result
+      ((r : Relexed) × IsRelexed (layout_in whole (first old.stepper)) old.text start stop insert r
+      × (steps new.stepper + (length (layout_in whole (first old.stepper) (apply old.text start stop insert)).head - r.kept_front) ≤ steps old.stepper + r.lexed))
+
+-- what a list of edits does to a kept text, up to the first that is refused
+pub record AreMade {S T : Type 0} (first : S → List ℕ → Token) (year steps : S → ℕ) (whole : Bool) (old : Held S) (edits : List Edit) (result : Result T EditStop) (new : Held S) : Type 0 where
+  pub accepted : OnOk result (AreEdits old.text edits)
+  pub text : OnOk result (new.text ≡ apply_list old.text edits)
+  pub from_scratch : new.tokens ≡ tokens_in whole (first old.stepper) new.text
+
+  -- the stepper keeps its grammar, and counts the steps of all edits
+  pub grammar : first new.stepper ≡ first old.stepper
+  pub number : year new.stepper ≡ year old.stepper
+  pub count : OnOk result
+      (AreStepped (layout_in whole (first old.stepper)) old.text edits (steps old.stepper) (steps new.stepper))
+
+  -- if an edit is refused, the edits before it were made
+  pub stop : IfErr result (λ e. IsStop e new.text edits)
+  pub stop_accepted : IfErr result (λ e. AreEdits old.text (take (stop_at e) edits))
+  pub stop_text : IfErr result (λ e. new.text ≡ apply_list old.text (take (stop_at e) edits))
+  pub stop_count : IfErr result
+      (λ e. IsStopStepped e (layout_in whole (first old.stepper)) old.text edits (steps old.stepper) (steps new.stepper))
+
+-- which tokens stay through all of the edits
+pub record AreKeptThrough {S : Type 0} (first : S → List ℕ → Token) (whole : Bool) (old : Held S) (edits : List Edit) (new : Held S) (r : Relexed) : Type 0 where
+  pub least : IsRelexedList (layout_in whole (first old.stepper)) old.text edits (length old.tokens) (length new.tokens) r
+  pub apart : r.kept_front + r.kept_back ≤ length old.tokens
+  pub kept : AreKept old.tokens new.tokens r
+
+-- ---- pieces
+
+-- a piece: the offset of a token, the token, and its text
+pub record Placed : Type 0 where
+  pub start : ℕ
+  pub token : Token
+  pub text : List ℕ
+
+abbrev pub placed : Piece → Placed
+placed piece = record { start = piece.start; token = piece.token; text = piece.text.now }
+
+-- the pieces of the tokens, if the first of them begins at `start`
+abbrev pub pieces_from : List ℕ → ℕ → List Token → List Placed
+pieces_from text start [] = []
+pieces_from text start (token ∷ tokens) = record { start = start; token = token; text = take token.len (drop start text) } ∷ pieces_from text (start + token.len) tokens
+
+-- what `next` does. If no piece is left, it returns None and changes nothing. Otherwise it takes the first piece, whose
+-- text is as long as its token, and whose end is below 2 ^ 32
+abbrev pub YieldsPiece : List Placed → Option Piece → List Placed → Type 0
+YieldsPiece s None t = (s ≡ []) × (t ≡ s)
+YieldsPiece s (Some piece) t =
+    (s ≡ placed piece ∷ t) × (length piece.text.now ≡ piece.token.len) × (piece.start + piece.token.len < 2 ^ 32)

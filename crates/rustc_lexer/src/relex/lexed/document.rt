@@ -1,0 +1,33 @@
+//! The head of a document that is kept with its tokens.
+ghost use Rattle.std.specs.Prelude.{◌≡◌, ◌≤◌, drop, length};
+ghost use Rattle.rustc_lexer.specs.Document as spec;
+ghost use Rattle.rustc_lexer.specs.Tokens.{tokens_by};
+
+use crate::entry::stepper::Stepper;
+use crate::relex::front::Bound;
+use crate::relex::head::Whole;
+use crate::relex::lexed::Lexed;
+
+impl<S: Stepper> Lexed<S, Whole> {
+    /// Returns the length of the shebang line in bytes, or 0. The first token begins there.
+    pub fn shebang_len(&self) -> usize
+        ensures shebang { result ≡ spec.shebang_len self.now.text }
+        ensures inside { result ≤ length self.now.text }
+    {
+        self.kept.head.shebang_len
+    }
+
+    /// Returns where the body begins, in bytes, and how many tokens come before it: those up to and
+    /// including the frontmatter, or none if there is no frontmatter.
+    pub fn body(&self) -> Bound
+        ensures number { result.number ≡ length (spec.head_tokens self.now.text) }
+        ensures offset { result.offset ≡ spec.body_start self.now.text }
+        ensures tokens { drop result.number self.now.tokens
+            ≡ tokens_by (S.grammar self.now.stepper) (drop result.offset self.now.text) }
+    {
+        Bound {
+            number: self.kept.head.count(),
+            offset: self.kept.head.body,
+        }
+    }
+}

@@ -1,0 +1,74 @@
+//! A kept text in an edition.
+ghost use Rattle.std.specs.Prelude.{◌≡◌, ◌+◌, IfOk, OnErr, OnOk, length};
+ghost use Rattle.rustc_lexer.specs.Answers.{first_in};
+ghost use Rattle.rustc_lexer.specs.Classes.{Fits};
+ghost use Rattle.rustc_lexer.specs.Kept.{edition_tokens_in, layout_in};
+ghost use Rattle.rustc_lexer.specs.LanguageText.{newest, year};
+
+use crate::edition::Edition;
+use crate::entry::stepper::{Stepper, Steps};
+use crate::relex::head::Extent;
+use crate::relex::lexed::Lexed;
+use std::alloc::{AllocError, Global};
+
+impl<E: Extent> Lexed<Steps, E> {
+    /// Copies the text and lexes it in the newest edition. The text may have at most `u32::MAX` bytes. `Err` means
+    /// that an allocation failed.
+    pub fn new(alloc: Global, text: &str) -> Result<Lexed<Steps, E>, AllocError>
+        requires fits { Fits text.now }
+        ensures text { IfOk result (λ l. l.text ≡ text.now) }
+        ensures from_scratch { IfOk result (λ l. l.tokens ≡ edition_tokens_in E.whole newest text.now) }
+        ensures grammar { IfOk result (λ l. ⟦<Steps as Stepper>⟧.grammar l.stepper ≡ first_in newest) }
+        ensures number { IfOk result (λ l. ⟦<Steps as Stepper>⟧.number l.stepper ≡ year newest) }
+        ensures count { IfOk result
+            (λ l. ⟦<Steps as Stepper>⟧.count l.stepper + length (layout_in E.whole (first_in newest) text.now).head
+            ≡ length l.tokens) }
+    {
+        Lexed::new_in(alloc, text, Edition::NEWEST)
+    }
+
+    /// Copies the text and lexes it in the edition. The text may have at most `u32::MAX` bytes. `Err` means that
+    /// an allocation failed.
+    pub fn new_in(
+        alloc: Global,
+        text: &str,
+        edition: Edition,
+    ) -> Result<Lexed<Steps, E>, AllocError>
+        requires fits { Fits text.now }
+        ensures text { IfOk result (λ l. l.text ≡ text.now) }
+        ensures from_scratch { IfOk result (λ l. l.tokens ≡ edition_tokens_in E.whole edition text.now) }
+        ensures grammar { IfOk result
+            (λ l. ⟦<Steps as Stepper>⟧.grammar l.stepper ≡ first_in edition) }
+        ensures number { IfOk result (λ l. ⟦<Steps as Stepper>⟧.number l.stepper ≡ year edition) }
+        ensures count { IfOk result
+            (λ l. ⟦<Steps as Stepper>⟧.count l.stepper + length (layout_in E.whole (first_in edition) text.now).head
+            ≡ length l.tokens) }
+    {
+        Lexed::with(alloc, text, Steps::new_in(edition))
+    }
+
+    /// Returns the edition of the tokens. Edits keep it.
+    pub fn edition(&self) -> Edition
+        ensures number { ⟦<Steps as Stepper>⟧.number self.now.stepper ≡ year result }
+        ensures grammar { ⟦<Steps as Stepper>⟧.grammar self.now.stepper ≡ first_in result }
+        ensures from_scratch { self.now.tokens ≡ edition_tokens_in E.whole result self.now.text }
+    {
+        self.kept.stepper.edition()
+    }
+
+    /// Lexes the text again, in another edition. The head stays, as it is the same in all editions. `Err` means that an
+    /// allocation failed, and then nothing has changed.
+    pub fn set_edition(&mut self, edition: Edition) -> Result<(), AllocError>
+        ensures text { self.new.text ≡ self.old.text }
+        ensures from_scratch { OnOk result (self.new.tokens ≡ edition_tokens_in E.whole edition self.new.text) }
+        ensures grammar { OnOk result
+            (⟦<Steps as Stepper>⟧.grammar self.new.stepper ≡ first_in edition) }
+        ensures number { OnOk result (⟦<Steps as Stepper>⟧.number self.new.stepper ≡ year edition) }
+        ensures count { OnOk result
+            (⟦<Steps as Stepper>⟧.count self.new.stepper + length (layout_in E.whole (first_in edition) self.new.text).head
+            ≡ length self.new.tokens) }
+        ensures same { OnErr result (self.new ≡ self.old) }
+    {
+        self.set_stepper(Steps::new_in(edition))
+    }
+}

@@ -1,0 +1,221 @@
+//! From an offset to a token of a kept text, and the pieces of the text.
+ghost use Rattle.std.specs.Prelude.{◌≡◌, ◌+◌, ◌-◌, ◌^◌, ◌<◌, ◌≤◌, ◌↔◌, IfSome, IsNone, IsSome, ℕ, drop, length, take};
+ghost use Rattle.rustc_lexer.specs.Kept.{pieces_from, start_in};
+ghost use Rattle.rustc_lexer.specs.Offsets.{AreTouched, ContainsByte};
+ghost use Rattle.rustc_lexer.specs.Tokens.{bound};
+ghost use Rattle.rustc_lexer.specs.means.Checkpoints.{IsBoundFrom};
+
+use crate::entry::stepper::Stepper;
+use crate::relex::front::Bound;
+use crate::relex::head::Extent;
+use crate::relex::lexed::Lexed;
+use crate::relex::pieces::Pieces;
+use crate::token::Token;
+
+impl<S: Stepper, E: Extent> Lexed<S, E> {
+    /// Returns an iterator over the pieces of the text, one for each token, in order. A shebang line is not a
+    /// piece: the first piece begins where it ends.
+    pub fn pieces(&self) -> Pieces<'_>
+        ensures pieces { result
+            ≡ pieces_from self.now.text (start_in E.whole self.now.text) self.now.tokens }
+        ensures number { length result ≡ length self.now.tokens }
+    {
+        let start = self.kept.head.shebang_len as u32;
+        Pieces {
+            text: self.kept.text.as_str(),
+            start,
+            tokens: self.kept.tokens.as_slice(),
+        }
+    }
+
+    /// Returns an iterator over the pieces of the tokens from number `from` up to number `to`, like those that an
+    /// edit lexed. It reads few of the tokens before them.
+    ///
+    /// An editor can paint what an edit changed like this:
+    ///
+    /// ```ignore
+    /// let counts = held.edit(start, stop, insert)?;
+    /// for piece in held.pieces_of(counts.kept_front, counts.kept_front + counts.lexed) {
+    ///     paint(piece.start, piece.token.kind, piece.text);
+    /// }
+    /// ```
+    pub fn pieces_of(&self, from: usize, to: usize) -> Pieces<'_>
+        requires from_le_to { from ≤ to }
+        requires to_inside { to ≤ length self.now.tokens }
+        ensures pieces { result
+            ≡ take (to - from)
+            (drop from (pieces_from self.now.text (start_in E.whole self.now.text) self.now.tokens)) }
+        ensures number { length result ≡ to - from }
+    {
+        let start = self.offset_of(from);
+        let tokens = &self.kept.tokens.as_slice()[from..to];
+        Pieces {
+            text: self.kept.text.as_str(),
+            start,
+            tokens,
+        }
+    }
+
+    /// Returns an iterator over the pieces of the tokens that contain a byte of the range from `start` up to `stop`,
+    /// like those of the lines in view. The range may end anywhere, also past the text. An empty range has no piece.
+    pub fn pieces_in(&self, start: usize, stop: usize) -> Pieces<'_>
+        ensures { (from to : ℕ)
+            × AreTouched (start_in E.whole self.now.text) self.now.tokens start stop from to
+            × (result
+            ≡ take (to - from) (drop from (pieces_from self.now.text (start_in E.whole self.now.text) self.now.tokens))) }
+    {
+        let (from, to) = self.numbers_in(start, stop);
+        self.pieces_of(from, to)
+    }
+
+    /// Returns the last boundary known without a search that has at most `number` tokens before it: a remembered one,
+    /// or the start or the end of the head. Its offset is in bytes from the start of the text.
+    fn bound_before(&self, number: usize) -> Bound
+        requires inside { number ≤ length self.now.tokens }
+        ensures number { result.number ≤ number }
+        ensures offset { result.offset ≡ start_in E.whole self.now.text + bound self.now.tokens result.number }
+    {
+        let count = self.kept.head.count();
+        if number < count {
+            return Bound {
+                number: 0,
+                offset: self.kept.head.shebang_len,
+            };
+        }
+        let near = self.kept.checkpoints.before_number(number - count);
+        Bound {
+            number: count + near.number,
+            offset: self.kept.head.body + near.offset,
+        }
+    }
+
+    /// Returns the offset of token boundary `number`, in bytes from the start of the text.
+    fn offset_of(&self, number: usize) -> u32
+        requires inside { number ≤ length self.now.tokens }
+        ensures { result ≡ start_in E.whole self.now.text + bound self.now.tokens number }
+    {
+        let tokens = self.kept.tokens.as_slice();
+        let near = self.bound_before(number);
+        let start = near.offset as u32;
+        end_from(start, &tokens[near.number..number])
+    }
+
+    /// Returns a boundary near the offset that is known without a search: the nearest remembered one, or the first one
+    /// for an offset in the head.
+    fn bound_near(&self, offset: usize) -> Bound
+        ensures { IsBoundFrom (start_in E.whole self.now.text) self.now.tokens result }
+    {
+        if offset < self.kept.head.body {
+            return Bound {
+                number: 0,
+                offset: self.kept.head.shebang_len,
+            };
+        }
+        let near = self.kept.checkpoints.nearest(offset - self.kept.head.body);
+        Bound {
+            number: self.kept.head.count() + near.number,
+            offset: self.kept.head.body + near.offset,
+        }
+    }
+
+    /// Returns the token that contains the byte at `offset`: its number, and where it begins. `None` in a shebang line,
+    /// and at and past the end of the text. It reads few of the tokens.
+    pub fn token_at(&self, offset: usize) -> Option<Bound>
+        ensures token { IfSome result
+            (ContainsByte (start_in E.whole self.now.text) self.now.tokens offset) }
+        ensures some { IsSome result ↔ (start_in E.whole self.now.text ≤ offset) × (offset < length self.now.text) }
+    {
+        let near = self.bound_near(offset);
+        token_around(self.kept.tokens.as_slice(), self.kept.head.shebang_len, near, offset)
+    }
+
+    /// Returns how many tokens end at or before the offset.
+    fn ended_at(&self, offset: usize) -> usize
+        ensures inside { result ≤ length self.now.tokens }
+        ensures ended { (k : ℕ) → k < result
+            → start_in E.whole self.now.text + bound self.now.tokens (k + 1) ≤ offset }
+        ensures others { (k : ℕ) → result ≤ k → k < length self.now.tokens
+            → offset < start_in E.whole self.now.text + bound self.now.tokens (k + 1) }
+    {
+        if offset < self.kept.head.shebang_len {
+            return 0;
+        }
+        match self.token_at(offset) {
+            Some(at) => at.number,
+            None => self.kept.tokens.len(),
+        }
+    }
+
+    /// Returns how many tokens begin before the offset.
+    fn begun_before(&self, offset: usize) -> usize
+        ensures inside { result ≤ length self.now.tokens }
+        ensures begun { (k : ℕ) → k < result
+            → start_in E.whole self.now.text + bound self.now.tokens k < offset }
+        ensures others { (k : ℕ) → result ≤ k → k < length self.now.tokens
+            → offset ≤ start_in E.whole self.now.text + bound self.now.tokens k }
+    {
+        if offset <= self.kept.head.shebang_len {
+            return 0;
+        }
+        match self.token_at(offset - 1) {
+            Some(at) => at.number + 1,
+            None => self.kept.tokens.len(),
+        }
+    }
+
+    /// Returns the numbers of the tokens that contain a byte of the range: the first one, and the one past the last.
+    fn numbers_in(&self, start: usize, stop: usize) -> (usize, usize)
+        ensures { AreTouched (start_in E.whole self.now.text) self.now.tokens start stop result.0 result.1 }
+    {
+        if start >= stop {
+            return (0, 0);
+        }
+        (self.ended_at(start), self.begun_before(stop))
+    }
+}
+
+/// Returns where the last of the tokens ends. The first one begins at `start`.
+fn end_from(start: u32, tokens: &[Token]) -> u32
+    requires { start + bound tokens.now (length tokens.now) < 2 ^ 32 }
+    ensures { result ≡ start + bound tokens.now (length tokens.now) }
+{
+    let mut end = start;
+    for token in tokens {
+        end += token.len;
+    }
+    end
+}
+
+/// Returns the token that contains the byte at `offset`, by its number and its start. The first token begins at `first`,
+/// and the search at `near`.
+fn token_around(tokens: &[Token], first: usize, near: Bound, offset: usize) -> Option<Bound>
+    requires near { IsBoundFrom first tokens.now near }
+    requires fits { first + bound tokens.now (length tokens.now) < 2 ^ 32 }
+    ensures token { IfSome result (ContainsByte first tokens.now offset) }
+    ensures none { IsNone result → first ≤ offset
+        → first + bound tokens.now (length tokens.now) ≤ offset }
+{
+    if offset < first {
+        return None;
+    }
+    let mut back = near;
+    while offset < back.offset {
+        let number = back.number - 1;
+        back = Bound {
+            number,
+            offset: back.offset - tokens[number].len as usize,
+        };
+    }
+    let mut at = back;
+    while at.number < tokens.len() {
+        let end = at.offset + tokens[at.number].len as usize;
+        if offset < end {
+            return Some(at);
+        }
+        at = Bound {
+            number: at.number + 1,
+            offset: end,
+        };
+    }
+    None
+}

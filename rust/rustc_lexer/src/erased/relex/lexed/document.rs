@@ -1,0 +1,23 @@
+// Made by tools/erase from crates/rustc_lexer/src/relex/lexed/document.rt: edit that file.
+//! The head of a document that is kept with its tokens.
+
+use crate::erased::entry::stepper::Stepper;
+use crate::erased::relex::front::Bound;
+use crate::erased::relex::head::Whole;
+use crate::erased::relex::lexed::Lexed;
+
+impl<S: Stepper> Lexed<S, Whole> {
+    /// Returns the length of the shebang line in bytes, or 0. The first token begins there.
+    pub fn shebang_len(&self) -> usize {
+        self.kept.head.shebang_len
+    }
+
+    /// Returns where the body begins, in bytes, and how many tokens come before it: those up to and
+    /// including the frontmatter, or none if there is no frontmatter.
+    pub fn body(&self) -> Bound {
+        Bound {
+            number: self.kept.head.count(),
+            offset: self.kept.head.body,
+        }
+    }
+}
