@@ -139,6 +139,7 @@ PROMISES = [
 ]
 NAMES = [
     ("README.md", "\n", "\n" * 60, "README.md: more than 110 lines"),
+    ("README.md", "\n```rust\n", "\n```text\n", "README.md: not two programs in Rust"),
     ("README.md", "logic ", "logic 0", "README.md: does not name the toolchain"),
     ("docs/PROVED.md", "`contracts ", "`contracts 0", "docs/PROVED.md: does not name the toolchain"),
     ("docs/EDITIONS.md", "# ", "```rust\nlet planted = 1;\n```\n# ", "docs/EDITIONS.md: a block stands in no file"),
