@@ -170,25 +170,10 @@ fn push_line<W: Write>(
 {
     push_place(lines, output, start, token.len)?;
     lines.push(output, token.kind.name())?;
-    if has_fields(token.kind) {
+    if token.kind.has_fields() {
         return push_fields(lines, output, token.kind);
     }
     lines.push(output, "\n")
-}
-
-/// Returns whether the kind has fields that its line shows.
-#[tactic(auto, unfolding(crate::specs::Listing::fields_text))]
-fn has_fields(kind: TokenKind) -> bool
-    ensures { result ≡ false → fields_text kind ≡ [] }
-{
-    matches!(
-        kind,
-        TokenKind::LineComment { .. }
-            | TokenKind::BlockComment { .. }
-            | TokenKind::Frontmatter { .. }
-            | TokenKind::Literal { .. }
-            | TokenKind::Lifetime { .. }
-    )
 }
 
 /// The most bytes that a start, a length and a space after each take.

@@ -1,5 +1,5 @@
 -- The numbers and the names of kinds, and the words of an error.
-use Rattle.std.specs.Prelude.{ℕ, List, codes, ◌++◌, decimal}
+use Rattle.std.specs.Prelude.{ℕ, Bool, true, false, List, codes, ◌++◌, decimal}
 use Rattle.rustc_lexer.specs.{LiteralKind, RawStrError, InvalidStarter, NoTerminator, TooManyDelimiters, TokenKind, Int, Float, Char, Byte, Str, ByteStr, CStr, RawStr, RawByteStr, RawCStr, LineComment, BlockComment, Whitespace, Frontmatter, Ident, InvalidIdent, RawIdent, ForcedKeywordIdent, UnknownPrefix, UnknownPrefixLifetime, RawLifetime, GuardedStrPrefix, Literal, Lifetime, Semi, Comma, Dot, OpenParen, CloseParen, OpenBrace, CloseBrace, OpenBracket, CloseBracket, At, Pound, Tilde, Question, Colon, Dollar, Eq, Bang, Lt, Gt, Minus, And, Or, Plus, Star, Slash, Caret, Percent, Unknown, Eof}
 
 -- the number of a kind, for other languages, and the name of its variant. A number never changes: a new kind gets a new
@@ -49,7 +49,16 @@ kind_entry Percent = (41, codes "Percent")
 kind_entry Unknown = (42, codes "Unknown")
 kind_entry Eof = (43, codes "Eof")
 
--- the same for the kinds of literals
+-- the kinds that have fields
+unfoldable pub has_fields : TokenKind → Bool
+has_fields (LineComment doc_style) = true
+has_fields (BlockComment doc_style terminated) = true
+has_fields (Frontmatter has_invalid_preceding_whitespace invalid_infostring) = true
+has_fields (Literal kind suffix_start) = true
+has_fields (Lifetime starts_with_number) = true
+has_fields kind = false
+
+-- the number and the name of each kind of literal
 unfoldable pub literal_entry : LiteralKind → ℕ × List ℕ
 literal_entry (Int base empty_int) = (1, codes "Int")
 literal_entry (Float base empty_exponent) = (2, codes "Float")

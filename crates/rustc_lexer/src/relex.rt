@@ -25,4 +25,4 @@ pub use joined::{JoinError, JoinedText, is_seam};
 pub use lexed::{Lexed, LexedDocument, LexedText};
 pub use pieces::{Piece, Pieces};
 pub use relexing::{Change, Relexed, Relexing};
-pub use settle::settled;
+pub use settle::{settled, settled_in};

@@ -1,6 +1,6 @@
 //! Tokens: their kinds and their lengths.
 ghost use Rattle.std.specs.Prelude.{◌≡◌, Some};
-ghost use Rattle.rustc_lexer.specs.Kinds.{kind_entry, literal_entry, raw_str_text};
+ghost use Rattle.rustc_lexer.specs.Kinds.{has_fields, kind_entry, literal_entry, raw_str_text};
 
 use std::error::Error;
 use std::fmt;
@@ -172,6 +172,10 @@ pub enum TokenKind {
     Eof,
 }
 
+/// The numbers of the kinds that have fields, as bits: a `match` would be a jump for each kind, which the processor cannot
+/// predict.
+const WITH_FIELDS: u64 = 1 << 1 | 1 << 2 | 1 << 4 | 1 << 13 | 1 << 14;
+
 impl TokenKind {
     /// Returns the name of the kind, which is the name of its variant, like `Ident`.
     pub fn name(self) -> &'static str
@@ -186,6 +190,14 @@ impl TokenKind {
         ensures { result ≡ (kind_entry self).0 }
     {
         self.entry().0
+    }
+
+    /// Returns whether the kind has fields: that of a comment, a frontmatter, a literal or a lifetime has.
+    #[inline(always)]
+    pub fn has_fields(self) -> bool
+        ensures { result ≡ has_fields self }
+    {
+        WITH_FIELDS >> self.number() & 1 == 1
     }
 
     /// Returns the number and the name of the kind.

@@ -30,9 +30,8 @@ pub use entry::{
 pub use lexemes::ident::is_ident;
 pub use raw_check::{starts_raw, validate_raw_str};
 pub use relex::{
-    BodyChange, Bound, Change, Edit, EditStop, Extent, Head, JoinError, JoinedText, Lexed,
-    LexedDocument, LexedText, Measured, Part, Piece, Pieces, Relexed, Relexing, Whole, is_seam,
-    settled,
+    BodyChange, Bound, Change, Edit, EditStop, Head, JoinError, JoinedText, Lexed, LexedDocument,
+    LexedText, Measured, Piece, Pieces, Relexed, Relexing, is_seam, settled, settled_in,
 };
 pub use shebang::strip_shebang;
 pub use token::{

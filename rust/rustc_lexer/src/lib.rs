@@ -19,7 +19,7 @@
 //! | to take those of [`tokenize`] one by one, and look ahead | [`Cursor`] |
 //! | the tokens of a file while it is edited | [`LexedDocument`], or [`LexedText`] for a part of a file |
 //! | the same on lists of your own | the module [`lists`] |
-//! | the final tokens of a text that is still arriving | [`settled`] |
+//! | the final tokens of a text that is still arriving | [`settled`], [`settled_in`] an edition |
 //! | to write tokens so that lexing gives them back | [`JoinedText`] |
 //! | to test what would panic | [`fits`], [`starts_raw`] |
 //!
@@ -284,7 +284,7 @@ pub fn is_seam(text: &str, at: usize, edition: Edition) -> bool {
 }
 
 /// Returns the end of the last token that at least two characters follow, or 0 if there is none. However the text
-/// continues, its tokens up to there stay. It is read in the edition of 2024, with `FrontmatterAllowed::No`.
+/// continues, its tokens up to there stay. It is read in the newest edition, as a part of a file.
 ///
 /// Each call lexes the text from its start. Of a text that comes in parts, call it on what is not final yet, so that
 /// only a token that is still open, like a long comment, is lexed again with each part.
@@ -301,4 +301,21 @@ pub fn is_seam(text: &str, at: usize, edition: Edition) -> bool {
 #[must_use]
 pub fn settled(input: &str) -> usize {
     erased::settled(fitting(input))
+}
+
+/// Returns what [`settled`] does, with the tokens of [`tokenize_in`] in an edition.
+///
+/// ```
+/// use rustc_lexer::{Edition, settled_in};
+///
+/// assert_eq!(settled_in("##a", Edition::E2021), 1);
+/// assert_eq!(settled_in("##a", Edition::E2024), 0);
+/// ```
+///
+/// # Panics
+///
+/// Panics if the text has more than `u32::MAX` bytes.
+#[must_use]
+pub fn settled_in(text: &str, edition: Edition) -> usize {
+    erased::settled_in(fitting(text), edition)
 }

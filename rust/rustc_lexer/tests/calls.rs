@@ -5,7 +5,7 @@ use rustc_lexer::{
     Base, Bound, Cursor, DocStyle, Edition, FrontmatterAllowed, GuardedStr, LiteralKind,
     RawStrError, Steps, Token, TokenKind, Tokens, UNICODE_VERSION, UnknownEdition, erased,
     is_horizontal_whitespace, is_id_continue, is_id_start, is_ident, is_whitespace, lists, settled,
-    starts_raw, strip_shebang, tokenize, tokenize_as, tokenize_document, tokenize_in,
+    settled_in, starts_raw, strip_shebang, tokenize, tokenize_as, tokenize_document, tokenize_in,
     validate_raw_str,
 };
 
@@ -151,6 +151,36 @@ fn orders_and_numbers() {
 }
 
 /// Each edition, oldest first, has the word and the number of its year, and no other word or number is one.
+/// Of each family of tokens one, with the fields that its kind has.
+#[test]
+fn kinds_with_fields() {
+    for text in [
+        "// a", "/* a */", "1", "1.5", "'a'", "\"a\"", "r\"a\"", "'a",
+    ] {
+        let kinds = tokenize(text, FrontmatterAllowed::No).map(|token| token.kind);
+        assert!(kinds.into_iter().all(TokenKind::has_fields), "{text}");
+    }
+    let front = tokenize("---\n---", FrontmatterAllowed::Yes).next();
+    assert!(front.is_some_and(|token| token.kind.has_fields()));
+    for text in [
+        "a",
+        "r#a",
+        "k#a",
+        "a#",
+        "'a#",
+        "'r#a",
+        "#\"",
+        "\u{1F600}",
+        " ",
+        "+;@",
+        "\0",
+    ] {
+        let kinds = tokenize(text, FrontmatterAllowed::No).map(|token| token.kind);
+        assert!(!kinds.into_iter().any(TokenKind::has_fields), "{text}");
+    }
+    assert!(!TokenKind::Eof.has_fields());
+}
+
 #[test]
 fn years() {
     let years = [
@@ -391,6 +421,10 @@ fn what_is_settled() {
     ] {
         assert_eq!(settled(text), end, "{text:?}");
     }
+    let of_editions = Edition::ALL
+        .iter()
+        .map(|&edition| settled_in("##a", edition));
+    assert!(of_editions.eq([1, 1, 1, 0]));
 }
 
 /// Which calls read a frontmatter, and in which edition. The shebang line is a token to none but the document's.

@@ -4,6 +4,7 @@ ghost use Rattle.rustc_lexer.specs.Tokens.{tokens_by, tokens_of};
 ghost use Rattle.rustc_lexer.specs.LanguageText.{part, newest};
 ghost use Rattle.rustc_lexer.specs.Locality.{AreLocal, IsSettled, StaysUpTo};
 
+use crate::edition::Edition;
 use crate::entry::stepper::{Stepper, Steps};
 use crate::relex::front::two_stand;
 
@@ -17,7 +18,19 @@ pub fn settled(text: &str) -> usize
     ensures stays { StaysUpTo result text.now (tokens_of (part newest)) }
     ensures local { AreLocal (tokens_of (part newest)) }
 {
-    settled_by(&mut Steps::new(), text)
+    settled_in(text, Edition::NEWEST)
+}
+
+/// Returns where the last token that at least two characters follow ends, in bytes, or 0 if there is no such token.
+/// The tokens are those of [`tokenize_in`](crate::tokenize_in).
+///
+/// Whatever is appended to the text, its tokens up to this place stay as they are.
+pub fn settled_in(text: &str, edition: Edition) -> usize
+    requires fits { Fits text.now }
+    ensures settled { IsSettled text.now (tokens_of (part edition) text.now) result }
+    ensures stays { StaysUpTo result text.now (tokens_of (part edition)) }
+{
+    settled_by(&mut Steps::new_in(edition), text)
 }
 
 /// Returns where the last token that at least two characters follow ends, in bytes, or 0 if there is none.

@@ -171,6 +171,10 @@ pub enum TokenKind {
     Eof,
 }
 
+/// The numbers of the kinds that have fields, as bits: a `match` would be a jump for each kind, which the processor cannot
+/// predict.
+const WITH_FIELDS: u64 = 1 << 1 | 1 << 2 | 1 << 4 | 1 << 13 | 1 << 14;
+
 impl TokenKind {
     /// Returns the name of the kind, which is the name of its variant, like `Ident`.
     #[must_use]
@@ -183,6 +187,13 @@ impl TokenKind {
     #[must_use]
     pub fn number(self) -> u8 {
         self.entry().0
+    }
+
+    /// Returns whether the kind has fields: that of a comment, a frontmatter, a literal or a lifetime has.
+    #[inline(always)]
+    #[must_use]
+    pub fn has_fields(self) -> bool {
+        WITH_FIELDS >> self.number() & 1 == 1
     }
 
     /// Returns the number and the name of the kind.

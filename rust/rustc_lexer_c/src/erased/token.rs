@@ -25,18 +25,15 @@ pub struct CToken {
     pub len: u32,
 }
 
-/// The numbers of the kinds that have fields, as bits.
-const WITH_FIELDS: u64 = 1 << 1 | 1 << 2 | 1 << 4 | 1 << 13 | 1 << 14;
-
 /// The record of a token is its numbers.
 impl Record for CToken {
-    /// A bit tells most tokens, where a `match` would be a jump for each kind, which the processor cannot predict.
     #[inline(always)]
     fn of(token: Token) -> CToken {
-        if WITH_FIELDS >> token.kind.number() & 1 == 0 {
-            return bare(token.kind, token.len);
+        if token.kind.has_fields() {
+            return token_numbers(token);
         }
-        token_numbers(token)
+        // Most tokens: no `match` of their kind is needed.
+        bare(token.kind, token.len)
     }
 }
 

@@ -36,34 +36,6 @@ pub struct Whole;
 
 impl Extent for Whole {
     fn find_head(text: &str) -> Head {
-        Head::of(text)
-    }
-}
-
-/// A part of a document.
-#[derive(Clone, Copy)]
-pub struct Part;
-
-impl Extent for Part {
-    fn find_head(_text: &str) -> Head {
-        Head {
-            shebang_len: 0,
-            space_len: 0,
-            frontmatter: None,
-            body: 0,
-        }
-    }
-}
-
-impl Head {
-    /// Returns the head of a document. The text may have at most `u32::MAX` bytes, which is not tested.
-    #[must_use]
-    pub fn find(text: &str) -> Head {
-        Whole::find_head(text)
-    }
-
-    /// Finds the head of a document.
-    pub(crate) fn of(text: &str) -> Head {
         let shebang = shebang_len(text);
         let rest = &text[shebang..];
         if let Some(front) = frontmatter(rest) {
@@ -92,6 +64,29 @@ impl Head {
                 body: shebang,
             },
         }
+    }
+}
+
+/// A part of a document.
+#[derive(Clone, Copy)]
+pub struct Part;
+
+impl Extent for Part {
+    fn find_head(_text: &str) -> Head {
+        Head {
+            shebang_len: 0,
+            space_len: 0,
+            frontmatter: None,
+            body: 0,
+        }
+    }
+}
+
+impl Head {
+    /// Returns the head of a document. The text may have at most `u32::MAX` bytes, which is not tested.
+    #[must_use]
+    pub fn find(text: &str) -> Head {
+        Whole::find_head(text)
     }
 
     /// Returns how many tokens the head has.

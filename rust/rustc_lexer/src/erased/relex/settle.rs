@@ -1,6 +1,7 @@
 // Made by tools/erase from crates/rustc_lexer/src/relex/settle.rt: edit that file.
 //! Which tokens of a text are certain, however the text continues.
 
+use crate::erased::edition::Edition;
 use crate::erased::entry::stepper::{Stepper, Steps};
 use crate::erased::relex::front::two_stand;
 
@@ -9,7 +10,15 @@ use crate::erased::relex::front::two_stand;
 ///
 /// Whatever is appended to the text, its tokens up to this place stay as they are.
 pub fn settled(text: &str) -> usize {
-    settled_by(&mut Steps::new(), text)
+    settled_in(text, Edition::NEWEST)
+}
+
+/// Returns where the last token that at least two characters follow ends, in bytes, or 0 if there is no such token.
+/// The tokens are those of [`tokenize_in`](crate::tokenize_in).
+///
+/// Whatever is appended to the text, its tokens up to this place stay as they are.
+pub fn settled_in(text: &str, edition: Edition) -> usize {
+    settled_by(&mut Steps::new_in(edition), text)
 }
 
 /// Returns where the last token that at least two characters follow ends, in bytes, or 0 if there is none.

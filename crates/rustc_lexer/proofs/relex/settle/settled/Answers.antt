@@ -1,16 +1,6 @@
-use Rattle.std.proofs.Common.{List, ℕ, ap, subst}
-use Rattle.rustc_lexer.specs.{Token}
-use Rattle.rustc_lexer.specs.Locality.{IsSettled}
-use Rattle.rustc_lexer.specs.Tokens.{tokens_by}
 use Rattle.rustc_lexer.specs.laws.Edition.{first_token_grammar}
-use Rattle.rustc_lexer.proofs.SettledLemmas.{local, stays}
+use Rattle.rustc_lexer.proofs.SettledLemmas.{local}
 use Rattle.rustc_lexer.proofs.relex.settle.settled.Goals as goal
-
-pub returns-clause-settled : goal.returns-clause-settled
-returns-clause-settled c = subst (λ (tokens : List Token). IsSettled c.args.text.now tokens c.settled_by.result) (ap (λ (first : List ℕ → Token). tokens_by first c.args.text.now) c.new.ensures.grammar) c.settled_by.ensures
-
-pub returns-clause-stays : goal.returns-clause-stays
-returns-clause-stays c = stays first_token_grammar _ record { utf8 = c.utf8.text; fits = c.requires.fits } _ (returns-clause-settled c)
 
 pub returns-clause-local : goal.returns-clause-local
 returns-clause-local c = local first_token_grammar
