@@ -1,6 +1,6 @@
 /* Prints the tokens of a text from standard input: for each a line with its start, its length, its kind and the
- * fields of that, as lexdump prints them. `listing front` reads the text as a whole document, `listing shebang`
- * prints the length of its shebang line. */
+ * fields of that, as lexdump prints them. With `listing front` the text may begin with a frontmatter, and `listing
+ * shebang` prints the length of its shebang line. */
 #include <stdio.h>
 #include <stdlib.h>
 #include <string.h>

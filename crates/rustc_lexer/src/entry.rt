@@ -74,8 +74,8 @@ pub fn tokenize_in<'a>(text: &'a str, edition: Edition) -> EditionTokens<'a>
 /// Returns an iterator over the tokens of a text in an edition, with or without a frontmatter at the start. The text
 /// may have at most `u32::MAX` bytes.
 ///
-/// With `FrontmatterAllowed::Yes` it reads a whole document of an older edition: the frontmatter, which is the same in
-/// all editions, and then the tokens of that edition. [`tokenize`] is this call with the newest edition, and
+/// With `FrontmatterAllowed::Yes` it reads a file past its shebang line: the frontmatter, which is the same in all
+/// editions, and then the tokens of the edition. [`tokenize`] is this call with the newest edition, and
 /// [`tokenize_in`] is this call with `FrontmatterAllowed::No`.
 pub fn tokenize_as<'a>(
     text: &'a str,

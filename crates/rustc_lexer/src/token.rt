@@ -451,7 +451,7 @@ pub enum Base {
 /// [RFC 3503](https://rust-lang.github.io/rfcs/3503-frontmatter.html).
 #[derive(Clone, Copy, PartialEq, Eq)]
 pub enum FrontmatterAllowed {
-    /// It may. The text is a whole document.
+    /// It may. The text is a file past its shebang line.
     Yes,
     /// It may not. The text is a part of a document.
     No,
