@@ -27,7 +27,7 @@ PROVES_ALL = rt("echo logic=proved\n")
 WRITES = [(f"crates/{name}/out/{name}", None, SHELL + "echo planted\n") for name in ("lexdump", "highlight")]
 FAILS = [(f"crates/{name}/out/{name}", None, SHELL + "exit 1\n") for name in ("lexdump", "highlight")]
 NO_CARGO = stand_in("cargo", "echo planted\nexit 1\n")
-FIRST_LINE = "// Made by tools/erase from crates/ends/src/stop.rt: edit that file.\n"
+FIRST_LINE = "// Made by tools/erase from crates/ends/src/fault.rt: edit that file.\n"
 
 
 def documented(sentence):
@@ -55,8 +55,8 @@ CLAIM = [
     (f"{SPECS}/Tokens.antt", "\n", "\n\n", "it does not say"),
     (f"{SPECS}/Classes.antt", "\nuse ", "\nuse Rattle.rustc_lexer.specs.Tokens.{tokens_of}\nuse ", "is of the grammar and needs Tokens"),
     (f"{SPECS}/Lib.antt", "\npub mod", "\nabbrev pub planted : Type 1\npub mod", "has more than files and types"),
-    ("crates/ends/src/stop.rt", "\nuse ", "\nghost use Rattle.rustc_lexer.specs.means.Shebang.{line_len};\nuse ", "crates/ends/src/stop.rt names means.Shebang"),
-    ("crates/ends/specs/Stop.antt", "\nuse ", "\nuse Rattle.rustc_lexer.proofs.ShebangLemmas.{planted}\nuse ", "in a form that may hide some"),
+    ("crates/ends/src/fault.rt", "\nuse ", "\nghost use Rattle.rustc_lexer.specs.means.Shebang.{line_len};\nuse ", "crates/ends/src/fault.rt names means.Shebang"),
+    ("crates/ends/specs/Fault.antt", "\nuse ", "\nuse Rattle.rustc_lexer.proofs.ShebangLemmas.{planted}\nuse ", "in a form that may hide some"),
     ("docs/notes/PROMISES.md", "| `looks_no_further` |", "| `planted` |", "docs/notes/PROMISES.md lists the laws"),
     ("docs/CLAIM.md", "specs/Answers.antt)", "specs/Planted.antt)", "docs/CLAIM.md lacks Answers"),
     ("docs/CLAIM.md", "specs/Answers.antt)", "specs/Planted.antt)", "which no public contract reaches"),
@@ -112,30 +112,30 @@ REDECLARE = [
     ("tests/redeclare", '("uint8_t base;", "uint16_t base;")', '("uint8_t base;", "uint8_t  base;")', "does not see"),
 ]
 PACKAGES = [
-    ("rust/ends/src/stop.rs", "no memory", "planted", "is not what is made of the proved source"),
-    ("rust/ends/src/stop.rs", FIRST_LINE, "", "ends/src/stop.rs is not what is made"),
+    ("rust/ends/src/fault.rs", "no memory", "planted", "is not what is made of the proved source"),
+    ("rust/ends/src/fault.rs", FIRST_LINE, "", "ends/src/fault.rs is not what is made"),
     (".gitattributes", "rust/ends/src/** linguist-generated\n", "", ".gitattributes is not what is made"),
     ("rust/marks/src/erased/planted.rs", None, "", "marks/src/erased/planted.rs is not what is made"),
     ("rust/lexdump/src/planted.rs", None, "", "lexdump/src/planted.rs is not what is made"),
-    ("rust/ends/src/stop.rs", "", None, "ends/src/stop.rs is not what is made"),
+    ("rust/ends/src/fault.rs", "", None, "ends/src/fault.rs is not what is made"),
     (f"{LEXER}/src/relex/edit.rt", "(put.is_ok())", "(text.replace_range(start..stop, insert).is_ok())", "a condition that a release does not run"),
-    ("crates/ends/src/stop.rt", "    pub fn status", "    #[planted]\n    pub fn status", "stop.rt: line 34: an attribute that is not known"),
+    ("crates/ends/src/fault.rt", "pub fn status", "#[planted]\npub fn status", "fault.rt: line 34: an attribute that is not known"),
     ("tools/erase", " Pieces ", " Planted ", "not each item of ATTRIBUTES stands once"),
     ("tools/erase", "Head::find", "Head::planted", "not each item of ATTRIBUTES stands once"),
 ]
 ERASED = [
-    ("rust/ends/src/stop.rs", "=> 2,", "=> 9,", "2 -> 9 in ends/stop.rt"),
-    ("rust/ends/src/stop.rs", FIRST_LINE, "", "rust/ends/src/stop.rs -> its first line does not name its source"),
-    ("rust/ends/src/stop.rs", FIRST_LINE, FIRST_LINE.replace("stop", "lib"), "its first line does not name its source"),
+    ("rust/ends/src/fault.rs", "=> 2,", "=> 9,", "2 -> 9 in ends/fault.rt"),
+    ("rust/ends/src/fault.rs", FIRST_LINE, "", "rust/ends/src/fault.rs -> its first line does not name its source"),
+    ("rust/ends/src/fault.rs", FIRST_LINE, FIRST_LINE.replace("fault", "lib"), "its first line does not name its source"),
     ("rust/ends/src/planted.rs", None, "", "no file -> rust/ends/src/planted.rs"),
-    ("rust/ends/src/stop.rs", "", None, "crates/ends/src/stop.rt -> no file"),
-    ("rust/ends/src/stop.rs", "use rattle_std::io::Write;", "use rattle_std::fmt::Write;", "found, and not in the list"),
+    ("rust/ends/src/fault.rs", "", None, "crates/ends/src/fault.rt -> no file"),
+    ("rust/ends/src/fault.rs", "use rattle_std::io::Write;", "use rattle_std::fmt::Write;", "found, and not in the list"),
     ("tools/erased_words.txt", None, "    1 planted -> nothing\n", "in the list alone"),
 ]
 PROMISES = [
     *((file, old, new, "does not say" if "names spec" in said else said) for file, old, new, said in IN_CLAIM if "mod scan" not in old),
     ("docs/PROVED.md", " public functions have ", " functions have ", "does not say"),
-    ("crates/ends/src/stop.rt", "    /// Returns the exit status of the program. It is 0 for a closed pipe, which is not a failure.\n", "", "Stop::status has no words"),
+    ("crates/ends/src/fault.rt", "/// Returns the exit status of a program that stops.\n", "", "status has no words"),
 ]
 NAMES = [
     ("README.md", "\n", "\n" * 60, "README.md: more than 110 lines"),
@@ -148,13 +148,13 @@ NAMES = [
     ("docs/LEXEMES.md", "`Plus` `+`", "`Planted` `+`", "the index has no Plus"),
     ("docs/SPEED.md", "| 0.36 to 0.58 |", "| 0.36 to 0.59 |", "its picture shows another table"),
     ("docs/PROVED.md", " public functions have ", " functions have ", "other promises than in the code"),
-    ("docs/PROVED.md", "| `relexed`, `front`,", "| `planted`, `front`,", "no clause planted"),
+    ("docs/PROVED.md", "| `IsEdited.relexed`, ", "| `IsEdited.planted`, ", "no clause IsEdited.planted"),
     ("docs/notes/PROMISES.md", "| `tokenize_in`; `settled` |", "| `planted`; `settled` |", "no function planted"),
     ("docs/PROVED.md", "`ReadsAs.partitions`", "`ReadsAs.planted`", "no clause ReadsAs.planted"),
     ("docs/PROVED.md", "`TakesTokens`;", "`TakesPlanted`;", "no clause TakesPlanted"),
     ("docs/PROVED.md", "300 [wrong bodies]", "200 [wrong bodies]", "it does not have that there are"),
     ("docs/PROVED.md", "by `TheLaws`", "by `Planted`", "Planted"),
-    ("crates/ends/src/stop.rt", "//! Why", "//! why", "stop.rt: its first line does not say what it is for"),
+    ("crates/ends/src/fault.rt", "//! Why", "//! why", "fault.rt: its first line does not say what it is for"),
     ("crates/README.md", "`marks`", "`planted`", "crates/README.md: marks is not there"),
     ("docs/EDITIONS.md", "# ", "`docs/PLANTED.md`\n# ", "no file docs/PLANTED.md"),
     ("docs/EDITIONS.md", "# ", "[a](PLANTED.md)\n# ", "the link PLANTED.md leads nowhere"),
@@ -162,20 +162,20 @@ NAMES = [
 ]
 BODIES = [
     ("tests/wrong_bodies ends", [PROVES_ALL], "ends/failed_read_is_the_end: NOT REFUSED"),
-    ("tests/wrong_bodies ends", [rt("echo logic=not-proved\necho 'fn ends::stop::Stop::status: not proved'\n")], "another_order: REFUSED, and it is right"),
+    ("tests/wrong_bodies ends", [rt("echo logic=not-proved\necho 'fn ends::fault::status: not proved'\n")], "another_order: REFUSED, and it is right"),
     ("tests/wrong_bodies ends", [rt("exit 1\n")], "ends is not proved, so none of its bodies was tried"),
     ("tests/wrong_bodies --proved ends", [PROVES_ALL], "NONE IS DRAWN"),
     ("tests/wrong_bodies planted", [], "planted is no crate with wrong bodies"),
-    ("tests/wrong_bodies --changed ends", [PROVES_ALL, ("crates/ends/src/stop.rt", "{ result ≡ status_of self.now }", "{ result ≡ 0 }")], "ends/closed_pipe_is_a_failure: NOT REFUSED"),
+    ("tests/wrong_bodies --changed ends", [PROVES_ALL, ("crates/ends/src/fault.rt", "{ result ≡ status_of fault.now }", "{ result ≡ 0 }")], "ends/closed_pipe_is_a_failure: NOT REFUSED"),
     ("tests/wrong_bodies --changed ends", [PROVES_ALL, ("tests/wrong_bodies.kept", "logic ", "logic 0")], "ends/closed_pipe_is_a_failure: NOT REFUSED"),
     ("tests/wrong_bodies --changed ends", [PROVES_ALL, ("tests/wrong_bodies.kept", "contracts ", "contracts 0")], "ends/closed_pipe_is_a_failure: NOT REFUSED"),
     ("tests/wrong_bodies --names", [(f"{ENDS}/always", "", None)], "ends/failed_read_is_the_end: THE FILE IS GONE"),
     ("tests/wrong_bodies --changed", [("crates/marks/wrong_bodies", "", None)], "marks/mark_is_not_closed: THE FILE IS GONE"),
-    ("tests/wrong_bodies --names", [(f"{ENDS}/always/planted.edit", None, "row: a\nfile: src/stop.rt\nold: => 2,\nnew: => 9,\n")], "ends/planted: of always, and not in THEOREM"),
+    ("tests/wrong_bodies --names", [(f"{ENDS}/always/planted.edit", None, "row: a\nfile: src/fault.rt\nold: => 2,\nnew: => 9,\n")], "ends/planted: of always, and not in THEOREM"),
     ("tests/wrong_bodies --names", [(f"{ENDS}/always/failed_read_is_the_end.edit", "row: ", "words: ")], "its first line names no row"),
     ("tests/wrong_bodies --names", [(f"{ENDS}/told_line_is_not_flushed.edit", "old: ", "old: planted")], "BAD EDIT"),
 ]
-EDITED = "grep -q 'Err(ReadStop::Failed)' rust/ends/src/reading.rs || { echo planted; exit 1; }\n"
+EDITED = "grep -q 'Err(Fault::Read)' rust/ends/src/reading.rs || { echo planted; exit 1; }\n"
 ROWS = [
     ("tests/wrong_rows ends/failed_read_is_the_end", [stand_in("cargo", ""), ("tests/program", None, SHELL)], "FAILS NO ROW"),
     ("tests/wrong_rows ends/failed_read_is_the_end", [stand_in("cargo", EDITED), ("tests/program", None, SHELL)], "FAILS ANOTHER ROW: planted"),

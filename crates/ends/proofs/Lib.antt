@@ -1,3 +1,2 @@
-mod FlagLemmas
 pub mod KnownLemmas
 pub mod RunLemmas

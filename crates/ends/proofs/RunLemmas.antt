@@ -4,26 +4,21 @@ use Rattle.std.proofs.lemmas.Grind.{common_steps}
 use Rattle.std.specs.Prelude.{IfSome}
 use Rattle.std.specs.Str.{IsUtf8}
 use Rattle.ends.specs.Reading.{EndsReading}
-use Rattle.ends.specs.Run.{IsInputStop, Makes, Writes}
-use Rattle.ends.specs.Stop.{read_stop}
-use Rattle.ends.specs.declared.reading.ReadStop.{ReadStop}
-use Rattle.ends.specs.declared.stop.Stop.{Stop}
-use Rattle.ends.specs.declared.stop.Stop.TheVariants.{NotUtf8}
+use Rattle.ends.specs.Run.{IsInputFault, Makes, Writes}
+use Rattle.ends.specs.declared.fault.Fault.{Fault}
+use Rattle.ends.specs.declared.fault.Fault.TheVariants.{NotUtf8}
 
-pub read_known : (known : Option (List ℕ)) (read : Vec ℕ Global) → EndsReading known (Ok read) → IfSome known (λ bytes. read.items ≡ bytes)
-read_known known read ends = grind (arith, common_steps)
+pub unread : (known : Option (List ℕ)) (fault : Fault) → EndsReading known (Err fault) → IsInputFault known fault
+unread known fault ends = grind (arith, common_steps)
 
-pub unread : (known : Option (List ℕ)) (stop : ReadStop) → EndsReading known (Err stop) → IsInputStop known (read_stop stop)
-unread known stop ends = grind (arith, common_steps)
-
-pub no_text : (known : Option (List ℕ)) (read : Vec ℕ Global) → EndsReading known (Ok read) → length read.items < 2 ^ 32 → ¬ (IsUtf8 read.items) → IsInputStop known NotUtf8
+pub no_text : (known : Option (List ℕ)) (read : Vec ℕ Global) → EndsReading known (Ok read) → length read.items < 2 ^ 32 → ¬ (IsUtf8 read.items) → IsInputFault known NotUtf8
 no_text known read ends fits other = grind (arith, common_steps)
 
 -- no text was read
-pub makes_unread : (made : List ℕ → List ℕ) (known old new : Option (List ℕ)) (stop : Stop) → IsInputStop known stop → Makes made known old new (Err stop)
-makes_unread made known old new stop is = grind (arith, common_steps)
+pub makes_unread : (made : List ℕ → List ℕ) (known old new : Option (List ℕ)) (fault : Fault) → IsInputFault known fault → Makes made known old new (Err fault)
+makes_unread made known old new fault is = grind (arith, common_steps)
 
 -- what was made of a text was written
-pub makes_written : (made : List ℕ → List ℕ) (known : Option (List ℕ)) (text : List ℕ) (old new : Option (List ℕ)) (result : Result (Unit {0}) Stop) → IfSome known (λ bytes. text ≡ bytes) → IsUtf8 text → length text < 2 ^ 32 → Writes (made text) old new result
+pub makes_written : (made : List ℕ → List ℕ) (known : Option (List ℕ)) (text : List ℕ) (old new : Option (List ℕ)) (result : Result (Unit {0}) Fault) → IfSome known (λ bytes. text ≡ bytes) → IsUtf8 text → length text < 2 ^ 32 → Writes (made text) old new result
     → Makes made known old new result
 makes_written made known text old new result is utf8 fits writes = grind (arith, common_steps)

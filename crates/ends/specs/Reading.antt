@@ -1,12 +1,13 @@
 -- The result of reading to the end.
-use Rattle.std.specs.Prelude.{ℕ, ◌^◌, ◌≡◌, ◌≤◌, List, length, Option, Some, None, Result, Ok, Err, Vec}
+use Rattle.std.specs.Prelude.{ℕ, ◌^◌, ◌≡◌, ◌≤◌, List, length, Option, IfSome, Result, Ok, Err, Vec}
 use Rattle.std.specs.Global.{Global}
-use Rattle.ends.specs.declared.reading.ReadStop.{ReadStop}
-use Rattle.ends.specs.declared.reading.ReadStop.TheVariants.{TooLong}
+use Rattle.ends.specs.declared.fault.Fault.{Fault}
+use Rattle.ends.specs.declared.fault.Fault.TheVariants.{TooLong, Memory, Read}
 
--- if the bytes are known: Ok has all of them, and they are too long only if they have 4 GiB or more
-abbrev pub EndsReading : Option (List ℕ) → Result (Vec ℕ Global) ReadStop → Type 0
-EndsReading None result = Unit {0}
-EndsReading (Some bytes) (Ok read) = read.items ≡ bytes
-EndsReading (Some bytes) (Err TooLong) = 2 ^ 32 ≤ length bytes
-EndsReading (Some bytes) (Err stop) = Unit {0}
+-- how reading ends. If the bytes are known: Ok has all of them, and they are too long only if they have 4 GiB or more
+abbrev pub EndsReading : Option (List ℕ) → Result (Vec ℕ Global) Fault → Type 0
+EndsReading known (Ok read) = IfSome known (λ bytes. read.items ≡ bytes)
+EndsReading known (Err TooLong) = IfSome known (λ bytes. 2 ^ 32 ≤ length bytes)
+EndsReading known (Err Memory) = Unit {0}
+EndsReading known (Err Read) = Unit {0}
+EndsReading known (Err fault) = ⊥

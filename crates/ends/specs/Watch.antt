@@ -9,9 +9,7 @@ pub record Watch (T : Type 0) : Type 0 where
   pub inner : T
   -- a call failed
   pub failed : Bool
-  -- a call failed for another reason than that nobody reads what is written
-  pub faulty : Bool
-  -- a call found that nobody reads what is written
+  -- the first call that failed found that nobody reads what is written
   pub closed : Bool
   -- the last call was a flush that succeeded
   pub flushed : Bool

@@ -2,28 +2,18 @@
 ghost use Rattle.std.specs.Prelude.{◌≡◌, ◌↔◌, ◌^◌, ◌<◌, false, IfOk, IsErrOf, IsTrue, length};
 ghost use Rattle.ends.specs.Reading.{EndsReading};
 
+use crate::fault::Fault;
 use crate::watched::Watched;
 use std::alloc::Global;
 use std::io::Read;
-
-/// Why reading stopped before the end of the input.
-#[derive(Clone, Copy, Debug, PartialEq, Eq)]
-pub enum ReadStop {
-    /// The input has more than `u32::MAX` bytes.
-    TooLong,
-    /// An allocation failed.
-    Memory,
-    /// The reader failed.
-    Failed,
-}
 
 /// The number of bytes that each read asks for.
 const PIECE: usize = 65536;
 
 /// Reads all bytes up to the end of the input, at most `u32::MAX` of them.
-pub fn read_all<R: Read>(alloc: Global, input: &mut Watched<R>) -> Result<Vec<u8>, ReadStop>
+pub fn read_all<R: Read>(alloc: Global, input: &mut Watched<R>) -> Result<Vec<u8>, Fault>
     requires reads { input.old.failed ≡ false }
-    ensures failed { IsErrOf result ReadStop.Failed ↔ IsTrue input.new.failed }
+    ensures failed { IsErrOf result Fault.Read ↔ IsTrue input.new.failed }
     ensures fits { IfOk result (λ bytes. length bytes.items < 2 ^ 32) }
     ensures ends { EndsReading (R.remaining input.old.inner) result }
 {
@@ -31,16 +21,16 @@ pub fn read_all<R: Read>(alloc: Global, input: &mut Watched<R>) -> Result<Vec<u8
     let mut piece = [0u8; PIECE];
     loop {
         let Ok(count) = input.read(&mut piece) else {
-            return Err(ReadStop::Failed);
+            return Err(Fault::Read);
         };
         if count == 0 {
             return Ok(bytes);
         }
         if count > u32::MAX as usize - bytes.len() {
-            return Err(ReadStop::TooLong);
+            return Err(Fault::TooLong);
         }
         if bytes.extend_from_slice(&piece[..count]).is_err() {
-            return Err(ReadStop::Memory);
+            return Err(Fault::Memory);
         }
     }
 }

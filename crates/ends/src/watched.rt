@@ -12,13 +12,11 @@ use std::marker::Model;
 /// each call, and each result.
 ///
 /// It has *failed* if a call once returned an error, or a write once took none of the bytes that it was given. It is
-/// *closed* if a write or a flush once failed because nobody reads the output any more, and *faulty* if a call once failed
-/// for another reason.
+/// *closed* if the first call that failed was a write or a flush, because nobody reads the output any more.
 #[derive(Drop)]
 pub struct Watched<T> {
     inner: T,
     failed: bool,
-    faulty: bool,
     closed: bool,
     flushed: bool,
 }
@@ -28,18 +26,17 @@ impl<T> Model for Watched<T> {
 
     ghost Value = { Watch T };
 
-    ghost view = { λ w. record { inner = w.inner; failed = w.failed; faulty = w.faulty; closed = w.closed; flushed = w.flushed } };
+    ghost view = { λ w. record { inner = w.inner; failed = w.failed; closed = w.closed; flushed = w.flushed } };
 }
 
 impl<T> Watched<T> {
     /// Wraps a reader or a writer. The new one has not failed.
     pub fn new(inner: T) -> Watched<T>
-        ensures { result ≡ record { inner = inner; failed = false; faulty = false; closed = false; flushed = false } }
+        ensures { result ≡ record { inner = inner; failed = false; closed = false; flushed = false } }
     {
         Watched {
             inner,
             failed: false,
-            faulty: false,
             closed: false,
             flushed: false,
         }
@@ -50,6 +47,13 @@ impl<T> Watched<T> {
         ensures { result ≡ self.now.failed }
     {
         self.failed
+    }
+
+    /// Returns whether it has failed only because nobody reads the output any more.
+    pub fn closed(&self) -> bool
+        ensures { result ≡ self.now.closed }
+    {
+        self.closed
     }
 
     /// Returns the reader or the writer itself.
@@ -63,13 +67,11 @@ impl<T> Watched<T> {
     fn note(&mut self, failed: bool, closed: bool, flushed: bool)
         ensures inner { self.new.inner ≡ self.old.inner }
         ensures failed { self.new.failed ≡ (self.old.failed || failed) }
-        ensures faulty { self.new.faulty ≡ (self.old.faulty || (failed && not closed)) }
-        ensures closed { self.new.closed ≡ (self.old.closed || closed) }
+        ensures closed { self.new.closed ≡ (self.old.closed || (closed && not self.old.failed)) }
         ensures flushed { self.new.flushed ≡ flushed }
     {
+        self.closed = self.closed || (closed && !self.failed);
         self.failed = self.failed || failed;
-        self.faulty = self.faulty || (failed && !closed);
-        self.closed = self.closed || closed;
         self.flushed = flushed;
     }
 }
@@ -96,7 +98,6 @@ impl<R: Read> Read for Watched<R> {
         ensures bytes { ReadConsumes (R.remaining self.old.inner)
             (R.remaining self.new.inner) result buf.new }
         ensures failed { self.new.failed ≡ (self.old.failed || is_err result) }
-        ensures faulty { self.new.faulty ≡ (self.old.faulty || is_err result) }
         ensures closed { self.new.closed ≡ self.old.closed }
         ensures flushed { self.new.flushed ≡ false }
     {
@@ -114,9 +115,8 @@ impl<W: Write> Write for Watched<W> {
         ensures bytes { WriteAppends (W.contents self.old.inner)
             (W.contents self.new.inner) result buf.now }
         ensures failed { self.new.failed ≡ (self.old.failed || took_nothing result buf.now) }
-        ensures faulty { self.new.faulty
-            ≡ (self.old.faulty || (took_nothing result buf.now && not (has_closed result))) }
-        ensures closed { self.new.closed ≡ (self.old.closed || has_closed result) }
+        ensures closed { self.new.closed
+            ≡ (self.old.closed || (has_closed result && not self.old.failed)) }
         ensures flushed { self.new.flushed ≡ false }
     {
         let answer = self.inner.write(buf);
@@ -131,9 +131,8 @@ impl<W: Write> Write for Watched<W> {
     fn flush(&mut self) -> io::Result<()>
         ensures bytes { Keeps (W.contents self.old.inner) (W.contents self.new.inner) }
         ensures failed { self.new.failed ≡ (self.old.failed || is_err result) }
-        ensures faulty { self.new.faulty
-            ≡ (self.old.faulty || (is_err result && not (has_closed result))) }
-        ensures closed { self.new.closed ≡ (self.old.closed || has_closed result) }
+        ensures closed { self.new.closed
+            ≡ (self.old.closed || (has_closed result && not self.old.failed)) }
         ensures flushed { self.new.flushed ≡ is_ok result }
     {
         let answer = self.inner.flush();

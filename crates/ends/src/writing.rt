@@ -1,28 +1,17 @@
 //! Writing all of some bytes.
-ghost use Rattle.std.specs.Prelude.{◌≡◌, ◌||◌, ◌++◌, false, true, if◌then◌else◌, is_err, IfOk, OnErr, OnOk};
+ghost use Rattle.std.specs.Prelude.{◌≡◌, ◌||◌, ◌++◌, true, is_err, IfErr, IfOk, OnErr, OnOk};
 ghost use Rattle.std.specs.Io.KnownBytes.{Appends};
 ghost use Rattle.ends.specs.Known.{AppendsFront};
-ghost use Rattle.ends.specs.Watch.{is_closed};
-ghost use Rattle.ends.specs.Writing.{is_fault, is_pipe_closed};
 
-use crate::watched::{Watched, is_closed};
-use std::io::{Error, Write};
-
-/// Why writing stopped.
-#[derive(Clone, Copy, Debug, PartialEq, Eq)]
-pub enum WriteStop {
-    /// The writer failed, or took none of the bytes that it was given.
-    Failed,
-    /// Nobody reads the output any more.
-    ClosedPipe,
-}
+use crate::fault::Fault;
+use crate::watched::Watched;
+use std::io::Write;
 
 /// Writes all of the bytes, and flushes.
-#[tactic(auto, using(crate::proofs::FlagLemmas::fault_unless))]
-pub fn write_all<W: Write>(output: &mut Watched<W>, bytes: &[u8]) -> Result<(), WriteStop>
+pub fn write_all<W: Write>(output: &mut Watched<W>, bytes: &[u8]) -> Result<(), Fault>
     ensures failed { output.new.failed ≡ (output.old.failed || is_err result) }
-    ensures faulty { output.new.faulty ≡ (output.old.faulty || is_fault result) }
-    ensures closed { output.new.closed ≡ (output.old.closed || is_pipe_closed result) }
+    ensures closed { IfOk result (λ _. output.new.closed ≡ output.old.closed) }
+    ensures only { IfErr result (λ fault. fault ≡ Fault.Write) }
     ensures flushed { IfOk result (λ _. output.new.flushed ≡ true) }
     ensures ok { OnOk result
         (Appends (W.contents output.old.inner) (W.contents output.new.inner) bytes.now) }
@@ -30,18 +19,15 @@ pub fn write_all<W: Write>(output: &mut Watched<W>, bytes: &[u8]) -> Result<(), 
         (AppendsFront (W.contents output.old.inner) (W.contents output.new.inner) bytes.now) }
 {
     write_bytes(output, bytes)?;
-    match output.flush() {
-        Ok(()) => Ok(()),
-        Err(error) => Err(write_stop(&error)),
-    }
+    output.flush().map_err(|_| Fault::Write)
 }
 
 /// Writes all of the bytes.
 #[tactic(auto, using(crate::proofs::KnownLemmas::went_more, crate::proofs::KnownLemmas::cut_past))]
-pub fn write_bytes<W: Write>(output: &mut Watched<W>, bytes: &[u8]) -> Result<(), WriteStop>
+pub fn write_bytes<W: Write>(output: &mut Watched<W>, bytes: &[u8]) -> Result<(), Fault>
     ensures failed { output.new.failed ≡ (output.old.failed || is_err result) }
-    ensures faulty { output.new.faulty ≡ (output.old.faulty || is_fault result) }
-    ensures closed { output.new.closed ≡ (output.old.closed || is_pipe_closed result) }
+    ensures closed { IfOk result (λ _. output.new.closed ≡ output.old.closed) }
+    ensures only { IfErr result (λ fault. fault ≡ Fault.Write) }
     ensures ok { OnOk result
         (Appends (W.contents output.old.inner) (W.contents output.new.inner) bytes.now) }
     ensures err { OnErr result
@@ -51,10 +37,10 @@ pub fn write_bytes<W: Write>(output: &mut Watched<W>, bytes: &[u8]) -> Result<()
     while !rest.is_empty() {
         let count = match output.write(rest) {
             Ok(count) => count,
-            Err(error) => return Err(write_stop(&error)),
+            Err(_) => return Err(Fault::Write),
         };
         if count == 0 {
-            return Err(WriteStop::Failed);
+            return Err(Fault::Write);
         }
         rest = &rest[count..];
     }
@@ -67,10 +53,10 @@ pub fn write_texts<W: Write>(
     one: &str,
     two: &str,
     three: &str,
-) -> Result<(), WriteStop>
+) -> Result<(), Fault>
     ensures failed { output.new.failed ≡ (output.old.failed || is_err result) }
-    ensures faulty { output.new.faulty ≡ (output.old.faulty || is_fault result) }
-    ensures closed { output.new.closed ≡ (output.old.closed || is_pipe_closed result) }
+    ensures closed { IfOk result (λ _. output.new.closed ≡ output.old.closed) }
+    ensures only { IfErr result (λ fault. fault ≡ Fault.Write) }
     ensures flushed { IfOk result (λ _. output.new.flushed ≡ true) }
     ensures ok { OnOk result (Appends (W.contents output.old.inner) (W.contents output.new.inner)
         (one.now ++ (two.now ++ three.now))) }
@@ -80,15 +66,4 @@ pub fn write_texts<W: Write>(
     write_bytes(output, one.as_bytes())?;
     write_bytes(output, two.as_bytes())?;
     write_all(output, three.as_bytes())
-}
-
-/// Returns why writing stops when the writer returns this error.
-fn write_stop(error: &Error) -> WriteStop
-    ensures { result ≡ (if is_closed error.now then WriteStop.ClosedPipe else WriteStop.Failed) }
-{
-    if is_closed(error) {
-        WriteStop::ClosedPipe
-    } else {
-        WriteStop::Failed
-    }
 }

@@ -1,14 +1,14 @@
 //! The whole program, for any reader and writers.
 ghost use Rattle.std.specs.Prelude.{◌≡◌, false, codes, Result};
+ghost use Rattle.ends.specs.Fault.{fault_line, IsReported};
 ghost use Rattle.ends.specs.Run.{Leaves};
-ghost use Rattle.ends.specs.Stop.{status_of, stop_line, IsReported};
 ghost use Rattle.ends.specs.Words.{words_of};
-ghost use Rattle.ends.specs.declared.stop.Stop.{Stop as TheStop};
+ghost use Rattle.ends.specs.declared.fault.Fault.{Fault as TheFault};
 ghost use Rattle.highlight_run.specs.Program.{colours_of, Ran};
 
 use crate::job::{Job, read_job};
 use crate::run::run;
-use ends::{Stop, Watched, given_words, put, report};
+use ends::{Fault, Watched, given_words, put, report};
 use std::alloc::Global;
 use std::env::{Args, VarError};
 use std::io::{Read, Write};
@@ -36,7 +36,7 @@ pub struct Start {
 }
 
 /// Runs the program: reads arguments and input, writes the output, reports an error, and returns the exit
-/// status.
+/// status. If nobody reads the output any more, it ends quietly, with status 0.
 pub fn program<R: Read, W: Write, E: Write>(
     alloc: Global,
     start: Start,
@@ -45,22 +45,26 @@ pub fn program<R: Read, W: Write, E: Write>(
     errors: &mut Watched<E>,
 ) -> u8
     requires reads { input.old.failed ≡ false }
-    requires writes { output.old.faulty ≡ false }
-    requires open { output.old.closed ≡ false }
-    requires tells { errors.old.faulty ≡ false }
-    requires heard { errors.old.closed ≡ false }
-    ensures ended { (outcome : Result (Unit {0}) TheStop)
+    requires writes { output.old.failed ≡ false }
+    ensures ended { (outcome : Result (Unit {0}) TheFault)
         × Ran (words_of start.args) (colours_of start.no_color start.is_terminal)
         (R.remaining input.old.inner) (W.contents output.old.inner)
         (W.contents output.new.inner) outcome
         × Leaves input.new output.new (W.contents output.old.inner)
         (W.contents output.new.inner) outcome
-        × IsReported status_of (stop_line (codes "highlight: ")) outcome result
-        ((errors.new.faulty ≡ false) × (errors.new.closed ≡ false)) errors.new.flushed
-        (E.contents errors.old.inner) (E.contents errors.new.inner) }
+        × IsReported (fault_line (codes "highlight: ")
+        (codes "unknown words; --help tells what it takes")) outcome output.new.closed result
+        (errors.new.failed ≡ false) errors.new.flushed (E.contents errors.old.inner)
+        (E.contents errors.new.inner) }
 {
     let outcome = show(alloc, start, input, output);
-    report("highlight: ", &outcome, errors)
+    report(
+        "highlight: ",
+        "unknown words; --help tells what it takes",
+        &outcome,
+        output.closed(),
+        errors,
+    )
 }
 
 /// Reads the arguments and does what they ask for.
@@ -69,10 +73,9 @@ fn show<R: Read, W: Write>(
     start: Start,
     input: &mut Watched<R>,
     output: &mut Watched<W>,
-) -> Result<(), Stop>
+) -> Result<(), Fault>
     requires reads { input.old.failed ≡ false }
-    requires writes { output.old.faulty ≡ false }
-    requires open { output.old.closed ≡ false }
+    requires writes { output.old.failed ≡ false }
     ensures leaves { Leaves input.new output.new (W.contents output.old.inner)
         (W.contents output.new.inner) result }
     ensures ran { Ran (words_of start.args) (colours_of start.no_color start.is_terminal)
@@ -80,11 +83,11 @@ fn show<R: Read, W: Write>(
         (W.contents output.new.inner) result }
 {
     let words = given_words(alloc, start.args)?;
-    let colours = wants_colours(&start.no_color, start.is_terminal).ok_or(Stop::Memory)?;
+    let colours = wants_colours(&start.no_color, start.is_terminal).ok_or(Fault::Memory)?;
     match read_job(words.as_slice(), colours) {
         Some(Job::Show { style, edition }) => run(alloc, style, edition, input, output),
         Some(Job::Help) => put(output, HELP),
-        None => Err(Stop::Arguments),
+        None => Err(Fault::Arguments),
     }
 }
 

@@ -5,7 +5,7 @@ ghost use Rattle.ends.specs.Run.{Leaves, Makes};
 ghost use Rattle.highlight_run.specs.Page.{printed};
 
 use crate::page::write_text;
-use ends::{Stop, Watched, put, read_text};
+use ends::{Fault, Watched, put, read_text};
 use marks::Style;
 use rustc_lexer::Edition;
 use std::alloc::Global;
@@ -14,8 +14,8 @@ use std::io::{Read, Write};
 
 /// Reads all of the input, then writes it with its tokens marked.
 ///
-/// It makes the whole output before it writes any of it. So unless the output itself failed or was closed, an
-/// error means that nothing was written. `Ok` means that the output was flushed last.
+/// It makes the whole output before it writes any of it. So unless the output itself failed, an error means that
+/// nothing was written. `Ok` means that the output was flushed last.
 #[tactic(auto, using(ends::proofs::RunLemmas::makes_unread, ends::proofs::RunLemmas::makes_written))]
 pub fn run<R: Read, W: Write>(
     alloc: Global,
@@ -23,17 +23,16 @@ pub fn run<R: Read, W: Write>(
     edition: Edition,
     input: &mut Watched<R>,
     output: &mut Watched<W>,
-) -> Result<(), Stop>
+) -> Result<(), Fault>
     requires reads { input.old.failed ≡ false }
-    requires writes { output.old.faulty ≡ false }
-    requires open { output.old.closed ≡ false }
+    requires writes { output.old.failed ≡ false }
     ensures leaves { Leaves input.new output.new (W.contents output.old.inner)
         (W.contents output.new.inner) result }
     ensures ends { Makes (printed style edition) (R.remaining input.old.inner)
         (W.contents output.old.inner) (W.contents output.new.inner) result }
 {
     let text = read_text(alloc, input)?;
-    let made = print(alloc, style, edition, text.as_str()).map_err(|_| Stop::Memory)?;
+    let made = print(alloc, style, edition, text.as_str()).map_err(|_| Fault::Memory)?;
     put(output, made.as_str())
 }
 

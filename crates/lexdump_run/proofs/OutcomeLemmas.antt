@@ -4,21 +4,19 @@ use Rattle.std.proofs.lemmas.Grind.{common_steps}
 use Rattle.std.specs.Prelude.{IfSome, IfErr, OnOk, OnErr}
 use Rattle.std.specs.Str.{IsUtf8}
 use Rattle.std.specs.Io.KnownBytes.{Appends, Keeps}
-use Rattle.ends.specs.declared.stop.Stop.{Stop}
 use Rattle.ends.specs.Known.{AppendsFront, Went}
-use Rattle.ends.specs.Run.{IsInputStop}
+use Rattle.ends.specs.Run.{IsInputFault}
 use Rattle.ends.proofs.KnownLemmas.{appends-more, front_more, keeps_same}
 use Rattle.rustc_lexer.specs.Classes.{IsText}
-use Rattle.lexdump_run.specs.Fault.{end_fault}
-use Rattle.lexdump_run.specs.declared.fault.Fault.{Fault}
-use Rattle.lexdump_run.specs.declared.fault.Fault.TheVariants.{Write}
+use Rattle.ends.specs.declared.fault.Fault.{Fault}
+use Rattle.ends.specs.declared.fault.Fault.TheVariants.{Write}
 use Rattle.lexdump_run.specs.declared.job.Job.{Job}
 use Rattle.lexdump_run.specs.Outcome.{Ends}
 use Rattle.lexdump_run.specs.Pushed.{Lists}
 
 -- no text was read
-pub ends_unread : (job : Job) (known old : Option (List ℕ)) (stop : Stop) → IsInputStop known stop → IfSome known (λ bytes. Ends job bytes old old (Err (end_fault stop)))
-ends_unread job known old stop is = grind (arith, common_steps, keeps_same)
+pub ends_unread : (job : Job) (known old : Option (List ℕ)) (fault : Fault) → IsInputFault known fault → IfSome known (λ bytes. Ends job bytes old old (Err fault))
+ends_unread job known old fault is = grind (arith, common_steps, keeps_same)
 
 -- what holds of a text holds of the bytes that it is
 text_known : (P : List ℕ → Type 0) (known : Option (List ℕ)) (text : List ℕ) → IfSome known (λ bytes. text ≡ bytes) → P text → IfSome known P

@@ -5,8 +5,8 @@ use Rattle.std.specs.Result.{IsErrAnd}
 use Rattle.std.specs.Io.KnownBytes.{Appends}
 use Rattle.ends.specs.Known.{AppendsFront, Went}
 use Rattle.ends.proofs.KnownLemmas.{appends-none, appends-more, front_first, front_more}
-use Rattle.lexdump_run.specs.declared.fault.Fault.{Fault}
-use Rattle.lexdump_run.specs.declared.fault.Fault.TheVariants.{Write}
+use Rattle.ends.specs.declared.fault.Fault.{Fault}
+use Rattle.ends.specs.declared.fault.Fault.TheVariants.{Write}
 use Rattle.lexdump_run.specs.Pushed.{Pushes}
 
 -- nothing went out yet, and all is to come

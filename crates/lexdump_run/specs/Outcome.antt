@@ -11,8 +11,8 @@ use Rattle.rustc_lexer.specs.Classes.{IsText}
 use Rattle.rustc_lexer.specs.Edits.{apply_list, stop_at, AreEdits, IsStop}
 use Rattle.rustc_lexer.specs.LanguageText.{document, part, newest}
 use Rattle.rustc_lexer.specs.Tokens.{tokens_of}
-use Rattle.lexdump_run.specs.declared.fault.Fault.{Fault}
-use Rattle.lexdump_run.specs.declared.fault.Fault.TheVariants.{NotUtf8, TooLong, EditRange, EditTooLong, Memory, Read, Write}
+use Rattle.ends.specs.declared.fault.Fault.{Fault}
+use Rattle.ends.specs.declared.fault.Fault.TheVariants.{NotUtf8, TooLong, EditRange, EditTooLong, Memory, Read, Write}
 use Rattle.lexdump_run.specs.declared.job.Job.{Job}
 use Rattle.lexdump_run.specs.declared.job.Job.TheVariants.{Plain, Front, Shebang, Edit}
 use Rattle.lexdump_run.specs.Listing.{listing, shebang_line}

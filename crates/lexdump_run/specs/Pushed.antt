@@ -2,8 +2,8 @@
 use Rattle.std.specs.Prelude.{ℕ, ◌≡◌, List, ◌++◌, Option, Result, Ok, Err}
 use Rattle.std.specs.Io.KnownBytes.{Keeps}
 use Rattle.ends.specs.Known.{AppendsFront, Went}
-use Rattle.lexdump_run.specs.declared.fault.Fault.{Fault}
-use Rattle.lexdump_run.specs.declared.fault.Fault.TheVariants.{Write}
+use Rattle.ends.specs.declared.fault.Fault.{Fault}
+use Rattle.ends.specs.declared.fault.Fault.TheVariants.{Write}
 use Rattle.lexdump_run.specs.declared.job.Job.{Job}
 use Rattle.lexdump_run.specs.Outcome.{edits_of, IsPrinted, IsRefused}
 

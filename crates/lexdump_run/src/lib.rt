@@ -2,16 +2,13 @@
 //! is given.
 #![tactic(auto)]
 
-mod fault;
 mod job;
 mod listing;
 mod output;
 pub mod program;
-pub mod report;
 mod run_job;
 
-pub use ends::Watched;
-pub use fault::{Fault, status};
+pub use ends::{Fault, Watched, status};
 pub use job::{Job, read_job};
 pub use listing::write_listing;
 pub use run_job::run;

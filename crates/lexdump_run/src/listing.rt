@@ -4,6 +4,7 @@ ghost use Rattle.std.specs.Io.KnownBytes.{Appends};
 ghost use Rattle.ends.specs.Known.{AppendsFront};
 ghost use Rattle.lexdump_run.specs.Listing.{base_text, bool_text, fields_text, hashes_text, line_text, listing, listing_from, literal_text, place_text, shebang_line, style_text};
 ghost use Rattle.lexdump_run.specs.Pushed.{Pushes};
+ghost use Rattle.lexdump_run.specs.Fault.{stop_fault};
 ghost use Rattle.lexdump_run.specs.Fields.{field_text, fields_shown};
 ghost use Rattle.lexdump_run.specs.Outcome.{IsRefused};
 ghost use Rattle.rustc_lexer.specs.Classes.{Fits};
@@ -12,13 +13,12 @@ ghost use Rattle.rustc_lexer.specs.LanguageText.{mode_in, part};
 ghost use Rattle.rustc_lexer.specs.Answers.{shebang};
 ghost use Rattle.rustc_lexer.specs.Tokens.{bound, tokens_of};
 
-use crate::fault::Fault;
 use crate::output::Block;
-use ends::Watched;
+use ends::{Fault, Watched};
 use itoa::write_digits;
 use rustc_lexer::{
-    Base, DocStyle, Edit, Edition, FrontmatterAllowed, LexedText, LiteralKind, Stepper, Steps,
-    Token, TokenKind, strip_shebang, tokenize_as,
+    Base, DocStyle, Edit, EditStop, Edition, FrontmatterAllowed, LexedText, LiteralKind, Stepper,
+    Steps, Token, TokenKind, strip_shebang, tokenize_as,
 };
 use std::alloc::Global;
 use std::io::Write;
@@ -133,8 +133,21 @@ pub fn edited(
     ensures err { IfErr result (IsRefused text.now edits.now) }
 {
     let mut lexed = LexedText::new_in(alloc, text, edition)?;
-    lexed.edit_all(edits)?;
-    Ok(lexed)
+    match lexed.edit_all(edits) {
+        Ok(()) => Ok(lexed),
+        Err(stop) => Err(stop_fault(stop)),
+    }
+}
+
+/// Returns the fault of edits that stopped.
+fn stop_fault(stop: EditStop) -> Fault
+    ensures { result ≡ stop_fault stop }
+{
+    match stop {
+        EditStop::Range { at } => Fault::EditRange { at },
+        EditStop::TooLong { at } => Fault::EditTooLong { at },
+        _ => Fault::Memory,
+    }
 }
 
 /// Lists the tokens of a lexed text.

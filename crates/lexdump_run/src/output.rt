@@ -5,8 +5,7 @@ ghost use Rattle.std.specs.Io.KnownBytes.{Appends};
 ghost use Rattle.ends.specs.Known.{AppendsFront};
 ghost use Rattle.lexdump_run.specs.Pushed.{Pushes};
 
-use crate::fault::Fault;
-use ends::{Watched, write_all, write_bytes};
+use ends::{Fault, Watched, write_all, write_bytes};
 use itoa::Buffer;
 use std::io::Write;
 use std::marker::Model;

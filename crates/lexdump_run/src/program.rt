@@ -1,16 +1,14 @@
 //! The whole program, for any reader and writers.
-ghost use Rattle.std.specs.Prelude.{◌≡◌, false, Result};
-ghost use Rattle.ends.specs.Stop.{IsReported};
+ghost use Rattle.std.specs.Prelude.{◌≡◌, false, codes, Result};
+ghost use Rattle.ends.specs.Fault.{fault_line, IsReported};
+ghost use Rattle.ends.specs.Run.{Leaves};
 ghost use Rattle.ends.specs.Words.{words_of};
-ghost use Rattle.lexdump_run.specs.Fault.{fault_line, status_of};
-ghost use Rattle.lexdump_run.specs.Program.{Leaves, Ran};
-ghost use Rattle.lexdump_run.specs.declared.fault.Fault.{Fault as TheFault};
+ghost use Rattle.ends.specs.declared.fault.Fault.{Fault as TheFault};
+ghost use Rattle.lexdump_run.specs.Program.{Ran};
 
-use crate::fault::Fault;
 use crate::job::read_job;
-use crate::report::report;
 use crate::run_job::run;
-use ends::{Watched, given_words};
+use ends::{Fault, Watched, given_words, report};
 use std::alloc::Global;
 use std::env::Args;
 use std::io::{Read, Write};
@@ -31,11 +29,12 @@ pub fn program<R: Read, W: Write, E: Write>(
         (W.contents output.new.inner) outcome
         × Leaves input.new output.new (W.contents output.old.inner)
         (W.contents output.new.inner) outcome
-        × IsReported status_of fault_line outcome result (errors.new.failed ≡ false)
-        errors.new.flushed (E.contents errors.old.inner) (E.contents errors.new.inner) }
+        × IsReported (fault_line (codes "lexdump: ") (codes "bad arguments")) outcome false result
+        (errors.new.failed ≡ false) errors.new.flushed (E.contents errors.old.inner)
+        (E.contents errors.new.inner) }
 {
     let outcome = dump(alloc, args, input, output);
-    report(&outcome, errors)
+    report("lexdump: ", "bad arguments", &outcome, false, errors)
 }
 
 /// Reads the arguments and does what they ask for.
@@ -47,10 +46,10 @@ fn dump<R: Read, W: Write>(
 ) -> Result<(), Fault>
     requires reads { input.old.failed ≡ false }
     requires writes { output.old.failed ≡ false }
-    ensures leaves { Leaves input.new output.new (W.contents output.old.inner)
-        (W.contents output.new.inner) result }
     ensures ran { Ran (words_of args) (R.remaining input.old.inner)
         (W.contents output.old.inner) (W.contents output.new.inner) result }
+    ensures leaves { Leaves input.new output.new (W.contents output.old.inner)
+        (W.contents output.new.inner) result }
 {
     let words = given_words(alloc, args)?;
     let job = read_job(alloc, words.as_slice())?;

@@ -1,15 +1,14 @@
 //! A whole run, from a reader to a writer.
-ghost use Rattle.std.specs.Prelude.{◌≡◌, ◌≢◌, ◌↔◌, false, true, IsTrue, IsErrOf, IfErr, IfOk, IfSome};
-ghost use Rattle.std.specs.Io.KnownBytes.{Keeps};
+ghost use Rattle.std.specs.Prelude.{◌≡◌, ◌↔◌, false, IsTrue, IsErrOf, IfSome};
+ghost use Rattle.ends.specs.Run.{Leaves};
 ghost use Rattle.rustc_lexer.specs.Classes.{Fits};
 ghost use Rattle.lexdump_run.specs.Outcome.{Ends};
 ghost use Rattle.lexdump_run.specs.Pushed.{Lists};
 
-use crate::fault::Fault;
 use crate::job::Job;
 use crate::listing::{edited, list_pieces, list_tokens, tell_shebang};
 use crate::output::Block;
-use ends::{Watched, read_text};
+use ends::{Fault, Watched, read_text};
 use rustc_lexer::{Edition, FrontmatterAllowed};
 use std::alloc::Global;
 use std::io::{Read, Write};
@@ -27,14 +26,10 @@ pub fn run<R: Read, W: Write>(
 ) -> Result<(), Fault>
     requires reads { input.old.failed ≡ false }
     requires writes { output.old.failed ≡ false }
-    ensures read { IsErrOf result Fault.Read ↔ IsTrue input.new.failed }
-    ensures write { IsErrOf result Fault.Write ↔ IsTrue output.new.failed }
-    ensures flushed { IfOk result (λ _. output.new.flushed ≡ true) }
-    ensures silent { IfErr result
-        (λ fault. fault ≢ Fault.Write
-        → Keeps (W.contents output.old.inner) (W.contents output.new.inner)) }
     ensures ends { IfSome (R.remaining input.old.inner) (λ bytes.
         Ends job.now bytes (W.contents output.old.inner) (W.contents output.new.inner) result) }
+    ensures leaves { Leaves input.new output.new (W.contents output.old.inner)
+        (W.contents output.new.inner) result }
 {
     let text = read_text(alloc, input)?;
     let mut lines = Block::new();

@@ -2,16 +2,16 @@
 //! What the programs share: readers and writers that record how they failed, functions that read and write texts over
 //! them, the arguments, and why a program stops.
 
+mod fault;
 mod reading;
 mod run;
-mod stop;
 mod watched;
 mod words;
 mod writing;
 
-pub use reading::{ReadStop, read_all};
+pub use fault::{Fault, report, status};
+pub use reading::read_all;
 pub use run::{put, read_text};
-pub use stop::{Stop, report};
 pub use watched::{Watched, is_closed};
 pub use words::{given_words, past_name};
-pub use writing::{WriteStop, write_all, write_bytes, write_texts};
+pub use writing::{write_all, write_bytes, write_texts};

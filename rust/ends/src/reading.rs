@@ -2,40 +2,30 @@
 //! Reading all of an input.
 use rattle_std::prelude::Vec;
 
+use crate::fault::Fault;
 use crate::watched::Watched;
 use rattle_std::alloc::Global;
 use rattle_std::io::Read;
-
-/// Why reading stopped before the end of the input.
-#[derive(Clone, Copy, Debug, PartialEq, Eq)]
-pub enum ReadStop {
-    /// The input has more than `u32::MAX` bytes.
-    TooLong,
-    /// An allocation failed.
-    Memory,
-    /// The reader failed.
-    Failed,
-}
 
 /// The number of bytes that each read asks for.
 const PIECE: usize = 65536;
 
 /// Reads all bytes up to the end of the input, at most `u32::MAX` of them.
-pub fn read_all<R: Read>(alloc: Global, input: &mut Watched<R>) -> Result<Vec<u8>, ReadStop> {
+pub fn read_all<R: Read>(alloc: Global, input: &mut Watched<R>) -> Result<Vec<u8>, Fault> {
     let mut bytes = Vec::new(alloc);
     let mut piece = [0u8; PIECE];
     loop {
         let Ok(count) = input.read(&mut piece) else {
-            return Err(ReadStop::Failed);
+            return Err(Fault::Read);
         };
         if count == 0 {
             return Ok(bytes);
         }
         if count > u32::MAX as usize - bytes.len() {
-            return Err(ReadStop::TooLong);
+            return Err(Fault::TooLong);
         }
         if bytes.extend_from_slice(&piece[..count]).is_err() {
-            return Err(ReadStop::Memory);
+            return Err(Fault::Memory);
         }
     }
 }

@@ -2,21 +2,20 @@
 //! Reading a whole text, and writing one.
 use rattle_std::prelude::String;
 
+use crate::fault::Fault;
 use crate::reading::read_all;
-use crate::stop::Stop;
 use crate::watched::Watched;
 use crate::writing::write_all;
 use rattle_std::alloc::Global;
 use rattle_std::io::{Read, Write};
 
 /// Reads all of the input into a string of at most `u32::MAX` bytes.
-pub fn read_text<R: Read>(alloc: Global, input: &mut Watched<R>) -> Result<String, Stop> {
+pub fn read_text<R: Read>(alloc: Global, input: &mut Watched<R>) -> Result<String, Fault> {
     let bytes = read_all(alloc, input)?;
-    String::from_utf8(bytes).map_err(|_| Stop::NotUtf8)
+    String::from_utf8(bytes).map_err(|_| Fault::NotUtf8)
 }
 
 /// Writes the whole text, and flushes.
-pub fn put<W: Write>(output: &mut Watched<W>, text: &str) -> Result<(), Stop> {
-    write_all(output, text.as_bytes())?;
-    Ok(())
+pub fn put<W: Write>(output: &mut Watched<W>, text: &str) -> Result<(), Fault> {
+    write_all(output, text.as_bytes())
 }

@@ -8,12 +8,10 @@ use rattle_std::io::{Error, ErrorKind, Read, Write};
 /// each call, and each result.
 ///
 /// It has *failed* if a call once returned an error, or a write once took none of the bytes that it was given. It is
-/// *closed* if a write or a flush once failed because nobody reads the output any more, and *faulty* if a call once failed
-/// for another reason.
+/// *closed* if the first call that failed was a write or a flush, because nobody reads the output any more.
 pub struct Watched<T> {
     inner: T,
     failed: bool,
-    faulty: bool,
     closed: bool,
     flushed: bool,
 }
@@ -24,7 +22,6 @@ impl<T> Watched<T> {
         Watched {
             inner,
             failed: false,
-            faulty: false,
             closed: false,
             flushed: false,
         }
@@ -35,6 +32,11 @@ impl<T> Watched<T> {
         self.failed
     }
 
+    /// Returns whether it has failed only because nobody reads the output any more.
+    pub fn closed(&self) -> bool {
+        self.closed
+    }
+
     /// Returns the reader or the writer itself.
     pub fn into_inner(self) -> T {
         self.inner
@@ -42,9 +44,8 @@ impl<T> Watched<T> {
 
     /// Records whether a call failed, whether it found a closed pipe, and whether it was a flush that succeeded.
     fn note(&mut self, failed: bool, closed: bool, flushed: bool) {
+        self.closed = self.closed || (closed && !self.failed);
         self.failed = self.failed || failed;
-        self.faulty = self.faulty || (failed && !closed);
-        self.closed = self.closed || closed;
         self.flushed = flushed;
     }
 }

@@ -3,7 +3,7 @@
 mod failing;
 
 use ends::{
-    ReadStop, Stop, Watched, given_words, is_closed, past_name, put, read_all, read_text, report,
+    Fault, Watched, given_words, is_closed, past_name, put, read_all, read_text, report, status,
     write_all, write_bytes, write_texts,
 };
 use failing::{BYTES, Script, Turn, WHOLE, Writer, words_of};
@@ -29,20 +29,25 @@ fn answers_of_a_reader() {
     assert!(input.failed());
 }
 
-/// A writer hands each answer on, also of a flush, has failed once a call failed, and stays so when it goes on.
+/// A writer hands each answer on, also of a flush, has failed once a call failed, and stays so when it goes on. It is closed
+/// if the first call that failed did since nobody reads, and stays so.
 #[test]
 fn answers_of_a_writer() {
-    let script = BYTES.but_at(1, CLOSED);
-    let mut output = script.but_flush(Other).writer();
-    assert_eq!(output.write(b"xy").unwrap(), 1);
-    assert!(!output.failed());
-    assert!(is_closed(&output.write(b"y").unwrap_err()));
-    assert!(output.failed());
-    let error = output.flush().unwrap_err();
-    assert!(error.kind() == Other && !is_closed(&error));
-    assert_eq!(output.write(b"z").unwrap(), 1);
-    assert!(output.flush().is_ok() && output.failed());
-    assert_eq!(output.into_inner().bytes, b"xz");
+    for (first, second) in [(BrokenPipe, Other), (Other, BrokenPipe)] {
+        let script = BYTES.but_at(1, Turn::Fails(first));
+        let mut output = script.but_flush(second).writer();
+        assert_eq!(output.write(b"xy").unwrap(), 1);
+        assert!(!output.failed() && !output.closed());
+        let is_first_closed = first == BrokenPipe;
+        assert_eq!(is_closed(&output.write(b"y").unwrap_err()), is_first_closed);
+        assert!(output.failed() && output.closed() == is_first_closed);
+        let error = output.flush().unwrap_err();
+        assert!(error.kind() == second && is_closed(&error) != is_first_closed);
+        assert_eq!(output.write(b"z").unwrap(), 1);
+        assert!(output.flush().is_ok() && output.failed());
+        assert_eq!(output.closed(), is_first_closed);
+        assert_eq!(output.into_inner().bytes, b"xz");
+    }
 }
 
 /// A write that takes none of the bytes that it is given is a failure, and a flush that fails. A write of no bytes is none.
@@ -64,23 +69,24 @@ fn all_that_is_read() {
     let read = |script: Script| read_all(Global, &mut script.reader(b"ab"));
     let text = |script: Script, bytes| read_text(Global, &mut script.reader(bytes));
     assert_eq!(text(BYTES, "é".as_bytes()).unwrap().as_str(), "é");
-    assert_eq!(text(BYTES, b"\xff").err(), Some(Stop::NotUtf8));
+    assert_eq!(text(BYTES, b"\xff").err(), Some(Fault::NotUtf8));
     for call in 0..3 {
         for turn in [FAILED, CLOSED] {
             let script = BYTES.but_at(call, turn);
-            assert_eq!(read(script).err(), Some(ReadStop::Failed), "{call}");
-            assert_eq!(text(script, b"ab").err(), Some(Stop::Read), "{call}");
+            assert_eq!(read(script).err(), Some(Fault::Read), "{call}");
+            assert_eq!(text(script, b"ab").err(), Some(Fault::Read), "{call}");
         }
     }
 }
 
-type Call = fn(&mut Watched<Writer>) -> Result<(), Stop>;
+type Call = fn(&mut Watched<Writer>) -> Result<(), Fault>;
 
 /// Calls that write `ab`, and how often each flushes.
-const WRITES: [(Call, usize); 4] = [
-    (|output| Ok(write_bytes(output, b"ab")?), 0),
-    (|output| Ok(write_all(output, b"ab")?), 1),
-    (|output| Ok(write_texts(output, "a", "", "b")?), 1),
+const WRITES: [(Call, usize); 5] = [
+    (|output| write_bytes(output, b"ab"), 0),
+    (|output| write_all(output, b"ab"), 1),
+    (|output| write_texts(output, "a", "", "b"), 1),
+    (|output| write_texts(output, "", "ab", ""), 1),
     (|output| put(output, "ab"), 1),
 ];
 
@@ -90,61 +96,73 @@ fn all_that_is_written() {
     for (row, (call, flushes)) in WRITES.into_iter().enumerate() {
         let came_to = |script: Script| {
             let mut output = script.writer();
-            let (answer, failed) = (call(&mut output), output.failed());
+            let answer = call(&mut output);
+            let failed = [output.failed(), output.closed()];
             let output = output.into_inner();
             (answer, failed, output.bytes, output.flushes)
         };
         for script in [BYTES, WHOLE] {
-            let wanted = (Ok(()), false, b"ab".to_vec(), flushes);
+            let wanted = (Ok(()), [false; 2], b"ab".to_vec(), flushes);
             assert_eq!(came_to(script), wanted, "row {row}");
         }
-        for (turn, stop) in [
-            (FAILED, Stop::Write),
-            (CLOSED, Stop::ClosedPipe),
-            (Turn::MovesNothing, Stop::Write),
-        ] {
+        for (turn, closed) in [(FAILED, false), (CLOSED, true), (Turn::MovesNothing, false)] {
             let came = came_to(BYTES.but_at(1, turn));
-            assert_eq!(came, (Err(stop), true, b"a".to_vec(), 0), "row {row}");
-        }
-        for (kind, stop) in [(Other, Stop::Write), (BrokenPipe, Stop::ClosedPipe)] {
-            let came = came_to(BYTES.but_flush(kind));
-            let answer = if flushes == 0 { Ok(()) } else { Err(stop) };
-            let wanted = (answer, flushes > 0, b"ab".to_vec(), flushes);
+            let wanted = (Err(Fault::Write), [true, closed], b"a".to_vec(), 0);
             assert_eq!(came, wanted, "row {row}");
+        }
+        for (kind, closed) in [(Other, false), (BrokenPipe, true)] {
+            let came = came_to(BYTES.but_flush(kind));
+            let (answer, failed) = match flushes {
+                0 => (Ok(()), [false; 2]),
+                _ => (Err(Fault::Write), [true, closed]),
+            };
+            assert_eq!(came, (answer, failed, b"ab".to_vec(), flushes), "row {row}");
         }
     }
 }
 
 /// Why a program stops, its status, and what it says.
 #[rustfmt::skip]
-const STOPS: [(Stop, u8, &str); 7] = [
-    (Stop::Arguments, 2, "name: unknown words; --help tells what it takes\n"),
-    (Stop::NotUtf8, 3, "name: input is not UTF-8\n"),
-    (Stop::TooLong, 4, "name: input too long\n"),
-    (Stop::Memory, 6, "name: no memory\n"),
-    (Stop::Read, 7, "name: read failed\n"),
-    (Stop::Write, 7, "name: write failed\n"),
-    (Stop::ClosedPipe, 0, ""),
+const FAULTS: [(Fault, u8, &str); 10] = [
+    (Fault::Arguments, 2, "name: no such words\n"),
+    (Fault::NotUtf8, 3, "name: input is not UTF-8\n"),
+    (Fault::TooLong, 4, "name: input too long\n"),
+    (Fault::EditRange { at: 0 }, 5, "name: edit 0: bad range\n"),
+    (Fault::EditRange { at: 21 }, 5, "name: edit 21: bad range\n"),
+    (Fault::EditTooLong { at: 0 }, 5, "name: edit 0: text too long\n"),
+    (Fault::EditTooLong { at: 107 }, 5, "name: edit 107: text too long\n"),
+    (Fault::Memory, 6, "name: no memory\n"),
+    (Fault::Read, 7, "name: read failed\n"),
+    (Fault::Write, 7, "name: write failed\n"),
 ];
 
-/// What is said is flushed, and where it cannot be said the status is the same. A run that did not stop says nothing.
+/// What is said is flushed, and where it cannot be said the status is the same. A run that did not stop says nothing. Nor
+/// does a quiet one whose write failed, which is none of its faults.
 #[test]
-fn stops() {
-    for (stop, status, line) in STOPS {
-        let mut errors = BYTES.writer();
-        assert_eq!(report("name: ", &Err(stop), &mut errors), status);
-        assert_eq!(stop.status(), status);
+fn statuses_and_lines() {
+    let told = |outcome, is_quiet, script: Script| {
+        let mut errors = script.writer();
+        let answer = report("name: ", "no such words", &outcome, is_quiet, &mut errors);
         let errors = errors.into_inner();
-        assert_eq!(errors.bytes, line.as_bytes(), "{stop:?}");
-        assert_eq!(errors.flushes, 1, "{stop:?}");
-        let mut errors = BYTES.but_at(1, FAILED).writer();
-        assert_eq!(report("name: ", &Err(stop), &mut errors), status);
+        (answer, errors.bytes, errors.flushes)
+    };
+    for (fault, wanted, line) in FAULTS {
+        assert_eq!(status(&fault), wanted, "{fault:?}");
+        let said = (wanted, line.as_bytes().to_vec(), 1);
+        assert_eq!(told(Err(fault), false, BYTES), said, "{fault:?}");
+        let quietly = match fault {
+            Fault::Write => (0, vec![], 1),
+            _ => said,
+        };
+        assert_eq!(told(Err(fault), true, BYTES), quietly, "{fault:?}");
+        for turn in [FAILED, Turn::MovesNothing] {
+            let script = BYTES.but_at(1, turn);
+            assert_eq!(told(Err(fault), false, script), (wanted, b"n".to_vec(), 0));
+        }
     }
-    let mut errors = BYTES.writer();
-    assert_eq!(report("name: ", &Ok(()), &mut errors), 0);
-    assert_eq!(errors.into_inner().calls, 0);
-    let stops = [ReadStop::TooLong, ReadStop::Memory, ReadStop::Failed].map(Stop::from);
-    assert_eq!(stops, [Stop::TooLong, Stop::Memory, Stop::Read]);
+    for is_quiet in [false, true] {
+        assert_eq!(told(Ok(()), is_quiet, BYTES), (0, vec![], 0));
+    }
 }
 
 /// The arguments past the name, of which there may be none. No arguments at all are refused memory.

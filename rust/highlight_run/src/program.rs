@@ -4,7 +4,7 @@ use rattle_std::prelude::String;
 
 use crate::job::{Job, read_job};
 use crate::run::run;
-use ends::{Stop, Watched, given_words, put, report};
+use ends::{Fault, Watched, given_words, put, report};
 use rattle_std::alloc::Global;
 use rattle_std::env::{Args, VarError};
 use rattle_std::io::{Read, Write};
@@ -31,7 +31,7 @@ pub struct Start {
 }
 
 /// Runs the program: reads arguments and input, writes the output, reports an error, and returns the exit
-/// status.
+/// status. If nobody reads the output any more, it ends quietly, with status 0.
 pub fn program<R: Read, W: Write, E: Write>(
     alloc: Global,
     start: Start,
@@ -40,7 +40,13 @@ pub fn program<R: Read, W: Write, E: Write>(
     errors: &mut Watched<E>,
 ) -> u8 {
     let outcome = show(alloc, start, input, output);
-    report("highlight: ", &outcome, errors)
+    report(
+        "highlight: ",
+        "unknown words; --help tells what it takes",
+        &outcome,
+        output.closed(),
+        errors,
+    )
 }
 
 /// Reads the arguments and does what they ask for.
@@ -49,13 +55,13 @@ fn show<R: Read, W: Write>(
     start: Start,
     input: &mut Watched<R>,
     output: &mut Watched<W>,
-) -> Result<(), Stop> {
+) -> Result<(), Fault> {
     let words = given_words(alloc, start.args)?;
-    let colours = wants_colours(&start.no_color, start.is_terminal).ok_or(Stop::Memory)?;
+    let colours = wants_colours(&start.no_color, start.is_terminal).ok_or(Fault::Memory)?;
     match read_job(words.as_slice(), colours) {
         Some(Job::Show { style, edition }) => run(alloc, style, edition, input, output),
         Some(Job::Help) => put(output, HELP),
-        None => Err(Stop::Arguments),
+        None => Err(Fault::Arguments),
     }
 }
 

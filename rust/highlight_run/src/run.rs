@@ -3,7 +3,7 @@
 use rattle_std::prelude::String;
 
 use crate::page::write_text;
-use ends::{Stop, Watched, put, read_text};
+use ends::{Fault, Watched, put, read_text};
 use marks::Style;
 use rattle_std::alloc::Global;
 use rattle_std::fmt;
@@ -12,17 +12,17 @@ use rustc_lexer::erased::Edition;
 
 /// Reads all of the input, then writes it with its tokens marked.
 ///
-/// It makes the whole output before it writes any of it. So unless the output itself failed or was closed, an
-/// error means that nothing was written. `Ok` means that the output was flushed last.
+/// It makes the whole output before it writes any of it. So unless the output itself failed, an error means that
+/// nothing was written. `Ok` means that the output was flushed last.
 pub fn run<R: Read, W: Write>(
     alloc: Global,
     style: Style,
     edition: Edition,
     input: &mut Watched<R>,
     output: &mut Watched<W>,
-) -> Result<(), Stop> {
+) -> Result<(), Fault> {
     let text = read_text(alloc, input)?;
-    let made = print(alloc, style, edition, text.as_str()).map_err(|_| Stop::Memory)?;
+    let made = print(alloc, style, edition, text.as_str()).map_err(|_| Fault::Memory)?;
     put(output, made.as_str())
 }
 

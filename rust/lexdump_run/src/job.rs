@@ -4,7 +4,7 @@ use rattle_std::prelude::String;
 
 use rattle_std::prelude::Vec;
 
-use crate::fault::Fault;
+use ends::Fault;
 use rattle_std::alloc::{AllocError, Global};
 use rattle_std::str::FromStr;
 use rustc_lexer::erased::{Edit, Edition};

@@ -1,15 +1,14 @@
 // Made by tools/erase from crates/lexdump_run/src/listing.rt: edit that file.
 //! The listing: one line per token, with its start, its length, its kind and the kind's fields.
 
-use crate::fault::Fault;
 use crate::output::Block;
-use ends::Watched;
+use ends::{Fault, Watched};
 use itoa::write_digits;
 use rattle_std::alloc::Global;
 use rattle_std::io::Write;
 use rustc_lexer::erased::{
-    Base, DocStyle, Edit, Edition, FrontmatterAllowed, LexedText, LiteralKind, Stepper, Steps,
-    Token, TokenKind, strip_shebang, tokenize_as,
+    Base, DocStyle, Edit, EditStop, Edition, FrontmatterAllowed, LexedText, LiteralKind, Stepper,
+    Steps, Token, TokenKind, strip_shebang, tokenize_as,
 };
 
 /// How many tokens are lexed at once.
@@ -85,8 +84,19 @@ pub fn edited(
     edits: &[Edit<'_>],
 ) -> Result<LexedText<Steps>, Fault> {
     let mut lexed = LexedText::new_in(alloc, text, edition)?;
-    lexed.edit_all(edits)?;
-    Ok(lexed)
+    match lexed.edit_all(edits) {
+        Ok(()) => Ok(lexed),
+        Err(stop) => Err(stop_fault(stop)),
+    }
+}
+
+/// Returns the fault of edits that stopped.
+fn stop_fault(stop: EditStop) -> Fault {
+    match stop {
+        EditStop::Range { at } => Fault::EditRange { at },
+        EditStop::TooLong { at } => Fault::EditTooLong { at },
+        _ => Fault::Memory,
+    }
 }
 
 /// Lists the tokens of a lexed text.

@@ -1,8 +1,7 @@
 // Made by tools/erase from crates/lexdump_run/src/output.rt: edit that file.
 //! Output in blocks: collects bytes until a block is full, then writes it at once.
 
-use crate::fault::Fault;
-use ends::{Watched, write_all, write_bytes};
+use ends::{Fault, Watched, write_all, write_bytes};
 use itoa::Buffer;
 use rattle_std::io::Write;
 

@@ -1,11 +1,9 @@
 // Made by tools/erase from crates/lexdump_run/src/program.rt: edit that file.
 //! The whole program, for any reader and writers.
 
-use crate::fault::Fault;
 use crate::job::read_job;
-use crate::report::report;
 use crate::run_job::run;
-use ends::{Watched, given_words};
+use ends::{Fault, Watched, given_words, report};
 use rattle_std::alloc::Global;
 use rattle_std::env::Args;
 use rattle_std::io::{Read, Write};
@@ -20,7 +18,7 @@ pub fn program<R: Read, W: Write, E: Write>(
     errors: &mut Watched<E>,
 ) -> u8 {
     let outcome = dump(alloc, args, input, output);
-    report(&outcome, errors)
+    report("lexdump: ", "bad arguments", &outcome, false, errors)
 }
 
 /// Reads the arguments and does what they ask for.

@@ -1,11 +1,10 @@
 // Made by tools/erase from crates/lexdump_run/src/run_job.rt: edit that file.
 //! A whole run, from a reader to a writer.
 
-use crate::fault::Fault;
 use crate::job::Job;
 use crate::listing::{edited, list_pieces, list_tokens, tell_shebang};
 use crate::output::Block;
-use ends::{Watched, read_text};
+use ends::{Fault, Watched, read_text};
 use rattle_std::alloc::Global;
 use rattle_std::io::{Read, Write};
 use rustc_lexer::erased::{Edition, FrontmatterAllowed};

@@ -3,34 +3,33 @@
 #[path = "../../ends/tests/failing/mod.rs"]
 mod failing;
 
-use ends::Stop;
 use failing::{BYTES, Program, Script, Turn, WHOLE, words_of};
 use lexdump_run::program::program;
-use lexdump_run::report::report;
 use lexdump_run::{Fault, Job, read_job, run, status};
 use rattle_std::alloc::Global;
 use rattle_std::io::ErrorKind;
 use rustc_lexer::Edition::E2024;
 
-/// Arguments, bytes, and the fault of the run.
-const STOPPED: [(&str, &[u8], Fault); 6] = [
-    ("", b"\xff", Fault::NotUtf8),
-    ("", b"a\xc3", Fault::NotUtf8),
-    ("", b"\xed\xa0\x80", Fault::NotUtf8),
-    ("edit|9|9|z", b"\xff", Fault::NotUtf8),
-    ("edit|1|2|", b"\xc3\xa9", Fault::EditRange { at: 0 }),
-    ("edit|0|3||1|9|", b"ab cd", Fault::EditRange { at: 1 }),
+/// Arguments, bytes, and the fault of the run with its status.
+const STOPPED: [(&str, &[u8], Fault, u8); 6] = [
+    ("", b"\xff", Fault::NotUtf8, 3),
+    ("", b"a\xc3", Fault::NotUtf8, 3),
+    ("", b"\xed\xa0\x80", Fault::NotUtf8, 3),
+    ("edit|9|9|z", b"\xff", Fault::NotUtf8, 3),
+    ("edit|1|2|", b"\xc3\xa9", Fault::EditRange { at: 0 }, 5),
+    ("edit|0|3||1|9|", b"ab cd", Fault::EditRange { at: 1 }, 5),
 ];
 
 /// Nothing is written or flushed of a text that is refused, and no end has failed.
 #[test]
 fn stops() {
-    for (line, bytes, fault) in STOPPED {
+    for (line, bytes, fault, wanted) in STOPPED {
         let words = words_of(line);
         let job = read_job(Global, &words).unwrap();
         let (mut input, mut output) = (BYTES.reader(bytes), BYTES.writer());
         let answer = run(Global, &job, &mut input, &mut output);
         assert_eq!(answer, Err(fault), "{line} of {bytes:?}");
+        assert_eq!(status(&fault), wanted, "{line} of {bytes:?}");
         assert!(!input.failed() && !output.failed(), "{line} of {bytes:?}");
         let output = output.into_inner();
         assert_eq!(
@@ -76,56 +75,6 @@ fn faults_of_failing_ends() {
         let output = BYTES.but_flush(ErrorKind::Other);
         stops_with((text, BYTES), output, Fault::Write, listing);
     }
-}
-
-/// Each stop of a program is the fault of its name. An output that nobody reads is a failed write.
-#[test]
-fn faults_of_stops() {
-    for (stop, fault) in [
-        (Stop::Arguments, Fault::Arguments),
-        (Stop::NotUtf8, Fault::NotUtf8),
-        (Stop::TooLong, Fault::TooLong),
-        (Stop::Memory, Fault::Memory),
-        (Stop::Read, Fault::Read),
-        (Stop::Write, Fault::Write),
-        (Stop::ClosedPipe, Fault::Write),
-    ] {
-        assert_eq!(Fault::from(stop), fault, "{stop:?}");
-    }
-}
-
-/// Each fault with its status and its message.
-const FAULTS: [(Fault, u8, &str); 10] = [
-    (Fault::Arguments, 2, "bad arguments"),
-    (Fault::NotUtf8, 3, "input is not UTF-8"),
-    (Fault::TooLong, 4, "input too long"),
-    (Fault::EditRange { at: 0 }, 5, "edit 0: bad range"),
-    (Fault::EditRange { at: 21 }, 5, "edit 21: bad range"),
-    (Fault::EditTooLong { at: 0 }, 5, "edit 0: text too long"),
-    (Fault::EditTooLong { at: 107 }, 5, "edit 107: text too long"),
-    (Fault::Memory, 6, "no memory"),
-    (Fault::Read, 7, "read failed"),
-    (Fault::Write, 7, "write failed"),
-];
-
-/// A fault is shown by its message, and reported in a line, which is flushed. Where that fails the status is the same.
-/// Without a fault there is no line.
-#[test]
-fn statuses_and_lines() {
-    for (fault, want, message) in FAULTS {
-        assert_eq!(fault.to_string(), message);
-        assert_eq!(status(&fault), want, "{message}");
-        let mut errors = BYTES.writer();
-        assert_eq!(report(&Err(fault), &mut errors), want, "{message}");
-        let errors = errors.into_inner();
-        assert_eq!(errors.bytes, format!("lexdump: {message}\n").as_bytes());
-        assert_eq!(errors.flushes, 1, "{message}");
-        let mut errors = BYTES.but_at(1, Turn::MovesNothing).writer();
-        assert_eq!(report(&Err(fault), &mut errors), want, "{message}");
-    }
-    let mut errors = BYTES.writer();
-    assert_eq!(report(&Ok(()), &mut errors), 0);
-    assert_eq!(errors.into_inner().calls, 0);
 }
 
 /// Arguments, which begin with the program's name, if there are any; the output for `ab`, the line on standard error, and

@@ -1,0 +1,120 @@
+// Made by tools/erase from crates/ends/src/fault.rt: edit that file.
+//! Why a program stops, and what it says then.
+
+use crate::watched::Watched;
+use crate::writing::{write_bytes, write_texts};
+use itoa::Buffer;
+use rattle_std::alloc::{AllocError, AllocFailed};
+use rattle_std::io::Write;
+
+/// Why a program stops.
+#[derive(Clone, Copy, Debug, PartialEq, Eq)]
+pub enum Fault {
+    /// The program does not take these arguments.
+    Arguments,
+    /// The input is not UTF-8.
+    NotUtf8,
+    /// The input has more than `u32::MAX` bytes.
+    TooLong,
+    /// The range of edit number `at`, from 0, is not inside the text or not between characters.
+    EditRange { at: usize },
+    /// Edit number `at`, from 0, would make a text of more than `u32::MAX` bytes.
+    EditTooLong { at: usize },
+    /// An allocation failed.
+    Memory,
+    /// The reader failed.
+    Read,
+    /// The writer failed, or took none of the bytes that it was given.
+    Write,
+}
+
+/// Returns the exit status of a program that stops.
+pub fn status(fault: &Fault) -> u8 {
+    match fault {
+        Fault::Arguments => 2,
+        Fault::NotUtf8 => 3,
+        Fault::TooLong => 4,
+        Fault::EditRange { at: _ } | Fault::EditTooLong { at: _ } => 5,
+        Fault::Memory => 6,
+        Fault::Read | Fault::Write => 7,
+    }
+}
+
+/// Writes why a run stopped, after the name of the program, and flushes. Returns the exit status.
+///
+/// `unknown` is the message for arguments that the program does not take. If the run did not stop, or if it is `quiet` and
+/// a write failed, this writes nothing and returns 0. If `errors` fails, it has taken a beginning of the line, and the
+/// status is the same.
+pub fn report<E: Write>(
+    name: &str,
+    unknown: &str,
+    outcome: &Result<(), Fault>,
+    quiet: bool,
+    errors: &mut Watched<E>,
+) -> u8 {
+    let Err(fault) = outcome else {
+        return 0;
+    };
+    // If this can't be written, there is nobody to tell.
+    if !is_told(fault, quiet) {
+        let _ = errors.flush();
+        return 0;
+    }
+    let _ = tell(name, unknown, fault, errors);
+    status(fault)
+}
+
+/// Returns whether a fault is told: a failed write of a quiet run is not.
+fn is_told(fault: &Fault, quiet: bool) -> bool {
+    match fault {
+        Fault::Write => !quiet,
+        _ => true,
+    }
+}
+
+/// Writes the line of a fault, and flushes.
+fn tell<E: Write>(
+    name: &str,
+    unknown: &str,
+    fault: &Fault,
+    errors: &mut Watched<E>,
+) -> Result<(), Fault> {
+    write_bytes(errors, name.as_bytes())?;
+    let mut buffer = Buffer::new();
+    let (before, number, after) = message(fault, unknown);
+    write_texts(errors, before, digits(&mut buffer, number), after)
+}
+
+/// Returns the digits of the number, if there is one.
+fn digits(buffer: &mut Buffer, number: Option<usize>) -> &str {
+    match number {
+        Some(number) => buffer.format(number),
+        None => "",
+    }
+}
+
+/// Returns the message of a fault and its newline: what stands before the number of the edit, that number, and the rest.
+fn message<'a>(fault: &Fault, unknown: &'a str) -> (&'a str, Option<usize>, &'a str) {
+    match fault {
+        Fault::Arguments => (unknown, None, "\n"),
+        Fault::NotUtf8 => ("input is not UTF-8", None, "\n"),
+        Fault::TooLong => ("input too long", None, "\n"),
+        Fault::EditRange { at } => ("edit ", Some(*at), ": bad range\n"),
+        Fault::EditTooLong { at } => ("edit ", Some(*at), ": text too long\n"),
+        Fault::Memory => ("no memory", None, "\n"),
+        Fault::Read => ("read failed", None, "\n"),
+        Fault::Write => ("write failed", None, "\n"),
+    }
+}
+
+impl From<AllocError> for Fault {
+    fn from(_error: AllocError) -> Fault {
+        Fault::Memory
+    }
+}
+
+impl<T> From<AllocFailed<T>> for Fault {
+    fn from(_error: AllocFailed<T>) -> Fault {
+        Fault::Memory
+    }
+}
