@@ -488,6 +488,40 @@ fn what_is_equal_and_given_back() {
     rows!(LexedDocument);
 }
 
+/// Each kind of range, as `String::replace_range` takes them. One that ends or begins past `usize::MAX` is in no text.
+#[test]
+fn ranges() {
+    use std::ops::Bound::{Excluded, Included, Unbounded};
+    macro_rules! rows {
+        ($Kept:ident) => {
+            for (range, wanted) in [
+                ((Unbounded, Unbounded), "-"),
+                ((Included(1), Excluded(3)), "a-def"),
+                ((Excluded(1), Included(3)), "ab-ef"),
+            ] {
+                let mut lexed = $Kept::new("abcdef");
+                lexed.edit(range, "-");
+                assert_eq!(lexed.text(), wanted);
+            }
+            let mut lexed = $Kept::new("a b c");
+            assert!(lexed.accepts(4..=4, "") && !lexed.accepts(5..=5, ""));
+            for past in [Included(usize::MAX), Excluded(usize::MAX)] {
+                assert_eq!(lexed.try_edit((Unbounded, past), ""), Err(EditError::Range));
+                assert_eq!(lexed.try_edit((past, Unbounded), ""), Err(EditError::Range));
+            }
+            let shown = |pieces: rustc_lexer::Pieces<'_>| -> String {
+                pieces.map(|piece| piece.text).collect()
+            };
+            assert_eq!(shown(lexed.pieces_in(..2)), "a ");
+            assert_eq!(shown(lexed.pieces_in(3..)), " c");
+            assert_eq!(shown(lexed.pieces_of(1..=2)), " b");
+            assert_eq!(shown(lexed.pieces_of(..)), "a b c");
+        };
+    }
+    rows!(LexedText);
+    rows!(LexedDocument);
+}
+
 /// A text is taken as it is held.
 #[test]
 fn texts_that_are_handed_over() {
