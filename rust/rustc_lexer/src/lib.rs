@@ -15,6 +15,7 @@
 //! | the tokens of a text, in the edition of 2024 | [`tokenize`] |
 //! | those of a whole file, after its shebang line, in an edition | [`tokenize_document`] |
 //! | those of a part of a file, in an edition | [`tokenize_in`]; [`tokenize_as`] also allows a frontmatter |
+//! | them with their offsets and texts | [`Tokens::pieces`] |
 //! | many tokens at once | [`Tokens::fill`], `Tokens::into_vec` |
 //! | to take those of [`tokenize`] one by one, and look ahead | [`Cursor`] |
 //! | the tokens of a file while it is edited | [`LexedDocument`], or [`LexedText`] for a part of a file |
@@ -76,6 +77,7 @@ mod lexed_document;
 #[cfg(feature = "alloc")]
 mod lexed_text;
 pub mod lists;
+mod pieces;
 mod tokens;
 mod traits;
 
@@ -119,7 +121,6 @@ pub use erased::JoinError;
 /// ```
 #[doc(inline)]
 pub use erased::LiteralKind;
-#[cfg(feature = "alloc")]
 #[doc(alias("offset", "range", "span"))]
 #[doc(inline)]
 pub use erased::Piece;
@@ -199,6 +200,7 @@ pub use lexed_text::LexedText;
 use erased::{JoinedText, LexedDocument, LexedText, Pieces};
 #[cfg(doc)]
 use lists::{Head, Relexing};
+pub use pieces::TokenPieces;
 use rattle_support as support;
 pub use rattle_support::AllocError;
 pub use tokens::{EditionTokens, Tokens, tokenize, tokenize_as, tokenize_document, tokenize_in};

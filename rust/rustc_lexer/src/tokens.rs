@@ -1,6 +1,6 @@
 //! The tokens of a text, as an iterator.
 
-use crate::{Edition, FrontmatterAllowed, Record, Token, erased, fitting};
+use crate::{Edition, FrontmatterAllowed, Record, Token, TokenPieces, erased, fitting};
 #[cfg(feature = "alloc")]
 use alloc::vec::Vec;
 use core::fmt;
@@ -13,17 +13,9 @@ use core::iter::FusedIterator;
 /// ```
 /// use rustc_lexer::{tokenize, FrontmatterAllowed, TokenKind};
 ///
-/// let text = "let x = 1;";
-/// let mut start = 0;
-/// let mut idents = Vec::new();
-/// for token in tokenize(text, FrontmatterAllowed::No) {
-///     let end = start + token.len as usize;
-///     if token.kind == TokenKind::Ident {
-///         idents.push(&text[start..end]);
-///     }
-///     start = end;
-/// }
-/// assert_eq!(idents, ["let", "x"]);
+/// let pieces = tokenize("let x = 1;", FrontmatterAllowed::No).pieces();
+/// let idents = pieces.filter(|piece| piece.token.kind == TokenKind::Ident);
+/// assert!(idents.map(|piece| piece.text).eq(["let", "x"]));
 /// ```
 ///
 /// # Panics
@@ -38,7 +30,11 @@ pub fn tokenize(input: &str, frontmatter_allowed: FrontmatterAllowed) -> Tokens<
 /// [`tokenize_document`].
 #[derive(Clone)]
 #[must_use = "iterators are lazy and do nothing unless consumed"]
-pub struct Tokens<'a>(erased::Tokens<'a>);
+pub struct Tokens<'a> {
+    left: erased::Tokens<'a>,
+    /// The length of the whole text, of which offsets count from the start.
+    pub(crate) len: usize,
+}
 
 impl<'a> Tokens<'a> {
     /// Returns the text whose tokens are still to come.
@@ -53,7 +49,42 @@ impl<'a> Tokens<'a> {
     #[inline]
     #[must_use]
     pub fn as_str(&self) -> &'a str {
-        self.0.as_str()
+        self.left.as_str()
+    }
+
+    /// Returns where the next token begins, in bytes from the start of the text, or the text's length if none is left.
+    ///
+    /// ```
+    /// use rustc_lexer::{Edition, tokenize_document};
+    ///
+    /// let mut tokens = tokenize_document("#!/bin/sh\nfn", Edition::E2024);
+    /// // The shebang line is not a token.
+    /// assert_eq!(tokens.offset(), 9);
+    /// tokens.next();
+    /// assert_eq!(tokens.offset(), 10);
+    /// ```
+    #[doc(alias("position", "start"))]
+    #[inline]
+    #[must_use]
+    pub fn offset(&self) -> usize {
+        self.len - self.as_str().len()
+    }
+
+    /// Returns the tokens that are left with their offsets and their texts, in order.
+    ///
+    /// ```
+    /// use rustc_lexer::{Edition, tokenize_document};
+    ///
+    /// let pieces = tokenize_document("#!/bin/sh\nfn", Edition::E2024).pieces();
+    /// assert!(pieces.map(|piece| (piece.start, piece.text)).eq([(9, "\n"), (10, "fn")]));
+    /// ```
+    #[doc(alias("offset", "span", "spanned"))]
+    #[inline]
+    pub fn pieces(self) -> TokenPieces<'a> {
+        TokenPieces {
+            rest: self.as_str(),
+            tokens: self,
+        }
     }
 
     /// Returns whether that text may begin with a frontmatter.
@@ -70,7 +101,7 @@ impl<'a> Tokens<'a> {
     #[inline]
     #[must_use]
     pub fn frontmatter_allowed(&self) -> FrontmatterAllowed {
-        self.0.frontmatter_allowed()
+        self.left.frontmatter_allowed()
     }
 
     /// Writes the next tokens into the buffer, as many as are left or as fit. Returns their number, which is less than
@@ -94,7 +125,7 @@ impl<'a> Tokens<'a> {
     /// ```
     #[inline]
     pub fn fill<R: Record>(&mut self, buffer: &mut [R]) -> usize {
-        self.0.fill(buffer)
+        self.left.fill(buffer)
     }
 
     /// Returns the tokens that are left, as `collect` does.
@@ -108,7 +139,7 @@ impl<'a> Tokens<'a> {
     #[must_use]
     pub fn into_vec(self) -> Vec<Token> {
         // The loop takes from a copy, which stays in registers, and has a branch for the commonest tokens.
-        let mut tokens = self.0.copy();
+        let mut tokens = self.left.copy();
         let mut list = Vec::new();
         loop {
             if let Some(token) = tokens.told() {
@@ -128,7 +159,7 @@ impl Iterator for Tokens<'_> {
 
     #[inline(always)]
     fn next(&mut self) -> Option<Token> {
-        self.0.next()
+        self.left.next()
     }
 
     #[inline]
@@ -187,32 +218,24 @@ pub fn tokenize_as(
     frontmatter_allowed: FrontmatterAllowed,
     edition: Edition,
 ) -> Tokens<'_> {
-    Tokens(erased::tokenize_as(
-        fitting(text),
-        frontmatter_allowed,
-        edition,
-    ))
+    let left = erased::tokenize_as(fitting(text), frontmatter_allowed, edition);
+    let len = text.len();
+    Tokens { left, len }
 }
 
 /// Returns the tokens of a whole file in an edition, in order: those of the text after its shebang line, which may
 /// begin with a frontmatter.
 ///
-/// The shebang line is not a token, so the first token begins where the remaining text begins:
+/// The shebang line is not a token, so the first token begins where it ends:
 ///
 /// ```
 /// use rustc_lexer::{tokenize_document, Edition};
 ///
 /// let text = "#!/bin/sh\n---\n[package]\n---\nfn main() {}";
 /// let tokens = tokenize_document(text, Edition::NEWEST);
-/// let mut start = text.len() - tokens.as_str().len();
-/// assert_eq!(start, 9);
-/// let mut texts = Vec::new();
-/// for token in tokens {
-///     let end = start + token.len as usize;
-///     texts.push(&text[start..end]);
-///     start = end;
-/// }
-/// assert_eq!(texts[..4], ["\n", "---\n[package]\n---", "\n", "fn"]);
+/// assert_eq!(tokens.offset(), 9);
+/// let texts = tokens.pieces().map(|piece| piece.text);
+/// assert!(texts.take(4).eq(["\n", "---\n[package]\n---", "\n", "fn"]));
 /// ```
 ///
 /// # Panics
@@ -220,7 +243,9 @@ pub fn tokenize_as(
 /// Panics if the text has more than `u32::MAX` bytes.
 #[inline]
 pub fn tokenize_document(text: &str, edition: Edition) -> Tokens<'_> {
-    Tokens(erased::tokenize_document(fitting(text), edition))
+    let left = erased::tokenize_document(fitting(text), edition);
+    let len = text.len();
+    Tokens { left, len }
 }
 
 /// How many tokens a text has, at least and at most: no token is empty.

@@ -330,6 +330,44 @@ fn what_is_left_is_of_the_text() {
     assert_eq!((by_tokens("a b"), by_cursor("a b")), (" b", " b"));
 }
 
+/// The starts, the ends and the texts of tokens, those of a whole file past its shebang line, whatever was taken before.
+#[test]
+fn offsets_of_plain_tokens() {
+    let text = "#!a\né +b";
+    let whole: &[_] = &[
+        (3, 4, "\n"),
+        (4, 6, "é"),
+        (6, 7, " "),
+        (7, 8, "+"),
+        (8, 9, "b"),
+    ];
+    let part = [&[(0, 1, "#"), (1, 2, "!"), (2, 3, "a")], whole].concat();
+    for (all, wanted) in [
+        (tokenize_document(text, Edition::E2021), whole),
+        (tokenize_in(text, Edition::E2021), &part),
+        (tokenize(text, FrontmatterAllowed::Yes), &part),
+    ] {
+        for taken in 0..=wanted.len() {
+            let mut tokens = all.clone();
+            let mut buffer = [token(TokenKind::Eof, 0); 8];
+            tokens.fill(&mut buffer[..taken]);
+            let starts = wanted.iter().map(|&(start, ..)| start).chain([9]);
+            assert_eq!(Some(tokens.offset()), starts.into_iter().nth(taken));
+            let mut pieces = tokens.clone().pieces();
+            assert_eq!(pieces.size_hint(), tokens.size_hint());
+            for (token, &(start, end, text)) in tokens.zip(&wanted[taken..]) {
+                let piece = pieces.next().unwrap();
+                let told = (piece.start, piece.token, piece.text);
+                assert_eq!(told, (start as u32, token, text));
+                assert_eq!(text.len(), end - start);
+            }
+            assert_eq!((pieces.next(), pieces.next()), (None, None));
+        }
+    }
+    assert_eq!(tokenize_document("#!a", Edition::E2024).offset(), 3);
+    assert_eq!(tokenize_document("", Edition::E2024).offset(), 0);
+}
+
 #[test]
 fn first_and_third() {
     let mut cursor = Cursor::new("é-", FrontmatterAllowed::No);
@@ -630,6 +668,7 @@ fn traits_that_are_taken_for_granted() {
     is_error::<rustc_lexer::UnknownEdition>();
     is_error::<RawStrError>();
     stays_at_its_end::<rustc_lexer::EditionTokens<'_>>();
+    stays_at_its_end::<rustc_lexer::TokenPieces<'_>>();
     is_measured::<Token>();
     steps::<Steps>();
     is_key::<(
@@ -639,15 +678,16 @@ fn traits_that_are_taken_for_granted() {
         lists::Relexing,
     )>();
     is_key::<(Bound, rustc_lexer::Relexed, rustc_lexer::UnknownEdition)>();
+    is_key::<rustc_lexer::Piece<'_>>();
     is_key::<(Token, TokenKind, LiteralKind, Base, DocStyle)>();
     is_key::<(GuardedStr, RawStrError, FrontmatterAllowed, Edition)>();
-    crosses_threads::<(rustc_lexer::Tokens<'_>, Cursor<'_>, Steps)>();
+    crosses_threads::<(Tokens<'_>, rustc_lexer::TokenPieces<'_>, Cursor<'_>, Steps)>();
     #[cfg(feature = "alloc")]
     {
         is_error::<rustc_lexer::EditError>();
         is_error::<rustc_lexer::EditStop>();
         is_key::<(rustc_lexer::EditError, rustc_lexer::EditStop)>();
-        is_key::<(rustc_lexer::Edit<'_>, rustc_lexer::Piece<'_>)>();
+        is_key::<rustc_lexer::Edit<'_>>();
         stays_at_its_end::<rustc_lexer::Pieces<'_>>();
         crosses_threads::<(rustc_lexer::LexedText, rustc_lexer::LexedDocument)>();
         crosses_threads::<rustc_lexer::Pieces<'_>>();
@@ -768,6 +808,8 @@ fn what_is_written_of_values() {
     let mut tokens = tokenize("a b", FrontmatterAllowed::No);
     tokens.next();
     assert_eq!(format!("{tokens:?}"), r#"Tokens(" b")"#);
+    let pieces = tokens.clone().pieces();
+    assert_eq!(format!("{pieces:?}"), r#"TokenPieces(" b")"#);
     assert_eq!(format!("{:?}", Steps::new()), "Steps { .. }");
     // What is written over lines is indented, as of each type that derives it.
     let lines = format!("{cursor:#?} {tokens:#?}");

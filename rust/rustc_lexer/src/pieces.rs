@@ -1,0 +1,40 @@
+//! The tokens of a text with their offsets and their texts.
+
+use crate::{Piece, Tokens};
+use core::fmt;
+use core::iter::FusedIterator;
+
+/// An iterator over the tokens of a text with their offsets and their texts, made by [`Tokens::pieces`].
+#[derive(Clone)]
+#[must_use = "iterators are lazy and do nothing unless consumed"]
+pub struct TokenPieces<'a> {
+    pub(crate) tokens: Tokens<'a>,
+    pub(crate) rest: &'a str,
+}
+
+impl<'a> Iterator for TokenPieces<'a> {
+    type Item = Piece<'a>;
+
+    #[inline]
+    fn next(&mut self) -> Option<Piece<'a>> {
+        let token = self.tokens.next()?;
+        let start = (self.tokens.len - self.rest.len()) as u32;
+        let (text, rest) = self.rest.split_at(token.len as usize);
+        self.rest = rest;
+        Some(Piece { start, token, text })
+    }
+
+    #[inline]
+    fn size_hint(&self) -> (usize, Option<usize>) {
+        self.tokens.size_hint()
+    }
+}
+
+impl FusedIterator for TokenPieces<'_> {}
+
+/// The text whose pieces are still to come.
+impl fmt::Debug for TokenPieces<'_> {
+    fn fmt(&self, f: &mut fmt::Formatter<'_>) -> fmt::Result {
+        f.debug_tuple("TokenPieces").field(&self.rest).finish()
+    }
+}
