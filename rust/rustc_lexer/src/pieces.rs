@@ -3,6 +3,7 @@
 use crate::{Piece, Tokens};
 use core::fmt;
 use core::iter::FusedIterator;
+use core::ops::Range;
 
 /// An iterator over the tokens of a text with their offsets and their texts, made by [`Tokens::pieces`].
 #[derive(Clone)]
@@ -36,5 +37,25 @@ impl FusedIterator for TokenPieces<'_> {}
 impl fmt::Debug for TokenPieces<'_> {
     fn fmt(&self, f: &mut fmt::Formatter<'_>) -> fmt::Result {
         f.debug_tuple("TokenPieces").field(&self.rest).finish()
+    }
+}
+
+impl Piece<'_> {
+    /// Returns where the token begins and where it ends, in bytes from the start of the text.
+    ///
+    /// ```
+    /// use rustc_lexer::{FrontmatterAllowed, tokenize};
+    ///
+    /// let text = "let abc;";
+    /// let piece = tokenize(text, FrontmatterAllowed::No).pieces().nth(2).unwrap();
+    /// assert_eq!(piece.range(), 4..7);
+    /// assert_eq!(&text[piece.range()], piece.text);
+    /// ```
+    #[doc(alias("end", "offset", "span"))]
+    #[inline]
+    #[must_use]
+    pub fn range(&self) -> Range<usize> {
+        let start = self.start as usize;
+        start..start + self.token.len as usize
     }
 }

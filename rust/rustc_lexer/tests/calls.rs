@@ -357,9 +357,8 @@ fn offsets_of_plain_tokens() {
             assert_eq!(pieces.size_hint(), tokens.size_hint());
             for (token, &(start, end, text)) in tokens.zip(&wanted[taken..]) {
                 let piece = pieces.next().unwrap();
-                let told = (piece.start, piece.token, piece.text);
-                assert_eq!(told, (start as u32, token, text));
-                assert_eq!(text.len(), end - start);
+                let told = (piece.start as usize, piece.range(), piece.text);
+                assert_eq!((piece.token, told), (token, (start, start..end, text)));
             }
             assert_eq!((pieces.next(), pieces.next()), (None, None));
         }
