@@ -16,22 +16,19 @@ enum Line {
 
 fn count(text: &str) -> [usize; 3] {
     let tokens = tokenize_document(text, Edition::E2024);
-    let mut rest = tokens.as_str();
     let (mut counts, mut line) = ([0; 3], Line::Blank);
     // The shebang line is not a token.
-    if rest.len() < text.len() {
+    if tokens.offset() > 0 {
         line = Line::Code;
     }
-    for token in tokens {
-        let (piece, after) = rest.split_at(token.len as usize);
-        rest = after;
-        let kind = match token.kind {
+    for piece in tokens.pieces() {
+        let kind = match piece.token.kind {
             TokenKind::Whitespace => Line::Blank,
             TokenKind::LineComment { .. } | TokenKind::BlockComment { .. } => Line::Comment,
             _ => Line::Code,
         };
         // A token may end with a line, as `r#` does that no quote follows: it has nothing on the next one.
-        for part in piece.split_inclusive('\n') {
+        for part in piece.text.split_inclusive('\n') {
             line = line.max(kind);
             if part.ends_with('\n') {
                 counts[line as usize] += 1;

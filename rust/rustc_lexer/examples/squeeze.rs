@@ -6,12 +6,8 @@ use std::io;
 /// The shebang line, and the tokens after it with their texts.
 fn tokens(text: &str) -> (&str, Vec<(TokenKind, &str)>) {
     let tokens = tokenize_document(text, Edition::E2024);
-    let (shebang, mut rest) = text.split_at(text.len() - tokens.as_str().len());
-    let with_text = tokens.map(|token| {
-        let (piece, after) = rest.split_at(token.len as usize);
-        rest = after;
-        (token.kind, piece)
-    });
+    let shebang = &text[..tokens.offset()];
+    let with_text = tokens.pieces().map(|piece| (piece.token.kind, piece.text));
     (shebang, with_text.collect())
 }
 

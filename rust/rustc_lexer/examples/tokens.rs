@@ -5,11 +5,8 @@ use std::io;
 
 fn main() -> io::Result<()> {
     let text = io::read_to_string(io::stdin())?;
-    let tokens = tokenize_document(&text, Edition::E2024);
-    let mut start = text.len() - tokens.as_str().len();
-    for token in tokens {
-        println!("{start} {} {:?}", token.len, token.kind);
-        start += token.len as usize;
+    for piece in tokenize_document(&text, Edition::E2024).pieces() {
+        println!("{} {} {:?}", piece.start, piece.token.len, piece.token.kind);
     }
     Ok(())
 }

@@ -5,30 +5,22 @@
 use rustc_lexer::{Edition, TokenKind, tokenize_document};
 use std::io;
 
-/// The tokens after the shebang line, each with its text.
-fn pieces(text: &str) -> impl Iterator<Item = (TokenKind, &str)> {
-    let tokens = tokenize_document(text, Edition::E2024);
-    let mut rest = tokens.as_str();
-    tokens.map(move |token| {
-        let (piece, after) = rest.split_at(token.len as usize);
-        rest = after;
-        (token.kind, piece)
-    })
-}
-
+/// The tokens after the shebang line that are not white space, each with its text.
 fn words(text: &str) -> impl Iterator<Item = (TokenKind, &str)> {
-    pieces(text).filter(|(kind, _)| *kind != TokenKind::Whitespace)
+    let pieces = tokenize_document(text, Edition::E2024).pieces();
+    let pieces = pieces.map(|piece| (piece.token.kind, piece.text));
+    pieces.filter(|(kind, _)| *kind != TokenKind::Whitespace)
 }
 
 fn trim(text: &str) -> String {
-    let after_shebang = tokenize_document(text, Edition::E2024).as_str();
-    let mut trimmed = text[..text.len() - after_shebang.len()].to_string();
-    let mut pieces = pieces(text).peekable();
-    while let Some((kind, piece)) = pieces.next() {
-        if kind == TokenKind::Whitespace {
-            trim_space(piece, pieces.peek().is_none(), &mut trimmed);
+    let tokens = tokenize_document(text, Edition::E2024);
+    let mut trimmed = text[..tokens.offset()].to_string();
+    for piece in tokens.pieces() {
+        if piece.token.kind == TokenKind::Whitespace {
+            let is_last = piece.range().end == text.len();
+            trim_space(piece.text, is_last, &mut trimmed);
         } else {
-            trimmed.push_str(piece);
+            trimmed.push_str(piece.text);
         }
     }
     trimmed
