@@ -16,6 +16,8 @@ static void check_bad_texts(void) {
         CHECK(rustc_lexer_check(text, len) == RUSTC_LEXER_NOT_UTF8);
         CHECK(call(rustc_lexer_tokens, bad[i], len, &place, BUFFER_LEN, &count) == RUSTC_LEXER_NOT_UTF8);
         CHECK(count == 0 && place.at == 0 && place.frontmatter_allowed == 1 && is_marked(0));
+        CHECK(call(tokens_in_newest, bad[i], len, &place, BUFFER_LEN, &count) == RUSTC_LEXER_NOT_UTF8);
+        CHECK(count == 0 && place.at == 0 && place.frontmatter_allowed == 1 && is_marked(0));
         CHECK(rustc_lexer_strip_shebang(text, len, &end) == RUSTC_LEXER_NOT_UTF8 && end == 0);
         end = 99;
         CHECK(rustc_lexer_settled(text, len, &end) == RUSTC_LEXER_NOT_UTF8 && end == 0);
@@ -46,6 +48,8 @@ static void check_empty_text(batch_call *tokens) {
     CHECK(rustc_lexer_strip_shebang((const uint8_t *)"", 0, &end) == RUSTC_LEXER_OK && end == 0);
     end = 99;
     CHECK(rustc_lexer_settled((const uint8_t *)"", 0, &end) == RUSTC_LEXER_OK && end == 0);
+    end = 99;
+    CHECK(rustc_lexer_settled_unchecked((const uint8_t *)"", 0, &end) == RUSTC_LEXER_OK && end == 0);
     CHECK(rustc_lexer_is_ident((const uint8_t *)"", 0, &is) == RUSTC_LEXER_OK && is == 0);
     CHECK(rustc_lexer_is_seam((const uint8_t *)"", 0, 0, 2015, &is) == RUSTC_LEXER_OK && is == 1);
 }
@@ -63,6 +67,8 @@ static void check_null(void) {
     CHECK(rustc_lexer_tokens(NULL, 0, &place, NULL, 0, &count) == RUSTC_LEXER_OK && count == 0);
     CHECK(rustc_lexer_tokens(NULL, 0, &place, buffer, BUFFER_LEN, &count) == RUSTC_LEXER_OK && count == 0);
     CHECK(rustc_lexer_tokens_unchecked(NULL, 0, &place, NULL, 0, &count) == RUSTC_LEXER_OK && count == 0);
+    CHECK(tokens_in_newest(NULL, 0, &place, NULL, 0, &count) == RUSTC_LEXER_OK && count == 0);
+    CHECK(tokens_in_newest_unchecked(NULL, 0, &place, NULL, 0, &count) == RUSTC_LEXER_OK && count == 0);
     CHECK(rustc_lexer_tokens((const uint8_t *)"a", 1, &place, NULL, 0, &count) == RUSTC_LEXER_OK && place.at == 0);
     CHECK(rustc_lexer_first_token_unchecked(NULL, 0, 0).kind == 0);
     CHECK(rustc_lexer_relex(NULL, 0, NULL, 0, &edit, 2024, &relexing, NULL, 0, &count) == RUSTC_LEXER_OK);
@@ -77,6 +83,7 @@ static void check_null(void) {
     CHECK(rustc_lexer_strip_shebang(NULL, 0, &end) == RUSTC_LEXER_OK && end == 0);
     CHECK(rustc_lexer_strip_shebang_unchecked(NULL, 0, &end) == RUSTC_LEXER_OK && end == 0);
     CHECK(rustc_lexer_settled(NULL, 0, &end) == RUSTC_LEXER_OK && end == 0);
+    CHECK(rustc_lexer_settled_unchecked(NULL, 0, &end) == RUSTC_LEXER_OK && end == 0);
     CHECK(rustc_lexer_validate_raw_str(NULL, 0, 1, &error) == RUSTC_LEXER_NOT_RAW);
     CHECK(rustc_lexer_validate_raw_str_unchecked(NULL, 0, 1, &error) == RUSTC_LEXER_NOT_RAW);
     CHECK(!rustc_lexer_starts_raw_unchecked(NULL, 0, 1));
@@ -174,6 +181,73 @@ static void check_places(batch_call *tokens) {
     CHECK(call(tokens, text, 3, &last, BUFFER_LEN, &count) == RUSTC_LEXER_BAD_PLACE);
 }
 
+/* A frontmatter, a prefix and a raw lifetime that are reserved from 2021 on, and two hashes that are from 2024 on.
+ * What is refused leaves all as it was, and a bad place comes before a bad edition. */
+static void check_editions(void) {
+    static const struct {
+        uint32_t edition;
+        size_t count;
+        uint8_t first, last;
+    } rows[] = {{2015, 8, RUSTC_LEXER_IDENT, RUSTC_LEXER_POUND},
+                {2018, 8, RUSTC_LEXER_IDENT, RUSTC_LEXER_POUND},
+                {2021, 6, RUSTC_LEXER_UNKNOWN_PREFIX, RUSTC_LEXER_POUND},
+                {2024, 5, RUSTC_LEXER_UNKNOWN_PREFIX, RUSTC_LEXER_GUARDED_STR_PREFIX}};
+    static const uint32_t none[] = {0, 2014, 2016, 2022, 2024 + 65536, UINT32_MAX};
+    const uint8_t *text = (const uint8_t *)"---\na\n---\nz\"\" 'r#a##";
+    size_t count;
+    for (size_t i = 0; i < sizeof rows / sizeof rows[0]; i++) {
+        struct rustc_lexer_place part = {10, 0}, document = {0, 1}, unchecked = {0, 1};
+        uint32_t year = rows[i].edition;
+        CHECK(rustc_lexer_tokens_in(text, 20, year, &part, buffer, BUFFER_LEN, &count) == RUSTC_LEXER_OK);
+        CHECK(count == rows[i].count && buffer[0].kind == rows[i].first && buffer[count - 1].kind == rows[i].last);
+        CHECK(rustc_lexer_tokens_in(text, 20, year, &document, whole, 2, &count) == RUSTC_LEXER_OK && count == 2);
+        CHECK(whole[0].kind == RUSTC_LEXER_FRONTMATTER && whole[0].len == 9 && document.at == 10);
+        CHECK(whole[1].kind == RUSTC_LEXER_WHITESPACE && document.frontmatter_allowed == 0);
+        CHECK(rustc_lexer_tokens_in_unchecked(text, 20, year, &unchecked, whole, PLACES, &count) == RUSTC_LEXER_OK);
+        CHECK(count == rows[i].count + 2 && unchecked.at == 20 && unchecked.frontmatter_allowed == 0);
+        CHECK(memcmp(whole + 2, buffer, rows[i].count * sizeof buffer[0]) == 0);
+    }
+    for (size_t i = 0; i < sizeof none / sizeof none[0]; i++) {
+        struct rustc_lexer_place start = {0, 7}, inside = {1, 7};
+        const uint8_t *letter = (const uint8_t *)"\xc3\xa9";
+        memset(buffer, 0xAA, sizeof buffer);
+        CHECK(rustc_lexer_tokens_in(letter, 2, none[i], &start, buffer, 8, &count) == RUSTC_LEXER_BAD_EDITION);
+        CHECK(count == 0 && start.at == 0 && start.frontmatter_allowed == 7 && is_marked(0));
+        CHECK(rustc_lexer_tokens_in(letter, 2, none[i], &inside, buffer, 8, &count) == RUSTC_LEXER_BAD_PLACE);
+        CHECK(count == 0 && inside.at == 1 && is_marked(0));
+    }
+}
+
+/* The token of each byte of a text that begins at byte 10 of a file, from each boundary of its tokens on; numbers that
+ * are no boundary; and a text at the end of all offsets. */
+static void check_offsets(void) {
+    static const size_t starts[] = {10, 12, 13, 14, 15, 18}, count = 5;
+    static const size_t numbers[] = {0, 0, 1, 2, 3, 4, 4, 4};
+    static const size_t outside[] = {0, 9, 18, 19, SIZE_MAX};
+    size_t number = 0, start = SIZE_MAX - 1;
+    CHECK(is_lexed(rustc_lexer_tokens, "ab + c\xc3\xa9", 8, 0, count));
+    for (size_t near = 0; near <= count; near++) {
+        for (size_t at = 0; at < 8; at++) {
+            size_t here = near, from = starts[near];
+            CHECK(rustc_lexer_token_at(whole, count, 10 + at, &here, &from));
+            CHECK(here == numbers[at] && from == starts[here]);
+        }
+        for (size_t i = 0; i < sizeof outside / sizeof outside[0]; i++) {
+            size_t here = near, from = starts[near];
+            CHECK(!rustc_lexer_token_at(whole, count, outside[i], &here, &from));
+            CHECK(here == near && from == starts[near]);
+        }
+    }
+    CHECK(rustc_lexer_token_at(whole, count, SIZE_MAX, &number, &start) && number == 0 && start == SIZE_MAX - 1);
+    for (size_t wrong = 0; wrong < 40; wrong++) {
+        size_t here = wrong % 8 == 7 ? SIZE_MAX : wrong % 8, from = SIZE_MAX / 4 * (wrong / 8);
+        bool is = rustc_lexer_token_at(whole, count, 12, &here, &from);
+        CHECK(is ? here < count && from <= 12 : here == (wrong % 8 == 7 ? SIZE_MAX : wrong % 8));
+    }
+    number = start = 0;
+    CHECK(!rustc_lexer_token_at(NULL, 0, 0, &number, &start) && number == 0 && start == 0);
+}
+
 static void check_others(void) {
     struct rustc_lexer_raw_str_error error;
     struct rustc_lexer_guarded_str string;
@@ -194,8 +268,13 @@ static void check_others(void) {
     CHECK(rustc_lexer_guarded_str_unchecked((const uint8_t *)"##\"a\"###x", 9, &string) == RUSTC_LEXER_OK);
     CHECK(string.is_some == 1 && string.n_hashes == 2 && string.terminated == 1 && string.token_len == 7);
     CHECK(rustc_lexer_guarded_str((const uint8_t *)"##x", 3, &string) == RUSTC_LEXER_OK && string.is_some == 0);
-    CHECK(rustc_lexer_settled((const uint8_t *)"ab cd ef", 8, &end) == RUSTC_LEXER_OK && end == 6);
-    CHECK(rustc_lexer_settled((const uint8_t *)"k#", 2, &end) == RUSTC_LEXER_OK && end == 0);
+    static uint32_t (*const settled[])(const uint8_t *, size_t, size_t *) = {rustc_lexer_settled,
+                                                                            rustc_lexer_settled_unchecked};
+    for (size_t i = 0; i < 2; i++) {
+        CHECK(settled[i]((const uint8_t *)"ab cd ef", 8, &end) == RUSTC_LEXER_OK && end == 6);
+        CHECK(settled[i]((const uint8_t *)"a - \xc3\xa9z", 7, &end) == RUSTC_LEXER_OK && end == 4);
+        CHECK(settled[i]((const uint8_t *)"k#", 2, &end) == RUSTC_LEXER_OK && end == 0);
+    }
     static const struct {
         const char *text;
         size_t at;
@@ -496,10 +575,11 @@ static void check_classes(void) {
 }
 
 int main(void) {
-    batch_call *const calls[] = {rustc_lexer_tokens, rustc_lexer_tokens_unchecked};
+    batch_call *const calls[] = {rustc_lexer_tokens, rustc_lexer_tokens_unchecked, tokens_in_newest,
+                                 tokens_in_newest_unchecked};
     CHECK(sizeof(struct rustc_lexer_token) == 12 && sizeof(struct rustc_lexer_relexing) == 7 * sizeof(size_t));
     CHECK(sizeof(struct rustc_lexer_unit) == 2 * sizeof(size_t) + 8 && sizeof(struct rustc_lexer_head) == 36);
-    for (int i = 0; i < 2; i++) {
+    for (int i = 0; i < 4; i++) {
         check_empty_text(calls[i]);
         check_buffer(calls[i]);
         check_frontmatter(calls[i]);
@@ -517,6 +597,8 @@ int main(void) {
     check_bad_texts();
     check_null();
     check_records();
+    check_editions();
+    check_offsets();
     check_others();
     check_marks();
     check_classes();

@@ -24,6 +24,17 @@ typedef uint32_t batch_call(const uint8_t *, size_t, struct rustc_lexer_place *,
 
 static struct rustc_lexer_token buffer[BUFFER_LEN];
 
+/* The calls that take an edition, in the newest one. */
+static inline uint32_t tokens_in_newest(const uint8_t *text, size_t len, struct rustc_lexer_place *place,
+                                        struct rustc_lexer_token *tokens, size_t room, size_t *count) {
+    return rustc_lexer_tokens_in(text, len, 2024, place, tokens, room, count);
+}
+
+static inline uint32_t tokens_in_newest_unchecked(const uint8_t *text, size_t len, struct rustc_lexer_place *place,
+                                                  struct rustc_lexer_token *tokens, size_t room, size_t *count) {
+    return rustc_lexer_tokens_in_unchecked(text, len, 2024, place, tokens, room, count);
+}
+
 /* A call with so much room, on a buffer that has a mark in each byte. */
 static inline uint32_t call(batch_call *tokens, const char *text, size_t len, struct rustc_lexer_place *place,
                      size_t buffer_len, size_t *count) {

@@ -1,5 +1,5 @@
 /* Texts and documents under edits, compared with lexing them anew: edits at the ends, bad edits, editions, and random
- * edits. Exits with 1 at the first check that fails, and says which. */
+ * edits; lists that are put together. Exits with 1 at the first check that fails, and says which. */
 #include "checks.h"
 
 typedef uint32_t relex_call(const uint8_t *, size_t, const struct rustc_lexer_token *, size_t,
@@ -35,11 +35,10 @@ static uint32_t edit_held(relex_call *relex, struct held *held, size_t start, si
         memcpy(lexed + written, buffer, count * sizeof buffer[0]);
         written += count;
     } while (held->relexing.stage == RUSTC_LEXER_STAGE_MORE);
-    size_t front = held->relexing.kept_front, back = held->relexing.kept_back;
-    memmove(held->tokens + front + written, held->tokens + held->count - back, back * sizeof buffer[0]);
-    memcpy(held->tokens + front, lexed, written * sizeof buffer[0]);
-    held->count = front + written + back;
-    return written == held->relexing.lexed ? RUSTC_LEXER_OK : 99;
+    if (written != held->relexing.lexed)
+        return 99;
+    return rustc_lexer_splice(held->tokens, MOST, &held->count, held->relexing.kept_front, held->relexing.kept_back,
+                              lexed, written);
 }
 
 /* Lexes the whole text, by one buffer. */
@@ -174,6 +173,62 @@ static void check_bad_edits(relex_call *relex) {
             CHECK(relexing.stage == RUSTC_LEXER_STAGE_DONE);
         }
     }
+}
+
+/* Lists of tokens of 1, 2, .. bytes, in a buffer of eight places, where tokens of 11, 12, .. bytes come in: more, as
+ * many and fewer than go out, up to the last place. What is refused changes nothing. */
+static void check_splices(void) {
+    static const struct {
+        size_t count, front, back, lexed;
+        uint32_t lens[BUFFER_LEN];
+    } rows[] = {
+        {5, 2, 2, 1, {1, 2, 11, 4, 5}},
+        {5, 2, 2, 3, {1, 2, 11, 12, 13, 4, 5}},
+        {5, 2, 2, 4, {1, 2, 11, 12, 13, 14, 4, 5}},
+        {5, 2, 2, 0, {1, 2, 4, 5}},
+        {5, 1, 1, 1, {1, 11, 5}},
+        {5, 2, 3, 0, {1, 2, 3, 4, 5}},
+        {5, 0, 0, 2, {11, 12}},
+        {5, 5, 0, 3, {1, 2, 3, 4, 5, 11, 12, 13}},
+        {5, 0, 5, 3, {11, 12, 13, 1, 2, 3, 4, 5}},
+        {8, 3, 4, 1, {1, 2, 3, 11, 5, 6, 7, 8}},
+        {0, 0, 0, 8, {11, 12, 13, 14, 15, 16, 17, 18}},
+    };
+    static const struct {
+        size_t count, front, back, lexed;
+        uint32_t status;
+    } refused[] = {
+        {5, 2, 2, 5, RUSTC_LEXER_SMALL_BUFFER},        {0, 0, 0, 9, RUSTC_LEXER_SMALL_BUFFER},
+        {5, 3, 3, 0, RUSTC_LEXER_BAD_EDIT},            {5, 6, 0, 0, RUSTC_LEXER_BAD_EDIT},
+        {5, 0, 6, 9, RUSTC_LEXER_BAD_EDIT},            {5, SIZE_MAX, 2, 0, RUSTC_LEXER_BAD_EDIT},
+        {5, 1, SIZE_MAX, 0, RUSTC_LEXER_BAD_EDIT},     {9, 0, 0, 0, RUSTC_LEXER_BAD_EDIT},
+        {SIZE_MAX, 0, SIZE_MAX, 0, RUSTC_LEXER_BAD_EDIT},
+    };
+    struct rustc_lexer_token old[BUFFER_LEN], lexed[BUFFER_LEN + 1];
+    size_t count = 0;
+    for (uint32_t i = 0; i <= BUFFER_LEN; i++) {
+        if (i < BUFFER_LEN)
+            old[i] = (struct rustc_lexer_token){.kind = RUSTC_LEXER_IDENT, .len = i + 1};
+        lexed[i] = (struct rustc_lexer_token){.kind = RUSTC_LEXER_WHITESPACE, .len = i + 11};
+    }
+    for (size_t i = 0; i < sizeof rows / sizeof rows[0]; i++) {
+        memcpy(buffer, old, sizeof old);
+        count = rows[i].count;
+        CHECK(rustc_lexer_splice(buffer, BUFFER_LEN, &count, rows[i].front, rows[i].back, lexed, rows[i].lexed) ==
+              RUSTC_LEXER_OK);
+        CHECK(count == rows[i].front + rows[i].lexed + rows[i].back);
+        for (size_t k = 0; k < count; k++)
+            CHECK(is_token(k, rows[i].lens[k] > 10 ? RUSTC_LEXER_WHITESPACE : RUSTC_LEXER_IDENT, rows[i].lens[k]));
+    }
+    for (size_t i = 0; i < sizeof refused / sizeof refused[0]; i++) {
+        memcpy(buffer, old, sizeof old);
+        count = refused[i].count;
+        CHECK(rustc_lexer_splice(buffer, BUFFER_LEN, &count, refused[i].front, refused[i].back, lexed,
+                                 refused[i].lexed) == refused[i].status);
+        CHECK(count == refused[i].count && memcmp(buffer, old, sizeof old) == 0);
+    }
+    count = 0;
+    CHECK(rustc_lexer_splice(NULL, 0, &count, 0, 0, NULL, 0) == RUSTC_LEXER_OK && count == 0);
 }
 
 /* Numbers that look as if drawn by chance, below a bound. */
@@ -377,6 +432,7 @@ static void check_random_documents(body_edit_call *body_edit) {
 int main(void) {
     relex_call *const relexes[] = {rustc_lexer_relex, rustc_lexer_relex_unchecked};
     body_edit_call *const body_edits[] = {rustc_lexer_body_edit, rustc_lexer_body_edit_unchecked};
+    check_splices();
     for (int i = 0; i < 2; i++) {
         check_edits(relexes[i]);
         check_long_edit(relexes[i]);

@@ -87,7 +87,7 @@ static void take(struct list *list, const struct rustc_lexer_token *buffer, size
 }
 
 /* The tokens of a text by buffers of so many. */
-static void lex(const uint8_t *text, size_t len, uint32_t allowed, bool tested, size_t buffer_len,
+static void lex(batch_call *tokens, const uint8_t *text, size_t len, uint32_t allowed, size_t buffer_len,
                 enum placement placement, struct list *list) {
     struct rustc_lexer_place at = {0, allowed};
     struct block buffer = block_of(buffer_len * sizeof(struct rustc_lexer_token), placement);
@@ -96,9 +96,7 @@ static void lex(const uint8_t *text, size_t len, uint32_t allowed, bool tested, 
     size_t written;
     list->count = 0;
     do {
-        uint32_t status = (tested ? rustc_lexer_tokens : rustc_lexer_tokens_unchecked)(
-            text, len, place.bytes, buffer.bytes, buffer_len, count.bytes);
-        CHECK(status == RUSTC_LEXER_OK);
+        CHECK(tokens(text, len, place.bytes, buffer.bytes, buffer_len, count.bytes) == RUSTC_LEXER_OK);
         memcpy(&written, count.bytes, sizeof written);
         CHECK(written <= buffer_len);
         take(list, buffer.bytes, written);
@@ -108,6 +106,18 @@ static void lex(const uint8_t *text, size_t len, uint32_t allowed, bool tested, 
     release(buffer);
     release(place);
     release(count);
+}
+
+/* The token of a byte: it begins at or before the byte, and ends after it. */
+static void find_token(const struct rustc_lexer_token *tokens, size_t count, size_t len, enum placement placement) {
+    size_t none = 0, found, from, offset = below(len + 2);
+    struct block number = copy_of(&none, sizeof none, placement), start = copy_of(&none, sizeof none, placement);
+    CHECK(rustc_lexer_token_at(tokens, count, offset, number.bytes, start.bytes) == (offset < len));
+    memcpy(&found, number.bytes, sizeof found);
+    memcpy(&from, start.bytes, sizeof from);
+    CHECK(offset < len ? found < count && from <= offset && offset - from < tokens[found].len : found == 0);
+    release(number);
+    release(start);
 }
 
 /* The tokens of a text after an edit, by buffers of so many, from those before it, which become the new ones. */
@@ -128,10 +138,21 @@ static void relex(const uint8_t *text, size_t len, struct rustc_lexer_edit made,
         take(&lexed, buffer.bytes, written);
     } while (from.stage == 1);
     CHECK(from.kept_front + from.kept_back <= before.count);
+    size_t now = from.kept_front + lexed.count + from.kept_back, room = now > before.count ? now : before.count;
+    struct block all = block_of(room * sizeof before.tokens[0], placement);
+    struct block put = copy_of(lexed.tokens, lexed.count * sizeof lexed.tokens[0], placement);
+    if (before.count > 0)
+        memcpy(all.bytes, before.tokens, before.count * sizeof before.tokens[0]);
+    memcpy(count.bytes, &before.count, sizeof before.count);
+    CHECK(rustc_lexer_splice(all.bytes, room, count.bytes, from.kept_front, from.kept_back, put.bytes, lexed.count) ==
+          RUSTC_LEXER_OK);
+    memcpy(&written, count.bytes, sizeof written);
+    CHECK(written == now);
     list->count = 0;
-    take(list, before.tokens, from.kept_front);
-    take(list, lexed.tokens, lexed.count);
-    take(list, before.tokens + before.count - from.kept_back, from.kept_back);
+    take(list, all.bytes, now);
+    find_token(all.bytes, now, len, placement);
+    release(all);
+    release(put);
     release(old);
     release(buffer);
     release(edit);
@@ -281,6 +302,7 @@ static void check_too_long(void) {
     first = rustc_lexer_first_token_unchecked(text, len, 0);
     CHECK(memcmp(&first, &none, sizeof none) == 0);
     CHECK(!rustc_lexer_is_ident_unchecked(text, len) && !rustc_lexer_starts_raw_unchecked(text, len, 1));
+    CHECK(rustc_lexer_settled_unchecked(text, len, &count) == RUSTC_LEXER_TOO_LONG && count == 0);
     CHECK(munmap(text, len) == 0);
 #endif
 }
@@ -288,15 +310,17 @@ static void check_too_long(void) {
 /* All calls on a text. */
 static void check_text(const uint8_t *bytes, size_t len) {
     static const size_t buffers[] = {1, 2, 3, 5, 8, 31, MOST};
+    batch_call *const calls[] = {rustc_lexer_tokens, rustc_lexer_tokens_unchecked, tokens_in_newest,
+                                 tokens_in_newest_unchecked};
     static struct list whole, batches;
     for (int placement = 0; placement < PLACEMENTS; placement++) {
         struct block text = copy_of(bytes, len, placement);
         if (call_all(text.bytes, len, placement) == RUSTC_LEXER_OK) {
             for (uint32_t allowed = 0; allowed < 2; allowed++) {
-                lex(text.bytes, len, allowed, true, MOST, placement, &whole);
-                lex(text.bytes, len, allowed, false, 0, placement, &batches);
+                lex(calls[0], text.bytes, len, allowed, MOST, placement, &whole);
+                lex(calls[1], text.bytes, len, allowed, 0, placement, &batches);
                 for (size_t i = 0; i < sizeof buffers / sizeof buffers[0]; i++) {
-                    lex(text.bytes, len, allowed, i % 2 == 0, buffers[i], placement, &batches);
+                    lex(calls[i % 4], text.bytes, len, allowed, buffers[i], placement, &batches);
                     CHECK(is_same(&whole, &batches));
                 }
             }
@@ -330,8 +354,8 @@ static void check_edit(const uint8_t *bytes, size_t len, const uint8_t *insert, 
         return;
     for (int placement = 0; placement < PLACEMENTS; placement++) {
         struct block text = copy_of(after, after_len, placement);
-        lex(bytes, len, 0, true, MOST, HEAP, &list);
-        lex(text.bytes, after_len, 0, true, MOST, HEAP, &whole);
+        lex(rustc_lexer_tokens, bytes, len, 0, MOST, HEAP, &list);
+        lex(rustc_lexer_tokens, text.bytes, after_len, 0, MOST, HEAP, &whole);
         relex(text.bytes, after_len, edit, 1 + below(9), placement, &list);
         CHECK(is_same(&whole, &list));
         release(text);

@@ -10,9 +10,11 @@
  *   - `len` bytes can be read at `text`, and nothing writes to them during the call;
  *   - each pointer that is not const points to memory that the caller may write to, that is aligned for its type,
  *     and that nothing else uses during the call: `buffer` to `buffer_len` tokens, units or bytes, the others to
- *     one value. What is there before the call does not matter, except in `place`, `head` and `relexing`;
- *   - `old_len` tokens can be read at `old`, and one value at `edit` and at `token`. These pointers are aligned for their
- *     types, and nothing writes to what they point to during the call;
+ *     one value. What is there before the call does not matter, except in `place`, `head` and `relexing`, and where a
+ *     comment says so;
+ *   - `old_len` tokens can be read at `old`, `tokens_len` at `tokens` and `lexed_len` at `lexed`, and one value at
+ *     `edit` and at `token`. These pointers are aligned for their types, and nothing writes to what they point to
+ *     during the call;
  *   - what the calls with `_unchecked` say about their texts.
  * Everything else is tested. Most calls return a status. If it is not 0, the call wrote zeros, or nothing where its
  * comment says so.
@@ -342,6 +344,14 @@ uint32_t rustc_lexer_tokens(const uint8_t *text, size_t len, struct rustc_lexer_
 uint32_t rustc_lexer_tokens_unchecked(const uint8_t *text, size_t len, struct rustc_lexer_place *place,
                                       struct rustc_lexer_token *buffer, size_t buffer_len, size_t *count);
 
+/* Do what the two calls before do, in an edition, which is a year: 2015, 2018, 2021 or 2024. Those are in the newest.
+ * The status is RUSTC_LEXER_BAD_EDITION for any other year. A frontmatter is the same in each edition. */
+uint32_t rustc_lexer_tokens_in(const uint8_t *text, size_t len, uint32_t edition, struct rustc_lexer_place *place,
+                               struct rustc_lexer_token *buffer, size_t buffer_len, size_t *count);
+uint32_t rustc_lexer_tokens_in_unchecked(const uint8_t *text, size_t len, uint32_t edition,
+                                         struct rustc_lexer_place *place, struct rustc_lexer_token *buffer,
+                                         size_t buffer_len, size_t *count);
+
 /* Returns the first token of a text. All its bytes are 0 if the text is empty or has more than 4294967295 bytes.
  * `frontmatter_allowed` is as in a place. The caller promises that the text is UTF-8, which is not tested. */
 struct rustc_lexer_token rustc_lexer_first_token_unchecked(const uint8_t *text, size_t len,
@@ -350,7 +360,9 @@ struct rustc_lexer_token rustc_lexer_first_token_unchecked(const uint8_t *text, 
 /* Lexes a text again after an edit. `text` is the text after the edit, and `old` has all tokens of the text before it.
  * The tokens of `text` are
  *
- *     the first `kept_front` of `old`, the `lexed` tokens that are written, the last `kept_back` of `old`.
+ *     the first `kept_front` of `old`, the `lexed` tokens that are written, the last `kept_back` of `old`,
+ *
+ * and rustc_lexer_splice puts them together.
  *
  * Set `stage` to RUSTC_LEXER_STAGE_BEGIN before the first call for an edit. If it is _MORE after a call, the buffer was
  * too small: take the tokens from it and call again, with nothing else changed, until it is _DONE. `count` is how many
@@ -364,9 +376,8 @@ struct rustc_lexer_token rustc_lexer_first_token_unchecked(const uint8_t *text, 
  * or if at _BEGIN the two numbers are not a boundary of its tokens, the result means nothing. Even so the call is
  * safe: it reads and writes only what it may, it ends, and `kept_front` and `kept_back` together are at most `old_len`.
  *
- * The edition is a year: 2015, 2018, 2021 or 2024. No frontmatter is allowed, so the tokens of 2024 are those of
- * rustc_lexer_tokens from {0, 0}. To lex a whole text in an edition, pass no old tokens, the edit {0, 0, len} and
- * zeros.
+ * The edition is a year, as in rustc_lexer_tokens_in. No frontmatter is allowed, so the tokens are those of that call
+ * from {0, 0}.
  *
  * If the status is not 0, the buffer and `relexing` stay as they were, and `count` is 0. RUSTC_LEXER_BAD_EDIT means
  * that `start` is greater than one of the others, that `start` or `new_stop` is past the end of the text or inside a
@@ -387,6 +398,15 @@ uint32_t rustc_lexer_relex_unchecked(const uint8_t *text, size_t len, const stru
                                      size_t old_len, const struct rustc_lexer_edit *edit, uint32_t edition,
                                      struct rustc_lexer_relexing *relexing, struct rustc_lexer_token *buffer,
                                      size_t buffer_len, size_t *count);
+
+/* Puts the tokens that were lexed again into the list of old tokens: `lexed` in place of those between the first
+ * `kept_front` and the last `kept_back` of it. The list has the first `count` places of the buffer, and room for
+ * `buffer_len`; then `count` is how many tokens it has. What is in the places after these means nothing.
+ *
+ * If the status is not 0, nothing is written. RUSTC_LEXER_BAD_EDIT means that `count` is more than `buffer_len`, or
+ * less than `kept_front` and `kept_back` together; RUSTC_LEXER_SMALL_BUFFER, that the buffer has too few places. */
+uint32_t rustc_lexer_splice(struct rustc_lexer_token *buffer, size_t buffer_len, size_t *count, size_t kept_front,
+                            size_t kept_back, const struct rustc_lexer_token *lexed, size_t lexed_len);
 
 /* Finds what an edit of a whole document changes in its body. `text` is the document after the edit, with its shebang
  * line. Before the call, `head` is the head of the document before the edit, as the last call left it. The call writes
@@ -419,12 +439,28 @@ uint32_t rustc_lexer_strip_shebang(const uint8_t *text, size_t len, size_t *line
 uint32_t rustc_lexer_strip_shebang_unchecked(const uint8_t *text, size_t len, size_t *line_len);
 
 /* Writes the end of the last token that at least two characters follow, in bytes from the start of the text, or 0 if
- * there is none. However the text continues, its tokens up to there stay. No frontmatter is allowed. */
+ * there is none. However the text continues, its tokens up to there stay. No frontmatter is allowed.
+ *
+ * Each call lexes the text from its start. While a long text arrives, pass only what follows the end that the call
+ * before wrote: it has the remaining tokens. Of bytes, pass those up to the last complete character. */
 uint32_t rustc_lexer_settled(const uint8_t *text, size_t len, size_t *end);
+uint32_t rustc_lexer_settled_unchecked(const uint8_t *text, size_t len, size_t *end);
+
+/* Finds the token that contains the byte at `offset`, among tokens that follow one another. Writes its number, counted
+ * from 0, and where it begins, in bytes, and returns whether there is one. If there is none, both numbers stay.
+ *
+ * Before the call they are those of any token boundary, where the search begins: how many tokens are before it, and
+ * where it is. Pass 0 and the start of the first token, what an earlier call wrote, or `kept_front` and `front_offset`
+ * of an edit. The nearer to `offset`, the faster: the time depends on how many tokens are between, at worst on all.
+ *
+ * Of `tokens` only the lengths are read. If the two numbers are no boundary of theirs, the result means nothing, but
+ * the call is safe. */
+bool rustc_lexer_token_at(const struct rustc_lexer_token *tokens, size_t tokens_len, size_t offset, size_t *number,
+                          size_t *start);
 
 /* Writes 1 if the texts before and after byte `at` may touch, otherwise 0: whether the tokens of the text are those of
  * its part before `at`, and then those of its part after `at`. So a program that writes tokens finds out whether it has
- * to write a space between two of them. The edition is a year, as in rustc_lexer_relex. No frontmatter is allowed.
+ * to write a space between two of them. The edition is a year, as in rustc_lexer_tokens_in. No frontmatter is allowed.
  *
  * The end of the part before `at` is enough, from any end of a token on that at least two characters of that part
  * follow: the last two of its tokens, for example. So a long text need not be passed. */

@@ -10,9 +10,9 @@
 struct held {
     uint8_t text[MOST];
     size_t len;
-    struct rustc_lexer_token tokens[MOST];
+    struct rustc_lexer_head head;           /* the shebang line and the frontmatter, with its tokens */
+    struct rustc_lexer_token tokens[MOST];  /* those of the body, which is all text behind the head */
     size_t count;
-    struct rustc_lexer_head head;
     struct rustc_lexer_relexing relexing;
 };
 
@@ -25,28 +25,22 @@ static uint32_t edit_held(struct held *held, uint32_t start, uint32_t stop, cons
     memcpy(held->text + start, insert, strlen(insert));
     held->len = held->len - stop + edit.new_stop;
 
-    /* what changes in the body, which is all behind a shebang line and a frontmatter */
-    size_t old_head = held->head.count, body_count = held->count - old_head, count;
+    /* what changes in the body */
     uint32_t head_kept, status;
     status = rustc_lexer_body_edit(held->text, held->len, &edit, &held->head, &body_edit, &head_kept);
     if (status != RUSTC_LEXER_OK)
         return status;
 
     /* there is room for one token more than a text can have, so one call writes them all */
-    struct rustc_lexer_token lexed[MOST + 1], *old = held->tokens + old_head;
+    struct rustc_lexer_token lexed[MOST + 1];
+    size_t count;
     held->relexing.stage = RUSTC_LEXER_STAGE_BEGIN;
-    status = rustc_lexer_relex(held->text + held->head.body, held->len - held->head.body, old, body_count, &body_edit,
-                               2024, &held->relexing, lexed, MOST + 1, &count);
+    status = rustc_lexer_relex(held->text + held->head.body, held->len - held->head.body, held->tokens, held->count,
+                               &body_edit, 2024, &held->relexing, lexed, MOST + 1, &count);
     if (status != RUSTC_LEXER_OK)
         return status;
-
-    /* a new head keeps no token of the body in front, so those in front never move */
-    size_t front = held->head.count + held->relexing.kept_front, back = held->relexing.kept_back;
-    memmove(held->tokens + front + count, old + body_count - back, back * sizeof lexed[0]);
-    memcpy(held->tokens, held->head.tokens, held->head.count * sizeof lexed[0]);
-    memcpy(held->tokens + front, lexed, count * sizeof lexed[0]);
-    held->count = front + count + back;
-    return RUSTC_LEXER_OK;
+    return rustc_lexer_splice(held->tokens, MOST, &held->count, held->relexing.kept_front, held->relexing.kept_back,
+                              lexed, count);
 }
 
 int main(void) {
@@ -56,7 +50,7 @@ int main(void) {
         edit_held(&held, 22, 23, "- 1 -") != RUSTC_LEXER_OK)
         return 1;
     size_t start = held.head.body + held.relexing.front_offset;
-    size_t front = held.head.count + held.relexing.kept_front;
+    size_t front = held.relexing.kept_front;
     for (size_t i = front; i < front + held.relexing.lexed; i++) {
         printf("%zu %u %s\n", start, held.tokens[i].len, rustc_lexer_kind_name(held.tokens[i].kind));
         start += held.tokens[i].len;

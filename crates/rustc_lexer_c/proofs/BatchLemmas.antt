@@ -3,10 +3,11 @@ use Rattle.std.proofs.Common.{◌≡◌, ℕ, ◌+◌, ◌-◌, ◌≤◌, List,
 use Rattle.std.proofs.lemmas.Grind.{common_steps}
 use Rattle.std.proofs.lemmas.Str.{IsCharBoundary-from_rest, IsUtf8-drop}
 use Rattle.std.proofs.Math.Nat.{min-le_right}
+use Rattle.rustc_lexer.specs.declared.edition.Edition.{Edition}
 use Rattle.rustc_lexer.specs.declared.token.FrontmatterAllowed.{FrontmatterAllowed}
 use Rattle.rustc_lexer.specs.Tokens.{bound, tokens_of, tokens_left}
 use Rattle.rustc_lexer.specs.means.Tokens.{IsFilled}
-use Rattle.rustc_lexer.specs.LanguageText.{Mode, mode_edition, mode_in, newest}
+use Rattle.rustc_lexer.specs.LanguageText.{Mode, mode_edition, mode_in}
 use Rattle.rustc_lexer.specs.Classes.{IsText}
 use Rattle.rustc_lexer.specs.State.{State}
 use Rattle.rustc_lexer.specs.laws.Tokens.{partitions}
@@ -19,20 +20,20 @@ use Rattle.rustc_lexer_c.specs.Numbers.{token_numbers}
 allowed_back : (allowed : FrontmatterAllowed) → allowed_of (allowed_number allowed) ≡ allowed
 allowed_back allowed = grind (arith, common_steps)
 
--- the number of a flag is that of what it asks for, which is of the newest edition
-number_of-mode : (allowed : FrontmatterAllowed) → allowed_number allowed ≡ mode_number (mode_in allowed newest)
-number_of-mode allowed = grind (arith, common_steps)
+-- the number of a flag is that of what it asks for, in each edition
+number_of-mode : (allowed : FrontmatterAllowed) (edition : Edition) → allowed_number allowed ≡ mode_number (mode_in allowed edition)
+number_of-mode allowed edition = grind (arith, common_steps)
 
-mode_of-edition : (allowed : FrontmatterAllowed) → mode_edition (mode_in allowed newest) ≡ newest
-mode_of-edition allowed = grind (arith, common_steps)
+mode_of-edition : (allowed : FrontmatterAllowed) (edition : Edition) → mode_edition (mode_in allowed edition) ≡ edition
+mode_of-edition allowed edition = grind (arith, common_steps)
 
-module _ (text : List ℕ) (is : IsText text) (place : CPlace) (boundary : IsCharBoundary text place.at) (s t : State) (buffer filled : List CToken) (count : ℕ) (begun : s ≡ state_at text place)
+module _ (edition : Edition) (text : List ℕ) (is : IsText text) (place : CPlace) (boundary : IsCharBoundary text place.at) (s t : State) (buffer filled : List CToken) (count : ℕ) (begun : s ≡ state_at edition text place)
     (filling : IsFilled token_numbers (tokens_left s) buffer filled count) (past : t ≡ state_past count s) where
   abbrev cut : List ℕ
   cut = drop place.at text
 
   abbrev mode : Mode
-  mode = mode_in (allowed_of place.frontmatter_allowed) newest
+  mode = mode_in (allowed_of place.frontmatter_allowed) edition
 
   cut_is : IsText cut
   cut_is = record { utf8 = IsUtf8-drop text place.at is.utf8 boundary; fits = let f = is.fits in omega (arith, length-drop place.at text) }
@@ -61,12 +62,12 @@ module _ (text : List ℕ) (is : IsText text) (place : CPlace) (boundary : IsCha
   place_is : length text - length t.rest ≡ place.at + end
   place_is = let long : length t.rest ≡ length (drop end cut) = ap length rest_is in let b = boundary.0 in let i = inside.0 in omega (arith, long, b, i, length-drop end cut, length-drop place.at text)
 
-  state_is : state_past count (state_at text place) ≡ t
+  state_is : state_past count (state_at edition text place) ≡ t
   state_is = ap (state_past count) (sym begun) ∙ sym past
 
-  newest_token : mode_edition t.mode ≡ newest
-  newest_token = leaves.edition ∙ (ap (λ (x : State). mode_edition x.mode) begun ∙ mode_of-edition (allowed_of place.frontmatter_allowed))
+  same_edition : mode_edition t.mode ≡ edition
+  same_edition = leaves.edition ∙ (ap (λ (x : State). mode_edition x.mode) begun ∙ mode_of-edition (allowed_of place.frontmatter_allowed) edition)
 
-  pub batch_is : (place' : CPlace) (allowed : FrontmatterAllowed) → place'.at ≡ length text - length t.rest → t.mode ≡ mode_in allowed (mode_edition t.mode) → place'.frontmatter_allowed ≡ allowed_number allowed → IsBatch text (state_at text place) buffer place' filled count
+  pub batch_is : (place' : CPlace) (allowed : FrontmatterAllowed) → place'.at ≡ length text - length t.rest → t.mode ≡ mode_in allowed (mode_edition t.mode) → place'.frontmatter_allowed ≡ allowed_number allowed → IsBatch text (state_at edition text place) buffer place' filled count
   batch_is place' allowed at held number =
-      grind (arith, common_steps, place_is, rest_is, newest_token, here, IsCharBoundary-from_rest, inside, state_is, number_of-mode, allowed_back, leaves)
+      grind (arith, common_steps, place_is, rest_is, same_edition, mode_of-edition, here, IsCharBoundary-from_rest, inside, state_is, number_of-mode, allowed_back, leaves)

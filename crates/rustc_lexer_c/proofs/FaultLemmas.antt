@@ -1,5 +1,5 @@
 -- The kind that numbers stand for has the class and the error of each token with these numbers.
-use Rattle.std.proofs.Common.{◌≡◌, Bool, true, false, List, ℕ, Option, None, Some, ap, arith, refl, sym, ◌∙◌}
+use Rattle.std.proofs.Common.{◌≡◌, true, false, List, ℕ, None, Some, ap, arith, refl, sym, ◌∙◌}
 use Rattle.std.proofs.lemmas.Grind.{common_steps}
 use Rattle.rustc_lexer.specs.declared.token.Token.{Token}
 use Rattle.rustc_lexer.specs.declared.token.LiteralKind.{LiteralKind}
@@ -8,10 +8,10 @@ use Rattle.rustc_lexer.specs.declared.token.TokenKind.{TokenKind}
 use Rattle.rustc_lexer.specs.declared.token.TokenKind.TheVariants.{Literal}
 use Rattle.rustc_lexer.specs.Kinds.{kind_entry, literal_entry}
 use Rattle.rustc_lexer_c.specs.declared.token.CToken.{CToken}
-use Rattle.rustc_lexer_c.specs.Faults.{kind_of, literal_of}
+use Rattle.rustc_lexer_c.specs.Faults.{kind_of}
 use Rattle.rustc_lexer_c.specs.Numbers.{first_of, literal_second, literal_third, second_of, third_of, token_numbers}
-use Rattle.marks.specs.Class.{class_of, literal_class}
-use Rattle.marks.specs.Fault.{fault_of, literal_fault}
+use Rattle.marks.specs.Class.{class_of}
+use Rattle.marks.specs.Fault.{fault_of}
 
 abbrev AreKept : TokenKind → ℕ → List ℕ → Type 0
 AreKept kind len text =

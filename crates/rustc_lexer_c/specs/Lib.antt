@@ -4,8 +4,11 @@ pub mod Faults
 pub mod Head
 pub mod Marks
 pub mod Numbers
+pub mod Offsets
+pub mod Places
 pub mod RawStr
 pub mod Relex
 pub mod Seam
+pub mod Splice
 pub mod Buffer
 pub mod Status

@@ -1,7 +1,9 @@
 -- The statuses of calls from C.
-use Rattle.std.specs.Prelude.{ℕ, ◌≡◌, ◌≢◌, ◌<◌, ◌≤◌, ◌^◌, List, length}
-use Rattle.std.specs.Str.{IsUtf8}
+use Rattle.std.specs.Prelude.{ℕ, ◌≡◌, ◌≢◌, ◌<◌, ◌≤◌, ◌^◌, List, length, Some, None}
+use Rattle.std.specs.Str.{IsCharBoundary, IsUtf8}
+use Rattle.rustc_lexer.specs.declared.edition.Edition.{Edition}
 use Rattle.rustc_lexer.specs.Classes.{IsText}
+use Rattle.rustc_lexer.specs.LanguageCalls.{edition_of_year}
 use Rattle.rustc_lexer_c.specs.declared.status.Refusal.{Refusal}
 use Rattle.rustc_lexer_c.specs.declared.status.Refusal.TheVariants.{NotUtf8, TooLong, BadPlace, NotRaw, BadEdition, BadEdit, BadMode, BadStyle, SmallBuffer}
 
@@ -36,6 +38,14 @@ pub record IsStatus (bytes : List ℕ) (Asked : Type 0) (number status : ℕ) : 
 -- the status of a call that takes any text
 abbrev pub IsTextStatus : List ℕ → ℕ → Type 0
 IsTextStatus bytes status = IsStatus bytes (Unit {0}) OK status
+
+-- the status of a call that takes a text, an offset in it and a year
+pub record IsPlaceStatus (bytes : List ℕ) (at year status : ℕ) : Type 0 where
+  pub ok : IsText bytes → IsCharBoundary bytes at → (edition : Edition) → edition_of_year year ≡ Some edition → status ≡ OK
+  pub not_utf8 : length bytes < 2 ^ 32 → ¬ (IsUtf8 bytes) → status ≡ refusal_number NotUtf8
+  pub too_long : 2 ^ 32 ≤ length bytes → status ≡ refusal_number TooLong
+  pub bad_place : IsText bytes → ¬ (IsCharBoundary bytes at) → status ≡ refusal_number BadPlace
+  pub bad_edition : IsText bytes → IsCharBoundary bytes at → edition_of_year year ≡ None → status ≡ refusal_number BadEdition
 
 -- a call with such a status writes its answer, or `none` if it is refused
 pub record Writes {X : Type 0} (bytes : List ℕ) (Asked : Type 0) (number : ℕ) (answer none written : X) (status : ℕ) : Type 0 where

@@ -6,9 +6,10 @@ ghost use Rattle.rustc_lexer.specs.LanguageText.{mode_in, newest};
 ghost use Rattle.rustc_lexer.specs.Tokens.{tokens_of};
 ghost use Rattle.rustc_lexer_c.specs.Batch as spec;
 
+use crate::relex::edition_of;
 use crate::status::{Refusal, done, refuse, text_of, utf8_text_of};
 use crate::token::{CToken, token_numbers};
-use rustc_lexer::{FrontmatterAllowed, tokenize};
+use rustc_lexer::{Edition, FrontmatterAllowed, tokenize, tokenize_as};
 
 /// A place in a text, from which the next tokens are taken.
 #[repr(C)]
@@ -22,7 +23,7 @@ pub struct CPlace {
 
 /// Writes the tokens from a place on into the buffer, as many as there is room for, and their number into `count`.
 /// Moves the place to the end of these tokens, so that the next call goes on there. Past the last token the number
-/// is 0.
+/// is 0. The tokens are those of the newest edition.
 ///
 /// Each call checks the whole text. `rustc_lexer_tokens_unchecked` does not.
 #[unsafe(no_mangle)]
@@ -54,6 +55,44 @@ pub extern "C" fn rustc_lexer_tokens_unchecked(
 {
     match utf8_text_of(text) {
         Ok(text) => batch(text, place, buffer, count),
+        Err(refusal) => refuse(refusal, 0, count),
+    }
+}
+
+/// Does what `rustc_lexer_tokens` does, in the edition of a year: 2015, 2018, 2021 or 2024.
+#[unsafe(no_mangle)]
+pub extern "C" fn rustc_lexer_tokens_in(
+    text: &[u8],
+    edition: u32,
+    place: &mut CPlace,
+    buffer: &mut [CToken],
+    count: &mut usize,
+) -> u32
+    ensures { spec.TakesTokensIn text.now edition place.old place.new
+        buffer.old buffer.new count.new result }
+{
+    match text_of(text) {
+        Ok(text) => batch_in(text, edition, place, buffer, count),
+        Err(refusal) => refuse(refusal, 0, count),
+    }
+}
+
+/// Does what `rustc_lexer_tokens_in` does, with a text that `rustc_lexer_check` found to be UTF-8. Does not check it
+/// again.
+#[unsafe(no_mangle)]
+pub extern "C" fn rustc_lexer_tokens_in_unchecked(
+    text: &[u8],
+    edition: u32,
+    place: &mut CPlace,
+    buffer: &mut [CToken],
+    count: &mut usize,
+) -> u32
+    requires utf8 { IsUtf8 text.now }
+    ensures { spec.TakesTokensIn text.now edition place.old place.new
+        buffer.old buffer.new count.new result }
+{
+    match utf8_text_of(text) {
+        Ok(text) => batch_in(text, edition, place, buffer, count),
         Err(refusal) => refuse(refusal, 0, count),
     }
 }
@@ -105,18 +144,41 @@ fn batch(text: &str, place: &mut CPlace, buffer: &mut [CToken], count: &mut usiz
     if !text.is_char_boundary(place.at as usize) {
         return refuse(Refusal::BadPlace, 0, count);
     }
-    done(fill(text, place, buffer), count)
+    done(fill(text, Edition::NEWEST, place, buffer), count)
 }
 
-/// Writes the batch at a place between characters. Returns its number of tokens.
-fn fill(text: &str, place: &mut CPlace, buffer: &mut [CToken]) -> usize
+/// Writes the batch at the place in the edition of a year into the buffer, and its number of tokens into `count`.
+fn batch_in(
+    text: &str,
+    edition: u32,
+    place: &mut CPlace,
+    buffer: &mut [CToken],
+    count: &mut usize,
+) -> u32
+    requires fits { Fits text.now }
+    ensures { spec.TakesTokensIn text.now edition place.old place.new
+        buffer.old buffer.new count.new result }
+{
+    if !text.is_char_boundary(place.at as usize) {
+        return refuse(Refusal::BadPlace, 0, count);
+    }
+    match edition_of(edition) {
+        Some(edition) => done(fill(text, edition, place, buffer), count),
+        None => refuse(Refusal::BadEdition, 0, count),
+    }
+}
+
+/// Writes the batch at a place between characters. Returns its number of tokens. It is inlined, so the call for the
+/// newest edition, a constant there, does not test which it is.
+#[inline(always)]
+fn fill(text: &str, edition: Edition, place: &mut CPlace, buffer: &mut [CToken]) -> usize
     requires fits { Fits text.now }
     requires boundary { IsCharBoundary text.now place.old.at }
-    ensures { spec.IsBatch text.now (spec.state_at text.now place.old)
+    ensures { spec.IsBatch text.now (spec.state_at edition text.now place.old)
         buffer.old place.new buffer.new result }
 {
     let allowed = allowed_of(place.frontmatter_allowed);
-    let mut tokens = tokenize(&text[place.at as usize..], allowed);
+    let mut tokens = tokenize_as(&text[place.at as usize..], allowed, edition);
     let count = tokens.fill(buffer);
     *place = CPlace {
         at: (text.len() - tokens.as_str().len()) as u32,

@@ -1,13 +1,11 @@
 //! Places in a text: the end of its shebang line, and the end of the tokens that are certain.
-ghost use Rattle.std.specs.Prelude.{◌≡◌, ◌≢◌};
+ghost use Rattle.std.specs.Prelude.{◌≡◌};
 ghost use Rattle.std.specs.Str.{IsUtf8};
 ghost use Rattle.rustc_lexer.specs.Classes.{Fits};
-ghost use Rattle.rustc_lexer.specs.LanguageText.{part, newest};
-ghost use Rattle.rustc_lexer.specs.Locality.{IsSettled, StaysUpTo};
 ghost use Rattle.rustc_lexer.specs.Answers.{shebang};
-ghost use Rattle.rustc_lexer.specs.Tokens.{tokens_of};
 ghost use Rattle.rustc_lexer_c.specs.Numbers.{some_or_zero};
-ghost use Rattle.rustc_lexer_c.specs.Status.{IsTextStatus, OK, Writes};
+ghost use Rattle.rustc_lexer_c.specs.Places.{TellsSettled};
+ghost use Rattle.rustc_lexer_c.specs.Status.{OK, Writes};
 
 use crate::status::{done, refuse, text_of, utf8_text_of};
 use rustc_lexer::{settled, strip_shebang};
@@ -41,15 +39,33 @@ pub extern "C" fn rustc_lexer_strip_shebang_unchecked(text: &[u8], line_len: &mu
 /// tokens up to there stay as they are, if no frontmatter is allowed.
 #[unsafe(no_mangle)]
 pub extern "C" fn rustc_lexer_settled(text: &[u8], end: &mut usize) -> u32
-    ensures status { IsTextStatus text.now result }
-    ensures settled { result ≡ OK → IsSettled text.now (tokens_of (part newest) text.now) end.new }
-    ensures stays { result ≡ OK → StaysUpTo end.new text.now (tokens_of (part newest)) }
-    ensures refused { result ≢ OK → end.new ≡ 0 }
+    ensures { TellsSettled text.now end.new result }
 {
     match text_of(text) {
-        Ok(text) => done(settled(text), end),
+        Ok(text) => settled_end(text, end),
         Err(refusal) => refuse(refusal, 0, end),
     }
+}
+
+/// Writes where the last token that at least two characters follow ends, or 0, of a text that `rustc_lexer_check`
+/// found to be UTF-8. Does not check it again.
+#[unsafe(no_mangle)]
+pub extern "C" fn rustc_lexer_settled_unchecked(text: &[u8], end: &mut usize) -> u32
+    requires utf8 { IsUtf8 text.now }
+    ensures { TellsSettled text.now end.new result }
+{
+    match utf8_text_of(text) {
+        Ok(text) => settled_end(text, end),
+        Err(refusal) => refuse(refusal, 0, end),
+    }
+}
+
+/// Writes where the last token that at least two characters follow ends, or 0.
+fn settled_end(text: &str, end: &mut usize) -> u32
+    requires fits { Fits text.now }
+    ensures { TellsSettled text.now end.new result }
+{
+    done(settled(text), end)
 }
 
 /// Returns the length of the shebang line in bytes, or 0 if there is none.

@@ -2,8 +2,8 @@
 ghost use Rattle.std.specs.Prelude.{◌≡◌, ◌≢◌, Some};
 ghost use Rattle.rustc_lexer.specs.declared.edition.Edition.{Edition};
 ghost use Rattle.rustc_lexer.specs.LanguageCalls.{edition_of_year};
-ghost use Rattle.rustc_lexer_c.specs.Seam.{IsSeamStatus, TellsSeam};
-ghost use Rattle.rustc_lexer_c.specs.Status.{OK};
+ghost use Rattle.rustc_lexer_c.specs.Seam.{TellsSeam};
+ghost use Rattle.rustc_lexer_c.specs.Status.{IsPlaceStatus, OK};
 
 use crate::relex::edition_of;
 use crate::status::{Refusal, done, refuse, text_of};
@@ -13,7 +13,7 @@ use rustc_lexer::is_seam;
 /// `at`.
 #[unsafe(no_mangle)]
 pub extern "C" fn rustc_lexer_is_seam(text: &[u8], at: usize, edition: u32, is: &mut u32) -> u32
-    ensures status { IsSeamStatus text.now at edition result }
+    ensures status { IsPlaceStatus text.now at edition result }
     ensures seam { result ≡ OK → (year : Edition) → edition_of_year edition ≡ Some year
         → TellsSeam text.now at year is.new }
     ensures refused { result ≢ OK → is.new ≡ 0 }

@@ -67,6 +67,12 @@ calls! {
         fn rustc_lexer_tokens_unchecked(
             text: &[u8], place: &mut CPlace, buffer: &mut [CToken], count: &mut usize
         ) -> u32;
+        fn rustc_lexer_tokens_in(
+            text: &[u8], edition: u32, place: &mut CPlace, buffer: &mut [CToken], count: &mut usize
+        ) -> u32;
+        fn rustc_lexer_tokens_in_unchecked(
+            text: &[u8], edition: u32, place: &mut CPlace, buffer: &mut [CToken], count: &mut usize
+        ) -> u32;
         fn rustc_lexer_first_token_unchecked(text: &[u8], frontmatter_allowed: u32) -> CToken;
     }
     relex {
@@ -87,13 +93,22 @@ calls! {
             text: &[u8], edit: &CEdit, head: &mut CHead, body_edit: &mut CEdit, head_kept: &mut u32
         ) -> u32;
     }
+    offsets {
+        fn rustc_lexer_token_at(tokens: &[CToken], offset: usize, number: &mut usize, start: &mut usize) -> bool;
+    }
     places {
         fn rustc_lexer_strip_shebang(text: &[u8], line_len: &mut usize) -> u32;
         fn rustc_lexer_strip_shebang_unchecked(text: &[u8], line_len: &mut usize) -> u32;
         fn rustc_lexer_settled(text: &[u8], end: &mut usize) -> u32;
+        fn rustc_lexer_settled_unchecked(text: &[u8], end: &mut usize) -> u32;
     }
     seam {
         fn rustc_lexer_is_seam(text: &[u8], at: usize, edition: u32, is: &mut u32) -> u32;
+    }
+    splice {
+        fn rustc_lexer_splice(
+            buffer: &mut [CToken], count: &mut usize, kept_front: usize, kept_back: usize, lexed: &[CToken]
+        ) -> u32;
     }
     raw_str {
         fn rustc_lexer_validate_raw_str(text: &[u8], prefix_len: u32, error: &mut CRawStrError) -> u32;

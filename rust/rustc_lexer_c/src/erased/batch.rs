@@ -1,9 +1,10 @@
 // Made by tools/erase from crates/rustc_lexer_c/src/batch.rt: edit that file.
 //! Writes tokens in batches.
 
+use crate::erased::relex::edition_of;
 use crate::erased::status::{Refusal, done, refuse, text_of, utf8_text_of};
 use crate::erased::token::{CToken, token_numbers};
-use rustc_lexer::erased::{FrontmatterAllowed, tokenize};
+use rustc_lexer::erased::{Edition, FrontmatterAllowed, tokenize, tokenize_as};
 
 /// A place in a text, from which the next tokens are taken.
 #[repr(C)]
@@ -17,7 +18,7 @@ pub struct CPlace {
 
 /// Writes the tokens from a place on into the buffer, as many as there is room for, and their number into `count`.
 /// Moves the place to the end of these tokens, so that the next call goes on there. Past the last token the number
-/// is 0.
+/// is 0. The tokens are those of the newest edition.
 ///
 /// Each call checks the whole text. `rustc_lexer_tokens_unchecked` does not.
 pub fn rustc_lexer_tokens(
@@ -42,6 +43,35 @@ pub fn rustc_lexer_tokens_unchecked(
 ) -> u32 {
     match utf8_text_of(text) {
         Ok(text) => batch(text, place, buffer, count),
+        Err(refusal) => refuse(refusal, 0, count),
+    }
+}
+
+/// Does what `rustc_lexer_tokens` does, in the edition of a year: 2015, 2018, 2021 or 2024.
+pub fn rustc_lexer_tokens_in(
+    text: &[u8],
+    edition: u32,
+    place: &mut CPlace,
+    buffer: &mut [CToken],
+    count: &mut usize,
+) -> u32 {
+    match text_of(text) {
+        Ok(text) => batch_in(text, edition, place, buffer, count),
+        Err(refusal) => refuse(refusal, 0, count),
+    }
+}
+
+/// Does what `rustc_lexer_tokens_in` does, with a text that `rustc_lexer_check` found to be UTF-8. Does not check it
+/// again.
+pub fn rustc_lexer_tokens_in_unchecked(
+    text: &[u8],
+    edition: u32,
+    place: &mut CPlace,
+    buffer: &mut [CToken],
+    count: &mut usize,
+) -> u32 {
+    match utf8_text_of(text) {
+        Ok(text) => batch_in(text, edition, place, buffer, count),
         Err(refusal) => refuse(refusal, 0, count),
     }
 }
@@ -81,13 +111,32 @@ fn batch(text: &str, place: &mut CPlace, buffer: &mut [CToken], count: &mut usiz
     if !text.is_char_boundary(place.at as usize) {
         return refuse(Refusal::BadPlace, 0, count);
     }
-    done(fill(text, place, buffer), count)
+    done(fill(text, Edition::NEWEST, place, buffer), count)
 }
 
-/// Writes the batch at a place between characters. Returns its number of tokens.
-fn fill(text: &str, place: &mut CPlace, buffer: &mut [CToken]) -> usize {
+/// Writes the batch at the place in the edition of a year into the buffer, and its number of tokens into `count`.
+fn batch_in(
+    text: &str,
+    edition: u32,
+    place: &mut CPlace,
+    buffer: &mut [CToken],
+    count: &mut usize,
+) -> u32 {
+    if !text.is_char_boundary(place.at as usize) {
+        return refuse(Refusal::BadPlace, 0, count);
+    }
+    match edition_of(edition) {
+        Some(edition) => done(fill(text, edition, place, buffer), count),
+        None => refuse(Refusal::BadEdition, 0, count),
+    }
+}
+
+/// Writes the batch at a place between characters. Returns its number of tokens. It is inlined, so the call for the
+/// newest edition, a constant there, does not test which it is.
+#[inline(always)]
+fn fill(text: &str, edition: Edition, place: &mut CPlace, buffer: &mut [CToken]) -> usize {
     let allowed = allowed_of(place.frontmatter_allowed);
-    let mut tokens = tokenize(&text[place.at as usize..], allowed);
+    let mut tokens = tokenize_as(&text[place.at as usize..], allowed, edition);
     let count = tokens.fill(buffer);
     *place = CPlace {
         at: (text.len() - tokens.as_str().len()) as u32,

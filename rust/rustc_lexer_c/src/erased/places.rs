@@ -26,9 +26,23 @@ pub fn rustc_lexer_strip_shebang_unchecked(text: &[u8], line_len: &mut usize) ->
 /// tokens up to there stay as they are, if no frontmatter is allowed.
 pub fn rustc_lexer_settled(text: &[u8], end: &mut usize) -> u32 {
     match text_of(text) {
-        Ok(text) => done(settled(text), end),
+        Ok(text) => settled_end(text, end),
         Err(refusal) => refuse(refusal, 0, end),
     }
+}
+
+/// Writes where the last token that at least two characters follow ends, or 0, of a text that `rustc_lexer_check`
+/// found to be UTF-8. Does not check it again.
+pub fn rustc_lexer_settled_unchecked(text: &[u8], end: &mut usize) -> u32 {
+    match utf8_text_of(text) {
+        Ok(text) => settled_end(text, end),
+        Err(refusal) => refuse(refusal, 0, end),
+    }
+}
+
+/// Writes where the last token that at least two characters follow ends, or 0.
+fn settled_end(text: &str, end: &mut usize) -> u32 {
+    done(settled(text), end)
 }
 
 /// Returns the length of the shebang line in bytes, or 0 if there is none.

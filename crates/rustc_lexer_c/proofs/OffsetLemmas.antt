@@ -1,0 +1,56 @@
+-- Steps from a boundary of tokens, of which C gives the lengths.
+use Rattle.std.proofs.Common.{◌≡◌, ℕ, ◌+◌, ◌-◌, ◌<◌, ◌≤◌, List, length, get_or, sym, ap, ◌∙◌, arith}
+use Rattle.std.proofs.lemmas.List.{get_or-map}
+use Rattle.rustc_lexer.specs.declared.relex.front.Bound.{Bound}
+use Rattle.rustc_lexer.specs.declared.token.Token.{Token}
+use Rattle.rustc_lexer.specs.Edits.{ContainsByte}
+use Rattle.rustc_lexer.specs.Tokens.{bound}
+use Rattle.rustc_lexer.proofs.LengthLemmas.{as_many, no_token}
+use Rattle.rustc_lexer.proofs.OffsetLemmas.{ahead_is, back_is}
+use Rattle.rustc_lexer_c.specs.declared.token.CToken.{CToken}
+use Rattle.rustc_lexer_c.specs.Offsets.{ArePlaced}
+
+module _ (numbers : List CToken) (first : ℕ) (tokens : List Token) (at : Bound) (is : ArePlaced numbers first tokens at) where
+  pub many : length numbers ≡ length tokens
+  many = as_many (λ (t : CToken). t.len) numbers tokens is.lengths
+
+  len_is : (k : ℕ) (d : CToken) → k < length numbers → (get_or numbers k d).len ≡ (get_or tokens k no_token).len
+  len_is k d few =
+      sym (get_or-map (λ (t : CToken). t.len) numbers k d 0 few)
+      ∙ (ap (λ (ns : List ℕ). get_or ns k 0) is.lengths
+      ∙ get_or-map (λ (t : Token). t.len) tokens k no_token 0 (omega (arith, many)))
+
+  pub back : (d : CToken) → 0 < at.number → ArePlaced numbers first tokens (record { number = at.number - 1; offset = at.offset - (get_or numbers (at.number - 1) d).len })
+  back d some = record {
+    lengths = is.lengths;
+    number = omega (arith, is.number);
+    offset = rw (len_is (at.number - 1) d (omega (arith, is.number, many))) (back_is tokens first at.number at.offset no_token is.offset some is.number);
+  }
+
+  pub ahead : (d : CToken) → at.number < length numbers → ArePlaced numbers first tokens (record { number = at.number + 1; offset = at.offset + (get_or numbers at.number d).len })
+  ahead d few = record {
+    lengths = is.lengths;
+    number = omega (arith, many);
+    offset = rw (len_is at.number d few) (ahead_is tokens first at.number at.offset no_token is.offset (omega (arith, many)));
+  }
+
+  -- the token that begins there contains the byte
+  pub contains : (d : CToken) (offset : ℕ) → at.number < length numbers → at.offset ≤ offset → offset - at.offset < (get_or numbers at.number d).len → ContainsByte first tokens offset at
+  contains d offset few begun ends = record {
+    number = omega (arith, many);
+    start = is.offset;
+    begins = begun;
+    ends = omega (arith, (ahead d few).offset);
+  }
+
+  -- past the last token no byte is left, and before the first one none was
+  pub past_all : (offset : ℕ) → length numbers ≤ at.number → at.offset ≤ offset → first + bound tokens (length tokens) ≤ offset
+  past_all offset last begun =
+      let here : at.number ≡ length tokens = omega (arith, is.number, many) in
+      let there = ap (bound tokens) here in omega (arith, is.offset, there)
+
+  pub before_all : (offset : ℕ) → at.number ≡ 0 → offset < at.offset → first ≤ offset → ⊥
+  before_all offset none ahead le = let there = ap (bound tokens) none in omega (arith, is.offset, there)
+
+  pub no_boundary : length numbers < at.number → ⊥
+  no_boundary past = omega (arith, is.number, many)

@@ -1,0 +1,65 @@
+// Made by tools/erase from crates/rustc_lexer_c/src/offsets.rt: edit that file.
+//! Finds the token at an offset.
+
+use crate::erased::token::CToken;
+use rustc_lexer::erased::Bound;
+
+/// Finds the token that contains the byte at `offset`, and writes its number and where it begins. Returns whether
+/// there is one. If there is none, the two numbers stay.
+///
+/// The search begins at the two numbers that the caller gives: those of any boundary of the tokens. It reads the
+/// lengths of the tokens between there and the offset. If the two are no boundary, the answer means nothing.
+pub fn rustc_lexer_token_at(
+    tokens: &[CToken],
+    offset: usize,
+    number: &mut usize,
+    start: &mut usize,
+) -> bool {
+    let near = Bound {
+        number: *number,
+        offset: *start,
+    };
+    match token_around(tokens, near, offset) {
+        Some(at) => {
+            *number = at.number;
+            *start = at.offset;
+            true
+        }
+        None => false,
+    }
+}
+
+/// Returns the token that contains the byte at `offset`, by its number and its start. The search begins at `near`.
+fn token_around(tokens: &[CToken], near: Bound, offset: usize) -> Option<Bound> {
+    if near.number > tokens.len() {
+        return None;
+    }
+    let mut at = walk_back(tokens, near, offset);
+    if offset < at.offset {
+        return None;
+    }
+    while at.number < tokens.len() {
+        let len = tokens[at.number].len as usize;
+        if offset - at.offset < len {
+            return Some(at);
+        }
+        at = Bound {
+            number: at.number + 1,
+            offset: at.offset + len,
+        };
+    }
+    None
+}
+
+/// Returns the last boundary up to `near` that is not past the offset, or the first boundary.
+fn walk_back(tokens: &[CToken], near: Bound, offset: usize) -> Bound {
+    let mut at = near;
+    while at.number > 0 && offset < at.offset {
+        let number = at.number - 1;
+        at = Bound {
+            number,
+            offset: at.offset.saturating_sub(tokens[number].len as usize),
+        };
+    }
+    at
+}
