@@ -9,7 +9,8 @@ use Rattle.rustc_lexer.specs.declared.relex.edit.Edit.{Edit}
 use Rattle.rustc_lexer.specs.declared.relex.edit_list.EditStop.{EditStop}
 use Rattle.rustc_lexer.specs.declared.relex.edit_list.EditStop.TheVariants.{Memory}
 use Rattle.rustc_lexer.specs.declared.relex.relexing.Relexed.{Relexed}
-use Rattle.rustc_lexer.specs.Edits.{IsEdit, IsRelexed, Layout, applied, apply, apply_list, AreEdits, AreLeast, AreStepped, IsRefusedOn, IsStop, IsStopStepped, stop_at}
+use Rattle.rustc_lexer.specs.Edits.{IsEdit, IsRelexed, Layout, applied, apply, apply_list, count_after, AreEdits, AreLeast, AreStepped, IsRefusedOn, IsStop, IsStopStepped, stop_at}
+use Rattle.rustc_lexer.specs.Kept.{AreKept}
 
 pub apply-next : (text : List ℕ) (es : List Edit) (n : ℕ) (d : Edit) → n < length es → apply_list text (take (suc n) es) ≡ applied (apply_list text (take n es)) (get_or es n d)
 apply-next text [] n d few = absurd (omega arith)
@@ -116,3 +117,13 @@ stay-more next_front next_back front_is back_is before then = grind (arith, comm
 -- the counts of all edits together
 pub counts_back : {old new : List Token} {front back : ℕ} (len kept_back : ℕ) → len ≡ length new → kept_back ≡ min back (min (length new) (length old) - front) → StayAtEnds old new front back → drop (front + (len - front - kept_back)) new ≡ drop (length old - kept_back) old
 counts_back {old} {new} {front} {back} len kept_back len_is fewer stay = grind (arith, common_steps, fewer_stay)
+
+-- what two edits after one another keep
+pub kept_then : {old between new : List Token} {a b r : Relexed} → r.kept_front ≡ min a.kept_front b.kept_front → r.kept_back ≡ min a.kept_back b.kept_back → count_after r ≡ count_after b → AreKept old between a → AreKept between new b → AreKept old new r
+kept_then {old} {between} {new} {a} {b} {r} front back count before then =
+    let stay = stay-more r.kept_front r.kept_back front back
+        (counts_stay old between a.kept_front a.lexed a.kept_back before.all before.front before.back)
+        (counts_stay between new b.kept_front b.lexed b.kept_back then.all then.front then.back) in
+    let all : r.kept_front + r.lexed + r.kept_back ≡ length new = count ∙ then.all in
+    let from : length new - r.kept_back ≡ r.kept_front + r.lexed = omega (arith, all) in
+    record { all = all; front = stay.same_front; back = subst (λ k. drop k new ≡ drop (length old - r.kept_back) old) from stay.same_back }

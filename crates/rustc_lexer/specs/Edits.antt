@@ -77,6 +77,14 @@ pub record IsRelexedTo (old new : Layout) (text : List ℕ) (start stop new_stop
 abbrev pub IsRelexed : (List ℕ → Layout) → List ℕ → ℕ → ℕ → List ℕ → Relexed → Type 0
 IsRelexed layout text start stop insert = IsRelexedTo (layout text) (layout (apply text start stop insert)) text start stop (start + length insert)
 
+-- how many tokens there are after an edit with these counts
+abbrev pub count_after : Relexed → ℕ
+count_after r = r.kept_front + r.lexed + r.kept_back
+
+-- the counts where all of so many tokens stay, all of them in front
+abbrev pub all_stay : ℕ → Relexed
+all_stay n = record { kept_front = n; lexed = 0; kept_back = 0 }
+
 -- ---- lists of edits
 
 abbrev pub applied : List ℕ → Edit → List ℕ

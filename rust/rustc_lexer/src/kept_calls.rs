@@ -83,6 +83,26 @@ macro_rules! kept_calls {
                 Ok($Kept::of(erased::$Kept::new_in(Global, text, edition)?))
             }
 
+            /// Returns the text, of which it copies nothing, with its tokens in an edition.
+            ///
+            /// ```
+            #[doc = concat!("use rustc_lexer::{Edition, ", stringify!($Kept), "};")]
+            ///
+            /// let text = String::from("let x;");
+            #[doc = concat!("let lexed = ", stringify!($Kept), "::try_from_string_in(text, Edition::E2021)?;")]
+            /// assert_eq!(lexed.tokens().len(), 4);
+            /// # Ok::<(), rustc_lexer::EditError>(())
+            /// ```
+            ///
+            /// # Errors
+            ///
+            /// `TooLong` if the text has more than `u32::MAX` bytes, `Memory` if an allocation failed. The text is dropped.
+            pub fn try_from_string_in(text: String, edition: Edition) -> Result<$Kept, EditError> {
+                try_fitting(&text)?;
+                let steps = Steps::new_in(edition);
+                Ok($Kept::of(erased::$Kept::with_string(Global, text.into(), steps)?))
+            }
+
             /// Returns the edition of the tokens. Edits keep it.
             ///
             /// ```
@@ -459,6 +479,26 @@ macro_rules! kept_calls {
         }
 
         impl<S: Stepper + Eq> Eq for $Kept<S> {}
+
+        /// Keeps the text, of which it copies nothing, with its tokens in the newest edition.
+        ///
+        /// ```
+        #[doc = concat!("use rustc_lexer::", stringify!($Kept), ";")]
+        ///
+        #[doc = concat!("let mut lexed = ", stringify!($Kept), "::from(String::from(\"let x;\"));")]
+        /// lexed.edit(4..5, "y");
+        /// assert_eq!(lexed.into_string(), "let y;");
+        /// ```
+        ///
+        /// # Panics
+        ///
+        /// Panics if the text has more than `u32::MAX` bytes, or if an allocation fails.
+        impl From<String> for $Kept {
+            fn from(text: String) -> $Kept {
+                $Kept::try_from_string_in(text, Edition::NEWEST)
+                    .unwrap_or_else(|error| panic!("{error}"))
+            }
+        }
 
         /// That of the empty text.
         impl Default for $Kept {

@@ -354,6 +354,41 @@ fn what_a_list_keeps() {
     }
 }
 
+/// What two lists after one another keep, worked by hand: of 13 tokens of one byte each. An empty one changes nothing.
+#[test]
+fn what_two_lists_keep() {
+    let none = counts(13, 0, 0);
+    let (one, other) = (edit(8, 9, "+"), edit(4, 5, "-"));
+    for (first, second, kept) in [
+        (&[][..], &[][..], none),
+        (&[one][..], &[], counts(6, 3, 4)),
+        (&[], &[one], counts(6, 3, 4)),
+        (&[edit(8, 9, "+ 1")], &[], counts(6, 5, 4)),
+        // The front of the second and the back of the first, and the other way round.
+        (&[one], &[other], counts(2, 7, 4)),
+        (&[other], &[one], counts(2, 7, 4)),
+        // The first leaves two tokens more at the back than it found there, and the second opens a comment over them.
+        (&[edit(8, 9, "+ 1")], &[edit(11, 11, "/*")], counts(6, 6, 0)),
+    ] {
+        let mut lexed = LexedText::new("a b c d e f g");
+        let [first_counts, second_counts] =
+            [first, second].map(|edits| lexed.edit_each(edits).unwrap());
+        let all = first_counts.then(second_counts, 13);
+        assert_eq!(all, kept, "{first:?}, {second:?}");
+        assert_eq!(none.then(all, 13), all);
+        let len = lexed.tokens().len();
+        assert_eq!(all.then(counts(len, 0, 0), 13), all);
+    }
+    // All tokens in front are kept, but the last old one is not: it is no list that changes nothing.
+    assert_eq!(
+        counts(12, 0, 0).then(counts(0, 1, 11), 13),
+        counts(0, 12, 0)
+    );
+    // Counts of no text.
+    let most = counts(usize::MAX, usize::MAX, usize::MAX);
+    assert_eq!(most.then(most, 13), most);
+}
+
 /// A list keeps what each of its edits keeps, and there its tokens are the old ones.
 #[test]
 fn random_lists_of_edits() {
@@ -365,12 +400,15 @@ fn random_lists_of_edits() {
                 let mut lexed = $Kept::new_in(&text, Edition::ALL[round % Edition::ALL.len()]);
                 let (mut made, old) = (lexed.clone(), lexed.tokens().to_vec());
                 let (mut front, mut back) = (old.len(), old.len());
+                let mut kept = counts(old.len(), 0, 0);
                 let (mut ranges, mut inserts) = (vec![], vec![]);
                 for _ in 0..1 + random.below(4) {
                     let (range, insert) = (random.range(made.text()), random.text(3));
                     let relexed = made.edit(range.clone(), &insert);
                     front = front.min(relexed.kept_front);
                     back = back.min(relexed.kept_back);
+                    kept = kept.then(relexed, old.len());
+                    kept = kept.then(made.edit_each(&[]).unwrap(), old.len());
                     ranges.push(range);
                     inserts.push(insert);
                 }
@@ -381,6 +419,7 @@ fn random_lists_of_edits() {
                 let new = lexed.tokens();
                 assert_eq!((lexed.text(), new), (made.text(), made.tokens()));
                 assert_eq!((relexed.kept_front, relexed.kept_back), (front, back));
+                assert_eq!(kept, relexed, "{text:?}: {edits:?}");
                 assert_eq!(front + relexed.lexed + back, new.len());
                 assert!(front + back <= old.len(), "{text:?}: {edits:?}");
                 assert_eq!(new[..front], old[..front], "{text:?}: {edits:?}");

@@ -227,6 +227,31 @@ fn an_edition_copies_no_text() {
     assert!(greatest_request(|| LexedText::new(&text)) >= text.len());
 }
 
+/// A `String` is kept as it is, and given back: memory is taken for tokens alone.
+#[test]
+fn a_string_is_not_copied() {
+    let text = format!("/*{}*/", "a".repeat(1_000_000));
+    macro_rules! strings {
+        ($Kept:ident, $string:expr) => {
+            let (string, mut kept) = ($string, None);
+            let at = string.as_ptr();
+            let greatest = greatest_request(|| kept = Some($Kept::from(string)));
+            assert!(greatest < text.len() / 10, "{greatest} bytes");
+            let kept = kept.unwrap();
+            assert_eq!(kept, $Kept::new(&text));
+            let given_back = kept.into_string();
+            assert_eq!(given_back.as_ptr(), at);
+            let string = $string;
+            let refused = given(0, || {
+                $Kept::try_from_string_in(string, Edition::E2024).map(drop)
+            });
+            assert_eq!(refused, Err(EditError::Memory));
+        };
+    }
+    strings!(LexedText, text.clone());
+    strings!(LexedDocument, text.clone());
+}
+
 /// A text of `u32::MAX` bytes is not too long: what it lacks is memory.
 #[cfg(target_pointer_width = "64")]
 #[test]

@@ -18,6 +18,13 @@ fn too_long() -> &'static str {
     unsafe { std::str::from_utf8_unchecked(&ZEROS) }
 }
 
+/// The same as a `String`.
+#[cfg(feature = "alloc")]
+fn too_long_string() -> String {
+    // SAFETY: U+0000 is one byte that is 0.
+    unsafe { String::from_utf8_unchecked(vec![0; 1 << 32]) }
+}
+
 type Call = fn(&'static str);
 
 /// What the call says where it panics.
@@ -98,15 +105,23 @@ fn texts_with_their_tokens() {
         ("LexedDocument::new_in", |text| {
             let _ = LexedDocument::new_in(text, Edition::E2018);
         }),
+        ("LexedText::from", |_| {
+            let _ = LexedText::from(too_long_string());
+        }),
+        ("LexedDocument::from", |_| {
+            let _ = LexedDocument::from(too_long_string());
+        }),
     ]);
     let edition = Edition::E2024;
     let texts = [
         LexedText::try_new_in(too_long(), edition).err(),
         LexedText::try_with(too_long(), Steps::new()).err(),
+        LexedText::try_from_string_in(too_long_string(), edition).err(),
+        LexedDocument::try_from_string_in(too_long_string(), edition).err(),
         LexedDocument::try_new_in(too_long(), edition).err(),
         LexedDocument::try_with(too_long(), Steps::new()).err(),
     ];
-    assert_eq!(texts, [Some(EditError::TooLong); 4]);
+    assert_eq!(texts, [Some(EditError::TooLong); 6]);
 }
 
 #[cfg(feature = "alloc")]

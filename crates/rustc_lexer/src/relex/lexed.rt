@@ -65,8 +65,7 @@ impl<S: Stepper, E: Extent> Model for Lexed<S, E> {
 }
 
 impl<S: Stepper, E: Extent> Lexed<S, E> {
-    /// Copies the text and lexes it: the head of a document by itself, all else with the stepper, one step for each
-    /// token. The text may have at most `u32::MAX` bytes. Keeps the stepper. `Err` means that an allocation failed.
+    /// Copies the text and lexes it, as [`with_string`](Lexed::with_string) does.
     pub fn with(alloc: Global, text: &str, stepper: S) -> Result<Lexed<S, E>, AllocError>
         requires fits { Fits text.now }
         ensures text { IfOk result (λ l. l.text ≡ text.now) }
@@ -78,15 +77,35 @@ impl<S: Stepper, E: Extent> Lexed<S, E> {
             (λ l. S.count l.stepper + length (layout_in E.whole (S.grammar l.stepper) text.now).head
             ≡ S.count stepper + length l.tokens) }
     {
+        Lexed::with_string(alloc, String::from_str(alloc, text)?, stepper)
+    }
+
+    /// Keeps the text, of which it copies nothing, and lexes it: the head of a document by itself, all else with the
+    /// stepper, one step for each token. The text may have at most `u32::MAX` bytes. Keeps the stepper. `Err` means that
+    /// an allocation failed.
+    pub fn with_string(
+        alloc: Global,
+        text: String,
+        stepper: S,
+    ) -> Result<Lexed<S, E>, AllocError>
+        requires fits { Fits (string_bytes text) }
+        ensures text { IfOk result (λ l. l.text ≡ string_bytes text) }
+        ensures from_scratch { IfOk result
+            (λ l. l.tokens ≡ tokens_in E.whole (S.grammar l.stepper) (string_bytes text)) }
+        ensures grammar { IfOk result (λ l. S.grammar l.stepper ≡ S.grammar stepper) }
+        ensures number { IfOk result (λ l. S.number l.stepper ≡ S.number stepper) }
+        ensures count { IfOk result
+            (λ l. S.count l.stepper + length (layout_in E.whole (S.grammar l.stepper) (string_bytes text)).head
+            ≡ S.count stepper + length l.tokens) }
+    {
         let mut stepper = stepper;
-        let held = String::from_str(alloc, text)?;
-        let head = E::find_head(text);
-        let (tokens, checkpoints) = lex_body(alloc, head, &mut stepper, text)?;
+        let head = E::find_head(text.as_str());
+        let (tokens, checkpoints) = lex_body(alloc, head, &mut stepper, text.as_str())?;
         Ok(Lexed {
             kept: Kept {
                 alloc,
                 extent: PhantomData,
-                text: held,
+                text,
                 tokens,
                 stepper,
                 head,

@@ -1,9 +1,10 @@
 //! Lexes again what an edit changed, on lists that the caller holds.
-ghost use Rattle.std.specs.Prelude.{◌≡◌, ◌+◌, ◌-◌, ◌^◌, ◌<◌, ◌≤◌, ◌∷◌, ◌++◌, ◌↔◌, IsTrue, List, MatchOption, drop, false, length, map, take, ℕ, true};
+ghost use Rattle.std.specs.Prelude.{◌≡◌, ◌+◌, ◌-◌, ◌^◌, ◌<◌, ◌≤◌, ◌∷◌, ◌++◌, ◌↔◌, IsTrue, List, MatchOption, drop, false, length, map, min, take, ℕ, true};
 ghost use Rattle.rustc_lexer.specs.declared.relex.relexing.Change.{Change};
 ghost use Rattle.rustc_lexer.specs.{Token};
 ghost use Rattle.rustc_lexer.specs.Offsets.{IsBound};
-ghost use Rattle.rustc_lexer.specs.Edits.{IsRelexed, part_by};
+ghost use Rattle.rustc_lexer.specs.Edits.{IsRelexed, all_stay, count_after, part_by};
+ghost use Rattle.rustc_lexer.specs.Kept.{AreKept};
 ghost use Rattle.rustc_lexer.specs.Relexing.{known};
 ghost use Rattle.rustc_lexer.specs.Classes.{Fits};
 ghost use Rattle.rustc_lexer.specs.Tokens.{tokens_by};
@@ -69,6 +70,61 @@ pub struct Relexed {
     pub lexed: usize,
     /// How many tokens at the back stay as they are.
     pub kept_back: usize,
+}
+
+impl Relexed {
+    /// Returns the counts of two edits, or lists of edits, after one another: `self` has those of the first, and `next`
+    /// those of the second. `old_count` is how many tokens there were before the first.
+    ///
+    /// At each end it keeps the lesser of the two; the rest is between. Counts that keep all tokens in front, like those
+    /// of an empty list, change nothing: the answer is then the other counts. So begin with these.
+    ///
+    /// ```ignore
+    /// let old_count = held.tokens().len();
+    /// let mut counts = Relexed { kept_front: old_count, lexed: 0, kept_back: 0 };
+    /// counts = counts.then(held.edit(8, 9, "one")?, old_count);
+    /// counts = counts.then(held.edit(4, 5, "y")?, old_count);
+    /// repaint(held.pieces_of(counts.kept_front, counts.kept_front + counts.lexed));
+    /// ```
+    pub fn then(self, next: Relexed, old_count: usize) -> Relexed
+        ensures kept { (old between new : List Token)
+            → length old ≡ old_count → length between < 2 ^ 64 → length new < 2 ^ 64
+            → AreKept old between self → AreKept between new next → AreKept old new result }
+        ensures first { self ≡ all_stay old_count → result ≡ next }
+        ensures second { next ≡ all_stay (count_after self) → result ≡ self }
+        ensures least { count_after self < 2 ^ 64 → count_after next < 2 ^ 64
+            → (self ≡ all_stay old_count → ⊥) → (next ≡ all_stay (count_after self) → ⊥)
+            → (result.kept_front ≡ min self.kept_front next.kept_front)
+            × (result.kept_back ≡ min self.kept_back next.kept_back)
+            × (count_after result ≡ count_after next) }
+    {
+        let between = self
+            .kept_front
+            .saturating_add(self.lexed)
+            .saturating_add(self.kept_back);
+        if self.keeps_all(old_count) {
+            return next;
+        }
+        if next.keeps_all(between) {
+            return self;
+        }
+        let kept_front = self.kept_front.min(next.kept_front);
+        let kept_back = self.kept_back.min(next.kept_back);
+        let front = next.kept_front - kept_front;
+        let back = next.kept_back - kept_back;
+        Relexed {
+            kept_front,
+            lexed: front.saturating_add(next.lexed).saturating_add(back),
+            kept_back,
+        }
+    }
+
+    /// Returns whether all of so many tokens stay in front, and none is new.
+    fn keeps_all(self, count: usize) -> bool
+        ensures { IsTrue result ↔ (self ≡ all_stay count) }
+    {
+        self.kept_front == count && self.lexed == 0 && self.kept_back == 0
+    }
 }
 
 /// How far a changed text has been lexed again: from its kept front up to a token boundary.

@@ -45,18 +45,23 @@ pub type LexedText<S> = Lexed<S, Part>;
 pub type LexedDocument<S> = Lexed<S, Whole>;
 
 impl<S: Stepper, E: Extent> Lexed<S, E> {
-    /// Copies the text and lexes it: the head of a document by itself, all else with the stepper, one step for each
-    /// token. The text may have at most `u32::MAX` bytes. Keeps the stepper. `Err` means that an allocation failed.
+    /// Copies the text and lexes it, as [`with_string`](Lexed::with_string) does.
     pub fn with(alloc: Global, text: &str, stepper: S) -> Result<Lexed<S, E>, AllocError> {
+        Lexed::with_string(alloc, String::from_str(alloc, text)?, stepper)
+    }
+
+    /// Keeps the text, of which it copies nothing, and lexes it: the head of a document by itself, all else with the
+    /// stepper, one step for each token. The text may have at most `u32::MAX` bytes. Keeps the stepper. `Err` means that
+    /// an allocation failed.
+    pub fn with_string(alloc: Global, text: String, stepper: S) -> Result<Lexed<S, E>, AllocError> {
         let mut stepper = stepper;
-        let held = String::from_str(alloc, text)?;
-        let head = E::find_head(text);
-        let (tokens, checkpoints) = lex_body(alloc, head, &mut stepper, text)?;
+        let head = E::find_head(text.as_str());
+        let (tokens, checkpoints) = lex_body(alloc, head, &mut stepper, text.as_str())?;
         Ok(Lexed {
             kept: Kept {
                 alloc,
                 extent: PhantomData,
-                text: held,
+                text,
                 tokens,
                 stepper,
                 head,

@@ -56,6 +56,49 @@ pub struct Relexed {
     pub kept_back: usize,
 }
 
+impl Relexed {
+    /// Returns the counts of two edits, or lists of edits, after one another: `self` has those of the first, and `next`
+    /// those of the second. `old_count` is how many tokens there were before the first.
+    ///
+    /// At each end it keeps the lesser of the two; the rest is between. Counts that keep all tokens in front, like those
+    /// of an empty list, change nothing: the answer is then the other counts. So begin with these.
+    ///
+    /// ```ignore
+    /// let old_count = held.tokens().len();
+    /// let mut counts = Relexed { kept_front: old_count, lexed: 0, kept_back: 0 };
+    /// counts = counts.then(held.edit(8, 9, "one")?, old_count);
+    /// counts = counts.then(held.edit(4, 5, "y")?, old_count);
+    /// repaint(held.pieces_of(counts.kept_front, counts.kept_front + counts.lexed));
+    /// ```
+    #[must_use]
+    pub fn then(self, next: Relexed, old_count: usize) -> Relexed {
+        let between = self
+            .kept_front
+            .saturating_add(self.lexed)
+            .saturating_add(self.kept_back);
+        if self.keeps_all(old_count) {
+            return next;
+        }
+        if next.keeps_all(between) {
+            return self;
+        }
+        let kept_front = self.kept_front.min(next.kept_front);
+        let kept_back = self.kept_back.min(next.kept_back);
+        let front = next.kept_front - kept_front;
+        let back = next.kept_back - kept_back;
+        Relexed {
+            kept_front,
+            lexed: front.saturating_add(next.lexed).saturating_add(back),
+            kept_back,
+        }
+    }
+
+    /// Returns whether all of so many tokens stay in front, and none is new.
+    fn keeps_all(self, count: usize) -> bool {
+        self.kept_front == count && self.lexed == 0 && self.kept_back == 0
+    }
+}
+
 /// How far a changed text has been lexed again: from its kept front up to a token boundary.
 ///
 /// It knows the old tokens only by their lengths. If these are the lengths of the tokens of an old text, and the change

@@ -1,7 +1,7 @@
 use Rattle.std.proofs.Common.{rules, arith}
 use Rattle.std.proofs.lemmas.Grind.{common_steps}
 use Rattle.rustc_lexer.proofs.LexedLemmas.{heads_are, tokens_are}
-use Rattle.rustc_lexer.proofs.relex.lexed.Lexed.with.Goals as goal
+use Rattle.rustc_lexer.proofs.relex.lexed.Lexed.with_string.Goals as goal
 
 pub returns-clause-from_scratch : goal.returns-clause-from_scratch
 returns-clause-from_scratch g c = grind (arith, common_steps, rules, tokens_are)
