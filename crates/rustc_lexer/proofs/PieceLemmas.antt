@@ -1,10 +1,12 @@
 -- The pieces of a text, one by one.
-use Rattle.std.proofs.Common.{◌≡◌, ℕ, zero, suc, ◌+◌, ◌-◌, ◌^◌, ◌<◌, ◌≤◌, List, [], ◌∷◌, get_or, length, take, drop, slice_range, refl, sym, ap, ◌∙◌, subst, arith, length-take, length-take-le, length-drop, take-take, IsCharBoundary}
+use Rattle.std.proofs.Common.{◌≡◌, ℕ, zero, suc, ◌+◌, ◌-◌, ◌^◌, ◌<◌, ◌≤◌, List, [], ◌∷◌, get_or, length, take, drop, slice_range, refl, sym, ap, ◌∙◌, subst, arith, length-take, length-take-le, length-drop, take-take, IsCharBoundary, Option, Some, None, IfSome, IsSome}
 use Rattle.std.proofs.lemmas.Grind.{common_steps}
+use Rattle.rustc_lexer.specs.declared.relex.{front.Bound.Bound, pieces.Piece.Piece}
 use Rattle.rustc_lexer.specs.{Token}
 use Rattle.rustc_lexer.specs.Tokens.{bound, tokens_by}
 use Rattle.rustc_lexer.specs.means.Pieces.{AreBoundariesFrom}
-use Rattle.rustc_lexer.specs.Kept.{Placed, pieces_from}
+use Rattle.rustc_lexer.specs.Kept.{Placed, YieldsPiece, pieces_from, placed}
+use Rattle.rustc_lexer.specs.Offsets.{ContainsByte}
 use Rattle.rustc_lexer.specs.Classes.{IsText}
 use Rattle.rustc_lexer.specs.Locality.{IsGrammar}
 use Rattle.rustc_lexer.proofs.BoundLemmas.{bound_mono}
@@ -65,6 +67,22 @@ take-pieces text start (suc k) (t ∷ ts) = ap (λ ps. record { start = start; t
 
 pub pieces-part : (text : List ℕ) (start offset : ℕ) (tokens : List Token) (from n : ℕ) → offset ≡ start + bound tokens from → pieces_from text offset (take n (drop from tokens)) ≡ take n (drop from (pieces_from text start tokens))
 pieces-part text start offset tokens from n at = grind (arith, common_steps, drop-pieces, take-pieces)
+
+-- the first piece from the token on that contains a byte
+pub piece_is : (piece : Option Piece) (text : List ℕ) (first offset : ℕ) (tokens : List Token) (at : Bound) (rest : List Placed) → ContainsByte first tokens offset at → YieldsPiece (pieces_from text at.offset (take (length tokens - at.number) (drop at.number tokens))) piece rest → IfSome piece (λ piece. (at : Bound) × ContainsByte first tokens offset at × (take 1 (drop at.number (pieces_from text first tokens)) ≡ placed piece ∷ []))
+piece_is None text first offset tokens at rest is yields = tt
+piece_is (Some piece) text first offset tokens at rest is yields =
+    let n : ℕ = length tokens - at.number in
+    let left : List Placed = drop at.number (pieces_from text first tokens) in
+    let begin : take n left ≡ placed piece ∷ rest = sym (pieces-part text first at.offset tokens at.number n is.start) ∙ yields.0 in
+    (at, is, sym (take-take 1 n left (omega (arith, is.number))) ∙ ap (take 1) begin)
+
+pub piece_some : (piece : Option Piece) (text : List ℕ) (first offset : ℕ) (tokens : List Token) (at : Bound) (rest : List Placed) → ContainsByte first tokens offset at → YieldsPiece (pieces_from text at.offset (take (length tokens - at.number) (drop at.number tokens))) piece rest → IsSome piece
+piece_some (Some piece) text first offset tokens at rest is yields = refl
+piece_some None text first offset tokens at rest is yields =
+    let left : List Token = drop at.number tokens in
+    let long = length-take-le (length tokens - at.number) left (omega (arith, length-drop at.number tokens)) in
+    absurd (omega (arith, is.number, long, length-pieces text at.offset (take (length tokens - at.number) left), ap (λ (ps : List Placed). length ps) yields.0))
 
 -- ---- where a token begins, from a bound before it on
 

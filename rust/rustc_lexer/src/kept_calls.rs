@@ -320,6 +320,22 @@ macro_rules! kept_calls {
                 self.whole().token_at(offset)
             }
 
+            /// Returns the piece that contains the byte at `offset`, like that under a caret. `None` at and past the end of the
+            /// text, and in a shebang line.
+            ///
+            /// ```
+            #[doc = concat!("use rustc_lexer::", stringify!($Kept), ";")]
+            ///
+            #[doc = concat!("let lexed = ", stringify!($Kept), "::new(\"let abc;\");")]
+            /// assert_eq!(lexed.piece_at(6).map(|piece| (piece.start, piece.text)), Some((4, "abc")));
+            /// assert_eq!(lexed.piece_at(8), None);
+            /// ```
+            #[doc(alias("caret", "cursor", "offset"))]
+            #[must_use]
+            pub fn piece_at(&self, offset: usize) -> Option<Piece<'_>> {
+                self.whole().piece_at(offset)
+            }
+
             /// Returns the pieces of the tokens that contain a byte of the range, like those of the lines in view. The
             /// range may end anywhere, also past the text. An empty range has no piece.
             ///

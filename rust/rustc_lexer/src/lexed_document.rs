@@ -5,7 +5,7 @@ use crate::edit_error::{EditError, check_accepted, try_fitting};
 use crate::erased::{self, Edit, EditStop};
 use crate::kept_calls::{checked_range, kept_calls, range_in};
 use crate::support::{AllocError, Global};
-use crate::{Bound, Edition, Pieces, Relexed, Stepper, Steps, Token};
+use crate::{Bound, Edition, Piece, Pieces, Relexed, Stepper, Steps, Token};
 use alloc::string::String;
 use core::fmt;
 use core::ops::RangeBounds;

@@ -47,6 +47,8 @@ macro_rules! check {
         for offset in offsets.chain([usize::MAX]) {
             let found = found(&starts, offset);
             assert_eq!(lexed.token_at(offset), found, "{offset} in {lexed:?}");
+            let wanted = found.and_then(|at| lexed.pieces().nth(at.number));
+            assert_eq!(lexed.piece_at(offset), wanted, "{offset} in {lexed:?}");
         }
         for _ in 0..4 {
             let range = $random.below(end)..$random.below(end);
@@ -191,8 +193,11 @@ fn pieces_by_hand() {
     let bound = |number, offset| Some(Bound { number, offset });
     for (offset, number, start) in [(0, 0, 0), (1, 1, 1), (5, 2, 2), (6, 3, 6), (8, 4, 7)] {
         assert_eq!(text.token_at(offset), bound(number, start), "{offset}");
+        let piece = text.piece_at(offset).unwrap();
+        assert_eq!((piece.start, piece.text), all[number], "{offset}");
+        assert_eq!(piece.token, text.tokens()[number]);
     }
-    assert_eq!(text.token_at(9), None);
+    assert_eq!((text.token_at(9), text.piece_at(9)), (None, None));
     let document = LexedDocument::new("#!a\n---\nb\n---\nfn");
     let all = [(3, "\n"), (4, "---\nb\n---"), (13, "\n"), (14, "fn")];
     assert_eq!(told(document.pieces()), all);
@@ -203,6 +208,12 @@ fn pieces_by_hand() {
     assert_eq!(told(document.pieces_in(14..99)), all[3..]);
     let found = [2, 3].map(|offset| document.token_at(offset));
     assert_eq!(found, [None, bound(0, 3)]);
+    let found = [2, 3, 12, 15, 16].map(|offset| document.piece_at(offset));
+    let found = found.map(|piece| piece.map(|piece| (piece.start, piece.text)));
+    assert_eq!(
+        found,
+        [None, Some(all[0]), Some(all[1]), Some(all[3]), None]
+    );
 }
 
 /// Pieces far into a text of 2000 tokens, four in each 8 bytes: none of them, the last one, and those that an edit lexes and

@@ -1,6 +1,6 @@
 //! From an offset to a token of a kept text, and the pieces of the text.
-ghost use Rattle.std.specs.Prelude.{◌≡◌, ◌+◌, ◌-◌, ◌^◌, ◌<◌, ◌≤◌, ◌↔◌, IfSome, IsNone, IsSome, ℕ, drop, length, take};
-ghost use Rattle.rustc_lexer.specs.Kept.{pieces_from, start_in};
+ghost use Rattle.std.specs.Prelude.{[], ◌∷◌, ◌≡◌, ◌+◌, ◌-◌, ◌^◌, ◌<◌, ◌≤◌, ◌↔◌, IfSome, IsNone, IsSome, ℕ, drop, length, take};
+ghost use Rattle.rustc_lexer.specs.Kept.{pieces_from, placed, start_in};
 ghost use Rattle.rustc_lexer.specs.Offsets.{AreTouched, ContainsByte};
 ghost use Rattle.rustc_lexer.specs.Tokens.{bound};
 ghost use Rattle.rustc_lexer.specs.means.Checkpoints.{IsBoundFrom};
@@ -9,8 +9,9 @@ use crate::entry::stepper::Stepper;
 use crate::relex::front::Bound;
 use crate::relex::head::Extent;
 use crate::relex::lexed::Lexed;
-use crate::relex::pieces::Pieces;
+use crate::relex::pieces::{Piece, Pieces};
 use crate::token::Token;
+use std::iter::Iterator;
 
 impl<S: Stepper, E: Extent> Lexed<S, E> {
     /// Returns an iterator over the pieces of the text, one for each token, in order. A shebang line is not a
@@ -127,6 +128,27 @@ impl<S: Stepper, E: Extent> Lexed<S, E> {
     {
         let near = self.bound_near(offset);
         token_around(self.kept.tokens.as_slice(), self.kept.head.shebang_len, near, offset)
+    }
+
+    /// Returns the piece that contains the byte at `offset`. `None` in a shebang line, and at and past the end of the
+    /// text. It reads few of the tokens.
+    pub fn piece_at(&self, offset: usize) -> Option<Piece<'_>>
+        ensures piece { IfSome result (λ piece. (at : Bound)
+            × ContainsByte (start_in E.whole self.now.text) self.now.tokens offset at
+            × (take 1 (drop at.number (pieces_from self.now.text (start_in E.whole self.now.text) self.now.tokens))
+            ≡ placed piece ∷ [])) }
+        ensures some { IsSome result ↔ (start_in E.whole self.now.text ≤ offset) × (offset < length self.now.text) }
+    {
+        let at = self.token_at(offset)?;
+        let text = self.kept.text.as_str();
+        let tokens = &self.kept.tokens.as_slice()[at.number..];
+        let start = at.offset as u32;
+        let mut pieces = Pieces {
+            text,
+            start,
+            tokens,
+        };
+        pieces.next()
     }
 
     /// Returns how many tokens end at or before the offset.

@@ -5,8 +5,9 @@ use crate::erased::entry::stepper::Stepper;
 use crate::erased::relex::front::Bound;
 use crate::erased::relex::head::Extent;
 use crate::erased::relex::lexed::Lexed;
-use crate::erased::relex::pieces::Pieces;
+use crate::erased::relex::pieces::{Piece, Pieces};
 use crate::erased::token::Token;
+use core::iter::Iterator;
 
 impl<S: Stepper, E: Extent> Lexed<S, E> {
     /// Returns an iterator over the pieces of the text, one for each token, in order. A shebang line is not a
@@ -99,6 +100,21 @@ impl<S: Stepper, E: Extent> Lexed<S, E> {
             near,
             offset,
         )
+    }
+
+    /// Returns the piece that contains the byte at `offset`. `None` in a shebang line, and at and past the end of the
+    /// text. It reads few of the tokens.
+    pub fn piece_at(&self, offset: usize) -> Option<Piece<'_>> {
+        let at = self.token_at(offset)?;
+        let text = self.kept.text.as_str();
+        let tokens = &self.kept.tokens.as_slice()[at.number..];
+        let start = at.offset as u32;
+        let mut pieces = Pieces {
+            text,
+            start,
+            tokens,
+        };
+        pieces.next()
     }
 
     /// Returns how many tokens end at or before the offset.
