@@ -1,3 +1,4 @@
 pub mod Job
 pub mod Page
 pub mod Program
+pub mod Texts

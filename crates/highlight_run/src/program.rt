@@ -4,7 +4,11 @@ ghost use Rattle.ends.specs.Fault.{fault_line, IsReported};
 ghost use Rattle.ends.specs.Run.{Leaves};
 ghost use Rattle.ends.specs.Words.{words_of};
 ghost use Rattle.ends.specs.declared.fault.Fault.{Fault as TheFault};
+ghost use Rattle.highlight_run.specs.Page.{foot, head};
 ghost use Rattle.highlight_run.specs.Program.{colours_of, Ran};
+ghost use Rattle.highlight_run.specs.Texts.{IsFrame, NamesArguments};
+ghost use Rattle.highlight_run.specs.declared.program.TheConstants.{HELP};
+ghost use Rattle.marks.specs.declared.style.Style.TheVariants.{Html};
 
 use crate::job::{Job, read_job};
 use crate::run::run;
@@ -56,6 +60,8 @@ pub fn program<R: Read, W: Write, E: Write>(
         (codes "unknown words; --help tells what it takes")) outcome output.new.closed result
         (errors.new.failed ≡ false) errors.new.flushed (E.contents errors.old.inner)
         (E.contents errors.new.inner) }
+    ensures page { IsFrame (head Html) (foot Html) }
+    ensures usage { NamesArguments HELP.now }
 {
     let outcome = show(alloc, start, input, output);
     report(

@@ -15,7 +15,7 @@ use Rattle.rustc_literal_escaper.specs.declared.mode.Mode.{Mode}
 use Rattle.marks.specs.declared.class.Class.TheVariants.{Text}
 use Rattle.marks.specs.declared.literal.Look.{Look}
 use Rattle.marks.specs.declared.style.Style.{Style}
-use Rattle.marks.specs.Literal.{Stretch, WritesOn, between, literal_parts, look_of, look_parts, parts_from, single_error, single_look, single_stretches, skipped, stretch, stretches_from, stretches_of, string_stretches}
+use Rattle.marks.specs.Literal.{Stretch, WritesOn, between, literal_parts, element_look, look_parts, parts_from, char_error, char_look, single_stretches, skipped, stretch, stretches_from, stretches_of, string_stretches}
 use Rattle.marks.specs.Part.{Own, own, with_marks, without_marks}
 use Rattle.marks.proofs.PartLemmas.{without_fault, writes_parts}
 
@@ -63,7 +63,7 @@ module _ (mode : Mode) (begin at close : ℕ) where
   abbrev first_by : Item → List Item → Bool → List Stretch
   first_by item rest told =
       if told then stretches_from mode begin at close rest
-      else skipped at (begin + item.0.start) ++ (stretch (begin + item.0.start) (begin + item.0.end) (look_of mode item.1) ++ stretches_from mode begin (begin + item.0.end) close rest)
+      else skipped at (begin + item.0.start) ++ (stretch (begin + item.0.start) (begin + item.0.end) (element_look mode item.1) ++ stretches_from mode begin (begin + item.0.end) close rest)
 
   pub told_already : (items rest : List Item) (item : Item) → items ≡ item ∷ rest → begin + item.0.start < at → stretches_from mode begin at close items ≡ stretches_from mode begin at close rest
   told_already items rest item is less = ap (stretches_from mode begin at close) is ∙ ap (first_by item rest) (lt-ltb (begin + item.0.start) at less)
@@ -92,7 +92,7 @@ module _ {W : Type 0} (took : W → List ℕ → W → Type 0) where
       subst (λ (all : List Stretch). WritesLeft style text w shown all u) (append-nil ss) (on [] u (subst (λ (xs : List ℕ). WritesInCalls took v (with_marks style (Own Text xs ∷ [])) u) is wrote))
 
   -- what stands between single quotes
-  pub writes_single : (style : Style) (mode : Mode) (text inside rest : List ℕ) (begin close to : ℕ) (look : Option Look) (w v u : W) → look ≡ single_look (single_error mode inside) inside → inside ≡ between begin close text → rest ≡ drop to text
+  pub writes_single : (style : Style) (mode : Mode) (text inside rest : List ℕ) (begin close to : ℕ) (look : Option Look) (w v u : W) → look ≡ char_look (char_error mode inside) inside → inside ≡ between begin close text → rest ≡ drop to text
       → WritesOn took style text w 0 (stretch begin close look) v to → WritesInCalls took v (with_marks style (Own Text rest ∷ [])) u
       → WritesInCalls took w (with_marks style (parts_from 0 text (single_stretches mode begin close text))) u
   writes_single style mode text inside rest begin close to look w v u looks is past on wrote =
@@ -104,7 +104,7 @@ module _ {W : Type 0} (took : W → List ℕ → W → Type 0) where
   writes_told style mode text begin at close shown items rest item w last is less more = grind (arith, common_steps, told_already)
 
   -- an element, and what stands before it
-  pub writes_item : (style : Style) (mode : Mode) (text : List ℕ) (begin at close shown to next : ℕ) (items rest : List Item) (item : Item) (look : Option Look) (w v u last : W) → items ≡ item ∷ rest → at ≤ begin + item.0.start → look ≡ look_of mode item.1
+  pub writes_item : (style : Style) (mode : Mode) (text : List ℕ) (begin at close shown to next : ℕ) (items rest : List Item) (item : Item) (look : Option Look) (w v u last : W) → items ≡ item ∷ rest → at ≤ begin + item.0.start → look ≡ element_look mode item.1
       → WritesOn took style text w shown (skipped at (begin + item.0.start)) v to → WritesOn took style text v to (stretch (begin + item.0.start) (begin + item.0.end) look) u next
       → WritesLeft style text u next (stretches_from mode begin (begin + item.0.end) close rest) last → WritesLeft style text w shown (stretches_from mode begin at close items) last
   writes_item style mode text begin at close shown to next items rest item look w v u last is high looks a b more =

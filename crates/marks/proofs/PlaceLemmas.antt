@@ -6,7 +6,7 @@ use Rattle.std.proofs.lemmas.List.Sums.{position_or_len_is, suffix_len_is}
 use Rattle.std.proofs.lemmas.Str.{IsCharBoundary-start, IsCharBoundary-after_ascii}
 use Rattle.std.proofs.lemmas.Grind.{common_steps}
 use Rattle.memchr.specs.Find.{IsFirstByte, IsLastByte, is_byte}
-use Rattle.marks.specs.Literal.{first_place, last_place}
+use Rattle.marks.specs.Literal.{first_offset, last_offset}
 
 pub first_found : (test : ℕ → Bool) (bytes text : List ℕ) (n : ℕ) → bytes ≡ text → IsFirstByte test bytes (Some n) → n ≡ position_or_len test text
 first_found test bytes text n same found = grind (arith, common_steps, position_or_len_is, false_from_ne_true)
@@ -17,27 +17,27 @@ first_none test bytes text same none =
     ∙ ap (position_or_len test) same)
 
 module _ (b : ℕ) (bytes text : List ℕ) where
-  pub place_found : (n : ℕ) → bytes ≡ text → IsFirstByte (is_byte b) bytes (Some n) → n ≡ first_place b text
-  unfolding first_place
+  pub place_found : (n : ℕ) → bytes ≡ text → IsFirstByte (is_byte b) bytes (Some n) → n ≡ first_offset b text
+  unfolding first_offset
   place_found n same found = first_found (is_byte b) bytes text n same found
 
-  pub place_none : bytes ≡ text → IsFirstByte (is_byte b) bytes None → length text ≡ first_place b text
-  unfolding first_place
+  pub place_none : bytes ≡ text → IsFirstByte (is_byte b) bytes None → length text ≡ first_offset b text
+  unfolding first_offset
   place_none same none = first_none (is_byte b) bytes text same none
 
-  pub last_found : (n : ℕ) → bytes ≡ text → IsLastByte (is_byte b) bytes (Some n) → n ≡ last_place b text
-  unfolding last_place
+  pub last_found : (n : ℕ) → bytes ≡ text → IsLastByte (is_byte b) bytes (Some n) → n ≡ last_offset b text
+  unfolding last_offset
   last_found n same found =
       let high = found.0.high in
       let back : n + 1 - 1 ≡ n = omega arith in
       let long = suffix_len_is (λ x. not (x == b)) bytes (n + 1) 0 (omega arith) (λ k low less. not_from_false _ (false_from_ne_true _ (found.0.after k low less))) (λ _. rw back (not_from_true _ found.1)) in
-      let here : n ≡ last_place b bytes = omega arith in here ∙ ap (last_place b) same
+      let here : n ≡ last_offset b bytes = omega arith in here ∙ ap (last_offset b) same
 
-  pub last_none : bytes ≡ text → IsLastByte (is_byte b) bytes None → 0 ≡ last_place b text
-  unfolding last_place
+  pub last_none : bytes ≡ text → IsLastByte (is_byte b) bytes None → 0 ≡ last_offset b text
+  unfolding last_offset
   last_none same none =
       let long = suffix_len_is (λ x. not (x == b)) bytes 0 0 (omega arith) (λ k low less. not_from_false _ (false_from_ne_true _ (none k low less))) (λ some. absurd (omega arith)) in
-      let here : 0 ≡ last_place b bytes = omega arith in here ∙ ap (last_place b) same
+      let here : 0 ≡ last_offset b bytes = omega arith in here ∙ ap (last_offset b) same
 
   -- the text may be cut past a byte of ASCII
   pub past_first : (n : ℕ) → bytes ≡ text → IsUtf8 text → b < 128 → IsFirstByte (is_byte b) bytes (Some n) → IsCharBoundary text (n + 1)

@@ -2,8 +2,10 @@ pub mod Class
 pub mod Escape
 pub mod Fault
 pub mod Frontmatter
+pub mod FrontmatterEnd
 pub mod Keyword
 pub mod Literal
+pub mod LiteralMarks
 pub mod Mark
 pub mod Marked
 pub mod Part

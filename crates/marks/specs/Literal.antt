@@ -37,22 +37,22 @@ literal_mode (RawByteStrToken (Some n_hashes)) = Some RawByteStr
 literal_mode (RawCStrToken (Some n_hashes)) = Some RawCStr
 literal_mode kind = None
 
-abbrev pub mode_of : TokenKind → Option Mode
-mode_of (Literal kind suffix_start) = literal_mode kind
-mode_of kind = None
+abbrev pub closed_mode : TokenKind → Option Mode
+closed_mode (Literal kind suffix_start) = literal_mode kind
+closed_mode kind = None
 
 -- ---- what stands between the quotes
 
-abbrev pub quote_of : Mode → ℕ
-quote_of mode = if is_single mode then byte "'" else byte "\""
+abbrev pub delimiter : Mode → ℕ
+delimiter mode = if is_single mode then byte "'" else byte "\""
 
 -- the offset of the first byte with this value, or the length of the text if there is none
-unfoldable pub first_place : ℕ → List ℕ → ℕ
-first_place b text = position_or_len (λ x. x == b) text
+unfoldable pub first_offset : ℕ → List ℕ → ℕ
+first_offset b text = position_or_len (λ x. x == b) text
 
 -- the offset of the last byte with this value, or 0 if there is none
-unfoldable pub last_place : ℕ → List ℕ → ℕ
-last_place b text = length text - suffix_len (λ x. not (x == b)) text - 1
+unfoldable pub last_offset : ℕ → List ℕ → ℕ
+last_offset b text = length text - suffix_len (λ x. not (x == b)) text - 1
 
 -- the text from one offset up to another
 abbrev pub between : ℕ → ℕ → List ℕ → List ℕ
@@ -62,15 +62,15 @@ between start end text = take (end - start) (drop start text)
 abbrev pub between_places : ℕ → ℕ → Option (ℕ × ℕ)
 between_places first last = if nat_lt first last then Some (first + 1, last) else None
 
-abbrev pub between_quotes : Mode → List ℕ → Option (ℕ × ℕ)
-between_quotes mode text = between_places (first_place (quote_of mode) text) (last_place (quote_of mode) text)
+abbrev pub contents_places : Mode → List ℕ → Option (ℕ × ℕ)
+contents_places mode text = between_places (first_offset (delimiter mode) text) (last_offset (delimiter mode) text)
 
 -- the range between the quotes of a literal that is closed, with its mode
-abbrev pub inside_in : Mode → List ℕ → Option (Mode × Range ℕ)
-inside_in mode text = option_map (λ (places : ℕ × ℕ). (mode, record { start = places.0; end = places.1 })) (between_quotes mode text)
+abbrev pub contents_in : Mode → List ℕ → Option (Mode × Range ℕ)
+contents_in mode text = option_map (λ (places : ℕ × ℕ). (mode, record { start = places.0; end = places.1 })) (contents_places mode text)
 
-abbrev pub inside : TokenKind → List ℕ → Option (Mode × Range ℕ)
-inside kind text = option_and_then (λ (mode : Mode). inside_in mode text) (mode_of kind)
+abbrev pub contents : TokenKind → List ℕ → Option (Mode × Range ℕ)
+contents kind text = option_and_then (λ (mode : Mode). contents_in mode text) (closed_mode kind)
 
 -- ---- the stretches, each with its places in the literal
 
@@ -89,8 +89,8 @@ look_by (Some error) element = Some (Wrong error)
 look_by None (Plain c) = None
 look_by None element = Some Escape
 
-abbrev pub look_of : Mode → Element → Option Look
-look_of mode element = look_by (error_of mode element) element
+abbrev pub element_look : Mode → Element → Option Look
+element_look mode element = look_by (error_of mode element) element
 
 -- between two elements there is only a backslash at the end of a line and what it skips
 abbrev pub skipped : ℕ → ℕ → List Stretch
@@ -103,23 +103,23 @@ abbrev pub stretches_from : Mode → ℕ → ℕ → ℕ → List Item → List 
 stretches_from mode begin at close [] = skipped at close
 stretches_from mode begin at close (item ∷ items) =
     if nat_lt (begin + item.0.start) at then stretches_from mode begin at close items
-    else skipped at (begin + item.0.start) ++ (stretch (begin + item.0.start) (begin + item.0.end) (look_of mode item.1) ++ stretches_from mode begin (begin + item.0.end) close items)
+    else skipped at (begin + item.0.start) ++ (stretch (begin + item.0.start) (begin + item.0.end) (element_look mode item.1) ++ stretches_from mode begin (begin + item.0.end) close items)
 
 -- the stretches of a text between double quotes
 abbrev pub string_stretches : Mode → ℕ → ℕ → List ℕ → List Stretch
 string_stretches mode begin close text = stretches_from mode begin begin close (items_of (is_raw mode) (between begin close text))
 
 -- between single quotes everything is one stretch: an error, an escape, or plain
-abbrev pub single_error : Mode → List ℕ → Option EscapeError
-single_error Byte inside = result_err (byte_literal (chars inside))
-single_error mode inside = result_err (char_literal (chars inside))
+abbrev pub char_error : Mode → List ℕ → Option EscapeError
+char_error Byte inside = result_err (byte_literal (chars inside))
+char_error mode inside = result_err (char_literal (chars inside))
 
-abbrev pub single_look : Option EscapeError → List ℕ → Option Look
-single_look (Some error) inside = Some (Wrong error)
-single_look None inside = if starts_with nat_eq inside (codes "\\") then Some Escape else None
+abbrev pub char_look : Option EscapeError → List ℕ → Option Look
+char_look (Some error) inside = Some (Wrong error)
+char_look None inside = if starts_with nat_eq inside (codes "\\") then Some Escape else None
 
 abbrev pub single_stretches : Mode → ℕ → ℕ → List ℕ → List Stretch
-single_stretches mode begin close text = stretch begin close (single_look (single_error mode (between begin close text)) (between begin close text))
+single_stretches mode begin close text = stretch begin close (char_look (char_error mode (between begin close text)) (between begin close text))
 
 abbrev pub stretches_in : Mode → ℕ → ℕ → List ℕ → List Stretch
 stretches_in mode begin close text = if is_single mode then single_stretches mode begin close text else string_stretches mode begin close text
@@ -130,7 +130,7 @@ stretches_at mode None text = []
 stretches_at mode (Some places) text = stretches_in mode places.0 places.1 text
 
 abbrev pub stretches_of : Mode → List ℕ → List Stretch
-stretches_of mode text = stretches_at mode (between_quotes mode text) text
+stretches_of mode text = stretches_at mode (contents_places mode text) text
 
 -- ---- the parts
 

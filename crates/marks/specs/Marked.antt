@@ -11,7 +11,7 @@ use Rattle.marks.specs.declared.style.Style.{Style}
 use Rattle.rustc_literal_escaper.specs.declared.mode.Mode.{Mode}
 use Rattle.marks.specs.Class.{class_of}
 use Rattle.marks.specs.Fault.{fault_of}
-use Rattle.marks.specs.Literal.{literal_parts, mode_of}
+use Rattle.marks.specs.Literal.{literal_parts, closed_mode}
 use Rattle.marks.specs.Part.{Part, Own, fault_parts, with_marks}
 
 -- the parts of a token: of one with an error, of a literal that is closed, or of one that has a single class
@@ -21,7 +21,7 @@ parts_by None (Some mode) class text = literal_parts mode text
 parts_by None None class text = Own class text ∷ []
 
 abbrev pub token_parts : TokenKind → List ℕ → List Part
-token_parts kind text = parts_by (fault_of kind text) (mode_of kind) (class_of kind text) text
+token_parts kind text = parts_by (fault_of kind text) (closed_mode kind) (class_of kind text) text
 
 abbrev pub parts : List ℕ → List Token → List Part
 parts text [] = []

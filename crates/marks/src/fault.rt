@@ -2,6 +2,7 @@
 ghost use Rattle.std.specs.Prelude.{◌≡◌, Some};
 ghost use Rattle.rustc_lexer.specs.Classes.{Fits};
 ghost use Rattle.marks.specs.Fault.{fault_number, fault_of, literal_fault, raw_fault, sentence};
+ghost use Rattle.marks.specs.FrontmatterEnd.{TellsFrontmatter};
 
 use crate::frontmatter::end_fault;
 use rustc_lexer::{LiteralKind, RawStrError, TokenKind, starts_raw, validate_raw_str};
@@ -101,7 +102,8 @@ impl Fault {
 /// returns one.
 pub fn fault_of(kind: TokenKind, text: &str) -> Option<Fault>
     requires fits { Fits text.now }
-    ensures { result ≡ fault_of kind text.now }
+    ensures fault { result ≡ fault_of kind text.now }
+    ensures frontmatter { TellsFrontmatter kind text.now (fault_of kind text.now) }
 {
     match kind {
         TokenKind::BlockComment {

@@ -1,5 +1,5 @@
 //! Writes literals: their escapes, and what is wrong in them.
-ghost use Rattle.std.specs.Prelude.{◌≡◌, ◌+◌, ◌≤◌, ◌<◌, length, IfSome, MatchResult, OnOk};
+ghost use Rattle.std.specs.Prelude.{◌≡◌, ◌+◌, ◌≤◌, ◌<◌, false, length, IfSome, MatchResult, OnOk};
 ghost use Rattle.std.specs.Fmt.{WritesInCalls};
 ghost use Rattle.std.specs.Str.{IsCharBoundary};
 ghost use Rattle.rustc_lexer.specs.Classes.{Fits};
@@ -7,6 +7,7 @@ ghost use Rattle.rustc_literal_escaper.specs.Answers.{items_of};
 ghost use Rattle.rustc_literal_escaper.specs.Meaning.{is_raw, is_single};
 ghost use Rattle.rustc_literal_escaper.specs.Items.{ArePlaced};
 ghost use Rattle.marks.specs.Literal as spec;
+ghost use Rattle.marks.specs.LiteralMarks.{IsMarked};
 ghost use Rattle.marks.specs.Part.{with_marks};
 
 use crate::class::Class;
@@ -31,7 +32,7 @@ pub enum Look {
 /// Returns the `Mode` of a closed literal. Returns `None` for a number, for a literal that is not closed, and for a token
 /// that is not a literal.
 pub fn mode_of(kind: TokenKind) -> Option<Mode>
-    ensures { result ≡ spec.mode_of kind }
+    ensures { result ≡ spec.closed_mode kind }
 {
     let TokenKind::Literal { kind, .. } = kind else {
         return None;
@@ -56,9 +57,11 @@ pub fn mode_of(kind: TokenKind) -> Option<Mode>
 /// These are the arguments that the calls of `rustc_literal_escaper` take. The ranges that they give count from the start
 /// of the range that this call returns.
 pub fn inside(kind: TokenKind, text: &str) -> Option<(Mode, Range<usize>)>
-    ensures value { result ≡ spec.inside kind text.now }
+    ensures value { result ≡ spec.contents kind text.now }
     ensures places { IfSome result (λ found. IsCharBoundary text.now found.1.start
         × IsCharBoundary text.now found.1.end × (found.1.start ≤ found.1.end)) }
+    ensures marks { IfSome result (λ found. is_single found.0 ≡ false
+        → IsMarked found.0 found.1.start found.1.end text.now) }
 {
     let mode = mode_of(kind)?;
     let (start, end) = between_quotes(mode, text)?;
@@ -67,7 +70,7 @@ pub fn inside(kind: TokenKind, text: &str) -> Option<(Mode, Range<usize>)>
 
 /// Returns where the text between the quotes of a literal begins and ends, or `None` if there are no two quotes.
 fn between_quotes(mode: Mode, text: &str) -> Option<(usize, usize)>
-    ensures places { result ≡ spec.between_quotes mode text.now }
+    ensures places { result ≡ spec.contents_places mode text.now }
     ensures inside { IfSome result (λ places. IsCharBoundary text.now places.0 × IsCharBoundary text.now places.1
         × (places.0 ≤ places.1)) }
 {
@@ -111,7 +114,7 @@ fn is_single(mode: Mode) -> bool
 
 /// Returns the quote of such a literal.
 fn quote_of(mode: Mode) -> u8
-    ensures value { result ≡ spec.quote_of mode }
+    ensures value { result ≡ spec.delimiter mode }
     ensures ascii { result < 128 }
 {
     if is_single(mode) { b'\'' } else { b'"' }
@@ -121,7 +124,7 @@ fn quote_of(mode: Mode) -> u8
 #[tactic(auto, using(crate::proofs::PlaceLemmas::place_found, crate::proofs::PlaceLemmas::place_none, crate::proofs::PlaceLemmas::past_first))]
 fn first_place(byte: u8, text: &str) -> usize
     requires ascii { byte < 128 }
-    ensures value { result ≡ spec.first_place byte text.now }
+    ensures value { result ≡ spec.first_offset byte text.now }
     ensures past { result < length text.now → IsCharBoundary text.now (result + 1) }
 {
     memchr(byte, text.as_bytes()).unwrap_or(text.len())
@@ -131,7 +134,7 @@ fn first_place(byte: u8, text: &str) -> usize
 #[tactic(auto, using(crate::proofs::PlaceLemmas::last_found, crate::proofs::PlaceLemmas::last_none, crate::proofs::PlaceLemmas::place_lemmas))]
 fn last_place(byte: u8, text: &str) -> usize
     requires ascii { byte < 128 }
-    ensures value { result ≡ spec.last_place byte text.now }
+    ensures value { result ≡ spec.last_offset byte text.now }
     ensures place { IsCharBoundary text.now result }
 {
     memrchr(byte, text.as_bytes()).unwrap_or(0)
@@ -161,7 +164,7 @@ fn write_single<W: fmt::Write>(
 
 /// Returns the look of the text between single quotes, or `None` if it is plain.
 fn single_look(mode: Mode, inside: &str) -> Option<Look>
-    ensures { result ≡ spec.single_look (spec.single_error mode inside.now) inside.now }
+    ensures { result ≡ spec.char_look (spec.char_error mode inside.now) inside.now }
 {
     match single_error(mode, inside) {
         Some(error) => Some(Look::Wrong(error)),
@@ -172,7 +175,7 @@ fn single_look(mode: Mode, inside: &str) -> Option<Look>
 
 /// Returns what is wrong between single quotes, or `None` if nothing is.
 fn single_error(mode: Mode, inside: &str) -> Option<EscapeError>
-    ensures { result ≡ spec.single_error mode inside.now }
+    ensures { result ≡ spec.char_error mode inside.now }
 {
     match mode {
         Mode::Byte => unescape_byte(inside).err(),
@@ -299,7 +302,7 @@ fn elements_of(mode: Mode, inside: &str) -> Elements<'_>
 
 /// Returns the look of an element, or `None` if it is plain.
 fn look_of(mode: Mode, element: Element) -> Option<Look>
-    ensures { result ≡ spec.look_of mode element }
+    ensures { result ≡ spec.element_look mode element }
 {
     match (element.error_in(mode), element) {
         (Some(error), _) => Some(Look::Wrong(error)),

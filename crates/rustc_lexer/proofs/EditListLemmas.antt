@@ -122,8 +122,8 @@ counts_back {old} {new} {front} {back} len kept_back len_is fewer stay = grind (
 pub kept_then : {old between new : List Token} {a b r : Relexed} → r.kept_front ≡ min a.kept_front b.kept_front → r.kept_back ≡ min a.kept_back b.kept_back → count_after r ≡ count_after b → AreKept old between a → AreKept between new b → AreKept old new r
 kept_then {old} {between} {new} {a} {b} {r} front back count before then =
     let stay = stay-more r.kept_front r.kept_back front back
-        (counts_stay old between a.kept_front a.lexed a.kept_back before.all before.front before.back)
-        (counts_stay between new b.kept_front b.lexed b.kept_back then.all then.front then.back) in
+    (counts_stay old between a.kept_front a.lexed a.kept_back before.all before.front before.back)
+    (counts_stay between new b.kept_front b.lexed b.kept_back then.all then.front then.back) in
     let all : r.kept_front + r.lexed + r.kept_back ≡ length new = count ∙ then.all in
     let from : length new - r.kept_back ≡ r.kept_front + r.lexed = omega (arith, all) in
     record { all = all; front = stay.same_front; back = subst (λ k. drop k new ≡ drop (length old - r.kept_back) old) from stay.same_back }

@@ -1,5 +1,5 @@
 -- What edits make of a text, and which of its tokens they keep.
-use Rattle.std.specs.Prelude.{ℕ, ◌+◌, ◌-◌, ◌<◌, ◌≤◌, ◌^◌, List, [], ◌∷◌, ◌++◌, length, take, drop, min, IsCharBoundary, ◌≡◌, ◌↔◌, slice_get, IfSome, Option, Some, None, codes, decimal, count_by}
+use Rattle.std.specs.Prelude.{ℕ, ◌+◌, ◌-◌, ◌<◌, ◌≤◌, ◌^◌, List, [], ◌∷◌, ◌++◌, length, take, drop, min, IsCharBoundary, ◌≡◌, slice_get, IfSome, codes, decimal, count_by}
 use Rattle.rustc_lexer.specs.declared.relex.{edit.Edit.Edit, edit_list.EditStop.EditStop, relexing.Relexed.Relexed}
 use Rattle.rustc_lexer.specs.declared.relex.edit_list.EditStop.TheVariants.{Range, TooLong, Memory}
 use Rattle.rustc_lexer.specs.{Token}

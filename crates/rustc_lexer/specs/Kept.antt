@@ -1,5 +1,5 @@
 -- A text that is kept with its tokens: what its edits do, and its pieces.
-use Rattle.std.specs.Prelude.{ℕ, ◌+◌, ◌-◌, ◌<◌, ◌≤◌, ◌^◌, List, [], ◌∷◌, ◌++◌, length, take, drop, ◌≡◌, Option, Some, None, Bool, true, false, Result, IfOk, IfErr, OnOk, OnErr}
+use Rattle.std.specs.Prelude.{ℕ, ◌+◌, ◌-◌, ◌<◌, ◌≤◌, ◌^◌, List, [], ◌∷◌, length, take, drop, ◌≡◌, Option, Some, None, Bool, true, false, Result, IfOk, IfErr, OnOk, OnErr}
 use Rattle.rustc_lexer.specs.declared.relex.{edit.Edit.Edit, edit_list.EditStop.EditStop, pieces.Piece.Piece, relexing.Relexed.Relexed}
 use Rattle.rustc_lexer.specs.{Edition, Token}
 use Rattle.rustc_lexer.specs.Document.{document_tokens, document_tokens_by, shebang_len, whole_by}
@@ -48,18 +48,15 @@ pub record IsEdited {S E : Type 0} (first : S → List ℕ → Token) (year step
   -- what text and tokens are afterwards
   pub text : OnOk result (new.text ≡ apply old.text start stop insert)
   pub from_scratch : new.tokens ≡ tokens_in whole (first old.stepper) new.text
-
   -- which tokens stay, and how many were lexed
   pub relexed : IfOk result (IsRelexed (layout_in whole (first old.stepper)) old.text start stop insert)
   pub kept : IfOk result (AreKept old.tokens new.tokens)
-
   -- how many steps the stepper took: the tokens of a new head take none. It keeps its grammar
   pub count : IfOk result
       (λ r. steps new.stepper + (length (layout_in whole (first old.stepper) new.text).head - r.kept_front) ≡ steps old.stepper + r.lexed)
   pub grammar : first new.stepper ≡ first old.stepper
   pub number : year new.stepper ≡ year old.stepper
   pub rose : steps old.stepper ≤ steps new.stepper
-
   -- if it fails, nothing has changed, and few steps were taken
   pub same_text : OnErr result (new.text ≡ old.text)
   pub same_tokens : OnErr result (new.tokens ≡ old.tokens)
@@ -72,13 +69,11 @@ pub record AreMade {S T : Type 0} (first : S → List ℕ → Token) (year steps
   pub accepted : OnOk result (AreEdits old.text edits)
   pub text : OnOk result (new.text ≡ apply_list old.text edits)
   pub from_scratch : new.tokens ≡ tokens_in whole (first old.stepper) new.text
-
   -- the stepper keeps its grammar, and counts the steps of all edits
   pub grammar : first new.stepper ≡ first old.stepper
   pub number : year new.stepper ≡ year old.stepper
   pub count : OnOk result
       (AreStepped (layout_in whole (first old.stepper)) old.text edits (steps old.stepper) (steps new.stepper))
-
   -- if an edit is refused, the edits before it were made
   pub stop : IfErr result (λ e. IsStop e new.text edits)
   pub stop_accepted : IfErr result (λ e. AreEdits old.text (take (stop_at e) edits))

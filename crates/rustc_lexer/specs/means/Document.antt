@@ -5,9 +5,9 @@ use Rattle.rustc_lexer.specs.declared.relex.head.Head.{Head}
 use Rattle.rustc_lexer.specs.declared.relex.relexing.{Change.Change, Relexed.Relexed, Relexing.Relexing}
 use Rattle.rustc_lexer.specs.{Token}
 use Rattle.rustc_lexer.specs.Classes.{IsText}
-use Rattle.rustc_lexer.specs.Document.{shebang_len, whole_by}
+use Rattle.rustc_lexer.specs.Document.{shebang_len}
 pub use Rattle.rustc_lexer.specs.Relexing.{body_change, counted, front_tokens, tokens_of_head}
-use Rattle.rustc_lexer.specs.Edits.{apply, Layout, part_by}
+use Rattle.rustc_lexer.specs.Edits.{apply}
 use Rattle.rustc_lexer.specs.Partition.{tokens_by}
 use Rattle.rustc_lexer.specs.means.Checkpoints.{AreBounds}
 use Rattle.rustc_lexer.specs.means.Frontmatter.{frontmatter, opens, spaces_len}

@@ -83,11 +83,7 @@ impl<S: Stepper, E: Extent> Lexed<S, E> {
     /// Keeps the text, of which it copies nothing, and lexes it: the head of a document by itself, all else with the
     /// stepper, one step for each token. The text may have at most `u32::MAX` bytes. Keeps the stepper. `Err` means that
     /// an allocation failed.
-    pub fn with_string(
-        alloc: Global,
-        text: String,
-        stepper: S,
-    ) -> Result<Lexed<S, E>, AllocError>
+    pub fn with_string(alloc: Global, text: String, stepper: S) -> Result<Lexed<S, E>, AllocError>
         requires fits { Fits (string_bytes text) }
         ensures text { IfOk result (λ l. l.text ≡ string_bytes text) }
         ensures from_scratch { IfOk result

@@ -127,7 +127,12 @@ impl<S: Stepper, E: Extent> Lexed<S, E> {
         ensures some { IsSome result ↔ (start_in E.whole self.now.text ≤ offset) × (offset < length self.now.text) }
     {
         let near = self.bound_near(offset);
-        token_around(self.kept.tokens.as_slice(), self.kept.head.shebang_len, near, offset)
+        token_around(
+            self.kept.tokens.as_slice(),
+            self.kept.head.shebang_len,
+            near,
+            offset,
+        )
     }
 
     /// Returns the piece that contains the byte at `offset`. `None` in a shebang line, and at and past the end of the

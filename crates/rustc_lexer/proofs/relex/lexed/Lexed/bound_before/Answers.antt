@@ -1,5 +1,4 @@
-use Rattle.std.proofs.Common.{◌≡◌, ◌+◌, length, ap, ◌∙◌, subst, arith, string_bytes}
-use Rattle.rustc_lexer.specs.Kept.{start_in}
+use Rattle.std.proofs.Common.{◌+◌, length, ap, arith, string_bytes}
 use Rattle.rustc_lexer.specs.Tokens.{bound}
 use Rattle.rustc_lexer.proofs.KeptLemmas.{near_at, offset_fits}
 use Rattle.rustc_lexer.proofs.LexedLemmas.{start_seen}

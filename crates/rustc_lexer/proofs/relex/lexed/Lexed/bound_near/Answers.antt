@@ -1,4 +1,4 @@
-use Rattle.std.proofs.Common.{◌+◌, drop, length, ap, subst, arith, string_bytes}
+use Rattle.std.proofs.Common.{◌+◌, drop, length, ap, arith, string_bytes}
 use Rattle.std.proofs.lemmas.List.Elements.{All-contains}
 use Rattle.rustc_lexer.specs.Offsets.{IsBound}
 use Rattle.rustc_lexer.specs.Tokens.{bound}

@@ -1,4 +1,4 @@
-use Rattle.std.proofs.Common.{◌≡◌, ◌+◌, ◌-◌, List, ℕ, length, slice_range, string_bytes, refl, sym, ap, ap₂, ◌∙◌, subst, arith, rules, IsUtf8, IsCharBoundary, Ok, Err, Result}
+use Rattle.std.proofs.Common.{◌≡◌, ◌+◌, ◌-◌, List, ℕ, length, slice_range, string_bytes, refl, sym, ap, ap₂, ◌∙◌, subst, arith, rules, IsUtf8, IsCharBoundary, Ok, Err}
 use Rattle.std.proofs.lemmas.Grind.{common_steps}
 use Rattle.rustc_lexer.specs.declared.relex.head.Head.{Head}
 use Rattle.rustc_lexer.specs.Classes.{IsText}

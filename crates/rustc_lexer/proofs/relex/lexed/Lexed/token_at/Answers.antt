@@ -1,11 +1,4 @@
-use Rattle.std.proofs.Common.{◌≡◌, ◌+◌, ◌<◌, ◌^◌, ◌↔◌, List, length, sym, ap, ◌∙◌, subst, arith, string_bytes, IfSome, IsSome}
-use Rattle.std.proofs.lemmas.Grind.{common_steps}
-use Rattle.std.proofs.Common.{rules}
-use Rattle.rustc_lexer.specs.{Token}
-use Rattle.rustc_lexer.specs.Kept.{start_in}
-use Rattle.rustc_lexer.specs.Offsets.{ContainsByte}
-use Rattle.rustc_lexer.specs.Tokens.{bound}
-use Rattle.rustc_lexer.specs.means.Checkpoints.{IsBoundFrom}
+use Rattle.std.proofs.Common.{length, ap, ◌∙◌, arith, string_bytes}
 use Rattle.rustc_lexer.proofs.LexedLemmas.{end_seen, fits_seen, start_seen}
 use Rattle.rustc_lexer.proofs.OffsetLemmas.{answered}
 use Rattle.rustc_lexer.proofs.relex.lexed.Lexed.token_at.Goals as goal

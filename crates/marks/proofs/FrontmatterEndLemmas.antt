@@ -1,0 +1,462 @@
+-- The error at the end of a frontmatter is the one that its lines say.
+use Rattle.std.proofs.Common.{◌≡◌, ℕ, zero, suc, ◌+◌, ◌-◌, ◌<◌, ◌≤◌, ◌==◌, nat_eq, nat_lt, not, ◌||◌, Bool, true, false, true≢false, if◌then◌else◌, List, [], ◌∷◌, ◌++◌, codes, length, take, drop, get_or, refl, sym, ap, ◌∙◌, subst, arith, append_assoc, append-nil, drop-cons, drop-drop, length-append, length-drop, take-append-drop, Option, Some, None, inl, inr}
+use Rattle.std.specs.Char.{encode_utf8}
+use Rattle.std.specs.List.{after_last, list_all, list_any, prefix_len, suffix_len}
+use Rattle.std.specs.Str.{encode_utf8_all, IsUtf8}
+use Rattle.std.proofs.Math.Seq.{drop-append_seam, get_or-append_seam}
+use Rattle.std.proofs.lemmas.Bool.{and_parts, cases_lt, eq-eqb, eqb-false, eqb-true, false_from_ne_true, ltb-false, ltb-true, ne_eqb, not-true, not_from_false, not_from_true, or_cases, or_parts, true_from_ne_false}
+use Rattle.std.proofs.lemmas.List.{drop_all, get_or-append-add, take_all}
+use Rattle.std.proofs.lemmas.List.Elements.{All-from_get_or}
+use Rattle.std.proofs.lemmas.List.Folds.{length-prefix_len, list_all-append, list_any-append, list_any_at, list_any_none}
+use Rattle.std.proofs.lemmas.List.Sums.{prefix_len-le-length, suffix_len_is}
+use Rattle.std.proofs.lemmas.Str.{char_from_byte, encode_ascii, encodes-append, encodes-chars, inside_one, length-encode, length-le-encodes, len_utf8_bounds}
+use Rattle.std.proofs.lemmas.Grind.{common_steps}
+use Rattle.rustc_lexer.specs.Classes.{AreAll, Chars, NextIsNot, begins, is_among, is_horizontal_whitespace, is_id_start, is_info, is_inline, is_whitespace, next_is}
+use Rattle.rustc_lexer.specs.FrontmatterGrammar as the
+use Rattle.rustc_lexer.specs.FrontmatterGrammar.{IsBodyBefore, IsLabelBefore, IsOpeningBefore, endings, fence}
+use Rattle.rustc_lexer.specs.declared.token.TokenKind.{TokenKind}
+use Rattle.rustc_lexer.specs.declared.token.TokenKind.TheVariants.{Frontmatter}
+use Rattle.rustc_lexer.specs.laws.Choice.{by_either, by_test}
+use Rattle.rustc_lexer.specs.laws.Fences.{begins-whole}
+use Rattle.rustc_lexer.specs.laws.LanguageRuns.{start-word_start, word_start-no_space}
+use Rattle.rustc_lexer.proofs.PartLemmas.{continue_part}
+use Rattle.marks.specs.declared.fault.Fault.{Fault}
+use Rattle.marks.specs.declared.fault.Fault.TheVariants.{FrontmatterSpace, OpenFrontmatter, FrontmatterIndent, FrontmatterDashes, FrontmatterWords}
+use Rattle.marks.specs.Frontmatter.{blanks, closing_fault, dashes, end_fault, is_newline, is_of}
+use Rattle.marks.specs.Fault.{fault_of, front_fault}
+use Rattle.marks.specs.FrontmatterEnd.{EndsAfter, IsEndFault, IsOpen, IsToldBy, NoLineBegins, TellsFrontmatter, closed, indented, more_words, other_dashes, unclosed}
+
+-- ---- runs, in characters and in bytes
+
+module _ (p : ℕ → Bool) (c : ℕ) (s : List ℕ) where
+  run-in : p c ≡ true → prefix_len p (c ∷ s) ≡ suc (prefix_len p s)
+  run-in e = rw e (omega arith)
+
+  run-out : p c ≡ false → prefix_len p (c ∷ s) ≡ 0
+  run-out e = rw e refl
+
+-- of a test that another agrees with
+module _ (p q : ℕ → Bool) (same : (c : ℕ) → p c ≡ q c) where
+  run-all : (s : List ℕ) → AreAll q (take (prefix_len p s) s)
+  run-all [] = refl
+  run-all (c ∷ s) = by_either (p c)
+      (λ e. subst (λ n. AreAll q (take n (c ∷ s))) (sym (run-in p c s e)) (let f : q c ≡ true = sym (same c) ∙ e in rw f (run-all s)))
+      (λ e. subst (λ n. AreAll q (take n (c ∷ s))) (sym (run-out p c s e)) refl)
+
+  run-stops : (s : List ℕ) → NextIsNot q (drop (prefix_len p s) s)
+  run-stops [] = refl
+  run-stops (c ∷ s) = by_either (p c)
+      (λ e. subst (λ n. NextIsNot q (drop n (c ∷ s))) (sym (run-in p c s e)) (run-stops s))
+      (λ e. subst (λ n. NextIsNot q (drop n (c ∷ s))) (sym (run-out p c s e)) (sym (same c) ∙ e))
+
+  run-here : (w next : List ℕ) → AreAll q w → NextIsNot q next → prefix_len p (w ++ next) ≡ length w
+  run-here [] [] all stop = refl
+  run-here [] (c ∷ next) all stop = grind (arith, common_steps, same)
+  run-here (c ∷ w) next all stop = grind (arith, common_steps, same, and_parts, run-here w next (and_parts (q c) (list_all q w) all).1 stop)
+
+-- of a test that only ASCII passes
+module _ (p : ℕ → Bool) (small : (c : ℕ) → p c ≡ true → c < 128) where
+  none-first : (bs : List ℕ) → p (get_or bs 0 0) ≡ false → prefix_len p bs ≡ 0
+  none-first [] e = refl
+  none-first (b ∷ bs) e = rw e refl
+
+  fails-first : (c : ℕ) (s : Chars) → p c ≡ false → p (get_or (encode_utf8_all (c ∷ s)) 0 0) ≡ false
+  fails-first c s e = false_from_ne_true _ (λ t.
+      let same : c ≡ get_or (encode_utf8_all (c ∷ s)) 0 0 = char_from_byte (encode_utf8_all (c ∷ s)) (encode_utf8_all s) c refl (small _ t)
+      (omega (arith, length-append (encode_utf8 c) (encode_utf8_all s), length-encode c, len_utf8_bounds c)) in
+      true≢false (sym t ∙ (ap p (sym same) ∙ e)))
+
+  run-encode : (s : Chars) → prefix_len p (encode_utf8_all s) ≡ prefix_len p s
+  run-encode [] = refl
+  run-encode (c ∷ s) = by_either (p c)
+      (λ e. rw (encode_ascii c (small c e), e) (ap (λ (k : ℕ). 1 + k) (run-encode s)))
+      (λ e. none-first (encode_utf8_all (c ∷ s)) (fails-first c s e) ∙ rw e refl)
+
+  drop-encode : (s : Chars) → drop (prefix_len p s) (encode_utf8_all s) ≡ encode_utf8_all (drop (prefix_len p s) s)
+  drop-encode [] = refl
+  drop-encode (c ∷ s) = by_either (p c)
+      (λ e. let one : 1 + prefix_len p s ≡ suc (prefix_len p s) = omega arith in rw (encode_ascii c (small c e), e, one) (drop-encode s))
+      (λ e. rw e refl)
+
+-- ---- blanks and dashes
+
+turned : (c d : ℕ) → (d == c) ≡ (c == d)
+turned c d = by_either (d == c) (λ e. e ∙ sym (eq-eqb c d (sym (eqb-true d c e)))) (λ e. e ∙ sym (false_from_ne_true _ (λ f. true≢false (sym (eq-eqb d c (sym (eqb-true c d f))) ∙ e))))
+
+same-dash : (c : ℕ) → is_of (codes "-") c ≡ is_among (codes "-") c
+same-dash c = rw (turned c 45) refl
+
+same-blank : (c : ℕ) → is_of (codes "\t ") c ≡ is_horizontal_whitespace c
+same-blank c = rw (turned c 9, turned c 32) refl
+
+small-dash : (c : ℕ) → is_of (codes "-") c ≡ true → c < 128
+small-dash c e = grind (arith, common_steps, or_cases, eqb-true)
+
+small-blank : (c : ℕ) → is_of (codes "\t ") c ≡ true → c < 128
+small-blank c e = grind (arith, common_steps, or_cases, eqb-true)
+
+begins-dashes : (n : ℕ) (s : Chars) → begins (fence n) s ≡ true → n ≤ dashes s
+begins-dashes zero s e = omega arith
+begins-dashes (suc n) [] e = absurd (true≢false (sym e))
+begins-dashes (suc n) (c ∷ s) e =
+    let parts = and_parts (c == 45) (begins (fence n) s) e in
+    omega (arith, begins-dashes n s parts.1, run-in (is_of (codes "-")) c s (same-dash c ∙ rw parts.0 refl))
+
+dashes-begin : (n : ℕ) (s : Chars) → n ≤ dashes s → begins (fence n) s ≡ true
+dashes-begin zero s le = refl
+dashes-begin (suc n) [] le = absurd (omega arith)
+dashes-begin (suc n) (c ∷ s) le = by_either (c == 45)
+    (λ e. rw e (dashes-begin n s (omega (arith, le, run-in (is_of (codes "-")) c s (same-dash c ∙ rw e refl)))))
+    (λ e. absurd (omega (arith, le, run-out (is_of (codes "-")) c s (same-dash c ∙ rw e refl))))
+
+dashes-are : (s : Chars) → take (dashes s) s ≡ fence (dashes s)
+dashes-are [] = refl
+dashes-are (c ∷ s) = by_either (c == 45)
+    (λ e. subst (λ n. take n (c ∷ s) ≡ fence n) (sym (run-in (is_of (codes "-")) c s (same-dash c ∙ rw e refl))) (rw (eqb-true c 45 e) (ap (λ w. 45 ∷ w) (dashes-are s))))
+    (λ e. subst (λ n. take n (c ∷ s) ≡ fence n) (sym (run-out (is_of (codes "-")) c s (same-dash c ∙ rw e refl))) refl)
+
+-- a line that begins with dashes begins with no blanks
+no-blanks : (s : Chars) → begins (fence 3) s ≡ true → blanks s ≡ 0
+no-blanks [] e = refl
+no-blanks (c ∷ s) e = let dash = eqb-true c 45 (and_parts (c == 45) (begins (fence 2) s) e).0 in run-out (is_of (codes "\t ")) c s (ap (is_of (codes "\t ")) dash)
+
+-- dashes stand on one line
+begins-line : (n : ℕ) (line next : Chars) → NextIsNot is_inline next → begins (fence n) (line ++ next) ≡ true → begins (fence n) line ≡ true
+begins-line zero line next stop e = refl
+begins-line (suc n) [] [] stop e = e
+begins-line (suc n) [] (c ∷ next) stop e =
+    absurd (true≢false (sym (ap is_inline (eqb-true c 45 (and_parts (c == 45) (begins (fence n) next) e).0)) ∙ stop))
+begins-line (suc n) (c ∷ line) next stop e = let parts = and_parts (c == 45) (begins (fence n) (line ++ next)) e in rw (parts.0, begins-line n line next stop parts.1) refl
+
+-- ---- lines
+
+all-none : (p : ℕ → Bool) → ((c : ℕ) → p c ≡ true → is_newline c ≡ false) → (s : Chars) → AreAll p s → list_any is_newline s ≡ false
+all-none p none [] all = refl
+all-none p none (c ∷ s) all = let parts = and_parts (p c) (list_all p s) all in rw (none c parts.0, all-none p none s parts.1) refl
+
+inline-none : (s : Chars) → AreAll is_inline s → list_any is_newline s ≡ false
+inline-none s all = all-none is_inline (λ c e. not-true (is_newline c) e) s all
+
+blanks-none : (s : Chars) → AreAll is_horizontal_whitespace s → list_any is_newline s ≡ false
+blanks-none s all = all-none is_horizontal_whitespace (λ c e. false_from_ne_true (is_newline c) (λ f. true≢false (sym e ∙ ap is_horizontal_whitespace (eqb-true c 10 f)))) s all
+
+all-drop : (p : ℕ → Bool) (k : ℕ) (s : Chars) → AreAll p s → AreAll p (drop k s)
+all-drop p k s all = (and_parts _ _ (sym (list_all-append p (take k s) (drop k s)) ∙ (ap (list_all p) (take-append-drop k s) ∙ all))).1
+
+-- the text after the last newline
+module _ (u line : List ℕ) (none : list_any is_newline line ≡ false) where
+  has-line : list_any is_newline (u ++ 10 ∷ line) ≡ true
+  has-line = list_any_at is_newline (u ++ 10 ∷ line) (length u) 0 (omega (arith, length-append u (10 ∷ line))) (ap is_newline (get_or-append_seam u 10 line 0))
+
+  last-line : after_last is_newline (u ++ 10 ∷ line) ≡ line
+  last-line =
+      let xs : List ℕ = u ++ 10 ∷ line in
+      let long : length xs ≡ length u + suc (length line) = length-append u (10 ∷ line) in
+      let back : length u + 1 - 1 ≡ length u = omega arith in
+      let past = λ (k : ℕ) (low : length u + 1 ≤ k) (less : k < length xs).
+      let j : ℕ = k - (length u + 1) in
+      let place : k ≡ length u + suc j = omega (arith, low) in
+      let here : get_or xs k 0 ≡ get_or line j 0 = ap (λ (i : ℕ). get_or xs i 0) place ∙ get_or-append-add u (10 ∷ line) (suc j) 0 in
+      false_from_ne_true (is_newline (get_or xs k 0)) (λ e. true≢false (sym (list_any_at is_newline line j 0 (omega (arith, low, less, long)) (ap is_newline (sym here) ∙ e)) ∙ none)) in
+      let size = suffix_len_is (λ x. not (is_newline x)) xs (length u + 1) 0 (omega (arith, long)) (λ k low less. not_from_false _ (past k low less))
+      (λ some. not_from_true _ (ap is_newline (ap (λ (k : ℕ). get_or xs k 0) back ∙ get_or-append_seam u 10 line 0))) in
+      let front : length xs - suffix_len (λ x. not (is_newline x)) xs ≡ length u + 1 = omega (arith, long, size) in
+      ap (λ (k : ℕ). drop k xs) front ∙ (sym (drop-drop 1 (length u) xs) ∙ ap (drop 1) (drop-append_seam u (10 ∷ line)))
+
+-- a text is one line, or has a last line
+data Lines (body : Chars) : Type 0 where
+  one : list_any is_newline body ≡ false → Lines body
+  more : (u line : Chars) → body ≡ u ++ 10 ∷ line → AreAll is_inline line → Lines body
+
+lines : (body : Chars) → Lines body
+lines [] = one refl
+lines (c ∷ body) = elim (lines body) [
+  | more u line e all ↦ more (c ∷ u) line (ap (λ w. c ∷ w) e) all
+  | one none ↦ by_either (c == 10)
+      (λ e. more [] body (ap (λ (d : ℕ). d ∷ body) (eqb-true c 10 e)) (none-inline body none))
+      (λ e. one (rw (e, none) refl))
+]
+  where
+    none-inline : (s : Chars) → list_any is_newline s ≡ false → AreAll is_inline s
+    none-inline [] none = refl
+    none-inline (c ∷ s) none = let parts = or_parts (is_newline c) (list_any is_newline s) none in rw parts.0 (none-inline s parts.1)
+
+one-encode : (s : Chars) → list_any is_newline s ≡ false → list_any is_newline (encode_utf8_all s) ≡ false
+one-encode [] none = refl
+one-encode (c ∷ s) none =
+    let parts = or_parts (is_newline c) (list_any is_newline s) none in
+    let first : list_any is_newline (encode_utf8 c) ≡ false =
+    list_any_none is_newline (encode_utf8 c) (All-from_get_or (λ x. is_newline x ≡ false) (encode_utf8 c) 0 (λ k less. false_from_ne_true _ (λ e.
+    let ten : get_or (encode_utf8 c) k 0 ≡ 10 = eqb-true _ 10 e in
+    let same : c ≡ get_or (encode_utf8 c) k 0 = inside_one c [] (encode_utf8 c) k (sym (append-nil (encode_utf8 c))) less (omega (arith, ten)) in
+    true≢false (sym e ∙ (ap is_newline (sym same) ∙ parts.0))))) in
+    list_any-append is_newline (encode_utf8 c) (encode_utf8_all s) ∙ rw (first, one-encode s parts.1) refl
+
+-- ---- the last line, in bytes
+
+-- what is told by how many blanks and dashes there are, and whether only blanks follow
+abbrev told_by : ℕ → ℕ → ℕ → Bool → Option Fault
+told_by n b d all =
+    if nat_lt d 3 then Some OpenFrontmatter
+    else if nat_lt 0 b then Some FrontmatterIndent
+    else if not (nat_eq d n) then Some (FrontmatterDashes n d)
+    else if all then None
+    else Some FrontmatterWords
+
+abbrev told_past : ℕ → ℕ → ℕ → List ℕ → Option Fault
+told_past n b d tail = told_by n b d (nat_eq (blanks tail) (length tail))
+
+abbrev told : ℕ → ℕ → List ℕ → Option Fault
+told n b rest = told_past n b (dashes rest) (drop (dashes rest) rest)
+
+all-encode : (s : Chars) → nat_eq (blanks (encode_utf8_all s)) (length (encode_utf8_all s)) ≡ nat_eq (blanks s) (length s)
+all-encode s =
+    let is_blank : ℕ → Bool = is_of (codes "\t ") in
+    let same = run-encode is_blank small-blank s in
+    let left : length (encode_utf8_all s) - blanks s ≡ length (encode_utf8_all (drop (blanks s) s)) = sym (length-drop (blanks s) (encode_utf8_all s)) ∙ ap length (drop-encode is_blank small-blank s) in
+    let few = length-le-encodes (drop (blanks s) s) in
+    let cut = length-drop (blanks s) s in
+    by_either (nat_eq (blanks s) (length s))
+    (λ e.
+    let none : drop (blanks s) s ≡ [] = drop_all (blanks s) s (omega (arith, eqb-true (blanks s) (length s) e)) in
+    let zero_left : length (encode_utf8_all (drop (blanks s) s)) ≡ 0 = ap (λ (w : Chars). length (encode_utf8_all w)) none in
+    eq-eqb _ _ (omega (arith, same, left, zero_left, prefix_len-le-length is_blank (encode_utf8_all s))) ∙ sym e)
+    (λ e. ne_eqb _ _ (λ f. eqb-false (blanks s) (length s) e (omega (arith, f, same, left, few, cut, prefix_len-le-length is_blank s))) ∙ sym e)
+
+closing-encode : (n : ℕ) (line : Chars) → closing_fault n (encode_utf8_all line) ≡ closing_fault n line
+closing-encode n line =
+    let is_blank : ℕ → Bool = is_of (codes "\t ") in
+    let bytes : List ℕ = encode_utf8_all line in
+    let rest : Chars = drop (blanks line) line in
+    let tail : Chars = drop (dashes rest) rest in
+    let b : blanks bytes ≡ blanks line = run-encode is_blank small-blank line in
+    let at_rest : drop (blanks bytes) bytes ≡ encode_utf8_all rest = ap (λ (k : ℕ). drop k bytes) b ∙ drop-encode is_blank small-blank line in
+    let d : dashes (encode_utf8_all rest) ≡ dashes rest = run-encode (is_of (codes "-")) small-dash rest in
+    let at_tail : drop (dashes (encode_utf8_all rest)) (encode_utf8_all rest) ≡ encode_utf8_all tail = ap (λ (k : ℕ). drop k (encode_utf8_all rest)) d ∙ drop-encode (is_of (codes "-")) small-dash rest in
+    ap (λ (k : ℕ). told n k (drop (blanks bytes) bytes)) b
+    ∙ (ap (told n (blanks line)) at_rest
+    ∙ (ap (λ (k : ℕ). told_past n (blanks line) k (drop (dashes (encode_utf8_all rest)) (encode_utf8_all rest))) d
+    ∙ (ap (told_past n (blanks line) (dashes rest)) at_tail ∙ ap (told_by n (blanks line) (dashes rest)) (all-encode tail))))
+
+-- ---- what the shape of the last line says
+
+module _ (n : ℕ) (next u line : Chars) (inline : AreAll is_inline line) where
+  abbrev body : Chars
+  body = u ++ 10 ∷ line
+
+  abbrev rest : Chars
+  rest = drop (blanks line) line
+
+  abbrev tail : Chars
+  tail = drop (dashes rest) rest
+
+  three-flush : begins (fence 3) line ≡ true → (blanks line ≡ 0) × (3 ≤ dashes rest)
+  three-flush e =
+      let flush = no-blanks line e in
+      let same : dashes rest ≡ dashes line = ap (λ (k : ℕ). dashes (drop k line)) flush in
+      (flush, omega (arith, same, begins-dashes 3 line e))
+
+  no-dashes : dashes rest < 3 → (bs : Chars) → EndsAfter bs body → ⊥
+  no-dashes few bs ends =
+      let last : Chars = bs ++ (fence 3 ++ ends.1) in
+      let one : list_any is_newline last ≡ false = list_any-append is_newline bs (fence 3 ++ ends.1) ∙ rw (blanks-none bs ends.3) (inline-none ends.1 ends.4) in
+      let same : line ≡ last = sym (last-line u line (inline-none line inline)) ∙ (ap (after_last is_newline) ends.2 ∙ last-line ends.0 last one) in
+      let run : blanks line ≡ length bs = ap blanks same ∙ run-here (is_of (codes "\t ")) is_horizontal_whitespace same-blank bs (fence 3 ++ ends.1) ends.3 refl in
+      let past : rest ≡ fence 3 ++ ends.1 = ap (λ (k : ℕ). drop k line) run ∙ (ap (drop (length bs)) same ∙ drop-append_seam bs (fence 3 ++ ends.1)) in
+      omega (arith, few, begins-dashes 3 rest (ap (begins (fence 3)) past))
+
+  after-blanks : 3 ≤ dashes rest → EndsAfter (take (blanks line) line) body
+  after-blanks enough =
+      let whole : line ≡ take (blanks line) line ++ (fence 3 ++ drop 3 rest) = sym (take-append-drop (blanks line) line) ∙ ap (λ (w : Chars). take (blanks line) line ++ w) (begins-whole (fence 3) rest (dashes-begin 3 rest enough)) in
+      (u, drop 3 rest, ap (λ (w : Chars). u ++ 10 ∷ w) whole, run-all (is_of (codes "\t ")) is_horizontal_whitespace same-blank line, all-drop is_inline 3 rest (all-drop is_inline (blanks line) line inline))
+
+  module _ (lone : begins (fence 3) line ≡ false → NoLineBegins 3 (body ++ next)) (first : begins (fence n) line ≡ false → NoLineBegins n (body ++ next)) where
+    -- dashes come first
+    flush-told : blanks line ≡ 0 → 3 ≤ dashes rest
+        → IsEndFault n next body (if not (nat_eq (dashes rest) n) then Some (FrontmatterDashes n (dashes rest)) else if nat_eq (blanks tail) (length tail) then None else Some FrontmatterWords)
+    flush-told flush enough =
+        let d : ℕ = dashes rest in
+        let same_rest : rest ≡ line = ap (λ (k : ℕ). drop k line) flush in
+        let shape : line ≡ fence d ++ tail = sym same_rest ∙ (sym (take-append-drop d rest) ∙ ap (λ (w : Chars). w ++ tail) (dashes-are rest)) in
+        let stops = run-stops (is_of (codes "-")) (is_among (codes "-")) same-dash rest in
+        let plain = all-drop is_inline d rest (all-drop is_inline (blanks line) line inline) in
+        by_test (IsEndFault n next body) (not (nat_eq d n)) _ _
+        (λ other. subst (λ (l : Chars). IsEndFault n next (u ++ 10 ∷ l) (Some (FrontmatterDashes n d))) (sym shape) (other_dashes u tail d enough
+        (λ le.
+        let differ = eqb-false d n (not-true (nat_eq d n) other) in
+        let few : d < n = elim (cases_lt d n) [ inl lt ↦ lt | inr ge ↦ absurd (differ (omega arith)) ] in
+        let none : begins (fence n) line ≡ false = false_from_ne_true _ (λ t. let many = begins-dashes n line t in let same : dashes line ≡ d = ap dashes (sym same_rest) in omega (arith, many, same, few)) in
+        (few, subst (λ (l : Chars). NoLineBegins n ((u ++ 10 ∷ l) ++ next)) shape (first none)))
+        stops plain))
+        (λ same.
+        let is_n : d ≡ n = eqb-true d n (true_from_ne_false (nat_eq d n) (λ f. true≢false (sym (ap not f) ∙ same))) in
+        let closes : line ≡ fence n ++ tail = shape ∙ ap (λ (k : ℕ). fence k ++ tail) is_n in
+        by_test (IsEndFault n next body) (nat_eq (blanks tail) (length tail)) _ _
+        (λ all.
+        let whole : take (blanks tail) tail ≡ tail = take_all (blanks tail) tail (omega (arith, eqb-true (blanks tail) (length tail) all)) in
+        subst (λ (l : Chars). IsEndFault n next (u ++ 10 ∷ l) None) (sym closes) (closed u tail (subst (AreAll is_horizontal_whitespace) whole (run-all (is_of (codes "\t ")) is_horizontal_whitespace same-blank tail))))
+        (λ more.
+        let k : ℕ = blanks tail in
+        let c : ℕ = get_or tail k 0 in
+        let w : Chars = drop (suc k) tail in
+        let inside : k < length tail = elim (cases_lt k (length tail)) [ inl lt ↦ lt | inr ge ↦ absurd (eqb-false k (length tail) more (omega (arith, ge, prefix_len-le-length (is_of (codes "\t ")) tail))) ] in
+        let cut : drop k tail ≡ c ∷ w = drop-cons tail k 0 inside in
+        let split : tail ≡ take k tail ++ (c ∷ w) = sym (take-append-drop k tail) ∙ ap (λ (v : Chars). take k tail ++ v) cut in
+        subst (λ (l : Chars). IsEndFault n next (u ++ 10 ∷ l) (Some FrontmatterWords)) (sym (closes ∙ ap (λ (v : Chars). fence n ++ v) split))
+        (more_words u (take k tail) c w (run-all (is_of (codes "\t ")) is_horizontal_whitespace same-blank tail)
+        (ap (next_is is_horizontal_whitespace) (sym cut) ∙ run-stops (is_of (codes "\t ")) is_horizontal_whitespace same-blank tail)
+        (subst (NextIsNot (is_among (codes "-"))) split stops) (subst (AreAll is_inline) cut (all-drop is_inline k tail plain)))))
+
+    line-told : IsEndFault n next body (closing_fault n line)
+    line-told = by_test (IsEndFault n next body) (nat_lt (dashes rest) 3) _ _
+        (λ few. unclosed (lone (false_from_ne_true _ (λ t. let f = three-flush t in omega (arith, f.1, ltb-true (dashes rest) 3 few))), no-dashes (ltb-true (dashes rest) 3 few)))
+        (λ enough. by_test (IsEndFault n next body) (nat_lt 0 (blanks line)) _ _
+        (λ some. indented (take (blanks line) line)
+        (lone (false_from_ne_true _ (λ t. let f = three-flush t in omega (arith, f.0, ltb-true 0 (blanks line) some))))
+        (omega (arith, length-prefix_len (is_of (codes "\t ")) line, ltb-true 0 (blanks line) some))
+        (after-blanks (ltb-false (dashes rest) 3 enough)))
+        (λ none. flush-told (omega (arith, ltb-false 0 (blanks line) none)) (ltb-false (dashes rest) 3 enough)))
+
+-- ---- what the grammar finds
+
+data Found (n : ℕ) (next : Chars) : Chars → Type 0 where
+  last : (u line : Chars)
+      → AreAll is_inline line
+      → (begins (fence 3) line ≡ false → NoLineBegins 3 ((u ++ 10 ∷ line) ++ next))
+      → (begins (fence n) line ≡ false → NoLineBegins n ((u ++ 10 ∷ line) ++ next))
+      → Found n next (u ++ 10 ∷ line)
+  only : {body : Chars} → NoLineBegins 3 (body ++ next) → list_any is_newline body ≡ false → Found n next body
+
+found : (n : ℕ) {next body : Chars} → 3 ≤ n → IsBodyBefore next (endings n) body → Found n next body
+found n {next} many (the.with_line pattern u line is all stop) =
+    let here : begins (fence n) line ≡ true = begins-line n line next stop is.here in
+    let three : begins (fence 3) line ≡ true = dashes-begin 3 line (omega (arith, many, begins-dashes n line here)) in
+    last u line all (λ e. absurd (true≢false (sym three ∙ e))) (λ e. absurd (true≢false (sym here ∙ e)))
+found n {next} many (the.other pattern none (the.with_line three u line is all stop)) =
+    last u line all (λ e. absurd (true≢false (sym (begins-line 3 line next stop is.here) ∙ e))) (λ _. none)
+found n {next} {body} many (the.other pattern none (the.other three lone left)) = elim (lines body) [
+  | one e ↦ only lone e
+  | more u line e all ↦ subst (Found n next) (sym e) (last u line all (λ _. subst (λ (b : Chars). NoLineBegins 3 (b ++ next)) e lone) (λ _. subst (λ (b : Chars). NoLineBegins n (b ++ next)) e none))
+]
+
+-- ---- what stands before the body
+
+info-none : (c : ℕ) → is_info c ≡ true → is_newline c ≡ false
+info-none c e = false_from_ne_true (is_newline c) (λ f.
+    let ten : is_info 10 ≡ false = ap (λ (b : Bool). b || false) (sym (continue_part.same 10 (omega arith))) in
+    true≢false (sym e ∙ (ap is_info (eqb-true c 10 f) ∙ ten)))
+
+start-none : (c : ℕ) → is_id_start c ≡ true → is_newline c ≡ false
+start-none c e = false_from_ne_true (is_newline c) (λ f.
+    true≢false (sym (ap is_whitespace (eqb-true c 10 f)) ∙ word_start-no_space c (start-word_start c e)))
+
+label-none : {next w : Chars} → IsLabelBefore next w → list_any is_newline w ≡ false
+label-none (the.blank {w} all stop start) = blanks-none w all
+label-none (the.named u c v w before start info info_stops after stop) =
+    list_any-append is_newline u (c ∷ v ++ w) ∙ rw (blanks-none u before, start-none c start) (list_any-append is_newline v w ∙ rw (all-none is_info info-none v info, blanks-none w after) refl)
+
+fence-none : (n : ℕ) → list_any is_newline (fence n) ≡ false
+fence-none zero = refl
+fence-none (suc n) = fence-none n
+
+fence-all : (n : ℕ) → AreAll (is_among (codes "-")) (fence n)
+fence-all zero = refl
+fence-all (suc n) = fence-all n
+
+fence-length : (n : ℕ) → length (fence n) ≡ n
+fence-length zero = refl
+fence-length (suc n) = ap suc (fence-length n)
+
+-- ---- what is told
+
+-- at the end of a body, past one line that begins with n dashes
+record Told (n : ℕ) (next body : Chars) : Type 0 where
+  end : Option Fault
+  is : IsEndFault n next body end
+  same : (front : Chars) → dashes (front ++ body) ≡ n → list_any is_newline front ≡ false → end_fault (encode_utf8_all (front ++ body)) ≡ end
+
+abbrev chosen : Bool → ℕ → List ℕ → Option Fault
+chosen has n line = if has then closing_fault n line else Some OpenFrontmatter
+
+told-found : (n : ℕ) {next body : Chars} → Found n next body → Told n next body
+unfolding encode_utf8
+told-found n {next} (last u line inline lone first) = record {
+  end = closing_fault n line;
+  is = line-told n next u line inline lone first;
+  same = λ front run none.
+      let text : List ℕ = encode_utf8_all (front ++ (u ++ 10 ∷ line)) in
+      let one : list_any is_newline (encode_utf8_all line) ≡ false = one-encode line (inline-none line inline) in
+      let split : text ≡ encode_utf8_all (front ++ u) ++ 10 ∷ encode_utf8_all line =
+      ap encode_utf8_all (sym (append_assoc front u (10 ∷ line))) ∙ encodes-append (front ++ u) (10 ∷ line) in
+      ap (λ (b : Bool). chosen b (dashes text) (after_last is_newline text)) (ap (list_any is_newline) split ∙ has-line (encode_utf8_all (front ++ u)) (encode_utf8_all line) one)
+      ∙ (ap (λ (k : ℕ). closing_fault k (after_last is_newline text)) (run-encode (is_of (codes "-")) small-dash (front ++ (u ++ 10 ∷ line)) ∙ run)
+      ∙ (ap (closing_fault n) (ap (after_last is_newline) split ∙ last-line (encode_utf8_all (front ++ u)) (encode_utf8_all line) one) ∙ closing-encode n line));
+}
+told-found n {next} {body} (only lone none) = record {
+  end = Some OpenFrontmatter;
+  is = unclosed (lone, λ bs ends. true≢false (sym (ap (list_any is_newline) ends.2 ∙ list_any_at is_newline (ends.0 ++ 10 ∷ (bs ++ (fence 3 ++ ends.1))) (length ends.0) 0 (omega (arith, length-append ends.0 (10 ∷ (bs ++ (fence 3 ++ ends.1))))) (ap is_newline (get_or-append_seam ends.0 10 (bs ++ (fence 3 ++ ends.1)) 0))) ∙ none));
+  same = λ front run clean. let text : List ℕ = encode_utf8_all (front ++ body) in
+      ap (λ (b : Bool). chosen b (dashes text) (after_last is_newline text)) (one-encode (front ++ body) (list_any-append is_newline front body ∙ rw (clean, none) refl));
+}
+
+-- no line that begins with dashes stands where none does
+lone-not : (k n : ℕ) (u line next : Chars) → k ≤ n → NoLineBegins k (u ++ 10 ∷ (fence n ++ line) ++ next) → ⊥
+lone-not k n u line next le lone =
+    let at : begins (fence k) (fence n ++ (line ++ next)) ≡ true = dashes-begin k (fence n ++ (line ++ next)) (omega (arith, le, begins-dashes n (fence n ++ (line ++ next)) (fence-begins n (line ++ next)))) in
+    lone u (10 ∷ (fence n ++ line) ++ next) (sym (append_assoc u (10 ∷ (fence n ++ line)) next)) (ap (begins (fence k)) (append_assoc (fence n) line next) ∙ at)
+  where
+    fence-begins : (n : ℕ) (s : Chars) → begins (fence n) (fence n ++ s) ≡ true
+    fence-begins zero s = refl
+    fence-begins (suc n) s = fence-begins n s
+
+is-open : (n : ℕ) {next body : Chars} {end : Option Fault} → 3 ≤ n → IsEndFault n next body end → IsOpen body next → end ≡ Some OpenFrontmatter
+is-open n {next} many (closed u bs all) free = absurd (lone-not 3 n u bs next many free.0)
+is-open n {next} many (more_words u bs c w all other stop plain) free = absurd (lone-not 3 n u (bs ++ c ∷ w) next many free.0)
+is-open n {next} many (other_dashes u w m enough few stop plain) free = absurd (lone-not 3 m u w next enough free.0)
+is-open n many (indented bs lone some ends) free = absurd (free.1 bs ends)
+is-open n many (unclosed is) free = refl
+
+open-is : (n : ℕ) {next body : Chars} → IsEndFault n next body (Some OpenFrontmatter) → IsOpen body next
+open-is n (unclosed is) = is
+
+no-space : (n : ℕ) (w : Chars) → 3 ≤ n → next_is is_whitespace (fence n ++ w) ≡ false
+no-space zero w many = absurd (omega arith)
+no-space (suc n) w many = refl
+
+front-stops : (p : ℕ → Bool) (w next : Chars) → NextIsNot p (w ++ next) → NextIsNot p w
+front-stops p [] next stop = refl
+front-stops p (c ∷ w) next stop = stop
+
+-- of a kind that the grammar gives, in characters
+told-text : (kind : TokenKind) (n : ℕ) (bad_label : Bool) (opening body next : Chars) → IsOpeningBefore (body ++ next) n bad_label opening → IsBodyBefore next (endings n) body
+    → kind ≡ Frontmatter (next_is is_whitespace opening) bad_label → IsToldBy n bad_label opening body next (fault_of kind (encode_utf8_all (opening ++ body)))
+told-text kind n bad_label opening body next (the.opening _ space label spaces no_line many is stop) is_body kind_is =
+    let told = told-found n (found n many is_body) in
+    record {
+      end = told.end;
+      is = told.is;
+      told = ap (λ (k : TokenKind). fault_of k (encode_utf8_all (opening ++ body))) kind_is ∙ by_space space spaces told;
+      exact = (λ e. open-is n (subst (IsEndFault n next body) e told.is), λ free. is-open n many told.is free);
+    }
+  where
+    by_space : (space : Chars) → AreAll is_whitespace space → (told : Told n next body)
+        → fault_of (Frontmatter (next_is is_whitespace (space ++ (fence n ++ label))) bad_label) (encode_utf8_all (space ++ (fence n ++ label) ++ body))
+        ≡ (if next_is is_whitespace (space ++ (fence n ++ label)) then Some FrontmatterSpace else front_fault bad_label told.end)
+    by_space [] spaces told =
+        let text : List ℕ = encode_utf8_all ((fence n ++ label) ++ body) in
+        let free = no-space n (label) many in
+        let stops = front-stops (is_among (codes "-")) (label ++ body) next (ap (next_is (is_among (codes "-"))) (append_assoc label body next) ∙ stop) in
+        let run : dashes ((fence n ++ label) ++ body) ≡ n =
+        ap dashes (append_assoc (fence n) label body) ∙ (run-here (is_of (codes "-")) (is_among (codes "-")) same-dash (fence n) (label ++ body) (fence-all n) stops ∙ fence-length n) in
+        let none : list_any is_newline (fence n ++ label) ≡ false = list_any-append is_newline (fence n) label ∙ rw (fence-none n, label-none is) refl in
+        ap (λ (b : Bool). fault_of (Frontmatter b bad_label) text) free
+        ∙ (ap (front_fault bad_label) (told.same (fence n ++ label) run none) ∙ ap (λ (b : Bool). if b then Some FrontmatterSpace else front_fault bad_label told.end) (sym free))
+    by_space (c ∷ space) spaces told =
+        let here : is_whitespace c ≡ true = (and_parts (is_whitespace c) (list_all is_whitespace space) spaces).0 in
+        ap (λ (b : Bool). fault_of (Frontmatter b bad_label) (encode_utf8_all (c ∷ space ++ (fence n ++ label) ++ body))) here
+        ∙ ap (λ (b : Bool). if b then Some FrontmatterSpace else front_fault bad_label told.end) (sym here)
+
+pub tells : (kind : TokenKind) (text : List ℕ) → IsUtf8 text → TellsFrontmatter kind text (fault_of kind text)
+tells kind text utf8 n bad_label opening body next is is_body whole kind_is =
+    subst (λ (t : List ℕ). IsToldBy n bad_label opening body next (fault_of kind t)) (ap encode_utf8_all (sym whole) ∙ encodes-chars text utf8)
+    (told-text kind n bad_label opening body next is is_body kind_is)

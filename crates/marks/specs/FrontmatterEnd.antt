@@ -1,0 +1,74 @@
+-- The error at the end of a frontmatter, by the lines of the text: a law of `end_fault` over the lexer's grammar. `body`
+-- and `next` are as in FrontmatterGrammar: what follows the opening in the token, and all of the text after the token.
+use Rattle.std.specs.Prelude.{◌≡◌, ◌↔◌, ◌≤◌, ◌<◌, ℕ, Bool, false, if◌then◌else◌, List, ◌∷◌, ◌++◌, chars, codes, length, Option, Some, None}
+use Rattle.std.specs.Str.{byte}
+use Rattle.rustc_lexer.specs.Classes.{Chars, AreAll, NextNotIn, is_horizontal_whitespace, is_inline, is_whitespace, next_is}
+use Rattle.rustc_lexer.specs.FrontmatterGrammar.{IsAt, IsBodyBefore, IsNowhere, IsOpeningBefore, endings, fence}
+use Rattle.rustc_lexer.specs.declared.token.TokenKind.{TokenKind}
+use Rattle.rustc_lexer.specs.declared.token.TokenKind.TheVariants.{Frontmatter}
+use Rattle.marks.specs.declared.fault.Fault.{Fault}
+use Rattle.marks.specs.declared.fault.Fault.TheVariants.{FrontmatterSpace, OpenFrontmatter, FrontmatterIndent, FrontmatterDashes, FrontmatterWords}
+use Rattle.marks.specs.Fault.{front_fault}
+
+-- no line of the text begins with n dashes, unless its first does
+abbrev pub NoLineBegins : ℕ → Chars → Type 0
+NoLineBegins n s = IsNowhere (IsAt (byte "\n" ∷ fence n)) s
+
+-- the text ends in a line that has three dashes after these spaces and tabs, and is not its first
+abbrev pub EndsAfter : Chars → Chars → Type 0
+EndsAfter blanks body =
+    (u w : Chars) × (body ≡ u ++ byte "\n" ∷ (blanks ++ (fence 3 ++ w)))
+    × AreAll is_horizontal_whitespace blanks × AreAll is_inline w
+
+-- no line closes a frontmatter, up to the end of the text
+abbrev pub IsOpen : Chars → Chars → Type 0
+IsOpen body next = NoLineBegins 3 (body ++ next) × ((blanks : Chars) → EndsAfter blanks body → ⊥)
+
+-- what is wrong at the end of a frontmatter that opens with n dashes
+pub data IsEndFault (n : ℕ) (next : Chars) : Chars → Option Fault → Type 0 where
+  -- nothing: its last line is n dashes, and spaces and tabs
+  closed : (u blanks : Chars)
+      → AreAll is_horizontal_whitespace blanks
+      → IsEndFault n next (u ++ byte "\n" ∷ (fence n ++ blanks)) None
+  -- more follows these on that line
+  more_words : (u blanks : Chars) (c : ℕ) (w : Chars)
+      → AreAll is_horizontal_whitespace blanks
+      → is_horizontal_whitespace c ≡ false
+      → NextNotIn (codes "-") (blanks ++ c ∷ w)
+      → AreAll is_inline (c ∷ w)
+      → IsEndFault n next (u ++ byte "\n" ∷ (fence n ++ (blanks ++ c ∷ w))) (Some FrontmatterWords)
+  -- its last line has more dashes, or at least three; then no line has n, up to the end of the text
+  other_dashes : (u w : Chars) (m : ℕ)
+      → 3 ≤ m
+      → (m ≤ n → (m < n) × NoLineBegins n (u ++ byte "\n" ∷ (fence m ++ w) ++ next))
+      → NextNotIn (codes "-") w
+      → AreAll is_inline w
+      → IsEndFault n next (u ++ byte "\n" ∷ (fence m ++ w)) (Some (FrontmatterDashes n m))
+  -- no line of the text has three dashes but the last of the frontmatter, where spaces or tabs come before them
+  indented : {body : Chars} (blanks : Chars)
+      → NoLineBegins 3 (body ++ next)
+      → 0 < length blanks
+      → EndsAfter blanks body
+      → IsEndFault n next body (Some FrontmatterIndent)
+  -- nor does that line have them
+  unclosed : {body : Chars} → IsOpen body next → IsEndFault n next body (Some OpenFrontmatter)
+
+-- what is told of a frontmatter by the grammar: the error that its lines say, unless white space comes before it; and
+-- that nothing closes it exactly where nothing does
+pub record IsToldBy (n : ℕ) (bad_label : Bool) (opening body next : Chars) (fault : Option Fault)
+    : Type 0 where
+  pub end : Option Fault
+  pub is : IsEndFault n next body end
+  pub told : fault
+      ≡ (if next_is is_whitespace opening then Some FrontmatterSpace else front_fault bad_label end)
+  pub exact : end ≡ Some OpenFrontmatter ↔ IsOpen body next
+
+-- the error of a token, if the grammar has it as a frontmatter in a text that goes on by `next`
+abbrev pub TellsFrontmatter : TokenKind → List ℕ → Option Fault → Type 0
+TellsFrontmatter kind text fault =
+    (n : ℕ) (bad_label : Bool) (opening body next : Chars)
+    → IsOpeningBefore (body ++ next) n bad_label opening
+    → IsBodyBefore next (endings n) body
+    → chars text ≡ opening ++ body
+    → kind ≡ Frontmatter (next_is is_whitespace opening) bad_label
+    → IsToldBy n bad_label opening body next fault
