@@ -1,4 +1,4 @@
 use Rattle.highlight_run.proofs.program.program.Goals as goal
 
-pub returns : goal.returns
-returns g c = record { ended = (c.show-outcome.result, c.show-outcome.ensures.ran, c.show-outcome.ensures.leaves, rw (← c.closed.ensures) c.report.ensures) }
+pub returns-clause-ended : goal.returns-clause-ended
+returns-clause-ended g c = (c.show-outcome.result, c.show-outcome.ensures.ran, c.show-outcome.ensures.leaves, rw (← c.closed.ensures) c.report.ensures)
