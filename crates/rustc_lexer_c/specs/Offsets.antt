@@ -2,7 +2,7 @@
 use Rattle.std.specs.Prelude.{ℕ, ◌≡◌, ◌+◌, ◌≤◌, Bool, true, false, List, length, map}
 use Rattle.rustc_lexer.specs.declared.relex.front.Bound.{Bound}
 use Rattle.rustc_lexer.specs.declared.token.Token.{Token}
-use Rattle.rustc_lexer.specs.Edits.{ContainsByte}
+use Rattle.rustc_lexer.specs.Offsets.{ContainsByte}
 use Rattle.rustc_lexer.specs.Tokens.{bound}
 use Rattle.rustc_lexer_c.specs.declared.token.CToken.{CToken}
 

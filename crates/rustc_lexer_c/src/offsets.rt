@@ -1,7 +1,7 @@
 //! Finds the token at an offset.
 ghost use Rattle.std.specs.Prelude.{◌≡◌, ◌+◌, ◌<◌, ◌≤◌, ℕ, List, IfSome, IsNone, length};
 ghost use Rattle.rustc_lexer.specs.declared.token.Token.{Token};
-ghost use Rattle.rustc_lexer.specs.Edits.{ContainsByte};
+ghost use Rattle.rustc_lexer.specs.Offsets.{ContainsByte};
 ghost use Rattle.rustc_lexer.specs.Tokens.{bound};
 ghost use Rattle.rustc_lexer_c.specs.Offsets.{ArePlaced, FindsToken};
 
