@@ -94,7 +94,7 @@ impl<R: Read> Read for Watched<R> {
     ghost remaining = { λ w. R.remaining w.inner };
 
     fn read(&mut self, buf: &mut [u8]) -> io::Result<usize>
-        ensures bound { ReadsAtMost result buf.new }
+        ensures at_most { ReadsAtMost result buf.new }
         ensures bytes { ReadConsumes (R.remaining self.old.inner)
             (R.remaining self.new.inner) result buf.new }
         ensures failed { self.new.failed ≡ (self.old.failed || is_err result) }
@@ -111,7 +111,7 @@ impl<W: Write> Write for Watched<W> {
     ghost contents = { λ w. W.contents w.inner };
 
     fn write(&mut self, buf: &[u8]) -> io::Result<usize>
-        ensures bound { WritesAtMost result buf.now }
+        ensures at_most { WritesAtMost result buf.now }
         ensures bytes { WriteAppends (W.contents self.old.inner)
             (W.contents self.new.inner) result buf.now }
         ensures failed { self.new.failed ≡ (self.old.failed || took_nothing result buf.now) }

@@ -8,9 +8,9 @@ use Rattle.rustc_lexer.specs.Classes.{IsText}
 use Rattle.rustc_lexer.specs.Document.{body_start, head_tokens, whole_by}
 use Rattle.rustc_lexer.specs.Edits.{apply, IsEdit, IsRelexed, KeepsHead, part_by}
 use Rattle.rustc_lexer.specs.Locality.{IsGrammar}
-use Rattle.rustc_lexer.specs.Relexing.{IsEditOf, IsMadeOf, body_change, counted, IsBodyChange, IsHeadOf}
+use Rattle.rustc_lexer.specs.Relexing.{IsEditOf, IsMadeOf, IsBodyChange, IsHeadOf, IsInBody}
 use Rattle.rustc_lexer.specs.Tokens.{tokens_by}
-use Rattle.rustc_lexer.specs.means.Document.{body_insert, head_of, HeadStays}
+use Rattle.rustc_lexer.specs.means.Document.{body_change, body_insert, counted, head_of, HeadStays}
 use Rattle.rustc_lexer.specs.means.Relexing.{IsBodyRelexed}
 use Rattle.rustc_lexer.proofs.DocumentLemmas.{made_body}
 use Rattle.rustc_lexer.proofs.DocumentPage.{ahead, end_is, from_page, front_is, same-parts, to_page}
@@ -77,7 +77,13 @@ module _ {first : List ℕ → Token} (law : IsGrammar first) (text insert : Lis
         relexed_as law text insert edit.start edit.old_stop is its fine kept keeps_here.0 (λ e k. true≢false (sym (keeps_here.1 k) ∙ e)) _ (r, there, refl)
 
     body_here : IsBodyChange first text edit insert made kept change
-    body_here = grind (arith, common_steps, keeps_here, made_here, counts_here)
+    body_here = record {
+      keeps = keeps_here;
+      put = _;
+      made_of = made_here;
+      counts_kept = λ e r x. subst (λ (b : Bool). IsRelexed (whole_by first) text edit.start edit.old_stop insert (counted b _ _ r)) e (counts_here r x);
+      counts_new = λ e r x. subst (λ (b : Bool). IsRelexed (whole_by first) text edit.start edit.old_stop insert (counted b _ _ r)) e (counts_here r x);
+    }
 
 pub body_is : {first : List ℕ → Token} (law : IsGrammar first) (before insert text : List ℕ) (edit : Change) (old now : Head) (kept : Bool) (change : Change) → IsEditOf before edit insert text → IsHeadOf before old → IsHeadOf text now
     → IsTrue kept ↔ ((old ≡ now) × (old.body ≤ edit.start)) → change ≡ body_change kept old.body now.body edit → IsBodyChange first before edit insert text kept change
@@ -85,3 +91,8 @@ body_is {first} law before insert text edit old now kept change e old_head now_h
     let there : IsHeadOf (apply before edit.start edit.old_stop insert) now = subst (λ (bytes : List ℕ). IsHeadOf bytes now) e.made now_head in
     subst (λ (bytes : List ℕ). IsBodyChange first before edit insert bytes kept change) (sym e.made)
     (body_here law before insert edit e.is_text e.inserted e.is_edit e.new_stop old now kept change old_head there decided change_is)
+
+-- what the change is, by its places
+pub in_body : (kept : Bool) (from to : ℕ) (edit : Change) → (kept ≡ true → (from ≤ edit.start) × (edit.start ≤ edit.old_stop) × (edit.start ≤ edit.new_stop)) → IsInBody kept from to edit (body_change kept from to edit)
+in_body true from to edit order = let o = order refl in grind (arith, common_steps, o.0, o.1, o.2)
+in_body false from to edit order = (max (from - edit.old_stop) (to - edit.new_stop), refl, omega arith, omega arith, λ n old new. omega (arith, old, new))

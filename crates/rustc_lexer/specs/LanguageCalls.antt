@@ -15,16 +15,16 @@ use Rattle.rustc_lexer.specs.LiteralGrammar.{hashes, NoQuoteWith, IsRaw, IsDoubl
 abbrev pub StartsRaw : Utf8 → ℕ → Type 0
 StartsRaw text p = (0 < p) × (next_is (λ c. c == byte "r") (drop (p - 1) (chars text)) ≡ true)
 
--- where a raw string that is not closed was probably meant to end. `found` is the largest number of hashes that follow
--- a quote of w, and `offset` is the offset at which the first quote with that many hashes ends. In front of w stand p
--- bytes and the characters `before`. In `abc"#`, `found` is 1, and `offset` is directly after the quote
-pub data IsLikelyEnd (p : ℕ) (before w : Chars) : (found : ℕ) → (offset : Option ℕ) → Type 0 where
-  none : NoQuoteWith 1 w → IsLikelyEnd p before w 0 None
+-- where a raw string that is not closed was probably meant to end. w is the text after its opening quote, and begins at
+-- byte `start`. `found` is the largest number of hashes that follow a quote of w, and `offset` is where the first quote
+-- with that many hashes ends, in bytes. In `abc"#`, `found` is 1, and `offset` is directly after the quote
+pub data IsLikelyEnd (start : ℕ) (w : Chars) : (found : ℕ) → (offset : Option ℕ) → Type 0 where
+  none : NoQuoteWith 1 w → IsLikelyEnd start w 0 None
   best : {n : ℕ} (u v : Chars) → 0 < n → w ≡ u ++ (byte "\"" ∷ hashes n ++ v) → NoQuoteWith n u → NoQuoteWith (suc n) w
-      → IsLikelyEnd p before w n (Some (p + bytes (before ++ (u ++ codes "\""))))
+      → IsLikelyEnd start w n (Some (start + bytes (u ++ codes "\"")))
 
 -- the text after the `r` of a prefix of p characters, and the result of checking it: Ok if it begins with a valid raw
--- string, otherwise the reason why not. Places are in bytes, where the prefix counts as p, a byte for each character
+-- string, otherwise the reason why not. Each character of the prefix counts as one byte, so the text begins at byte p
 pub data IsRawAnswer (p : ℕ) : Chars → Result Unit RawStrError → Type 0 where
   -- `##"a"##`, whatever follows
   good : {n : ℕ} {w next : Chars} → IsRaw next (Some n) w → IsRawAnswer p (w ++ next) (Ok tt)
@@ -32,7 +32,7 @@ pub data IsRawAnswer (p : ℕ) : Chars → Result Unit RawStrError → Type 0 wh
       → IsRawAnswer p (hashes n ++ (byte "\"" ∷ w ++ (byte "\"" ∷ hashes n ++ next))) (Err (TooManyDelimiters n))
   -- `##"abc"#`
   unclosed : (n : ℕ) (w : Chars) {found : ℕ} {offset : Option ℕ}
-      → NoQuoteWith n w → IsLikelyEnd p (hashes n ++ codes "\"") w found offset
+      → NoQuoteWith n w → IsLikelyEnd (p + suc n) w found offset
       → IsRawAnswer p (hashes n ++ byte "\"" ∷ w) (Err (NoTerminator n found offset))
   -- `#~`; if the text ends there, the error has U+0000
   no_quote : (n c : ℕ) (next : Chars) → is_among (codes "\"#") c ≡ false

@@ -103,27 +103,38 @@ pub record IsHeadOf (text : List ℕ) (head : Head) : Type 0 where
   pub bare : head.frontmatter ≡ None → head.space_len ≡ 0
   pub end_is : head.body ≡ body_start text
 
--- the change that an edit makes to the body, in offsets of the body, which began at `from` and now begins at `to`. If
--- the edit keeps the head, the change is the edit itself. Otherwise it is everything from the start of the body up to
--- the first position past the edit at which both bodies have begun
-abbrev pub body_change : Bool → ℕ → ℕ → Change → Change
-body_change true from to edit = record { start = edit.start - from; old_stop = edit.old_stop - from; new_stop = edit.new_stop - from }
-body_change false from to edit =
-    let more : ℕ = max (from - edit.old_stop) (to - edit.new_stop) in
-    record { start = 0; old_stop = edit.old_stop + more - from; new_stop = edit.new_stop + more - to }
-
--- the counts of a document, made from those of its body and the number of tokens in its old and its new head
-abbrev pub counted : Bool → ℕ → ℕ → Relexed → Relexed
-counted true old new r = record { kept_front = old + r.kept_front; lexed = r.lexed; kept_back = r.kept_back }
-counted false old new r = record { kept_front = r.kept_front; lexed = new + r.lexed; kept_back = r.kept_back }
+-- what an edit changes in the body, which began at `from` and now begins at `to`. If the edit keeps the head, that is the
+-- edit itself. Otherwise it is all from the start of the body up to the first place past the edit at which both bodies
+-- have begun
+abbrev pub IsInBody : Bool → ℕ → ℕ → Change → Change → Type 0
+IsInBody true from to edit change =
+    (edit.start ≡ from + change.start) × (edit.old_stop ≡ from + change.old_stop)
+    × (edit.new_stop ≡ from + change.new_stop)
+IsInBody false from to edit change =
+    (more : ℕ) × (change.start ≡ 0) × (edit.old_stop + more ≡ from + change.old_stop)
+    × (edit.new_stop + more ≡ to + change.new_stop)
+    × ((n : ℕ) → from ≤ edit.old_stop + n → to ≤ edit.new_stop + n → more ≤ n)
 
 -- the change is what the edit means for the body: it made the present body of the old one. `kept` says whether the edit
--- keeps the head; with it, the counts of the body give those of the document
+-- keeps the head. From the counts of the body follow those of the document: the tokens of a head that stays are kept in
+-- front, and those of a new one are lexed
 pub record IsBodyChange (first : List ℕ → Token) (before : List ℕ) (edit : Change) (insert text : List ℕ) (kept : Bool) (change : Change) : Type 0 where
   pub keeps : IsTrue kept ↔ KeepsHead (whole_by first before) (whole_by first text) edit.start
   pub put : List ℕ
   pub made_of :
       let body : List ℕ = drop (body_start before) before in
       IsMadeOf first body (map (λ (t : Token). t.len) (tokens_by first body)) change put (drop (body_start text) text)
-  pub counts : (r : Relexed) → IsRelexed (part_by first) (drop (body_start before) before) change.start change.old_stop put r
-      → IsRelexed (whole_by first) before edit.start edit.old_stop insert (counted kept (length (head_tokens before)) (length (head_tokens text)) r)
+  pub counts_kept : kept ≡ true → (r : Relexed)
+      → IsRelexed (part_by first) (drop (body_start before) before) change.start change.old_stop put r
+      → IsRelexed (whole_by first) before edit.start edit.old_stop insert (record {
+        kept_front = length (head_tokens before) + r.kept_front;
+        lexed = r.lexed;
+        kept_back = r.kept_back;
+      })
+  pub counts_new : kept ≡ false → (r : Relexed)
+      → IsRelexed (part_by first) (drop (body_start before) before) change.start change.old_stop put r
+      → IsRelexed (whole_by first) before edit.start edit.old_stop insert (record {
+        kept_front = r.kept_front;
+        lexed = length (head_tokens text) + r.lexed;
+        kept_back = r.kept_back;
+      })

@@ -151,7 +151,7 @@ pub(crate) fn ends_of_runs(bytes: &[u8]) -> u64
 #[inline(always)]
 pub(crate) fn run_end<C: ByteClass>(bytes: &[u8]) -> usize
     ensures value { result ≡ prefix_len C.passes bytes.now }
-    ensures bound { result ≤ length bytes.now }
+    ensures inside { result ≤ length bytes.now }
 {
     if bytes.len() < C::WIDTH {
         return run_end_by_bytes::<C>(bytes);
@@ -167,7 +167,7 @@ pub(crate) fn run_end<C: ByteClass>(bytes: &[u8]) -> usize
 #[inline(always)]
 pub(crate) fn short_run_end<C: ByteClass>(bytes: &[u8]) -> usize
     ensures value { result ≡ prefix_len C.passes bytes.now }
-    ensures bound { result ≤ length bytes.now }
+    ensures inside { result ≤ length bytes.now }
 {
     if !bytes.is_empty() && C::has(bytes[0]) {
         return run_end::<C>(bytes);
@@ -179,7 +179,7 @@ pub(crate) fn short_run_end<C: ByteClass>(bytes: &[u8]) -> usize
 #[inline(never)]
 fn run_end_by_lanes<C: ByteClass>(bytes: &[u8]) -> usize
     ensures value { result ≡ prefix_len C.passes bytes.now }
-    ensures bound { result ≤ length bytes.now }
+    ensures inside { result ≤ length bytes.now }
 {
     let mut end = 0;
     'lanes: while bytes.len() - end >= C::WIDTH {
@@ -196,7 +196,7 @@ fn run_end_by_lanes<C: ByteClass>(bytes: &[u8]) -> usize
 #[inline(never)]
 fn run_end_by_bytes<C: ByteClass>(bytes: &[u8]) -> usize
     ensures value { result ≡ prefix_len C.passes bytes.now }
-    ensures bound { result ≤ length bytes.now }
+    ensures inside { result ≤ length bytes.now }
 {
     let mut end = 0;
     'bytes: while end < bytes.len() && C::has(bytes[end]) {

@@ -117,7 +117,7 @@ fn front_end<F: Fn(u8) -> bool>(bytes: &[u8], test: F) -> usize
     requires callable { F.IsAlwaysCallable test }
     ensures value { (class : ℕ → Bool) → ((b : ℕ) (passes : Bool) → F.post test b passes → passes ≡ class b)
         → result ≡ prefix_len class bytes.now }
-    ensures bound { result ≤ length bytes.now }
+    ensures inside { result ≤ length bytes.now }
 {
     let mut end = 0;
     'front: while end < bytes.len() && test(bytes[end]) {

@@ -110,5 +110,5 @@ listed Errors mode text = wrong_units_of mode text
 pub record Lists (list : Mode → List ℕ → List CUnit) (mode : Option Mode) (text : List ℕ) (passed : ℕ) (buffer filled : List CUnit) (count status : ℕ) : Type 0 where
   pub status_is : IsStatus text (mode ≢ None) (refusal_number BadMode) status
   pub units : status ≡ OK → IsSomeAnd mode (λ kind. IsUnits (list kind text) passed buffer filled count)
-  pub bound : status ≡ OK → IsSomeAnd mode (λ kind. length (list kind text) ≤ max 1 (length text))
+  pub at_most : status ≡ OK → IsSomeAnd mode (λ kind. length (list kind text) ≤ max 1 (length text))
   pub refused : status ≢ OK → (filled ≡ buffer) × (count ≡ 0)

@@ -118,7 +118,7 @@ fn split_part(text: &str) -> (&str, &str)
 #[inline(always)]
 fn simple_end(bytes: &[u8], raw: bool) -> usize
     ensures simple { result ≤ prefix_len (spec.is_simple raw) bytes.now }
-    ensures bound { result ≤ length bytes.now }
+    ensures inside { result ≤ length bytes.now }
 {
     if bytes.len() < 32 {
         return last_simple_end(bytes, raw);
@@ -143,7 +143,7 @@ fn simple_end(bytes: &[u8], raw: bool) -> usize
 #[inline(always)]
 fn last_simple_end(bytes: &[u8], raw: bool) -> usize
     ensures simple { result ≤ prefix_len (spec.is_simple raw) bytes.now }
-    ensures bound { result ≤ length bytes.now }
+    ensures inside { result ≤ length bytes.now }
 {
     let mut end = 0;
     'bytes: while bytes.len() < 32 && end < bytes.len() && is_simple(bytes[end], raw) {
@@ -172,7 +172,7 @@ fn is_simple(byte: u8, raw: bool) -> bool
 #[tactic(auto, using(crate::proofs::LaneLemmas::run_through))]
 fn simple_end_by_lanes(bytes: &[u8], raw: bool) -> usize
     ensures simple { result ≤ prefix_len (spec.is_simple raw) bytes.now }
-    ensures bound { result ≤ length bytes.now }
+    ensures inside { result ≤ length bytes.now }
 {
     let mut end = 0;
     'lanes: while bytes.len() - end >= 32 {

@@ -66,26 +66,23 @@ pub guard-bytes : (n : ℕ) → bytes (hashes n) ≡ n
 guard-bytes zero = refl
 guard-bytes (suc n) = omega (arith, bytes-one 35 (hashes n) refl, guard-bytes n)
 
-front-bytes : (n : ℕ) → bytes (hashes n ++ 34 ∷ []) ≡ suc n
-front-bytes n = omega (arith, bytes-append (hashes n) (34 ∷ []), guard-bytes n, bytes-one 34 [] refl)
-
 -- where it ends
-end-at : (p n m : ℕ) (u v : List ℕ) → p + suc n + bytes_of (suc (length u)) (u ++ (34 ∷ hashes m ++ v)) ≡ p + bytes ((hashes n ++ 34 ∷ []) ++ (u ++ 34 ∷ []))
-end-at p n m u v =
+end-at : (start m : ℕ) (u v : List ℕ) → start + bytes_of (suc (length u)) (u ++ (34 ∷ hashes m ++ v)) ≡ start + bytes (u ++ 34 ∷ [])
+end-at start m u v =
     let text : u ++ (34 ∷ hashes m ++ v) ≡ (u ++ 34 ∷ []) ++ (hashes m ++ v) = sym (append_assoc u (34 ∷ []) (hashes m ++ v)) in
     let size : suc (length u) ≡ length (u ++ 34 ∷ []) = omega (arith, length-append u (34 ∷ [])) in
     let here : take (suc (length u)) (u ++ (34 ∷ hashes m ++ v)) ≡ u ++ 34 ∷ [] = ap (take (suc (length u))) text ∙ (ap (λ (k : ℕ). take k ((u ++ 34 ∷ []) ++ (hashes m ++ v))) size ∙ take-append_seam (u ++ 34 ∷ []) (hashes m ++ v)) in
-    omega (arith, ap bytes here, bytes-append (hashes n ++ 34 ∷ []) (u ++ 34 ∷ []), front-bytes n)
+    ap (λ (k : ℕ). start + k) (ap bytes here)
 
-record BestIs (p n m : ℕ) (w : List ℕ) (end : Option ℕ) : Type 0 where
+record BestIs (start m : ℕ) (w : List ℕ) (end : Option ℕ) : Type 0 where
   most : most_hashes w ≡ m
-  at : quote_end (p + suc n) w (best_quote w) ≡ end
+  at : quote_end start w (best_quote w) ≡ end
 
-best-read : (p n : ℕ) {w : List ℕ} {m : ℕ} {end : Option ℕ} → IsLikelyEnd p (hashes n ++ 34 ∷ []) w m end → BestIs p n m w end
-best-read p n {w} (the.none lacks) =
+best-read : (start : ℕ) {w : List ℕ} {m : ℕ} {end : Option ℕ} → IsLikelyEnd start w m end → BestIs start m w end
+best-read start {w} (the.none lacks) =
     let most : most_hashes w ≡ 0 = omega (arith, most-few 0 w lacks) in
-    record { most = most; at = ap (λ (k : ℕ). quote_end (p + suc n) w (quote_if k w)) most }
-best-read p n {w} (the.best {n = m} u v some whole lacks most_so) =
+    record { most = most; at = ap (λ (k : ℕ). quote_end start w (quote_if k w)) most }
+best-read start {w} (the.best {n = m} u v some whole lacks most_so) =
     let many : m ≤ most_hashes w = subst (λ (x : List ℕ). m ≤ most_hashes x) (sym whole) (most-many m u v) in
     let most : most_hashes w ≡ m = omega (arith, most-few m w most_so, many) in
     let exact : hash_run (hashes m ++ v) ≡ m = omega (arith, at_least m v, most_at m u v w whole most) in
@@ -93,11 +90,11 @@ best-read p n {w} (the.best {n = m} u v some whole lacks most_so) =
     record {
       most = most;
       at =
-          ap (λ (k : ℕ). quote_end (p + suc n) w (quote_if k w)) most
-          ∙ (ap (λ (b : Bool). quote_end (p + suc n) w (if b then None else quote_with m w)) has
-          ∙ (ap (λ (x : List ℕ). quote_end (p + suc n) x (quote_with m x)) whole
-          ∙ (ap (quote_end (p + suc n) (u ++ (34 ∷ hashes m ++ v))) (quote-first m u v some lacks exact)
-          ∙ ap Some (end-at p n m u v))));
+          ap (λ (k : ℕ). quote_end start w (quote_if k w)) most
+          ∙ (ap (λ (b : Bool). quote_end start w (if b then None else quote_with m w)) has
+          ∙ (ap (λ (x : List ℕ). quote_end start x (quote_with m x)) whole
+          ∙ (ap (quote_end start (u ++ (34 ∷ hashes m ++ v))) (quote-first m u v some lacks exact)
+          ∙ ap Some (end-at start m u v))));
     }
   where
     most_at : (m : ℕ) (u v w : List ℕ) → w ≡ u ++ (34 ∷ hashes m ++ v) → most_hashes w ≡ m → hash_run (hashes m ++ v) ≤ m
@@ -108,19 +105,19 @@ best-read p n {w} (the.best {n = m} u v some whole lacks most_so) =
         most_at m u v s refl (omega (arith, more, most-many m u v))
 
 -- one of them there is
-record HasBest (p : ℕ) (front w : List ℕ) : Type 0 where
+record HasBest (start : ℕ) (w : List ℕ) : Type 0 where
   count : ℕ
   end : Option ℕ
-  is : IsLikelyEnd p front w count end
+  is : IsLikelyEnd start w count end
 
-has-best : (p : ℕ) (front w : List ℕ) → HasBest p front w
-has-best p front w = by_most (most_hashes w) refl
+has-best : (start : ℕ) (w : List ℕ) → HasBest start w
+has-best start w = by_most (most_hashes w) refl
   where
-    some-best : (m : ℕ) → most_hashes w ≡ suc m → {o : Option ℕ} → Closing (suc m) w o → HasBest p front w
+    some-best : (m : ℕ) → most_hashes w ≡ suc m → {o : Option ℕ} → Closing (suc m) w o → HasBest start w
     some-best m e (found u z lacks whole) = record { count = suc m; end = _; is = the.best u z (omega arith) (sym whole) lacks (lacks-past (suc (suc m)) w (omega (arith, e))) }
     some-best m e (lost lacks) = absurd (omega (arith, most-few m w lacks, e))
 
-    by_most : (m : ℕ) → most_hashes w ≡ m → HasBest p front w
+    by_most : (m : ℕ) → most_hashes w ≡ m → HasBest start w
     by_most zero e = record { count = 0; end = None; is = the.none (lacks-past 1 w (omega (arith, e))) }
     by_most (suc m) e = some-best m e (closing (suc m) w)
 
@@ -144,7 +141,7 @@ answer-read {p} (the.good {next = next} (lit.closed n w le lacks)) =
 answer-read {p} (the.too_many n w next lt lacks) =
     sym (past-quote p n (w ++ (34 ∷ hashes n ++ next)) ∙ (ap (λ (o : Option ℕ). checked (raw_closed n (p + suc n) (w ++ (34 ∷ hashes n ++ next)) o).0) (close-read n w next lacks) ∙ many n lt))
 answer-read {p} (the.unclosed n w {found = m} {offset = end} lacks is_best) =
-    let b = best-read p n is_best in
+    let b = best-read (p + suc n) is_best in
     sym (past-quote p n w ∙ (ap (λ (o : Option ℕ). checked (raw_closed n (p + suc n) w o).0) (unclosed-read n w lacks)
     ∙ (ap (λ (k : ℕ). let r : Result Unit RawStrError = Err (NoTerminator n k (quote_end (p + suc n) w (best_quote w))) in r) b.most ∙ ap (λ (o : Option ℕ). let r : Result Unit RawStrError = Err (NoTerminator n m o) in r) b.at)))
 answer-read {p} (the.no_quote n c next out) =
@@ -165,7 +162,7 @@ has-answer p s = let g = guarded s in subst (HasAnswer p) g.whole (by_left g.cou
     closed n u (found w z lacks whole) = subst (λ (x : List ℕ). HasAnswer p (hashes n ++ 34 ∷ x)) whole (by_either (nat_le n 255)
         (λ e. record { answer = Ok tt; is = subst (λ (x : List ℕ). IsRawAnswer p x (Ok tt)) (whole-text n w z) (the.good (lit.closed n w (leb-true n 255 e) lacks)) })
         (λ e. record { answer = Err (TooManyDelimiters n); is = the.too_many n w z (leb-false n 255 e) lacks }))
-    closed n u (lost lacks) = let b = has-best p (hashes n ++ 34 ∷ []) u in record { answer = Err (NoTerminator n b.count b.end); is = the.unclosed n u lacks b.is }
+    closed n u (lost lacks) = let b = has-best (p + suc n) u in record { answer = Err (NoTerminator n b.count b.end); is = the.unclosed n u lacks b.is }
 
     by_left : (n : ℕ) (v : List ℕ) → NextIsNot is_hash v → HasAnswer p (hashes n ++ v)
     by_left n [] stop = record { answer = Err (InvalidStarter 0); is = subst (λ (x : List ℕ). IsRawAnswer p x (Err (InvalidStarter 0))) (sym (append-nil (hashes n))) (the.no_more n) }

@@ -1,12 +1,12 @@
 -- Means, by how it is read: the head of a document, and what an edit keeps of the document by it.
-use Rattle.std.specs.Prelude.{ℕ, ◌+◌, ◌-◌, ◌≤◌, ◌≡◌, if◌then◌else◌, List, ◌++◌, length, take, drop, chars, Option, Some, None, Bool, true, false, IsCharBoundary}
+use Rattle.std.specs.Prelude.{ℕ, ◌+◌, ◌-◌, ◌≤◌, ◌≡◌, if◌then◌else◌, List, ◌++◌, length, take, drop, max, chars, Option, Some, None, Bool, true, false, IsCharBoundary}
 use Rattle.rustc_lexer.specs.declared.relex.checkpoints.Checkpoints.{Checkpoints}
 use Rattle.rustc_lexer.specs.declared.relex.head.Head.{Head}
 use Rattle.rustc_lexer.specs.declared.relex.relexing.{Change.Change, Relexed.Relexed, Relexing.Relexing}
 use Rattle.rustc_lexer.specs.{Token}
 use Rattle.rustc_lexer.specs.Classes.{IsText}
 use Rattle.rustc_lexer.specs.Document.{shebang_len}
-pub use Rattle.rustc_lexer.specs.Relexing.{body_change, counted, front_tokens, tokens_of_head}
+pub use Rattle.rustc_lexer.specs.Relexing.{front_tokens, tokens_of_head}
 use Rattle.rustc_lexer.specs.Edits.{apply}
 use Rattle.rustc_lexer.specs.Partition.{tokens_by}
 use Rattle.rustc_lexer.specs.means.Checkpoints.{AreBounds}
@@ -45,6 +45,20 @@ abbrev pub AreKeptOf : Bool → (List ℕ → Token) → List ℕ → List Token
 AreKeptOf whole first text tokens head checkpoints =
     IsText text × (tokens ≡ document_by (head_by whole) first text) × (head ≡ head_by whole text) × IsCharBoundary text head.body
     × AreBounds (drop (length (tokens_of_head head)) tokens) checkpoints
+
+-- the change that an edit makes to the body, in offsets of the body, which began at `from` and now begins at `to`. If
+-- the edit keeps the head, the change is the edit itself. Otherwise it is everything from the start of the body up to
+-- the first position past the edit at which both bodies have begun
+abbrev pub body_change : Bool → ℕ → ℕ → Change → Change
+body_change true from to edit = record { start = edit.start - from; old_stop = edit.old_stop - from; new_stop = edit.new_stop - from }
+body_change false from to edit =
+    let more : ℕ = max (from - edit.old_stop) (to - edit.new_stop) in
+    record { start = 0; old_stop = edit.old_stop + more - from; new_stop = edit.new_stop + more - to }
+
+-- the counts of a document, made from those of its body and the number of tokens in its old and its new head
+abbrev pub counted : Bool → ℕ → ℕ → Relexed → Relexed
+counted true old new r = record { kept_front = old + r.kept_front; lexed = r.lexed; kept_back = r.kept_back }
+counted false old new r = record { kept_front = r.kept_front; lexed = new + r.lexed; kept_back = r.kept_back }
 
 -- what an edit inserts into the body
 abbrev pub body_insert : Bool → Change → List ℕ → List ℕ → List ℕ

@@ -2,8 +2,7 @@
 ghost use Rattle.std.specs.Prelude.{◌≡◌, ◌<◌, ◌≤◌, ◌^◌, ◌↔◌, IsTrue, List, ℕ};
 ghost use Rattle.rustc_lexer.specs.{Token};
 ghost use Rattle.rustc_lexer.specs.Locality.{IsGrammar};
-ghost use Rattle.rustc_lexer.specs.Relexing.{IsBodyChange, IsEditOf, IsHeadOf};
-ghost use Rattle.rustc_lexer.specs.Relexing as spec;
+ghost use Rattle.rustc_lexer.specs.Relexing.{IsBodyChange, IsEditOf, IsHeadOf, IsInBody};
 
 use crate::relex::document_edit::{body_change, keeps_head};
 use crate::relex::head::Head;
@@ -34,7 +33,7 @@ impl Head {
 
         // Whether the head stays, and what then changes in the body.
         ensures keeps { IsTrue result.keeps_head ↔ (self ≡ now) × (self.body ≤ edit.start) }
-        ensures change { result.change ≡ spec.body_change result.keeps_head self.body now.body edit }
+        ensures change { IsInBody result.keeps_head self.body now.body edit result.change }
         ensures body { (first : List ℕ → Token) (before insert text : List ℕ)
             → IsGrammar first → IsEditOf before edit insert text
             → IsHeadOf before self → IsHeadOf text now

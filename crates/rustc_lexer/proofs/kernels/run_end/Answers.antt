@@ -8,8 +8,8 @@ returns-clause-value g c =
     let fits = g.C.ByteClass.width_fits in
     sym (run_stops g.C.ByteClass.passes c.args.bytes.now 0 g.C.ByteClass.WIDTH (omega arith) fits.1 (omega (arith, c.stops-stops.ensures)) ∙ ap (count_trailing_zeros 64) (sym c.stops-stops.ensures))
 
-pub returns-clause-bound : goal.returns-clause-bound
-returns-clause-bound g c =
+pub returns-clause-inside : goal.returns-clause-inside
+returns-clause-inside g c =
     let fits = g.C.ByteClass.width_fits in
     let run = run_stops g.C.ByteClass.passes c.args.bytes.now 0 g.C.ByteClass.WIDTH (omega arith) fits.1 (omega (arith, c.stops-stops.ensures)) ∙ ap (count_trailing_zeros 64) (sym c.stops-stops.ensures) in
     omega (arith, run, run_bound g.C.ByteClass.passes c.args.bytes.now 0 (omega arith))

@@ -1,5 +1,11 @@
-use Rattle.rustc_lexer.proofs.BodyChangeLemmas.{body_is}
+use Rattle.std.proofs.Common.{sym, subst}
+use Rattle.rustc_lexer.specs.declared.relex.relexing.Change.{Change}
+use Rattle.rustc_lexer.specs.Relexing.{IsInBody}
+use Rattle.rustc_lexer.proofs.BodyChangeLemmas.{body_is, in_body}
 use Rattle.rustc_lexer.proofs.relex.head.Head.change_to.Goals as goal
 
 pub returns-clause-body : goal.returns-clause-body
 returns-clause-body c first before insert text law e old_head now_head = body_is law before insert text c.args.edit c.args.self c.args.now _ _ e old_head now_head c.keeps_head-keeps_head.ensures c.body_change.ensures
+
+pub returns-clause-change : goal.returns-clause-change
+returns-clause-change c = subst (λ (change : Change). IsInBody _ _ _ _ change) (sym c.body_change.ensures) (in_body _ _ _ c.args.edit (λ e. (c.keeps_head-keeps_head.ensures.0 e).1, c.requires.old_order, c.requires.new_order))
