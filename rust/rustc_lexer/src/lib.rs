@@ -71,11 +71,7 @@ pub mod erased;
 #[cfg(feature = "alloc")]
 mod joined_text;
 #[cfg(feature = "alloc")]
-mod kept_calls;
-#[cfg(feature = "alloc")]
-mod lexed_document;
-#[cfg(feature = "alloc")]
-mod lexed_text;
+mod kept;
 pub mod lists;
 mod pieces;
 mod tokens;
@@ -191,10 +187,7 @@ pub use erased::{Edit, EditStop, Pieces};
 pub use joined_text::JoinedText;
 #[cfg(feature = "alloc")]
 #[doc(alias("edit", "incremental", "relex", "reparse"))]
-pub use lexed_document::LexedDocument;
-#[cfg(feature = "alloc")]
-#[doc(alias("edit", "incremental", "relex", "reparse"))]
-pub use lexed_text::LexedText;
+pub use kept::{LexedDocument, LexedText};
 // What links in the texts name: some are elsewhere, and some are hidden where there is no memory.
 #[cfg(all(doc, not(feature = "alloc")))]
 use erased::{JoinedText, LexedDocument, LexedText, Pieces};

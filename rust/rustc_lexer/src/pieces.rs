@@ -1,5 +1,7 @@
-//! The tokens of a text with their offsets and their texts.
+//! Tokens with their offsets and their texts.
 
+#[cfg(feature = "alloc")]
+use crate::Pieces;
 use crate::{Piece, Tokens};
 use core::fmt;
 use core::iter::FusedIterator;
@@ -37,6 +39,19 @@ impl FusedIterator for TokenPieces<'_> {}
 impl fmt::Debug for TokenPieces<'_> {
     fn fmt(&self, f: &mut fmt::Formatter<'_>) -> fmt::Result {
         f.debug_tuple("TokenPieces").field(&self.rest).finish()
+    }
+}
+
+#[cfg(feature = "alloc")]
+impl FusedIterator for Pieces<'_> {}
+
+/// How many pieces are left.
+#[cfg(feature = "alloc")]
+impl fmt::Debug for Pieces<'_> {
+    fn fmt(&self, f: &mut fmt::Formatter<'_>) -> fmt::Result {
+        f.debug_struct("Pieces")
+            .field("left", &self.len())
+            .finish_non_exhaustive()
     }
 }
 

@@ -1,25 +1,31 @@
-//! The calls of a kept text, which are the same of a part of a file and of a whole one.
+//! Texts that are kept with their tokens under edits: a part of a file, and a whole one.
 
-use crate::Token;
-use core::ops::{Bound, Range, RangeBounds};
+use crate::checked::Checked;
+use crate::edit_error::{EditError, check_accepted, try_fitting};
+use crate::erased::{self, Edit, EditStop};
+use crate::support::{AllocError, Global};
+use crate::{Bound, Edition, Piece, Pieces, Relexed, Stepper, Steps, Token};
+use alloc::string::String;
+use core::fmt;
+use core::ops::{self, Range, RangeBounds};
 
 /// Returns the range in a text or a list of `len`. One that ends past `usize::MAX` is in no text.
-pub(crate) fn range_in(range: &impl RangeBounds<usize>, len: usize) -> Range<usize> {
+fn range_in(range: &impl RangeBounds<usize>, len: usize) -> Range<usize> {
     let start = match range.start_bound() {
-        Bound::Included(&at) => at,
-        Bound::Excluded(&at) => at.saturating_add(1),
-        Bound::Unbounded => 0,
+        ops::Bound::Included(&at) => at,
+        ops::Bound::Excluded(&at) => at.saturating_add(1),
+        ops::Bound::Unbounded => 0,
     };
     let stop = match range.end_bound() {
-        Bound::Included(&at) => at.saturating_add(1),
-        Bound::Excluded(&at) => at,
-        Bound::Unbounded => len,
+        ops::Bound::Included(&at) => at.saturating_add(1),
+        ops::Bound::Excluded(&at) => at,
+        ops::Bound::Unbounded => len,
     };
     start..stop
 }
 
 /// Returns the numbers of tokens. Panics if there are no such tokens.
-pub(crate) fn checked_range(numbers: &impl RangeBounds<usize>, tokens: &[Token]) -> Range<usize> {
+fn checked_range(numbers: &impl RangeBounds<usize>, tokens: &[Token]) -> Range<usize> {
     let numbers = range_in(numbers, tokens.len());
     assert!(
         numbers.start <= numbers.end && numbers.end <= tokens.len(),
@@ -29,9 +35,17 @@ pub(crate) fn checked_range(numbers: &impl RangeBounds<usize>, tokens: &[Token])
     numbers
 }
 
-/// Writes these calls for a type with `kept`, the erased type of its name, and `in_edit`.
-macro_rules! kept_calls {
-    ($Kept:ident) => {
+/// Writes a kept text over the erased type of its name, with the calls that both have.
+macro_rules! kept_text {
+    ($(#[$about:meta])* $Kept:ident) => {
+        $(#[$about])*
+        #[derive(Clone)]
+        pub struct $Kept<S: Stepper = Steps> {
+            kept: erased::$Kept<S>,
+            /// Whether an edit has begun and not ended. Past it that means that a step panicked.
+            in_edit: bool,
+        }
+
         impl $Kept {
             /// Returns the text with its tokens in the newest edition.
             ///
@@ -525,4 +539,96 @@ macro_rules! kept_calls {
     };
 }
 
-pub(crate) use kept_calls;
+kept_text! {
+    /// A text and its tokens, which are always those of lexing the text from scratch, as a part of a file. For a whole
+    /// file, with a shebang line and a frontmatter, use [`LexedDocument`](crate::LexedDocument).
+    ///
+    /// An edit lexes again only the tokens near it, and keeps all others.
+    ///
+    /// ```
+    /// use rustc_lexer::LexedText;
+    ///
+    /// let mut lexed = LexedText::new("let ab = cd + ef;");
+    /// let relexed = lexed.edit(12..13, "- 1 -");
+    /// assert_eq!(lexed.text(), "let ab = cd - 1 - ef;");
+    /// assert_eq!((relexed.kept_front, relexed.lexed, relexed.kept_back), (6, 7, 3));
+    /// ```
+    ///
+    /// Each call that panics if a text is too long, a range is bad or an allocation fails has a twin that returns an error
+    /// instead, like [`try_edit`](LexedText::try_edit).
+    LexedText
+}
+
+kept_text! {
+    /// A whole file and its tokens, which are always those of [`tokenize_document`](crate::tokenize_document): they begin
+    /// after a shebang line, and a frontmatter is one token.
+    ///
+    /// It has the calls of a [`LexedText`](crate::LexedText), which is for a part of a file. An edit after the head, which
+    /// is the shebang line and the frontmatter, keeps of the tokens there what it would keep of them alone, unless it changes
+    /// the head.
+    ///
+    /// ```
+    /// use rustc_lexer::{LexedDocument, TokenKind};
+    ///
+    /// let mut lexed = LexedDocument::new("#!/bin/sh\n---\n[package]\n---\nfn main() {}");
+    /// assert!(matches!(lexed.tokens()[1].kind, TokenKind::Frontmatter { .. }));
+    ///
+    /// // Without the second fence all that follows the first is the frontmatter, and with it again it is code.
+    /// lexed.edit(24..27, "");
+    /// assert_eq!(lexed.tokens().len(), 2);
+    /// lexed.edit(24..24, "---");
+    /// assert_eq!(lexed.pieces().nth(3).map(|piece| (piece.start, piece.text)), Some((28, "fn")));
+    /// ```
+    ///
+    /// The first of its pieces begins at [`shebang_len`](LexedDocument::shebang_len). A shebang line is not a piece: if an edit
+    /// changes it, `kept_front` is 0, and the text before the first piece is to be repainted too.
+    ///
+    /// Each call that panics if a text is too long, a range is bad or an allocation fails has a twin that returns an error
+    /// instead, like [`try_edit`](LexedDocument::try_edit).
+    LexedDocument
+}
+
+impl<S: Stepper> LexedDocument<S> {
+    /// Returns the length of the shebang line, or 0. The first token begins there.
+    ///
+    /// ```
+    /// use rustc_lexer::LexedDocument;
+    ///
+    /// assert_eq!(LexedDocument::new("#!/bin/sh\nfn").shebang_len(), 9);
+    /// assert_eq!(LexedDocument::new("#![no_std]").shebang_len(), 0);
+    /// ```
+    #[must_use]
+    pub fn shebang_len(&self) -> usize {
+        self.whole().shebang_len()
+    }
+
+    /// Returns where the body begins, which is all text after the head: how many tokens come before it, and its offset.
+    ///
+    /// ```
+    /// use rustc_lexer::LexedDocument;
+    ///
+    /// let body = LexedDocument::new("#!/bin/sh\n---\n---\nfn").body();
+    /// assert_eq!((body.number, body.offset), (2, 17));
+    /// ```
+    #[must_use]
+    pub fn body(&self) -> Bound {
+        self.whole().body()
+    }
+}
+
+impl Relexed {
+    /// Returns the numbers of the tokens that were lexed, among those after the edit.
+    ///
+    /// ```
+    /// use rustc_lexer::LexedText;
+    ///
+    /// let mut lexed = LexedText::new("a + b + c + d");
+    /// let relexed = lexed.edit(8..8, "x");
+    /// let written: u32 = lexed.tokens()[relexed.range()].iter().map(|token| token.len).sum();
+    /// assert_eq!(written, 4);
+    /// ```
+    #[must_use]
+    pub fn range(&self) -> Range<usize> {
+        self.kept_front..self.kept_front + self.lexed
+    }
+}
