@@ -1,6 +1,6 @@
 -- What an edit of a document is to its body, by the tokens of the grammar.
 use Rattle.std.proofs.lemmas.Grind.{common_steps}
-use Rattle.std.proofs.Common.{◌≡◌, ℕ, ◌+◌, ◌≤◌, Bool, true, true≢false, List, length, map, drop, refl, sym, ap, ap₂, ◌∙◌, subst, arith, IsCharBoundary, IsUtf8, IsTrue, ◌↔◌}
+use Rattle.std.proofs.Common.{◌≡◌, ℕ, ◌+◌, ◌-◌, ◌≤◌, Bool, true, false, true≢false, List, length, map, max, drop, refl, sym, ap, ap₂, ◌∙◌, subst, arith, IsCharBoundary, IsUtf8, IsTrue, ◌↔◌}
 use Rattle.rustc_lexer.specs.{Token}
 use Rattle.rustc_lexer.specs.declared.relex.head.Head.{Head}
 use Rattle.rustc_lexer.specs.declared.relex.relexing.{Change.Change, Relexed.Relexed}
@@ -81,8 +81,8 @@ module _ {first : List ℕ → Token} (law : IsGrammar first) (text insert : Lis
       keeps = keeps_here;
       put = _;
       made_of = made_here;
-      counts_kept = λ e r x. subst (λ (b : Bool). IsRelexed (whole_by first) text edit.start edit.old_stop insert (counted b _ _ r)) e (counts_here r x);
-      counts_new = λ e r x. subst (λ (b : Bool). IsRelexed (whole_by first) text edit.start edit.old_stop insert (counted b _ _ r)) e (counts_here r x);
+      counts_kept = λ e r x. subst (λ (b : Bool). IsRelexed (whole_by first) text edit.start edit.old_stop insert (counted b (length (head_tokens text)) (length (head_tokens made)) r)) e (counts_here r x);
+      counts_new = λ e r x. subst (λ (b : Bool). IsRelexed (whole_by first) text edit.start edit.old_stop insert (counted b (length (head_tokens text)) (length (head_tokens made)) r)) e (counts_here r x);
     }
 
 pub body_is : {first : List ℕ → Token} (law : IsGrammar first) (before insert text : List ℕ) (edit : Change) (old now : Head) (kept : Bool) (change : Change) → IsEditOf before edit insert text → IsHeadOf before old → IsHeadOf text now
