@@ -1,4 +1,5 @@
 //! The marks around a token: tags of a page, or escape sequences of a terminal.
+#![tactic(auto, using(crate::proofs::CallLemmas::tried_call))]
 ghost use Rattle.std.specs.Prelude.{◌≡◌, OnOk};
 ghost use Rattle.std.specs.Fmt.{WritesInCalls};
 ghost use Rattle.marks.specs.Mark.{class_close, class_open, fault_close, fault_open};
@@ -61,7 +62,6 @@ pub fn class_close(style: Style, class: Class) -> &'static str
 }
 
 /// Writes the mark before the first line of a token with a fault. In a page it is a tag with the sentence.
-#[tactic(auto, using(crate::proofs::CallLemmas::tried_call))]
 pub fn open_fault<W: fmt::Write>(style: Style, fault: Fault, output: &mut W) -> fmt::Result
     ensures { OnOk result
         (WritesInCalls W.write_str_gives output.old (fault_open style fault) output.new) }
@@ -74,7 +74,6 @@ pub fn open_fault<W: fmt::Write>(style: Style, fault: Fault, output: &mut W) -> 
 }
 
 /// Writes the mark after the first line of a token with a fault. In a terminal it has the sentence.
-#[tactic(auto, using(crate::proofs::CallLemmas::tried_call))]
 pub fn close_fault<W: fmt::Write>(style: Style, fault: Fault, output: &mut W) -> fmt::Result
     ensures { OnOk result
         (WritesInCalls W.write_str_gives output.old (fault_close style fault) output.new) }

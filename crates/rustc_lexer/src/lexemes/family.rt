@@ -1,4 +1,5 @@
 //! Families of tokens, which the first character of a token chooses, and the kinds that a byte tells.
+#![tactic(auto, using(crate::proofs::FamilyLemmas::table, std::proofs::lemmas::Grind::common_steps))]
 ghost use Rattle.std.specs.Prelude.{◌≡◌, ◌<◌, ◌≤◌, MatchOption};
 ghost use Rattle.rustc_lexer.specs.declared.lexemes.family.Family.TheVariants.{Symbol};
 ghost use Rattle.rustc_lexer.specs.means.Ends as spec;
@@ -112,7 +113,6 @@ const CLASSIFIED: &[Option<TokenKind>; 256] = picture!(kind
 
 /// Returns the family that the character chooses.
 #[inline(always)]
-#[tactic(auto, using(crate::proofs::FamilyLemmas::table, std::proofs::lemmas::Grind::common_steps))]
 pub(crate) fn family_of(first: char) -> Family
     ensures { result ≡ spec.family_of first }
 {
@@ -126,7 +126,6 @@ pub(crate) fn family_of(first: char) -> Family
 
 /// Returns the family that a byte of ASCII chooses, or `None` for a byte from 128 up.
 #[inline(always)]
-#[tactic(auto, using(crate::proofs::FamilyLemmas::table, std::proofs::lemmas::Grind::common_steps))]
 pub(crate) fn family_of_byte(first: u8) -> Option<Family>
     ensures { MatchOption result (128 ≤ first)
         (λ family. (first < 128) × (family ≡ spec.family_of first)) }

@@ -1,4 +1,5 @@
 //! Numbers.
+#![tactic(auto, using(crate::proofs::NumberLemmas::number_lemmas, std::proofs::lemmas::Grind::common_steps))]
 ghost use Rattle.std.specs.Prelude.{◌≡◌, ◌+◌, ◌<◌, ◌^◌, false, length, slice_index};
 ghost use Rattle.std.specs.Char.{is_ascii_digit, is_ascii_hexdigit};
 ghost use Rattle.std.specs.Str.{chars};
@@ -29,7 +30,6 @@ pub(crate) fn number(first_digit: char, tail: &str) -> (TokenKind, &str)
 
 /// Returns the kind of the number, and the text from its suffix on.
 #[inline(always)]
-#[tactic(auto, using(crate::proofs::NumberLemmas::number_lemmas, std::proofs::lemmas::Grind::common_steps))]
 fn number_kind(first_digit: char, tail: &str) -> (LiteralKind, &str)
     ensures { (result.0, result.1.now) ≡ scanned (spec.number_kind first_digit) tail.now }
 {
@@ -57,7 +57,6 @@ fn integer_part(first_digit: char, tail: &str) -> (Base, bool, &str)
 /// Returns the base of a number whose first digit is 0, whether its prefix has no digit after it, and the text
 /// after its digits.
 #[inline(always)]
-#[tactic(auto, using(crate::proofs::NumberLemmas::number_lemmas, std::proofs::lemmas::Grind::common_steps))]
 fn part_past_zero(tail: &str) -> (Base, bool, &str)
     ensures { (spec.part_of result.0 result.1, result.2.now)
         ≡ scanned spec.part_past_zero tail.now }
@@ -79,7 +78,6 @@ fn part_past_zero(tail: &str) -> (Base, bool, &str)
 /// Returns the kind of a number of this base, and the text after it. The text after its integer part makes it a number
 /// with a fraction, with an exponent or with neither.
 #[inline(always)]
-#[tactic(auto, using(crate::proofs::NumberLemmas::number_lemmas, std::proofs::lemmas::Grind::common_steps))]
 fn past_digits(base: Base, rest: &str) -> (LiteralKind, &str)
     ensures { (result.0, result.1.now) ≡ scanned (spec.past_digits base) rest.now }
 {

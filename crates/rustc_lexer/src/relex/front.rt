@@ -2,6 +2,7 @@
 //!
 //! The functions here read only the lengths of the old tokens. They may be called with any lengths. What they
 //! promise holds for lengths that are those of a text's tokens.
+#![tactic(auto, using(crate::proofs::EditLemmas::edit_lemmas, std::proofs::lemmas::Grind::common_steps))]
 ghost use Rattle.std.specs.Prelude.{◌≡◌, ◌+◌, ◌-◌, ◌*◌, ◌<◌, ◌≤◌, ◌^◌, List, length, map, ℕ, true, false, IsCharBoundary, max};
 ghost use Rattle.rustc_lexer.specs.{Token};
 ghost use Rattle.rustc_lexer.specs.Offsets.{IsBound};
@@ -46,7 +47,6 @@ pub(crate) const FIRST: Bound = Bound {
 
 /// Returns whether there are at least two characters between the two offsets.
 #[inline(always)]
-#[tactic(auto, using(crate::proofs::EditLemmas::edit_lemmas, std::proofs::lemmas::Grind::common_steps))]
 pub(crate) fn two_stand(text: &str, from: usize, to: usize) -> bool
     requires from_boundary { IsCharBoundary text.now from }
     requires to_boundary { IsCharBoundary text.now to }
@@ -67,7 +67,6 @@ pub(crate) fn two_stand(text: &str, from: usize, to: usize) -> bool
 
 /// Returns whether `from` is between characters, and at least two characters come from there up to `to`.
 #[inline(always)]
-#[tactic(auto, using(crate::proofs::EditLemmas::edit_lemmas, std::proofs::lemmas::Grind::common_steps))]
 fn stand_before(text: &str, from: usize, to: usize) -> bool
     requires to_boundary { IsCharBoundary text.now to }
     ensures late { to ≤ from → result ≡ false }
