@@ -1,14 +1,18 @@
 -- How far the tokens of a text are sure.
-use Rattle.std.proofs.Common.{◌≡◌, ℕ, zero, suc, ◌+◌, ◌-◌, ◌<◌, ◌≤◌, true, false, true≢false, List, [], ◌∷◌, ◌++◌, length, take, drop, refl, sym, ap, ◌∙◌, arith, take_at, length-append, IsUtf8, IsCharBoundary, inl, inr, subst}
+use Rattle.std.proofs.Common.{◌≡◌, ℕ, zero, suc, ◌+◌, ◌-◌, ◌<◌, ◌≤◌, true, false, true≢false, List, [], ◌∷◌, ◌++◌, length, map, take, drop, refl, sym, ap, ◌∙◌, arith, take_at, length-append, IsUtf8, IsCharBoundary, inl, inr, subst}
 use Rattle.std.proofs.lemmas.Bool.Decides.{leb_tells}
 use Rattle.std.proofs.lemmas.Str.{IsCharBoundary-from_drop, IsCharBoundary-end, IsUtf8-between}
 use Rattle.std.proofs.Math.Seq.{take-length}
 use Rattle.std.proofs.lemmas.Grind.{common_steps}
+use Rattle.rustc_lexer.specs.declared.relex.front.Bound.{Bound}
 use Rattle.rustc_lexer.specs.{Token}
+use Rattle.rustc_lexer.specs.Offsets.{IsBound}
 use Rattle.rustc_lexer.specs.Tokens.{bound, tokens_by}
 use Rattle.rustc_lexer.specs.Locality.{has_two, AreLocal, IsSettled, StaysUpTo, IsGrammar, AgreePast}
 use Rattle.rustc_lexer.specs.Classes.{IsText}
-use Rattle.rustc_lexer.proofs.BoundLemmas.{bound_mono, rises}
+use Rattle.rustc_lexer.specs.means.Relexing.{AreBoundaries, IsFront, kept_front}
+use Rattle.rustc_lexer.proofs.BoundLemmas.{bound-last, bound_mono, rises}
+use Rattle.rustc_lexer.proofs.FrontLemmas.{IsKept, kept_from}
 use Rattle.rustc_lexer.specs.laws.Cuts.{at_bound, tokens_local}
 use Rattle.rustc_lexer.proofs.EditLemmas.{has_two-agree, has_two-mono}
 use Rattle.rustc_lexer.proofs.ProgressLemmas.{IsLexedTo, lexed_more}
@@ -65,3 +69,43 @@ module _ {first : List ℕ → Token} (law : IsGrammar first) (text : List ℕ) 
 
 pub local : {first : List ℕ → Token} (law : IsGrammar first) → AreLocal (tokens_by first)
 local law text other k is its few agree = tokens_local law k text other is its few agree
+
+-- ---- the last bound of a list that two characters follow
+
+-- such lists of tokens are cut between characters, and take the whole text
+pub record AreCuts (text : List ℕ) (tokens : List Token) : Type 0 where
+  pub utf8 : IsUtf8 text
+  pub cuts : AreBoundaries text tokens
+  pub whole : bound tokens (length tokens) ≡ length text
+
+pub cuts_by : {first : List ℕ → Token} (law : IsGrammar first) (text : List ℕ) → IsText text → AreCuts text (tokens_by first text)
+cuts_by law text is = record { utf8 = is.utf8; cuts = λ k few. (boundary law text is k).1; whole = bound-last law text is }
+
+module _ (text : List ℕ) (tokens : List Token) (are : AreCuts text tokens) where
+  -- what the search for it asks, from the end on
+  front_from_end : (read : List ℕ) (slice : List Token) → read ≡ text → slice ≡ tokens → IsFront text tokens (map (λ (t : Token). t.len) slice) read (length read) × IsBound tokens (record { number = length slice; offset = length read })
+  front_from_end read slice e f = rw (e, f) (record { utf8 = are.utf8; cuts = are.cuts; lengths_are = refl; same = refl }, (omega arith, sym are.whole))
+
+  settled_at : (at : Bound) → at.number ≡ kept_front text tokens (length text) → IsBound tokens at → (0 < at.number → has_two text at.offset (length text) ≡ true) → IsSettled text tokens at.offset
+  settled_at at count is two = record {
+    at_bound = (at.number, is.0, sym is.1);
+    two = λ some. two (positive at.number is.1 some);
+    last = λ k few has. elim (leb_tells k at.number) [
+      | inl before ↦ omega (arith, bound_mono tokens k at.number before.1, is.1)
+      | inr after ↦ absurd (let kept : IsKept text tokens (length text) k (bound tokens k) = kept_from text tokens (length text) k (bound tokens k) are.utf8 are.cuts few refl (λ some. has) in omega (arith, kept.count, count, after.1))
+    ];
+  }
+    where
+      positive : (n : ℕ) → at.offset ≡ bound tokens n → 0 < at.offset → 0 < n
+      positive zero e some = absurd (omega arith)
+      positive (suc n) e some = omega arith
+
+  -- what the search answers
+  pub settled_by_front : (read : List ℕ) (slice : List Token) (at : Bound) → read ≡ text → slice ≡ tokens
+      → ((old : List ℕ) (ts : List Token) → IsFront old ts (map (λ (t : Token). t.len) slice) read (length read) → IsBound ts (record { number = length slice; offset = length read })
+      → (at.number ≡ kept_front old ts (length read)) × IsBound ts at × (0 < at.number → has_two old at.offset (length read) ≡ true))
+      → IsSettled text tokens at.offset
+  settled_by_front read slice at e f found =
+      let from = front_from_end read slice e f in
+      let front = found text tokens from.0 from.1 in
+      settled_at at (front.0 ∙ ap (λ (xs : List ℕ). kept_front text tokens (length xs)) e) front.1 (λ some. subst (λ (xs : List ℕ). has_two text at.offset (length xs) ≡ true) e (front.2 some))
