@@ -1,5 +1,5 @@
 -- Bounds of a list of tokens, and the search for one.
-use Rattle.std.proofs.Common.{◌≡◌, ℕ, zero, suc, ◌+◌, ◌-◌, ◌<◌, ◌≤◌, Bool, true, false, cond, ◌||◌, List, [], ◌∷◌, length, drop, refl, sym, ap, ◌∙◌, arith, eqb, ltb, eq-eqb, eqb-true, true≢false, length-drop, eq-or-lt_of_le}
+use Rattle.std.proofs.Common.{◌≡◌, ℕ, zero, suc, ◌+◌, ◌-◌, ◌<◌, ◌≤◌, Bool, true, false, cond, ◌||◌, List, [], ◌∷◌, ◌++◌, length, drop, refl, sym, ap, ◌∙◌, arith, eqb, ltb, eq-eqb, eqb-true, true≢false, length-drop, eq-or-lt_of_le}
 use Rattle.std.proofs.lemmas.Bool.{lt-ltb, le-ltb}
 use Rattle.std.proofs.lemmas.List.Sums.{sum_by_from}
 use Rattle.std.specs.List.{list_any, count_by}
@@ -35,6 +35,11 @@ bound_mono [] (suc i) zero le = omega arith
 bound_mono [] (suc i) (suc j) le = omega arith
 bound_mono (t ∷ ts) (suc i) zero le = absurd (omega arith)
 bound_mono (t ∷ ts) (suc i) (suc j) le = omega (arith, bound_mono ts i j (omega arith))
+
+-- the end of one token more
+pub bound-end : (ts : List Token) (t : Token) → bound (ts ++ t ∷ []) (length (ts ++ t ∷ [])) ≡ bound ts (length ts) + t.len
+bound-end [] t = omega arith
+bound-end (u ∷ ts) t = omega (arith, bound-end ts t)
 
 among_ends : (from : ℕ) (ts : List Token) (p : ℕ) → list_any (eqb p) (ends_from from ts) ≡ true → (i : ℕ) × (i ≤ length ts) × (from + bound ts i ≡ p)
 among_ends from [] p e = absurd (true≢false (sym e))

@@ -19,7 +19,7 @@ use Rattle.rustc_lexer.specs.means.Joined.{IsEnding, goes_on, last_start}
 use Rattle.rustc_lexer.specs.means.Scan.{next_is}
 use Rattle.rustc_lexer.specs.declared.relex.ending.Ending.{Ending}
 use Rattle.rustc_lexer.specs.declared.relex.ending.Ending.TheVariants.{Empty, One, Two}
-use Rattle.rustc_lexer.proofs.BoundLemmas.{bound-last}
+use Rattle.rustc_lexer.proofs.BoundLemmas.{bound-end, bound-last}
 use Rattle.rustc_lexer.proofs.DocumentHead.{bound-append}
 use Rattle.rustc_lexer.proofs.EditLemmas.{has_two-intro}
 use Rattle.rustc_lexer.proofs.GoesOnLemmas.{ends-before-in}
@@ -32,11 +32,7 @@ use Rattle.rustc_lexer.proofs.SeparatorLemmas.{Tokens, first-is, first-of, newli
 pub ending-more : (tokens : List Token) (start : ℕ) (before last token : Token) → IsEnding tokens (Two start before last) → IsEnding (tokens ++ token ∷ []) (Two (start + before.len) last token)
 ending-more tokens start before last token (means.two front are at) = means.two (front ++ before ∷ [])
     (ap (λ (ts : List Token). ts ++ token ∷ []) are ∙ (append_assoc front (before ∷ last ∷ []) (token ∷ []) ∙ sym (append_assoc front (before ∷ []) (last ∷ token ∷ []))))
-    (ap (λ (n : ℕ). n + before.len) at ∙ sym (grows front before))
-  where
-    grows : (ts : List Token) (t : Token) → bound (ts ++ t ∷ []) (length (ts ++ t ∷ [])) ≡ bound ts (length ts) + t.len
-    grows [] t = omega arith
-    grows (u ∷ ts) t = omega (arith, grows ts t)
+    (ap (λ (n : ℕ). n + before.len) at ∙ sym (bound-end front before))
 
 pub ending-one : (tokens : List Token) (last token : Token) → IsEnding tokens (One last) → IsEnding (tokens ++ token ∷ []) (Two 0 last token)
 ending-one tokens last token (means.one are) = means.two [] (ap (λ (ts : List Token). ts ++ token ∷ []) are) refl

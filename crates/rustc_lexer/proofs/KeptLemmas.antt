@@ -14,7 +14,7 @@ use Rattle.rustc_lexer.specs.Locality.{IsGrammar}
 use Rattle.rustc_lexer.specs.Tokens.{bound, tokens_by}
 use Rattle.rustc_lexer.specs.means.Document.{AreKeptOf, document_by, head_by, tokens_of_head}
 use Rattle.rustc_lexer.specs.Kept.{start_in}
-use Rattle.rustc_lexer.specs.means.Pieces.{AreBoundariesFrom}
+use Rattle.rustc_lexer.specs.means.Pieces.{AreBoundariesFrom, AreCut}
 use Rattle.rustc_lexer.proofs.BoundLemmas.{bound-last, bound_mono}
 use Rattle.rustc_lexer.proofs.DocumentHead.{bound-append, front_of}
 use Rattle.rustc_lexer.proofs.DocumentPieces.{document_cuts}
@@ -70,9 +70,9 @@ module _ {first : List ℕ → Token} (law : IsGrammar first) (whole : Bool) (te
   pub offset_fits : (k : ℕ) → k ≤ length tokens → head.shebang_len + bound tokens k < 2 ^ 32
   offset_fits k few = let fits = are.0.fits in omega (arith, bound_mono tokens k (length tokens) few, end_is)
 
-  -- the tokens that are read are cut between characters
-  pub kept_cuts : (read : List ℕ) (slice : List Token) → read ≡ text → slice ≡ tokens → (length read < 2 ^ 32) × AreBoundariesFrom read head.shebang_len slice
-  kept_cuts read slice e f = rw (e, f) (are.0.fits, subst (λ n. AreBoundariesFrom text n tokens) (sym (start_is whole text head are.2)) (by_extent whole are.1))
+  -- the tokens cut the text between characters
+  pub kept_cuts : AreCut text head.shebang_len (length text) tokens
+  kept_cuts = (are.0.fits, subst (λ n. AreBoundariesFrom text n tokens) (sym (start_is whole text head are.2)) (by_extent whole are.1), sym end_is)
     where
       by_extent : (w : Bool) → tokens ≡ document_by (head_by w) first text → AreBoundariesFrom text (start_in w text) tokens
       by_extent true e = document_cuts law text tokens are.0 e

@@ -1,5 +1,5 @@
 -- A text that is kept with its tokens, in the words of its definitions.
-use Rattle.std.proofs.Common.{◌≡◌, ℕ, ◌+◌, ◌^◌, ◌<◌, ◌≤◌, ◌↔◌, Bool, true, false, List, length, refl, ap, ◌∙◌, arith, Option, IsSome, None}
+use Rattle.std.proofs.Common.{◌≡◌, ℕ, ◌+◌, ◌^◌, ◌<◌, ◌≤◌, ◌↔◌, Bool, true, false, List, length, refl, sym, ap, ◌∙◌, subst, arith, Option, IsSome, None}
 use Rattle.std.proofs.lemmas.Bool.{cases_lt}
 use Rattle.std.proofs.lemmas.Grind.{common_steps}
 use Rattle.rustc_lexer.specs.declared.relex.checkpoints.Checkpoints.{Checkpoints}
@@ -12,9 +12,10 @@ use Rattle.rustc_lexer.specs.Kept.{Held, edition_tokens_in, layout_in, start_in,
 use Rattle.rustc_lexer.specs.Locality.{IsGrammar}
 use Rattle.rustc_lexer.specs.Tokens.{bound}
 use Rattle.rustc_lexer.specs.means.Document.{AreKeptOf, document_by, head_by, tokens_of_head}
+use Rattle.rustc_lexer.specs.means.Pieces.{AreCut}
 use Rattle.rustc_lexer.proofs.DocumentPage.{front_is, past_law}
 use Rattle.rustc_lexer.proofs.DocumentTokens.{document_law, shebang-boundary}
-use Rattle.rustc_lexer.proofs.KeptLemmas.{end_is, offset_fits, start_is}
+use Rattle.rustc_lexer.proofs.KeptLemmas.{end_is, kept_cuts, offset_fits, start_is}
 
 pub tokens_are : (whole : Bool) (first : List ℕ → Token) (text : List ℕ) → IsText text → document_by (head_by whole) first text ≡ tokens_in whole first text
 tokens_are true first text is = past_law first text is
@@ -38,6 +39,9 @@ module _ {S : Type 0} {first : List ℕ → Token} (law : IsGrammar first) (whol
 
   pub end_seen : start_in whole held.text + bound held.tokens (length held.tokens) ≡ length held.text
   end_seen = omega (arith, start_seen, ap (λ (ts : List Token). bound ts (length ts)) tokens_is, end_is law whole text tokens head checkpoints are, ap (λ (xs : List ℕ). length xs) text_is)
+
+  pub cut_seen : AreCut held.text (start_in whole held.text) (length held.text) held.tokens
+  cut_seen = rw (sym text_is, sym tokens_is) (subst (λ n. AreCut text n (length text) tokens) (start_is whole text head are.2) (kept_cuts law whole text tokens head checkpoints are))
 
 -- where no token has the offset, the text has ended
 pub none_past : {result : Option Bound} {first offset len : ℕ} → IsSome result ↔ ((first ≤ offset) × (offset < len)) → result ≡ None → first ≤ offset → len ≤ offset

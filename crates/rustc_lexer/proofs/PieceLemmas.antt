@@ -1,35 +1,40 @@
 -- The pieces of a text, one by one.
-use Rattle.std.proofs.Common.{◌≡◌, ℕ, zero, suc, ◌+◌, ◌-◌, ◌^◌, ◌<◌, ◌≤◌, List, [], ◌∷◌, get_or, length, take, drop, slice_range, refl, sym, ap, ◌∙◌, subst, arith, length-take, length-take-le, length-drop, take-take, IsCharBoundary, Option, Some, None, IfSome, IsSome}
+use Rattle.std.proofs.Common.{◌≡◌, ℕ, zero, suc, ◌+◌, ◌-◌, ◌^◌, ◌<◌, ◌≤◌, List, [], ◌∷◌, ◌++◌, get_or, length, take, drop, slice_range, refl, sym, ap, ◌∙◌, subst, arith, length-append, length-take, length-take-le, length-drop, take-take, IsCharBoundary, Option, Some, None, IfSome, IsSome}
 use Rattle.std.proofs.lemmas.Grind.{common_steps}
+use Rattle.std.proofs.lemmas.List.{take-append-le}
 use Rattle.rustc_lexer.specs.declared.relex.{front.Bound.Bound, pieces.Piece.Piece}
 use Rattle.rustc_lexer.specs.{Token}
 use Rattle.rustc_lexer.specs.Tokens.{bound, tokens_by}
-use Rattle.rustc_lexer.specs.means.Pieces.{AreBoundariesFrom}
+use Rattle.rustc_lexer.specs.means.Pieces.{AreBoundariesFrom, AreCut}
 use Rattle.rustc_lexer.specs.Kept.{Placed, YieldsPiece, pieces_from, placed}
 use Rattle.rustc_lexer.specs.Offsets.{ContainsByte}
 use Rattle.rustc_lexer.specs.Classes.{IsText}
 use Rattle.rustc_lexer.specs.Locality.{IsGrammar}
-use Rattle.rustc_lexer.proofs.BoundLemmas.{bound_mono}
+use Rattle.rustc_lexer.proofs.BoundLemmas.{bound-end, bound_mono}
 use Rattle.rustc_lexer.proofs.EditLemmas.{bound-same, bound-take}
 use Rattle.rustc_lexer.proofs.FrontLemmas.{bound-next, bound-shift}
 use Rattle.rustc_lexer.proofs.ReadyLemmas.{cuts}
 
+-- the tokens that are left begin and end between characters
+pub cut_edges : (text : List ℕ) (start end : ℕ) (tokens : List Token) → AreCut text start end tokens → IsCharBoundary text start × IsCharBoundary text end
+cut_edges text start end tokens are =
+    let first : start + 0 ≡ start = omega arith in
+    (subst (IsCharBoundary text) first (are.1 0 (omega arith)), subst (IsCharBoundary text) (sym are.2) (are.1 (length tokens) (omega arith)))
+
 -- past the first token
-pub cuts_tail : (text : List ℕ) (start : ℕ) (all : List Token) (token : Token) (tokens : List Token) → all ≡ token ∷ tokens → AreBoundariesFrom text start all → AreBoundariesFrom text (start + token.len) tokens
-cuts_tail text start all token tokens e are k few =
-    let are' : AreBoundariesFrom text start (token ∷ tokens) = subst (AreBoundariesFrom text start) e are in
-    let same : start + (token.len + bound tokens k) ≡ start + token.len + bound tokens k = omega arith in
-    subst (IsCharBoundary text) same (are' (suc k) (omega arith))
+pub cut_tail : (text : List ℕ) (start end : ℕ) (all : List Token) (token : Token) (tokens : List Token) → all ≡ token ∷ tokens → AreCut text start end all → AreCut text (start + token.len) end tokens
+cut_tail text start end all token tokens e are =
+    let all : AreCut text start end (token ∷ tokens) = subst (AreCut text start end) e are in
+    let same : (k : ℕ) → start + (token.len + bound tokens k) ≡ start + token.len + bound tokens k = λ k. omega arith in
+    (all.0, λ k few. subst (IsCharBoundary text) (same k) (all.1 (suc k) (omega arith)), all.2 ∙ same (length tokens))
 
-pub cuts_head : (text : List ℕ) (start : ℕ) (all : List Token) (token : Token) (tokens : List Token) → all ≡ token ∷ tokens → AreBoundariesFrom text start all → IsCharBoundary text (start + token.len)
-cuts_head text start all token tokens e are =
-    let same : start + token.len + 0 ≡ start + token.len = omega arith in
-    subst (IsCharBoundary text) same (cuts_tail text start all token tokens e are 0 (omega arith))
-
-pub cuts_at : (text : List ℕ) (start : ℕ) (tokens : List Token) → AreBoundariesFrom text start tokens → IsCharBoundary text start
-cuts_at text start tokens are =
-    let same : start + 0 ≡ start = omega arith in
-    subst (IsCharBoundary text) same (are 0 (omega arith))
+-- before the last token
+pub cut_front : (text : List ℕ) (start end : ℕ) (all tokens : List Token) (token : Token) → all ≡ tokens ++ token ∷ [] → AreCut text start end all → (token.len ≤ end) × AreCut text start (end - token.len) tokens
+cut_front text start end all tokens token e are =
+    let all : AreCut text start end (tokens ++ token ∷ []) = subst (AreCut text start end) e are in
+    let ends : end ≡ start + bound tokens (length tokens) + token.len = omega (arith, all.2, bound-end tokens token) in
+    let same : (k : ℕ) → k ≤ length tokens → start + bound (tokens ++ token ∷ []) k ≡ start + bound tokens k = λ k few. ap (λ n. start + n) (bound-same k (tokens ++ token ∷ []) tokens (take-append-le k tokens (token ∷ []) few)) in
+    (omega (arith, ends), (all.0, λ k few. subst (IsCharBoundary text) (same k few) (all.1 k (omega (arith, length-append tokens (token ∷ [])))), omega (arith, ends)))
 
 pub cuts_whole : {first : List ℕ → Token} (law : IsGrammar first) (text : List ℕ) (tokens : List Token) → IsText text → tokens ≡ tokens_by first text → AreBoundariesFrom text 0 tokens
 cuts_whole {first} law text tokens is e k few =
@@ -46,14 +51,29 @@ length-pieces text start (t ∷ ts) = ap suc (length-pieces text (start + t.len)
 pub as_many_left : (text : List ℕ) (start : ℕ) (tokens : List Token) {left : List Placed} → pieces_from text start tokens ≡ left → length tokens ≡ length left
 as_many_left text start tokens is = sym (length-pieces text start tokens) ∙ ap (λ (ps : List Placed). length ps) is
 
--- the bounds of some of the tokens are bounds of all
-pub cuts_part : (text : List ℕ) (start offset : ℕ) (tokens : List Token) (from n : ℕ) → from ≤ length tokens → offset ≡ start + bound tokens from → AreBoundariesFrom text start tokens → AreBoundariesFrom text offset (take n (drop from tokens))
-cuts_part text start offset tokens from n few at are k less =
-    let within : k ≤ n = omega (arith, length-take n (drop from tokens)) in
-    let inside : from + k ≤ length tokens = omega (arith, length-take n (drop from tokens), length-drop from tokens) in
-    let short : bound (take n (drop from tokens)) k ≡ bound (drop from tokens) k = bound-same k (take n (drop from tokens)) (drop from tokens) (take-take k n (drop from tokens) within) in
-    let same : start + bound tokens (from + k) ≡ offset + bound (take n (drop from tokens)) k = omega (arith, at, bound-shift tokens from k, short) in
-    subst (IsCharBoundary text) same (are (from + k) inside)
+-- the place of a bound, and the tokens from there up to another
+pub bound-part : (tokens items : List Token) (from to offset : ℕ) → from ≤ to → to ≤ length tokens → items ≡ slice_range tokens from to → offset ≡ bound tokens from → offset + bound items (length items) ≡ bound tokens to
+bound-part tokens items from to offset le inside is at =
+    let all : from + (to - from) ≡ to = omega arith in
+    let enough : to - from ≤ length (drop from tokens) = omega (arith, length-drop from tokens) in
+    let long : length items ≡ to - from = ap length is ∙ length-take-le (to - from) (drop from tokens) enough in
+    let same : bound items (length items) ≡ bound (drop from tokens) (to - from) = ap (bound items) long ∙ (ap (λ (ts : List Token). bound ts (to - from)) is ∙ bound-take (to - from) (drop from tokens)) in
+    omega (arith, at, same, bound-shift tokens from (to - from), ap (bound tokens) all)
+
+-- some of the tokens
+pub cut_part : (text : List ℕ) (start end offset stop : ℕ) (tokens : List Token) (from to : ℕ) → from ≤ to → to ≤ length tokens → offset ≡ start + bound tokens from → stop ≡ start + bound tokens to → AreCut text start end tokens → AreCut text offset stop (take (to - from) (drop from tokens))
+cut_part text start end offset stop tokens from to le few at until are =
+    let n : ℕ = to - from in
+    let part = bound-part tokens (take n (drop from tokens)) from to (bound tokens from) le few refl refl in
+    (are.0, cuts, omega (arith, at, until, part))
+  where
+    cuts : AreBoundariesFrom text offset (take (to - from) (drop from tokens))
+    cuts k less =
+        let n : ℕ = to - from in
+        let within : k ≤ n = omega (arith, length-take n (drop from tokens)) in
+        let short : bound (take n (drop from tokens)) k ≡ bound (drop from tokens) k = bound-same k (take n (drop from tokens)) (drop from tokens) (take-take k n (drop from tokens) within) in
+        let same : start + bound tokens (from + k) ≡ offset + bound (take n (drop from tokens)) k = omega (arith, at, bound-shift tokens from k, short) in
+        subst (IsCharBoundary text) same (are.1 (from + k) (omega (arith, within)))
 
 pub drop-pieces : (text : List ℕ) (start k : ℕ) (ts : List Token) → drop k (pieces_from text start ts) ≡ pieces_from text (start + bound ts k) (drop k ts)
 drop-pieces text start zero ts = let e : start ≡ start + 0 = omega arith in ap (λ p. pieces_from text p ts) e
@@ -67,6 +87,23 @@ take-pieces text start (suc k) (t ∷ ts) = ap (λ ps. record { start = start; t
 
 pub pieces-part : (text : List ℕ) (start offset : ℕ) (tokens : List Token) (from n : ℕ) → offset ≡ start + bound tokens from → pieces_from text offset (take n (drop from tokens)) ≡ take n (drop from (pieces_from text start tokens))
 pieces-part text start offset tokens from n at = grind (arith, common_steps, drop-pieces, take-pieces)
+
+-- the last piece
+abbrev piece_at : List ℕ → Token → ℕ → ℕ → Placed
+piece_at text token start long = record { start = start; token = token; text = take long (drop start text) }
+
+pieces-last : (text : List ℕ) (start : ℕ) (ts : List Token) (t : Token) → pieces_from text start (ts ++ t ∷ []) ≡ pieces_from text start ts ++ piece_at text t (start + bound ts (length ts)) t.len ∷ []
+pieces-last text start [] t = let e : start ≡ start + 0 = omega arith in ap (λ p. piece_at text t p t.len ∷ []) e
+pieces-last text start (u ∷ ts) t =
+    let e : start + u.len + bound ts (length ts) ≡ start + (u.len + bound ts (length ts)) = omega arith in
+    ap (λ ps. piece_at text u start u.len ∷ ps) (pieces-last text (start + u.len) ts t ∙ ap (λ p. pieces_from text (start + u.len) ts ++ piece_at text t p t.len ∷ []) e)
+
+pub last_piece : (text : List ℕ) (start end : ℕ) (all tokens : List Token) (t : Token) → all ≡ tokens ++ t ∷ [] → AreCut text start end all → pieces_from text start all ≡ pieces_from text start tokens ++ piece_at text t (end - t.len) (end - (end - t.len)) ∷ []
+last_piece text start end all tokens t e are =
+    let front = cut_front text start end all tokens t e are in
+    let long : t.len ≡ end - (end - t.len) = omega (arith, front.0) in
+    let same : piece_at text t (start + bound tokens (length tokens)) t.len ≡ piece_at text t (end - t.len) (end - (end - t.len)) = ap (λ p. piece_at text t p t.len) (sym front.1.2) ∙ ap (piece_at text t (end - t.len)) long in
+    ap (pieces_from text start) e ∙ (pieces-last text start tokens t ∙ ap (λ p. pieces_from text start tokens ++ p ∷ []) same)
 
 -- the first piece from the token on that contains a byte
 pub piece_is : (piece : Option Piece) (text : List ℕ) (first offset : ℕ) (tokens : List Token) (at : Bound) (rest : List Placed) → ContainsByte first tokens offset at → YieldsPiece (pieces_from text at.offset (take (length tokens - at.number) (drop at.number tokens))) piece rest → IfSome piece (λ piece. (at : Bound) × ContainsByte first tokens offset at × (take 1 (drop at.number (pieces_from text first tokens)) ≡ placed piece ∷ []))
@@ -92,12 +129,3 @@ end_more tokens i start end d few at = omega (arith, bound-next tokens i d few, 
 
 pub end_fits : (tokens : List Token) (i start end : ℕ) (d : Token) → i < length tokens → end ≡ start + bound tokens i → start + bound tokens (length tokens) < 2 ^ 32 → end + (get_or tokens i d).len < 2 ^ 32
 end_fits tokens i start end d few at fits = omega (arith, bound-next tokens i d few, bound_mono tokens (i + 1) (length tokens) (omega arith), at, fits)
-
--- the place of a bound, and the tokens from there up to another
-pub bound-part : (tokens items : List Token) (from to offset : ℕ) → from ≤ to → to ≤ length tokens → items ≡ slice_range tokens from to → offset ≡ bound tokens from → offset + bound items (length items) ≡ bound tokens to
-bound-part tokens items from to offset le inside is at =
-    let all : from + (to - from) ≡ to = omega arith in
-    let enough : to - from ≤ length (drop from tokens) = omega (arith, length-drop from tokens) in
-    let long : length items ≡ to - from = ap length is ∙ length-take-le (to - from) (drop from tokens) enough in
-    let same : bound items (length items) ≡ bound (drop from tokens) (to - from) = ap (bound items) long ∙ (ap (λ (ts : List Token). bound ts (to - from)) is ∙ bound-take (to - from) (drop from tokens)) in
-    omega (arith, at, same, bound-shift tokens from (to - from), ap (bound tokens) all)

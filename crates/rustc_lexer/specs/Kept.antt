@@ -1,5 +1,5 @@
 -- A text that is kept with its tokens: what its edits do, and its pieces.
-use Rattle.std.specs.Prelude.{ℕ, ◌+◌, ◌-◌, ◌<◌, ◌≤◌, ◌^◌, List, [], ◌∷◌, length, take, drop, ◌≡◌, Option, Some, None, Bool, true, false, Result, IfOk, IfErr, OnOk, OnErr}
+use Rattle.std.specs.Prelude.{ℕ, ◌+◌, ◌-◌, ◌<◌, ◌≤◌, ◌^◌, List, [], ◌∷◌, ◌++◌, length, take, drop, ◌≡◌, Option, Some, None, Bool, true, false, Result, IfOk, IfErr, OnOk, OnErr}
 use Rattle.rustc_lexer.specs.declared.relex.{edit.Edit.Edit, edit_list.EditStop.EditStop, pieces.Piece.Piece, relexing.Relexed.Relexed}
 use Rattle.rustc_lexer.specs.{Edition, Token}
 use Rattle.rustc_lexer.specs.Document.{document_tokens, document_tokens_by, shebang_len, whole_by}
@@ -109,3 +109,9 @@ abbrev pub YieldsPiece : List Placed → Option Piece → List Placed → Type 0
 YieldsPiece s None t = (s ≡ []) × (t ≡ s)
 YieldsPiece s (Some piece) t =
     (s ≡ placed piece ∷ t) × (length piece.text.now ≡ piece.token.len) × (piece.start + piece.token.len < 2 ^ 32)
+
+-- what `next_back` does: the same with the last piece
+abbrev pub YieldsPieceBack : List Placed → Option Piece → List Placed → Type 0
+YieldsPieceBack s None t = (s ≡ []) × (t ≡ s)
+YieldsPieceBack s (Some piece) t =
+    (s ≡ t ++ placed piece ∷ []) × (length piece.text.now ≡ piece.token.len) × (piece.start + piece.token.len < 2 ^ 32)

@@ -286,13 +286,14 @@ macro_rules! kept_text {
                 self.kept.into_string().into()
             }
 
-            /// Returns the tokens with their offsets and their texts, in order.
+            /// Returns the tokens with their offsets and their texts, in order. They can be taken from either end.
             ///
             /// ```
             #[doc = concat!("use rustc_lexer::", stringify!($Kept), ";")]
             ///
             #[doc = concat!("let lexed = ", stringify!($Kept), "::new(\"a + b\");")]
             /// assert_eq!(lexed.pieces().nth(2).map(|piece| (piece.start, piece.text)), Some((2, "+")));
+            /// assert_eq!(lexed.pieces().next_back().map(|piece| (piece.start, piece.text)), Some((4, "b")));
             /// ```
             pub fn pieces(&self) -> Pieces<'_> {
                 self.whole().pieces()
@@ -359,6 +360,16 @@ macro_rules! kept_text {
             #[doc = concat!("let lexed = ", stringify!($Kept), "::new(\"let abc = 1;\");")]
             /// let seen: Vec<&str> = lexed.pieces_in(5..9).map(|piece| piece.text).collect();
             /// assert_eq!(seen, ["abc", " ", "="]);
+            /// ```
+            ///
+            /// Backwards from a caret:
+            ///
+            /// ```
+            #[doc = concat!("use rustc_lexer::", stringify!($Kept), ";")]
+            ///
+            #[doc = concat!("let lexed = ", stringify!($Kept), "::new(\"f(a, b\");")]
+            /// let opens = lexed.pieces_in(..6).rev().find(|piece| piece.text == "(");
+            /// assert_eq!(opens.map(|piece| piece.start), Some(1));
             /// ```
             pub fn pieces_in(&self, range: impl RangeBounds<usize>) -> Pieces<'_> {
                 let range = range_in(&range, self.text().len());

@@ -659,6 +659,8 @@ fn a_check_of_no_raw_string() {
 fn traits_that_are_taken_for_granted() {
     fn is_error<T: std::error::Error + Send + Sync + Copy + 'static>() {}
     fn stays_at_its_end<T: std::iter::FusedIterator + Clone + std::fmt::Debug>() {}
+    #[cfg(feature = "alloc")]
+    fn has_two_ends<T: DoubleEndedIterator + ExactSizeIterator>() {}
     fn is_measured<T: lists::Measured>() {}
     fn steps<T: rustc_lexer::Stepper + Clone + std::fmt::Debug>() {}
     fn is_key<T: Copy + Eq + std::hash::Hash>() {}
@@ -688,6 +690,7 @@ fn traits_that_are_taken_for_granted() {
         is_key::<(rustc_lexer::EditError, rustc_lexer::EditStop)>();
         is_key::<rustc_lexer::Edit<'_>>();
         stays_at_its_end::<rustc_lexer::Pieces<'_>>();
+        has_two_ends::<rustc_lexer::Pieces<'_>>();
         crosses_threads::<(rustc_lexer::LexedText, rustc_lexer::LexedDocument)>();
         crosses_threads::<rustc_lexer::Pieces<'_>>();
     }

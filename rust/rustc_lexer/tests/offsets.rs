@@ -3,7 +3,7 @@
 mod random;
 
 use random::Random;
-use rustc_lexer::{Bound, LexedDocument, LexedText, Pieces, Token};
+use rustc_lexer::{Bound, LexedDocument, LexedText, Piece, Pieces, Token};
 use std::ops::Range;
 
 /// What edits are made of: pieces that join with what stands around them, and heads of documents.
@@ -37,6 +37,21 @@ fn touched(starts: &[usize], range: &Range<usize>) -> Vec<usize> {
     (0..starts.len() - 1).filter(touches).collect()
 }
 
+/// The pieces in order, each taken from the front or from the back by chance.
+fn from_both_ends<'a>(mut pieces: Pieces<'a>, random: &mut Random) -> Vec<Piece<'a>> {
+    let (mut front, mut back) = (Vec::new(), Vec::new());
+    for left in (0..pieces.len()).rev() {
+        match random.below(2) {
+            0 => front.extend(pieces.next()),
+            _ => back.extend(pieces.next_back()),
+        }
+        assert_eq!(pieces.len(), left);
+    }
+    assert_eq!((pieces.next_back(), pieces.next()), (None, None));
+    front.extend(back.into_iter().rev());
+    front
+}
+
 /// Checks offsets and ranges of a text that is kept: those near `place`, and some anywhere.
 macro_rules! check {
     ($lexed:expr, $starts:expr, $random:expr, $place:expr) => {{
@@ -56,8 +71,13 @@ macro_rules! check {
             let first = numbers.first().copied().unwrap_or(0);
             let wanted = lexed.pieces_of(first..first + numbers.len());
             let pieces = lexed.pieces_in(range.clone());
-            assert!(pieces.eq(wanted), "{range:?} in {lexed:?}");
+            let mixed = from_both_ends(pieces.clone(), &mut $random);
+            assert!(pieces.eq(wanted.clone()), "{range:?} in {lexed:?}");
+            assert!(wanted.eq(mixed), "{range:?} in {lexed:?}");
         }
+        let mixed = from_both_ends(lexed.pieces(), &mut $random);
+        assert!(lexed.pieces().eq(mixed.iter().copied()), "{lexed:?}");
+        assert!(lexed.pieces().rev().eq(mixed.into_iter().rev()), "{lexed:?}");
     }};
 }
 
@@ -168,16 +188,20 @@ fn pieces_in_a_range() {
     }
 }
 
-/// The starts and the texts of pieces, which say how many they are, and stay at their end.
+/// The starts and the texts of pieces, which say how many they are, and stay at their end. From the back they are the same.
 fn told(mut pieces: Pieces<'_>) -> Vec<(u32, &str)> {
     let count = pieces.len();
     assert_eq!(pieces.size_hint(), (count, Some(count)));
+    let back = pieces.clone().rev();
+    let mut back: Vec<_> = back.map(|piece| (piece.start, piece.text)).collect();
+    back.reverse();
     let mut told = Vec::new();
     for piece in pieces.by_ref() {
         assert_eq!(piece.token.len as usize, piece.text.len());
         told.push((piece.start, piece.text));
     }
     assert_eq!((told.len(), pieces.next()), (count, None));
+    assert_eq!(told, back);
     told
 }
 

@@ -2,10 +2,10 @@
 ghost use Rattle.std.specs.Prelude.{◌≡◌, IfSome, Some, length};
 ghost use Rattle.std.specs.Iterator.{UpTo, at_most};
 ghost use Rattle.std.specs.Iterator.SizeHint.{IsWithinCount};
-ghost use Rattle.rustc_lexer.specs.Kept.{YieldsPiece};
+ghost use Rattle.rustc_lexer.specs.Kept.{YieldsPiece, YieldsPieceBack};
 
 use crate::token::Token;
-use std::iter::{ExactSizeIterator, Iterator};
+use std::iter::{DoubleEndedIterator, ExactSizeIterator, Iterator};
 use std::marker::Model;
 
 /// A token, the offset at which it begins, and its text.
@@ -27,20 +27,20 @@ pub struct Piece<'a> {
 pub struct Pieces<'a> {
     pub(crate) text: &'a str,
     pub(crate) start: u32,
+    pub(crate) end: u32,
     pub(crate) tokens: &'a [Token],
 }
 
 impl<'a> Model for Pieces<'a> {
-    ghost use Rattle.std.specs.Prelude.{◌≡◌, ◌<◌, ◌^◌, List, length};
+    ghost use Rattle.std.specs.Prelude.{List};
     ghost use Rattle.rustc_lexer.specs.Kept.{Placed, pieces_from};
-    ghost use Rattle.rustc_lexer.specs.means.Pieces.{AreBoundariesFrom};
+    ghost use Rattle.rustc_lexer.specs.means.Pieces.{AreCut};
 
     ghost Value = { List Placed };
 
     ghost view = { λ p. pieces_from p.text.now p.start p.tokens.now };
 
-    ghost invariant = { λ p. (length p.text.now < 2 ^ 32)
-        × AreBoundariesFrom p.text.now p.start p.tokens.now };
+    ghost invariant = { λ p. AreCut p.text.now p.start p.end p.tokens.now };
 }
 
 impl<'a> Iterator for Pieces<'a> {
@@ -73,6 +73,24 @@ impl<'a> Iterator for Pieces<'a> {
     {
         let left = self.tokens.len();
         (left, Some(left))
+    }
+}
+
+impl<'a> DoubleEndedIterator for Pieces<'a> {
+    ghost next_back_gives = { YieldsPieceBack };
+
+    /// Returns the last piece that is left, or `None` if no piece is left. After `None` it returns `None` again.
+    fn next_back(&mut self) -> Option<Piece<'a>> {
+        let (token, tokens) = self.tokens.split_last()?;
+        let start = self.end - token.len;
+        let piece = Piece {
+            start,
+            token: *token,
+            text: &self.text[start as usize..self.end as usize],
+        };
+        self.end = start;
+        self.tokens = tokens;
+        Some(piece)
     }
 }
 

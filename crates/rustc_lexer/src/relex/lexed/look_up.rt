@@ -21,10 +21,13 @@ impl<S: Stepper, E: Extent> Lexed<S, E> {
             ≡ pieces_from self.now.text (start_in E.whole self.now.text) self.now.tokens }
         ensures number { length result ≡ length self.now.tokens }
     {
+        let text = self.kept.text.as_str();
         let start = self.kept.head.shebang_len as u32;
+        let end = text.len() as u32;
         Pieces {
-            text: self.kept.text.as_str(),
+            text,
             start,
+            end,
             tokens: self.kept.tokens.as_slice(),
         }
     }
@@ -48,11 +51,21 @@ impl<S: Stepper, E: Extent> Lexed<S, E> {
             (drop from (pieces_from self.now.text (start_in E.whole self.now.text) self.now.tokens)) }
         ensures number { length result ≡ to - from }
     {
-        let start = self.offset_of(from);
+        let first = Bound {
+            number: 0,
+            offset: self.kept.head.shebang_len,
+        };
+        let start = self.offset_of(from, first);
+        let known = Bound {
+            number: from,
+            offset: start as usize,
+        };
+        let end = self.offset_of(to, known);
         let tokens = &self.kept.tokens.as_slice()[from..to];
         Pieces {
             text: self.kept.text.as_str(),
             start,
+            end,
             tokens,
         }
     }
@@ -69,34 +82,39 @@ impl<S: Stepper, E: Extent> Lexed<S, E> {
         self.pieces_of(from, to)
     }
 
-    /// Returns the last boundary known without a search that has at most `number` tokens before it: a remembered one,
-    /// or the start or the end of the head. Its offset is in bytes from the start of the text.
-    fn bound_before(&self, number: usize) -> Bound
+    /// Returns the last boundary known without a search that has at most `number` tokens before it: `known`, a remembered
+    /// one, or the end of the head. Its offset is in bytes from the start of the text.
+    fn bound_before(&self, number: usize, known: Bound) -> Bound
         requires inside { number ≤ length self.now.tokens }
+        requires before { known.number ≤ number }
+        requires known { IsBoundFrom (start_in E.whole self.now.text) self.now.tokens known }
         ensures number { result.number ≤ number }
         ensures offset { result.offset ≡ start_in E.whole self.now.text + bound self.now.tokens result.number }
     {
         let count = self.kept.head.count();
         if number < count {
-            return Bound {
-                number: 0,
-                offset: self.kept.head.shebang_len,
-            };
+            return known;
         }
         let near = self.kept.checkpoints.before_number(number - count);
+        if count + near.number < known.number {
+            return known;
+        }
         Bound {
             number: count + near.number,
             offset: self.kept.head.body + near.offset,
         }
     }
 
-    /// Returns the offset of token boundary `number`, in bytes from the start of the text.
-    fn offset_of(&self, number: usize) -> u32
+    /// Returns the offset of token boundary `number`, in bytes from the start of the text. The boundary `known` is not
+    /// behind it.
+    fn offset_of(&self, number: usize, known: Bound) -> u32
         requires inside { number ≤ length self.now.tokens }
+        requires before { known.number ≤ number }
+        requires known { IsBoundFrom (start_in E.whole self.now.text) self.now.tokens known }
         ensures { result ≡ start_in E.whole self.now.text + bound self.now.tokens number }
     {
         let tokens = self.kept.tokens.as_slice();
-        let near = self.bound_before(number);
+        let near = self.bound_before(number, known);
         let start = near.offset as u32;
         end_from(start, &tokens[near.number..number])
     }
@@ -148,9 +166,11 @@ impl<S: Stepper, E: Extent> Lexed<S, E> {
         let text = self.kept.text.as_str();
         let tokens = &self.kept.tokens.as_slice()[at.number..];
         let start = at.offset as u32;
+        let end = text.len() as u32;
         let mut pieces = Pieces {
             text,
             start,
+            end,
             tokens,
         };
         pieces.next()

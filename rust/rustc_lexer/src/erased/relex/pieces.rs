@@ -2,7 +2,7 @@
 //! The pieces of a text that is kept with its tokens.
 
 use crate::erased::token::Token;
-use core::iter::{ExactSizeIterator, Iterator};
+use core::iter::{DoubleEndedIterator, ExactSizeIterator, Iterator};
 
 /// A token, the offset at which it begins, and its text.
 #[derive(Clone, Copy, Debug, PartialEq, Eq, Hash)]
@@ -24,6 +24,7 @@ pub struct Piece<'a> {
 pub struct Pieces<'a> {
     pub(crate) text: &'a str,
     pub(crate) start: u32,
+    pub(crate) end: u32,
     pub(crate) tokens: &'a [Token],
 }
 
@@ -48,6 +49,22 @@ impl<'a> Iterator for Pieces<'a> {
     fn size_hint(&self) -> (usize, Option<usize>) {
         let left = self.tokens.len();
         (left, Some(left))
+    }
+}
+
+impl<'a> DoubleEndedIterator for Pieces<'a> {
+    /// Returns the last piece that is left, or `None` if no piece is left. After `None` it returns `None` again.
+    fn next_back(&mut self) -> Option<Piece<'a>> {
+        let (token, tokens) = self.tokens.split_last()?;
+        let start = self.end - token.len;
+        let piece = Piece {
+            start,
+            token: *token,
+            text: &self.text[start as usize..self.end as usize],
+        };
+        self.end = start;
+        self.tokens = tokens;
+        Some(piece)
     }
 }
 

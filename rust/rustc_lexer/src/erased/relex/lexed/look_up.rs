@@ -13,10 +13,13 @@ impl<S: Stepper, E: Extent> Lexed<S, E> {
     /// Returns an iterator over the pieces of the text, one for each token, in order. A shebang line is not a
     /// piece: the first piece begins where it ends.
     pub fn pieces(&self) -> Pieces<'_> {
+        let text = self.kept.text.as_str();
         let start = self.kept.head.shebang_len as u32;
+        let end = text.len() as u32;
         Pieces {
-            text: self.kept.text.as_str(),
+            text,
             start,
+            end,
             tokens: self.kept.tokens.as_slice(),
         }
     }
@@ -33,11 +36,21 @@ impl<S: Stepper, E: Extent> Lexed<S, E> {
     /// }
     /// ```
     pub fn pieces_of(&self, from: usize, to: usize) -> Pieces<'_> {
-        let start = self.offset_of(from);
+        let first = Bound {
+            number: 0,
+            offset: self.kept.head.shebang_len,
+        };
+        let start = self.offset_of(from, first);
+        let known = Bound {
+            number: from,
+            offset: start as usize,
+        };
+        let end = self.offset_of(to, known);
         let tokens = &self.kept.tokens.as_slice()[from..to];
         Pieces {
             text: self.kept.text.as_str(),
             start,
+            end,
             tokens,
         }
     }
@@ -49,27 +62,28 @@ impl<S: Stepper, E: Extent> Lexed<S, E> {
         self.pieces_of(from, to)
     }
 
-    /// Returns the last boundary known without a search that has at most `number` tokens before it: a remembered one,
-    /// or the start or the end of the head. Its offset is in bytes from the start of the text.
-    fn bound_before(&self, number: usize) -> Bound {
+    /// Returns the last boundary known without a search that has at most `number` tokens before it: `known`, a remembered
+    /// one, or the end of the head. Its offset is in bytes from the start of the text.
+    fn bound_before(&self, number: usize, known: Bound) -> Bound {
         let count = self.kept.head.count();
         if number < count {
-            return Bound {
-                number: 0,
-                offset: self.kept.head.shebang_len,
-            };
+            return known;
         }
         let near = self.kept.checkpoints.before_number(number - count);
+        if count + near.number < known.number {
+            return known;
+        }
         Bound {
             number: count + near.number,
             offset: self.kept.head.body + near.offset,
         }
     }
 
-    /// Returns the offset of token boundary `number`, in bytes from the start of the text.
-    fn offset_of(&self, number: usize) -> u32 {
+    /// Returns the offset of token boundary `number`, in bytes from the start of the text. The boundary `known` is not
+    /// behind it.
+    fn offset_of(&self, number: usize, known: Bound) -> u32 {
         let tokens = self.kept.tokens.as_slice();
-        let near = self.bound_before(number);
+        let near = self.bound_before(number, known);
         let start = near.offset as u32;
         end_from(start, &tokens[near.number..number])
     }
@@ -109,9 +123,11 @@ impl<S: Stepper, E: Extent> Lexed<S, E> {
         let text = self.kept.text.as_str();
         let tokens = &self.kept.tokens.as_slice()[at.number..];
         let start = at.offset as u32;
+        let end = text.len() as u32;
         let mut pieces = Pieces {
             text,
             start,
+            end,
             tokens,
         };
         pieces.next()

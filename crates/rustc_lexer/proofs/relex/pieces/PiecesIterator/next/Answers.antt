@@ -1,20 +1,21 @@
 use Rattle.std.proofs.Common.{arith}
-use Rattle.rustc_lexer.proofs.PieceLemmas.{cuts_head, cuts_tail, cuts_at}
+use Rattle.rustc_lexer.proofs.PieceLemmas.{cut_edges, cut_tail}
 use Rattle.rustc_lexer.proofs.relex.pieces.PiecesIterator.next.Goals as goal
 
 pub overflow_add-end : goal.overflow_add-end
 overflow_add-end c =
-    let head = cuts_head c.self.inside.text.now c.self.inside.start _ _ _ c.in_ok-token.ensures.cases.0 c.self.invariant.1 in
-    omega (arith, head.0, c.self.invariant.0)
+    let tail = cut_tail c.self.inside.text.now c.self.inside.start c.self.inside.end _ _ _ c.in_ok-token.ensures.cases.0 c.self.invariant in
+    let begin = (cut_edges _ _ _ _ tail).0 in
+    omega (arith, begin.0, tail.0)
 
 pub range-requires : goal.range-requires
 range-requires c =
-    let head = cuts_head c.self.inside.text.now c.self.inside.start _ _ _ c.in_ok-token.ensures.cases.0 c.self.invariant.1 in
+    let tail = cut_tail c.self.inside.text.now c.self.inside.start c.self.inside.end _ _ _ c.in_ok-token.ensures.cases.0 c.self.invariant in
     record {
       start_le_end = omega arith;
-      start_boundary = λ some. (cuts_at c.self.inside.text.now c.self.inside.start _ c.self.invariant.1);
-      end_boundary = head;
+      start_boundary = λ some. (cut_edges c.self.inside.text.now c.self.inside.start c.self.inside.end _ c.self.invariant).0;
+      end_boundary = (cut_edges _ _ _ _ tail).0;
     }
 
 pub invariant_of-self : goal.invariant_of-self
-invariant_of-self c = (c.self.invariant.0, cuts_tail c.self.inside.text.now c.self.inside.start _ _ _ c.in_ok-token.ensures.cases.0 c.self.invariant.1)
+invariant_of-self c = cut_tail c.self.inside.text.now c.self.inside.start c.self.inside.end _ _ _ c.in_ok-token.ensures.cases.0 c.self.invariant
