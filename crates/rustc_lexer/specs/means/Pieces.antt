@@ -9,4 +9,6 @@ AreBoundariesFrom text start tokens = (k : ℕ) → k ≤ length tokens → IsCh
 
 -- the tokens cut a text that fits from `start` up to `end`
 abbrev pub AreCut : List ℕ → ℕ → ℕ → List Token → Type 0
-AreCut text start end tokens = (length text < 2 ^ 32) × AreBoundariesFrom text start tokens × (end ≡ start + bound tokens (length tokens))
+AreCut text start end tokens =
+    (length text < 2 ^ 32) × AreBoundariesFrom text start tokens
+    × (end ≡ start + bound tokens (length tokens))

@@ -23,6 +23,7 @@ pub struct Piece<'a> {
 ///
 /// `pieces`, `pieces_of` and `pieces_in` of a [`LexedText`](crate::LexedText) and of a document return it. Each piece
 /// begins where the one before it ends, and its text is the part of the text that its token takes.
+/// Pieces can be taken from either end.
 #[derive(Drop)]
 pub struct Pieces<'a> {
     pub(crate) text: &'a str,
@@ -79,7 +80,8 @@ impl<'a> Iterator for Pieces<'a> {
 impl<'a> DoubleEndedIterator for Pieces<'a> {
     ghost next_back_gives = { YieldsPieceBack };
 
-    /// Returns the last piece that is left, or `None` if no piece is left. After `None` it returns `None` again.
+    /// Returns the last piece that is left, or `None` if no piece is left. After `None` it
+    /// returns `None` again.
     fn next_back(&mut self) -> Option<Piece<'a>> {
         let (token, tokens) = self.tokens.split_last()?;
         let start = self.end - token.len;

@@ -62,8 +62,9 @@ impl<S: Stepper, E: Extent> Lexed<S, E> {
         self.pieces_of(from, to)
     }
 
-    /// Returns the last boundary known without a search that has at most `number` tokens before it: `known`, a remembered
-    /// one, or the end of the head. Its offset is in bytes from the start of the text.
+    /// Returns the last boundary known without a search that has at most `number` tokens before
+    /// it: `known`, a remembered one, or the end of the head. Its offset is in bytes from the
+    /// start of the text.
     fn bound_before(&self, number: usize, known: Bound) -> Bound {
         let count = self.kept.head.count();
         if number < count {
@@ -79,8 +80,8 @@ impl<S: Stepper, E: Extent> Lexed<S, E> {
         }
     }
 
-    /// Returns the offset of token boundary `number`, in bytes from the start of the text. The boundary `known` is not
-    /// behind it.
+    /// Returns the offset of token boundary `number`, in bytes from the start of the text. The
+    /// boundary `known` is not behind it.
     fn offset_of(&self, number: usize, known: Bound) -> u32 {
         let tokens = self.kept.tokens.as_slice();
         let near = self.bound_before(number, known);

@@ -1,6 +1,4 @@
-use Rattle.std.proofs.Common.{◌≡◌, ◌+◌, ◌-◌, ◌≤◌, List, length, refl, ap, ◌∙◌, arith, string_bytes}
-use Rattle.rustc_lexer.specs.{Token}
-use Rattle.rustc_lexer.specs.Tokens.{bound}
+use Rattle.std.proofs.Common.{length, refl, ap, ◌∙◌, arith, string_bytes}
 use Rattle.rustc_lexer.proofs.KeptLemmas.{kept_cuts}
 use Rattle.rustc_lexer.proofs.LexedLemmas.{cut_seen, fits_seen}
 use Rattle.rustc_lexer.proofs.PieceLemmas.{cut_part, piece_is, piece_some}
