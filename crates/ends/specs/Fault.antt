@@ -53,9 +53,12 @@ abbrev pub reported : (Fault → List ℕ) → Option Fault → List ℕ
 reported line None = []
 reported line (Some fault) = line fault
 
--- an outcome was reported, by the lines of its faults. If the writer is `sound`, which means that it
--- has never failed, all of the line was written. The known bytes of the writer grew from `old` to `new`
-pub record IsReported (line_of : Fault → List ℕ) (outcome : Result (Unit {0}) Fault) (quiet : Bool) (answer : ℕ) (sound : Type 0) (flushed : Bool) (old new : Option (List ℕ)) : Type 0 where
+-- an outcome was reported, by the lines of its faults. If the writer is `sound`, which means that
+-- it has never failed, all of the line was written. The known bytes of the writer grew from `old`
+-- to `new`
+pub record IsReported (line_of : Fault → List ℕ) (outcome : Result (Unit {0}) Fault)
+    (quiet : Bool) (answer : ℕ) (sound : Type 0) (flushed : Bool) (old new : Option (List ℕ))
+    : Type 0 where
   pub status : answer ≡ exit_status (told outcome quiet)
   pub line : sound → Appends old new (reported line_of (told outcome quiet))
   pub front : AppendsFront old new (reported line_of (told outcome quiet))

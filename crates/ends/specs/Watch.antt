@@ -1,32 +1,35 @@
 -- A reader or a writer, how it has failed, and whether it was flushed last.
-use Rattle.std.specs.Prelude.{ℕ, Bool, true, false, ◌==◌, ◌&&◌, not, List, length, Result, Ok, Err}
+use Rattle.std.specs.Prelude.{ℕ, Bool, true, false, ◌==◌, ◌&&◌, not, if◌then◌else◌, List, length, is_some, Option, Some, None, Result, Ok, Err}
 use Rattle.std.specs.IoError.{error_kind}
 use Rattle.std.specs.declared.io.Error.{Error}
 use Rattle.std.specs.declared.io.ErrorKind.{ErrorKind}
-use Rattle.std.specs.declared.io.ErrorKind.TheVariants.{BrokenPipe}
+use Rattle.std.specs.declared.io.ErrorKind.TheVariants.{BrokenPipe, WriteZero}
 
 pub record Watch (T : Type 0) : Type 0 where
   pub inner : T
-  -- a call failed
-  pub failed : Bool
-  -- the first call that failed found that nobody reads what is written
-  pub closed : Bool
+  -- the kind of the first failure, if a call failed
+  pub failure : Option ErrorKind
   -- the last call was a flush that succeeded
   pub flushed : Bool
 
-abbrev pub is_broken_pipe : ErrorKind → Bool
-is_broken_pipe BrokenPipe = true
-is_broken_pipe kind = false
+abbrev pub has_failed : {T : Type 0} → Watch T → Bool
+has_failed watch = is_some watch.failure
 
--- an error that says that nobody reads what is written
-abbrev pub is_closed : Error → Bool
-is_closed error = is_broken_pipe (error_kind error)
+abbrev pub is_broken_pipe : Option ErrorKind → Bool
+is_broken_pipe (Some BrokenPipe) = true
+is_broken_pipe failure = false
 
-abbrev pub has_closed : {T : Type 0} → Result T Error → Bool
-has_closed (Ok done) = false
-has_closed (Err error) = is_closed error
+-- the first failure was that nobody reads what is written
+abbrev pub is_closed : {T : Type 0} → Watch T → Bool
+is_closed watch = is_broken_pipe watch.failure
 
--- a write that failed: an error, or nothing taken of what is not empty
-abbrev pub took_nothing : Result ℕ Error → List ℕ → Bool
-took_nothing (Ok n) piece = n == 0 && not (length piece == 0)
-took_nothing (Err error) piece = true
+-- how a read or a flush failed, if it did
+abbrev pub failure_of : {T : Type 0} → Result T Error → Option ErrorKind
+failure_of (Ok done) = None
+failure_of (Err error) = Some (error_kind error)
+
+-- how a write of these bytes failed, if it did: with an error, or by taking none of them where
+-- there are some
+abbrev pub write_failure : Result ℕ Error → List ℕ → Option ErrorKind
+write_failure (Ok n) bytes = if n == 0 && not (length bytes == 0) then Some WriteZero else None
+write_failure (Err error) bytes = Some (error_kind error)

@@ -3,6 +3,7 @@ ghost use Rattle.std.specs.Prelude.{◌≡◌, ◌++◌, ◌||◌, ◌∷◌, []
 ghost use Rattle.std.specs.Io.KnownBytes.{Appends};
 ghost use Rattle.ends.specs.Fault.{fault_line, fault_text, is_told, number_text, status_of, IsReported};
 ghost use Rattle.ends.specs.Known.{AppendsFront};
+ghost use Rattle.ends.specs.Watch.{has_failed};
 ghost use Rattle.ends.specs.declared.fault.Fault.TheVariants.{Memory};
 
 use crate::watched::Watched;
@@ -48,9 +49,9 @@ pub fn status(fault: &Fault) -> u8
 
 /// Writes why a run stopped, after the name of the program, and flushes. Returns the exit status.
 ///
-/// `unknown` is the message for arguments that the program does not take. If the run did not stop, or if it is `quiet` and
-/// a write failed, this writes nothing and returns 0. If `errors` fails, it has taken a beginning of the line, and the
-/// status is the same.
+/// `unknown` is the message for arguments that the program does not take. If the run did not
+/// stop, or if it is `quiet` and a write failed, this writes nothing and returns 0. If `errors`
+/// fails, it has taken a beginning of the line, and the status is the same.
 pub fn report<E: Write>(
     name: &str,
     unknown: &str,
@@ -59,7 +60,7 @@ pub fn report<E: Write>(
     errors: &mut Watched<E>,
 ) -> u8
     ensures { IsReported (fault_line name.now unknown.now) outcome.now quiet result
-        (errors.new.failed ≡ false) errors.new.flushed (E.contents errors.old.inner)
+        (has_failed errors.new ≡ false) errors.new.flushed (E.contents errors.old.inner)
         (E.contents errors.new.inner) }
 {
     let Err(fault) = outcome else {
@@ -92,7 +93,7 @@ fn tell<E: Write>(
     fault: &Fault,
     errors: &mut Watched<E>,
 ) -> Result<(), Fault>
-    ensures failed { errors.new.failed ≡ (errors.old.failed || is_err result) }
+    ensures failed { has_failed errors.new ≡ (has_failed errors.old || is_err result) }
     ensures flushed { IfOk result (λ _. errors.new.flushed ≡ true) }
     ensures ok { OnOk result (Appends (E.contents errors.old.inner) (E.contents errors.new.inner)
         (fault_line name.now unknown.now fault.now)) }
@@ -115,7 +116,8 @@ fn digits(buffer: &mut Buffer, number: Option<usize>) -> &str
     }
 }
 
-/// Returns the message of a fault and its newline: what stands before the number of the edit, that number, and the rest.
+/// Returns the message of a fault and its newline: what stands before the number of the edit,
+/// that number, and the rest.
 #[tactic(auto, unfolding(crate::specs::Fault::fault_text))]
 fn message<'a>(fault: &Fault, unknown: &'a str) -> (&'a str, Option<usize>, &'a str)
     ensures { result.0.now ++ (number_text result.1 ++ result.2.now)

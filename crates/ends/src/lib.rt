@@ -1,5 +1,5 @@
-//! What the programs share: readers and writers that record how they failed, functions that read and write texts over
-//! them, the arguments, and why a program stops.
+//! What the programs share: readers and writers that record how they failed, functions that read
+//! and write texts over them, the arguments, and why a program stops.
 #![tactic(auto)]
 
 mod fault;
@@ -12,6 +12,6 @@ mod writing;
 pub use fault::{Fault, report, status};
 pub use reading::read_all;
 pub use run::{put, read_text};
-pub use watched::{Watched, is_closed};
+pub use watched::Watched;
 pub use words::{given_words, past_name};
 pub use writing::{write_all, write_bytes, write_texts};

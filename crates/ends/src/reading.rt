@@ -1,6 +1,7 @@
 //! Reading all of an input.
 ghost use Rattle.std.specs.Prelude.{◌≡◌, ◌↔◌, ◌^◌, ◌<◌, false, IfOk, IsErrOf, IsTrue, length};
 ghost use Rattle.ends.specs.Reading.{EndsReading};
+ghost use Rattle.ends.specs.Watch.{has_failed};
 
 use crate::fault::Fault;
 use crate::watched::Watched;
@@ -11,9 +12,14 @@ use std::io::Read;
 const PIECE: usize = 65536;
 
 /// Reads all bytes up to the end of the input, at most `u32::MAX` of them.
+///
+/// # Errors
+///
+/// `Fault::Read` if a read failed, `Fault::TooLong` if there are more bytes, and `Fault::Memory`
+/// if an allocation failed. What was read is lost then.
 pub fn read_all<R: Read>(alloc: Global, input: &mut Watched<R>) -> Result<Vec<u8>, Fault>
-    requires reads { input.old.failed ≡ false }
-    ensures failed { IsErrOf result Fault.Read ↔ IsTrue input.new.failed }
+    requires reads { has_failed input.old ≡ false }
+    ensures failed { IsErrOf result Fault.Read ↔ IsTrue (has_failed input.new) }
     ensures fits { IfOk result (λ bytes. length bytes.items < 2 ^ 32) }
     ensures ends { EndsReading (R.remaining input.old.inner) result }
 {

@@ -1,23 +1,25 @@
 //! Readers and writers that record how they failed.
-ghost use Rattle.std.specs.Prelude.{◌≡◌, ◌||◌, ◌&&◌, false, is_err, is_ok, not};
+ghost use Rattle.std.specs.Prelude.{◌≡◌, None, false, is_ok};
+ghost use Rattle.std.specs.Option.{option_or};
 ghost use Rattle.std.specs.Io.{ReadsAtMost, WritesAtMost};
 ghost use Rattle.std.specs.Io.KnownBytes.{Keeps, ReadConsumes, WriteAppends};
-ghost use Rattle.ends.specs.Watch.{has_closed, is_closed, took_nothing};
+ghost use Rattle.ends.specs.Watch.{failure_of, has_failed, is_closed, write_failure};
 
 use std::io;
-use std::io::{Error, ErrorKind, Read, Write};
+use std::io::{ErrorKind, Read, Write};
 use std::marker::Model;
 
-/// A reader or a writer that records how it failed, and whether the last call was a flush that succeeded. It passes on
-/// each call, and each result.
+/// A reader or a writer that records how it failed, and whether the last call was a flush that
+/// succeeded. It passes on each call, and each result.
 ///
-/// It has *failed* if a call once returned an error, or a write once took none of the bytes that it was given. It is
-/// *closed* if the first call that failed was a write or a flush, because nobody reads the output any more.
+/// It has *failed* if a call once returned an error, or a write once took none of the bytes that
+/// it was given. It is *closed* if the first call that failed did because nobody reads the output
+/// any more.
 #[derive(Drop)]
 pub struct Watched<T> {
     inner: T,
-    failed: bool,
-    closed: bool,
+    /// The kind of the first failure, `WriteZero` if it was a write that took nothing.
+    failure: Option<ErrorKind>,
     flushed: bool,
 }
 
@@ -26,34 +28,33 @@ impl<T> Model for Watched<T> {
 
     ghost Value = { Watch T };
 
-    ghost view = { λ w. record { inner = w.inner; failed = w.failed; closed = w.closed; flushed = w.flushed } };
+    ghost view = { λ w. record { inner = w.inner; failure = w.failure; flushed = w.flushed } };
 }
 
 impl<T> Watched<T> {
     /// Wraps a reader or a writer. The new one has not failed.
     pub fn new(inner: T) -> Watched<T>
-        ensures { result ≡ record { inner = inner; failed = false; closed = false; flushed = false } }
+        ensures { result ≡ record { inner = inner; failure = None; flushed = false } }
     {
         Watched {
             inner,
-            failed: false,
-            closed: false,
+            failure: None,
             flushed: false,
         }
     }
 
     /// Returns whether it has failed.
     pub fn failed(&self) -> bool
-        ensures { result ≡ self.now.failed }
+        ensures { result ≡ has_failed self.now }
     {
-        self.failed
+        self.failure.is_some()
     }
 
     /// Returns whether it has failed only because nobody reads the output any more.
     pub fn closed(&self) -> bool
-        ensures { result ≡ self.now.closed }
+        ensures { result ≡ is_closed self.now }
     {
-        self.closed
+        matches!(self.failure, Some(ErrorKind::BrokenPipe))
     }
 
     /// Returns the reader or the writer itself.
@@ -63,31 +64,26 @@ impl<T> Watched<T> {
         self.inner
     }
 
-    /// Records whether a call failed, whether it found a closed pipe, and whether it was a flush that succeeded.
-    fn note(&mut self, failed: bool, closed: bool, flushed: bool)
+    /// Records how a call failed, if it did and none before it, and whether it was a flush that
+    /// succeeded.
+    fn note(&mut self, failure: Option<ErrorKind>, flushed: bool)
         ensures inner { self.new.inner ≡ self.old.inner }
-        ensures failed { self.new.failed ≡ (self.old.failed || failed) }
-        ensures closed { self.new.closed ≡ (self.old.closed || (closed && not self.old.failed)) }
+        ensures failure { self.new.failure ≡ option_or self.old.failure failure }
         ensures flushed { self.new.flushed ≡ flushed }
     {
-        self.closed = self.closed || (closed && !self.failed);
-        self.failed = self.failed || failed;
+        self.failure = self.failure.or(failure);
         self.flushed = flushed;
     }
 }
 
-/// Returns whether the error means that nobody reads the output any more.
-pub fn is_closed(error: &Error) -> bool
-    ensures { result ≡ is_closed error.now }
+/// Returns how a read or a flush failed, if it did.
+fn failure_of<T>(answer: &io::Result<T>) -> Option<ErrorKind>
+    ensures { result ≡ failure_of answer.now }
 {
-    matches!(error.kind(), ErrorKind::BrokenPipe)
-}
-
-/// Returns whether the result is an error that means that nobody reads the output any more.
-fn has_closed<T>(answer: &io::Result<T>) -> bool
-    ensures { result ≡ has_closed answer.now }
-{
-    matches!(answer, Err(error) if is_closed(error))
+    match answer {
+        Ok(_) => None,
+        Err(error) => Some(error.kind()),
+    }
 }
 
 impl<R: Read> Read for Watched<R> {
@@ -97,12 +93,11 @@ impl<R: Read> Read for Watched<R> {
         ensures at_most { ReadsAtMost result buf.new }
         ensures bytes { ReadConsumes (R.remaining self.old.inner)
             (R.remaining self.new.inner) result buf.new }
-        ensures failed { self.new.failed ≡ (self.old.failed || is_err result) }
-        ensures closed { self.new.closed ≡ self.old.closed }
+        ensures failure { self.new.failure ≡ option_or self.old.failure (failure_of result) }
         ensures flushed { self.new.flushed ≡ false }
     {
         let answer = self.inner.read(buf);
-        self.note(answer.is_err(), false, false);
+        self.note(failure_of(&answer), false);
         answer
     }
 }
@@ -114,29 +109,26 @@ impl<W: Write> Write for Watched<W> {
         ensures at_most { WritesAtMost result buf.now }
         ensures bytes { WriteAppends (W.contents self.old.inner)
             (W.contents self.new.inner) result buf.now }
-        ensures failed { self.new.failed ≡ (self.old.failed || took_nothing result buf.now) }
-        ensures closed { self.new.closed
-            ≡ (self.old.closed || (has_closed result && not self.old.failed)) }
+        ensures failure { self.new.failure
+            ≡ option_or self.old.failure (write_failure result buf.now) }
         ensures flushed { self.new.flushed ≡ false }
     {
         let answer = self.inner.write(buf);
-        let failed = match &answer {
-            Ok(count) => *count == 0 && !buf.is_empty(),
-            Err(_) => true,
+        let failure = match &answer {
+            Ok(0) if !buf.is_empty() => Some(ErrorKind::WriteZero),
+            answer => failure_of(answer),
         };
-        self.note(failed, has_closed(&answer), false);
+        self.note(failure, false);
         answer
     }
 
     fn flush(&mut self) -> io::Result<()>
         ensures bytes { Keeps (W.contents self.old.inner) (W.contents self.new.inner) }
-        ensures failed { self.new.failed ≡ (self.old.failed || is_err result) }
-        ensures closed { self.new.closed
-            ≡ (self.old.closed || (has_closed result && not self.old.failed)) }
+        ensures failure { self.new.failure ≡ option_or self.old.failure (failure_of result) }
         ensures flushed { self.new.flushed ≡ is_ok result }
     {
         let answer = self.inner.flush();
-        self.note(answer.is_err(), has_closed(&answer), answer.is_ok());
+        self.note(failure_of(&answer), answer.is_ok());
         answer
     }
 }

@@ -7,6 +7,10 @@ use std::alloc::{AllocError, Global};
 use std::env::Args;
 
 /// Returns the arguments after the first, which is the program's name.
+///
+/// # Errors
+///
+/// `AllocError` if an allocation failed.
 pub fn past_name(alloc: Global, mut args: Args) -> Result<Vec<String>, AllocError>
     ensures { IfOk result (λ words. words.items ≡ drop 1 (into_iter_items args)) }
 {
@@ -18,8 +22,12 @@ pub fn past_name(alloc: Global, mut args: Args) -> Result<Vec<String>, AllocErro
     Ok(words)
 }
 
-/// Returns the arguments after the first, which is the program's name. `None` stands for arguments that the program could
-/// not get, and gives the error of a failed allocation.
+/// Returns the arguments after the first, which is the program's name.
+///
+/// # Errors
+///
+/// `AllocError` if an allocation failed. `None` stands for arguments that the program could not
+/// get because of that.
 pub fn given_words(alloc: Global, args: Option<Args>) -> Result<Vec<String>, AllocError>
     ensures { IfOk result (λ words. words_of args ≡ Some (map string_bytes words.items)) }
 {

@@ -35,52 +35,63 @@ number_of digits = number_after 0 digits
 
 -- the place that a word writes, by one to ten ASCII digits of value at most 4294967295
 unfoldable pub place_of : List ℕ → Option ℕ
-place_of word = if all_ascii_digits word && (nat_le 1 (length word) && (nat_le (length word) 10 && nat_le (number_of word) 4294967295)) then Some (number_of word) else None
+place_of word =
+    if all_ascii_digits word && (nat_le 1 (length word)
+    && (nat_le (length word) 10 && nat_le (number_of word) 4294967295))
+    then Some (number_of word) else None
 
 -- the edit that three words write
 abbrev pub replacement_of : List ℕ → List ℕ → List ℕ → Option Replacement
-replacement_of start stop insert = option_map (λ places. record { start = places.0; stop = places.1; insert = insert }) (option_zip (place_of start) (place_of stop))
+replacement_of start stop insert =
+    option_map (λ places. record { start = places.0; stop = places.1; insert = insert })
+    (option_zip (place_of start) (place_of stop))
 
 -- the edits that words write, three words each
 abbrev pub replacements_of : List (List ℕ) → Option (List Replacement)
 replacements_of [] = Some []
 replacements_of (start ∷ []) = None
 replacements_of (start ∷ stop ∷ []) = None
-replacements_of (start ∷ stop ∷ insert ∷ words) = option_map (λ edits. edits.0 ∷ edits.1) (option_zip (replacement_of start stop insert) (replacements_of words))
+replacements_of (start ∷ stop ∷ insert ∷ words) =
+    option_map (λ edits. edits.0 ∷ edits.1)
+    (option_zip (replacement_of start stop insert) (replacements_of words))
 
 -- the edit that the first three words write, and the words after them
 abbrev pub first_replacement : List (List ℕ) → Option (Replacement × List (List ℕ))
 first_replacement [] = None
 first_replacement (start ∷ []) = None
 first_replacement (start ∷ stop ∷ []) = None
-first_replacement (start ∷ stop ∷ insert ∷ words) = option_map (λ edit. (edit, words)) (replacement_of start stop insert)
+first_replacement (start ∷ stop ∷ insert ∷ words) =
+    option_map (λ edit. (edit, words)) (replacement_of start stop insert)
 
 -- what the words after `edit` ask for: one edit or more
 abbrev pub edit_job : Edition → List (List ℕ) → Option Command
 edit_job edition [] = None
 edit_job edition (start ∷ words) = option_map (edit edition) (replacements_of (start ∷ words))
 
--- what words ask for in an edition: no words for the tokens of the text, `edit` and one edit or more for those of the
--- edited text
+-- what words ask for in an edition: no words for the tokens of the text, `edit` and one edit or
+-- more for those of the edited text
 abbrev pub job_in : Edition → List (List ℕ) → Option Command
 job_in edition [] = Some (plain edition)
-job_in edition (word ∷ words) = if bytes_eq word (codes "edit") then edit_job edition words else None
+job_in edition (word ∷ words) =
+    if bytes_eq word (codes "edit") then edit_job edition words else None
 
 -- the same, where the edition may be none
 abbrev pub job_by : Option Edition → List (List ℕ) → Option Command
 job_by None words = None
 job_by (Some edition) words = job_in edition words
 
--- what the words after the program's name ask for: `front` for the tokens of the text with a frontmatter, `shebang` for
--- the length of its shebang line, `--edition` and a year for what the words after them ask for in that edition, and else
--- what they ask for in the newest one
+-- what the words after the program's name ask for: `front` for the tokens of the text with a
+-- frontmatter, `shebang` for the length of its shebang line, `--edition` and a year for what the
+-- words after them ask for in that edition, and else what they ask for in the newest one
 abbrev pub job_of : List (List ℕ) → Option Command
 job_of [] = job_in newest []
 job_of (word ∷ []) =
     if bytes_eq word (codes "front") then Some front
     else (if bytes_eq word (codes "shebang") then Some shebang
     else job_in newest (word ∷ []))
-job_of (word ∷ second ∷ words) = if bytes_eq word (codes "--edition") then job_by (edition_of second) words else job_in newest (word ∷ second ∷ words)
+job_of (word ∷ second ∷ words) =
+    if bytes_eq word (codes "--edition") then job_by (edition_of second) words
+    else job_in newest (word ∷ second ∷ words)
 
 abbrev pub replacement : TextEdit → Replacement
 replacement e = record { start = e.start; stop = e.stop; insert = e.insert.now }

@@ -1,4 +1,5 @@
--- The listing of tokens: a line for each, with its start, its length, its kind and the fields of that.
+-- The listing of tokens: a line for each, with its start, its length, its kind and the fields of
+-- that.
 use Rattle.std.specs.Prelude.{ℕ, ◌+◌, Bool, true, false, List, [], ◌∷◌, ◌++◌, codes, decimal, Option, Some, None}
 use Rattle.rustc_lexer.specs.declared.token.Base.{Base}
 use Rattle.rustc_lexer.specs.declared.token.Base.TheVariants.{Binary, Octal, Decimal, Hexadecimal}

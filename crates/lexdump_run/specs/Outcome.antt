@@ -17,17 +17,22 @@ use Rattle.lexdump_run.specs.declared.job.Job.{Job}
 use Rattle.lexdump_run.specs.declared.job.Job.TheVariants.{Plain, Front, Shebang, Edit}
 use Rattle.lexdump_run.specs.Listing.{listing, shebang_line}
 
--- what is printed for a text. If there are edits, all are valid, each for the text that those before it leave
+-- what is printed for a text. If there are edits, all are valid, each for the text that those
+-- before it leave
 abbrev pub IsPrinted : Job → List ℕ → List ℕ → Type 0
 IsPrinted (Plain edition) text made = made ≡ listing (tokens_of (part edition) text)
 IsPrinted Front text made = made ≡ listing (tokens_of (document newest) text)
 IsPrinted Shebang text made = made ≡ shebang_line (shebang text)
-IsPrinted (Edit edition edits) text made = AreEdits text edits.items × (made ≡ listing (tokens_of (part edition) (apply_list text edits.items)))
+IsPrinted (Edit edition edits) text made =
+    AreEdits text edits.items
+    × (made ≡ listing (tokens_of (part edition) (apply_list text edits.items)))
 
--- the list of edits stops at this edit: those before it are valid, and it is refused for the text that they leave, by
--- the rule of `rustc_lexer`
+-- the list of edits stops at this edit: those before it are valid, and it is refused for the text
+-- that they leave, by the rule of `rustc_lexer`
 abbrev pub StopsAt : EditStop → List ℕ → List TextEdit → Type 0
-StopsAt stop text edits = AreEdits text (take (stop_at stop) edits) × IsStop stop (apply_list text (take (stop_at stop) edits)) edits
+StopsAt stop text edits =
+    AreEdits text (take (stop_at stop) edits)
+    × IsStop stop (apply_list text (take (stop_at stop) edits)) edits
 
 -- why edits are not made: one is refused, or an allocation failed
 abbrev pub IsRefused : List ℕ → List TextEdit → Fault → Type 0
@@ -40,16 +45,20 @@ abbrev pub edits_of : Job → List TextEdit
 edits_of (Edit edition edits) = edits.items
 edits_of job = []
 
--- how a run over a text ends, and what is written: on Ok all that is printed; after a failed write a prefix of it; if
--- the edits are not made, nothing
-abbrev pub Prints : Job → List ℕ → Option (List ℕ) → Option (List ℕ) → Result (Unit {0}) Fault → Type 0
-Prints job text old new (Ok done) = (made : List ℕ) × IsPrinted job text made × Appends old new made
-Prints job text old new (Err Write) = (made : List ℕ) × IsPrinted job text made × AppendsFront old new made
+-- how a run over a text ends, and what is written: on Ok all that is printed; after a failed
+-- write a prefix of it; if the edits are not made, nothing
+abbrev pub Prints : Job → List ℕ → Option (List ℕ) → Option (List ℕ) → Result (Unit {0}) Fault
+    → Type 0
+Prints job text old new (Ok done) =
+    (made : List ℕ) × IsPrinted job text made × Appends old new made
+Prints job text old new (Err Write) =
+    (made : List ℕ) × IsPrinted job text made × AppendsFront old new made
 Prints job text old new (Err fault) = IsRefused text (edits_of job) fault × Keeps old new
 
--- how a run over bytes ends. Nothing is written after a failed read or a failed allocation, or if the bytes are too
--- many or not UTF-8. Otherwise it is a run over a text
-abbrev pub Ends : Job → List ℕ → Option (List ℕ) → Option (List ℕ) → Result (Unit {0}) Fault → Type 0
+-- how a run over bytes ends. Nothing is written after a failed read or a failed allocation, or if
+-- the bytes are too many or not UTF-8. Otherwise it is a run over a text
+abbrev pub Ends : Job → List ℕ → Option (List ℕ) → Option (List ℕ) → Result (Unit {0}) Fault
+    → Type 0
 Ends job bytes old new (Err Read) = Keeps old new
 Ends job bytes old new (Err Memory) = Keeps old new
 Ends job bytes old new (Err TooLong) = (2 ^ 32 ≤ length bytes) × Keeps old new

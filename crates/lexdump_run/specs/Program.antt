@@ -7,11 +7,14 @@ use Rattle.lexdump_run.specs.Job.{Command, command_of, job_of}
 use Rattle.lexdump_run.specs.Outcome.{Ends}
 
 -- the outcome of the command, for some job that does it
-abbrev pub Does : Option (List ℕ) → Option (List ℕ) → Option (List ℕ) → Command → Result (Unit {0}) Fault → Type 0
+abbrev pub Does : Option (List ℕ) → Option (List ℕ) → Option (List ℕ) → Command
+    → Result (Unit {0}) Fault → Type 0
 Does known old new command result =
-    (job : Job) × (command_of job ≡ command) × IfSome known (λ bytes. Ends job bytes old new result)
+    (job : Job) × (command_of job ≡ command)
+    × IfSome known (λ bytes. Ends job bytes old new result)
 
--- the outcome of a run by its arguments, or None if they could not be read. Unless an allocation failed, they could be,
--- and the run does the job that they ask for
-abbrev pub Ran : Option (List (List ℕ)) → Option (List ℕ) → Option (List ℕ) → Option (List ℕ) → Result (Unit {0}) Fault → Type 0
+-- the outcome of a run by its arguments, or None if they could not be read. Unless an allocation
+-- failed, they could be, and the run does the job that they ask for
+abbrev pub Ran : Option (List (List ℕ)) → Option (List ℕ) → Option (List ℕ) → Option (List ℕ)
+    → Result (Unit {0}) Fault → Type 0
 Ran words known old new result = RanBy job_of (Does known old new) words result

@@ -26,11 +26,18 @@ pub enum Job<'a> {
     },
 }
 
-/// Reads the arguments after the program's name. It allocates only for edits, and only once all arguments are
-/// known to be valid.
+/// Reads the arguments after the program's name. It allocates only for edits, and only once all
+/// arguments are known to be valid.
+///
+/// # Errors
+///
+/// `Fault::Arguments` if they ask for no job, and `Fault::Memory` if an allocation for edits
+/// failed.
 pub fn read_job<'a>(alloc: Global, words: &'a [String]) -> Result<Job<'a>, Fault>
-    ensures job { IfOk result (λ job. job_of (map string_bytes words.now) ≡ Some (command_of job)) }
-    ensures fault { IfErr result (λ fault. IsJobFault fault (job_of (map string_bytes words.now))) }
+    ensures job { IfOk result
+        (λ job. job_of (map string_bytes words.now) ≡ Some (command_of job)) }
+    ensures fault { IfErr result
+        (λ fault. IsJobFault fault (job_of (map string_bytes words.now))) }
 {
     match words {
         [command] if command.as_str() == "front" => Ok(Job::Front),

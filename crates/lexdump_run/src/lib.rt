@@ -1,5 +1,5 @@
-//! The program `lexdump`: prints the tokens of a Rust source, one per line. It reads and writes whatever ends it
-//! is given.
+//! The program `lexdump`: prints the tokens of a Rust source, one per line. It reads and writes
+//! whatever ends it is given.
 #![tactic(auto)]
 
 mod job;

@@ -12,6 +12,7 @@ ghost use Rattle.rustc_lexer.specs.Edits.{apply_list, AreEdits};
 ghost use Rattle.rustc_lexer.specs.LanguageText.{mode_in, part};
 ghost use Rattle.rustc_lexer.specs.Answers.{shebang};
 ghost use Rattle.rustc_lexer.specs.Tokens.{bound, tokens_of};
+ghost use Rattle.ends.specs.Watch.{has_failed};
 
 use crate::output::Block;
 use ends::{Fault, Watched};
@@ -27,16 +28,20 @@ use std::io::Write;
 const BUFFER_LEN: usize = 256;
 
 /// Writes the lines of the tokens, the first of which begins at byte `start`, and flushes.
+///
+/// # Errors
+///
+/// `Fault::Write` if a write or the flush failed. The output has taken a beginning of the lines.
 #[tactic(auto, using(crate::proofs::OutcomeLemmas::front_written, std::proofs::lemmas::Grind::common_steps))]
 pub fn write_listing<W: Write>(
     output: &mut Watched<W>,
     start: u32,
     tokens: &[Token],
 ) -> Result<(), Fault>
-    requires writes { output.old.failed ≡ false }
+    requires writes { has_failed output.old ≡ false }
     requires fits { start + bound tokens.now (length tokens.now) < 2 ^ 32 }
     ensures write { IfErr result (λ fault. fault ≡ Fault.Write) }
-    ensures failed { output.new.failed ≡ is_err result }
+    ensures failed { has_failed output.new ≡ is_err result }
     ensures flushed { IfOk result (λ _. output.new.flushed ≡ true) }
     ensures whole { OnOk result (Appends (W.contents output.old.inner)
         (W.contents output.new.inner) (listing_from start tokens.now)) }
@@ -58,10 +63,11 @@ pub fn list_tokens<W: Write>(
     edition: Edition,
 ) -> Result<(), Fault>
     requires fits { Fits text.now }
-    requires writes { output.old.failed ≡ false }
-    ensures failed { output.new.failed ≡ is_err result }
+    requires writes { has_failed output.old ≡ false }
+    ensures failed { has_failed output.new ≡ is_err result }
     ensures pushed { Pushes (W.contents output.old.inner) (W.contents output.new.inner)
-        lines.old lines.new (listing (tokens_of (mode_in frontmatter_allowed edition) text.now)) result }
+        lines.old lines.new
+        (listing (tokens_of (mode_in frontmatter_allowed edition) text.now)) result }
 {
     let mut buffer = [Token {
         kind: TokenKind::Eof,
@@ -85,8 +91,8 @@ fn push_lines<W: Write>(
     tokens: &[Token],
 ) -> Result<(), Fault>
     requires fits { start + bound tokens.now (length tokens.now) < 2 ^ 32 }
-    requires writes { output.old.failed ≡ false }
-    ensures failed { output.new.failed ≡ is_err result }
+    requires writes { has_failed output.old ≡ false }
+    ensures failed { has_failed output.new ≡ is_err result }
     ensures pushed { Pushes (W.contents output.old.inner) (W.contents output.new.inner)
         lines.old lines.new (listing_from start tokens.now) result }
 {
@@ -106,8 +112,8 @@ pub fn tell_shebang<W: Write>(
     text: &str,
 ) -> Result<(), Fault>
     requires fits { Fits text.now }
-    requires writes { output.old.failed ≡ false }
-    ensures failed { output.new.failed ≡ is_err result }
+    requires writes { has_failed output.old ≡ false }
+    ensures failed { has_failed output.new ≡ is_err result }
     ensures pushed { Pushes (W.contents output.old.inner) (W.contents output.new.inner)
         lines.old lines.new (shebang_line (shebang text.now)) result }
 {
@@ -157,8 +163,8 @@ pub fn list_pieces<W: Write, S: Stepper>(
     output: &mut Watched<W>,
     lexed: &LexedText<S>,
 ) -> Result<(), Fault>
-    requires writes { output.old.failed ≡ false }
-    ensures failed { output.new.failed ≡ is_err result }
+    requires writes { has_failed output.old ≡ false }
+    ensures failed { has_failed output.new ≡ is_err result }
     ensures pushed { Pushes (W.contents output.old.inner) (W.contents output.new.inner)
         lines.old lines.new (listing lexed.now.tokens) result }
 {
@@ -176,8 +182,8 @@ fn push_line<W: Write>(
     start: u32,
     token: Token,
 ) -> Result<(), Fault>
-    requires writes { output.old.failed ≡ false }
-    ensures failed { output.new.failed ≡ is_err result }
+    requires writes { has_failed output.old ≡ false }
+    ensures failed { has_failed output.new ≡ is_err result }
     ensures pushed { Pushes (W.contents output.old.inner) (W.contents output.new.inner)
         lines.old lines.new (line_text start token) result }
 {
@@ -200,8 +206,8 @@ fn push_place<W: Write>(
     start: u32,
     len: u32,
 ) -> Result<(), Fault>
-    requires writes { output.old.failed ≡ false }
-    ensures failed { output.new.failed ≡ is_err result }
+    requires writes { has_failed output.old ≡ false }
+    ensures failed { has_failed output.new ≡ is_err result }
     ensures pushed { Pushes (W.contents output.old.inner) (W.contents output.new.inner)
         lines.old lines.new (place_text start len) result }
 {
@@ -238,8 +244,8 @@ fn push_fields<W: Write>(
     output: &mut Watched<W>,
     kind: TokenKind,
 ) -> Result<(), Fault>
-    requires writes { output.old.failed ≡ false }
-    ensures failed { output.new.failed ≡ is_err result }
+    requires writes { has_failed output.old ≡ false }
+    ensures failed { has_failed output.new ≡ is_err result }
     ensures pushed { Pushes (W.contents output.old.inner) (W.contents output.new.inner)
         lines.old lines.new (fields_text kind ++ codes "\n") result }
 {
@@ -257,8 +263,8 @@ fn push_field<W: Write>(
     output: &mut Watched<W>,
     field: Field,
 ) -> Result<(), Fault>
-    requires writes { output.old.failed ≡ false }
-    ensures failed { output.new.failed ≡ is_err result }
+    requires writes { has_failed output.old ≡ false }
+    ensures failed { has_failed output.new ≡ is_err result }
     ensures pushed { Pushes (W.contents output.old.inner) (W.contents output.new.inner)
         lines.old lines.new (field_text field) result }
 {

@@ -4,6 +4,7 @@ ghost use Rattle.std.specs.Fmt.{decimal};
 ghost use Rattle.std.specs.Io.KnownBytes.{Appends};
 ghost use Rattle.ends.specs.Known.{AppendsFront};
 ghost use Rattle.lexdump_run.specs.Pushed.{Pushes};
+ghost use Rattle.ends.specs.Watch.{has_failed};
 
 use ends::{Fault, Watched, write_all, write_bytes};
 use itoa::Buffer;
@@ -13,7 +14,8 @@ use std::marker::Model;
 /// The size of a block in bytes.
 const BLOCK: usize = 65536;
 
-/// The bytes that are not written yet, at most one block. They are stored in place, so nothing is allocated.
+/// The bytes that are not written yet, at most one block. They are stored in place, so nothing is
+/// allocated.
 #[derive(Drop)]
 pub struct Block {
     bytes: [u8; BLOCK],
@@ -44,8 +46,8 @@ impl Block {
     /// Adds a text. If it does not fit, the block is written first.
     #[inline]
     pub fn push<W: Write>(&mut self, output: &mut Watched<W>, text: &str) -> Result<(), Fault>
-        requires writes { output.old.failed ≡ false }
-        ensures failed { output.new.failed ≡ is_err result }
+        requires writes { has_failed output.old ≡ false }
+        ensures failed { has_failed output.new ≡ is_err result }
         ensures pushed { Pushes (W.contents output.old.inner) (W.contents output.new.inner)
             self.old self.new text.now result }
     {
@@ -58,8 +60,8 @@ impl Block {
         output: &mut Watched<W>,
         number: usize,
     ) -> Result<(), Fault>
-        requires writes { output.old.failed ≡ false }
-        ensures failed { output.new.failed ≡ is_err result }
+        requires writes { has_failed output.old ≡ false }
+        ensures failed { has_failed output.new ≡ is_err result }
         ensures pushed { Pushes (W.contents output.old.inner) (W.contents output.new.inner)
             self.old self.new (decimal number) result }
     {
@@ -73,8 +75,8 @@ impl Block {
         output: &mut Watched<W>,
         bytes: &[u8],
     ) -> Result<(), Fault>
-        requires writes { output.old.failed ≡ false }
-        ensures failed { output.new.failed ≡ is_err result }
+        requires writes { has_failed output.old ≡ false }
+        ensures failed { has_failed output.new ≡ is_err result }
         ensures pushed { Pushes (W.contents output.old.inner) (W.contents output.new.inner)
             self.old self.new bytes.now result }
     {
@@ -85,12 +87,13 @@ impl Block {
         Ok(())
     }
 
-    /// Writes the block, then adds the bytes. If they are more than a block they are written at once.
+    /// Writes the block, then adds the bytes. If they are more than a block they are written at
+    /// once.
     #[inline(never)]
     #[tactic(auto, using(ends::proofs::KnownLemmas::front_first, crate::proofs::PushLemmas::pushes_past, std::proofs::lemmas::Grind::common_steps))]
     fn push_past<W: Write>(&mut self, output: &mut Watched<W>, bytes: &[u8]) -> Result<(), Fault>
-        requires writes { output.old.failed ≡ false }
-        ensures failed { output.new.failed ≡ is_err result }
+        requires writes { has_failed output.old ≡ false }
+        ensures failed { has_failed output.new ≡ is_err result }
         ensures pushed { Pushes (W.contents output.old.inner) (W.contents output.new.inner)
             self.old self.new bytes.now result }
     {
@@ -116,8 +119,8 @@ impl Block {
 
     /// Writes the block and empties it. On an error it stays as it was.
     fn write_out<W: Write>(&mut self, output: &mut Watched<W>) -> Result<(), Fault>
-        requires writes { output.old.failed ≡ false }
-        ensures failed { output.new.failed ≡ is_err result }
+        requires writes { has_failed output.old ≡ false }
+        ensures failed { has_failed output.new ≡ is_err result }
         ensures only { IfErr result (λ fault. fault ≡ Fault.Write) }
         ensures ok { OnOk result
             (Appends (W.contents output.old.inner) (W.contents output.new.inner) self.old) }
@@ -133,8 +136,8 @@ impl Block {
 
     /// Writes the block, empties it and flushes. On an error it stays as it was.
     pub fn finish<W: Write>(&mut self, output: &mut Watched<W>) -> Result<(), Fault>
-        requires writes { output.old.failed ≡ false }
-        ensures failed { output.new.failed ≡ is_err result }
+        requires writes { has_failed output.old ≡ false }
+        ensures failed { has_failed output.new ≡ is_err result }
         ensures flushed { IfOk result (λ _. output.new.flushed ≡ true) }
         ensures only { IfErr result (λ fault. fault ≡ Fault.Write) }
 

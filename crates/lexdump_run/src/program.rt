@@ -5,6 +5,7 @@ ghost use Rattle.ends.specs.Run.{Leaves};
 ghost use Rattle.ends.specs.Words.{words_of};
 ghost use Rattle.ends.specs.declared.fault.Fault.{Fault as TheFault};
 ghost use Rattle.lexdump_run.specs.Program.{Ran};
+ghost use Rattle.ends.specs.Watch.{has_failed};
 
 use crate::job::read_job;
 use crate::run_job::run;
@@ -13,8 +14,9 @@ use std::alloc::Global;
 use std::env::Args;
 use std::io::{Read, Write};
 
-/// Runs the program: reads arguments and input, writes the output, reports an error, and returns the exit
-/// status. The first argument is the program's name; they are `None` if the system did not give them.
+/// Runs the program: reads arguments and input, writes the output, reports an error, and returns
+/// the exit status. The first argument is the program's name; they are `None` if the system did
+/// not give them.
 pub fn program<R: Read, W: Write, E: Write>(
     alloc: Global,
     args: Option<Args>,
@@ -22,15 +24,15 @@ pub fn program<R: Read, W: Write, E: Write>(
     output: &mut Watched<W>,
     errors: &mut Watched<E>,
 ) -> u8
-    requires reads { input.old.failed ≡ false }
-    requires writes { output.old.failed ≡ false }
+    requires reads { has_failed input.old ≡ false }
+    requires writes { has_failed output.old ≡ false }
     ensures ended { (outcome : Result (Unit {0}) TheFault)
         × Ran (words_of args) (R.remaining input.old.inner) (W.contents output.old.inner)
         (W.contents output.new.inner) outcome
         × Leaves input.new output.new (W.contents output.old.inner)
         (W.contents output.new.inner) outcome
         × IsReported (fault_line (codes "lexdump: ") (codes "bad arguments")) outcome false result
-        (errors.new.failed ≡ false) errors.new.flushed (E.contents errors.old.inner)
+        (has_failed errors.new ≡ false) errors.new.flushed (E.contents errors.old.inner)
         (E.contents errors.new.inner) }
 {
     let outcome = dump(alloc, args, input, output);
@@ -44,8 +46,8 @@ fn dump<R: Read, W: Write>(
     input: &mut Watched<R>,
     output: &mut Watched<W>,
 ) -> Result<(), Fault>
-    requires reads { input.old.failed ≡ false }
-    requires writes { output.old.failed ≡ false }
+    requires reads { has_failed input.old ≡ false }
+    requires writes { has_failed output.old ≡ false }
     ensures ran { Ran (words_of args) (R.remaining input.old.inner)
         (W.contents output.old.inner) (W.contents output.new.inner) result }
     ensures leaves { Leaves input.new output.new (W.contents output.old.inner)

@@ -4,6 +4,7 @@ ghost use Rattle.ends.specs.Run.{Leaves};
 ghost use Rattle.rustc_lexer.specs.Classes.{Fits};
 ghost use Rattle.lexdump_run.specs.Outcome.{Ends};
 ghost use Rattle.lexdump_run.specs.Pushed.{Lists};
+ghost use Rattle.ends.specs.Watch.{has_failed};
 
 use crate::job::Job;
 use crate::listing::{edited, list_pieces, list_tokens, tell_shebang};
@@ -15,8 +16,20 @@ use std::io::{Read, Write};
 
 /// Reads all of the input, then prints what the job asks for.
 ///
-/// The lines are written in blocks. All memory is allocated before the first byte is written, so only a
-/// `Fault::Write` can leave part of the output. `Ok` means that the output was flushed last.
+/// The lines are written in blocks. `Ok` means that the output was flushed last.
+///
+/// # Errors
+///
+/// After each fault but `Fault::Write` nothing was written, since all memory is allocated before
+/// the first byte is.
+///
+/// - `Fault::Read`: a read failed.
+/// - `Fault::TooLong`: the input has more than `u32::MAX` bytes.
+/// - `Fault::NotUtf8`: it is not UTF-8.
+/// - `Fault::EditRange`, `Fault::EditTooLong`: an edit of the job is refused for the text that the
+///   edits before it leave.
+/// - `Fault::Memory`: an allocation failed.
+/// - `Fault::Write`: a write or the flush failed. A beginning of the output was written.
 #[tactic(auto, using(crate::proofs::OutcomeLemmas::ends_unread, crate::proofs::OutcomeLemmas::ends_unlisted, crate::proofs::OutcomeLemmas::silent_unlisted, crate::proofs::OutcomeLemmas::ends_listed))]
 pub fn run<R: Read, W: Write>(
     alloc: Global,
@@ -24,8 +37,8 @@ pub fn run<R: Read, W: Write>(
     input: &mut Watched<R>,
     output: &mut Watched<W>,
 ) -> Result<(), Fault>
-    requires reads { input.old.failed ≡ false }
-    requires writes { output.old.failed ≡ false }
+    requires reads { has_failed input.old ≡ false }
+    requires writes { has_failed output.old ≡ false }
     ensures ends { IfSome (R.remaining input.old.inner) (λ bytes.
         Ends job.now bytes (W.contents output.old.inner) (W.contents output.new.inner) result) }
     ensures leaves { Leaves input.new output.new (W.contents output.old.inner)
@@ -46,8 +59,8 @@ fn print<W: Write>(
     output: &mut Watched<W>,
 ) -> Result<(), Fault>
     requires fits { Fits text.now }
-    requires writes { output.old.failed ≡ false }
-    ensures failed { IsErrOf result Fault.Write ↔ IsTrue output.new.failed }
+    requires writes { has_failed output.old ≡ false }
+    ensures failed { IsErrOf result Fault.Write ↔ IsTrue (has_failed output.new) }
     ensures lists { Lists job.now text.now (W.contents output.old.inner)
         (W.contents output.new.inner) lines.old lines.new result }
 {

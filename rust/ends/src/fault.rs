@@ -42,9 +42,9 @@ pub fn status(fault: &Fault) -> u8 {
 
 /// Writes why a run stopped, after the name of the program, and flushes. Returns the exit status.
 ///
-/// `unknown` is the message for arguments that the program does not take. If the run did not stop, or if it is `quiet` and
-/// a write failed, this writes nothing and returns 0. If `errors` fails, it has taken a beginning of the line, and the
-/// status is the same.
+/// `unknown` is the message for arguments that the program does not take. If the run did not
+/// stop, or if it is `quiet` and a write failed, this writes nothing and returns 0. If `errors`
+/// fails, it has taken a beginning of the line, and the status is the same.
 pub fn report<E: Write>(
     name: &str,
     unknown: &str,
@@ -93,7 +93,8 @@ fn digits(buffer: &mut Buffer, number: Option<usize>) -> &str {
     }
 }
 
-/// Returns the message of a fault and its newline: what stands before the number of the edit, that number, and the rest.
+/// Returns the message of a fault and its newline: what stands before the number of the edit,
+/// that number, and the rest.
 fn message<'a>(fault: &Fault, unknown: &'a str) -> (&'a str, Option<usize>, &'a str) {
     match fault {
         Fault::Arguments => (unknown, None, "\n"),

@@ -11,6 +11,11 @@ use rattle_std::io::Read;
 const PIECE: usize = 65536;
 
 /// Reads all bytes up to the end of the input, at most `u32::MAX` of them.
+///
+/// # Errors
+///
+/// `Fault::Read` if a read failed, `Fault::TooLong` if there are more bytes, and `Fault::Memory`
+/// if an allocation failed. What was read is lost then.
 pub fn read_all<R: Read>(alloc: Global, input: &mut Watched<R>) -> Result<Vec<u8>, Fault> {
     let mut bytes = Vec::new(alloc);
     let mut piece = [0u8; PIECE];

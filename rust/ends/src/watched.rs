@@ -2,17 +2,18 @@
 //! Readers and writers that record how they failed.
 
 use rattle_std::io;
-use rattle_std::io::{Error, ErrorKind, Read, Write};
+use rattle_std::io::{ErrorKind, Read, Write};
 
-/// A reader or a writer that records how it failed, and whether the last call was a flush that succeeded. It passes on
-/// each call, and each result.
+/// A reader or a writer that records how it failed, and whether the last call was a flush that
+/// succeeded. It passes on each call, and each result.
 ///
-/// It has *failed* if a call once returned an error, or a write once took none of the bytes that it was given. It is
-/// *closed* if the first call that failed was a write or a flush, because nobody reads the output any more.
+/// It has *failed* if a call once returned an error, or a write once took none of the bytes that
+/// it was given. It is *closed* if the first call that failed did because nobody reads the output
+/// any more.
 pub struct Watched<T> {
     inner: T,
-    failed: bool,
-    closed: bool,
+    /// The kind of the first failure, `WriteZero` if it was a write that took nothing.
+    failure: Option<ErrorKind>,
     flushed: bool,
 }
 
@@ -21,20 +22,19 @@ impl<T> Watched<T> {
     pub fn new(inner: T) -> Watched<T> {
         Watched {
             inner,
-            failed: false,
-            closed: false,
+            failure: None,
             flushed: false,
         }
     }
 
     /// Returns whether it has failed.
     pub fn failed(&self) -> bool {
-        self.failed
+        self.failure.is_some()
     }
 
     /// Returns whether it has failed only because nobody reads the output any more.
     pub fn closed(&self) -> bool {
-        self.closed
+        matches!(self.failure, Some(ErrorKind::BrokenPipe))
     }
 
     /// Returns the reader or the writer itself.
@@ -42,28 +42,26 @@ impl<T> Watched<T> {
         self.inner
     }
 
-    /// Records whether a call failed, whether it found a closed pipe, and whether it was a flush that succeeded.
-    fn note(&mut self, failed: bool, closed: bool, flushed: bool) {
-        self.closed = self.closed || (closed && !self.failed);
-        self.failed = self.failed || failed;
+    /// Records how a call failed, if it did and none before it, and whether it was a flush that
+    /// succeeded.
+    fn note(&mut self, failure: Option<ErrorKind>, flushed: bool) {
+        self.failure = self.failure.or(failure);
         self.flushed = flushed;
     }
 }
 
-/// Returns whether the error means that nobody reads the output any more.
-pub fn is_closed(error: &Error) -> bool {
-    matches!(error.kind(), ErrorKind::BrokenPipe)
-}
-
-/// Returns whether the result is an error that means that nobody reads the output any more.
-fn has_closed<T>(answer: &io::Result<T>) -> bool {
-    matches!(answer, Err(error) if is_closed(error))
+/// Returns how a read or a flush failed, if it did.
+fn failure_of<T>(answer: &io::Result<T>) -> Option<ErrorKind> {
+    match answer {
+        Ok(_) => None,
+        Err(error) => Some(error.kind()),
+    }
 }
 
 impl<R: Read> Read for Watched<R> {
     fn read(&mut self, buf: &mut [u8]) -> io::Result<usize> {
         let answer = self.inner.read(buf);
-        self.note(answer.is_err(), false, false);
+        self.note(failure_of(&answer), false);
         answer
     }
 }
@@ -71,17 +69,17 @@ impl<R: Read> Read for Watched<R> {
 impl<W: Write> Write for Watched<W> {
     fn write(&mut self, buf: &[u8]) -> io::Result<usize> {
         let answer = self.inner.write(buf);
-        let failed = match &answer {
-            Ok(count) => *count == 0 && !buf.is_empty(),
-            Err(_) => true,
+        let failure = match &answer {
+            Ok(0) if !buf.is_empty() => Some(ErrorKind::WriteZero),
+            answer => failure_of(answer),
         };
-        self.note(failed, has_closed(&answer), false);
+        self.note(failure, false);
         answer
     }
 
     fn flush(&mut self) -> io::Result<()> {
         let answer = self.inner.flush();
-        self.note(answer.is_err(), has_closed(&answer), answer.is_ok());
+        self.note(failure_of(&answer), answer.is_ok());
         answer
     }
 }

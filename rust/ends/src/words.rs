@@ -8,6 +8,10 @@ use rattle_std::alloc::{AllocError, Global};
 use rattle_std::env::Args;
 
 /// Returns the arguments after the first, which is the program's name.
+///
+/// # Errors
+///
+/// `AllocError` if an allocation failed.
 pub fn past_name(alloc: Global, mut args: Args) -> Result<Vec<String>, AllocError> {
     let _ = args.next();
     let mut words = Vec::new(alloc);
@@ -17,8 +21,12 @@ pub fn past_name(alloc: Global, mut args: Args) -> Result<Vec<String>, AllocErro
     Ok(words)
 }
 
-/// Returns the arguments after the first, which is the program's name. `None` stands for arguments that the program could
-/// not get, and gives the error of a failed allocation.
+/// Returns the arguments after the first, which is the program's name.
+///
+/// # Errors
+///
+/// `AllocError` if an allocation failed. `None` stands for arguments that the program could not
+/// get because of that.
 pub fn given_words(alloc: Global, args: Option<Args>) -> Result<Vec<String>, AllocError> {
     past_name(alloc, args.ok_or(AllocError)?)
 }

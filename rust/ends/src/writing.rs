@@ -6,12 +6,21 @@ use crate::watched::Watched;
 use rattle_std::io::Write;
 
 /// Writes all of the bytes, and flushes.
+///
+/// # Errors
+///
+/// `Fault::Write` if a write or the flush failed. The output has taken a beginning of the bytes,
+/// all of them if only the flush failed.
 pub fn write_all<W: Write>(output: &mut Watched<W>, bytes: &[u8]) -> Result<(), Fault> {
     write_bytes(output, bytes)?;
     output.flush().map_err(|_| Fault::Write)
 }
 
 /// Writes all of the bytes.
+///
+/// # Errors
+///
+/// `Fault::Write` if a write failed. The output has taken a beginning of the bytes.
 pub fn write_bytes<W: Write>(output: &mut Watched<W>, bytes: &[u8]) -> Result<(), Fault> {
     let mut rest = bytes;
     while !rest.is_empty() {
@@ -28,6 +37,10 @@ pub fn write_bytes<W: Write>(output: &mut Watched<W>, bytes: &[u8]) -> Result<()
 }
 
 /// Writes three texts, one after another, and flushes.
+///
+/// # Errors
+///
+/// `Fault::Write` if a write or the flush failed. The output has taken a beginning of the texts.
 pub fn write_texts<W: Write>(
     output: &mut Watched<W>,
     one: &str,

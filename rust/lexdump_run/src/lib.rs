@@ -1,6 +1,6 @@
 // Made by tools/erase from crates/lexdump_run/src/lib.rt: edit that file.
-//! The program `lexdump`: prints the tokens of a Rust source, one per line. It reads and writes whatever ends it
-//! is given.
+//! The program `lexdump`: prints the tokens of a Rust source, one per line. It reads and writes
+//! whatever ends it is given.
 
 mod job;
 mod listing;

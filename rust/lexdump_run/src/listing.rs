@@ -15,6 +15,10 @@ use rustc_lexer::erased::{
 const BUFFER_LEN: usize = 256;
 
 /// Writes the lines of the tokens, the first of which begins at byte `start`, and flushes.
+///
+/// # Errors
+///
+/// `Fault::Write` if a write or the flush failed. The output has taken a beginning of the lines.
 pub fn write_listing<W: Write>(
     output: &mut Watched<W>,
     start: u32,

@@ -8,7 +8,8 @@ use rattle_std::io::Write;
 /// The size of a block in bytes.
 const BLOCK: usize = 65536;
 
-/// The bytes that are not written yet, at most one block. They are stored in place, so nothing is allocated.
+/// The bytes that are not written yet, at most one block. They are stored in place, so nothing is
+/// allocated.
 pub struct Block {
     bytes: [u8; BLOCK],
     len: usize,
@@ -52,7 +53,8 @@ impl Block {
         Ok(())
     }
 
-    /// Writes the block, then adds the bytes. If they are more than a block they are written at once.
+    /// Writes the block, then adds the bytes. If they are more than a block they are written at
+    /// once.
     #[inline(never)]
     fn push_past<W: Write>(&mut self, output: &mut Watched<W>, bytes: &[u8]) -> Result<(), Fault> {
         self.write_out(output)?;

@@ -8,8 +8,9 @@ use rattle_std::alloc::Global;
 use rattle_std::env::Args;
 use rattle_std::io::{Read, Write};
 
-/// Runs the program: reads arguments and input, writes the output, reports an error, and returns the exit
-/// status. The first argument is the program's name; they are `None` if the system did not give them.
+/// Runs the program: reads arguments and input, writes the output, reports an error, and returns
+/// the exit status. The first argument is the program's name; they are `None` if the system did
+/// not give them.
 pub fn program<R: Read, W: Write, E: Write>(
     alloc: Global,
     args: Option<Args>,

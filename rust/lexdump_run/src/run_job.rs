@@ -11,8 +11,20 @@ use rustc_lexer::erased::{Edition, FrontmatterAllowed};
 
 /// Reads all of the input, then prints what the job asks for.
 ///
-/// The lines are written in blocks. All memory is allocated before the first byte is written, so only a
-/// `Fault::Write` can leave part of the output. `Ok` means that the output was flushed last.
+/// The lines are written in blocks. `Ok` means that the output was flushed last.
+///
+/// # Errors
+///
+/// After each fault but `Fault::Write` nothing was written, since all memory is allocated before
+/// the first byte is.
+///
+/// - `Fault::Read`: a read failed.
+/// - `Fault::TooLong`: the input has more than `u32::MAX` bytes.
+/// - `Fault::NotUtf8`: it is not UTF-8.
+/// - `Fault::EditRange`, `Fault::EditTooLong`: an edit of the job is refused for the text that the
+///   edits before it leave.
+/// - `Fault::Memory`: an allocation failed.
+/// - `Fault::Write`: a write or the flush failed. A beginning of the output was written.
 pub fn run<R: Read, W: Write>(
     alloc: Global,
     job: &Job<'_>,

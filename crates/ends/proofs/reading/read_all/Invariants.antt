@@ -1,10 +1,11 @@
 use Rattle.std.proofs.Common.{◌≡◌, ◌-◌, ◌<◌, ◌^◌, false, length}
 use Rattle.std.specs.Io.KnownBytes.{Consumes}
+use Rattle.ends.specs.Watch.{has_failed}
 use Rattle.ends.proofs.reading.read_all.Given as goal
 
 abbrev pub invariant-loop-count : goal.invariant-loop-count
 invariant-loop-count g l = record {
-  sound : l.input.failed ≡ false;
+  sound : has_failed l.input ≡ false;
   fits : length l.bytes.items < 2 ^ 32;
   taken : Consumes (g.R.Read.remaining l.fn.input.inner) (g.R.Read.remaining l.input.inner) l.bytes.items;
 }

@@ -4,7 +4,7 @@ use Rattle.ends.proofs.writing.write_bytes.Given as goal
 
 abbrev pub invariant-loop-rest : goal.invariant-loop-rest
 invariant-loop-rest g l =
-    (l.output.failed ≡ l.fn.output.failed) × (l.output.closed ≡ l.fn.output.closed)
+    (l.output.failure ≡ l.fn.output.failure)
     × Went (g.W.Write.contents l.fn.output.inner) (g.W.Write.contents l.output.inner) l.bytes l.rest
 
 abbrev pub decreases-loop-rest : goal.decreases-loop-rest
