@@ -26,39 +26,40 @@ no_options = record { html = false; edition = None; color = None }
 
 -- the options with one more; none where that one stands already
 abbrev pub page : Options → Option Options
-page options = if options.html then None else Some record { html = true; edition = options.edition; color = options.color }
+page options = if options.html then None else Some record options { html = true }
 
 abbrev pub unless_given : {T : Type 0} → Option T → Options → Option Options
 unless_given None options = Some options
 unless_given (Some x) options = None
 
 abbrev pub in_edition : Options → Edition → Option Options
-in_edition options edition = unless_given options.edition record { html = options.html; edition = Some edition; color = options.color }
+in_edition options edition =
+    unless_given options.edition record options { edition = Some edition }
 
 abbrev pub with_colours : Options → When → Option Options
-with_colours options when = unless_given options.color record { html = options.html; edition = options.edition; color = Some when }
+with_colours options when = unless_given options.color record options { color = Some when }
 
--- the options with the one that the first words write, and the words after them: `--html`, `--edition` and a year, or
--- `--color` and a word that says when
-abbrev pub option_of : Options → List (List ℕ) → Option (Options × List (List ℕ))
-option_of options [] = None
-option_of options (word ∷ []) = if bytes_eq word (codes "--html") then option_map (λ o. (o, [])) (page options) else None
-option_of options (word ∷ next ∷ words) =
-    if bytes_eq word (codes "--html") then option_map (λ o. (o, next ∷ words)) (page options)
-    else (if bytes_eq word (codes "--edition") then option_map (λ o. (o, words)) (option_and_then (in_edition options) (edition_of next))
-    else (if bytes_eq word (codes "--color") then option_map (λ o. (o, words)) (option_and_then (with_colours options) (when_of next))
-    else None))
+-- the options with the one that a name and a value write: `--edition` and a year, or `--color`
+-- and a word that says when
+abbrev pub with_value : Options → List ℕ → List ℕ → Option Options
+with_value options name value =
+    if bytes_eq name (codes "--edition")
+    then option_and_then (in_edition options) (edition_of value)
+    else (if bytes_eq name (codes "--color")
+    then option_and_then (with_colours options) (when_of value)
+    else None)
 
--- the options that words write after those that stand before them: `--html`, `--edition` and a year, and `--color` and
--- a word that says when, in any order and each at most once
-abbrev pub options_of : Options → List (List ℕ) → Option Options
-options_of options [] = Some options
-options_of options (word ∷ []) = if bytes_eq word (codes "--html") then page options else None
-options_of options (word ∷ next ∷ words) =
-    if bytes_eq word (codes "--html") then option_and_then (λ o. options_of o (next ∷ words)) (page options)
-    else (if bytes_eq word (codes "--edition") then option_and_then (λ o. options_of o words) (option_and_then (in_edition options) (edition_of next))
-    else (if bytes_eq word (codes "--color") then option_and_then (λ o. options_of o words) (option_and_then (with_colours options) (when_of next))
-    else None))
+-- the options that words write after those that stand before them, in any order and each at most
+-- once: `--html`, and names with values. The first word may be the value of a name before it
+abbrev pub options_of : Options → Option (List ℕ) → List (List ℕ) → Option Options
+options_of options None [] = Some options
+options_of options (Some name) [] = None
+options_of options None (word ∷ words) =
+    if bytes_eq word (codes "--html")
+    then option_and_then (λ o. options_of o None words) (page options)
+    else options_of options (Some word) words
+options_of options (Some name) (value ∷ words) =
+    option_and_then (λ o. options_of o None words) (with_value options name value)
 
 -- whether there are colours: as the words say, or else as the terminal does
 abbrev pub coloured : Option When → Bool → Bool
@@ -68,7 +69,9 @@ coloured (Some Always) colours = true
 coloured (Some Never) colours = false
 
 abbrev pub style_of : Options → Bool → Style
-style_of options colours = if options.html then Html else (if coloured options.color colours then Colours else NoColours)
+style_of options colours =
+    if options.html then Html
+    else (if coloured options.color colours then Colours else NoColours)
 
 -- to show a text by options: where no edition is named it is the newest one
 abbrev pub show : Bool → Options → Job
@@ -80,4 +83,6 @@ is_help words = false
 
 -- `--help` alone for help, and else options
 abbrev pub job_of : List (List ℕ) → Bool → Option Job
-job_of words colours = if is_help words then Some Help else option_map (show colours) (options_of no_options words)
+job_of words colours =
+    if is_help words then Some Help
+    else option_map (show colours) (options_of no_options None words)

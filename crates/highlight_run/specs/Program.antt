@@ -21,18 +21,22 @@ is_unset (Err NotPresent) = Some true
 is_unset (Err NotUnicode) = Some false
 is_unset (Err OutOfMemory) = None
 
--- whether colours are written where the words do not say: to a terminal, and where `NO_COLOR` has no value or an empty
--- one; none where memory for the value was refused
+-- whether colours are written where the words do not say: to a terminal, and where `NO_COLOR` has
+-- no value or an empty one; none where memory for the value was refused
 abbrev pub colours_of : Result (String Global) VarError → Bool → Option Bool
 colours_of no_color is_terminal = option_map (λ unset. unset && is_terminal) (is_unset no_color)
 
 -- what a job comes to
-abbrev pub Does : Option (List ℕ) → Option (List ℕ) → Option (List ℕ) → Job → Result (Unit {0}) Fault → Type 0
+abbrev pub Does : Option (List ℕ) → Option (List ℕ) → Option (List ℕ) → Job
+    → Result (Unit {0}) Fault → Type 0
 Does known old new Help result = Writes HELP.now old new result
 Does known old new (Show style edition) result = Makes (printed style edition) known old new result
 
--- a run by words, or by none where they could not be had: it is that of the job which the words ask for, unless
--- an allocation failed; without words, or where it is not known whether colours are written, an allocation failed
-abbrev pub Ran : Option (List (List ℕ)) → Option Bool → Option (List ℕ) → Option (List ℕ) → Option (List ℕ) → Result (Unit {0}) Fault → Type 0
+-- a run by words, or by none where they could not be had: it is that of the job which the words
+-- ask for, unless an allocation failed; without words, or where it is not known whether colours
+-- are written, an allocation failed
+abbrev pub Ran : Option (List (List ℕ)) → Option Bool → Option (List ℕ) → Option (List ℕ)
+    → Option (List ℕ) → Result (Unit {0}) Fault → Type 0
 Ran words None known old new result = result ≡ Err Memory
-Ran words (Some colours) known old new result = RanBy (λ (words : List (List ℕ)). job_of words colours) (Does known old new) words result
+Ran words (Some colours) known old new result =
+    RanBy (λ (words : List (List ℕ)). job_of words colours) (Does known old new) words result

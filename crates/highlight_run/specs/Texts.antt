@@ -7,7 +7,8 @@ abbrev pub has : List ℕ → List ℕ → Bool
 has part [] = starts_with nat_eq [] part
 has part (b ∷ text) = starts_with nat_eq (b ∷ text) part || has part text
 
--- the head ends by opening a `pre`, with the newline that a browser drops; the foot closes it; and neither has a script
+-- the head ends by opening a `pre`, with the newline that a browser drops; the foot closes it;
+-- and neither has a script
 pub record IsFrame (head foot : List ℕ) : Type 0 where
   pub opens : ends_with nat_eq head (codes "<pre>\n") ≡ true
   pub closes : starts_with nat_eq foot (codes "</pre>\n") ≡ true

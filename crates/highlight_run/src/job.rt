@@ -1,7 +1,6 @@
 //! What a run has to do, as its arguments say.
-ghost use Rattle.std.specs.Prelude.{◌≡◌, ◌<◌, IfSome, length, map, string_bytes};
-ghost use Rattle.std.specs.Option.{option_map};
-ghost use Rattle.highlight_run.specs.Job.{in_edition, is_help, job_of, option_of, options_of, page, style_of, when_of, with_colours};
+ghost use Rattle.std.specs.Prelude.{◌≡◌, None, map, string_bytes};
+ghost use Rattle.highlight_run.specs.Job.{in_edition, is_help, job_of, options_of, page, style_of, when_of, with_colours, with_value};
 
 use marks::Style;
 use rustc_lexer::Edition;
@@ -10,7 +9,8 @@ use std::str::FromStr;
 /// What a run has to do.
 #[derive(Clone, Copy, Debug, PartialEq, Eq)]
 pub enum Job {
-    /// Write the text of standard input in a style, lexed in an edition. The text may begin with a frontmatter.
+    /// Write the text of standard input in a style, lexed in an edition. The text may begin with
+    /// a frontmatter.
     Show { style: Style, edition: Edition },
     /// Print the usage.
     Help,
@@ -40,8 +40,9 @@ const NO_OPTIONS: Options = Options {
     color: None,
 };
 
-/// Returns the job that the arguments after the program's name ask for, or `None` if they are not valid. Without
-/// `--edition` the edition is the newest one. `colours` says whether to write colours if no argument says so.
+/// Returns the job that the arguments after the program's name ask for, or `None` if they are not
+/// valid. Without `--edition` the edition is the newest one. `colours` says whether to write
+/// colours if no argument says so.
 pub fn read_job(words: &[String], colours: bool) -> Option<Job>
     ensures { result ≡ job_of (map string_bytes words.now) colours }
 {
@@ -62,35 +63,28 @@ fn is_help(words: &[String]) -> bool
     matches!(words, [word] if word.as_str() == "--help")
 }
 
-/// Adds the options of the arguments to `options`, in any order, each at most once. So it calls itself at most
-/// three times.
-#[tactic(auto, using(crate::proofs::JobLemmas::job_lemmas, std::proofs::lemmas::Grind::common_steps))]
+/// Adds the options of the arguments to `options`, in any order, each at most once. So it calls
+/// itself at most three times.
 fn read_options(options: Options, words: &[String]) -> Option<Options>
-    ensures { result ≡ options_of options (map string_bytes words.now) }
-{
-    if words.is_empty() {
-        return Some(options);
-    }
-    let (options, after) = read_option(options, words)?;
-    read_options(options, after)
-}
-
-/// Adds the first option of the arguments, and returns the options with the arguments that are left.
-fn read_option(options: Options, words: &[String]) -> Option<(Options, &[String])>
-    ensures read { option_map (λ p. (p.0, map string_bytes p.1.now)) result
-        ≡ option_of options (map string_bytes words.now) }
-    ensures shorter { IfSome result (λ p. length p.1.now < length words.now) }
+    ensures { result ≡ options_of options None (map string_bytes words.now) }
 {
     match words {
-        [word, after @ ..] if word.as_str() == "--html" => Some((page(options)?, after)),
-        [word, year, after @ ..] if word.as_str() == "--edition" => {
-            let edition = Edition::from_str(year.as_str()).ok()?;
-            Some((in_edition(options, edition)?, after))
+        [] => Some(options),
+        [word, rest @ ..] if word.as_str() == "--html" => read_options(page(options)?, rest),
+        [name, value, rest @ ..] => {
+            read_options(with_value(options, name.as_str(), value.as_str())?, rest)
         }
-        [word, when, after @ ..] if word.as_str() == "--color" => {
-            let when = read_when(when.as_str())?;
-            Some((with_colours(options, when)?, after))
-        }
+        _ => None,
+    }
+}
+
+/// Adds the option that a name and a value write.
+fn with_value(options: Options, name: &str, value: &str) -> Option<Options>
+    ensures { result ≡ with_value options name.now value.now }
+{
+    match name {
+        "--edition" => in_edition(options, Edition::from_str(value).ok()?),
+        "--color" => with_colours(options, read_when(value)?),
         _ => None,
     }
 }

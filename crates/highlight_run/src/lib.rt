@@ -1,5 +1,5 @@
-//! The program `highlight`: writes a Rust source in colours, for a terminal or as a web page. It reads and
-//! writes whatever ends it is given.
+//! The program `highlight`: writes a Rust source in colours, for a terminal or as a web page. It
+//! reads and writes whatever ends it is given.
 #![tactic(auto)]
 
 mod job;

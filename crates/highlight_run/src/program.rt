@@ -2,6 +2,7 @@
 ghost use Rattle.std.specs.Prelude.{◌≡◌, false, codes, Result};
 ghost use Rattle.ends.specs.Fault.{fault_line, IsReported};
 ghost use Rattle.ends.specs.Run.{Leaves};
+ghost use Rattle.ends.specs.Watch.{has_failed, is_closed};
 ghost use Rattle.ends.specs.Words.{words_of};
 ghost use Rattle.ends.specs.declared.fault.Fault.{Fault as TheFault};
 ghost use Rattle.highlight_run.specs.Page.{foot, head};
@@ -31,7 +32,8 @@ A token with a fault is underlined in its first line, with a sentence behind it 
 /// What the system gives to a process.
 #[derive(Drop)]
 pub struct Start {
-    /// The arguments, of which the first is the program's name, or `None` if the system did not give them.
+    /// The arguments, of which the first is the program's name, or `None` if the system did not
+    /// give them.
     pub args: Option<Args>,
     /// The value of `NO_COLOR`.
     pub no_color: Result<String, VarError>,
@@ -39,8 +41,8 @@ pub struct Start {
     pub is_terminal: bool,
 }
 
-/// Runs the program: reads arguments and input, writes the output, reports an error, and returns the exit
-/// status. If nobody reads the output any more, it ends quietly, with status 0.
+/// Runs the program: reads arguments and input, writes the output, reports an error, and returns
+/// the exit status. If nobody reads the output any more, it ends quietly, with status 0.
 pub fn program<R: Read, W: Write, E: Write>(
     alloc: Global,
     start: Start,
@@ -48,8 +50,8 @@ pub fn program<R: Read, W: Write, E: Write>(
     output: &mut Watched<W>,
     errors: &mut Watched<E>,
 ) -> u8
-    requires reads { input.old.failed ≡ false }
-    requires writes { output.old.failed ≡ false }
+    requires reads { has_failed input.old ≡ false }
+    requires writes { has_failed output.old ≡ false }
     ensures ended { (outcome : Result (Unit {0}) TheFault)
         × Ran (words_of start.args) (colours_of start.no_color start.is_terminal)
         (R.remaining input.old.inner) (W.contents output.old.inner)
@@ -57,8 +59,8 @@ pub fn program<R: Read, W: Write, E: Write>(
         × Leaves input.new output.new (W.contents output.old.inner)
         (W.contents output.new.inner) outcome
         × IsReported (fault_line (codes "highlight: ")
-        (codes "unknown words; --help tells what it takes")) outcome output.new.closed result
-        (errors.new.failed ≡ false) errors.new.flushed (E.contents errors.old.inner)
+        (codes "unknown words; --help tells what it takes")) outcome (is_closed output.new) result
+        (has_failed errors.new ≡ false) errors.new.flushed (E.contents errors.old.inner)
         (E.contents errors.new.inner) }
     ensures page { IsFrame (head Html) (foot Html) }
     ensures usage { NamesArguments HELP.now }
@@ -80,8 +82,8 @@ fn show<R: Read, W: Write>(
     input: &mut Watched<R>,
     output: &mut Watched<W>,
 ) -> Result<(), Fault>
-    requires reads { input.old.failed ≡ false }
-    requires writes { output.old.failed ≡ false }
+    requires reads { has_failed input.old ≡ false }
+    requires writes { has_failed output.old ≡ false }
     ensures leaves { Leaves input.new output.new (W.contents output.old.inner)
         (W.contents output.new.inner) result }
     ensures ran { Ran (words_of start.args) (colours_of start.no_color start.is_terminal)
@@ -97,8 +99,8 @@ fn show<R: Read, W: Write>(
     }
 }
 
-/// Returns whether to write colours if no argument says so, by the value of `NO_COLOR`. `None` means that memory
-/// for that value was refused.
+/// Returns whether to write colours if no argument says so, by the value of `NO_COLOR`. `None`
+/// means that memory for that value was refused.
 fn wants_colours(no_color: &Result<String, VarError>, is_terminal: bool) -> Option<bool>
     ensures { result ≡ colours_of no_color.now is_terminal }
 {

@@ -2,6 +2,7 @@
 ghost use Rattle.std.specs.Prelude.{◌≡◌, false, IfOk, string_bytes};
 ghost use Rattle.rustc_lexer.specs.Classes.{Fits};
 ghost use Rattle.ends.specs.Run.{Leaves, Makes};
+ghost use Rattle.ends.specs.Watch.{has_failed};
 ghost use Rattle.highlight_run.specs.Page.{printed};
 
 use crate::page::write_text;
@@ -14,8 +15,18 @@ use std::io::{Read, Write};
 
 /// Reads all of the input, then writes it with its tokens marked.
 ///
-/// It makes the whole output before it writes any of it. So unless the output itself failed, an error means that
-/// nothing was written. `Ok` means that the output was flushed last.
+/// `Ok` means that the output was flushed last.
+///
+/// # Errors
+///
+/// After each fault but `Fault::Write` nothing was written, since the whole output is made before
+/// any of it is written.
+///
+/// - `Fault::Read`: a read failed.
+/// - `Fault::TooLong`: the input has more than `u32::MAX` bytes.
+/// - `Fault::NotUtf8`: it is not UTF-8.
+/// - `Fault::Memory`: an allocation failed.
+/// - `Fault::Write`: a write or the flush failed. A beginning of the output was written.
 #[tactic(auto, using(ends::proofs::RunLemmas::makes_unread, ends::proofs::RunLemmas::makes_written))]
 pub fn run<R: Read, W: Write>(
     alloc: Global,
@@ -24,8 +35,8 @@ pub fn run<R: Read, W: Write>(
     input: &mut Watched<R>,
     output: &mut Watched<W>,
 ) -> Result<(), Fault>
-    requires reads { input.old.failed ≡ false }
-    requires writes { output.old.failed ≡ false }
+    requires reads { has_failed input.old ≡ false }
+    requires writes { has_failed output.old ≡ false }
     ensures leaves { Leaves input.new output.new (W.contents output.old.inner)
         (W.contents output.new.inner) result }
     ensures ends { Makes (printed style edition) (R.remaining input.old.inner)

@@ -9,7 +9,8 @@ use rustc_lexer::erased::Edition;
 /// What a run has to do.
 #[derive(Clone, Copy, Debug, PartialEq, Eq)]
 pub enum Job {
-    /// Write the text of standard input in a style, lexed in an edition. The text may begin with a frontmatter.
+    /// Write the text of standard input in a style, lexed in an edition. The text may begin with
+    /// a frontmatter.
     Show { style: Style, edition: Edition },
     /// Print the usage.
     Help,
@@ -39,8 +40,9 @@ const NO_OPTIONS: Options = Options {
     color: None,
 };
 
-/// Returns the job that the arguments after the program's name ask for, or `None` if they are not valid. Without
-/// `--edition` the edition is the newest one. `colours` says whether to write colours if no argument says so.
+/// Returns the job that the arguments after the program's name ask for, or `None` if they are not
+/// valid. Without `--edition` the edition is the newest one. `colours` says whether to write
+/// colours if no argument says so.
 pub fn read_job(words: &[String], colours: bool) -> Option<Job> {
     if is_help(words) {
         return Some(Job::Help);
@@ -57,28 +59,24 @@ fn is_help(words: &[String]) -> bool {
     matches!(words, [word] if word.as_str() == "--help")
 }
 
-/// Adds the options of the arguments to `options`, in any order, each at most once. So it calls itself at most
-/// three times.
+/// Adds the options of the arguments to `options`, in any order, each at most once. So it calls
+/// itself at most three times.
 fn read_options(options: Options, words: &[String]) -> Option<Options> {
-    if words.is_empty() {
-        return Some(options);
+    match words {
+        [] => Some(options),
+        [word, rest @ ..] if word.as_str() == "--html" => read_options(page(options)?, rest),
+        [name, value, rest @ ..] => {
+            read_options(with_value(options, name.as_str(), value.as_str())?, rest)
+        }
+        _ => None,
     }
-    let (options, after) = read_option(options, words)?;
-    read_options(options, after)
 }
 
-/// Adds the first option of the arguments, and returns the options with the arguments that are left.
-fn read_option(options: Options, words: &[String]) -> Option<(Options, &[String])> {
-    match words {
-        [word, after @ ..] if word.as_str() == "--html" => Some((page(options)?, after)),
-        [word, year, after @ ..] if word.as_str() == "--edition" => {
-            let edition = Edition::from_str(year.as_str()).ok()?;
-            Some((in_edition(options, edition)?, after))
-        }
-        [word, when, after @ ..] if word.as_str() == "--color" => {
-            let when = read_when(when.as_str())?;
-            Some((with_colours(options, when)?, after))
-        }
+/// Adds the option that a name and a value write.
+fn with_value(options: Options, name: &str, value: &str) -> Option<Options> {
+    match name {
+        "--edition" => in_edition(options, Edition::from_str(value).ok()?),
+        "--color" => with_colours(options, read_when(value)?),
         _ => None,
     }
 }

@@ -22,7 +22,8 @@ A token with a fault is underlined in its first line, with a sentence behind it 
 
 /// What the system gives to a process.
 pub struct Start {
-    /// The arguments, of which the first is the program's name, or `None` if the system did not give them.
+    /// The arguments, of which the first is the program's name, or `None` if the system did not
+    /// give them.
     pub args: Option<Args>,
     /// The value of `NO_COLOR`.
     pub no_color: Result<String, VarError>,
@@ -30,8 +31,8 @@ pub struct Start {
     pub is_terminal: bool,
 }
 
-/// Runs the program: reads arguments and input, writes the output, reports an error, and returns the exit
-/// status. If nobody reads the output any more, it ends quietly, with status 0.
+/// Runs the program: reads arguments and input, writes the output, reports an error, and returns
+/// the exit status. If nobody reads the output any more, it ends quietly, with status 0.
 pub fn program<R: Read, W: Write, E: Write>(
     alloc: Global,
     start: Start,
@@ -65,8 +66,8 @@ fn show<R: Read, W: Write>(
     }
 }
 
-/// Returns whether to write colours if no argument says so, by the value of `NO_COLOR`. `None` means that memory
-/// for that value was refused.
+/// Returns whether to write colours if no argument says so, by the value of `NO_COLOR`. `None`
+/// means that memory for that value was refused.
 fn wants_colours(no_color: &Result<String, VarError>, is_terminal: bool) -> Option<bool> {
     match no_color {
         Ok(value) => Some(value.as_str().is_empty() && is_terminal),

@@ -12,8 +12,18 @@ use rustc_lexer::erased::Edition;
 
 /// Reads all of the input, then writes it with its tokens marked.
 ///
-/// It makes the whole output before it writes any of it. So unless the output itself failed, an error means that
-/// nothing was written. `Ok` means that the output was flushed last.
+/// `Ok` means that the output was flushed last.
+///
+/// # Errors
+///
+/// After each fault but `Fault::Write` nothing was written, since the whole output is made before
+/// any of it is written.
+///
+/// - `Fault::Read`: a read failed.
+/// - `Fault::TooLong`: the input has more than `u32::MAX` bytes.
+/// - `Fault::NotUtf8`: it is not UTF-8.
+/// - `Fault::Memory`: an allocation failed.
+/// - `Fault::Write`: a write or the flush failed. A beginning of the output was written.
 pub fn run<R: Read, W: Write>(
     alloc: Global,
     style: Style,
