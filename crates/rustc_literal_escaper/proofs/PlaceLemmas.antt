@@ -1,53 +1,48 @@
 -- Items and their places.
-use Rattle.std.proofs.Common.{◌≡◌, ℕ, ◌-◌, ◌<◌, Bool, true, false, Some, None, List, [], ◌∷◌, length, map, ◌++◌, if◌then◌else◌, refl, ap, ◌∙◌, arith}
+use Rattle.std.proofs.Common.{◌≡◌, ℕ, ◌-◌, ◌<◌, Bool, true, false, Some, None, List, [], ◌∷◌, length, map, ◌++◌, ◌||◌, ◌==◌, if◌then◌else◌, refl, ap, ◌∙◌, arith}
 use Rattle.std.specs.Char.{is_whitespace}
 use Rattle.std.specs.List.{list_any, slice_get}
 use Rattle.std.specs.Str.{chars, encode_utf8_all, IsUtf8}
 use Rattle.std.proofs.lemmas.Bool.{cond-false, cond-true, eqb-true, false_from_ne_true, ne_eqb}
 use Rattle.std.proofs.lemmas.Bool.Decides.{nat_tests}
+use Rattle.std.proofs.Math.Bool.{or-false}
 use Rattle.std.proofs.lemmas.List.{map-append}
 use Rattle.std.proofs.lemmas.Str.{byte_from_char, char_from_byte, chars-nil, encodes-chars}
 use Rattle.std.proofs.lemmas.Grind.{common_steps}
 use Rattle.rustc_literal_escaper.specs.declared.element.Element.TheVariants.{Fault}
 use Rattle.rustc_literal_escaper.specs.declared.error.EscapeError.TheVariants.{MultipleSkippedLinesWarning, UnskippedWhitespaceWarning}
 use Rattle.rustc_literal_escaper.specs.Grammar.{Item, is_newline, is_passed_over}
-use Rattle.rustc_literal_escaper.specs.means.Elements.{begins_line, item_at, line_end, more_space}
+use Rattle.rustc_literal_escaper.specs.means.Elements.{item_at, line_end, more_space}
 use Rattle.rustc_literal_escaper.specs.means.Escape.{front_run, past_run}
 
 -- whether a newline is among the white space ahead
 unfoldable pub newline_ahead : List ℕ → Bool
 newline_ahead s = list_any is_newline (front_run is_passed_over s)
 
--- what is ahead of the one is what is ahead of the other
-pub record Passing (line left : List ℕ) : Type 0 where
-  pub seen : newline_ahead line ≡ newline_ahead left
+-- what is ahead of the one is what is ahead of the other, with a newline in between or not
+pub record Passing (newline : Bool) (line left : List ℕ) : Type 0 where
+  pub seen : newline_ahead line ≡ (newline || newline_ahead left)
   pub past : past_run is_passed_over line ≡ past_run is_passed_over left
 
-pub passing-blank : (line left s : List ℕ) (c : ℕ) → Passing line left → left ≡ c ∷ s → is_passed_over c ≡ true → (c ≡ 10 → ⊥) → Passing line s
+either : (a b d : Bool) → a || (b || d) ≡ (a || b) || d
+either true b d = refl
+either false b d = refl
+
+pub passing-step : (newline : Bool) (line left s : List ℕ) (c : ℕ) → Passing newline line left → left ≡ c ∷ s → is_passed_over c ≡ true → Passing (newline || (c == 10)) line s
 unfolding newline_ahead
-passing-blank line left s c at e is off = grind (arith, common_steps, cond-true, ne_eqb)
+passing-step newline line left s c at e is = grind (arith, common_steps, cond-true, either)
 
 -- where none stands next, all of it is seen
 pub past_run-none : (p : ℕ → Bool) (s : List ℕ) → front_run p s ≡ [] → past_run p s ≡ s
 past_run-none p [] e = refl
 past_run-none p (c ∷ s) e = grind (arith, common_steps)
 
--- where a line begins, or no such white space stands next, the search for a line's end stops
-no-line : (s : List ℕ) → front_run is_passed_over s ≡ [] → begins_line s ≡ false
-no-line s none = grind (arith, common_steps, false_from_ne_true, eqb-true)
+abbrev pub Passed : Bool → List ℕ → List ℕ → Type 0
+Passed newline line left = (newline ≡ list_any is_newline (front_run is_passed_over line)) × (left ≡ past_run is_passed_over line)
 
-abbrev pub Stopped : List ℕ → List ℕ → Type 0
-Stopped line left = (begins_line left ≡ list_any is_newline (front_run is_passed_over line))
-    × (past_run is_passed_over left ≡ past_run is_passed_over line)
-    × (begins_line left ≡ false → left ≡ past_run is_passed_over line)
-
-pub stopped-line : (line left s : List ℕ) (c : ℕ) → Passing line left → left ≡ c ∷ s → c ≡ 10 → Stopped line left
+pub passing-end : (newline : Bool) (line left : List ℕ) → Passing newline line left → front_run is_passed_over left ≡ [] → Passed newline line left
 unfolding newline_ahead
-stopped-line line left s c at e ten = grind (arith, common_steps)
-
-pub stopped-end : (line left : List ℕ) → Passing line left → front_run is_passed_over left ≡ [] → Stopped line left
-unfolding newline_ahead
-stopped-end line left at none = grind (arith, common_steps, no-line, past_run-none)
+passing-end newline line left at none = grind (arith, common_steps, past_run-none, or-false)
 
 -- the first byte tells whether the first character passes a test that only ASCII passes
 
@@ -93,4 +88,4 @@ pub line_end-found : (total start : ℕ) (line left : List ℕ) (newline : Bool)
     → lines ++ space ≡ map (item_at total start) (line_end line).found
 line_end-found total start line left newline lines space n l a b = grind (arith, common_steps, map-append)
 
-pub ruleset place_lemmas = (more_lines-yes, more_space-yes, passing-blank, stopped-end, past_run-none)
+pub ruleset place_lemmas = (more_lines-yes, more_space-yes, passing-step, passing-end)

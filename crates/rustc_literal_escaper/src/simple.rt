@@ -51,7 +51,7 @@ const SHORT_RUN: usize = 8;
 /// After a short run, the next look comes at least this many bytes later.
 const WAIT: usize = 24;
 
-/// After a short run in a raw string, this many bytes are read one character after another before the next look.
+/// After a short run, this many bytes are read one character after another before the next look.
 const ALONE: usize = 256;
 
 /// Returns the simple bytes found after a plain character, and the text after them.
@@ -75,16 +75,22 @@ pub(crate) fn run_after<'a>(tail: &'a str, look: &mut usize) -> (&'a [u8], &'a s
     (run, left)
 }
 
-/// Returns the characters to read one by one after a run of simple ones, and the text after them. After a long run
-/// there are none.
+/// Returns how many bytes to read one character after another after a run of so many simple ones.
 #[inline(always)]
-pub(crate) fn split_alone<'a>(run: &[u8], text: &'a str) -> (&'a str, &'a str)
+pub(crate) fn alone_after(run: usize) -> usize {
+    if run < SHORT_RUN { ALONE } else { 0 }
+}
+
+/// Returns the characters to read one by one after a run of so many simple ones, and the text after them. After a
+/// long run there are none.
+#[inline(always)]
+pub(crate) fn split_alone(run: usize, text: &str) -> (&str, &str)
     ensures whole { text.now ≡ result.0.now ++ result.1.now }
     ensures front { IsUtf8 result.0.now }
     ensures text { IsUtf8 result.1.now }
     ensures sizes { length text.now ≡ length result.0.now + length result.1.now }
 {
-    if run.len() < SHORT_RUN {
+    if run < SHORT_RUN {
         split_part(text)
     } else {
         ("", text)

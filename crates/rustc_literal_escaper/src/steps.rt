@@ -1,5 +1,5 @@
 //! The steps that read the text between double quotes.
-ghost use Rattle.std.specs.Prelude.{◌≡◌, ◌≤◌, ◌<◌, ◌++◌, ◌∷◌, [], true, length, map, not, ◌==◌, ◌&&◌, false, if◌then◌else◌, IfSome, IsSome, IsTrue, MatchOption};
+ghost use Rattle.std.specs.Prelude.{◌≡◌, ◌≤◌, ◌<◌, ◌++◌, ◌∷◌, [], ℕ, List, true, length, map, not, ◌==◌, ◌&&◌, false, if◌then◌else◌, IfSome, IsSome, IsTrue, MatchOption};
 ghost use Rattle.std.specs.List.{list_any};
 ghost use Rattle.std.specs.Option.{option_to_list};
 ghost use Rattle.std.specs.Str.{chars, IsUtf8};
@@ -217,7 +217,7 @@ pub(crate) fn lone_element(c: char, tail: &str) -> (Element, &str)
 
 /// Returns the element for a character of a raw string.
 #[inline(always)]
-fn raw_element(c: char) -> Element
+pub(crate) fn raw_element(c: char) -> Element
     ensures { result ≡ spec.raw_element c }
 {
     if c == '\r' {
@@ -253,6 +253,15 @@ fn unescaped(c: char) -> Element
         '\r' => Element::Fault(EscapeError::BareCarriageReturn),
         _ => Element::Plain(c),
     }
+}
+
+/// Returns the element for a character that is not escaped, between double quotes, or `None` for a backslash.
+#[inline(always)]
+#[tactic(auto, unfolding(crate::specs::means::Elements::front))]
+pub(crate) fn unescaped_at(c: char) -> Option<Element>
+    ensures { IfSome result (λ e. (s : List ℕ) → spec.front c s ≡ spec.one (e, s)) }
+{
+    if c == '\\' { None } else { Some(unescaped(c)) }
 }
 
 /// Returns what [`unescaped`] returns, by a call that returns a whole word. When `rustc` writes the element in
@@ -304,7 +313,10 @@ fn line_end(line: &str, start: usize, total: usize) -> Found<'_>
 }
 
 /// Returns whether a newline is in the white space that is skipped, and the text after that.
+///
+/// Where the newlines are is hard to predict, so nothing branches on it.
 #[inline(always)]
+#[tactic(auto, using(crate::proofs::PlaceLemmas::place_lemmas))]
 pub(crate) fn pass_over(line: &str) -> (bool, &str)
     ensures newline { result.0
         ≡ list_any grammar.is_newline (front_run grammar.is_passed_over (chars line.now)) }
@@ -312,49 +324,13 @@ pub(crate) fn pass_over(line: &str) -> (bool, &str)
     ensures shorter { length result.1.now ≤ length line.now }
     ensures text { IsUtf8 result.1.now }
 {
-    let left = past_blanks(line);
-    match strip_newline(left) {
-        Some(next) => (true, past_space(next)),
-        None => (false, left),
-    }
-}
-
-/// Returns the text after the white space that is skipped, up to a newline.
-#[inline(always)]
-#[tactic(auto, using(crate::proofs::PlaceLemmas::place_lemmas))]
-fn past_blanks(line: &str) -> &str
-    ensures newline { spec.begins_line (chars result.now)
-        ≡ list_any grammar.is_newline (front_run grammar.is_passed_over (chars line.now)) }
-    ensures past { past_run grammar.is_passed_over (chars result.now)
-        ≡ past_run grammar.is_passed_over (chars line.now) }
-    ensures stops { spec.begins_line (chars result.now) ≡ false
-        → chars result.now ≡ past_run grammar.is_passed_over (chars line.now) }
-    ensures shorter { length result.now ≤ length line.now }
-    ensures text { IsUtf8 result.now }
-{
+    let mut newline = false;
     let mut left = line;
-    'blanks: while let Some((c, tail)) = split_passed(left) {
-        if c == '\n' {
-            return left;
-        }
+    'space: while let Some((c, tail)) = split_passed(left) {
+        newline |= c == '\n';
         left = tail;
     }
-    left
-}
-
-/// Returns the text after the white space that is skipped, newlines too.
-#[inline(always)]
-#[tactic(auto, using(crate::proofs::PlaceLemmas::place_lemmas))]
-fn past_space(rest: &str) -> &str
-    ensures left { chars result.now ≡ past_run grammar.is_passed_over (chars rest.now) }
-    ensures shorter { length result.now ≤ length rest.now }
-    ensures text { IsUtf8 result.now }
-{
-    let mut left = rest;
-    'space: while let Some((_, tail)) = split_passed(left) {
-        left = tail;
-    }
-    left
+    (newline, left)
 }
 
 /// Returns the first character and the text after it if the character is white space that is skipped.

@@ -12,7 +12,9 @@ use crate::element::Element;
 use crate::error::EscapeError;
 use crate::scan::{begins_in_ascii, split_first};
 use crate::simple::{run_after, split_alone, split_simple};
-use crate::steps::{byte_at, is_plain, line_at, lone_element, more_lines, more_space, pass_over};
+use crate::steps::{
+    byte_at, is_plain, line_at, lone_element, more_lines, more_space, pass_over, unescaped_at,
+};
 use crate::unit::{MixedUnit, NonZeroChar};
 use std::ops::Range;
 
@@ -264,7 +266,7 @@ impl Meaning for AsRawUnit {
 }
 
 /// A raw string of fewer bytes is short: no look at 32 bytes fits after its first character.
-const SHORT_TEXT: usize = 33;
+pub(crate) const SHORT_TEXT: usize = 33;
 
 /// Calls `callback` with what each element of a text stands for and its place, and with nothing else.
 ///
@@ -332,6 +334,11 @@ fn each_unit_in<M: Meaning, F: FnMut(Range<usize>, Result<M::Meant, EscapeError>
             left = after;
             continue;
         }
+        if let Some(element) = unescaped_at(c) {
+            each_found::<M, F>(Some((start..total - tail.len(), element)), callback);
+            left = tail;
+            continue;
+        }
         if let Some((byte, after)) = byte_at(c, tail, false) {
             let range = start..total - after.len();
             each_found::<M, F>(Some((range, Element::Byte(byte))), callback);
@@ -394,7 +401,7 @@ fn each_raw_unit_in<M: Meaning, F: FnMut(Range<usize>, Result<M::Meant, EscapeEr
         callback(range, M::of_raw(c));
         let (run, after) = split_simple(tail, true);
         each_simple::<M, F>(run, total - after.len(), callback);
-        let (alone, past) = split_alone(run, after);
+        let (alone, past) = split_alone(run.len(), after);
         each_raw_char::<M, F>(alone, total - past.len(), callback);
         left = past;
     }

@@ -2,15 +2,17 @@
 //! Finds the errors and warnings in a literal, and nothing else.
 
 use crate::erased::element::Element;
-use crate::erased::elements::{Elements, takes_all};
+use crate::erased::elements::takes_all;
 use crate::erased::error::EscapeError;
 use crate::erased::mode::Mode;
-use crate::erased::scan::{past_plain, split_first};
-use crate::erased::simple::{past_last_simple, past_simple};
+use crate::erased::scan::{begins_in_ascii, past_plain, split_first};
+use crate::erased::simple::{alone_after, past_last_simple, past_simple, split_alone};
 use crate::erased::single;
 use crate::erased::steps::{
-    byte_at, is_plain, line_at, lone_element, more_lines, more_space, pass_over,
+    byte_at, is_plain, line_at, lone_element, more_lines, more_space, pass_over, raw_element,
+    unescaped_at,
 };
+use crate::erased::strings::SHORT_TEXT;
 use core::ops::Range;
 
 /// Calls `error_callback` with each error and each warning in a literal, and its place in bytes.
@@ -34,8 +36,18 @@ pub fn check_for_errors<F: FnMut(Range<usize>, EscapeError)>(
 fn each_error<F: FnMut(Range<usize>, EscapeError)>(src: &str, mode: Mode, callback: &mut F) {
     match mode {
         Mode::Char | Mode::Byte => check_single(src, mode, callback),
-        Mode::Str | Mode::ByteStr | Mode::CStr => check_double(src, mode, callback),
+        Mode::Str | Mode::ByteStr | Mode::CStr => check_quoted(src, mode, callback),
         Mode::RawStr | Mode::RawByteStr | Mode::RawCStr => check_raw(src, mode, callback),
+    }
+}
+
+/// Calls `callback` with each error and warning in a string that may have escapes.
+///
+/// Only the look at an empty text is put into the caller.
+#[inline(always)]
+fn check_quoted<F: FnMut(Range<usize>, EscapeError)>(src: &str, mode: Mode, callback: &mut F) {
+    if !src.is_empty() {
+        check_double(src, mode, callback);
     }
 }
 
@@ -133,7 +145,7 @@ fn alone_error(
 #[inline(always)]
 fn check_string<F: FnMut(Range<usize>, EscapeError)>(src: &str, mode: Mode, callback: &mut F) {
     if is_raw(mode) {
-        check_elements(Elements::new_raw(src), mode, callback);
+        check_raw_text(src, mode, callback);
     } else {
         check_escaped(src, src.len(), mode, callback);
     }
@@ -161,6 +173,12 @@ fn check_escaped<F: FnMut(Range<usize>, EscapeError)>(
             left = past_fine(tail, mode);
             continue;
         }
+        if let Some(element) = unescaped_at(c) {
+            check_element(start..total - tail.len(), element, mode, callback);
+            let most = alone_after(left.len() - front.len());
+            left = check_unescaped(tail, most, total, mode, callback);
+            continue;
+        }
         if let Some((byte, after)) = byte_at(c, tail, false) {
             check_element(
                 start..total - after.len(),
@@ -179,6 +197,37 @@ fn check_escaped<F: FnMut(Range<usize>, EscapeError)>(
         check_element(start..total - after.len(), element, mode, callback);
         left = after;
     }
+}
+
+/// Calls `callback` with each error in the characters up to a backslash, in not many more than `most` bytes. Returns
+/// the text after them.
+///
+/// Errors seldom come alone, so it does not look for simple characters.
+#[inline(always)]
+fn check_unescaped<'a, F: FnMut(Range<usize>, EscapeError)>(
+    rest: &'a str,
+    most: usize,
+    total: usize,
+    mode: Mode,
+    callback: &mut F,
+) -> &'a str {
+    let mut left = rest;
+    while rest.len() - left.len() < most {
+        let Some((c, tail)) = split_first(left) else {
+            return left;
+        };
+        let Some(element) = unescaped_at(c) else {
+            return left;
+        };
+        check_element(
+            total - left.len()..total - tail.len(),
+            element,
+            mode,
+            callback,
+        );
+        left = tail;
+    }
+    left
 }
 
 /// Calls `callback` with the warnings after a backslash and a newline, which begin at the place `start`. Returns
@@ -244,14 +293,73 @@ fn past_fine(rest: &str, mode: Mode) -> &str {
     }
 }
 
-/// Calls `callback` with each error and warning of the elements.
+/// Calls `callback` with each error in a raw string. It looks for runs of simple characters only if the text is not
+/// short.
 #[inline(always)]
-fn check_elements<F: FnMut(Range<usize>, EscapeError)>(
-    mut elements: Elements<'_>,
+fn check_raw_text<F: FnMut(Range<usize>, EscapeError)>(src: &str, mode: Mode, callback: &mut F) {
+    if src.len() < SHORT_TEXT {
+        check_raw_part(src, src.len(), mode, callback);
+    } else {
+        check_raw_in(src, src.len(), mode, callback);
+    }
+}
+
+/// Calls `callback` with each error in the rest of a raw string of `total` bytes.
+///
+/// After a short run of characters that are not wrong it reads some one by one, in a loop that does nothing else.
+#[inline(always)]
+fn check_raw_in<F: FnMut(Range<usize>, EscapeError)>(
+    rest: &str,
+    total: usize,
     mode: Mode,
     callback: &mut F,
 ) {
-    while let Some((range, error)) = elements.next_fault(mode) {
-        callback(range, error);
+    let mut left = rest;
+    loop {
+        let front = past_fine_raw(left, mode);
+        let Some((c, tail)) = split_first(front) else {
+            return;
+        };
+        let range = total - front.len()..total - tail.len();
+        check_element(range, raw_element(c), mode, callback);
+        let (alone, past) = split_alone(left.len() - front.len(), tail);
+        check_raw_part(alone, total - past.len(), mode, callback);
+        left = past;
+    }
+}
+
+/// Calls `callback` with each error in a part of a raw string, which ends at `end`.
+///
+/// The first byte says whether a character is in ASCII, so nothing looks at the characters past that.
+#[inline(always)]
+fn check_raw_part<F: FnMut(Range<usize>, EscapeError)>(
+    part: &str,
+    end: usize,
+    mode: Mode,
+    callback: &mut F,
+) {
+    let mut chars = part.chars();
+    loop {
+        let left = chars.as_str();
+        let in_ascii = begins_in_ascii(left);
+        let Some(c) = chars.next() else {
+            return;
+        };
+        let range = end - left.len()..end - chars.as_str().len();
+        if in_ascii {
+            check_element(range, raw_element(c), mode, callback);
+        } else {
+            check_element(range, Element::Plain(c), mode, callback);
+        }
+    }
+}
+
+/// Returns the text after characters at the front of a raw string that are not wrong in this mode.
+#[inline(always)]
+fn past_fine_raw(rest: &str, mode: Mode) -> &str {
+    let left = past_simple(rest, true);
+    match left.as_bytes().first() {
+        Some(byte) if takes_all(mode) && *byte != b'\r' => past_plain(left, true),
+        _ => left,
     }
 }

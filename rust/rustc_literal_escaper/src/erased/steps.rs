@@ -153,7 +153,7 @@ pub(crate) fn lone_element(c: char, tail: &str) -> (Element, &str) {
 
 /// Returns the element for a character of a raw string.
 #[inline(always)]
-fn raw_element(c: char) -> Element {
+pub(crate) fn raw_element(c: char) -> Element {
     if c == '\r' {
         Element::Fault(EscapeError::BareCarriageReturnInRawString)
     } else {
@@ -179,6 +179,12 @@ fn unescaped(c: char) -> Element {
         '\r' => Element::Fault(EscapeError::BareCarriageReturn),
         _ => Element::Plain(c),
     }
+}
+
+/// Returns the element for a character that is not escaped, between double quotes, or `None` for a backslash.
+#[inline(always)]
+pub(crate) fn unescaped_at(c: char) -> Option<Element> {
+    if c == '\\' { None } else { Some(unescaped(c)) }
 }
 
 /// Returns what [`unescaped`] returns, by a call that returns a whole word. When `rustc` writes the element in
@@ -217,36 +223,17 @@ fn line_end(line: &str, start: usize, total: usize) -> Found<'_> {
 }
 
 /// Returns whether a newline is in the white space that is skipped, and the text after that.
+///
+/// Where the newlines are is hard to predict, so nothing branches on it.
 #[inline(always)]
 pub(crate) fn pass_over(line: &str) -> (bool, &str) {
-    let left = past_blanks(line);
-    match strip_newline(left) {
-        Some(next) => (true, past_space(next)),
-        None => (false, left),
-    }
-}
-
-/// Returns the text after the white space that is skipped, up to a newline.
-#[inline(always)]
-fn past_blanks(line: &str) -> &str {
+    let mut newline = false;
     let mut left = line;
     while let Some((c, tail)) = split_passed(left) {
-        if c == '\n' {
-            return left;
-        }
+        newline |= c == '\n';
         left = tail;
     }
-    left
-}
-
-/// Returns the text after the white space that is skipped, newlines too.
-#[inline(always)]
-fn past_space(rest: &str) -> &str {
-    let mut left = rest;
-    while let Some((_, tail)) = split_passed(left) {
-        left = tail;
-    }
-    left
+    (newline, left)
 }
 
 /// Returns the first character and the text after it if the character is white space that is skipped.

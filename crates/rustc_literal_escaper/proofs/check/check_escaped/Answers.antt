@@ -1,4 +1,5 @@
 use Rattle.std.proofs.Common.{◌-◌, ◌∷◌, [], false, length, map, sym, ap, ◌∙◌, arith, rules}
+use Rattle.std.specs.Str.{chars}
 use Rattle.rustc_literal_escaper.specs.declared.element.Element.TheVariants.{Byte}
 use Rattle.rustc_literal_escaper.specs.means.Elements.{Front, item_at}
 use Rattle.rustc_literal_escaper.proofs.ErrorLemmas.{folds-errors}
@@ -15,6 +16,17 @@ items-preserved-then-is_plain g c = (
       (first-plain false c.args.total c.past_simple_front-front.result.now c.in-Some.tail.now c.in-Some.c c.past_simple_front-front.ensures.text c.in-Some.ensures.2 c.in-Some.ensures.0 (search rules))
       c.check_element.ensures.calls
       (rw (← c.past_fine-left.ensures.same c.args.total) calls))),
+)
+
+pub items-preserved-in-Some-unescaped_at : goal.items-preserved-in-Some-unescaped_at
+items-preserved-in-Some-unescaped_at g c = (
+  c.check_unescaped-left.ensures.text,
+  c.check_unescaped-left.ensures.callable,
+  (let a = c.past_simple_front-front.ensures.shorter in let b = c.in-Some.ensures.1 in let d = c.check_unescaped-left.ensures.shorter in let m = c.items.invariant.2 in omega arith),
+  λ last calls. c.items.invariant.3 last (rw (← c.past_simple_front-front.ensures.same c.args.mode c.args.total)
+      (folds-errors (λ f error h. goal.F-step g f error.0 error.1 tt h) c.args.mode c.items.callback c.check_element-in-Some-unescaped_at.new.callback last _ (_ ∷ []) _
+      (first-one false c.args.total c.past_simple_front-front.result.now c.in-Some.tail.now _ _ c.in-Some-unescaped_at.element c.past_simple_front-front.ensures.text c.in-Some.ensures.2 c.in-Some.ensures.0 (c.in-Some-unescaped_at.ensures (chars c.in-Some.tail.now)))
+      c.check_element-in-Some-unescaped_at.ensures.calls (c.check_unescaped-left.ensures.calls last calls))),
 )
 
 pub items-preserved-in-Some-byte_at : goal.items-preserved-in-Some-byte_at

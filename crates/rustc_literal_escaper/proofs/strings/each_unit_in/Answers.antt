@@ -1,4 +1,5 @@
 use Rattle.std.proofs.Common.{◌-◌, false, length, map, refl, sym, ap, ◌∙◌, arith, rules, ◌∷◌, []}
+use Rattle.std.specs.Str.{chars}
 use Rattle.rustc_literal_escaper.specs.declared.element.Element.TheVariants.{Byte}
 use Rattle.rustc_literal_escaper.specs.means.Elements.{Front, front_by, item_at}
 use Rattle.rustc_literal_escaper.proofs.ItemLemmas.{first-one, items-step, first-plain}
@@ -19,14 +20,24 @@ items-preserved-then-is_plain g c = (
       c.each_simple.ensures.calls calls)),
 )
 
+pub items-preserved-in-Some-unescaped_at : goal.items-preserved-in-Some-unescaped_at
+items-preserved-in-Some-unescaped_at g c = (
+  c.in-Some.ensures.2,
+  c.each_found.ensures.callable,
+  (let b = c.in-Some.ensures.1 in let m = c.items.invariant.2 in omega arith),
+  λ last calls. c.items.invariant.3 last (folds-on _ c.items.callback c.each_found.new.callback last _ (_ ∷ []) _
+      (first-one false c.args.total c.items.left.now c.in-Some.tail.now _ _ c.in-Some-unescaped_at.element c.items.invariant.0 c.in-Some.ensures.2 c.in-Some.ensures.0 (c.in-Some-unescaped_at.ensures (chars c.in-Some.tail.now)))
+      c.each_found.ensures.calls calls),
+)
+
 pub items-preserved-in-Some-byte_at : goal.items-preserved-in-Some-byte_at
 items-preserved-in-Some-byte_at g c = (
   c.in-Some-byte_at.ensures.1,
-  c.each_found.ensures.callable,
+  c.each_found-in-Some-byte_at.ensures.callable,
   (let a = c.in-Some-byte_at.ensures.2 in let b = c.in-Some.ensures.1 in let m = c.items.invariant.2 in omega arith),
-  λ last calls. c.items.invariant.3 last (folds-on _ c.items.callback c.each_found.new.callback last _ (_ ∷ []) _
+  λ last calls. c.items.invariant.3 last (folds-on _ c.items.callback c.each_found-in-Some-byte_at.new.callback last _ (_ ∷ []) _
       (first-one false c.args.total c.items.left.now c.in-Some-byte_at.after.now _ _ (Byte c.in-Some-byte_at.byte) c.items.invariant.0 c.in-Some-byte_at.ensures.1 c.in-Some.ensures.0 c.in-Some-byte_at.ensures.0)
-      c.each_found.ensures.calls calls),
+      c.each_found-in-Some-byte_at.ensures.calls calls),
 )
 
 pub items-preserved-in-Some-line_at : goal.items-preserved-in-Some-line_at

@@ -1,0 +1,19 @@
+use Rattle.std.proofs.Common.{◌≤◌, false, length}
+use Rattle.std.specs.List.{FoldsTo}
+use Rattle.std.specs.Str.{chars}
+use denote.Text.{Utf8}
+use denote.Shadow.{shadow}
+use Rattle.rustc_literal_escaper.specs.means.Elements.{front_by, items_from}
+use Rattle.rustc_literal_escaper.specs.Meaning.{errors_in}
+use Rattle.rustc_literal_escaper.proofs.check.check_unescaped.Given as goal
+
+-- the calls that are still to come end where all of them do
+abbrev pub invariant-alone : goal.invariant-alone
+invariant-alone g l =
+    shadow (Utf8 l.left)
+    × goal.F-IsAlwaysCallable g l.callback
+    × (length l.left ≤ length l.rest)
+    × ((last : _) → FoldsTo (λ f error h. goal.F-step g f error.0 error.1 tt h) l.callback (errors_in l.mode (items_from (front_by false) l.total (chars l.left))) last → FoldsTo (λ f error h. goal.F-step g f error.0 error.1 tt h) l.fn.callback (errors_in l.mode (items_from (front_by false) l.total (chars l.fn.rest))) last)
+
+abbrev pub decreases-alone : goal.decreases-alone
+decreases-alone g l = length l.left
