@@ -1,3 +1,4 @@
+pub mod Answers
 pub mod Class
 pub mod Escape
 pub mod Fault
@@ -5,7 +6,8 @@ pub mod Frontmatter
 pub mod FrontmatterEnd
 pub mod Keyword
 pub mod Literal
-pub mod LiteralMarks
 pub mod Mark
 pub mod Marked
 pub mod Part
+pub mod laws
+pub mod means

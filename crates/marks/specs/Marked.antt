@@ -11,8 +11,13 @@ use Rattle.marks.specs.declared.style.Style.{Style}
 use Rattle.rustc_literal_escaper.specs.declared.mode.Mode.{Mode}
 use Rattle.marks.specs.Class.{class_of}
 use Rattle.marks.specs.Fault.{fault_of}
-use Rattle.marks.specs.Literal.{literal_parts, closed_mode}
+use Rattle.marks.specs.Answers.{stretches_of}
+use Rattle.marks.specs.Literal.{closed_mode, parts_from}
 use Rattle.marks.specs.Part.{Part, Own, fault_parts, with_marks}
+
+-- the parts of a literal that is closed
+abbrev pub literal_parts : Mode → List ℕ → List Part
+literal_parts mode text = parts_from 0 text (stretches_of mode text)
 
 -- the parts of a token: of one with an error, of a literal that is closed, or of one that has a single class
 abbrev pub parts_by : Option Fault → Option Mode → Class → List ℕ → List Part

@@ -1,0 +1,3 @@
+pub mod Literal
+pub mod Pieces
+pub mod Quotes
