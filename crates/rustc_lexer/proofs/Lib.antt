@@ -37,6 +37,7 @@ pub mod KeptLemmas
 pub mod KernelLemmas
 pub mod KindLemmas
 pub mod CheckpointLemmas
+pub mod CommonLemmas
 pub mod LaneLemmas
 pub mod LayoutLemmas
 pub mod LengthLemmas

@@ -85,6 +85,19 @@ count_after r = r.kept_front + r.lexed + r.kept_back
 abbrev pub all_stay : ℕ → Relexed
 all_stay n = record { kept_front = n; lexed = 0; kept_back = 0 }
 
+-- ---- another text
+
+-- the edit is valid for the old text, and makes the new one of it
+pub record Makes (old new : List ℕ) (start stop : ℕ) (insert : List ℕ) : Type 0 where
+  pub valid : IsEdit old start stop insert
+  pub made : apply old start stop insert ≡ new
+
+-- of all edits that make the new text of the old one, it begins last, and of those that begin there it ends first
+pub record IsNarrowest (old new : List ℕ) (start stop : ℕ) (insert : List ℕ) : Type 0 where
+  pub makes : Makes old new start stop insert
+  pub begins_last : (from to : ℕ) (other : List ℕ) → Makes old new from to other → from ≤ start
+  pub ends_first : (to : ℕ) (other : List ℕ) → Makes old new start to other → stop ≤ to
+
 -- ---- lists of edits
 
 abbrev pub applied : List ℕ → Edit → List ℕ

@@ -1,6 +1,7 @@
 //! Texts that are kept with their tokens, and edits of them.
 mod body_change;
 mod checkpoints;
+mod common;
 mod document_edit;
 mod edit;
 mod edit_list;

@@ -473,6 +473,47 @@ macro_rules! kept_text {
                 self.change(|kept| kept.edit_each(edits))
             }
 
+            /// Makes the text another one, like one that a formatter wrote, by one edit of what differs: between the
+            /// longest front that both texts have, and the longest back that they have behind that.
+            ///
+            /// Returns the counts of that edit. If the text is the same already, all tokens are kept in front.
+            ///
+            /// ```
+            #[doc = concat!("use rustc_lexer::{", stringify!($Kept), ", Relexed};")]
+            ///
+            #[doc = concat!("let mut lexed = ", stringify!($Kept), "::new(\"let x=1;let y = 2;\");")]
+            /// let relexed = lexed.set_text("let x = 1;let y = 2;");
+            /// assert_eq!(relexed, Relexed { kept_front: 1, lexed: 5, kept_back: 10 });
+            /// assert_eq!(lexed.text(), "let x = 1;let y = 2;");
+            /// ```
+            ///
+            /// # Panics
+            ///
+            /// Panics if `try_set_text` returns an error. Text and tokens are then as they were.
+            pub fn set_text(&mut self, text: impl AsRef<str>) -> Relexed {
+                self.try_set_text(text)
+                    .unwrap_or_else(|error| panic!("{error}"))
+            }
+
+            /// Makes the text another one by one edit, as `set_text` does.
+            ///
+            /// ```
+            #[doc = concat!("use rustc_lexer::", stringify!($Kept), ";")]
+            ///
+            #[doc = concat!("let mut lexed = ", stringify!($Kept), "::new(\"let x;\");")]
+            /// assert_eq!(lexed.try_set_text("let x;")?.lexed, 0);
+            /// # Ok::<(), rustc_lexer::EditError>(())
+            /// ```
+            ///
+            /// # Errors
+            ///
+            /// `TooLong` if the new text has more than `u32::MAX` bytes, `Memory` if an allocation failed. Text and tokens
+            /// are then as they were.
+            pub fn try_set_text(&mut self, text: impl AsRef<str>) -> Result<Relexed, EditError> {
+                let text = try_fitting(text.as_ref())?;
+                Ok(self.change(|kept| kept.set_text(text))?)
+            }
+
             /// Gives back the memory that edits have left unused, by copying what is kept. If an allocation fails, the
             /// unused memory stays. Text, tokens and stepper do not change.
             ///

@@ -115,6 +115,20 @@ fn edits_of_texts() {
     }
 }
 
+/// Another text asks for what its edit does.
+#[test]
+fn other_texts() {
+    let (old, new) = ("a b c d", "a b + d");
+    let check = |lexed: LexedText, answer: Result<Relexed, EditError>| {
+        let text = if answer.is_ok() { new } else { old };
+        assert!(answer.is_ok() || answer == Err(EditError::Memory));
+        assert_held!(lexed, text, tokenize_in(text, Edition::E2024));
+    };
+    let set = |lexed: &mut LexedText| lexed.try_set_text(new);
+    let asked = in_turn(|| LexedText::new(old), set, check);
+    assert_eq!(asked, text_edit(old, 4..5, "+").2);
+}
+
 /// A letter after a head, a letter in it, a fence, and a bracket that makes a shebang line an attribute. Then an edit that
 /// takes a long document its head.
 #[test]

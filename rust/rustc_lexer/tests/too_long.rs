@@ -105,6 +105,12 @@ fn texts_with_their_tokens() {
         ("LexedDocument::new_in", |text| {
             let _ = LexedDocument::new_in(text, Edition::E2018);
         }),
+        ("LexedText::set_text", |text| {
+            let _ = LexedText::default().set_text(text);
+        }),
+        ("LexedDocument::set_text", |text| {
+            let _ = LexedDocument::default().set_text(text);
+        }),
         ("LexedText::from", |_| {
             let _ = LexedText::from(too_long_string());
         }),
@@ -146,6 +152,8 @@ fn edits_that_make_one() {
         let wanted = Some("the edit of 0..0: the text has more than u32::MAX bytes");
         assert_eq!(said(call, too_long()).as_deref(), wanted);
     }
+    assert_eq!(text.try_set_text(too_long()), Err(EditError::TooLong));
+    assert_eq!(document.try_set_text(too_long()), Err(EditError::TooLong));
     assert_eq!(text.try_edit(2..2, insert), Err(EditError::Range));
     assert_eq!(document.try_edit(2..2, insert), Err(EditError::Range));
     let edits = ["b", insert].map(|insert| Edit {

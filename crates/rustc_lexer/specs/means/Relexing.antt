@@ -132,3 +132,17 @@ pub record IsRenewed (first : List ℕ → Token) (old : List ℕ) (change : Cha
   pub lexed : List Token
   pub lexed_is : IsLexed first old change text lexed at
   pub now_is : now ≡ take at.front.number tokens ++ (lexed ++ drop at.back.number tokens)
+
+-- ---- what two texts have in common
+
+-- both begin with the same n bytes
+pub record IsSameFront (old new : List ℕ) (n : ℕ) : Type 0 where
+  pub in_old : n ≤ length old
+  pub in_new : n ≤ length new
+  pub same : take n old ≡ take n new
+
+-- behind `start` both end with the same n bytes
+pub record IsSameBack (old new : List ℕ) (start n : ℕ) : Type 0 where
+  pub in_old : start + n ≤ length old
+  pub in_new : start + n ≤ length new
+  pub same : drop (length old - n) old ≡ drop (length new - n) new

@@ -18,6 +18,7 @@ mod document;
 mod edits;
 mod in_edition;
 mod look_up;
+mod set_text;
 mod stream;
 
 /// A text that is kept with its tokens, and with the stepper that lexed them.

@@ -1,0 +1,15 @@
+use Rattle.std.proofs.Common.{arith, ◌-◌, IsCharBoundary}
+use Rattle.rustc_lexer.proofs.CommonLemmas.{front_less, shorter, some_front}
+use Rattle.rustc_lexer.proofs.relex.common.common_front.Goals as goal
+
+pub overflow_sub-front : goal.overflow_sub-front
+overflow_sub-front c = some_front c.utf8.old c.is_char_boundary.ensures.test c.chars-test.true
+
+pub chars-smaller : goal.chars-smaller
+chars-smaller c = omega (arith, some_front c.utf8.old c.is_char_boundary.ensures.test c.chars-test.true)
+
+pub chars-preserved : goal.chars-preserved
+chars-preserved c = record {
+  front = front_less _ _ _ _ c.chars.invariant.front (omega arith);
+  longest = λ n is at. omega (arith, shorter (IsCharBoundary c.args.old.now) c.is_char_boundary.ensures.test c.chars-test.true at (c.chars.invariant.longest n is at));
+}

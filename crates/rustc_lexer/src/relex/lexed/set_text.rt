@@ -1,0 +1,42 @@
+//! Another text for a kept one, by one edit of what differs.
+ghost use Rattle.std.specs.Prelude.{◌≡◌, List, Ok, OnOk, ℕ, length};
+ghost use Rattle.rustc_lexer.specs.Classes.{Fits};
+ghost use Rattle.rustc_lexer.specs.Edits.{IsNarrowest, all_stay};
+ghost use Rattle.rustc_lexer.specs.Kept.{IsEdited};
+
+use crate::entry::stepper::Stepper;
+use crate::relex::common::{common_back, common_front};
+use crate::relex::head::Extent;
+use crate::relex::lexed::Lexed;
+use crate::relex::relexing::Relexed;
+use std::alloc::AllocError;
+
+impl<S: Stepper, E: Extent> Lexed<S, E> {
+    /// Makes the text another one, by one [edit](Lexed::edit) of what differs: between the longest front that both
+    /// texts have, and the longest back that they have behind that. It may have at most `u32::MAX` bytes.
+    ///
+    /// Returns the counts of that edit. If the text is the same already, all tokens are kept in front. `Err` means that
+    /// an allocation failed, and then text and tokens are as before.
+    pub fn set_text(&mut self, text: &str) -> Result<Relexed, AllocError>
+        requires fits { Fits text.now }
+        ensures text { OnOk result (self.new.text ≡ text.now) }
+        ensures same { self.old.text ≡ text.now
+            → (self.new ≡ self.old) × (result ≡ Ok (all_stay (length self.old.tokens))) }
+        ensures edit { (self.old.text ≡ text.now → ⊥) → (start stop : ℕ) × (insert : List ℕ)
+            × IsNarrowest self.old.text text.now start stop insert
+            × IsEdited S.grammar S.number S.count E.whole self.old start stop insert result self.new }
+    {
+        let old = self.text();
+        if old == text {
+            return Ok(Relexed {
+                kept_front: self.tokens().len(),
+                lexed: 0,
+                kept_back: 0,
+            });
+        }
+        let start = common_front(old, text);
+        let back = common_back(old, text, start);
+        let stop = old.len() - back;
+        self.edit(start, stop, &text[start..text.len() - back])
+    }
+}
