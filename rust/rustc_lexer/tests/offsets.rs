@@ -77,7 +77,10 @@ macro_rules! check {
         }
         let mixed = from_both_ends(lexed.pieces(), &mut $random);
         assert!(lexed.pieces().eq(mixed.iter().copied()), "{lexed:?}");
-        assert!(lexed.pieces().rev().eq(mixed.into_iter().rev()), "{lexed:?}");
+        assert!(
+            lexed.pieces().rev().eq(mixed.into_iter().rev()),
+            "{lexed:?}"
+        );
     }};
 }
 
