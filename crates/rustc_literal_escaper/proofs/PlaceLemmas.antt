@@ -3,7 +3,7 @@ use Rattle.std.proofs.Common.{◌≡◌, ℕ, ◌-◌, ◌<◌, Bool, true, fals
 use Rattle.std.specs.Char.{is_whitespace}
 use Rattle.std.specs.List.{list_any, slice_get}
 use Rattle.std.specs.Str.{chars, encode_utf8_all, IsUtf8}
-use Rattle.std.proofs.lemmas.Bool.{cond-false, cond-true, eqb-true, false_from_ne_true, ne_eqb}
+use Rattle.std.proofs.lemmas.Bool.{cond-false, cond-true}
 use Rattle.std.proofs.lemmas.Bool.Decides.{nat_tests}
 use Rattle.std.proofs.Math.Bool.{or-false}
 use Rattle.std.proofs.lemmas.List.{map-append}
@@ -33,7 +33,7 @@ unfolding newline_ahead
 passing-step newline line left s c at e is = grind (arith, common_steps, cond-true, either)
 
 -- where none stands next, all of it is seen
-pub past_run-none : (p : ℕ → Bool) (s : List ℕ) → front_run p s ≡ [] → past_run p s ≡ s
+past_run-none : (p : ℕ → Bool) (s : List ℕ) → front_run p s ≡ [] → past_run p s ≡ s
 past_run-none p [] e = refl
 past_run-none p (c ∷ s) e = grind (arith, common_steps)
 
