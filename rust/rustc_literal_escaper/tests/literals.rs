@@ -75,6 +75,23 @@ fn a_bare_carriage_return_anywhere() {
     }
 }
 
+/// Errors close together, before others far apart: each is told where it is.
+#[test]
+fn many_errors() {
+    for times in [1, 30, 85, 86, 600] {
+        let text = "\ré".repeat(times) + &"b".repeat(40) + "\r";
+        let places = (0..times).map(|at| 3 * at).chain([3 * times + 40]);
+        let all = |error: EscapeError| places.clone().map(move |at| (at..at + 1, error));
+        for mode in [Mode::Str, Mode::CStr] {
+            assert!(errors(&text, mode).into_iter().eq(all(BareCarriageReturn)));
+        }
+        for mode in [Mode::RawStr, Mode::RawCStr] {
+            let raw = all(BareCarriageReturnInRawString);
+            assert!(errors(&text, mode).into_iter().eq(raw), "{times} times");
+        }
+    }
+}
+
 /// What is wrong between single quotes, and where that ends.
 #[test]
 fn characters() {
