@@ -23,10 +23,14 @@ pub mod EndingLemmas
 pub mod EndsLemmas
 pub mod FamilyLemmas
 pub mod FillLemmas
+pub mod FinalHeadLemmas
 pub mod FindLemmas
 pub mod FrontLemmas
 pub mod FrontmatterLemmas
 pub mod GoesOnLemmas
+pub mod GrowingFront
+pub mod GrowingHead
+pub mod GrowingTokens
 pub mod GuardedLemmas
 pub mod HeadLemmas
 pub mod HashLemmas

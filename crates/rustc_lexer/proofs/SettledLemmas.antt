@@ -8,7 +8,7 @@ use Rattle.rustc_lexer.specs.declared.relex.front.Bound.{Bound}
 use Rattle.rustc_lexer.specs.{Token}
 use Rattle.rustc_lexer.specs.Offsets.{IsBound}
 use Rattle.rustc_lexer.specs.Tokens.{bound, tokens_by}
-use Rattle.rustc_lexer.specs.Locality.{has_two, AreLocal, IsSettled, StaysUpTo, IsGrammar, AgreePast}
+use Rattle.rustc_lexer.specs.Locality.{has_two, AreLocal, IsSettled, StaysUpTo, IsGrammar}
 use Rattle.rustc_lexer.specs.Classes.{IsText}
 use Rattle.rustc_lexer.specs.means.Relexing.{AreBoundaries, IsFront, kept_front}
 use Rattle.rustc_lexer.proofs.BoundLemmas.{bound-last, bound_mono, rises}
@@ -55,17 +55,20 @@ module _ {first : List ℕ → Token} (law : IsGrammar first) (text : List ℕ) 
   next_boundary offset token at more token_is =
       grind (arith, common_steps, lexed_more law text at.items offset is at.to more, token_is, (lexed_more law text at.items offset is at.to more).offset_is, (ap (λ (t : Token). offset + t.len) token_is ∙ (lexed_more law text at.items offset is at.to more).offset_is), boundary (length (at.items ++ first (drop offset text) ∷ [])))
 
+  -- whatever is appended, the tokens before a bound that two characters follow stay
+  pub stays_at : (more : List ℕ) (k : ℕ) → IsText (text ++ more) → k ≤ length (tokens_by first text) → has_two text (bound (tokens_by first text) k) (length text) ≡ true → take k (tokens_by first (text ++ more)) ≡ take k (tokens_by first text)
+  stays_at more k its few two =
+      let b : ℕ = bound (tokens_by first text) k in
+      let middle : IsUtf8 (take (length text - b) (drop b text)) = IsUtf8-between text b (length text) is.utf8 (boundary k).0 (boundary k).1 (IsCharBoundary-end text) in
+      tokens_local law k text (text ++ more) is its few (has_two-agree text (text ++ more) b (length text) middle (take_at text more (length text) refl ∙ sym (take-length text)) two)
+
   pub stays : (offset : ℕ) → IsSettled text (tokens_by first text) offset → StaysUpTo offset text (tokens_by first)
   stays offset settled more zero its few le = refl
   stays offset settled more (suc k) its few le =
       let b : ℕ = bound (tokens_by first text) (suc k) in
       let positive : 0 < b = omega (arith, rises law text is 0 (omega arith), bound_mono (tokens_by first text) 1 (suc k) (omega arith)) in
-      let two : has_two text offset (length text) ≡ true = settled.two (omega arith) in
       let at_offset : IsCharBoundary text offset = subst (IsCharBoundary text) settled.at_bound.2 (boundary settled.at_bound.0).1 in
-      let here : has_two text b (length text) ≡ true = has_two-mono text b offset (length text) is.utf8 le (boundary (suc k)).1 at_offset two in
-      let middle : IsUtf8 (take (length text - b) (drop b text)) = IsUtf8-between text b (length text) is.utf8 (boundary (suc k)).0 (boundary (suc k)).1 (IsCharBoundary-end text) in
-      let agree : AgreePast b text (text ++ more) = has_two-agree text (text ++ more) b (length text) middle (take_at text more (length text) refl ∙ sym (take-length text)) here in
-      tokens_local law (suc k) text (text ++ more) is its few agree
+      stays_at more (suc k) its few (has_two-mono text b offset (length text) is.utf8 le (boundary (suc k)).1 at_offset (settled.two (omega arith)))
 
 pub local : {first : List ℕ → Token} (law : IsGrammar first) → AreLocal (tokens_by first)
 local law text other k is its few agree = tokens_local law k text other is its few agree

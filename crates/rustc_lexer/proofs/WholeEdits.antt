@@ -22,7 +22,7 @@ use Rattle.rustc_lexer.proofs.RelexedLemmas.{relexed_is}
 
 -- ---- the front, by offsets of the text and of what follows an offset
 
-two_behind : (text : List ℕ) (from end to : ℕ) → has_two (drop from text) end (to - from) ≡ has_two text (from + end) to
+pub two_behind : (text : List ℕ) (from end to : ℕ) → has_two (drop from text) end (to - from) ≡ has_two text (from + end) to
 unfolding has_two
 two_behind text from end to = grind (arith, common_steps, drop-drop)
 

@@ -6,6 +6,7 @@ mod document_edit;
 mod edit;
 mod edit_list;
 mod ending;
+mod final_head;
 mod front;
 mod head;
 mod joined;

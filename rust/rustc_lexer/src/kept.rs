@@ -640,6 +640,26 @@ kept_text! {
     LexedDocument
 }
 
+impl<S: Stepper> LexedText<S> {
+    /// Returns where the last token ends that at least two characters follow, in bytes, or 0 if there is none. Whatever is
+    /// appended to the text, its tokens up to there stay.
+    ///
+    /// With edits at the end a kept text is a stream of tokens. It lexes nothing, and reads only the last tokens.
+    ///
+    /// ```
+    /// use rustc_lexer::LexedText;
+    ///
+    /// let mut lexed = LexedText::new("let va");
+    /// assert_eq!(lexed.settled(), 4);
+    /// lexed.edit(6.., "lue = x;");
+    /// assert_eq!(lexed.settled(), 12);
+    /// ```
+    #[must_use]
+    pub fn settled(&self) -> usize {
+        self.whole().settled()
+    }
+}
+
 impl<S: Stepper> LexedDocument<S> {
     /// Returns the length of the shebang line, or 0. The first token begins there.
     ///
@@ -665,6 +685,28 @@ impl<S: Stepper> LexedDocument<S> {
     #[must_use]
     pub fn body(&self) -> Bound {
         self.whole().body()
+    }
+
+    /// Returns where the last token ends that at least two characters follow, in bytes, or the length of the shebang line
+    /// if there is none. Whatever is appended to the text, its tokens up to there stay.
+    ///
+    /// It is 0 as long as the head may change: after `#!`, until the line has ended, and a token that is neither white
+    /// space nor a plain comment tells whether it is a shebang line; while white space or fewer than three dashes may
+    /// become a frontmatter; and in a frontmatter, until a line of as many dashes as the first has ended.
+    ///
+    /// It lexes nothing past the head, and reads only the last tokens.
+    ///
+    /// ```
+    /// use rustc_lexer::LexedDocument;
+    ///
+    /// let mut lexed = LexedDocument::new("---\nedition = 2024\n---");
+    /// assert_eq!(lexed.settled(), 0);
+    /// lexed.edit(22.., "\n\nfn main");
+    /// assert_eq!(lexed.settled(), 27);
+    /// ```
+    #[must_use]
+    pub fn settled(&self) -> usize {
+        self.whole().settled()
     }
 }
 

@@ -20,7 +20,7 @@
 //! | to take those of [`tokenize`] one by one, and look ahead | [`Cursor`] |
 //! | the tokens of a file while it is edited | [`LexedDocument`], or [`LexedText`] for a part of a file |
 //! | the same on lists of your own | the module [`lists`] |
-//! | the final tokens of a text that is still arriving | [`settled`], [`settled_in`] an edition |
+//! | the final tokens of a text that is still arriving | [`LexedText::settled`]; [`settled_in`] lexes it all |
 //! | to write tokens so that lexing gives them back | [`JoinedText`] |
 //! | to test what would panic | [`fits`], [`starts_raw`] |
 //!
