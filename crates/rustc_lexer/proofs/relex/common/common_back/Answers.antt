@@ -1,4 +1,4 @@
-use Rattle.std.proofs.Common.{arith, length, ◌≡◌, ◌-◌, ◌/◌, ◌<◌, slice_range, IsCharBoundary}
+use Rattle.std.proofs.Common.{arith, length, ◌-◌, ◌/◌, IsCharBoundary}
 use Rattle.std.proofs.lemmas.Grind.{common_steps}
 use Rattle.std.proofs.lemmas.Slice.Eq.{bytes_eq-Decides}
 use Rattle.rustc_lexer.proofs.CommonLemmas.{back_differs, back_less, back_more, shorter}
