@@ -1,5 +1,5 @@
 -- Reading a head to see if it is final.
-use Rattle.std.proofs.Common.{◌≡◌, ℕ, zero, suc, ◌+◌, ◌-◌, ◌<◌, ◌≤◌, ◌==◌, ◌&&◌, ◌||◌, not, Bool, true, false, true≢false, if◌then◌else◌, nat_lt, List, [], ◌∷◌, ◌++◌, length, take, drop, codes, refl, sym, ap, ◌∙◌, arith, length-drop, IsUtf8, chars, inl, inr}
+use Rattle.std.proofs.Common.{◌≡◌, ℕ, zero, suc, ◌+◌, ◌-◌, ◌<◌, ◌≤◌, ◌==◌, ◌&&◌, ◌||◌, not, Bool, true, false, true≢false, if◌then◌else◌, nat_lt, List, [], ◌∷◌, length, drop, refl, sym, ap, ◌∙◌, arith, length-drop, IsUtf8, chars, inl, inr}
 use Rattle.std.proofs.lemmas.Bool.{and_parts, eqb-true, cases_lt, false_from_ne_true, le-ltb, lt-ltb, ne_eqb}
 use Rattle.std.proofs.lemmas.Str.{encodes-chars, length-le-encodes}
 use Rattle.std.specs.Str.{encode_utf8_all}
@@ -7,7 +7,6 @@ use Rattle.memchr.specs.Find.{is_byte}
 use Rattle.rustc_lexer.specs.{Token}
 use Rattle.rustc_lexer.specs.Classes.{is_whitespace}
 use Rattle.rustc_lexer.specs.Document.{shebang_len}
-use Rattle.rustc_lexer.specs.FrontmatterGrammar.{fence}
 use Rattle.rustc_lexer.specs.Growing as growing
 use Rattle.rustc_lexer.specs.Growing.{dashes, has_newline, is_closed, is_decided, is_front_final, past_space}
 use Rattle.rustc_lexer.specs.Locality.{has_two}
@@ -20,7 +19,7 @@ use Rattle.rustc_lexer.specs.laws.Past.{IsUtf8-cut, IsUtf8-past, chars-past, len
 use Rattle.rustc_lexer.specs.laws.Scan.{bytes-run, length-run}
 use Rattle.rustc_lexer.specs.means.Frontmatter.{is_dash}
 use Rattle.rustc_lexer.specs.means.Shebang as shebang
-use Rattle.rustc_lexer.specs.means.Scan.{begins, bytes_of, next_is, past, run_len}
+use Rattle.rustc_lexer.specs.means.Scan.{begins, next_is, past, run_len}
 use Rattle.rustc_lexer.proofs.GrowingFront.{closed-newline, closed-past, dashes-run, past_space-run}
 use Rattle.rustc_lexer.proofs.GrowingHead.{same-passed}
 

@@ -1,10 +1,9 @@
 -- The frontmatter of a document that grows at its end: once it is closed, or none can open, it stays.
-use Rattle.std.proofs.Common.{◌≡◌, ℕ, zero, suc, ◌+◌, ◌-◌, ◌<◌, ◌≤◌, ◌==◌, ◌&&◌, ◌||◌, not, Bool, true, false, true≢false, if◌then◌else◌, nat_lt, List, [], ◌∷◌, ◌++◌, length, take, drop, codes, refl, sym, ap, ap₂, ◌∙◌, subst, arith, length-drop, length-append, drop-drop, IsUtf8, chars, le-leb, inl, inr, Option, Some, None}
+use Rattle.std.proofs.Common.{◌≡◌, ℕ, suc, ◌+◌, ◌-◌, ◌<◌, ◌≤◌, ◌==◌, ◌&&◌, ◌||◌, not, Bool, true, false, true≢false, if◌then◌else◌, nat_lt, List, [], ◌∷◌, ◌++◌, length, take, drop, refl, sym, ap, ap₂, ◌∙◌, subst, arith, length-drop, length-append, drop-drop, IsUtf8, chars, le-leb, inl, inr, Some}
 use Rattle.std.proofs.lemmas.Bool.{and_parts, eqb-true, ltb-true}
 use Rattle.std.proofs.lemmas.Bool.Decides.{leb_tells}
 use Rattle.std.proofs.lemmas.List.{drop-append-le, take-append-le}
 use Rattle.std.proofs.lemmas.Str.{chars-append}
-use Rattle.std.proofs.lemmas.Grind.{common_steps}
 use Rattle.std.specs.Str.{encode_utf8_all}
 use Rattle.unicode_ident.proofs.Computing.{unicode_ident}
 use Rattle.rustc_lexer.specs.{Token, Frontmatter}

@@ -1,5 +1,5 @@
 -- The head of a document that grows at its end: once it is final, it stays, and so do its tokens.
-use Rattle.std.proofs.Common.{◌≡◌, ℕ, zero, suc, ◌+◌, ◌-◌, ◌<◌, ◌≤◌, ◌==◌, ◌&&◌, ◌||◌, not, Bool, true, false, true≢false, if◌then◌else◌, nat_le, nat_lt, List, [], ◌∷◌, ◌++◌, length, take, drop, codes, refl, sym, ap, ap₂, ◌∙◌, subst, arith, length-drop, length-append, drop-drop, IsUtf8, IsCharBoundary, chars, leb-true, inl, inr, Option, Some, None, unwrap_or}
+use Rattle.std.proofs.Common.{◌≡◌, ℕ, zero, suc, ◌+◌, ◌-◌, ◌<◌, ◌≤◌, ◌==◌, ◌&&◌, Bool, true, false, true≢false, if◌then◌else◌, nat_le, nat_lt, List, [], ◌∷◌, ◌++◌, length, take, drop, codes, refl, sym, ap, ◌∙◌, subst, arith, length-drop, drop-drop, IsUtf8, IsCharBoundary, chars, leb-true, inl, inr, Option, Some, None, unwrap_or}
 use Rattle.std.proofs.lemmas.Bool.{and_parts, cases_lt, eqb-true, ltb-true}
 use Rattle.std.proofs.lemmas.List.{drop-append-le}
 use Rattle.std.proofs.lemmas.List.Sums.{prefix_len-le-length}
@@ -10,7 +10,6 @@ use Rattle.rustc_lexer.specs.Classes.{IsText, is_inline}
 use Rattle.rustc_lexer.specs.Document.{shebang_len}
 use Rattle.rustc_lexer.specs.Growing as growing
 use Rattle.rustc_lexer.specs.Growing.{is_decided, is_front_final, is_head_final, is_line_final, past_space}
-use Rattle.rustc_lexer.specs.LanguageText.{newest, part}
 use Rattle.rustc_lexer.specs.Locality.{has_two}
 use Rattle.rustc_lexer.specs.Tokens.{bound, tokens_by}
 use Rattle.rustc_lexer.specs.laws.Choice.{by_either}
@@ -21,7 +20,7 @@ use Rattle.rustc_lexer.specs.means.Document.{head_at, head_of}
 use Rattle.rustc_lexer.specs.means.Lexeme.{first_token}
 use Rattle.rustc_lexer.specs.means.Scan.{begins}
 use Rattle.rustc_lexer.specs.means.Shebang as shebang
-use Rattle.rustc_lexer.specs.means.Shebang.{before_newline, is_attribute, is_open_bracket, line_len, read_shebang, shebang_past}
+use Rattle.rustc_lexer.specs.means.Shebang.{before_newline, is_attribute, is_open_bracket, line_len, read_shebang}
 use Rattle.rustc_lexer.proofs.DocumentTokens.{shebang-boundary}
 use Rattle.rustc_lexer.proofs.GrowingFront.{head_at-stays}
 use Rattle.rustc_lexer.proofs.SettledLemmas.{stays_at}

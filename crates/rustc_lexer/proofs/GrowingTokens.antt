@@ -1,5 +1,5 @@
 -- The tokens of a document that grows at its end: once its head is final, those that two characters follow stay.
-use Rattle.std.proofs.Common.{◌≡◌, ℕ, zero, suc, ◌+◌, ◌-◌, ◌<◌, ◌≤◌, true, List, ◌++◌, length, map, take, drop, refl, sym, ap, ◌∙◌, subst, arith, length-drop, length-append, drop-drop, IsUtf8, IsCharBoundary, inl, inr}
+use Rattle.std.proofs.Common.{◌≡◌, ℕ, ◌+◌, ◌-◌, ◌<◌, ◌≤◌, true, List, ◌++◌, length, map, take, drop, sym, ap, ◌∙◌, subst, arith, length-drop, length-append, drop-drop, IsUtf8, IsCharBoundary, inl, inr}
 use Rattle.std.proofs.Math.Seq.{drop-append_seam, take-append-add}
 use Rattle.std.proofs.lemmas.Bool.{cases_lt}
 use Rattle.std.proofs.lemmas.List.{drop-append-le, take-append-le}
