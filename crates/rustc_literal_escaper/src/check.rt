@@ -240,12 +240,8 @@ fn check_escaped<F: FnMut(Range<usize>, EscapeError)>(
             continue;
         }
         if let Some((byte, after)) = byte_at(c, tail, false) {
-            check_element(
-                start..total - after.len(),
-                Element::Byte(byte),
-                mode,
-                callback,
-            );
+            let range = start..total - after.len();
+            check_element(range, Element::Byte(byte), mode, callback);
             left = after;
             continue;
         }
@@ -289,12 +285,8 @@ fn check_unescaped<'a, F: FnMut(Range<usize>, EscapeError)>(
         let Some(element) = unescaped_at(c) else {
             return left;
         };
-        check_element(
-            total - left.len()..total - tail.len(),
-            element,
-            mode,
-            callback,
-        );
+        let range = total - left.len()..total - tail.len();
+        check_element(range, element, mode, callback);
         left = tail;
     }
     left

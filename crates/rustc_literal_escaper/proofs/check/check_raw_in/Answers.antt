@@ -1,4 +1,4 @@
-use Rattle.std.proofs.Common.{[], ◌∷◌, true, refl, sym, ap, ◌∙◌, arith}
+use Rattle.std.proofs.Common.{[], ◌∷◌, true, refl, arith}
 use Rattle.rustc_literal_escaper.specs.means.Elements.{front_by}
 use Rattle.rustc_literal_escaper.specs.laws.Elements.{nothing}
 use Rattle.rustc_literal_escaper.proofs.ErrorLemmas.{folds-errors}
