@@ -6,13 +6,17 @@ use Rattle.rustc_lexer.specs.LanguageText.{part, newest}
 use Rattle.rustc_lexer.specs.Locality.{IsSettled}
 use Rattle.rustc_lexer.specs.Classes.{IsText}
 
--- however the text goes on, its tokens are those that were given and then those of the rest as it goes on
+-- however the text goes on, its tokens are those that were given and then those of the rest as it
+-- goes on
 abbrev pub GivesFirst : List ℕ → List Token → List ℕ → Type 0
-GivesFirst text given rest = (more : List ℕ) → IsText (text ++ more) → tokens_of (part newest) (text ++ more) ≡ given ++ tokens_of (part newest) (rest ++ more)
+GivesFirst text given rest =
+    (more : List ℕ) → IsText (text ++ more)
+    → tokens_of (part newest) (text ++ more) ≡ given ++ tokens_of (part newest) (rest ++ more)
 
 -- the first of the tokens, up to the one that ends at the place
 abbrev pub IsFirstUpTo : ℕ → List Token → List Token → Type 0
-IsFirstUpTo place first tokens = (k : ℕ) → k ≤ length tokens → bound tokens k ≡ place → first ≡ take k tokens
+IsFirstUpTo place first tokens =
+    (k : ℕ) → k ≤ length tokens → bound tokens k ≡ place → first ≡ take k tokens
 
 -- all tokens that are sure are given: those up to the settled place, where the rest begins
 pub record GivesSure (text : List ℕ) (given : List Token) (rest : List ℕ) : Type 0 where

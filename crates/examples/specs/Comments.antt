@@ -14,4 +14,5 @@ is_skipped kind = false
 -- what follows the white space and the comments at the front of a text
 abbrev pub past_comments : List ℕ → List Token → List ℕ
 past_comments text [] = []
-past_comments text (token ∷ tokens) = if is_skipped token.kind then past_comments (drop token.len text) tokens else text
+past_comments text (token ∷ tokens) =
+    if is_skipped token.kind then past_comments (drop token.len text) tokens else text

@@ -27,4 +27,5 @@ pub data AreTokensOf (edition : Edition) : List Utf8 → List Token → Type 0 w
   more : {pieces : List Utf8} {tokens separator : List Token} (piece : Utf8)
       → AreTokensOf edition pieces tokens
       → AreSeparator edition separator
-      → AreTokensOf edition (pieces ++ piece ∷ []) (tokens ++ (separator ++ tokens_of (part edition) piece))
+      → AreTokensOf edition (pieces ++ piece ∷ [])
+      (tokens ++ (separator ++ tokens_of (part edition) piece))

@@ -33,4 +33,5 @@ with_fault (Some fault) faults = fault ∷ faults
 
 abbrev pub faults_of : List Placed → List RawFault
 faults_of [] = []
-faults_of (piece ∷ pieces) = with_fault (raw_fault piece.start piece.token.kind piece.text) (faults_of pieces)
+faults_of (piece ∷ pieces) =
+    with_fault (raw_fault piece.start piece.token.kind piece.text) (faults_of pieces)

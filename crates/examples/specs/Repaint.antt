@@ -11,15 +11,18 @@ changed relexed pieces = take relexed.lexed (drop relexed.kept_front pieces)
 
 -- a piece behind an edit
 abbrev pub moved : ℕ → ℕ → Placed → Placed
-moved added removed piece = record { start = piece.start + added - removed; token = piece.token; text = piece.text }
+moved added removed piece =
+    record { start = piece.start + added - removed; token = piece.token; text = piece.text }
 
--- what is shown after an edit: what was shown in front stays, then comes what is painted, and what was shown at the
--- back stands as much further on as the text grew
+-- what is shown after an edit: what was shown in front stays, then comes what is painted, and what
+-- was shown at the back stands as much further on as the text grew
 abbrev pub shown_after : Relexed → ℕ → ℕ → List Placed → List Placed → List Placed
 shown_after relexed added removed shown painted =
-    take relexed.kept_front shown ++ (painted ++ map (moved added removed) (drop (length shown - relexed.kept_back) shown))
+    take relexed.kept_front shown
+    ++ (painted ++ map (moved added removed) (drop (length shown - relexed.kept_back) shown))
 
--- the mark that opens a token of a kind, which sets the style of a terminal; none where the token is left plain
+-- the mark that opens a token of a kind, which sets the style of a terminal; none where the token
+-- is left plain
 abbrev pub open_mark : TokenKind → List ℕ
 open_mark (LineComment doc_style) = 27 ∷ codes "[2m"
 open_mark (BlockComment doc_style terminated) = 27 ∷ codes "[2m"
@@ -41,4 +44,5 @@ close_mark kind = close_after (open_mark kind)
 -- each piece of a text between its marks
 abbrev pub marked : List Placed → List ℕ
 marked [] = []
-marked (piece ∷ pieces) = open_mark piece.token.kind ++ (piece.text ++ (close_mark piece.token.kind ++ marked pieces))
+marked (piece ∷ pieces) =
+    open_mark piece.token.kind ++ (piece.text ++ (close_mark piece.token.kind ++ marked pieces))

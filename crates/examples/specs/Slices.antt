@@ -16,4 +16,5 @@ is_word word piece = is_ident_kind piece.token.kind && bytes_eq piece.text word
 -- where the first piece of this spelling begins
 abbrev pub find_start : List ℕ → List Placed → Option ℕ
 find_start word [] = None
-find_start word (piece ∷ pieces) = if is_word word piece then Some piece.start else find_start word pieces
+find_start word (piece ∷ pieces) =
+    if is_word word piece then Some piece.start else find_start word pieces

@@ -12,7 +12,8 @@ use std::alloc::Global;
 /// tokens of the text are those of the pieces, in order.
 pub fn join(alloc: Global, edition: Edition, pieces: &[&str]) -> Result<String, JoinError>
     ensures tokens { IfOk result
-        (λ text. AreTokensOf edition (map (λ p. p.now) pieces.now) (tokens_of (part edition) (string_bytes text))) }
+        (λ text. AreTokensOf edition (map (λ p. p.now) pieces.now)
+        (tokens_of (part edition) (string_bytes text))) }
     ensures joined { IfOk result
         (λ text. AreJoined edition (map (λ p. p.now) pieces.now) (string_bytes text)) }
 {

@@ -41,7 +41,8 @@ pub fn repaint<S: Stepper, W: fmt::Write>(
     relexed: Relexed,
     output: &mut W,
 ) -> fmt::Result
-    requires all { relexed.kept_front + relexed.lexed + relexed.kept_back ≡ length lexed.now.tokens }
+    requires all { relexed.kept_front + relexed.lexed + relexed.kept_back
+        ≡ length lexed.now.tokens }
     ensures { OnOk result (WritesInCalls W.write_str_gives output.old
         (marked (changed relexed (pieces_from lexed.now.text 0 lexed.now.tokens)))
         output.new) }

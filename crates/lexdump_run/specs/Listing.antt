@@ -33,8 +33,11 @@ base_text Hexadecimal = codes "16"
 
 -- the kind of a literal with its own fields
 unfoldable pub literal_text : LiteralKind → List ℕ
-literal_text (Int base empty_int) = codes "Int base=" ++ (base_text base ++ (codes " empty_int=" ++ bool_text empty_int))
-literal_text (Float base empty_exponent) = codes "Float base=" ++ (base_text base ++ (codes " empty_exponent=" ++ bool_text empty_exponent))
+literal_text (Int base empty_int) =
+    codes "Int base=" ++ (base_text base ++ (codes " empty_int=" ++ bool_text empty_int))
+literal_text (Float base empty_exponent) =
+    codes "Float base=" ++ (base_text base
+    ++ (codes " empty_exponent=" ++ bool_text empty_exponent))
 literal_text (Char terminated) = codes "Char terminated=" ++ bool_text terminated
 literal_text (Byte terminated) = codes "Byte terminated=" ++ bool_text terminated
 literal_text (Str terminated) = codes "Str terminated=" ++ bool_text terminated
@@ -47,11 +50,15 @@ literal_text (RawCStr n_hashes) = codes "RawCStr n_hashes=" ++ hashes_text n_has
 -- the fields of a kind, each after a space
 unfoldable pub fields_text : TokenKind → List ℕ
 fields_text (LineComment doc_style) = codes " doc_style=" ++ style_text doc_style
-fields_text (BlockComment doc_style terminated) = codes " doc_style=" ++ (style_text doc_style ++ (codes " terminated=" ++ bool_text terminated))
+fields_text (BlockComment doc_style terminated) =
+    codes " doc_style=" ++ (style_text doc_style ++ (codes " terminated=" ++ bool_text terminated))
 fields_text (Frontmatter has_invalid_preceding_whitespace invalid_infostring) =
-    codes " has_invalid_preceding_whitespace=" ++ (bool_text has_invalid_preceding_whitespace ++ (codes " invalid_infostring=" ++ bool_text invalid_infostring))
-fields_text (Literal kind suffix_start) = codes " kind=" ++ (literal_text kind ++ (codes " suffix_start=" ++ decimal suffix_start))
-fields_text (Lifetime starts_with_number) = codes " starts_with_number=" ++ bool_text starts_with_number
+    codes " has_invalid_preceding_whitespace=" ++ (bool_text has_invalid_preceding_whitespace
+    ++ (codes " invalid_infostring=" ++ bool_text invalid_infostring))
+fields_text (Literal kind suffix_start) =
+    codes " kind=" ++ (literal_text kind ++ (codes " suffix_start=" ++ decimal suffix_start))
+fields_text (Lifetime starts_with_number) =
+    codes " starts_with_number=" ++ bool_text starts_with_number
 fields_text kind = []
 
 -- where a token begins and how long it is, each with a space after it
@@ -63,7 +70,8 @@ abbrev pub kind_name : TokenKind → List ℕ
 kind_name kind = (kind_entry kind).1
 
 unfoldable pub line_text : ℕ → Token → List ℕ
-line_text start token = place_text start token.len ++ (kind_name token.kind ++ (fields_text token.kind ++ 10 ∷ []))
+line_text start token =
+    place_text start token.len ++ (kind_name token.kind ++ (fields_text token.kind ++ 10 ∷ []))
 
 -- the lines of tokens, of which the first begins at `start`
 abbrev pub listing_from : ℕ → List Token → List ℕ

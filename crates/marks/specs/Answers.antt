@@ -1,5 +1,6 @@
--- What the definition of a literal answers, under the names that contracts use. Each answer is taken from a value whose
--- type says that this answer is allowed and no other; the proof is in laws/Literal.antt.
+-- What the definition of a literal answers, under the names that contracts use. Each answer is
+-- taken from a value whose type says that this answer is allowed and no other; the proof is in
+-- laws/Literal.antt.
 use Rattle.std.specs.Prelude.{ℕ, List, Option}
 use Rattle.std.specs.declared.ops.Range.{Range}
 use Rattle.rustc_lexer.specs.Classes.{Utf8}

@@ -9,7 +9,8 @@ is_special b = b == byte "&" || b == byte "<" || b == byte ">"
 
 -- the entity for `&`, `<` or else `>`
 abbrev pub entity : ℕ → List ℕ
-entity b = if b == byte "&" then codes "&amp;" else (if b == byte "<" then codes "&lt;" else codes "&gt;")
+entity b =
+    if b == byte "&" then codes "&amp;" else (if b == byte "<" then codes "&lt;" else codes "&gt;")
 
 abbrev pub escaped_byte : ℕ → List ℕ
 escaped_byte b = if is_special b then entity b else b ∷ []
@@ -21,7 +22,8 @@ escaped text = flat_map escaped_byte text
 abbrev pub begins_with : List ℕ → List ℕ → Bool
 begins_with name bs = bytes_eq (take (length name) bs) name
 
--- the text that these bytes with entities stand for, if the first n of them belong to an entity that was read already
+-- the text that these bytes with entities stand for, if the first n of them belong to an entity
+-- that was read already
 abbrev pub unescaped_past : ℕ → List ℕ → List ℕ
 unescaped_past n [] = []
 unescaped_past (suc n) (b ∷ bs) = unescaped_past n bs
@@ -40,7 +42,8 @@ unescaped bs = unescaped_past 0 bs
 abbrev pub untagged_from : Bool → List ℕ → List ℕ
 untagged_from inside [] = []
 untagged_from true (b ∷ bs) = untagged_from (not (b == byte ">")) bs
-untagged_from false (b ∷ bs) = if b == byte "<" then untagged_from true bs else b ∷ untagged_from false bs
+untagged_from false (b ∷ bs) =
+    if b == byte "<" then untagged_from true bs else b ∷ untagged_from false bs
 
 -- the text of a page: the bytes outside of tags, each of which goes from `<` to `>`
 abbrev pub untagged : List ℕ → List ℕ

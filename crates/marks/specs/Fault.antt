@@ -31,7 +31,9 @@ is_r c = c == byte "r"
 
 -- why a raw string is refused whose prefix has `prefix_len` characters
 abbrev pub raw_fault : List ℕ → ℕ → Option Fault
-raw_fault text prefix_len = if nat_lt 0 prefix_len && next_is is_r (drop (prefix_len - 1) (chars text)) then refused (raw_check text prefix_len) else None
+raw_fault text prefix_len =
+    if nat_lt 0 prefix_len && next_is is_r (drop (prefix_len - 1) (chars text)) then refused
+    (raw_check text prefix_len) else None
 
 abbrev pub literal_fault : LiteralKind → List ℕ → Option Fault
 literal_fault (Int base true) text = Some EmptyNumber
@@ -46,7 +48,8 @@ literal_fault (RawByteStr None) text = raw_fault text 2
 literal_fault (RawCStr None) text = raw_fault text 2
 literal_fault kind text = None
 
--- the error of a frontmatter that no white space precedes: that of its end, or else of its first line
+-- the error of a frontmatter that no white space precedes: that of its end, or else of its first
+-- line
 abbrev pub front_fault : Bool → Option Fault → Option Fault
 front_fault invalid_infostring (Some fault) = Some fault
 front_fault true None = Some FrontmatterInfostring
@@ -56,7 +59,8 @@ front_fault false None = None
 abbrev pub fault_of : TokenKind → List ℕ → Option Fault
 fault_of (BlockComment doc_style false) text = Some OpenComment
 fault_of (Frontmatter true invalid_infostring) text = Some FrontmatterSpace
-fault_of (Frontmatter false invalid_infostring) text = front_fault invalid_infostring (end_fault text)
+fault_of (Frontmatter false invalid_infostring) text =
+    front_fault invalid_infostring (end_fault text)
 fault_of InvalidIdent text = Some InvalidName
 fault_of UnknownPrefixToken text = Some UnknownPrefix
 fault_of UnknownPrefixLifetime text = Some UnknownLifetimePrefix
@@ -112,9 +116,13 @@ sentence OpenByte = OPEN_BYTE.now
 sentence OpenString = OPEN_STRING.now
 sentence RawStarter = RAW_STARTER.now
 sentence (FrontmatterDashes opening closing) =
-    codes "this frontmatter opens with " ++ (decimal opening ++ (codes " dashes and closes with " ++ decimal closing))
-sentence (OpenRawString expected) = codes "nothing closes this raw string: a quote and " ++ (decimal expected ++ codes " # would")
+    codes "this frontmatter opens with "
+    ++ (decimal opening ++ (codes " dashes and closes with " ++ decimal closing))
+sentence (OpenRawString expected) =
+    codes "nothing closes this raw string: a quote and " ++ (decimal expected ++ codes " # would")
 sentence (FewHashes expected found end) =
-    codes "a quote and " ++ (decimal expected ++ (codes " # would close this raw string; at byte " ++ (decimal end ++ (codes " it has " ++ decimal found))))
-sentence (ManyHashes found) = codes "a raw string has at most 255 hashes on each side, and this one " ++ decimal found
+    codes "a quote and " ++ (decimal expected ++ (codes " # would close this raw string; at byte "
+    ++ (decimal end ++ (codes " it has " ++ decimal found))))
+sentence (ManyHashes found) =
+    codes "a raw string has at most 255 hashes on each side, and this one " ++ decimal found
 sentence (InLiteral error) = error_sentence error

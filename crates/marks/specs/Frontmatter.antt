@@ -1,5 +1,6 @@
--- What is wrong with the last line of a frontmatter. The grammar of the lexer has all frontmatters, those too at whose
--- ends rustc recovers; RFC 3503 has only those that a line of as many dashes closes.
+-- What is wrong with the last line of a frontmatter. The grammar of the lexer has all frontmatters,
+-- those too at whose ends rustc recovers; RFC 3503 has only those that a line of as many dashes
+-- closes.
 use Rattle.std.specs.Prelude.{ℕ, Bool, ◌==◌, nat_eq, nat_lt, if◌then◌else◌, List, drop, codes, length, not, Option, Some, None}
 use Rattle.std.specs.List.{after_last, list_any, prefix_len}
 use Rattle.std.specs.Str.{byte}
@@ -30,7 +31,8 @@ closing_fault opening line =
     else if nat_eq (blanks tail) (length tail) then None
     else Some FrontmatterWords
 
--- what is wrong with the end of a frontmatter that begins with its dashes. If it has no line but its first, none closes it
+-- what is wrong with the end of a frontmatter that begins with its dashes. If it has no line but
+-- its first, none closes it
 abbrev pub end_fault : List ℕ → Option Fault
 end_fault text =
     if list_any is_newline text then closing_fault (dashes text) (after_last is_newline text)

@@ -1,5 +1,6 @@
--- The error at the end of a frontmatter, by the lines of the text: a law of `end_fault` over the lexer's grammar. `body`
--- and `next` are as in FrontmatterGrammar: what follows the opening in the token, and all of the text after the token.
+-- The error at the end of a frontmatter, by the lines of the text: a law of `end_fault` over the
+-- lexer's grammar. `body` and `next` are as in FrontmatterGrammar: what follows the opening in the
+-- token, and all of the text after the token.
 use Rattle.std.specs.Prelude.{◌≡◌, ◌↔◌, ◌≤◌, ◌<◌, ℕ, Bool, false, if◌then◌else◌, List, ◌∷◌, ◌++◌, chars, codes, length, Option, Some, None}
 use Rattle.std.specs.Str.{byte}
 use Rattle.rustc_lexer.specs.Classes.{Chars, AreAll, NextNotIn, is_horizontal_whitespace, is_inline, is_whitespace, next_is}
@@ -44,7 +45,8 @@ pub data IsEndFault (n : ℕ) (next : Chars) : Chars → Option Fault → Type 0
       → NextNotIn (codes "-") w
       → AreAll is_inline w
       → IsEndFault n next (u ++ byte "\n" ∷ (fence m ++ w)) (Some (FrontmatterDashes n m))
-  -- no line of the text has three dashes but the last of the frontmatter, where spaces or tabs come before them
+  -- no line of the text has three dashes but the last of the frontmatter, where spaces or tabs come
+  -- before them
   indented : {body : Chars} (blanks : Chars)
       → NoLineBegins 3 (body ++ next)
       → 0 < length blanks
@@ -53,8 +55,8 @@ pub data IsEndFault (n : ℕ) (next : Chars) : Chars → Option Fault → Type 0
   -- nor does that line have them
   unclosed : {body : Chars} → IsOpen body next → IsEndFault n next body (Some OpenFrontmatter)
 
--- what is told of a frontmatter by the grammar: the error that its lines say, unless white space comes before it; and
--- that nothing closes it exactly where nothing does
+-- what is told of a frontmatter by the grammar: the error that its lines say, unless white space
+-- comes before it; and that nothing closes it exactly where nothing does
 pub record IsToldBy (n : ℕ) (bad_label : Bool) (opening body next : Chars) (fault : Option Fault)
     : Type 0 where
   pub end : Option Fault

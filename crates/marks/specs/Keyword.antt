@@ -32,7 +32,8 @@ made sort edition = []
 abbrev pub is_in : List (List ℕ) → List ℕ → Bool
 is_in words word = list_any (λ keyword. bytes_eq keyword word) words
 
--- whether the word is a keyword of a sort in an edition: this one made it, or one before. That of 2021 made none
+-- whether the word is a keyword of a sort in an edition: this one made it, or one before. That of
+-- 2021 made none
 abbrev pub has : Keyword → Edition → List ℕ → Bool
 has sort E2015 word = is_in (made sort E2015) word
 has sort E2024 word = is_in (made sort E2015) word || is_in (made sort E2018) word

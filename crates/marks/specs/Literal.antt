@@ -1,6 +1,7 @@
--- A literal that is closed: its prefix, its opening quote, what stands between the quotes, its closing quote, and its
--- suffix. Between the quotes are pieces: elements, and line ends that are skipped. A piece that is an escape or wrong is
--- a stretch of the literal, and everything else is plain. `next` is all of the text that follows.
+-- A literal that is closed: its prefix, its opening quote, what stands between the quotes, its
+-- closing quote, and its suffix. Between the quotes are pieces: elements, and line ends that are
+-- skipped. A piece that is an escape or wrong is a stretch of the literal, and everything else is
+-- plain. `next` is all of the text that follows.
 use Rattle.std.specs.Prelude.{◌≡◌, ◌+◌, ◌-◌, ◌==◌, ℕ, length, take, drop, codes, Bool, true, false, if◌then◌else◌, List, [], ◌∷◌, ◌++◌, Option, Some, None, nat_eq}
 use Rattle.std.specs.Char.{is_whitespace}
 use Rattle.std.specs.List.{list_all, list_any, starts_with}
@@ -52,7 +53,8 @@ delimiter mode = if is_single mode then byte "'" else byte "\""
 abbrev pub HasNo : ℕ → Utf8 → Type 0
 HasNo quote text = list_any (λ b. b == quote) text ≡ false
 
--- the contents of a text in quotes, which may have such quotes too, go from the offset `start` to `end`
+-- the contents of a text in quotes, which may have such quotes too, go from the offset `start` to
+-- `end`
 pub record IsQuoted (quote : ℕ) (text : Utf8) (start end : ℕ) : Type 0 where
   pub prefix : Utf8
   pub contents : Utf8
@@ -75,9 +77,10 @@ pub data IsQuotedIn (mode : Mode) (text : Utf8) : Option (Mode × Range ℕ) →
   unquoted : IsUnquoted (delimiter mode) text → IsQuotedIn mode text None
 
 -- the contents of a token. One that is not a closed literal has none
-pub record IsInside (kind : TokenKind) (text : Utf8) (found : Option (Mode × Range ℕ)) : Type 0 where
-  pub closed : (mode : Mode) → closed_mode kind ≡ Some mode → IsQuotedIn mode text found
-  pub other : closed_mode kind ≡ None → found ≡ None
+pub record IsInside (kind : TokenKind) (text : Utf8) (found : Option (Mode × Range ℕ)) : Type 0
+  where
+    pub closed : (mode : Mode) → closed_mode kind ≡ Some mode → IsQuotedIn mode text found
+    pub other : closed_mode kind ≡ None → found ≡ None
 
 -- ---- the pieces between the quotes
 
@@ -91,7 +94,8 @@ abbrev pub element_look : Mode → Element → Option Look
 element_look mode element = look_by (error_of mode element) element
 
 -- a piece that is not a skipped line end, or has a warning about one
-pub data IsPieceBefore (mode : Mode) (next : Chars) : (raw : Bool) → Option Look → Chars → Type 0 where
+pub data IsPieceBefore (mode : Mode) (next : Chars) : (raw : Bool) → Option Look → Chars
+    → Type 0 where
   element : {element : Element} {w : Chars}
       → IsElementBefore (codes "\"") next element w
       → (w ≡ codes "\\\n" → ⊥)
@@ -104,16 +108,19 @@ pub data IsPieceBefore (mode : Mode) (next : Chars) : (raw : Bool) → Option Lo
       → list_all is_passed_over space ≡ true
       → list_any is_newline space ≡ true
       → next_is is_passed_over next ≡ false
-      → IsPieceBefore mode next false (Some (Wrong MultipleSkippedLinesWarning)) (codes "\\\n" ++ space)
+      → IsPieceBefore mode next false (Some (Wrong MultipleSkippedLinesWarning))
+      (codes "\\\n" ++ space)
   -- or else with the first character of white space that is not skipped, if such a one follows
   white_space : (space : Chars) (c : ℕ)
       → list_all is_passed_over space ≡ true
       → list_any is_newline space ≡ false
       → is_whitespace c ≡ true
       → is_passed_over c ≡ false
-      → IsPieceBefore mode next false (Some (Wrong UnskippedWhitespaceWarning)) (codes "\\\n" ++ (space ++ c ∷ []))
+      → IsPieceBefore mode next false (Some (Wrong UnskippedWhitespaceWarning))
+      (codes "\\\n" ++ (space ++ c ∷ []))
 
--- line ends without a warning, one right after another, each with the white space that is skipped after it
+-- line ends without a warning, one right after another, each with the white space that is skipped
+-- after it
 pub data AreSkippedBefore (next : Chars) : (raw : Bool) → Chars → Type 0 where
   none : {raw : Bool} → AreSkippedBefore next raw []
   more : {w : Chars} (space : Chars)
@@ -156,7 +163,8 @@ pub data AreInside (mode : Mode) (contents : Utf8) : List Piece → Type 0 where
       → ArePieces mode (is_raw mode) (chars contents) pieces
       → AreInside mode contents pieces
   character : is_single mode ≡ true
-      → AreInside mode contents ((chars contents, char_look (char_error mode contents) contents) ∷ [])
+      → AreInside mode contents
+      ((chars contents, char_look (char_error mode contents) contents) ∷ [])
 
 -- ---- the stretches, each with its places in the literal
 
@@ -188,7 +196,8 @@ abbrev pub look_parts : Look → Utf8 → List Part
 look_parts Escape text = Own EscapeClass text ∷ []
 look_parts (Wrong error) text = fault_parts (InLiteral error) Text text
 
--- the parts of the rest of a literal from the offset `at` on: its stretches, and the plain text around them
+-- the parts of the rest of a literal from the offset `at` on: its stretches, and the plain text
+-- around them
 abbrev pub parts_from : ℕ → Utf8 → List Stretch → List Part
 parts_from at left [] = Own Text left ∷ []
 parts_from at left (s ∷ ss) =

@@ -38,7 +38,8 @@ class_close Html class = codes "</span>"
 class_close Colours class = sgr (codes "0")
 class_close NoColours class = []
 
--- the mark before the first line of a token with an error. In a page it holds the sentence about the error
+-- the mark before the first line of a token with an error. In a page it holds the sentence about
+-- the error
 abbrev pub fault_open : Style → Fault → List ℕ
 fault_open Html fault = codes "<mark title=\"" ++ (sentence fault ++ codes "\">")
 fault_open Colours fault = sgr (codes "4;31")

@@ -19,7 +19,8 @@ use Rattle.marks.specs.Part.{Part, Own, fault_parts, with_marks}
 abbrev pub literal_parts : Mode → List ℕ → List Part
 literal_parts mode text = parts_from 0 text (stretches_of mode text)
 
--- the parts of a token: of one with an error, of a literal that is closed, or of one that has a single class
+-- the parts of a token: of one with an error, of a literal that is closed, or of one that has a
+-- single class
 abbrev pub parts_by : Option Fault → Option Mode → Class → List ℕ → List Part
 parts_by (Some fault) mode class text = fault_parts fault class text
 parts_by None (Some mode) class text = literal_parts mode text
@@ -30,12 +31,15 @@ token_parts kind text = parts_by (fault_of kind text) (closed_mode kind) (class_
 
 abbrev pub parts : List ℕ → List Token → List Part
 parts text [] = []
-parts text (token ∷ tokens) = token_parts token.kind (take token.len text) ++ parts (drop token.len text) tokens
+parts text (token ∷ tokens) =
+    token_parts token.kind (take token.len text) ++ parts (drop token.len text) tokens
 
--- the parts of a whole text: its shebang line as a comment, and the tokens of the text after it, which is a document in
--- an edition
+-- the parts of a whole text: its shebang line as a comment, and the tokens of the text after it,
+-- which is a document in an edition
 abbrev pub text_parts : Edition → List ℕ → List Part
-text_parts edition text = Own Comment (take (shebang_len text) text) ∷ parts (drop (shebang_len text) text) (document_tokens edition text)
+text_parts edition text =
+    Own Comment (take (shebang_len text) text)
+    ∷ parts (drop (shebang_len text) text) (document_tokens edition text)
 
 -- the tokens of a text, each between its marks, as they are written
 abbrev pub marked_tokens : Style → List ℕ → List Token → List ℕ

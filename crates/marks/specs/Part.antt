@@ -23,9 +23,12 @@ ends_line b = b == byte "\n" || b == byte "\r"
 abbrev pub first_line : List ℕ → ℕ
 first_line text = position_or_len ends_line text
 
--- the parts of a token with an error: its first line between the marks of the error, and then the rest
+-- the parts of a token with an error: its first line between the marks of the error, and then the
+-- rest
 abbrev pub fault_parts : Fault → Class → List ℕ → List Part
-fault_parts fault class text = Open fault ∷ Own class (take (first_line text) text) ∷ Close fault ∷ Own class (drop (first_line text) text) ∷ []
+fault_parts fault class text =
+    Open fault ∷ Own class (take (first_line text) text) ∷ Close fault
+    ∷ Own class (drop (first_line text) text) ∷ []
 
 -- text as it is written: with entities in a page, unchanged in a terminal
 abbrev pub shown : Style → List ℕ → List ℕ
@@ -36,7 +39,8 @@ shown NoColours text = text
 -- a part as it is written: text between the marks of its class; an empty text has no marks
 abbrev pub written : Style → Part → List ℕ
 written style (Own class []) = []
-written style (Own class (b ∷ bs)) = class_open style class ++ (shown style (b ∷ bs) ++ class_close style class)
+written style (Own class (b ∷ bs)) =
+    class_open style class ++ (shown style (b ∷ bs) ++ class_close style class)
 written style (Open fault) = fault_open style fault
 written style (Close fault) = fault_close style fault
 

@@ -229,7 +229,8 @@ fn write_skipped<W: fmt::Write>(
     requires start { IsCharBoundary text.now start }
     requires order { (shown ≤ at) × (at ≤ start) }
     ensures { MatchResult result
-        (λ to. (IsCharBoundary text.now to × (to ≤ start)) × means.WritesOn W.write_str_gives style text.now
+        (λ to. (IsCharBoundary text.now to × (to ≤ start))
+        × means.WritesOn W.write_str_gives style text.now
         output.old shown (means.gap at start) output.new to) (λ error. Unit {0}) }
 {
     if at < start {
@@ -256,7 +257,8 @@ fn write_stretch<W: fmt::Write>(
     requires end { IsCharBoundary text.now end }
     requires order { (shown ≤ start) × (start ≤ end) }
     ensures { MatchResult result
-        (λ to. (IsCharBoundary text.now to × (to ≤ end)) × means.WritesOn W.write_str_gives style text.now
+        (λ to. (IsCharBoundary text.now to × (to ≤ end))
+        × means.WritesOn W.write_str_gives style text.now
         output.old shown (spec.stretch start end look) output.new to) (λ error. Unit {0}) }
 {
     let Some(look) = look else {

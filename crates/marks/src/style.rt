@@ -1,5 +1,6 @@
 //! The marks around a token: tags of a page, or escape sequences of a terminal.
 #![tactic(auto, using(crate::proofs::CallLemmas::tried_call))]
+
 ghost use Rattle.std.specs.Prelude.{◌≡◌, OnOk};
 ghost use Rattle.std.specs.Fmt.{WritesInCalls};
 ghost use Rattle.marks.specs.Mark.{class_close, class_open, fault_close, fault_open};

@@ -1,6 +1,6 @@
--- What the grammar answers, under the names that contracts use. Each answer is taken from a value whose type says that
--- the grammar allows this answer and no other. A reader need only read that type. How an answer is found, and the proof
--- that it is the only one, are in laws/TheAnswers.antt.
+-- What the grammar answers, under the names that contracts use. Each answer is taken from a value
+-- whose type says that the grammar allows this answer and no other. A reader need only read that
+-- type. How an answer is found, and the proof that it is the only one, are in laws/TheAnswers.antt.
 use Rattle.std.specs.Prelude.{ℕ, ◌<◌, List, length, drop, Option, Result, chars}
 use Rattle.rustc_lexer.specs.{Edition, GuardedStr, RawStrError, Token}
 use Rattle.rustc_lexer.specs.Classes.{IsText, Utf8}
@@ -19,7 +19,8 @@ tokens_of mode text =
 -- the first token of a text, read as a part in an edition
 abbrev pub first_in : Edition → Utf8 → Token
 first_in edition text =
-    let the : TheOnly (IsText text × (0 < length text)) (IsFirst edition text) = the_laws.first edition text in
+    let the : TheOnly (IsText text × (0 < length text)) (IsFirst edition text) =
+    the_laws.first edition text in
     the.answer
 
 -- the token that a cursor takes, and its state after that
@@ -37,7 +38,8 @@ guarded s =
 -- Ok if the raw string with this prefix is valid, otherwise the reason why not
 abbrev pub raw_check : Utf8 → ℕ → Result Unit RawStrError
 raw_check text prefix =
-    let the : TheOnly (Unit {0}) (IsRawAnswer prefix (drop prefix (chars text))) = the_raw text prefix in
+    let the : TheOnly (Unit {0}) (IsRawAnswer prefix (drop prefix (chars text))) =
+    the_raw text prefix in
     the.answer
 
 -- the length of the shebang line of a text, if it has one

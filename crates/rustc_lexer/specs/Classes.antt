@@ -1,7 +1,8 @@
--- Texts as characters and as bytes, classes of characters, and what a text begins with. The crate `unicode_ident` says
--- which characters may begin an identifier and which may continue one, by `DerivedCoreProperties.txt` of Unicode 18.0.
--- White space is `Pattern_White_Space`, which no version of Unicode changes. Names in capitals are productions of the
--- Rust Reference (see Language.antt).
+-- Texts as characters and as bytes, classes of characters, and what a text begins with. The crate
+-- `unicode_ident` says which characters may begin an identifier and which may continue one, by
+-- `DerivedCoreProperties.txt` of Unicode 18.0. White space is `Pattern_White_Space`, which no
+-- version of Unicode changes. Names in capitals are productions of the Rust Reference (see
+-- Language.antt).
 use Rattle.std.specs.Prelude.{◌≡◌, ◌==◌, ◌&&◌, ◌||◌, ℕ, not, Bool, true, false, List, [], ◌∷◌, length, drop, ◌<◌, ◌^◌, codes, encode_utf8_all, IsUtf8}
 use Rattle.std.specs.{Char.is_ascii_digit, List.list_all, List.list_any, Str.byte}
 use Rattle.unicode_ident.specs.Ident.{is_xid_start, is_xid_continue}
@@ -47,11 +48,13 @@ is_horizontal_whitespace c = is_among (0x9 ∷ 0x20 ∷ []) c
 abbrev pub is_id_start : ℕ → Bool
 is_id_start c = c == 0x5F || is_xid_start c
 
--- the characters that may continue an identifier: XID_Continue of Unicode, which contains the underscore
+-- the characters that may continue an identifier: XID_Continue of Unicode, which contains the
+-- underscore
 abbrev pub is_id_continue : ℕ → Bool
 is_id_continue c = is_xid_continue c
 
--- IDENTIFIER_OR_KEYWORD: a character that may begin an identifier, and then only characters that may continue one
+-- IDENTIFIER_OR_KEYWORD: a character that may begin an identifier, and then only characters that
+-- may continue one
 abbrev pub is_ident : List ℕ → Bool
 is_ident [] = false
 is_ident (c ∷ cs) = is_id_start c && list_all is_id_continue cs
@@ -60,26 +63,27 @@ is_ident (c ∷ cs) = is_id_start c && list_all is_id_continue cs
 abbrev pub is_inline : ℕ → Bool
 is_inline c = not (c == byte "\n")
 
--- the characters that begin a word and those that continue one. A word is an identifier, or is invalid because it has
--- an emoji, of which the Reference has none
+-- the characters that begin a word and those that continue one. A word is an identifier, or is
+-- invalid because it has an emoji, of which the Reference has none
 abbrev pub is_word_start : ℕ → Bool
 is_word_start c = is_id_start c || is_emoji c
 
 abbrev pub is_word_continue : ℕ → Bool
 is_word_continue c = is_id_continue c || is_emoji c
 
--- the characters that begin the name of a lifetime, also of an invalid one, which may begin with a digit
+-- the characters that begin the name of a lifetime, also of an invalid one, which may begin with a
+-- digit
 abbrev pub is_name_start : ℕ → Bool
 is_name_start c = is_id_start c || is_ascii_digit c || is_emoji c
 
--- whether the name of a lifetime is invalid; the Reference has no rule for these. A digit or an emoji comes first, or a
--- later emoji may not continue an identifier: `1`, `😀`, `ℹ`, `a😀`; not `aℹ`
+-- whether the name of a lifetime is invalid; the Reference has no rule for these. A digit or an
+-- emoji comes first, or a later emoji may not continue an identifier: `1`, `😀`, `ℹ`, `a😀`; not `aℹ`
 abbrev pub is_bad_name : Chars → Bool
 is_bad_name [] = false
 is_bad_name (c ∷ w) = is_ascii_digit c || is_emoji c || not (list_all is_id_continue w)
 
--- the characters that make the word directly before them a prefix: the hash and the quotes of RESERVED_TOKEN_POUND,
--- RESERVED_TOKEN_DOUBLE_QUOTE and RESERVED_TOKEN_SINGLE_QUOTE
+-- the characters that make the word directly before them a prefix: the hash and the quotes of
+-- RESERVED_TOKEN_POUND, RESERVED_TOKEN_DOUBLE_QUOTE and RESERVED_TOKEN_SINGLE_QUOTE
 abbrev pub ends_prefix : ℕ → Bool
 ends_prefix c = is_among (codes "#\"'") c
 

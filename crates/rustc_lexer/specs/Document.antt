@@ -1,4 +1,5 @@
--- A whole document: its tokens; its head, which is a shebang line and a frontmatter; and its body, which is the rest.
+-- A whole document: its tokens; its head, which is a shebang line and a frontmatter; and its body,
+-- which is the rest.
 use Rattle.std.specs.Prelude.{ℕ, suc, ◌+◌, List, ◌++◌, take, drop, Bool, true, false, unwrap_or}
 use Rattle.std.specs.{List.position, Option.option_map_or}
 use Rattle.rustc_lexer.specs.{Edition, Token, TokenKind, Frontmatter}
@@ -24,19 +25,29 @@ is_frontmatter kind = false
 
 -- how many tokens there are up to the frontmatter, which is counted too, or 0 if there is none
 abbrev pub head_count : List Token → ℕ
-head_count tokens = option_map_or (λ before. suc before) (position (λ token. is_frontmatter token.kind) tokens) 0
+head_count tokens =
+    option_map_or (λ before. suc before) (position (λ token. is_frontmatter token.kind) tokens) 0
 
--- the tokens of the head: the frontmatter, and the white space before it. They are the same in all editions
+-- the tokens of the head: the frontmatter, and the white space before it. They are the same in all
+-- editions
 abbrev pub head_tokens : List ℕ → List Token
 head_tokens text = take (head_count (document_tokens newest text)) (document_tokens newest text)
 
 -- the offset at which the body begins: after the shebang line and the tokens of the head
 abbrev pub body_start : List ℕ → ℕ
-body_start text = shebang_len text + bound (document_tokens newest text) (head_count (document_tokens newest text))
+body_start text =
+    shebang_len text + bound (document_tokens newest text)
+    (head_count (document_tokens newest text))
 
--- the tokens of a document if its body is lexed by a grammar: a function that returns the first token of each text
+-- the tokens of a document if its body is lexed by a grammar: a function that returns the first
+-- token of each text
 abbrev pub whole_by : (List ℕ → Token) → List ℕ → Layout
-whole_by first text = record { start = shebang_len text; head = head_tokens text; body = tokens_by first (drop (body_start text) text) }
+whole_by first text =
+    record {
+      start = shebang_len text;
+      head = head_tokens text;
+      body = tokens_by first (drop (body_start text) text);
+    }
 
 abbrev pub document_tokens_by : (List ℕ → Token) → List ℕ → List Token
 document_tokens_by first text = (whole_by first text).head ++ (whole_by first text).body

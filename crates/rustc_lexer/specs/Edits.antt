@@ -19,7 +19,8 @@ pub record IsInside (text : List ℕ) (start stop : ℕ) : Type 0 where
   pub start_boundary : IsCharBoundary text start
   pub stop_boundary : IsCharBoundary text stop
 
--- the edit is valid: its range is inside the text, between characters, and the text that it makes is shorter than 4 GiB
+-- the edit is valid: its range is inside the text, between characters, and the text that it makes
+-- is shorter than 4 GiB
 pub record IsEdit (text : List ℕ) (start stop : ℕ) (insert : List ℕ) : Type 0 where
   pub inside : IsInside text start stop
   pub short : length text + length insert < 2 ^ 32 + (stop - start)
@@ -29,8 +30,8 @@ abbrev pub ends_from : ℕ → List Token → List ℕ
 ends_from from [] = []
 ends_from from (t ∷ ts) = (from + t.len) ∷ ends_from (from + t.len) ts
 
--- the tokens of a text: those of its head, which a whole document may have and a part of one has not, and those of its
--- body, which is the rest. The first of them begins at `start`
+-- the tokens of a text: those of its head, which a whole document may have and a part of one has
+-- not, and those of its body, which is the rest. The first of them begins at `start`
 pub record Layout : Type 0 where
   pub start : ℕ
   pub head : List Token
@@ -40,20 +41,22 @@ pub record Layout : Type 0 where
 abbrev pub part_by : (List ℕ → Token) → List ℕ → Layout
 part_by first text = record { start = 0; head = []; body = tokens_by first text }
 
--- the offset of token boundary k, where the tokens of the head count too, and that of the start of the body
+-- the offset of token boundary k, where the tokens of the head count too, and that of the start of
+-- the body
 abbrev pub offset_in : Layout → ℕ → ℕ
 offset_in of k = of.start + bound (of.head ++ of.body) k
 
 abbrev pub body_in : Layout → ℕ
 body_in of = offset_in of (length of.head)
 
--- an edit that begins at `start` keeps the head: it begins in the body, and the head is the same before and after it
+-- an edit that begins at `start` keeps the head: it begins in the body, and the head is the same
+-- before and after it
 abbrev pub KeepsHead : Layout → Layout → ℕ → Type 0
 KeepsHead old new start = (body_in old ≤ start) × (old.start ≡ new.start) × (old.head ≡ new.head)
 
--- token boundary `number` of the new tokens matches an old one, and `back` old tokens follow that. Neither is in a head.
--- The new boundary is not before `new_stop`, the end of the inserted text, and is as far past it as the old one is past
--- `old_stop`, the end of the removed text
+-- token boundary `number` of the new tokens matches an old one, and `back` old tokens follow that.
+-- Neither is in a head. The new boundary is not before `new_stop`, the end of the inserted text,
+-- and is as far past it as the old one is past `old_stop`, the end of the removed text
 pub record IsMeeting (old new : Layout) (old_stop new_stop number back : ℕ) : Type 0 where
   pub number_inside : number ≤ length (new.head ++ new.body)
   pub past_edit : new_stop ≤ offset_in new number
@@ -63,19 +66,24 @@ pub record IsMeeting (old new : Layout) (old_stop new_stop number back : ℕ) : 
   pub back_is : old_number + back ≡ length (old.head ++ old.body)
   pub same_offset : offset_in new number + old_stop ≡ offset_in old old_number + new_stop
 
--- the counts of an edit. It keeps the tokens of the head, and of the body those that end at least two characters before
--- it; but if it does not keep the head, it keeps none in front. From there on, tokens are new up to the first boundary
--- that matches one of the old tokens, and the old tokens after that are kept
-pub record IsRelexedTo (old new : Layout) (text : List ℕ) (start stop new_stop : ℕ) (r : Relexed) : Type 0 where
+-- the counts of an edit. It keeps the tokens of the head, and of the body those that end at least
+-- two characters before it; but if it does not keep the head, it keeps none in front. From there
+-- on, tokens are new up to the first boundary that matches one of the old tokens, and the old
+-- tokens after that are kept
+pub record IsRelexedTo (old new : Layout) (text : List ℕ) (start stop new_stop : ℕ) (r : Relexed) :
+    Type 0 where
   pub kept : KeepsHead old new start
-      → r.kept_front ≡ length old.head + count_by (λ end. has_two text end start) (ends_from (body_in old) old.body)
+      → r.kept_front ≡ length old.head + count_by (λ end. has_two text end start)
+      (ends_from (body_in old) old.body)
   pub changed : (KeepsHead old new start → ⊥) → r.kept_front ≡ 0
   pub meeting : IsMeeting old new stop new_stop (r.kept_front + r.lexed) r.kept_back
   pub none_before : (number back : ℕ) → r.kept_front ≤ number → number < r.kept_front + r.lexed
       → IsMeeting old new stop new_stop number back → ⊥
 
 abbrev pub IsRelexed : (List ℕ → Layout) → List ℕ → ℕ → ℕ → List ℕ → Relexed → Type 0
-IsRelexed layout text start stop insert = IsRelexedTo (layout text) (layout (apply text start stop insert)) text start stop (start + length insert)
+IsRelexed layout text start stop insert =
+    IsRelexedTo (layout text) (layout (apply text start stop insert)) text start stop
+    (start + length insert)
 
 -- how many tokens there are after an edit with these counts
 abbrev pub count_after : Relexed → ℕ
@@ -92,7 +100,8 @@ pub record Makes (old new : List ℕ) (start stop : ℕ) (insert : List ℕ) : T
   pub valid : IsEdit old start stop insert
   pub made : apply old start stop insert ≡ new
 
--- of all edits that make the new text of the old one, it begins last, and of those that begin there it ends first
+-- of all edits that make the new text of the old one, it begins last, and of those that begin there
+-- it ends first
 pub record IsNarrowest (old new : List ℕ) (start stop : ℕ) (insert : List ℕ) : Type 0 where
   pub makes : Makes old new start stop insert
   pub begins_last : (from to : ℕ) (other : List ℕ) → Makes old new from to other → from ≤ start
@@ -113,7 +122,8 @@ abbrev pub AreEdits : List ℕ → List Edit → Type 0
 AreEdits text [] = Unit {0}
 AreEdits text (e ∷ es) = IsEdit text e.start e.stop e.insert.now × AreEdits (applied text e) es
 
--- the step count grew by what the edits lex, one after another. The tokens of a new head take no step
+-- the step count grew by what the edits lex, one after another. The tokens of a new head take no
+-- step
 abbrev pub AreStepped : (List ℕ → Layout) → List ℕ → List Edit → ℕ → ℕ → Type 0
 AreStepped layout text [] before after = after ≡ before
 AreStepped layout text (e ∷ es) before after =
@@ -121,17 +131,22 @@ AreStepped layout text (e ∷ es) before after =
     × (between + (length (layout (applied text e)).head - r.kept_front) ≡ before + r.lexed))
     × AreStepped layout (applied text e) es between after
 
--- `front` is the least that each of the edits keeps there, or so many as before them, and so is `back`
+-- `front` is the least that each of the edits keeps there, or so many as before them, and so is
+-- `back`
 abbrev pub AreLeast : (List ℕ → Layout) → List ℕ → List Edit → ℕ → ℕ → ℕ → ℕ → Type 0
-AreLeast layout text [] front_before back_before front back = (front ≡ front_before) × (back ≡ back_before)
+AreLeast layout text [] front_before back_before front back =
+    (front ≡ front_before) × (back ≡ back_before)
 AreLeast layout text (e ∷ es) front_before back_before front back =
-    (r : Relexed) × IsRelexed layout text e.start e.stop e.insert.now r × AreLeast layout (applied text e) es (min front_before r.kept_front) (min back_before r.kept_back) front back
+    (r : Relexed) × IsRelexed layout text e.start e.stop e.insert.now r × AreLeast layout
+    (applied text e) es (min front_before r.kept_front) (min back_before r.kept_back) front back
 
--- the counts of a list of edits: of the tokens that the list found, as many as `old`, it keeps those that each edit keeps,
--- at the back so many as are then left. With no edit that is all of them in front
+-- the counts of a list of edits: of the tokens that the list found, as many as `old`, it keeps
+-- those that each edit keeps, at the back so many as are then left. With no edit that is all of
+-- them in front
 abbrev pub IsRelexedList : (List ℕ → Layout) → List ℕ → List Edit → ℕ → ℕ → Relexed → Type 0
 IsRelexedList layout text edits old new r =
-    (back : ℕ) × AreLeast layout text edits old old r.kept_front back × (r.kept_back ≡ min back (min new old - r.kept_front))
+    (back : ℕ) × AreLeast layout text edits old old r.kept_front back
+    × (r.kept_back ≡ min back (min new old - r.kept_front))
 
 -- the index of the edit that was refused
 abbrev pub stop_at : EditStop → ℕ
@@ -145,20 +160,24 @@ stop_text (Range at) = codes "edit " ++ (decimal at ++ codes ": bad range")
 stop_text (TooLong at) = codes "edit " ++ (decimal at ++ codes ": text too long")
 stop_text (Memory at) = codes "edit " ++ (decimal at ++ codes ": no memory")
 
--- what each error says of the present text and the refused edit: its range is not valid (IsInside); its range is valid,
--- but the text would be too long; or the edit is valid, and an allocation failed
+-- what each error says of the present text and the refused edit: its range is not valid (IsInside);
+-- its range is valid, but the text would be too long; or the edit is valid, and an allocation
+-- failed
 abbrev pub IsRefusedOn : EditStop → List ℕ → Edit → Type 0
 IsRefusedOn (Range at) text e = IsInside text e.start e.stop → ⊥
-IsRefusedOn (TooLong at) text e = IsInside text e.start e.stop × (IsEdit text e.start e.stop e.insert.now → ⊥)
+IsRefusedOn (TooLong at) text e =
+    IsInside text e.start e.stop × (IsEdit text e.start e.stop e.insert.now → ⊥)
 IsRefusedOn (Memory at) text e = IsEdit text e.start e.stop e.insert.now
 
 abbrev pub IsStop : EditStop → List ℕ → List Edit → Type 0
-IsStop s text edits = (stop_at s < length edits) × IfSome (slice_get edits (stop_at s)) (IsRefusedOn s text)
+IsStop s text edits =
+    (stop_at s < length edits) × IfSome (slice_get edits (stop_at s)) (IsRefusedOn s text)
 
--- the step count grew by what the edits before the refused one lex. If an allocation failed, it may have grown by more,
--- but at most by what the refused edit lexes
+-- the step count grew by what the edits before the refused one lex. If an allocation failed, it may
+-- have grown by more, but at most by what the refused edit lexes
 abbrev pub IsStopStepped : EditStop → (List ℕ → Layout) → List ℕ → List Edit → ℕ → ℕ → Type 0
 IsStopStepped (Memory at) layout text edits before after =
     (least most : ℕ) × AreStepped layout text (take at edits) before least × (least ≤ after)
     × AreStepped layout text (take (at + 1) edits) before most × (after ≤ most)
-IsStopStepped s layout text edits before after = AreStepped layout text (take (stop_at s) edits) before after
+IsStopStepped s layout text edits before after =
+    AreStepped layout text (take (stop_at s) edits) before after

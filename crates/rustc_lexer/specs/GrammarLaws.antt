@@ -11,11 +11,12 @@ use Rattle.rustc_lexer.specs.State.{IsFirst}
 abbrev pub BeginsWith : Chars → TokenKind × Chars → Type 0
 BeginsWith s (kind, w) = (next : Chars) × (s ≡ w ++ next) × IsTokenBefore next kind w
 
--- the lookahead of a token: how many of the characters after it can decide whether it is one. It is 2 for the prefixes
--- `k` and `'r` (is there a hash, and does an identifier begin after it?), for an integer (is there a dot, and does what
--- follows it keep it from being a fraction?), and for a `'` or `b'` that no quote closes (is there a slash or a
--- newline, and what follows it?). It is 0 for a name of two characters or more between quotes, for a closed block
--- comment, for `#"` and `##`, and for symbols except `/` and `#`. It is 1 for all others
+-- the lookahead of a token: how many of the characters after it can decide whether it is one. It is
+-- 2 for the prefixes `k` and `'r` (is there a hash, and does an identifier begin after it?), for an
+-- integer (is there a dot, and does what follows it keep it from being a fraction?), and for a `'`
+-- or `b'` that no quote closes (is there a slash or a newline, and what follows it?). It is 0 for a
+-- name of two characters or more between quotes, for a closed block comment, for `#"` and `##`, and
+-- for symbols except `/` and `#`. It is 1 for all others
 abbrev pub reach : TokenKind → Chars → ℕ
 reach UnknownPrefix w = if bytes_eq w (codes "k") then 2 else 1
 reach UnknownPrefixLifetime w = if bytes_eq w (codes "'r") then 2 else 1
@@ -23,7 +24,8 @@ reach (Literal (Int base empty_int) suffix_start) w = 2
 reach (Literal (Char false) suffix_start) w = 2
 reach (Literal (Byte false) suffix_start) w = 2
 reach (Literal (Char true) suffix_start) w =
-    if next_is is_name_start (drop 1 w) && not (next_is (is_among (codes "'")) (drop 2 w)) then 0 else 1
+    if next_is is_name_start (drop 1 w) && not (next_is (is_among (codes "'")) (drop 2 w)) then 0
+    else 1
 reach (Literal kind suffix_start) w = 1
 reach Eof w = 1
 reach Whitespace w = 1
@@ -39,21 +41,26 @@ reach Slash w = 1
 reach Pound w = 1
 reach kind w = 0
 
--- what is proved about the grammar. Answers.antt takes the tokens of a text, and the first of them, from a value of
--- this type, so a contract that names either rests on all of the laws. That value and the proofs are in
--- laws/TheLaws.antt
+-- what is proved about the grammar. Answers.antt takes the tokens of a text, and the first of them,
+-- from a value of this type, so a contract that names either rests on all of the laws. That value
+-- and the proofs are in laws/TheLaws.antt
 pub record TheLaws : Type 0 where
   -- a text has exactly one list of tokens, as a document and as a part, in each edition
   pub tokens : (mode : Mode) (text : Utf8) → TheOnly (IsText text) (AreTokens mode (chars text))
   -- a part that is not empty has exactly one first token
-  pub first : (edition : Edition) (text : Utf8) → TheOnly (IsText text × (0 < length text)) (IsFirst edition text)
-  -- taking the first token off a part, again and again until nothing is left, gives the tokens of the part
+  pub first : (edition : Edition) (text : Utf8)
+      → TheOnly (IsText text × (0 < length text)) (IsFirst edition text)
+  -- taking the first token off a part, again and again until nothing is left, gives the tokens of
+  -- the part
   pub cut : (edition : Edition) (text : Utf8)
       → tokens_by (λ rest. (first edition rest).answer) text ≡ (tokens (part edition) text).answer
-  -- each list of characters begins with exactly one token of the grammar, which is not `Eof` unless the list is empty
+  -- each list of characters begins with exactly one token of the grammar, which is not `Eof` unless
+  -- the list is empty
   pub one_token : (s : Chars) → TheOnly (Unit {0}) (BeginsWith s)
   -- in the newest edition the tokens are those of Language.antt
-  pub newest : (next w : Chars) (kind : TokenKind) → IsTokenIn newest next kind w ↔ IsTokenBefore next kind w
-  -- a token stays a token if the text after it is replaced by one that begins with the same `reach` characters
+  pub newest : (next w : Chars) (kind : TokenKind) → IsTokenIn newest next kind w
+      ↔ IsTokenBefore next kind w
+  -- a token stays a token if the text after it is replaced by one that begins with the same `reach`
+  -- characters
   pub looks_no_further : (next other w : Chars) (kind : TokenKind) → IsTokenBefore next kind w
       → take (reach kind w) other ≡ take (reach kind w) next → IsTokenBefore other kind w

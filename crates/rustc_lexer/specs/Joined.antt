@@ -1,4 +1,5 @@
--- Texts that are joined so that their tokens stay, and the separators that are written between them for that.
+-- Texts that are joined so that their tokens stay, and the separators that are written between them
+-- for that.
 use Rattle.std.specs.Prelude.{ℕ, ◌≡◌, ◌↔◌, ◌+◌, ◌≤◌, ◌^◌, List, [], ◌∷◌, ◌++◌, length, drop, codes, chars, Bool, true, false, not}
 use Rattle.rustc_lexer.specs.{Edition, Token, TokenKind, Literal, BlockComment, LineComment, Whitespace}
 use Rattle.rustc_lexer.specs.declared.relex.joined.JoinError.{JoinError}
@@ -10,25 +11,31 @@ use Rattle.rustc_lexer.specs.Locality.{has_two}
 use Rattle.rustc_lexer.specs.Partition.{bound}
 use Rattle.rustc_lexer.specs.Tokens.{is_faulty}
 
--- the texts may touch: the tokens of both, one directly after the other, are those of the first and then those of the
--- second
+-- the texts may touch: the tokens of both, one directly after the other, are those of the first and
+-- then those of the second
 abbrev pub MayTouch : Edition → Utf8 → Utf8 → Type 0
-MayTouch edition left right = tokens_of (part edition) (left ++ right) ≡ tokens_of (part edition) left ++ tokens_of (part edition) right
+MayTouch edition left right =
+    tokens_of (part edition) (left ++ right)
+    ≡ tokens_of (part edition) left ++ tokens_of (part edition) right
 
--- the separator keeps the texts apart: the tokens of all three are those of the first, of the separator and of the second
+-- the separator keeps the texts apart: the tokens of all three are those of the first, of the
+-- separator and of the second
 abbrev pub IsSeparated : Edition → Utf8 → Utf8 → Utf8 → Type 0
 IsSeparated edition left separator right =
     tokens_of (part edition) (left ++ (separator ++ right))
-    ≡ tokens_of (part edition) left ++ (tokens_of (part edition) separator ++ tokens_of (part edition) right)
+    ≡ tokens_of (part edition) left
+    ++ (tokens_of (part edition) separator ++ tokens_of (part edition) right)
 
--- a tail of the first text is enough to decide it, if it begins at a token boundary and has at least two characters
+-- a tail of the first text is enough to decide it, if it begins at a token boundary and has at
+-- least two characters
 abbrev pub TailDecides : Edition → Utf8 → Utf8 → Type 0
 TailDecides edition left right = (k : ℕ) → k ≤ length (tokens_of (part edition) left)
     → has_two left (bound (tokens_of (part edition) left) k) (length left) ≡ true
-    → MayTouch edition left right ↔ MayTouch edition (drop (bound (tokens_of (part edition) left) k) left) right
+    → MayTouch edition left right
+    ↔ MayTouch edition (drop (bound (tokens_of (part edition) left) k) left) right
 
--- the text to which a piece was added: the piece comes directly after it; only if it may not, a space comes before the
--- piece; and only if the tokens do not stay so either, a newline
+-- the text to which a piece was added: the piece comes directly after it; only if it may not, a
+-- space comes before the piece; and only if the tokens do not stay so either, a newline
 pub data IsJoined (edition : Edition) (left right : Utf8) : Utf8 → Type 0 where
   touching : MayTouch edition left right → IsJoined edition left right (left ++ right)
   spaced : (MayTouch edition left right → ⊥)
@@ -69,7 +76,8 @@ last_takes_in (token ∷ next ∷ tokens) c = last_takes_in (next ∷ tokens) c
 
 -- white space separates tokens
 pub record WhiteSpaceSeparates (edition : Edition) : Type 0 where
-  -- a text of which no token is open keeps its tokens before white space that its last token does not take in
+  -- a text of which no token is open keeps its tokens before white space that its last token does
+  -- not take in
   pub keeps : (text after : Utf8) → IsText text → IsText (text ++ after)
       → AreClosed (tokens_of (part edition) text)
       → NextIs is_whitespace (chars after)
@@ -91,7 +99,8 @@ pub record Joined : Type 0 where
   pub edition : Edition
   pub text : Utf8
 
--- why a piece was refused: no separator keeps the tokens; with one, the text might have 4 GiB; or an allocation failed
+-- why a piece was refused: no separator keeps the tokens; with one, the text might have 4 GiB; or
+-- an allocation failed
 abbrev pub IsRefused : Joined → Utf8 → JoinError → Type 0
 IsRefused held piece Inseparable = AreInseparable held.edition held.text piece
 IsRefused held piece TooLong = 2 ^ 32 ≤ length held.text + (length piece + 1)

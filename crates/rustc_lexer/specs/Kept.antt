@@ -42,18 +42,22 @@ pub record AreKept (old new : List Token) (r : Relexed) : Type 0 where
   pub front : take r.kept_front new ≡ take r.kept_front old
   pub back : drop (r.kept_front + r.lexed) new ≡ drop (length old - r.kept_back) old
 
--- what an edit does to a kept text. `first` is the grammar of a stepper, `year` the number that names it, and `steps` how
--- many steps the stepper took
-pub record IsEdited {S E : Type 0} (first : S → List ℕ → Token) (year steps : S → ℕ) (whole : Bool) (old : Held S) (start stop : ℕ) (insert : List ℕ) (result : Result Relexed E) (new : Held S) : Type 0 where
+-- what an edit does to a kept text. `first` is the grammar of a stepper, `year` the number that
+-- names it, and `steps` how many steps the stepper took
+pub record IsEdited {S E : Type 0} (first : S → List ℕ → Token) (year steps : S → ℕ) (whole : Bool)
+    (old : Held S) (start stop : ℕ) (insert : List ℕ) (result : Result Relexed E) (new : Held S) :
+    Type 0 where
   -- what text and tokens are afterwards
   pub text : OnOk result (new.text ≡ apply old.text start stop insert)
   pub from_scratch : new.tokens ≡ tokens_in whole (first old.stepper) new.text
   -- which tokens stay, and how many were lexed
-  pub relexed : IfOk result (IsRelexed (layout_in whole (first old.stepper)) old.text start stop insert)
+  pub relexed : IfOk result
+      (IsRelexed (layout_in whole (first old.stepper)) old.text start stop insert)
   pub kept : IfOk result (AreKept old.tokens new.tokens)
   -- how many steps the stepper took: the tokens of a new head take none. It keeps its grammar
   pub count : IfOk result
-      (λ r. steps new.stepper + (length (layout_in whole (first old.stepper) new.text).head - r.kept_front) ≡ steps old.stepper + r.lexed)
+      (λ r. steps new.stepper + (length (layout_in whole (first old.stepper) new.text).head -
+      r.kept_front) ≡ steps old.stepper + r.lexed)
   pub grammar : first new.stepper ≡ first old.stepper
   pub number : year new.stepper ≡ year old.stepper
   pub rose : steps old.stepper ≤ steps new.stepper
@@ -62,10 +66,13 @@ pub record IsEdited {S E : Type 0} (first : S → List ℕ → Token) (year step
   pub same_tokens : OnErr result (new.tokens ≡ old.tokens)
   pub few : OnErr result
       ((r : Relexed) × IsRelexed (layout_in whole (first old.stepper)) old.text start stop insert r
-      × (steps new.stepper + (length (layout_in whole (first old.stepper) (apply old.text start stop insert)).head - r.kept_front) ≤ steps old.stepper + r.lexed))
+      × (steps new.stepper
+      + (length (layout_in whole (first old.stepper) (apply old.text start stop insert)).head -
+      r.kept_front) ≤ steps old.stepper + r.lexed))
 
 -- what a list of edits does to a kept text, up to the first that is refused
-pub record AreMade {S T : Type 0} (first : S → List ℕ → Token) (year steps : S → ℕ) (whole : Bool) (old : Held S) (edits : List Edit) (result : Result T EditStop) (new : Held S) : Type 0 where
+pub record AreMade {S T : Type 0} (first : S → List ℕ → Token) (year steps : S → ℕ) (whole : Bool)
+    (old : Held S) (edits : List Edit) (result : Result T EditStop) (new : Held S) : Type 0 where
   pub accepted : OnOk result (AreEdits old.text edits)
   pub text : OnOk result (new.text ≡ apply_list old.text edits)
   pub from_scratch : new.tokens ≡ tokens_in whole (first old.stepper) new.text
@@ -73,17 +80,21 @@ pub record AreMade {S T : Type 0} (first : S → List ℕ → Token) (year steps
   pub grammar : first new.stepper ≡ first old.stepper
   pub number : year new.stepper ≡ year old.stepper
   pub count : OnOk result
-      (AreStepped (layout_in whole (first old.stepper)) old.text edits (steps old.stepper) (steps new.stepper))
+      (AreStepped (layout_in whole (first old.stepper)) old.text edits (steps old.stepper)
+      (steps new.stepper))
   -- if an edit is refused, the edits before it were made
   pub stop : IfErr result (λ e. IsStop e new.text edits)
   pub stop_accepted : IfErr result (λ e. AreEdits old.text (take (stop_at e) edits))
   pub stop_text : IfErr result (λ e. new.text ≡ apply_list old.text (take (stop_at e) edits))
   pub stop_count : IfErr result
-      (λ e. IsStopStepped e (layout_in whole (first old.stepper)) old.text edits (steps old.stepper) (steps new.stepper))
+      (λ e. IsStopStepped e (layout_in whole (first old.stepper)) old.text edits (steps old.stepper)
+      (steps new.stepper))
 
 -- which tokens stay through all of the edits
-pub record AreKeptThrough {S : Type 0} (first : S → List ℕ → Token) (whole : Bool) (old : Held S) (edits : List Edit) (new : Held S) (r : Relexed) : Type 0 where
-  pub least : IsRelexedList (layout_in whole (first old.stepper)) old.text edits (length old.tokens) (length new.tokens) r
+pub record AreKeptThrough {S : Type 0} (first : S → List ℕ → Token) (whole : Bool) (old : Held S)
+    (edits : List Edit) (new : Held S) (r : Relexed) : Type 0 where
+  pub least : IsRelexedList (layout_in whole (first old.stepper)) old.text edits (length old.tokens)
+      (length new.tokens) r
   pub apart : r.kept_front + r.kept_back ≤ length old.tokens
   pub kept : AreKept old.tokens new.tokens r
 
@@ -101,17 +112,21 @@ placed piece = record { start = piece.start; token = piece.token; text = piece.t
 -- the pieces of the tokens, if the first of them begins at `start`
 abbrev pub pieces_from : List ℕ → ℕ → List Token → List Placed
 pieces_from text start [] = []
-pieces_from text start (token ∷ tokens) = record { start = start; token = token; text = take token.len (drop start text) } ∷ pieces_from text (start + token.len) tokens
+pieces_from text start (token ∷ tokens) =
+    record { start = start; token = token; text = take token.len (drop start text) }
+    ∷ pieces_from text (start + token.len) tokens
 
--- what `next` does. If no piece is left, it returns None and changes nothing. Otherwise it takes the first piece, whose
--- text is as long as its token, and whose end is below 2 ^ 32
+-- what `next` does. If no piece is left, it returns None and changes nothing. Otherwise it takes
+-- the first piece, whose text is as long as its token, and whose end is below 2 ^ 32
 abbrev pub YieldsPiece : List Placed → Option Piece → List Placed → Type 0
 YieldsPiece s None t = (s ≡ []) × (t ≡ s)
 YieldsPiece s (Some piece) t =
-    (s ≡ placed piece ∷ t) × (length piece.text.now ≡ piece.token.len) × (piece.start + piece.token.len < 2 ^ 32)
+    (s ≡ placed piece ∷ t) × (length piece.text.now ≡ piece.token.len)
+    × (piece.start + piece.token.len < 2 ^ 32)
 
 -- what `next_back` does: the same with the last piece
 abbrev pub YieldsPieceBack : List Placed → Option Piece → List Placed → Type 0
 YieldsPieceBack s None t = (s ≡ []) × (t ≡ s)
 YieldsPieceBack s (Some piece) t =
-    (s ≡ t ++ placed piece ∷ []) × (length piece.text.now ≡ piece.token.len) × (piece.start + piece.token.len < 2 ^ 32)
+    (s ≡ t ++ placed piece ∷ []) × (length piece.text.now ≡ piece.token.len)
+    × (piece.start + piece.token.len < 2 ^ 32)

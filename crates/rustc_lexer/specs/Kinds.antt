@@ -2,13 +2,14 @@
 use Rattle.std.specs.Prelude.{ℕ, Bool, true, false, List, codes, ◌++◌, decimal}
 use Rattle.rustc_lexer.specs.{LiteralKind, RawStrError, InvalidStarter, NoTerminator, TooManyDelimiters, TokenKind, Int, Float, Char, Byte, Str, ByteStr, CStr, RawStr, RawByteStr, RawCStr, LineComment, BlockComment, Whitespace, Frontmatter, Ident, InvalidIdent, RawIdent, ForcedKeywordIdent, UnknownPrefix, UnknownPrefixLifetime, RawLifetime, GuardedStrPrefix, Literal, Lifetime, Semi, Comma, Dot, OpenParen, CloseParen, OpenBrace, CloseBrace, OpenBracket, CloseBracket, At, Pound, Tilde, Question, Colon, Dollar, Eq, Bang, Lt, Gt, Minus, And, Or, Plus, Star, Slash, Caret, Percent, Unknown, Eof}
 
--- the number of a kind, for other languages, and the name of its variant. A number never changes: a new kind gets a new
--- one, and no kind has 0
+-- the number of a kind, for other languages, and the name of its variant. A number never changes: a
+-- new kind gets a new one, and no kind has 0
 unfoldable pub kind_entry : TokenKind → ℕ × List ℕ
 kind_entry (LineComment doc_style) = (1, codes "LineComment")
 kind_entry (BlockComment doc_style terminated) = (2, codes "BlockComment")
 kind_entry Whitespace = (3, codes "Whitespace")
-kind_entry (Frontmatter has_invalid_preceding_whitespace invalid_infostring) = (4, codes "Frontmatter")
+kind_entry (Frontmatter has_invalid_preceding_whitespace invalid_infostring) =
+    (4, codes "Frontmatter")
 kind_entry Ident = (5, codes "Ident")
 kind_entry InvalidIdent = (6, codes "InvalidIdent")
 kind_entry RawIdent = (7, codes "RawIdent")
@@ -74,5 +75,8 @@ literal_entry (RawCStr n_hashes) = (10, codes "RawCStr")
 -- why a raw string is refused, in words
 abbrev pub raw_str_text : RawStrError → List ℕ
 raw_str_text (InvalidStarter bad_char) = codes "no hash or quote opens the raw string"
-raw_str_text (NoTerminator expected found offset) = codes "no quote with " ++ (decimal expected ++ codes " hashes closes the raw string")
-raw_str_text (TooManyDelimiters found) = codes "the raw string has " ++ (decimal found ++ codes " hashes on each side, and 255 are the most")
+raw_str_text (NoTerminator expected found offset) =
+    codes "no quote with " ++ (decimal expected ++ codes " hashes closes the raw string")
+raw_str_text (TooManyDelimiters found) =
+    codes "the raw string has "
+    ++ (decimal found ++ codes " hashes on each side, and 255 are the most")

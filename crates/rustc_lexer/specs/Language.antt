@@ -1,19 +1,21 @@
--- The grammar of the tokens of Rust, as rustc's lexer has them: which texts a token of each kind may have, and what may
--- follow it. There is one rule for each form, and no rule says how a text is read. docs/LEXEMES.md explains the rules
--- in words.
+-- The grammar of the tokens of Rust, as rustc's lexer has them: which texts a token of each kind
+-- may have, and what may follow it. There is one rule for each form, and no rule says how a text is
+-- read. docs/LEXEMES.md explains the rules in words.
 --
--- Names in capitals are productions of the Rust Reference for Rust 1.95; only SHEBANG is one of 1.97. A rule accepts
--- each text of the productions that are named beside it. What merely follows a token (a newline, the quote or hash
--- after a prefix) is in `next`. The grammar accepts more than the Reference: what is unclosed, empty or has an emoji is
--- a token too, so that a compiler can report it, and the contents of comments and quotes are not checked (escapes,
--- carriage returns, the length of a character literal). If such a form has a rule of its own, the rule is marked "not
+-- Names in capitals are productions of the Rust Reference for Rust 1.95; only SHEBANG is one of
+-- 1.97. A rule accepts each text of the productions that are named beside it. What merely follows a
+-- token (a newline, the quote or hash after a prefix) is in `next`. The grammar accepts more than
+-- the Reference: what is unclosed, empty or has an emoji is a token too, so that a compiler can
+-- report it, and the contents of comments and quotes are not checked (escapes, carriage returns,
+-- the length of a character literal). If such a form has a rule of its own, the rule is marked "not
 -- in the Reference".
 --
--- Notation. `w` is the text of a token, and `next` is all of the text after it. Both are lists of characters (type
--- `Chars`), and `next` is [] at the end of the text. The offset of a suffix is in bytes. A NUL is a character like any
--- other. `P → ⊥` is the negation of P. No rule negates the relation that it defines, so each relation is the least one
--- that its rules make. The fields of a kind come in the order of src/token.rt: LineComment doc_style, BlockComment
--- doc_style terminated, Lifetime starts_with_number, Literal kind suffix_start, Frontmatter
+-- Notation. `w` is the text of a token, and `next` is all of the text after it. Both are lists of
+-- characters (type `Chars`), and `next` is [] at the end of the text. The offset of a suffix is in
+-- bytes. A NUL is a character like any other. `P → ⊥` is the negation of P. No rule negates the
+-- relation that it defines, so each relation is the least one that its rules make. The fields of a
+-- kind come in the order of src/token.rt: LineComment doc_style, BlockComment doc_style terminated,
+-- Lifetime starts_with_number, Literal kind suffix_start, Frontmatter
 -- has_invalid_preceding_whitespace invalid_infostring.
 use Rattle.std.specs.Prelude.{◌≡◌, ℕ, ◌||◌, Bool, true, false, List, [], ◌∷◌, ◌++◌, take, codes, Option, Some, None}
 use Rattle.std.specs.{Char.is_ascii_digit, List.list_any, Str.byte}
@@ -24,17 +26,18 @@ use Rattle.rustc_lexer.specs.Tables.{symbol_kind}
 
 -- ---- comments
 
--- the doc style of a comment, by w, the text after its `//` or `/*`. It is Inner if w begins with `!` (INNER_LINE_DOC,
--- INNER_BLOCK_DOC). It is Outer if w begins with one more `/` or `*` (`again`) and no character of `undocs` follows
--- that (OUTER_LINE_DOC, OUTER_BLOCK_DOC). Otherwise there is none: `////`, `/***` and `/**/` are plain comments
+-- the doc style of a comment, by w, the text after its `//` or `/*`. It is Inner if w begins with
+-- `!` (INNER_LINE_DOC, INNER_BLOCK_DOC). It is Outer if w begins with one more `/` or `*` (`again`)
+-- and no character of `undocs` follows that (OUTER_LINE_DOC, OUTER_BLOCK_DOC). Otherwise there is
+-- none: `////`, `/***` and `/**/` are plain comments
 pub data IsStyle (again : ℕ) (undocs : Chars) : Option DocStyle → Chars → Type 0 where
   inner : {w : Chars} → IsStyle again undocs (Some Inner) (byte "!" ∷ w)
   outer : {w : Chars} → NextNotIn undocs w → IsStyle again undocs (Some Outer) (again ∷ w)
   no_outer : {w : Chars} → NextIn undocs w → IsStyle again undocs None (again ∷ w)
   neither : {w : Chars} → NextNotIn (again ∷ codes "!") w → IsStyle again undocs None w
 
--- the rest of a block comment (BLOCK_COMMENT_OR_DOC) after its `/*`: nested comments and other characters, and then the
--- `*/` that closes it
+-- the rest of a block comment (BLOCK_COMMENT_OR_DOC) after its `/*`: nested comments and other
+-- characters, and then the `*/` that closes it
 pub data IsCommentRest : Chars → Type 0 where
   closing : IsCommentRest (codes "*/")
   nested : {v w : Chars}
@@ -49,14 +52,16 @@ pub data IsCommentRest : Chars → Type 0 where
 
 -- ---- words
 
--- the known prefixes, each with the quote or hash after it. They begin literals and raw identifiers, so the productions
--- RESERVED_TOKEN_POUND, RESERVED_TOKEN_DOUBLE_QUOTE and RESERVED_TOKEN_SINGLE_QUOTE exclude them
+-- the known prefixes, each with the quote or hash after it. They begin literals and raw
+-- identifiers, so the productions RESERVED_TOKEN_POUND, RESERVED_TOKEN_DOUBLE_QUOTE and
+-- RESERVED_TOKEN_SINGLE_QUOTE exclude them
 abbrev pub known_prefixes : List Chars
 known_prefixes =
     codes "r\"" ∷ codes "r#" ∷ codes "b'" ∷ codes "b\"" ∷ codes "br\"" ∷ codes "br#"
     ∷ codes "c\"" ∷ codes "cr\"" ∷ codes "cr#" ∷ []
 
--- whether a text begins with one of them, or with `k#` and the start of an identifier, which is not in the Reference
+-- whether a text begins with one of them, or with `k#` and the start of an identifier, which is not
+-- in the Reference
 abbrev pub begins_prefixed : Chars → Bool
 begins_prefixed s =
     list_any (λ prefix. begins prefix s) known_prefixes || begins_ident_after (codes "k#") s
@@ -87,7 +92,8 @@ pub data IsTokenBefore (next : Chars) : TokenKind → Chars → Type 0 where
       → IsCommentRest w
       → IsStyle (byte "*") (codes "*/") style w
       → IsTokenBefore next (BlockComment style true) (codes "/*" ++ w)
-  -- not in the Reference: a block comment that nothing closes. It takes the rest of the text: `/* /* */`
+  -- not in the Reference: a block comment that nothing closes. It takes the rest of the text: `/*
+  -- /* */`
   open_comment : {style : Option DocStyle} {w : Chars}
       → next ≡ []
       → ((n : ℕ) → IsCommentRest (take n w) → ⊥)
@@ -99,14 +105,15 @@ pub data IsTokenBefore (next : Chars) : TokenKind → Chars → Type 0 where
       → NextIsNot is_word_continue next
       → NextIsNot ends_prefix next
       → IsTokenBefore next Ident w
-  -- RESERVED_TOKEN_POUND, RESERVED_TOKEN_DOUBLE_QUOTE, RESERVED_TOKEN_SINGLE_QUOTE, without the quote or hash: `z`
-  -- before `"a"`, `k` before `#1`; not `b` before `"a"`, nor `k` before `#fn`
+  -- RESERVED_TOKEN_POUND, RESERVED_TOKEN_DOUBLE_QUOTE, RESERVED_TOKEN_SINGLE_QUOTE, without the
+  -- quote or hash: `z` before `"a"`, `k` before `#1`; not `b` before `"a"`, nor `k` before `#fn`
   unknown_prefix : {w : Chars}
       → is_ident w ≡ true
       → NextIs ends_prefix next
       → begins_prefixed (w ++ next) ≡ false
       → IsTokenBefore next UnknownPrefix w
-  -- not in the Reference: a word that an emoji keeps from being an identifier: `a😀`, `😀a`; not `ℹ`, which may begin one
+  -- not in the Reference: a word that an emoji keeps from being an identifier: `a😀`, `😀a`; not `ℹ`,
+  -- which may begin one
   invalid_ident : {c : ℕ} {w : Chars}
       → is_word_start c ≡ true
       → AreAll is_word_continue w
@@ -123,8 +130,8 @@ pub data IsTokenBefore (next : Chars) : TokenKind → Chars → Type 0 where
       → is_ident w ≡ true
       → NextIsNot is_id_continue next
       → IsTokenBefore next ForcedKeywordIdent (codes "k#" ++ w)
-  -- LIFETIME_TOKEN that is not raw: `'a`; not `'a'`, nor `'a` before a hash. Not in the Reference: `'1`, also before a
-  -- hash
+  -- LIFETIME_TOKEN that is not raw: `'a`; not `'a'`, nor `'a` before a hash. Not in the Reference:
+  -- `'1`, also before a hash
   lifetime : {c : ℕ} {w : Chars}
       → is_name_start c ≡ true
       → AreAll is_word_continue w
@@ -132,8 +139,8 @@ pub data IsTokenBefore (next : Chars) : TokenKind → Chars → Type 0 where
       → NextNotIn (codes "'") next
       → (NextIn (codes "#") next → is_ascii_digit c ≡ true)
       → IsTokenBefore next (Lifetime (is_bad_name (c ∷ w))) (byte "'" ∷ c ∷ w)
-  -- RESERVED_TOKEN_LIFETIME without its hash: `'a` before `#`; not `'r` before `#a`. Not in the Reference: `'r` before
-  -- `#1`
+  -- RESERVED_TOKEN_LIFETIME without its hash: `'a` before `#`; not `'r` before `#a`. Not in the
+  -- Reference: `'r` before `#1`
   unknown_prefix_lifetime : {c : ℕ} {w : Chars}
       → is_word_start c ≡ true
       → AreAll is_word_continue w
@@ -145,8 +152,8 @@ pub data IsTokenBefore (next : Chars) : TokenKind → Chars → Type 0 where
       → is_ident w ≡ true
       → NextIsNot is_id_continue next
       → IsTokenBefore next RawLifetime (codes "'r#" ++ w)
-  -- a literal (see LiteralGrammar.antt) that cannot have a suffix. Its suffix_start is the end of the token: `'ab'`, or
-  -- `"a` at the end of the text
+  -- a literal (see LiteralGrammar.antt) that cannot have a suffix. Its suffix_start is the end of
+  -- the token: `'ab'`, or `"a` at the end of the text
   literal : {kind : LiteralKind} {w : Chars}
       → IsLiteralBefore next kind false w
       → IsTokenBefore next (Literal kind (bytes w)) w
@@ -159,6 +166,8 @@ pub data IsTokenBefore (next : Chars) : TokenKind → Chars → Type 0 where
   slash : NextNotIn (codes "/*") next → IsTokenBefore next Slash (codes "/")
   pound : NextNotIn (codes "\"#") next → IsTokenBefore next Pound (codes "#")
   -- the first two characters of RESERVED_GUARDED_STRING_LITERAL and RESERVED_POUNDS: `#"`, `##`
-  guarded_prefix : {c : ℕ} → is_among (codes "\"#") c ≡ true → IsTokenBefore next GuardedStrPrefix (byte "#" ∷ c ∷ [])
-  -- PUNCTUATION, one character at a time: `+`, `;`. Not in the Reference: any other character is Unknown, such as `\`
+  guarded_prefix : {c : ℕ} → is_among (codes "\"#") c ≡ true
+      → IsTokenBefore next GuardedStrPrefix (byte "#" ∷ c ∷ [])
+  -- PUNCTUATION, one character at a time: `+`, `;`. Not in the Reference: any other character is
+  -- Unknown, such as `\`
   symbol : {c : ℕ} → has_rule c ≡ false → IsTokenBefore next (symbol_kind c) (c ∷ [])

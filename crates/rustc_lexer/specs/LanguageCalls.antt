@@ -1,6 +1,6 @@
--- What the calls that return no tokens answer, in terms of the grammar: errors in raw strings, guarded strings, shebang
--- lines and editions. `w`, `next` and names in capitals are as in Language.antt; texts are lists of characters if
--- nothing else is said, and offsets are in bytes.
+-- What the calls that return no tokens answer, in terms of the grammar: errors in raw strings,
+-- guarded strings, shebang lines and editions. `w`, `next` and names in capitals are as in
+-- Language.antt; texts are lists of characters if nothing else is said, and offsets are in bytes.
 use Rattle.std.specs.Prelude.{◌≡◌, ◌==◌, ◌+◌, ◌-◌, ◌<◌, ◌≤◌, ℕ, suc, Bool, true, false, [], ◌∷◌, ◌++◌, length, drop, codes, Contains, Option, Some, None, Result, Ok, Err, List, bytes_eq, chars, decimal, find, nat_eq}
 use Rattle.std.specs.Str.{byte}
 use Rattle.rustc_lexer.specs.{Edition, RawStrError, TokenKind, E2015, E2018, E2021, E2024, InvalidStarter, NoTerminator, TooManyDelimiters, LineComment, BlockComment, Whitespace}
@@ -15,21 +15,25 @@ use Rattle.rustc_lexer.specs.LiteralGrammar.{hashes, NoQuoteWith, IsRaw, IsDoubl
 abbrev pub StartsRaw : Utf8 → ℕ → Type 0
 StartsRaw text p = (0 < p) × (next_is (λ c. c == byte "r") (drop (p - 1) (chars text)) ≡ true)
 
--- where a raw string that is not closed was probably meant to end. w is the text after its opening quote, and begins at
--- byte `start`. `found` is the largest number of hashes that follow a quote of w, and `offset` is where the first quote
--- with that many hashes ends, in bytes. In `abc"#`, `found` is 1, and `offset` is directly after the quote
+-- where a raw string that is not closed was probably meant to end. w is the text after its opening
+-- quote, and begins at byte `start`. `found` is the largest number of hashes that follow a quote of
+-- w, and `offset` is where the first quote with that many hashes ends, in bytes. In `abc"#`,
+-- `found` is 1, and `offset` is directly after the quote
 pub data IsLikelyEnd (start : ℕ) (w : Chars) : (found : ℕ) → (offset : Option ℕ) → Type 0 where
   none : NoQuoteWith 1 w → IsLikelyEnd start w 0 None
-  best : {n : ℕ} (u v : Chars) → 0 < n → w ≡ u ++ (byte "\"" ∷ hashes n ++ v) → NoQuoteWith n u → NoQuoteWith (suc n) w
+  best : {n : ℕ} (u v : Chars) → 0 < n → w ≡ u ++ (byte "\"" ∷ hashes n ++ v) → NoQuoteWith n u
+      → NoQuoteWith (suc n) w
       → IsLikelyEnd start w n (Some (start + bytes (u ++ codes "\"")))
 
--- the text after the `r` of a prefix of p characters, and the result of checking it: Ok if it begins with a valid raw
--- string, otherwise the reason why not. Each character of the prefix counts as one byte, so the text begins at byte p
+-- the text after the `r` of a prefix of p characters, and the result of checking it: Ok if it
+-- begins with a valid raw string, otherwise the reason why not. Each character of the prefix counts
+-- as one byte, so the text begins at byte p
 pub data IsRawAnswer (p : ℕ) : Chars → Result Unit RawStrError → Type 0 where
   -- `##"a"##`, whatever follows
   good : {n : ℕ} {w next : Chars} → IsRaw next (Some n) w → IsRawAnswer p (w ++ next) (Ok tt)
   too_many : (n : ℕ) (w next : Chars) → 255 < n → NoQuoteWith n w
-      → IsRawAnswer p (hashes n ++ (byte "\"" ∷ w ++ (byte "\"" ∷ hashes n ++ next))) (Err (TooManyDelimiters n))
+      → IsRawAnswer p (hashes n ++ (byte "\"" ∷ w ++ (byte "\"" ∷ hashes n ++ next)))
+      (Err (TooManyDelimiters n))
   -- `##"abc"#`
   unclosed : (n : ℕ) (w : Chars) {found : ℕ} {offset : Option ℕ}
       → NoQuoteWith n w → IsLikelyEnd (p + suc n) w found offset
@@ -41,35 +45,43 @@ pub data IsRawAnswer (p : ℕ) : Chars → Result Unit RawStrError → Type 0 wh
 
 -- ---- guarded strings and shebang lines
 
--- RESERVED_GUARDED_STRING_LITERAL and the hashes that close it: n hashes and a double-quoted string, and if that is
--- closed, k ≤ n hashes and a suffix: `##"a"##s`, `##"a"#`. If k is less than n, no further hash follows
+-- RESERVED_GUARDED_STRING_LITERAL and the hashes that close it: n hashes and a double-quoted
+-- string, and if that is closed, k ≤ n hashes and a suffix: `##"a"##s`, `##"a"#`. If k is less than
+-- n, no further hash follows
 pub data IsGuardedBefore (next : Chars) : (n : ℕ) → (terminated : Bool) → Chars → Type 0 where
   closed : (n k : ℕ) {w suffix : Chars} → IsDoubleQuoted (hashes k ++ (suffix ++ next)) true w
       → k ≤ n → (k < n → NextNotIn (codes "#") (suffix ++ next)) → IsSuffixBefore next suffix
       → IsGuardedBefore next n true (hashes n ++ (byte "\"" ∷ w ++ (hashes k ++ suffix)))
-  unclosed : (n : ℕ) {w : Chars} → IsDoubleQuoted next false w → IsGuardedBefore next n false (hashes n ++ (byte "\"" ∷ w))
+  unclosed : (n : ℕ) {w : Chars} → IsDoubleQuoted next false w
+      → IsGuardedBefore next n false (hashes n ++ (byte "\"" ∷ w))
 
--- the text after `#!` that makes it the begin of an attribute, and that SHEBANG excludes: a bracket, if need be after
--- WHITESPACE, LINE_COMMENT, BLOCK_COMMENT, or a block comment that nothing closes
+-- the text after `#!` that makes it the begin of an attribute, and that SHEBANG excludes: a
+-- bracket, if need be after WHITESPACE, LINE_COMMENT, BLOCK_COMMENT, or a block comment that
+-- nothing closes
 pub data IsAttributeRest : Chars → Type 0 where
   bracket : (next : Chars) → IsAttributeRest (byte "[" ∷ next)
   passed : {kind : TokenKind} {c : ℕ} {w next : Chars}
-      → Contains (Whitespace ∷ LineComment None ∷ BlockComment None true ∷ BlockComment None false ∷ []) kind
+      → Contains (Whitespace ∷ LineComment None ∷ BlockComment None true ∷ BlockComment None false
+      ∷ []) kind
       → IsTokenBefore next kind (c ∷ w) → IsAttributeRest next → IsAttributeRest (c ∷ w ++ next)
 
--- w is a line, in bytes, without its line end: a newline, a carriage return and a newline, or the end of the text
+-- w is a line, in bytes, without its line end: a newline, a carriage return and a newline, or the
+-- end of the text
 pub data IsLineBefore (next w : Utf8) : Type 0 where
-  to_newline : AreAll is_inline w → begins (codes "\n") next ≡ true → ((u : Utf8) → w ≡ u ++ codes "\r" → ⊥)
+  to_newline : AreAll is_inline w → begins (codes "\n") next ≡ true
+      → ((u : Utf8) → w ≡ u ++ codes "\r" → ⊥)
       → IsLineBefore next w
   to_return : AreAll is_inline w → begins (codes "\r\n") next ≡ true → IsLineBefore next w
   to_end : AreAll is_inline w → next ≡ [] → IsLineBefore next w
 
--- the length of the shebang line at the start of the text, without its line end (SHEBANG), or None if there is none:
--- `#!/bin/sh` is one, `#![no_std]` is not
+-- the length of the shebang line at the start of the text, without its line end (SHEBANG), or None
+-- if there is none: `#!/bin/sh` is one, `#![no_std]` is not
 pub data IsShebang (text : Utf8) : Option ℕ → Type 0 where
-  shebang : (w next : Utf8) → text ≡ codes "#!" ++ (w ++ next) → (IsAttributeRest (chars (w ++ next)) → ⊥)
+  shebang : (w next : Utf8) → text ≡ codes "#!" ++ (w ++ next)
+      → (IsAttributeRest (chars (w ++ next)) → ⊥)
       → IsLineBefore next w → IsShebang text (Some (length (codes "#!" ++ w)))
-  none : ((rest : Utf8) → text ≡ codes "#!" ++ rest → IsAttributeRest (chars rest)) → IsShebang text None
+  none : ((rest : Utf8) → text ≡ codes "#!" ++ rest → IsAttributeRest (chars rest))
+      → IsShebang text None
 
 -- ---- editions, by their years
 

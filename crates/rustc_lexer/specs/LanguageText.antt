@@ -1,8 +1,10 @@
--- The grammar of whole texts: which tokens a text has in an edition, read as a document or as a part of one. `w` and
--- `next` are as in Language.antt, which has the tokens of the newest edition. Older editions have other tokens in place
--- of guarded strings, raw lifetimes and reserved prefixes, which rustc's lexer leaves to its caller (in the Rust
--- Reference, see "2021 Edition differences" and "2024 Edition differences" of these). C strings and `k#` are the same
--- tokens in all editions, although Rust has C strings only since 2021 (docs/EDITIONS.md, "What is left to a compiler").
+-- The grammar of whole texts: which tokens a text has in an edition, read as a document or as a
+-- part of one. `w` and `next` are as in Language.antt, which has the tokens of the newest edition.
+-- Older editions have other tokens in place of guarded strings, raw lifetimes and reserved
+-- prefixes, which rustc's lexer leaves to its caller (in the Rust Reference, see "2021 Edition
+-- differences" and "2024 Edition differences" of these). C strings and `k#` are the same tokens in
+-- all editions, although Rust has C strings only since 2021 (docs/EDITIONS.md, "What is left to a
+-- compiler").
 use Rattle.std.specs.Prelude.{◌≡◌, ◌<◌, ◌≤◌, ℕ, true, false, List, ◌∷◌, codes, ◌+◌, Bool, [], ◌++◌, ◌↔◌}
 use Rattle.std.specs.Str.{byte}
 use Rattle.rustc_lexer.specs.{Edition, FrontmatterAllowed, Token, TokenKind, E2015, E2018, E2021, E2024, Yes, No, Ident, UnknownPrefix, Lifetime, UnknownPrefixLifetime, Pound, RawLifetime, GuardedStrPrefix, Whitespace, Frontmatter, Eof}
@@ -20,8 +22,9 @@ year E2024 = 2024
 abbrev pub newest : Edition
 newest = E2024
 
--- the year of the first edition in which the lexer has tokens of this kind as Language.antt defines them. In an older
--- one it splits them, or gives them another kind. A C string, which Rust has since 2021, is the same token in each
+-- the year of the first edition in which the lexer has tokens of this kind as Language.antt defines
+-- them. In an older one it splits them, or gives them another kind. A C string, which Rust has
+-- since 2021, is the same token in each
 abbrev pub lexed_since : TokenKind → ℕ
 lexed_since GuardedStrPrefix = 2024
 lexed_since RawLifetime = 2021
@@ -39,7 +42,8 @@ pub data IsTokenIn (edition : Edition) (next : Chars) : TokenKind → Chars → 
   pound :
       year edition < lexed_since GuardedStrPrefix
       → IsTokenIn edition next Pound (codes "#")
-  -- what newer editions read as a prefix is an identifier or a lifetime: `z` before `"a"`, `'a` before `#`
+  -- what newer editions read as a prefix is an identifier or a lifetime: `z` before `"a"`, `'a`
+  -- before `#`
   ident : {w : Chars}
       → year edition < lexed_since UnknownPrefix
       → IsTokenBefore next UnknownPrefix w
@@ -56,7 +60,8 @@ pub data IsTokenIn (edition : Edition) (next : Chars) : TokenKind → Chars → 
 
 -- ---- how a text is read
 
--- a text is read in an edition, either as a document, which may begin with a frontmatter, or as a part of one
+-- a text is read in an edition, either as a document, which may begin with a frontmatter, or as a
+-- part of one
 pub data Mode : Type 0 where
   document : Edition → Mode
   part : Edition → Mode
@@ -75,8 +80,8 @@ abbrev pub is_document : Mode → Bool
 is_document (document edition) = true
 is_document (part edition) = false
 
--- the mode of the text after a token of this kind. After white space or `Eof`, a document is still read as a document.
--- After any other token, the rest of it is read as a part
+-- the mode of the text after a token of this kind. After white space or `Eof`, a document is still
+-- read as a document. After any other token, the rest of it is read as a part
 abbrev pub mode_after : Mode → TokenKind → Mode
 mode_after (part edition) kind = part edition
 mode_after (document edition) Whitespace = document edition
@@ -85,15 +90,18 @@ mode_after (document edition) kind = part edition
 
 -- ---- its tokens
 
--- the token of a frontmatter with this opening and this body. Its two flags are errors: that there is white space
--- before the dashes, and that the label is bad
+-- the token of a frontmatter with this opening and this body. Its two flags are errors: that there
+-- is white space before the dashes, and that the label is bad
 abbrev pub frontmatter_token : Chars → Bool → Chars → Token
 frontmatter_token opening bad_label body =
-    record { kind = Frontmatter (next_is is_whitespace opening) bad_label; len = bytes opening + bytes body }
+    record {
+      kind = Frontmatter (next_is is_whitespace opening) bad_label;
+      len = bytes opening + bytes body;
+    }
 
--- the tokens of these characters, none if there are no characters. If a document begins with a frontmatter, the first
--- token is that, and the text after it is read as a part. Otherwise the first is a token of the edition, and the tokens
--- of the text after it follow
+-- the tokens of these characters, none if there are no characters. If a document begins with a
+-- frontmatter, the first token is that, and the text after it is read as a part. Otherwise the
+-- first is a token of the edition, and the tokens of the text after it follow
 pub data AreTokens : Mode → Chars → List Token → Type 0 where
   nothing : {mode : Mode} → AreTokens mode [] []
   something : {mode : Mode} {kind : TokenKind} {c : ℕ} {w next : Chars} {tokens : List Token}
@@ -101,11 +109,13 @@ pub data AreTokens : Mode → Chars → List Token → Type 0 where
       → (is_document mode ≡ true → OpensNone (c ∷ w ++ next))
       → AreTokens (mode_after mode kind) next tokens
       → AreTokens mode (c ∷ w ++ next) (record { kind = kind; len = bytes (c ∷ w) } ∷ tokens)
-  frontmatter_first : {edition : Edition} {n : ℕ} {bad_label : Bool} {opening next : Chars} {tokens : List Token} (body : Chars)
+  frontmatter_first : {edition : Edition} {n : ℕ} {bad_label : Bool} {opening next : Chars}
+      {tokens : List Token} (body : Chars)
       → IsOpeningBefore (body ++ next) n bad_label opening
       → IsBodyBefore next (endings n) body
       → AreTokens (part edition) next tokens
-      → AreTokens (document edition) (opening ++ (body ++ next)) (frontmatter_token opening bad_label body ∷ tokens)
+      → AreTokens (document edition) (opening ++ (body ++ next))
+      (frontmatter_token opening bad_label body ∷ tokens)
 
 -- if the premise holds, the answer is allowed and no other is
 pub record TheOnly {A : Type 0} (premise : Type 0) (Allows : A → Type 0) : Type 0 where

@@ -1,5 +1,6 @@
--- The definitions of the lexer. With them the types of tokens and of editions, and the variants of these, which the files
--- of this crate import from here: `use Rattle.rustc_lexer.specs.{Token, TokenKind, Ident}`.
+-- The definitions of the lexer. With them the types of tokens and of editions, and the variants of
+-- these, which the files of this crate import from here: `use Rattle.rustc_lexer.specs.{Token,
+-- TokenKind, Ident}`.
 pub mod Answers
 pub mod Classes
 pub mod Document

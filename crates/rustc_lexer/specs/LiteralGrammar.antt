@@ -1,27 +1,31 @@
--- The grammar of literals: quoted text, raw strings, and which literals may have a suffix, numbers among them. `w`,
--- `next` and names in capitals are as in Language.antt; all texts here are lists of characters. RawStr, RawByteStr and
--- RawCStr have the field n_hashes, and the other quoted kinds have terminated. Literals that are unclosed, and raw
--- strings that are refused, are not in the Reference.
+-- The grammar of literals: quoted text, raw strings, and which literals may have a suffix, numbers
+-- among them. `w`, `next` and names in capitals are as in Language.antt; all texts here are lists
+-- of characters. RawStr, RawByteStr and RawCStr have the field n_hashes, and the other quoted kinds
+-- have terminated. Literals that are unclosed, and raw strings that are refused, are not in the
+-- Reference.
 use Rattle.std.specs.Prelude.{◌≡◌, ◌<◌, ◌≤◌, ℕ, zero, suc, ◌==◌, Bool, true, false, [], ◌∷◌, ◌++◌, codes, is_some, Option, Some, None}
 use Rattle.std.specs.Str.{byte}
 use Rattle.rustc_lexer.specs.{LiteralKind, Char, Byte, Str, ByteStr, CStr, RawStr, RawByteStr, RawCStr}
 use Rattle.rustc_lexer.specs.Classes.{is_among, is_id_start, is_id_continue, is_ident, Chars, begins, AreAll, NextIsNot, NextIn, is_word_continue, is_name_start, begins_ident_after}
 use Rattle.rustc_lexer.specs.NumberGrammar.{IsNumberBefore}
 
--- w is quoted text that ends in `close`. Before that it has characters that are not special, and escapes: a backslash
--- and any character
+-- w is quoted text that ends in `close`. Before that it has characters that are not special, and
+-- escapes: a backslash and any character
 pub data QuotedTo (close : Chars) (special : ℕ → Bool) : Chars → Type 0 where
   ends : QuotedTo close special close
   plain : {c : ℕ} {w : Chars}
       → special c ≡ false
       → QuotedTo close special w
       → QuotedTo close special (c ∷ w)
-  escape : {c : ℕ} {w : Chars} → QuotedTo close special w → QuotedTo close special (byte "\\" ∷ c ∷ w)
+  escape : {c : ℕ} {w : Chars} → QuotedTo close special w
+      → QuotedTo close special (byte "\\" ∷ c ∷ w)
 
--- the rest of STRING_LITERAL, BYTE_STRING_LITERAL or C_STRING_LITERAL after its opening quote, and whether a quote
--- closes it: `a"`, `\""`. If none does, it is the rest of the text, which may end in a lone backslash: `a\`
+-- the rest of STRING_LITERAL, BYTE_STRING_LITERAL or C_STRING_LITERAL after its opening quote, and
+-- whether a quote closes it: `a"`, `\""`. If none does, it is the rest of the text, which may end
+-- in a lone backslash: `a\`
 pub data IsDoubleQuoted (next : Chars) : (terminated : Bool) → Chars → Type 0 where
-  closed : {w : Chars} → QuotedTo (codes "\"") (is_among (codes "\"\\")) w → IsDoubleQuoted next true w
+  closed : {w : Chars} → QuotedTo (codes "\"") (is_among (codes "\"\\")) w
+      → IsDoubleQuoted next true w
   unclosed : {w : Chars}
       → next ≡ []
       → QuotedTo [] (is_among (codes "\"\\")) w
@@ -31,12 +35,13 @@ pub data IsDoubleQuoted (next : Chars) : (terminated : Bool) → Chars → Type 
       → QuotedTo (codes "\\") (is_among (codes "\"\\")) w
       → IsDoubleQuoted next false w
 
--- the same for single quotes: outside its escapes, the text before `close` has no quote, slash or newline
+-- the same for single quotes: outside its escapes, the text before `close` has no quote, slash or
+-- newline
 abbrev pub SingleTo : Chars → Chars → Type 0
 SingleTo close w = QuotedTo close (is_among (codes "'/\n\\")) w
 
--- the rest of CHAR_LITERAL or BYTE_LITERAL after its opening quote, and whether a quote closes it. In the Reference
--- there is one character or one escape between the quotes
+-- the rest of CHAR_LITERAL or BYTE_LITERAL after its opening quote, and whether a quote closes it.
+-- In the Reference there is one character or one escape between the quotes
 pub data IsSingleQuoted (next : Chars) : (terminated : Bool) → Chars → Type 0 where
   -- any character but a backslash, and a quote: `a'`, `/'` and `''`
   one : {c : ℕ} → (c == byte "\\") ≡ false → IsSingleQuoted next true (c ∷ codes "'")
@@ -47,7 +52,8 @@ pub data IsSingleQuoted (next : Chars) : (terminated : Bool) → Chars → Type 
       → IsSingleQuoted next true w
   -- the closing quote comes directly after a newline: `ab`, the newline and `'`
   closed_line : {w : Chars} → SingleTo (codes "\n'") w → IsSingleQuoted next true w
-  -- no quote closes it, and it ends before a slash: `ab` before `/c'`; but not the empty text before `/'` (see `one`)
+  -- no quote closes it, and it ends before a slash: `ab` before `/c'`; but not the empty text
+  -- before `/'` (see `one`)
   at_slash : {w : Chars}
       → SingleTo [] w
       → NextIn (codes "/") next
@@ -80,10 +86,11 @@ hashes (suc n) = byte "#" ∷ hashes n
 abbrev pub NoQuoteWith : ℕ → Chars → Type 0
 NoQuoteWith n w = (u v : Chars) → w ≡ u ++ (byte "\"" ∷ hashes n ++ v) → ⊥
 
--- the rest of RAW_STRING_LITERAL, RAW_BYTE_STRING_LITERAL or RAW_C_STRING_LITERAL after its `r`, without a suffix: n
--- hashes, a quote, text that has no quote with n hashes, a quote, and n hashes. The number of hashes is given if it is
--- at most 255 and the string is closed: `#"a"b"#` has 1, and `"a"` has 0. A string that is not closed is the rest of
--- the text: `#"a"`. If no quote follows the hashes, the token has one more character, if there is one: `#~`
+-- the rest of RAW_STRING_LITERAL, RAW_BYTE_STRING_LITERAL or RAW_C_STRING_LITERAL after its `r`,
+-- without a suffix: n hashes, a quote, text that has no quote with n hashes, a quote, and n hashes.
+-- The number of hashes is given if it is at most 255 and the string is closed: `#"a"b"#` has 1, and
+-- `"a"` has 0. A string that is not closed is the rest of the text: `#"a"`. If no quote follows the
+-- hashes, the token has one more character, if there is one: `#~`
 pub data IsRaw (next : Chars) : (n_hashes : Option ℕ) → Chars → Type 0 where
   closed : (n : ℕ) (w : Chars)
       → n ≤ 255
@@ -97,33 +104,43 @@ pub data IsRaw (next : Chars) : (n_hashes : Option ℕ) → Chars → Type 0 whe
       → next ≡ []
       → NoQuoteWith n w
       → IsRaw next None (hashes n ++ byte "\"" ∷ w)
-  no_quote : (n c : ℕ) → is_among (codes "\"#") c ≡ false → IsRaw next None (hashes (suc n) ++ c ∷ [])
+  no_quote : (n c : ℕ) → is_among (codes "\"#") c ≡ false
+      → IsRaw next None (hashes (suc n) ++ c ∷ [])
   no_more : (n : ℕ) → next ≡ [] → IsRaw next None (hashes (suc n))
 
 -- ---- literals
 
--- w is a literal of this kind, without its suffix, if `next` follows it; `may_suffix` says whether it may have a suffix
+-- w is a literal of this kind, without its suffix, if `next` follows it; `may_suffix` says whether
+-- it may have a suffix
 pub data IsLiteralBefore (next : Chars) : LiteralKind → (may_suffix : Bool) → Chars → Type 0 where
-  -- CHAR_LITERAL: `'/'`, and `'a'`, although `a` may begin the name of a lifetime. Not in the Reference: `'''`
-  char_of_one : {c : ℕ} → (c == byte "\\") ≡ false → IsLiteralBefore next (Char true) true (byte "'" ∷ c ∷ codes "'")
-  -- CHAR_LITERAL: `'\n'`. Not in the Reference: `'+-'`, `'+` at the end. Not `'ab'`, whose `a` may begin a name
+  -- CHAR_LITERAL: `'/'`, and `'a'`, although `a` may begin the name of a lifetime. Not in the
+  -- Reference: `'''`
+  char_of_one : {c : ℕ} → (c == byte "\\") ≡ false
+      → IsLiteralBefore next (Char true) true (byte "'" ∷ c ∷ codes "'")
+  -- CHAR_LITERAL: `'\n'`. Not in the Reference: `'+-'`, `'+` at the end. Not `'ab'`, whose `a` may
+  -- begin a name
   char : {t : Bool} {w : Chars}
       → IsSingleQuoted next t w
       → NextIsNot is_name_start w
       → IsLiteralBefore next (Char t) t (codes "'" ++ w)
-  -- not in the Reference: a name of two characters or more between quotes, `'ab'`. It cannot have a suffix: `'ab'c` is
-  -- two tokens
+  -- not in the Reference: a name of two characters or more between quotes, `'ab'`. It cannot have a
+  -- suffix: `'ab'c` is two tokens
   char_of_name : {c d : ℕ} (w : Chars)
       → is_name_start c ≡ true
       → AreAll is_word_continue (d ∷ w)
       → IsLiteralBefore next (Char true) false (byte "'" ∷ c ∷ d ∷ w ++ codes "'")
   -- BYTE_LITERAL: `b'a'`. Not in the Reference: `b'ab'`
-  byte_char : {t : Bool} {w : Chars} → IsSingleQuoted next t w → IsLiteralBefore next (Byte t) t (codes "b'" ++ w)
+  byte_char : {t : Bool} {w : Chars} → IsSingleQuoted next t w
+      → IsLiteralBefore next (Byte t) t (codes "b'" ++ w)
   -- STRING_LITERAL, BYTE_STRING_LITERAL, C_STRING_LITERAL: `"a"`, `b"a"`, `c"a"`
-  str : {t : Bool} {w : Chars} → IsDoubleQuoted next t w → IsLiteralBefore next (Str t) t (codes "\"" ++ w)
-  byte_str : {t : Bool} {w : Chars} → IsDoubleQuoted next t w → IsLiteralBefore next (ByteStr t) t (codes "b\"" ++ w)
-  c_str : {t : Bool} {w : Chars} → IsDoubleQuoted next t w → IsLiteralBefore next (CStr t) t (codes "c\"" ++ w)
-  -- RAW_STRING_LITERAL: `r"a"`, `r#"a"#`. Not in the Reference: `r#1`. Not `r#a`, which is a raw identifier
+  str : {t : Bool} {w : Chars} → IsDoubleQuoted next t w
+      → IsLiteralBefore next (Str t) t (codes "\"" ++ w)
+  byte_str : {t : Bool} {w : Chars} → IsDoubleQuoted next t w
+      → IsLiteralBefore next (ByteStr t) t (codes "b\"" ++ w)
+  c_str : {t : Bool} {w : Chars} → IsDoubleQuoted next t w
+      → IsLiteralBefore next (CStr t) t (codes "c\"" ++ w)
+  -- RAW_STRING_LITERAL: `r"a"`, `r#"a"#`. Not in the Reference: `r#1`. Not `r#a`, which is a raw
+  -- identifier
   raw_str : {n : Option ℕ} {w : Chars}
       → IsRaw next n w
       → begins_ident_after (codes "#") w ≡ false
@@ -136,10 +153,11 @@ pub data IsLiteralBefore (next : Chars) : LiteralKind → (may_suffix : Bool) �
       → IsRaw next n w
       → IsLiteralBefore next (RawCStr n) (is_some n) (codes "cr" ++ w)
   -- INTEGER_LITERAL, FLOAT_LITERAL, RESERVED_NUMBER: `1`, `0x1F`, `1.5e3`
-  number : {kind : LiteralKind} {w : Chars} → IsNumberBefore next kind w → IsLiteralBefore next kind true w
+  number : {kind : LiteralKind} {w : Chars} → IsNumberBefore next kind w
+      → IsLiteralBefore next kind true w
 
--- the suffix of a literal if `next` follows it: SUFFIX, or nothing if no identifier begins there. `_` is a suffix here,
--- but not in the Reference
+-- the suffix of a literal if `next` follows it: SUFFIX, or nothing if no identifier begins there.
+-- `_` is a suffix here, but not in the Reference
 pub data IsSuffixBefore (next : Chars) : Chars → Type 0 where
   none : NextIsNot is_id_start next → IsSuffixBefore next []
   some : {w : Chars}

@@ -4,18 +4,20 @@ use Rattle.rustc_lexer.specs.{Token}
 use Rattle.rustc_lexer.specs.Classes.{IsText}
 use Rattle.rustc_lexer.specs.Partition.{bound}
 
--- the two texts agree before `offset`, and in the two characters after it; if fewer than two follow in one
--- text, the other ends there too
+-- the two texts agree before `offset`, and in the two characters after it; if fewer than two follow
+-- in one text, the other ends there too
 pub record AgreePast (offset : ℕ) (text other : List ℕ) : Type 0 where
   pub below : take offset text ≡ take offset other
   pub past : take 2 (chars (drop offset text)) ≡ take 2 (chars (drop offset other))
 
--- the law of a grammar: a first token is not empty, ends between characters, and is also the first token of every text
--- that agrees with this one past the token's end
+-- the law of a grammar: a first token is not empty, ends between characters, and is also the first
+-- token of every text that agrees with this one past the token's end
 pub record IsGrammar (first : List ℕ → Token) : Type 0 where
   pub not_empty : (text : List ℕ) → IsText text → 0 < length text → 0 < (first text).len
-  pub boundary : (text : List ℕ) → IsText text → 0 < length text → IsCharBoundary text (first text).len
-  pub local : (text other : List ℕ) → IsText text → IsText other → 0 < length text → AgreePast (first text).len text other → first other ≡ first text
+  pub boundary : (text : List ℕ) → IsText text → 0 < length text
+      → IsCharBoundary text (first text).len
+  pub local : (text other : List ℕ) → IsText text → IsText other → 0 < length text
+      → AgreePast (first text).len text other → first other ≡ first text
 
 -- whether at least two characters begin in the bytes from `from` up to `to`
 unfoldable pub has_two : List ℕ → ℕ → ℕ → Bool
@@ -25,14 +27,19 @@ has_two text from to = nat_le 2 (length (chars (take (to - from) (drop from text
 pub record IsSettled (text : List ℕ) (tokens : List Token) (offset : ℕ) : Type 0 where
   pub at_bound : (k : ℕ) × (k ≤ length tokens) × (bound tokens k ≡ offset)
   pub two : 0 < offset → has_two text offset (length text) ≡ true
-  pub last : (k : ℕ) → k ≤ length tokens → has_two text (bound tokens k) (length text) ≡ true → bound tokens k ≤ offset
+  pub last : (k : ℕ) → k ≤ length tokens → has_two text (bound tokens k) (length text) ≡ true
+      → bound tokens k ≤ offset
 
 -- whatever is appended to the text, its tokens up to `offset` remain the first tokens
 abbrev pub StaysUpTo : ℕ → List ℕ → (List ℕ → List Token) → Type 0
-StaysUpTo offset text tokens = (more : List ℕ) (k : ℕ) → IsText (text ++ more) → k ≤ length (tokens text) → bound (tokens text) k ≤ offset
+StaysUpTo offset text tokens =
+    (more : List ℕ) (k : ℕ) → IsText (text ++ more) → k ≤ length (tokens text)
+    → bound (tokens text) k ≤ offset
     → take k (tokens (text ++ more)) ≡ take k (tokens text)
 
 -- if two texts agree past token boundary k of one of them, their first k tokens are the same
 abbrev pub AreLocal : (List ℕ → List Token) → Type 0
-AreLocal tokens = (text other : List ℕ) (k : ℕ) → IsText text → IsText other → k ≤ length (tokens text) → AgreePast (bound (tokens text) k) text other
+AreLocal tokens =
+    (text other : List ℕ) (k : ℕ) → IsText text → IsText other → k ≤ length (tokens text)
+    → AgreePast (bound (tokens text) k) text other
     → take k (tokens other) ≡ take k (tokens text)

@@ -1,6 +1,7 @@
--- The grammar of numbers, without their suffix: which texts are numbers, of which kind, and what may follow them. All
--- texts are lists of characters, `next` is the text after the number, and names in capitals are as in Language.antt.
--- The kinds with their fields are Int base empty_int and Float base empty_exponent.
+-- The grammar of numbers, without their suffix: which texts are numbers, of which kind, and what
+-- may follow them. All texts are lists of characters, `next` is the text after the number, and
+-- names in capitals are as in Language.antt. The kinds with their fields are Int base empty_int and
+-- Float base empty_exponent.
 use Rattle.std.specs.Prelude.{◌≡◌, ℕ, ◌≤◌, ◌==◌, ◌||◌, not, Bool, true, false, [], ◌∷◌, ◌++◌, length}
 use Rattle.std.specs.{Char.is_ascii_digit, Char.is_ascii_hexdigit, List.list_all, List.list_any, Str.byte}
 use Rattle.rustc_lexer.specs.{Base, LiteralKind, Binary, Octal, Decimal, Hexadecimal, Int, Float}
@@ -24,17 +25,18 @@ is_no_fraction c = c == byte "." || is_id_start c
 abbrev pub AreDigits : (ℕ → Bool) → Chars → Type 0
 AreDigits is_digit ds = list_all (or_underscore is_digit) ds ≡ true
 
--- what the lexer reads as a digit of the base: HEX_DIGIT if it is hexadecimal, otherwise DEC_DIGIT, also for a base
--- below ten
+-- what the lexer reads as a digit of the base: HEX_DIGIT if it is hexadecimal, otherwise DEC_DIGIT,
+-- also for a base below ten
 abbrev pub is_digit_of : Base → ℕ → Bool
 is_digit_of Hexadecimal = is_ascii_hexdigit
 is_digit_of base = is_ascii_digit
 
 -- ---- the parts of a number
 
--- the integer part of a number (DEC_LITERAL, BIN_LITERAL, OCT_LITERAL, HEX_LITERAL): digits, `1_000`, or the prefix of
--- a base and digits, `0b101`, `0x1F`. It is a RESERVED_NUMBER if a digit is too large for the base, `0b102`, and if no
--- digit follows the prefix, `0b_`. In the latter case it is `empty`
+-- the integer part of a number (DEC_LITERAL, BIN_LITERAL, OCT_LITERAL, HEX_LITERAL): digits,
+-- `1_000`, or the prefix of a base and digits, `0b101`, `0x1F`. It is a RESERVED_NUMBER if a digit
+-- is too large for the base, `0b102`, and if no digit follows the prefix, `0b_`. In the latter case
+-- it is `empty`
 pub data IsWholePart : Base → (empty : Bool) → Chars → Type 0 where
   plain : {d : ℕ} {ds : Chars}
       → is_ascii_digit d ≡ true
@@ -50,9 +52,9 @@ pub data IsWholePart : Base → (empty : Bool) → Chars → Type 0 where
       → AreDigits is_ascii_hexdigit ds
       → IsWholePart Hexadecimal (not (list_any is_ascii_hexdigit ds)) (byte "0" ∷ byte "x" ∷ ds)
 
--- FLOAT_EXPONENT: a letter, a sign or none, and digits or underscores: `e5`, `E+_5`. The kind is Float base
--- empty_exponent, where empty_exponent says that no digit follows: `e+`. The Reference rejects that ("Reserved forms
--- similar to number literals")
+-- FLOAT_EXPONENT: a letter, a sign or none, and digits or underscores: `e5`, `E+_5`. The kind is
+-- Float base empty_exponent, where empty_exponent says that no digit follows: `e+`. The Reference
+-- rejects that ("Reserved forms similar to number literals")
 pub data IsExponent : Base → LiteralKind → Chars → Type 0 where
   signed : {base : Base} {e g : ℕ} {ds : Chars}
       → is_exponent_letter e ≡ true
@@ -64,13 +66,15 @@ pub data IsExponent : Base → LiteralKind → Chars → Type 0 where
       → AreDigits is_ascii_digit ds
       → IsExponent base (Float base (not (list_any is_ascii_digit ds))) (e ∷ ds)
 
--- the tail of a number, between its integer part and its suffix. In INTEGER_LITERAL it is empty (`nothing`). The other
--- rules are those of FLOAT_LITERAL; after the prefix of a base they make a RESERVED_NUMBER
+-- the tail of a number, between its integer part and its suffix. In INTEGER_LITERAL it is empty
+-- (`nothing`). The other rules are those of FLOAT_LITERAL; after the prefix of a base they make a
+-- RESERVED_NUMBER
 pub data IsTailBefore (next : Chars) : Base → LiteralKind → Chars → Type 0 where
   -- `1`
   nothing : {base : Base} → IsTailBefore next base (Int base false) []
   -- `1.`; not `1.` before `.` or `max`
-  dot : {base : Base} → next_is is_no_fraction next ≡ false → IsTailBefore next base (Float base false) (byte "." ∷ [])
+  dot : {base : Base} → next_is is_no_fraction next ≡ false
+      → IsTailBefore next base (Float base false) (byte "." ∷ [])
   -- `1.5`; not `1._5`
   of_fraction : {base : Base} {d : ℕ} {ds : Chars}
       → is_ascii_digit d ≡ true
@@ -90,16 +94,19 @@ pub data IsTailBefore (next : Chars) : Base → LiteralKind → Chars → Type 0
 
 -- ---- numbers
 
--- w has the form of a number if `next` follows it. It is an integer part that is empty, or one that is not and a tail
+-- w has the form of a number if `next` follows it. It is an integer part that is empty, or one that
+-- is not and a tail
 pub data HasNumberForm (next : Chars) : LiteralKind → Chars → Type 0 where
-  of_prefix : {base : Base} {whole : Chars} → IsWholePart base true whole → HasNumberForm next (Int base true) whole
+  of_prefix : {base : Base} {whole : Chars} → IsWholePart base true whole
+      → HasNumberForm next (Int base true) whole
   of_parts : {base : Base} {kind : LiteralKind} {whole tail : Chars}
       → IsWholePart base false whole
       → IsTailBefore next base kind tail
       → HasNumberForm next kind (whole ++ tail)
 
--- w is a number if `next` follows it: it has the form of one, and no longer text that begins at the same position has.
--- `1.5e+` is one, although it begins with others that have the form: `1`, `1.`, `1.5` and `1.5e`
+-- w is a number if `next` follows it: it has the form of one, and no longer text that begins at the
+-- same position has. `1.5e+` is one, although it begins with others that have the form: `1`, `1.`,
+-- `1.5` and `1.5e`
 pub record IsNumberBefore (next : Chars) (kind : LiteralKind) (w : Chars) : Type 0 where
   pub form : HasNumberForm next kind w
   pub longest : (other : LiteralKind) (v rest : Chars)

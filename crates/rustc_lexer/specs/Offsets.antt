@@ -8,17 +8,20 @@ use Rattle.rustc_lexer.specs.Partition.{bound}
 abbrev pub IsBound : List Token → Bound → Type 0
 IsBound tokens at = (at.number ≤ length tokens) × (at.offset ≡ bound tokens at.number)
 
--- the token with this number and this start contains the byte at `offset`, if the first token begins at `first`
+-- the token with this number and this start contains the byte at `offset`, if the first token
+-- begins at `first`
 pub record ContainsByte (first : ℕ) (tokens : List Token) (offset : ℕ) (at : Bound) : Type 0 where
   pub number : at.number < length tokens
   pub start : at.offset ≡ first + bound tokens at.number
   pub begins : at.offset ≤ offset
   pub ends : offset < first + bound tokens (at.number + 1)
 
--- the tokens from number `from` up to number `to` are those that contain a byte of the range from `start` up to `stop`:
--- that begin before its end, and end past its start. An empty range has no byte
+-- the tokens from number `from` up to number `to` are those that contain a byte of the range from
+-- `start` up to `stop`: that begin before its end, and end past its start. An empty range has no
+-- byte
 pub record AreTouched (first : ℕ) (tokens : List Token) (start stop from to : ℕ) : Type 0 where
   pub order : from ≤ to
   pub inside : to ≤ length tokens
   pub touched : (k : ℕ) → k < length tokens
-      → ((from ≤ k) × (k < to)) ↔ ((start < stop) × (first + bound tokens k < stop) × (start < first + bound tokens (k + 1)))
+      → ((from ≤ k) × (k < to))
+      ↔ ((start < stop) × (first + bound tokens k < stop) × (start < first + bound tokens (k + 1)))

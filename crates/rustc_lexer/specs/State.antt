@@ -6,13 +6,15 @@ use Rattle.rustc_lexer.specs.LanguageCalls.{IsGuardedBefore}
 use Rattle.rustc_lexer.specs.LanguageText.{Mode, part, mode_after, AreTokens}
 use Rattle.rustc_lexer.specs.LiteralGrammar.{hashes}
 
--- how many bytes were taken since the last token, the text that is left, and the mode in which it is read
+-- how many bytes were taken since the last token, the text that is left, and the mode in which it
+-- is read
 pub record State : Type 0 where
   pub pending : ℕ
   pub rest : List ℕ
   pub mode : Mode
 
--- the kind of a token, and then the token, with the pending bytes added to its length and to the offset of its suffix
+-- the kind of a token, and then the token, with the pending bytes added to its length and to the
+-- offset of its suffix
 abbrev pub kind_past : ℕ → TokenKind → TokenKind
 kind_past pending (Literal kind suffix_start) = Literal kind (pending + suffix_start)
 kind_past pending kind = kind
@@ -30,19 +32,27 @@ HasSuffixWithin token = suffix_start_of token.kind ≤ token.len
 
 -- the token is the first token of the text, read as a part in an edition
 abbrev pub IsFirst : Edition → Utf8 → Token → Type 0
-IsFirst edition text token = (tokens : List Token) × AreTokens (part edition) (chars text) (token ∷ tokens)
+IsFirst edition text token =
+    (tokens : List Token) × AreTokens (part edition) (chars text) (token ∷ tokens)
 
--- what a cursor takes. At the end of the text it is `Eof` of length 0, and the state stays the same. Otherwise it is
--- the first of the tokens that the grammar allows there, with the pending bytes added to its front
+-- what a cursor takes. At the end of the text it is `Eof` of length 0, and the state stays the
+-- same. Otherwise it is the first of the tokens that the grammar allows there, with the pending
+-- bytes added to its front
 pub data TakesNext (s : State) : Token × State → Type 0 where
   nothing_left : s.rest ≡ [] → TakesNext s (record { kind = Eof; len = 0 }, s)
-  first_left : {token : Token} {tokens : List Token} → AreTokens s.mode (chars s.rest) (token ∷ tokens)
-      → TakesNext s (token_past s.pending token, record { pending = 0; rest = drop token.len s.rest; mode = mode_after s.mode token.kind })
+  first_left : {token : Token} {tokens : List Token}
+      → AreTokens s.mode (chars s.rest) (token ∷ tokens)
+      → TakesNext s (
+        token_past s.pending token,
+        record
+            { pending = 0; rest = drop token.len s.rest; mode = mode_after s.mode token.kind },
+      )
 
--- what a cursor takes as a guarded string: the string, with the pending bytes added to its length; or, if the hashes
--- there begin none, only the hashes, which are then pending
+-- what a cursor takes as a guarded string: the string, with the pending bytes added to its length;
+-- or, if the hashes there begin none, only the hashes, which are then pending
 pub data TakesGuarded (s : State) : Option GuardedStr × State → Type 0 where
-  string : {n : ℕ} {terminated : Bool} {w next : Chars} → chars s.rest ≡ w ++ next → IsGuardedBefore next n terminated w
+  string : {n : ℕ} {terminated : Bool} {w next : Chars} → chars s.rest ≡ w ++ next
+      → IsGuardedBefore next n terminated w
       → TakesGuarded s (
         Some record { n_hashes = n; terminated = terminated; token_len = s.pending + bytes w },
         record s { pending = 0; rest = drop (bytes w) s.rest },

@@ -16,10 +16,11 @@ tokens_left s = tokens_of s.mode s.rest
 abbrev pub RestartsAtBounds : Edition → List ℕ → Type 0
 RestartsAtBounds edition text =
     let tokens : List Token = tokens_of (part edition) text in
-    (k : ℕ) → k ≤ length tokens → tokens_of (part edition) (drop (bound tokens k) text) ≡ drop k tokens
+    (k : ℕ) → k ≤ length tokens
+    → tokens_of (part edition) (drop (bound tokens k) text) ≡ drop k tokens
 
--- with nothing pending, the token is the first of those that are left, and `advance` says which state follows. The
--- token is not empty, ends between characters and is removed from the text
+-- with nothing pending, the token is the first of those that are left, and `advance` says which
+-- state follows. The token is not empty, ends between characters and is removed from the text
 pub record TakesToken (s : State) (token : Token) (t : State) : Type 0 where
   pub first : tokens_left s ≡ token ∷ tokens_left t
   pub advances : advance s ≡ (token, t)
@@ -28,28 +29,33 @@ pub record TakesToken (s : State) (token : Token) (t : State) : Type 0 where
   pub rest : t.rest ≡ drop token.len s.rest
   pub mode : t.mode ≡ mode_after s.mode token.kind
 
--- what `next` does. If no token is left, it returns None and changes nothing. Otherwise it takes one
+-- what `next` does. If no token is left, it returns None and changes nothing. Otherwise it takes
+-- one
 abbrev pub YieldsToken : State → Option Token → State → Type 0
 YieldsToken s None t = (tokens_left s ≡ []) × (t ≡ s)
 YieldsToken s (Some token) t = TakesToken s token t
 
--- what a cursor takes while text is left: `taken`, the token that it would take with nothing pending, with the pending
--- bytes added to its front. After that nothing is pending
+-- what a cursor takes while text is left: `taken`, the token that it would take with nothing
+-- pending, with the pending bytes added to its front. After that nothing is pending
 pub record TakesFirst (s : State) (token : Token) (t : State) : Type 0 where
   pub taken : Token
   pub takes : TakesToken (record s { pending = 0 }) taken t
   pub with_pending : token ≡ token_past s.pending taken
   pub none_pending : t.pending ≡ 0
 
--- the text may be passed to the check of raw strings, which accepts it exactly if the number of hashes is Some
+-- the text may be passed to the check of raw strings, which accepts it exactly if the number of
+-- hashes is Some
 abbrev pub IsChecked : ℕ → List ℕ → Option ℕ → Type 0
-IsChecked prefix text n_hashes = StartsRaw text prefix × ((raw_check text prefix ≡ Ok tt) ↔ IsSome n_hashes)
+IsChecked prefix text n_hashes =
+    StartsRaw text prefix × ((raw_check text prefix ≡ Ok tt) ↔ IsSome n_hashes)
 
--- what is promised about the text of a token, in addition to the grammar: the text of an identifier passes `is_ident`,
--- and so does what follows the `r#` of a raw one; the text of a raw string may be checked; the text of `Eof` is empty
+-- what is promised about the text of a token, in addition to the grammar: the text of an identifier
+-- passes `is_ident`, and so does what follows the `r#` of a raw one; the text of a raw string may
+-- be checked; the text of `Eof` is empty
 abbrev pub HasText : TokenKind → List ℕ → Type 0
 HasText Ident text = is_ident (chars text) ≡ true
-HasText RawIdent text = (word : List ℕ) × (text ≡ codes "r#" ++ word) × (is_ident (chars word) ≡ true)
+HasText RawIdent text =
+    (word : List ℕ) × (text ≡ codes "r#" ++ word) × (is_ident (chars word) ≡ true)
 HasText (Literal (RawStr n_hashes) suffix_start) text = IsChecked 1 text n_hashes
 HasText (Literal (RawByteStr n_hashes) suffix_start) text = IsChecked 2 text n_hashes
 HasText (Literal (RawCStr n_hashes) suffix_start) text = IsChecked 2 text n_hashes
@@ -59,7 +65,8 @@ HasText kind text = Unit {0}
 -- the text of each token has what is promised for its kind
 abbrev pub HaveTexts : List ℕ → List Token → Type 0
 HaveTexts text [] = Unit {0}
-HaveTexts text (token ∷ tokens) = HasText token.kind (take token.len text) × HaveTexts (drop token.len text) tokens
+HaveTexts text (token ∷ tokens) =
+    HasText token.kind (take token.len text) × HaveTexts (drop token.len text) tokens
 
 -- whether a literal is malformed: a quoted one that nothing closes, or a raw one that is refused
 abbrev pub is_faulty : LiteralKind → Bool
@@ -82,20 +89,23 @@ EndsFaulty kind len = Unit {0}
 abbrev pub HasSuffix : Token → Type 0
 HasSuffix token = HasSuffixWithin token × EndsFaulty token.kind token.len
 
--- an iterator at the start of a text, which it reads as a document or as a part in an edition. Its tokens, those of the
--- text, partition it; a part can be lexed again from each token boundary; and the suffix and the text of each token are
--- as its kind says
-pub record ReadsAs (allowed : FrontmatterAllowed) (edition : Edition) (text : List ℕ) (at : State) : Type 0 where
+-- an iterator at the start of a text, which it reads as a document or as a part in an edition. Its
+-- tokens, those of the text, partition it; a part can be lexed again from each token boundary; and
+-- the suffix and the text of each token are as its kind says
+pub record ReadsAs (allowed : FrontmatterAllowed) (edition : Edition) (text : List ℕ) (at : State) :
+    Type 0 where
   pub state : at ≡ record { pending = 0; rest = text; mode = mode_in allowed edition }
   pub partitions : Partitions text (tokens_of (mode_in allowed edition) text)
   pub restarts : RestartsAtBounds edition text
   pub suffixes : All HasSuffix (tokens_of (mode_in allowed edition) text)
   pub texts : HaveTexts text (tokens_of (mode_in allowed edition) text)
 
--- the start of the buffer holds the first `count` of the tokens that are left, each as it is written, and the rest of
--- the buffer is unchanged. They are the tokens that begin before the offset `end`: each of them does, and if there is
--- room for one more, the next boundary is not before `end`
-pub record IsFilledTo {X : Type 0} (written : Token → X) (end : ℕ) (left : List Token) (buffer filled : List X) (count : ℕ) : Type 0 where
+-- the start of the buffer holds the first `count` of the tokens that are left, each as it is
+-- written, and the rest of the buffer is unchanged. They are the tokens that begin before the
+-- offset `end`: each of them does, and if there is room for one more, the next boundary is not
+-- before `end`
+pub record IsFilledTo {X : Type 0} (written : Token → X) (end : ℕ) (left : List Token)
+    (buffer filled : List X) (count : ℕ) : Type 0 where
   pub few : count ≤ length left
   pub within : count ≤ length buffer
   pub tokens : filled ≡ map written (take count left) ++ drop count buffer

@@ -202,7 +202,8 @@ fn has_bad_name(text: &str) -> bool
 /// Returns whether the rest of a name holds an emoji that may not continue an identifier.
 fn holds_emoji(rest: &str) -> bool
     ensures { result
-        ≡ not (list_all is_id_continue (take (run_len is_word_continue (chars rest.now)) (chars rest.now))) }
+        ≡ not (list_all is_id_continue
+        (take (run_len is_word_continue (chars rest.now)) (chars rest.now))) }
 {
     next_is(eat_continue(rest), is_emoji)
 }

@@ -190,7 +190,8 @@ impl<'a> Tokens<'a> {
     /// Returns the next token if the ends of runs determine it. A loop with a branch for these tokens is faster.
     #[inline(always)]
     pub(crate) fn told(&mut self) -> Option<Token>
-        ensures { MatchOption result (self.new ≡ self.old) (λ token. TakesToken self.old token self.new) }
+        ensures { MatchOption result (self.new ≡ self.old)
+            (λ token. TakesToken self.old token self.new) }
     {
         self.ahead.take(self.text)
     }

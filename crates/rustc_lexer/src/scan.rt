@@ -102,7 +102,8 @@ pub(crate) fn strip_either(rest: &str, one: u8, two: u8) -> Option<&str>
     requires one { one < 128 }
     requires two { two < 128 }
     ensures { MatchOption result (Scan.next_is (is_byte2 one two) (chars rest.now) ≡ false)
-        (λ tail. (Scan.next_is (is_byte2 one two) (chars rest.now) ≡ true) × (tail.now ≡ past 1 rest.now)
+        (λ tail. (Scan.next_is (is_byte2 one two) (chars rest.now) ≡ true)
+        × (tail.now ≡ past 1 rest.now)
         × (length tail.now < length rest.now)) }
 {
     match strip(rest, one) {
@@ -115,7 +116,8 @@ pub(crate) fn strip_either(rest: &str, one: u8, two: u8) -> Option<&str>
 #[inline(always)]
 fn front_end<F: Fn(u8) -> bool>(bytes: &[u8], test: F) -> usize
     requires callable { F.IsAlwaysCallable test }
-    ensures value { (class : ℕ → Bool) → ((b : ℕ) (passes : Bool) → F.post test b passes → passes ≡ class b)
+    ensures value { (class : ℕ → Bool)
+        → ((b : ℕ) (passes : Bool) → F.post test b passes → passes ≡ class b)
         → result ≡ prefix_len class bytes.now }
     ensures inside { result ≤ length bytes.now }
 {

@@ -25,7 +25,8 @@ abbrev pub allowed_number : FrontmatterAllowed → ℕ
 allowed_number No = 0
 allowed_number Yes = 1
 
--- whether the rest of the text may begin with a frontmatter: 1 at the start of a document, 0 in a part
+-- whether the rest of the text may begin with a frontmatter: 1 at the start of a document, 0 in a
+-- part
 abbrev pub mode_number : Mode → ℕ
 mode_number (document edition) = 1
 mode_number (part edition) = 0
@@ -47,10 +48,11 @@ state_at edition text place = record {
   mode = mode_in (allowed_of place.frontmatter_allowed) edition;
 }
 
--- the batch from a state on. The start of the buffer holds the next tokens as numbers, as many as are left or as there
--- is room for, and the rest of the buffer is unchanged. `place` is where the next batch of the same edition begins,
--- with the tokens that are still left
-pub record IsBatch (text : List ℕ) (s : State) (buffer : List CToken) (place : CPlace) (filled : List CToken) (count : ℕ) : Type 0 where
+-- the batch from a state on. The start of the buffer holds the next tokens as numbers, as many as
+-- are left or as there is room for, and the rest of the buffer is unchanged. `place` is where the
+-- next batch of the same edition begins, with the tokens that are still left
+pub record IsBatch (text : List ℕ) (s : State) (buffer : List CToken) (place : CPlace)
+    (filled : List CToken) (count : ℕ) : Type 0 where
   pub as_many : count ≡ min (length buffer) (length (tokens_left s))
   pub tokens : filled ≡ map token_numbers (take count (tokens_left s)) ++ drop count buffer
   pub boundary : IsCharBoundary text place.at
@@ -58,9 +60,10 @@ pub record IsBatch (text : List ℕ) (s : State) (buffer : List CToken) (place :
   pub allowed : place.frontmatter_allowed ≡ mode_number (state_past count s).mode
   pub left : tokens_left (state_at (mode_edition s.mode) text place) ≡ drop count (tokens_left s)
 
--- a call that returns the tokens from a place on, whose offset must be between characters, in the newest edition. If the
--- call is refused, nothing is written
-pub record TakesTokens (text : List ℕ) (place place' : CPlace) (buffer filled : List CToken) (count status : ℕ) : Type 0 where
+-- a call that returns the tokens from a place on, whose offset must be between characters, in the
+-- newest edition. If the call is refused, nothing is written
+pub record TakesTokens (text : List ℕ) (place place' : CPlace) (buffer filled : List CToken)
+    (count status : ℕ) : Type 0 where
   pub status_is : IsStatus text (IsCharBoundary text place.at) (refusal_number BadPlace) status
   pub batch : status ≡ OK → IsBatch text (state_at newest text place) buffer place' filled count
   pub refused : status ≢ OK → (place' ≡ place) × (filled ≡ buffer) × (count ≡ 0)

@@ -2,7 +2,8 @@
 use Rattle.std.specs.Prelude.{ℕ, ◌+◌, ◌≡◌, ◌≤◌, List, ◌++◌, length, take, drop}
 use Rattle.rustc_lexer_c.specs.declared.buffer.Buffer.{Buffer}
 
--- the bytes are written after those that were written before, into the same buffer. The buffer is unchanged after them
+-- the bytes are written after those that were written before, into the same buffer. The buffer is
+-- unchanged after them
 pub record Appends (s : Buffer) (bytes : List ℕ) (t : Buffer) : Type 0 where
   pub same_reference : t.bytes.ghost_name ≡ s.bytes.ghost_name
   pub within : t.len ≤ length t.bytes.now

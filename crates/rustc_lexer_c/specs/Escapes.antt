@@ -48,7 +48,8 @@ abbrev pub wrong_kind : EscapeError → ℕ
 wrong_kind error = if is_fatal error then UNIT_ERROR else UNIT_WARNING
 
 abbrev pub unit_at : Range ℕ → ℕ → ℕ → CUnit
-unit_at place kind value = record { start = place.start; end = place.end; kind = kind; value = value }
+unit_at place kind value =
+    record { start = place.start; end = place.end; kind = kind; value = value }
 
 abbrev pub wrong_unit : Range ℕ → EscapeError → CUnit
 wrong_unit place error = unit_at place (wrong_kind error) (error_number error)
@@ -84,15 +85,18 @@ single_unit mode text = coded_unit UNIT_CHAR (whole text) (char_literal (chars t
 
 -- the units of the text between a literal's quotes
 abbrev pub units_of : Mode → List ℕ → List CUnit
-units_of mode text = if is_single mode then single_unit mode text ∷ [] else map (item_unit mode) (items_of (is_raw mode) text)
+units_of mode text =
+    if is_single mode then single_unit mode text
+    ∷ [] else map (item_unit mode) (items_of (is_raw mode) text)
 
 -- the errors, in order, each with its range
 abbrev pub wrong_units : List Error → List CUnit
 wrong_units errors = map (λ (e : Error). wrong_unit e.0 e.1) errors
 
--- a batch of units: without the first `passed` ones, as many as there is room for. They are at the start of the buffer,
--- and the rest of it is unchanged
-pub record IsUnits (units : List CUnit) (passed : ℕ) (buffer filled : List CUnit) (count : ℕ) : Type 0 where
+-- a batch of units: without the first `passed` ones, as many as there is room for. They are at the
+-- start of the buffer, and the rest of it is unchanged
+pub record IsUnits (units : List CUnit) (passed : ℕ) (buffer filled : List CUnit) (count : ℕ) : Type
+    0 where
   pub as_many : count ≡ min (length buffer) (length (drop passed units))
   pub written : filled ≡ take count (drop passed units) ++ drop count buffer
 
@@ -104,11 +108,13 @@ abbrev pub listed : Listing → Mode → List ℕ → List CUnit
 listed Units mode text = units_of mode text
 listed Errors mode text = wrong_units_of mode text
 
--- a call that lists units of a text, in a mode that is given by a number. The list is never longer than the text in
--- bytes, but may have 1 unit for an empty text, so a buffer of that length is enough. If the call is refused, nothing
--- is written
-pub record Lists (list : Mode → List ℕ → List CUnit) (mode : Option Mode) (text : List ℕ) (passed : ℕ) (buffer filled : List CUnit) (count status : ℕ) : Type 0 where
+-- a call that lists units of a text, in a mode that is given by a number. The list is never longer
+-- than the text in bytes, but may have 1 unit for an empty text, so a buffer of that length is
+-- enough. If the call is refused, nothing is written
+pub record Lists (list : Mode → List ℕ → List CUnit) (mode : Option Mode) (text : List ℕ)
+    (passed : ℕ) (buffer filled : List CUnit) (count status : ℕ) : Type 0 where
   pub status_is : IsStatus text (mode ≢ None) (refusal_number BadMode) status
-  pub units : status ≡ OK → IsSomeAnd mode (λ kind. IsUnits (list kind text) passed buffer filled count)
+  pub units : status ≡ OK → IsSomeAnd mode
+      (λ kind. IsUnits (list kind text) passed buffer filled count)
   pub at_most : status ≡ OK → IsSomeAnd mode (λ kind. length (list kind text) ≤ max 1 (length text))
   pub refused : status ≢ OK → (filled ≡ buffer) × (count ≡ 0)

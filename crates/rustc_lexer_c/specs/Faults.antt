@@ -18,8 +18,9 @@ number_of (Some fault) = fault_number fault
 abbrev pub is_set : ℕ → Bool
 is_set number = not (nat_eq number 0)
 
--- the kind of the literal, or of the token, with these numbers, as far as its class and its error depend on it: all bases
--- are one, and so are all kinds with the same error, and all that are plain and have none
+-- the kind of the literal, or of the token, with these numbers, as far as its class and its error
+-- depend on it: all bases are one, and so are all kinds with the same error, and all that are plain
+-- and have none
 abbrev pub literal_of : CToken → LiteralKind
 literal_of token =
     let n_hashes = if is_set token.second then Some token.third else None in

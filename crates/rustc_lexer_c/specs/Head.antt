@@ -25,40 +25,73 @@ two_of (a ∷ b ∷ more) = token_numbers a ∷ token_numbers b ∷ []
 
 -- the head of a text as numbers
 abbrev pub head_numbers : List ℕ → CHead
-head_numbers text = record { shebang_len = shebang_len text; body = body_start text; count = length (head_tokens text); tokens = two_of (head_tokens text) }
+head_numbers text =
+    record {
+      shebang_len = shebang_len text;
+      body = body_start text;
+      count = length (head_tokens text);
+      tokens = two_of (head_tokens text);
+    }
 
 -- a head as numbers
 abbrev pub numbers_of_head : Head → CHead
-numbers_of_head head = record { shebang_len = head.shebang_len; body = head.body; count = length (tokens_of_head head); tokens = two_of (tokens_of_head head) }
+numbers_of_head head =
+    record {
+      shebang_len = head.shebang_len;
+      body = head.body;
+      count = length (tokens_of_head head);
+      tokens = two_of (tokens_of_head head);
+    }
 
 -- the frontmatter that these numbers stand for
 abbrev pub frontmatter_of : CToken → Token
-frontmatter_of c = record { kind = Frontmatter (not (nat_eq c.first 0)) (not (nat_eq c.second 0)); len = c.len }
+frontmatter_of c =
+    record { kind = Frontmatter (not (nat_eq c.first 0)) (not (nat_eq c.second 0)); len = c.len }
 
 -- the head that these numbers stand for
 abbrev pub head_with : ℕ → ℕ → ℕ → CToken → CToken → Head
-head_with shebang end zero a b = record { shebang_len = shebang; space_len = 0; frontmatter = None; body = end }
-head_with shebang end (suc zero) a b = record { shebang_len = shebang; space_len = 0; frontmatter = Some (frontmatter_of a); body = end }
-head_with shebang end (suc (suc n)) a b = record { shebang_len = shebang; space_len = a.len; frontmatter = Some (frontmatter_of b); body = end }
+head_with shebang end zero a b =
+    record { shebang_len = shebang; space_len = 0; frontmatter = None; body = end }
+head_with shebang end (suc zero) a b =
+    record {
+      shebang_len = shebang;
+      space_len = 0;
+      frontmatter = Some (frontmatter_of a);
+      body = end;
+    }
+head_with shebang end (suc (suc n)) a b =
+    record {
+      shebang_len = shebang;
+      space_len = a.len;
+      frontmatter = Some (frontmatter_of b);
+      body = end;
+    }
 
 abbrev pub head_of : CHead → Head
-head_of c = head_with c.shebang_len c.body c.count (get_or c.tokens 0 no_token) (get_or c.tokens 1 no_token)
+head_of c =
+    head_with c.shebang_len c.body c.count (get_or c.tokens 0 no_token) (get_or c.tokens 1 no_token)
 
--- the status of a call that gets an edit of a document and the old head. An edit that made the text is not refused
+-- the status of a call that gets an edit of a document and the old head. An edit that made the text
+-- is not refused
 pub record IsHeadStatus (bytes : List ℕ) (edit : CEdit) (c : CHead) (status : ℕ) : Type 0 where
-  pub ok : IsText bytes → (before insert : List ℕ) → IsEditOf before (change_of edit) insert bytes → c ≡ head_numbers before → status ≡ OK
+  pub ok : IsText bytes → (before insert : List ℕ) → IsEditOf before (change_of edit) insert bytes
+      → c ≡ head_numbers before → status ≡ OK
   pub not_utf8 : length bytes < 2 ^ 32 → ¬ (IsUtf8 bytes) → status ≡ refusal_number NotUtf8
   pub too_long : 2 ^ 32 ≤ length bytes → status ≡ refusal_number TooLong
-  pub bad_edit : IsText bytes → ¬ (IsChange bytes (change_of edit)) → status ≡ refusal_number BadEdit
+  pub bad_edit : IsText bytes → ¬ (IsChange bytes (change_of edit))
+      → status ≡ refusal_number BadEdit
   pub no_other : IsText bytes → status ≢ OK → status ≡ refusal_number BadEdit
 
--- the call writes the head of the text, and an edit of the body from which relexing can begin. For every old text that
--- has the old head, and that the edit made into the present text, it is what the edit means for the body. If the call
--- is refused, nothing is written
-pub record FindsHead (text : List ℕ) (edit : CEdit) (c c' : CHead) (body body' : CEdit) (kept kept' status : ℕ) : Type 0 where
+-- the call writes the head of the text, and an edit of the body from which relexing can begin. For
+-- every old text that has the old head, and that the edit made into the present text, it is what
+-- the edit means for the body. If the call is refused, nothing is written
+pub record FindsHead (text : List ℕ) (edit : CEdit) (c c' : CHead) (body body' : CEdit)
+    (kept kept' status : ℕ) : Type 0 where
   pub status_is : IsHeadStatus text edit c status
   pub head : status ≡ OK → c' ≡ head_numbers text
   pub may_relex : status ≡ OK → IsChange (drop (body_start text) text) (change_of body')
-  pub change : status ≡ OK → (first : List ℕ → Token) (before insert : List ℕ) → IsGrammar first → IsEditOf before (change_of edit) insert text → c ≡ head_numbers before
-      → (k : Bool) × (kept' ≡ bool_number k) × IsBodyChange first before (change_of edit) insert text k (change_of body')
+  pub change : status ≡ OK → (first : List ℕ → Token) (before insert : List ℕ) → IsGrammar first
+      → IsEditOf before (change_of edit) insert text → c ≡ head_numbers before
+      → (k : Bool) × (kept' ≡ bool_number k)
+      × IsBodyChange first before (change_of edit) insert text k (change_of body')
   pub refused : status ≢ OK → (c' ≡ c) × (body' ≡ body) × (kept' ≡ kept)

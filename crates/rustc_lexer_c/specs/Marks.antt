@@ -25,8 +25,10 @@ pub record IsFront (bytes buffer filled : List ℕ) (written : ℕ) : Type 0 whe
 
 -- the status of a call that takes a text, a style, a year and a buffer of any length
 pub record IsMarksStatus (bytes : List ℕ) (style year : ℕ) (status : ℕ) : Type 0 where
-  pub ok : IsText bytes → (edition : Edition) → edition_of_year year ≡ Some edition → (kind : Style) → style_of style ≡ Some kind → (status ≡ OK) ⊎ (status ≡ refusal_number SmallBuffer)
+  pub ok : IsText bytes → (edition : Edition) → edition_of_year year ≡ Some edition → (kind : Style)
+      → style_of style ≡ Some kind → (status ≡ OK) ⊎ (status ≡ refusal_number SmallBuffer)
   pub not_utf8 : length bytes < 2 ^ 32 → ¬ (IsUtf8 bytes) → status ≡ refusal_number NotUtf8
   pub too_long : 2 ^ 32 ≤ length bytes → status ≡ refusal_number TooLong
   pub bad_edition : IsText bytes → edition_of_year year ≡ None → status ≡ refusal_number BadEdition
-  pub bad_style : IsText bytes → (edition : Edition) → edition_of_year year ≡ Some edition → style_of style ≡ None → status ≡ refusal_number BadStyle
+  pub bad_style : IsText bytes → (edition : Edition) → edition_of_year year ≡ Some edition
+      → style_of style ≡ None → status ≡ refusal_number BadStyle

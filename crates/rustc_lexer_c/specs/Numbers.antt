@@ -37,8 +37,8 @@ abbrev pub some_or_zero : Option ℕ → ℕ
 some_or_zero None = 0
 some_or_zero (Some n) = n
 
--- the fields of a kind of literal, one byte each, in order, after the number of the kind. The hashes of a raw string
--- take two bytes, and a byte without a field is 0
+-- the fields of a kind of literal, one byte each, in order, after the number of the kind. The
+-- hashes of a raw string take two bytes, and a byte without a field is 0
 unfoldable pub literal_second : LiteralKind → ℕ
 literal_second (Int base empty_int) = base_number base
 literal_second (Float base empty_exponent) = base_number base
@@ -59,18 +59,21 @@ literal_third (RawByteStr n_hashes) = some_or_zero n_hashes
 literal_third (RawCStr n_hashes) = some_or_zero n_hashes
 literal_third kind = 0
 
--- the fields of a kind of token, in the same way. For a literal, the first byte is the number of its kind
+-- the fields of a kind of token, in the same way. For a literal, the first byte is the number of
+-- its kind
 unfoldable pub first_of : TokenKind → ℕ
 first_of (LineComment doc_style) = style_number doc_style
 first_of (BlockComment doc_style terminated) = style_number doc_style
-first_of (Frontmatter has_invalid_preceding_whitespace invalid_infostring) = bool_number has_invalid_preceding_whitespace
+first_of (Frontmatter has_invalid_preceding_whitespace invalid_infostring) =
+    bool_number has_invalid_preceding_whitespace
 first_of (Literal kind suffix_start) = (literal_entry kind).0
 first_of (Lifetime starts_with_number) = bool_number starts_with_number
 first_of kind = 0
 
 unfoldable pub second_of : TokenKind → ℕ
 second_of (BlockComment doc_style terminated) = bool_number terminated
-second_of (Frontmatter has_invalid_preceding_whitespace invalid_infostring) = bool_number invalid_infostring
+second_of (Frontmatter has_invalid_preceding_whitespace invalid_infostring) =
+    bool_number invalid_infostring
 second_of (Literal kind suffix_start) = literal_second kind
 second_of kind = 0
 

@@ -15,8 +15,8 @@ pub record ArePlaced (numbers : List CToken) (first : ℕ) (tokens : List Token)
   pub offset : near.offset ≡ first + bound tokens near.number
 
 -- a call that looks for the token that contains the byte at `offset`, from the boundary `near` on.
--- If there is one, `at` is where it begins. If there is none, `at` is `near`, and the byte is before
--- or after all tokens
+-- If there is one, `at` is where it begins. If there is none, `at` is `near`, and the byte is
+-- before or after all tokens
 pub record FindsToken (numbers : List CToken) (offset : ℕ) (near at : Bound) (found : Bool)
     : Type 0 where
   pub token : found ≡ true → (first : ℕ) (tokens : List Token)

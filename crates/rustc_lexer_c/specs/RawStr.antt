@@ -10,21 +10,43 @@ use Rattle.rustc_lexer_c.specs.declared.raw_str.CRawStrError.{CRawStrError}
 use Rattle.rustc_lexer_c.specs.Numbers.{bool_number, some_number, some_or_zero}
 
 abbrev pub no_error : CRawStrError
-no_error = record { error = 0; bad_char = 0; expected = 0; found = 0; has_offset = 0; possible_terminator_offset = 0 }
+no_error =
+    record {
+      error = 0;
+      bad_char = 0;
+      expected = 0;
+      found = 0;
+      has_offset = 0;
+      possible_terminator_offset = 0;
+    }
 
--- the result of a check as numbers: why a raw string is refused. A field that the error does not have is 0
+-- the result of a check as numbers: why a raw string is refused. A field that the error does not
+-- have is 0
 abbrev pub answer_numbers : Result (Unit {0}) RawStrError → CRawStrError
 answer_numbers (Ok u) = no_error
 answer_numbers (Err (InvalidStarter bad_char)) = record no_error { error = 1; bad_char = bad_char }
 answer_numbers (Err (NoTerminator expected found offset)) =
-    record no_error { error = 2; expected = expected; found = found; has_offset = some_number offset; possible_terminator_offset = some_or_zero offset }
+    record no_error {
+      error = 2;
+      expected = expected;
+      found = found;
+      has_offset = some_number offset;
+      possible_terminator_offset = some_or_zero offset;
+    }
 answer_numbers (Err (TooManyDelimiters found)) = record no_error { error = 3; found = found }
 
 -- a guarded string as numbers, which are all 0 if there is none
 unfoldable pub guarded_numbers : Option GuardedStr → CGuardedStr
 guarded_numbers None = record { is_some = 0; n_hashes = 0; terminated = 0; token_len = 0 }
-guarded_numbers (Some s) = record { is_some = 1; n_hashes = s.n_hashes; terminated = bool_number s.terminated; token_len = s.token_len }
+guarded_numbers (Some s) =
+    record {
+      is_some = 1;
+      n_hashes = s.n_hashes;
+      terminated = bool_number s.terminated;
+      token_len = s.token_len;
+    }
 
 -- the numbers of the guarded string that a text begins with
 abbrev pub guarded_at : List ℕ → CGuardedStr
-guarded_at text = guarded_numbers (guarded record { pending = 0; rest = text; mode = part newest }).0
+guarded_at text =
+    guarded_numbers (guarded record { pending = 0; rest = text; mode = part newest }).0

@@ -54,11 +54,13 @@ lexed_before c = if nat_eq c.stage STAGE_BEGIN then 0 else c.lexed
 
 -- a call may begin with these numbers, or go on from them
 abbrev pub MayRelex : List ℕ → ℕ → CRelexing → Type 0
-MayRelex text count c = c.stage ≢ STAGE_BEGIN → (c.kept_back ≤ count) × MayGoOn text count (relexing_of count c)
+MayRelex text count c =
+    c.stage ≢ STAGE_BEGIN → (c.kept_back ≤ count) × MayGoOn text count (relexing_of count c)
 
--- a call may begin with these numbers, of which only a boundary of the old tokens matters, or they are what an earlier
--- call returned
-pub record IsPassed (first : List ℕ → Token) (before : List ℕ) (change : Change) (text : List ℕ) (count : ℕ) (c : CRelexing) : Type 0 where
+-- a call may begin with these numbers, of which only a boundary of the old tokens matters, or they
+-- are what an earlier call returned
+pub record IsPassed (first : List ℕ → Token) (before : List ℕ) (change : Change) (text : List ℕ)
+    (count : ℕ) (c : CRelexing) : Type 0 where
   pub near : c.stage ≡ STAGE_BEGIN → IsBound (tokens_by first before) (front_of c)
   pub under_way : c.stage ≢ STAGE_BEGIN → IsUnderWay first before change text (relexing_of count c)
 
@@ -66,42 +68,59 @@ pub record IsPassed (first : List ℕ → Token) (before : List ℕ) (change : C
 abbrev pub written : List Token → ℕ → ℕ → List CToken
 written tokens front lexed = map token_numbers (take lexed (drop front tokens))
 
--- the call writes the tokens of the present text that follow the front and those of earlier calls. Once it is done,
--- the counts are those of the edit, and the present text has exactly the old tokens of the front, all tokens that were
--- written, and the old tokens of the back
-pub record HasRelexed (first : List ℕ → Token) (before : List ℕ) (edit : CEdit) (insert text : List ℕ) (old : List CToken) (c : CRelexing) (buffer : List CToken) (c' : CRelexing) (filled : List CToken) (count : ℕ) : Type 0 where
+-- the call writes the tokens of the present text that follow the front and those of earlier calls.
+-- Once it is done, the counts are those of the edit, and the present text has exactly the old
+-- tokens of the front, all tokens that were written, and the old tokens of the back
+pub record HasRelexed (first : List ℕ → Token) (before : List ℕ) (edit : CEdit)
+    (insert text : List ℕ) (old : List CToken) (c : CRelexing) (buffer : List CToken)
+    (c' : CRelexing) (filled : List CToken) (count : ℕ) : Type 0 where
   pub passed : IsPassed first before (change_of edit) text (length old) c'
-  pub tokens : filled ≡ map token_numbers (take count (drop (c'.kept_front + lexed_before c) (tokens_by first text))) ++ drop count buffer
-  pub more : written (tokens_by first text) c'.kept_front c'.lexed ≡ written (tokens_by first text) c'.kept_front (lexed_before c) ++ take count filled
-  pub few : (r : Relexed) × IsRelexed (part_by first) before edit.start edit.old_stop insert r × (c'.lexed ≤ r.lexed)
-  pub counts : c'.stage ≡ STAGE_DONE → IsRelexed (part_by first) before edit.start edit.old_stop insert (record { kept_front = c'.kept_front; lexed = c'.lexed; kept_back = c'.kept_back })
+  pub tokens : filled ≡ map token_numbers
+      (take count (drop (c'.kept_front + lexed_before c) (tokens_by first text)))
+      ++ drop count buffer
+  pub more : written (tokens_by first text) c'.kept_front c'.lexed
+      ≡ written (tokens_by first text) c'.kept_front (lexed_before c) ++ take count filled
+  pub few : (r : Relexed) × IsRelexed (part_by first) before edit.start edit.old_stop insert r
+      × (c'.lexed ≤ r.lexed)
+  pub counts : c'.stage ≡ STAGE_DONE → IsRelexed (part_by first) before edit.start edit.old_stop
+      insert (record { kept_front = c'.kept_front; lexed = c'.lexed; kept_back = c'.kept_back })
   pub list : c'.stage ≡ STAGE_DONE → old ≡ map token_numbers (tokens_by first before)
-      → take c'.kept_front old ++ (written (tokens_by first text) c'.kept_front c'.lexed ++ drop (length old - c'.kept_back) old) ≡ map token_numbers (tokens_by first text)
+      → take c'.kept_front old ++ (written (tokens_by first text) c'.kept_front c'.lexed
+      ++ drop (length old - c'.kept_back) old) ≡ map token_numbers (tokens_by first text)
 
--- what a call does for any numbers, and what it does for those of an edit. `relexed` is about every old text that has
--- the old tokens in this edition, and that the edit made into the present text
-pub record IsRelexBatch (edition : Edition) (text : List ℕ) (old : List CToken) (edit : CEdit) (c : CRelexing) (buffer : List CToken) (c' : CRelexing) (filled : List CToken) (count : ℕ) : Type 0 where
+-- what a call does for any numbers, and what it does for those of an edit. `relexed` is about every
+-- old text that has the old tokens in this edition, and that the edit made into the present text
+pub record IsRelexBatch (edition : Edition) (text : List ℕ) (old : List CToken) (edit : CEdit)
+    (c : CRelexing) (buffer : List CToken) (c' : CRelexing) (filled : List CToken) (count : ℕ) :
+    Type 0 where
   pub within : count ≤ length buffer
   pub rest : drop count filled ≡ drop count buffer
   pub lexed : c'.lexed ≡ lexed_before c + count
   pub goes_on : c'.stage ≢ STAGE_DONE → (c'.stage ≡ STAGE_MORE) × (count ≡ length buffer)
   pub front : c.stage ≢ STAGE_BEGIN → front_of c' ≡ front_of c
   pub may_relex : MayRelex text (length old) c'
-  pub relexed : (before insert : List ℕ) → IsMadeOf (first_in edition) before (map (λ (t : CToken). t.len) old) (change_of edit) insert text → IsPassed (first_in edition) before (change_of edit) text (length old) c
+  pub relexed : (before insert : List ℕ)
+      → IsMadeOf (first_in edition) before (map (λ (t : CToken). t.len) old) (change_of edit) insert
+      text → IsPassed (first_in edition) before (change_of edit) text (length old) c
       → HasRelexed (first_in edition) before edit insert text old c buffer c' filled count
 
 -- the status of a call that relexes
-pub record IsRelexStatus (bytes : List ℕ) (edit : CEdit) (year count : ℕ) (c : CRelexing) (status : ℕ) : Type 0 where
-  pub ok : IsText bytes → (edition : Edition) → edition_of_year year ≡ Some edition → IsChange bytes (change_of edit) → MayRelex bytes count c → status ≡ OK
+pub record IsRelexStatus (bytes : List ℕ) (edit : CEdit) (year count : ℕ) (c : CRelexing)
+    (status : ℕ) : Type 0 where
+  pub ok : IsText bytes → (edition : Edition) → edition_of_year year ≡ Some edition
+      → IsChange bytes (change_of edit) → MayRelex bytes count c → status ≡ OK
   pub not_utf8 : length bytes < 2 ^ 32 → ¬ (IsUtf8 bytes) → status ≡ refusal_number NotUtf8
   pub too_long : 2 ^ 32 ≤ length bytes → status ≡ refusal_number TooLong
   pub bad_edition : IsText bytes → edition_of_year year ≡ None → status ≡ refusal_number BadEdition
-  pub bad_edit : IsText bytes → (edition : Edition) → edition_of_year year ≡ Some edition → ¬ (IsChange bytes (change_of edit) × MayRelex bytes count c) → status ≡ refusal_number BadEdit
+  pub bad_edit : IsText bytes → (edition : Edition) → edition_of_year year ≡ Some edition → ¬
+      (IsChange bytes (change_of edit) × MayRelex bytes count c) → status ≡ refusal_number BadEdit
 
 -- a call that relexes in the edition of a year. If it is refused, nothing is written
-pub record Relexes (text : List ℕ) (old : List CToken) (edit : CEdit) (year : ℕ) (c c' : CRelexing) (buffer filled : List CToken) (count status : ℕ) : Type 0 where
+pub record Relexes (text : List ℕ) (old : List CToken) (edit : CEdit) (year : ℕ) (c c' : CRelexing)
+    (buffer filled : List CToken) (count status : ℕ) : Type 0 where
   pub status_is : IsRelexStatus text edit year (length old) c status
-  pub batch : status ≡ OK → (edition : Edition) → edition_of_year year ≡ Some edition → IsRelexBatch edition text old edit c buffer c' filled count
+  pub batch : status ≡ OK → (edition : Edition) → edition_of_year year ≡ Some edition
+      → IsRelexBatch edition text old edit c buffer c' filled count
   pub refused : status ≢ OK → (c' ≡ c) × (filled ≡ buffer) × (count ≡ 0)
 
 -- the state of relexing as numbers

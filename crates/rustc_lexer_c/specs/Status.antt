@@ -28,7 +28,8 @@ IsNoText bytes TooLong = 2 ^ 32 ≤ length bytes
 IsNoText bytes NotUtf8 = (length bytes < 2 ^ 32) × ¬ (IsUtf8 bytes)
 IsNoText bytes refusal = ⊥
 
--- the status of a call that takes a text and requires something. If that does not hold, the status is `number`
+-- the status of a call that takes a text and requires something. If that does not hold, the status
+-- is `number`
 pub record IsStatus (bytes : List ℕ) (Asked : Type 0) (number status : ℕ) : Type 0 where
   pub ok : IsText bytes → Asked → status ≡ OK
   pub not_utf8 : length bytes < 2 ^ 32 → ¬ (IsUtf8 bytes) → status ≡ refusal_number NotUtf8
@@ -41,14 +42,17 @@ IsTextStatus bytes status = IsStatus bytes (Unit {0}) OK status
 
 -- the status of a call that takes a text, an offset in it and a year
 pub record IsPlaceStatus (bytes : List ℕ) (at year status : ℕ) : Type 0 where
-  pub ok : IsText bytes → IsCharBoundary bytes at → (edition : Edition) → edition_of_year year ≡ Some edition → status ≡ OK
+  pub ok : IsText bytes → IsCharBoundary bytes at → (edition : Edition)
+      → edition_of_year year ≡ Some edition → status ≡ OK
   pub not_utf8 : length bytes < 2 ^ 32 → ¬ (IsUtf8 bytes) → status ≡ refusal_number NotUtf8
   pub too_long : 2 ^ 32 ≤ length bytes → status ≡ refusal_number TooLong
   pub bad_place : IsText bytes → ¬ (IsCharBoundary bytes at) → status ≡ refusal_number BadPlace
-  pub bad_edition : IsText bytes → IsCharBoundary bytes at → edition_of_year year ≡ None → status ≡ refusal_number BadEdition
+  pub bad_edition : IsText bytes → IsCharBoundary bytes at → edition_of_year year ≡ None
+      → status ≡ refusal_number BadEdition
 
 -- a call with such a status writes its answer, or `none` if it is refused
-pub record Writes {X : Type 0} (bytes : List ℕ) (Asked : Type 0) (number : ℕ) (answer none written : X) (status : ℕ) : Type 0 where
+pub record Writes {X : Type 0} (bytes : List ℕ) (Asked : Type 0) (number : ℕ)
+    (answer none written : X) (status : ℕ) : Type 0 where
   pub status_is : IsStatus bytes Asked number status
   pub answer_is : status ≡ OK → written ≡ answer
   pub none_is : status ≢ OK → written ≡ none

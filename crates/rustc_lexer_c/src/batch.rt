@@ -103,7 +103,8 @@ pub extern "C" fn rustc_lexer_tokens_in_unchecked(
 pub extern "C" fn rustc_lexer_first_token_unchecked(text: &[u8], frontmatter_allowed: u32) -> CToken
     requires utf8 { IsUtf8 text.now }
     ensures token { Fits text.now
-        → result ≡ spec.first_numbers (tokens_of (mode_in (spec.allowed_of frontmatter_allowed) newest) text.now) }
+        → result ≡ spec.first_numbers
+        (tokens_of (mode_in (spec.allowed_of frontmatter_allowed) newest) text.now) }
     ensures too_long { ¬ (Fits text.now) → result ≡ spec.no_token }
 {
     match utf8_text_of(text) {

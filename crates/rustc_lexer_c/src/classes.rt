@@ -49,7 +49,8 @@ pub extern "C" fn rustc_lexer_is_id_continue(code: u32) -> bool
 /// Writes whether the text is an identifier.
 #[unsafe(no_mangle)]
 pub extern "C" fn rustc_lexer_is_ident(text: &[u8], is: &mut u32) -> u32
-    ensures { Writes text.now (Unit {0}) OK (bool_number (Classes.is_ident (chars text.now))) 0 is.new result }
+    ensures { Writes text.now (Unit {0}) OK (bool_number (Classes.is_ident (chars text.now))) 0
+        is.new result }
 {
     match text_of(text) {
         Ok(text) => done(u32::from(is_ident(text)), is),

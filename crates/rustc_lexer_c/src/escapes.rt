@@ -51,7 +51,8 @@ pub extern "C" fn rustc_lexer_unescape(
     buffer: &mut [CUnit],
     count: &mut usize,
 ) -> u32
-    ensures { spec.Lists spec.units_of (spec.mode_of mode) text.now passed buffer.old buffer.new count.new result }
+    ensures { spec.Lists spec.units_of (spec.mode_of mode) text.now passed buffer.old buffer.new
+        count.new result }
 {
     match text_of(text) {
         Ok(text) => write(text, Listing::Units, mode, passed, buffer, count),
@@ -69,7 +70,8 @@ pub extern "C" fn rustc_lexer_unescape_unchecked(
     count: &mut usize,
 ) -> u32
     requires utf8 { IsUtf8 text.now }
-    ensures { spec.Lists spec.units_of (spec.mode_of mode) text.now passed buffer.old buffer.new count.new result }
+    ensures { spec.Lists spec.units_of (spec.mode_of mode) text.now passed buffer.old buffer.new
+        count.new result }
 {
     match utf8_text_of(text) {
         Ok(text) => write(text, Listing::Units, mode, passed, buffer, count),
@@ -90,7 +92,8 @@ pub extern "C" fn rustc_lexer_literal_errors(
     buffer: &mut [CUnit],
     count: &mut usize,
 ) -> u32
-    ensures { spec.Lists spec.wrong_units_of (spec.mode_of mode) text.now passed buffer.old buffer.new count.new result }
+    ensures { spec.Lists spec.wrong_units_of (spec.mode_of mode) text.now passed buffer.old
+        buffer.new count.new result }
 {
     match text_of(text) {
         Ok(text) => write(text, Listing::Errors, mode, passed, buffer, count),
@@ -108,7 +111,8 @@ pub extern "C" fn rustc_lexer_literal_errors_unchecked(
     count: &mut usize,
 ) -> u32
     requires utf8 { IsUtf8 text.now }
-    ensures { spec.Lists spec.wrong_units_of (spec.mode_of mode) text.now passed buffer.old buffer.new count.new result }
+    ensures { spec.Lists spec.wrong_units_of (spec.mode_of mode) text.now passed buffer.old
+        buffer.new count.new result }
 {
     match utf8_text_of(text) {
         Ok(text) => write(text, Listing::Errors, mode, passed, buffer, count),
@@ -138,7 +142,8 @@ fn write(
     requires text { IsText text.now }
     ensures status { IsStatus text.now (spec.mode_of mode ≢ None) (refusal_number BadMode) result }
     ensures listed { result ≡ OK → IsSomeAnd (spec.mode_of mode)
-        (λ kind. spec.IsUnits (spec.listed listing kind text.now) passed buffer.old buffer.new count.new) }
+        (λ kind. spec.IsUnits (spec.listed listing kind text.now) passed buffer.old buffer.new
+        count.new) }
     ensures bound { result ≡ OK → IsSomeAnd (spec.mode_of mode)
         (λ kind. length (spec.listed listing kind text.now) ≤ max 1 (length text.now)) }
     ensures refused { result ≢ OK → (buffer.new ≡ buffer.old) × (count.new ≡ 0) }

@@ -82,7 +82,8 @@ fn fill(
     requires fits { Fits text.now }
     requires none { output.old.len ≡ 0 }
     ensures { OnOk result ((output.new.bytes.ghost_name ≡ output.old.bytes.ghost_name)
-        × spec.IsFront (marked_tokens style text.now (take count (tokens_of (part edition) text.now)))
+        × spec.IsFront (marked_tokens style text.now
+        (take count (tokens_of (part edition) text.now)))
         output.old.bytes.now output.new.bytes.now output.new.len) }
 {
     write_first_tokens(style, edition, count, text, output)

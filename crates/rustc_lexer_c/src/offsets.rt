@@ -42,7 +42,8 @@ pub extern "C" fn rustc_lexer_token_at(
 fn token_around(tokens: &[CToken], near: Bound, offset: usize) -> Option<Bound>
     ensures token { IfSome result (λ at. (first : ℕ) (ts : List Token)
         → ArePlaced tokens.now first ts near → ContainsByte first ts offset at) }
-    ensures none { IsNone result → (first : ℕ) (ts : List Token) → ArePlaced tokens.now first ts near
+    ensures none { IsNone result → (first : ℕ) (ts : List Token)
+        → ArePlaced tokens.now first ts near
         → first ≤ offset → first + bound ts (length ts) ≤ offset }
 {
     if near.number > tokens.len() {

@@ -14,7 +14,8 @@ use rustc_lexer::{settled, strip_shebang};
 /// there is none.
 #[unsafe(no_mangle)]
 pub extern "C" fn rustc_lexer_strip_shebang(text: &[u8], line_len: &mut usize) -> u32
-    ensures { Writes text.now (Unit {0}) OK (some_or_zero (shebang text.now)) 0 line_len.new result }
+    ensures { Writes text.now (Unit {0}) OK (some_or_zero (shebang text.now))
+        0 line_len.new result }
 {
     match text_of(text) {
         Ok(text) => done(shebang_len(text), line_len),
@@ -27,7 +28,8 @@ pub extern "C" fn rustc_lexer_strip_shebang(text: &[u8], line_len: &mut usize) -
 #[unsafe(no_mangle)]
 pub extern "C" fn rustc_lexer_strip_shebang_unchecked(text: &[u8], line_len: &mut usize) -> u32
     requires utf8 { IsUtf8 text.now }
-    ensures { Writes text.now (Unit {0}) OK (some_or_zero (shebang text.now)) 0 line_len.new result }
+    ensures { Writes text.now (Unit {0}) OK (some_or_zero (shebang text.now))
+        0 line_len.new result }
 {
     match utf8_text_of(text) {
         Ok(text) => done(shebang_len(text), line_len),

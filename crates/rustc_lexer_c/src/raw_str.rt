@@ -110,7 +110,8 @@ pub extern "C" fn rustc_lexer_starts_raw_unchecked(text: &[u8], prefix_len: u32)
 /// of the next token.
 #[unsafe(no_mangle)]
 pub extern "C" fn rustc_lexer_guarded_str(text: &[u8], string: &mut CGuardedStr) -> u32
-    ensures { Writes text.now (Unit {0}) OK (spec.guarded_at text.now) (spec.guarded_numbers None) string.new result }
+    ensures { Writes text.now (Unit {0}) OK (spec.guarded_at text.now) (spec.guarded_numbers None)
+        string.new result }
 {
     match text_of(text) {
         Ok(text) => done(guarded_str(text), string),
@@ -123,7 +124,8 @@ pub extern "C" fn rustc_lexer_guarded_str(text: &[u8], string: &mut CGuardedStr)
 #[unsafe(no_mangle)]
 pub extern "C" fn rustc_lexer_guarded_str_unchecked(text: &[u8], string: &mut CGuardedStr) -> u32
     requires utf8 { IsUtf8 text.now }
-    ensures { Writes text.now (Unit {0}) OK (spec.guarded_at text.now) (spec.guarded_numbers None) string.new result }
+    ensures { Writes text.now (Unit {0}) OK (spec.guarded_at text.now) (spec.guarded_numbers None)
+        string.new result }
 {
     match utf8_text_of(text) {
         Ok(text) => done(guarded_str(text), string),

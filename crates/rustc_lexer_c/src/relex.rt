@@ -118,7 +118,8 @@ fn relex(
     count: &mut usize,
 ) -> u32
     requires fits { Fits text.now }
-    ensures status { spec.IsRelexStatus text.now edit.now edition (length old.now) relexing.old result }
+    ensures status { spec.IsRelexStatus text.now edit.now edition (length old.now) relexing.old
+        result }
     ensures batch { result ≡ OK → (year : Edition) → edition_of_year edition ≡ Some year
         → spec.IsRelexBatch year text.now old.now edit.now relexing.old
         buffer.old relexing.new buffer.new count.new }

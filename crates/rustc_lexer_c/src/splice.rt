@@ -17,7 +17,8 @@ pub extern "C" fn rustc_lexer_splice(
     kept_back: usize,
     lexed: &[CToken],
 ) -> u32
-    ensures { Splices buffer.old count.old kept_front kept_back lexed.now buffer.new count.new result }
+    ensures { Splices buffer.old count.old kept_front kept_back lexed.now buffer.new count.new
+        result }
 {
     let old = *count;
     let places = buffer.len();

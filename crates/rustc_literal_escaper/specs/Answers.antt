@@ -1,6 +1,6 @@
--- What the grammar answers, under the names that contracts use. Each answer is taken from a value whose type says that
--- the grammar allows this answer and no other. A reader need only read that type. How an answer is found, and the proof
--- that it is the only one, are in laws/TheAnswers.antt.
+-- What the grammar answers, under the names that contracts use. Each answer is taken from a value
+-- whose type says that the grammar allows this answer and no other. A reader need only read that
+-- type. How an answer is found, and the proof that it is the only one, are in laws/TheAnswers.antt.
 use Rattle.std.specs.Prelude.{ℕ, Bool, List, Result, Ok, Err}
 use Rattle.std.specs.Option.{option_to_list}
 use Rattle.std.specs.Result.{result_err}

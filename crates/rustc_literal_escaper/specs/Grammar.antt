@@ -1,10 +1,12 @@
--- The grammar of the text between the quotes of a literal: its elements, and the units, errors and warnings that they
--- make. There is one rule for each form, and no rule says how a text is read. docs/ESCAPES.md explains the rules in
--- words, and Meaning.antt says what an element stands for in each kind of literal.
+-- The grammar of the text between the quotes of a literal: its elements, and the units, errors and
+-- warnings that they make. There is one rule for each form, and no rule says how a text is read.
+-- docs/ESCAPES.md explains the rules in words, and Meaning.antt says what an element stands for in
+-- each kind of literal.
 --
--- Names in capitals are productions of the Rust Reference. `w` is the text of an element, and `next` is all of the text
--- after it, which is [] at the end of the literal. The Reference has no text that is wrong. Here its parts are elements
--- too, and the text of an error ends with the character that shows it, or with the literal.
+-- Names in capitals are productions of the Rust Reference. `w` is the text of an element, and
+-- `next` is all of the text after it, which is [] at the end of the literal. The Reference has no
+-- text that is wrong. Here its parts are elements too, and the text of an error ends with the
+-- character that shows it, or with the literal.
 use Rattle.std.specs.Prelude.{◌≡◌, ◌↔◌, ◌<◌, ◌≤◌, ℕ, ◌+◌, ◌*◌, ◌==◌, ◌||◌, Bool, true, false, if◌then◌else◌, List, [], ◌∷◌, ◌++◌, length, fold, filter, codes, Result, Ok, Err}
 use Rattle.std.specs.Char.{digit_value, is_digit, is_whitespace}
 use Rattle.std.specs.List.{list_all, list_any}
@@ -67,7 +69,8 @@ pub data IsEscapeBefore (next : Chars) : Element → Chars → Type 0 where
   of_number : {d : ℕ} {w : Chars}
       → AreDigits (d ∷ w)
       → length (filter is_hex (d ∷ w)) ≤ 6
-      → IsEscapeBefore next (Unicode (hex_value (filter is_hex (d ∷ w)))) (codes "u{" ++ d ∷ w ++ codes "}")
+      → IsEscapeBefore next (Unicode (hex_value (filter is_hex (d ∷ w))))
+      (codes "u{" ++ d ∷ w ++ codes "}")
   -- errors: a backslash at the end, and one before any other character
   lone : next ≡ [] → IsEscapeBefore next (Fault LoneSlash) []
   invalid : {c : ℕ}
@@ -139,9 +142,11 @@ Error = Range ℕ × EscapeError
 abbrev pub front_range : Chars → Range ℕ
 front_range w = record { start = 0; end = bytes w }
 
--- what a text stands for: CHAR_LITERAL or BYTE_LITERAL without its quotes has one element, whose meaning is its unit.
--- Otherwise it has one error, that of its first element, or else that more follows
-pub data IsSingle {U : Type 0} (meaning : Element → Result U EscapeError) : Chars → Result U Error → Type 0 where
+-- what a text stands for: CHAR_LITERAL or BYTE_LITERAL without its quotes has one element, whose
+-- meaning is its unit. Otherwise it has one error, that of its first element, or else that more
+-- follows
+pub data IsSingle {U : Type 0} (meaning : Element → Result U EscapeError) : Chars → Result U Error
+    → Type 0 where
   unit : {element : Element} {w : Chars} {u : U}
       → IsElementBefore (codes "'\n\t") [] element w
       → meaning element ≡ Ok u
@@ -181,16 +186,18 @@ next_is p (c ∷ s) = p c
 -- a warning if the skipped white space has another newline. It covers everything that is skipped
 abbrev pub lines_warning : ℕ → Chars → List Item
 lines_warning from space =
-    if list_any is_newline space then item from (Fault MultipleSkippedLinesWarning) (codes "\\\n" ++ space) ∷ [] else []
+    if list_any is_newline space then item from (Fault MultipleSkippedLinesWarning)
+    (codes "\\\n" ++ space) ∷ [] else []
 
 -- a warning if other white space follows. It covers the first character of that too
 abbrev pub space_warning : ℕ → Chars → Chars → List Item
 space_warning from space [] = []
 space_warning from space (c ∷ next) =
-    if is_whitespace c then item from (Fault UnskippedWhitespaceWarning) (codes "\\\n" ++ space ++ c ∷ []) ∷ [] else []
+    if is_whitespace c then item from (Fault UnskippedWhitespaceWarning)
+    (codes "\\\n" ++ space ++ c ∷ []) ∷ [] else []
 
--- the items of a text that begins at the offset `from`. The text is STRING_LITERAL, BYTE_STRING_LITERAL or
--- C_STRING_LITERAL without its quotes, or that of a raw string
+-- the items of a text that begins at the offset `from`. The text is STRING_LITERAL,
+-- BYTE_STRING_LITERAL or C_STRING_LITERAL without its quotes, or that of a raw string
 pub data AreItems : (raw : Bool) → (from : ℕ) → Chars → List Item → Type 0 where
   nothing : {raw : Bool} {from : ℕ} → AreItems raw from [] []
   -- any element but a backslash before a newline
@@ -204,7 +211,8 @@ pub data AreItems : (raw : Bool) → (from : ℕ) → Chars → List Item → Ty
       → list_all is_passed_over space ≡ true
       → next_is is_passed_over next ≡ false
       → AreItems false (from + bytes (codes "\\\n" ++ space)) next items
-      → AreItems false from (codes "\\\n" ++ space ++ next) (lines_warning from space ++ space_warning from space next ++ items)
+      → AreItems false from (codes "\\\n" ++ space ++ next)
+      (lines_warning from space ++ space_warning from space next ++ items)
   raw_element : {from c : ℕ} {next : Chars} {element : Element} {items : List Item}
       → IsRawElement element c
       → AreItems true (from + bytes (c ∷ [])) next items

@@ -9,15 +9,16 @@ use Rattle.rustc_literal_escaper.specs.Answers.{items_of}
 use Rattle.rustc_literal_escaper.specs.Grammar.{Item, is_passed_over}
 use Rattle.rustc_literal_escaper.specs.Meaning.{is_fatal}
 
--- what `next` does if the iterator has this list of items left: it takes the first, or returns None if there is none
+-- what `next` does if the iterator has this list of items left: it takes the first, or returns None
+-- if there is none
 abbrev pub TakesFirst : {A : Type 0} → List A → Option A → List A → Type 0
 TakesFirst s None t = (s ≡ []) × (t ≡ [])
 TakesFirst s (Some item) t = s ≡ item ∷ t
 
 -- ---- plain text
 
--- the characters that stand for themselves: in a raw string all but a carriage return, otherwise all but a backslash, a
--- double quote and a carriage return
+-- the characters that stand for themselves: in a raw string all but a carriage return, otherwise
+-- all but a backslash, a double quote and a carriage return
 abbrev pub is_plain : Bool → ℕ → Bool
 is_plain false c = not (c == byte "\\") && (not (c == byte "\"") && not (c == 13))
 is_plain true c = not (c == 13)
@@ -27,7 +28,9 @@ elements_in items = map (λ item. item.1) items
 
 -- the elements of a text of such characters are these characters
 abbrev pub StandsForItself : Bool → List ℕ → Type 0
-StandsForItself raw text = list_all (is_plain raw) (chars text) ≡ true → elements_in (items_of raw text) ≡ map Plain (chars text)
+StandsForItself raw text =
+    list_all (is_plain raw) (chars text) ≡ true
+    → elements_in (items_of raw text) ≡ map Plain (chars text)
 
 -- ---- places
 
@@ -42,7 +45,8 @@ ArePlaced text items = All (IsPlaced text) items
 
 -- ---- a text is rebuilt from the ranges of its items
 
--- skipped line ends, each of which is a backslash, a newline, and the white space that is skipped after it
+-- skipped line ends, each of which is a backslash, a newline, and the white space that is skipped
+-- after it
 abbrev pub line_ends : List (List ℕ) → List ℕ
 line_ends [] = []
 line_ends (space ∷ spaces) = byte "\\" ∷ 10 ∷ (space ++ line_ends spaces)
@@ -50,23 +54,30 @@ line_ends (space ∷ spaces) = byte "\\" ∷ 10 ∷ (space ++ line_ends spaces)
 -- any number of skipped line ends, also none; a raw string has none
 abbrev pub AreLineEnds : Bool → List ℕ → Type 0
 AreLineEnds true bytes = bytes ≡ []
-AreLineEnds false bytes = (spaces : List (List ℕ)) × (list_all (list_all is_passed_over) spaces ≡ true) × (bytes ≡ line_ends spaces)
+AreLineEnds false bytes =
+    (spaces : List (List ℕ)) × (list_all (list_all is_passed_over) spaces ≡ true)
+    × (bytes ≡ line_ends spaces)
 
--- the rest of a text from the offset `from` on consists of skipped line ends, the bytes of this range, and `rest`
-pub record IsNext (raw : Bool) (from : ℕ) (left : List ℕ) (place : Range ℕ) (rest : List ℕ) : Type 0 where
-  pub skipped : List ℕ
-  pub marked : List ℕ
-  pub line_ends : AreLineEnds raw skipped
-  pub start : place.start ≡ from + length skipped
-  pub end : place.end ≡ place.start + length marked
-  pub whole : left ≡ skipped ++ (marked ++ rest)
+-- the rest of a text from the offset `from` on consists of skipped line ends, the bytes of this
+-- range, and `rest`
+pub record IsNext (raw : Bool) (from : ℕ) (left : List ℕ) (place : Range ℕ) (rest : List ℕ) : Type 0
+  where
+    pub skipped : List ℕ
+    pub marked : List ℕ
+    pub line_ends : AreLineEnds raw skipped
+    pub start : place.start ≡ from + length skipped
+    pub end : place.end ≡ place.start + length marked
+    pub whole : left ≡ skipped ++ (marked ++ rest)
 
--- the rest consists of the bytes of these ranges, in order, with nothing but skipped line ends around them
+-- the rest consists of the bytes of these ranges, in order, with nothing but skipped line ends
+-- around them
 abbrev pub IsMadeOf : Bool → ℕ → List ℕ → List (Range ℕ) → Type 0
 IsMadeOf raw from left [] = AreLineEnds raw left
-IsMadeOf raw from left (place ∷ places) = (rest : List ℕ) × IsNext raw from left place rest × IsMadeOf raw place.end rest places
+IsMadeOf raw from left (place ∷ places) =
+    (rest : List ℕ) × IsNext raw from left place rest × IsMadeOf raw place.end rest places
 
--- whether an element is a warning: it reports a skipped line end, and is not part of what the text stands for
+-- whether an element is a warning: it reports a skipped line end, and is not part of what the text
+-- stands for
 abbrev pub is_warning : Element → Bool
 is_warning (Fault error) = not (is_fatal error)
 is_warning element = false

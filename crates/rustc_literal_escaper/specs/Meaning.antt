@@ -12,10 +12,12 @@ use Rattle.rustc_literal_escaper.specs.declared.unit.MixedUnit.{MixedUnit}
 use Rattle.rustc_literal_escaper.specs.declared.unit.MixedUnit.TheVariants.{Char as CharUnit, HighByte}
 use Rattle.rustc_literal_escaper.specs.Grammar.{Error, Item}
 
--- the character with this number, or an error: U+D800 to U+DFFF are surrogates, and no character is greater than
--- U+10FFFF
+-- the character with this number, or an error: U+D800 to U+DFFF are surrogates, and no character is
+-- greater than U+10FFFF
 abbrev pub scalar_of : ℕ → Result ℕ EscapeError
-scalar_of n = if nat_lt n 0xD800 then Ok n else if nat_lt n 0xE000 then Err LoneSurrogateUnicodeEscape else if nat_lt n 0x11_0000 then Ok n else Err OutOfRangeUnicodeEscape
+scalar_of n =
+    if nat_lt n 0xD800 then Ok n else if nat_lt n 0xE000 then Err LoneSurrogateUnicodeEscape else if
+    nat_lt n 0x11_0000 then Ok n else Err OutOfRangeUnicodeEscape
 
 -- in a character or a string, where `\x` stands for an ASCII character
 abbrev pub char_of : Element → Result ℕ EscapeError

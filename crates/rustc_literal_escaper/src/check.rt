@@ -122,7 +122,8 @@ pub(crate) fn is_raw(mode: Mode) -> bool
 fn check_single<F: FnMut(Range<usize>, EscapeError)>(src: &str, mode: Mode, callback: &mut F)
     requires callable { F.IsAlwaysCallable callback.old }
     ensures calls { FoldsTo (λ f error g. F.step f error.0 error.1 tt g)
-        callback.old (option_to_list (means.single_error (length src.now) mode (chars src.now))) callback.new }
+        callback.old (option_to_list (means.single_error (length src.now) mode (chars src.now)))
+        callback.new }
 {
     if let Some((range, error)) = single_error(src, mode) {
         callback(range, error);
@@ -219,7 +220,8 @@ fn check_escaped<F: FnMut(Range<usize>, EscapeError)>(
     requires callable { F.IsAlwaysCallable callback.old }
     requires fits { length rest.now ≤ total }
     ensures calls { FoldsTo (λ f error g. F.step f error.0 error.1 tt g)
-        callback.old (spec.errors_in mode (items_from (front_by false) total (chars rest.now))) callback.new }
+        callback.old (spec.errors_in mode (items_from (front_by false) total (chars rest.now)))
+        callback.new }
 {
     let mut left = rest;
     'items: loop {
@@ -271,9 +273,11 @@ fn check_unescaped<'a, F: FnMut(Range<usize>, EscapeError)>(
     requires fits { length rest.now ≤ total }
     ensures callable { F.IsAlwaysCallable callback.new }
     ensures calls { (last : F) → FoldsTo (λ f error g. F.step f error.0 error.1 tt g)
-        callback.new (spec.errors_in mode (items_from (front_by false) total (chars result.now))) last
+        callback.new (spec.errors_in mode (items_from (front_by false) total (chars result.now)))
+        last
         → FoldsTo (λ f error g. F.step f error.0 error.1 tt g)
-        callback.old (spec.errors_in mode (items_from (front_by false) total (chars rest.now))) last }
+        callback.old (spec.errors_in mode (items_from (front_by false) total
+            (chars rest.now))) last }
     ensures shorter { length result.now ≤ length rest.now }
     ensures text { IsUtf8 result.now }
 {
@@ -306,7 +310,8 @@ fn check_warnings<'a, F: FnMut(Range<usize>, EscapeError)>(
     requires fits { length line.now ≤ total }
     ensures callable { F.IsAlwaysCallable callback.new }
     ensures calls { FoldsTo (λ f error g. F.step f error.0 error.1 tt g)
-        callback.old (spec.errors_in mode (map (item_at total start) (line_end (chars line.now)).found)) callback.new }
+        callback.old (spec.errors_in mode
+        (map (item_at total start) (line_end (chars line.now)).found)) callback.new }
     ensures left { chars result.now ≡ (line_end (chars line.now)).left }
     ensures shorter { length result.now ≤ length line.now }
     ensures text { IsUtf8 result.now }
@@ -357,7 +362,8 @@ fn check_element<F: FnMut(Range<usize>, EscapeError)>(
 /// It does not look for them if the next character is outside ASCII.
 #[inline(always)]
 fn past_simple_front(rest: &str) -> &str
-    ensures same { (mode : Mode) (total : ℕ) → spec.errors_in mode (items_from (front_by false) total (chars result.now))
+    ensures same { (mode : Mode) (total : ℕ)
+        → spec.errors_in mode (items_from (front_by false) total (chars result.now))
         ≡ spec.errors_in mode (items_from (front_by false) total (chars rest.now)) }
     ensures text { IsUtf8 result.now }
     ensures shorter { length result.now ≤ length rest.now }
@@ -372,7 +378,8 @@ fn past_simple_front(rest: &str) -> &str
 /// otherwise after simple ones.
 #[inline(always)]
 fn past_fine(rest: &str, mode: Mode) -> &str
-    ensures same { (total : ℕ) → spec.errors_in mode (items_from (front_by false) total (chars result.now))
+    ensures same { (total : ℕ)
+        → spec.errors_in mode (items_from (front_by false) total (chars result.now))
         ≡ spec.errors_in mode (items_from (front_by false) total (chars rest.now)) }
     ensures text { IsUtf8 result.now }
     ensures shorter { length result.now ≤ length rest.now }
@@ -412,7 +419,8 @@ fn check_raw_in<F: FnMut(Range<usize>, EscapeError)>(
     requires callable { F.IsAlwaysCallable callback.old }
     requires fits { length rest.now ≤ total }
     ensures calls { FoldsTo (λ f error g. F.step f error.0 error.1 tt g)
-        callback.old (spec.errors_in mode (items_from (front_by true) total (chars rest.now))) callback.new }
+        callback.old (spec.errors_in mode (items_from (front_by true) total (chars rest.now)))
+        callback.new }
 {
     let mut left = rest;
     'items: loop {
@@ -442,7 +450,8 @@ fn check_raw_part<F: FnMut(Range<usize>, EscapeError)>(
     requires within { length part.now ≤ end }
     ensures callable { F.IsAlwaysCallable callback.new }
     ensures calls { FoldsTo (λ f error g. F.step f error.0 error.1 tt g)
-        callback.old (spec.errors_in mode (items_from (front_by true) end (chars part.now))) callback.new }
+        callback.old (spec.errors_in mode (items_from (front_by true) end (chars part.now)))
+        callback.new }
 {
     let mut chars = part.chars();
     'chars: loop {
@@ -463,7 +472,8 @@ fn check_raw_part<F: FnMut(Range<usize>, EscapeError)>(
 /// Returns the text after characters at the front of a raw string that are not wrong in this mode.
 #[inline(always)]
 fn past_fine_raw(rest: &str, mode: Mode) -> &str
-    ensures same { (total : ℕ) → spec.errors_in mode (items_from (front_by true) total (chars result.now))
+    ensures same { (total : ℕ)
+        → spec.errors_in mode (items_from (front_by true) total (chars result.now))
         ≡ spec.errors_in mode (items_from (front_by true) total (chars rest.now)) }
     ensures text { IsUtf8 result.now }
     ensures shorter { length result.now ≤ length rest.now }

@@ -81,7 +81,8 @@ pub(crate) fn whole_escape(rest: &str) -> Option<Element>
 /// Returns the byte of two digits, if they are digits.
 #[inline(always)]
 fn whole_byte(high: u8, low: u8) -> Option<Element>
-    ensures { IfSome result (λ e. (high < 128) × (low < 128) × ((e, []) ≡ spec.hex (high ∷ low ∷ []))) }
+    ensures { IfSome result (λ e. (high < 128) × (low < 128)
+        × ((e, []) ≡ spec.hex (high ∷ low ∷ []))) }
 {
     let high = hex_digit(high as char)?;
     let low = hex_digit(low as char)?;
@@ -170,7 +171,8 @@ static DIGITS: [u8; 128] = [
 /// Returns the value of a hexadecimal digit, or `None` for any other character.
 #[inline(always)]
 fn hex_digit(c: char) -> Option<u32>
-    ensures { MatchOption result (digit_value c < 16 → ⊥) (λ v. (digit_value c < 16) × (v ≡ digit_value c)) }
+    ensures { MatchOption result (digit_value c < 16 → ⊥)
+        (λ v. (digit_value c < 16) × (v ≡ digit_value c)) }
 {
     let digit = digit_or_16(c);
     if digit < 16 {

@@ -91,7 +91,8 @@ fn read_other<M: Meaning>(src: &str) -> Result<M::Meant, EscapeError>
 #[inline(never)]
 #[tactic(auto, using(crate::proofs::WholeLemmas::alone_at))]
 fn read_marked<M: Meaning>(c: char, tail: &str) -> Result<M::Meant, EscapeError>
-    ensures { result ≡ spec.alone (M.meaning (spec.single c (chars tail.now)).0) (spec.single c (chars tail.now)).1 }
+    ensures { result ≡ spec.alone (M.meaning (spec.single c (chars tail.now)).0)
+        (spec.single c (chars tail.now)).1 }
 {
     if let Some(element) = whole_at(c, tail) {
         return M::of(element);
@@ -102,7 +103,8 @@ fn read_marked<M: Meaning>(c: char, tail: &str) -> Result<M::Meant, EscapeError>
 /// Does what [`read_marked`] does, for the elements that few literals have.
 #[inline(never)]
 fn read_rest<M: Meaning>(c: char, tail: &str) -> Result<M::Meant, EscapeError>
-    ensures { result ≡ spec.alone (M.meaning (spec.single c (chars tail.now)).0) (spec.single c (chars tail.now)).1 }
+    ensures { result ≡ spec.alone (M.meaning (spec.single c (chars tail.now)).0)
+        (spec.single c (chars tail.now)).1 }
 {
     let (element, left) = first(c, tail);
     alone(M::of(element), left)

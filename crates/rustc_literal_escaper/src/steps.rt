@@ -277,7 +277,8 @@ fn unescaped_by_call(c: char) -> Element
 #[inline(always)]
 fn strip_newline(text: &str) -> Option<&str>
     ensures { MatchOption result (IsTrue (not (spec.begins_line (chars text.now))))
-        (λ r. (chars text.now ≡ 10 ∷ chars r.now) × (length r.now < length text.now) × IsUtf8 r.now) }
+        (λ r. (chars text.now ≡ 10 ∷ chars r.now) × (length r.now < length text.now)
+            × IsUtf8 r.now) }
 {
     let (c, tail) = split_passed(text)?;
     if c == '\n' { Some(tail) } else { None }
@@ -370,7 +371,8 @@ pub(crate) fn more_lines(
 ) -> Option<(Range<usize>, Element)>
     requires fits { length left.now ≤ total }
     ensures { option_to_list result ≡ map (spec.item_at total start)
-        (if newline then (Element.Fault EscapeError.MultipleSkippedLinesWarning, chars left.now) ∷ [] else []) }
+        (if newline then (Element.Fault EscapeError.MultipleSkippedLinesWarning, chars left.now)
+        ∷ [] else []) }
 {
     if !newline {
         return None;

@@ -35,15 +35,20 @@ contents-some mode text = elim (quotes-in (delimiter mode) text) [
 
 pub inside-some : (kind : TokenKind) (text : Utf8) (o : Option Mode) → closed_mode kind ≡ o → (found : Option (Mode × Range ℕ)) × IsInside kind text found
 inside-some kind text (Some mode) is =
-    let has = contents-some mode text in
-    (has.0, record {
-      closed = λ m e. subst (λ (x : Mode). IsQuotedIn x text has.0) (let some : Some mode ≡ Some m = sym is ∙ e in cc) has.1;
-      other = λ e. absurd (let not : Some mode ≡ None = sym is ∙ e in cc);
-    })
-inside-some kind text None is = (None, record {
-  closed = λ m e. absurd (let not : None ≡ Some m = sym is ∙ e in cc);
-  other = λ e. refl;
-})
+    let has = contents-some mode text in (
+      has.0,
+      record {
+        closed = λ m e. subst (λ (x : Mode). IsQuotedIn x text has.0) (let some : Some mode ≡ Some m = sym is ∙ e in cc) has.1;
+        other = λ e. absurd (let not : Some mode ≡ None = sym is ∙ e in cc);
+      },
+    )
+inside-some kind text None is = (
+  None,
+  record {
+    closed = λ m e. absurd (let not : None ≡ Some m = sym is ∙ e in cc);
+    other = λ e. refl;
+  },
+)
 
 pub inside-same : {kind : TokenKind} {text : Utf8} {a b : Option (Mode × Range ℕ)} → IsInside kind text a → IsInside kind text b → a ≡ b
 inside-same {kind} is also = by_found (closed_mode kind) (λ mode e. contents-same (is.closed mode e) (also.closed mode e)) (λ e. is.other e ∙ sym (also.other e))

@@ -73,16 +73,20 @@ module _ (q : ℕ) where
   pub quotes-in : (text : Utf8) → ((start : ℕ) × (end : ℕ) × IsQuoted q text start end) ⊎ IsUnquoted q text
   quotes-in text = elim (first-in text) [
     | inl first ↦ elim (last-in first.rest) [
-      | inl last ↦ inl (length first.prefix + 1, length first.prefix + 1 + length last.front, record {
-        prefix = first.prefix;
-        contents = last.front;
-        suffix = last.suffix;
-        whole = first.whole ∙ ap (λ (r : Utf8). first.prefix ++ q ∷ r) last.whole;
-        before = first.before;
-        after = last.after;
-        starts = refl;
-        ends = refl;
-      })
+      | inl last ↦ inl (
+        length first.prefix + 1,
+        length first.prefix + 1 + length last.front,
+        record {
+          prefix = first.prefix;
+          contents = last.front;
+          suffix = last.suffix;
+          whole = first.whole ∙ ap (λ (r : Utf8). first.prefix ++ q ∷ r) last.whole;
+          before = first.before;
+          after = last.after;
+          starts = refl;
+          ends = refl;
+        },
+      )
       | inr none ↦ inr (record {
         never = λ start end is.
             let same = first-same first.prefix is.prefix first.rest (is.contents ++ q ∷ is.suffix) first.before is.before (sym first.whole ∙ is.whole) in

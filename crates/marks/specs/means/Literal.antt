@@ -1,4 +1,5 @@
--- The stretches of a literal, as the code finds them in the items of what stands between the quotes.
+-- The stretches of a literal, as the code finds them in the items of what stands between the
+-- quotes.
 use Rattle.std.specs.Prelude.{ℕ, ◌+◌, nat_lt, if◌then◌else◌, List, [], ◌∷◌, ◌++◌, drop, Some}
 use Rattle.std.specs.Fmt.{WritesInCalls}
 use Rattle.std.specs.List.{between}
@@ -16,25 +17,33 @@ use Rattle.marks.specs.Part.{with_marks}
 abbrev pub gap : ℕ → ℕ → List Stretch
 gap at start = if nat_lt at start then stretch at start (Some Escape) else []
 
--- the stretches of the items of a text that begins at the offset `begin` of the literal: those from the offset `at` up
--- to `close`. An item that begins before `at` was reported already
+-- the stretches of the items of a text that begins at the offset `begin` of the literal: those from
+-- the offset `at` up to `close`. An item that begins before `at` was reported already
 abbrev pub stretches_from : Mode → ℕ → ℕ → ℕ → List Item → List Stretch
 stretches_from mode begin at close [] = gap at close
 stretches_from mode begin at close (item ∷ items) =
     if nat_lt (begin + item.0.start) at then stretches_from mode begin at close items
-    else gap at (begin + item.0.start) ++ (stretch (begin + item.0.start) (begin + item.0.end) (element_look mode item.1) ++ stretches_from mode begin (begin + item.0.end) close items)
+    else gap at (begin + item.0.start)
+    ++ (stretch (begin + item.0.start) (begin + item.0.end) (element_look mode item.1)
+    ++ stretches_from mode begin (begin + item.0.end) close items)
 
 -- those of a text between double quotes
 abbrev pub string_stretches : Mode → ℕ → ℕ → Utf8 → List Stretch
-string_stretches mode begin close text = stretches_from mode begin begin close (items_of (is_raw mode) (between begin close text))
+string_stretches mode begin close text =
+    stretches_from mode begin begin close (items_of (is_raw mode) (between begin close text))
 
 -- and of a text between single quotes
 abbrev pub single_stretches : Mode → ℕ → ℕ → Utf8 → List Stretch
-single_stretches mode begin close text = stretch begin close (char_look (char_error mode (between begin close text)) (between begin close text))
+single_stretches mode begin close text =
+    stretch begin close (char_look (char_error mode (between begin close text))
+    (between begin close text))
 
--- a writer that has written a literal up to the offset `shown` writes these stretches, and has then written it up to
--- `to`: whatever stretches follow, writing those too completes the literal
-abbrev pub WritesOn : {W : Type 0} → (W → List ℕ → W → Type 0) → Style → Utf8 → W → ℕ → List Stretch → W → ℕ → Type 0
+-- a writer that has written a literal up to the offset `shown` writes these stretches, and has then
+-- written it up to `to`: whatever stretches follow, writing those too completes the literal
+abbrev pub WritesOn : {W : Type 0} → (W → List ℕ → W → Type 0) → Style → Utf8 → W → ℕ → List Stretch
+    → W → ℕ → Type 0
 WritesOn {W} took style text old shown stretches new to =
-    (more : List Stretch) (last : W) → WritesInCalls took new (with_marks style (parts_from to (drop to text) more)) last
-    → WritesInCalls took old (with_marks style (parts_from shown (drop shown text) (stretches ++ more))) last
+    (more : List Stretch) (last : W)
+    → WritesInCalls took new (with_marks style (parts_from to (drop to text) more)) last
+    → WritesInCalls took old
+    (with_marks style (parts_from shown (drop shown text) (stretches ++ more))) last

@@ -20,9 +20,9 @@ followed_by (Some n) next = more n (next n)
 abbrev pub twice : (List ℕ → Option ℕ) → List ℕ → Option ℕ
 twice end s = followed_by (end s) (λ n. end (drop n s))
 
--- how many characters up to the end of the comment: at a closing mark 2; at an opening mark 2 and, twice, up to an end:
--- of the comment that it opens, and then of this one; elsewhere one character, and what is left up to the end. The first
--- number is no less than the text is long.
+-- how many characters up to the end of the comment: at a closing mark 2; at an opening mark 2 and,
+-- twice, up to an end: of the comment that it opens, and then of this one; elsewhere one character,
+-- and what is left up to the end. The first number is no less than the text is long.
 abbrev pub end_within : ℕ → List ℕ → Option ℕ
 end_within zero s = None
 end_within (suc fuel) [] = None
@@ -35,12 +35,13 @@ end_within (suc fuel) (c ∷ cs) =
 abbrev pub comment_end : List ℕ → Option ℕ
 comment_end s = end_within (length s) s
 
--- `!` makes the doc of what the comment stands in, and one more `*` that neither `*` nor `/` follows the doc of what
--- comes next
+-- `!` makes the doc of what the comment stands in, and one more `*` that neither `*` nor `/`
+-- follows the doc of what comes next
 abbrev pub block_doc_style : List ℕ → Option DocStyle
 block_doc_style s =
     if begins (codes "!") s then Some Inner
-    else (if begins (codes "*") s && (not (begins (codes "**") s) && not (begins (codes "*/") s)) then Some Outer else None)
+    else (if begins (codes "*") s && (not (begins (codes "**") s) && not (begins (codes "*/") s))
+    then Some Outer else None)
 
 -- a comment that nothing closes takes the rest of the text
 abbrev pub block_comment_to : Option ℕ → List ℕ → TokenKind × ℕ

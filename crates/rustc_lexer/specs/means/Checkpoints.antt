@@ -1,4 +1,5 @@
--- Means, by how it is read: bounds of a list of tokens that are remembered, and what becomes of them in an edit.
+-- Means, by how it is read: bounds of a list of tokens that are remembered, and what becomes of
+-- them in an edit.
 use Rattle.std.specs.Prelude.{◌≡◌, ◌+◌, ◌<◌, ◌≤◌, ◌^◌, ℕ, List, length, take, drop}
 use Rattle.std.specs.List.{All}
 use Rattle.rustc_lexer.specs.declared.relex.front.Bound.{Bound}
@@ -11,13 +12,15 @@ use Rattle.rustc_lexer.specs.Partition.{bound}
 
 -- a boundary of the tokens, by its number and its offset, if the first of them begins at `first`
 abbrev pub IsBoundFrom : ℕ → List Token → Bound → Type 0
-IsBoundFrom first tokens at = (at.number ≤ length tokens) × (at.offset ≡ first + bound tokens at.number)
+IsBoundFrom first tokens at =
+    (at.number ≤ length tokens) × (at.offset ≡ first + bound tokens at.number)
 
 -- all of them are bounds of the tokens
 abbrev pub AreBounds : List Token → Checkpoints → Type 0
 AreBounds tokens checkpoints = All (IsBound tokens) checkpoints.bounds
 
--- the tokens up to the bound `kept` stay, and so do those from `met` on, which is the bound `now` of the new tokens
+-- the tokens up to the bound `kept` stay, and so do those from `met` on, which is the bound `now`
+-- of the new tokens
 pub record IsReplaced (old new : List Token) (kept met now : Bound) : Type 0 where
   pub kept_bound : IsBound old kept
   pub met_bound : IsBound old met
@@ -28,7 +31,9 @@ pub record IsReplaced (old new : List Token) (kept met now : Bound) : Type 0 whe
 
 -- a bound at or past `met` can be moved to where `now` is
 abbrev pub IsMovable : Bound → Bound → Bound → Type 0
-IsMovable met now at = met.number ≤ at.number → (met.offset ≤ at.offset) × (at.number + now.number < 2 ^ 64) × (at.offset + now.offset < 2 ^ 64)
+IsMovable met now at =
+    met.number ≤ at.number → (met.offset ≤ at.offset) × (at.number + now.number < 2 ^ 64)
+    × (at.offset + now.offset < 2 ^ 64)
 
 -- where the last token ends that was lexed
 abbrev pub end_of : Relexing → Bound

@@ -5,10 +5,12 @@ use Rattle.rustc_lexer.specs.Classes.{is_inline}
 use Rattle.rustc_lexer.specs.means.BlockComment.{block_comment}
 use Rattle.rustc_lexer.specs.means.Scan.{after, begins, gives, run_len}
 
--- of what follows `//`: `!` makes the doc of what the comment stands in, and one more `/`, but not two, the doc of
--- what comes next
+-- of what follows `//`: `!` makes the doc of what the comment stands in, and one more `/`, but not
+-- two, the doc of what comes next
 abbrev pub line_doc_style : List ℕ → Option DocStyle
-line_doc_style s = if begins (codes "!") s then Some Inner else (if begins (codes "/") s && not (begins (codes "//") s) then Some Outer else None)
+line_doc_style s =
+    if begins (codes "!") s then Some Inner else
+    (if begins (codes "/") s && not (begins (codes "//") s) then Some Outer else None)
 
 -- what follows `//`, up to the newline or the end
 abbrev pub line_comment : List ℕ → TokenKind × ℕ

@@ -14,17 +14,28 @@ use Rattle.rustc_lexer.specs.means.Frontmatter.{frontmatter, opens, spaces_len}
 use Rattle.rustc_lexer.specs.means.Relexing.{IsBodyRelexed, IsRenewed}
 use Rattle.rustc_lexer.specs.means.Scan.{past}
 
--- the head of a text with a shebang line of n bytes. `rest` is the text after that line, and `past` the text after the
--- white space with which `rest` begins
+-- the head of a text with a shebang line of n bytes. `rest` is the text after that line, and `past`
+-- the text after the white space with which `rest` begins
 abbrev pub head_past : ℕ → List ℕ → List ℕ → Head
 head_past n rest past =
-    if opens (chars past) then record { shebang_len = n; space_len = length rest - length past; frontmatter = Some (frontmatter past); body = n + (length rest - length past) + (frontmatter past).len }
+    if opens (chars past) then record {
+      shebang_len = n;
+      space_len = length rest - length past;
+      frontmatter = Some
+          (frontmatter past);
+      body = n + (length rest - length past) + (frontmatter past).len;
+    }
     else record { shebang_len = n; space_len = 0; frontmatter = None; body = n }
 
 -- the same, but the frontmatter may begin with the white space
 abbrev pub head_at : ℕ → List ℕ → Head
 head_at n rest =
-    if opens (chars rest) then record { shebang_len = n; space_len = 0; frontmatter = Some (frontmatter rest); body = n + (frontmatter rest).len }
+    if opens (chars rest) then record {
+      shebang_len = n;
+      space_len = 0;
+      frontmatter = Some (frontmatter rest);
+      body = n + (frontmatter rest).len;
+    }
     else head_past n rest (past (spaces_len (chars rest)) rest)
 
 -- the head of a text
@@ -36,29 +47,45 @@ abbrev pub head_by : Bool → List ℕ → Head
 head_by true = head_of
 head_by false = λ text. record { shebang_len = 0; space_len = 0; frontmatter = None; body = 0 }
 
--- the tokens of a text, if `heads` says what its head is: those of the head, and those of the text after it
+-- the tokens of a text, if `heads` says what its head is: those of the head, and those of the text
+-- after it
 abbrev pub document_by : (List ℕ → Head) → (List ℕ → Token) → List ℕ → List Token
-document_by heads first text = tokens_of_head (heads text) ++ tokens_by first (drop (heads text).body text)
+document_by heads first text =
+    tokens_of_head (heads text) ++ tokens_by first (drop (heads text).body text)
 
 -- what is kept with a text: its tokens, its head, and boundaries of the tokens of its body
 abbrev pub AreKeptOf : Bool → (List ℕ → Token) → List ℕ → List Token → Head → Checkpoints → Type 0
 AreKeptOf whole first text tokens head checkpoints =
-    IsText text × (tokens ≡ document_by (head_by whole) first text) × (head ≡ head_by whole text) × IsCharBoundary text head.body
+    IsText text × (tokens ≡ document_by (head_by whole) first text) × (head ≡ head_by whole text)
+    × IsCharBoundary text head.body
     × AreBounds (drop (length (tokens_of_head head)) tokens) checkpoints
 
--- the change that an edit makes to the body, in offsets of the body, which began at `from` and now begins at `to`. If
--- the edit keeps the head, the change is the edit itself. Otherwise it is everything from the start of the body up to
--- the first position past the edit at which both bodies have begun
+-- the change that an edit makes to the body, in offsets of the body, which began at `from` and now
+-- begins at `to`. If the edit keeps the head, the change is the edit itself. Otherwise it is
+-- everything from the start of the body up to the first position past the edit at which both bodies
+-- have begun
 abbrev pub body_change : Bool → ℕ → ℕ → Change → Change
-body_change true from to edit = record { start = edit.start - from; old_stop = edit.old_stop - from; new_stop = edit.new_stop - from }
+body_change true from to edit =
+    record {
+      start = edit.start - from;
+      old_stop = edit.old_stop - from;
+      new_stop = edit.new_stop - from;
+    }
 body_change false from to edit =
     let more : ℕ = max (from - edit.old_stop) (to - edit.new_stop) in
-    record { start = 0; old_stop = edit.old_stop + more - from; new_stop = edit.new_stop + more - to }
+    record {
+      start = 0;
+      old_stop = edit.old_stop + more - from;
+      new_stop = edit.new_stop + more - to;
+    }
 
--- the counts of a document, made from those of its body and the number of tokens in its old and its new head
+-- the counts of a document, made from those of its body and the number of tokens in its old and its
+-- new head
 abbrev pub counted : Bool → ℕ → ℕ → Relexed → Relexed
-counted true old new r = record { kept_front = old + r.kept_front; lexed = r.lexed; kept_back = r.kept_back }
-counted false old new r = record { kept_front = r.kept_front; lexed = new + r.lexed; kept_back = r.kept_back }
+counted true old new r =
+    record { kept_front = old + r.kept_front; lexed = r.lexed; kept_back = r.kept_back }
+counted false old new r =
+    record { kept_front = r.kept_front; lexed = new + r.lexed; kept_back = r.kept_back }
 
 -- what an edit inserts into the body
 abbrev pub body_insert : Bool → Change → List ℕ → List ℕ → List ℕ
@@ -66,30 +93,41 @@ body_insert kept change insert body = if kept then insert else take change.new_s
 
 -- the head is the same after the edit, and ends before it
 abbrev pub HeadStays : (List ℕ → Head) → List ℕ → ℕ → ℕ → List ℕ → Type 0
-HeadStays heads text start stop insert = (heads text ≡ heads (apply text start stop insert)) × ((heads text).body ≤ start)
+HeadStays heads text start stop insert =
+    (heads text ≡ heads (apply text start stop insert)) × ((heads text).body ≤ start)
 
 -- the counts of an edit, from those of the edit of its body, if the head stays or if it does not
-abbrev pub IsRelexedAs : (List ℕ → Token) → List ℕ → ℕ → ℕ → List ℕ → Bool → Head → Head → List ℕ → Relexed → Type 0
+abbrev pub IsRelexedAs : (List ℕ → Token) → List ℕ → ℕ → ℕ → List ℕ → Bool → Head → Head → List ℕ
+    → Relexed → Type 0
 IsRelexedAs first text start stop insert kept old now made r =
-    let edit : Change = record { start = start; old_stop = stop; new_stop = start + length insert } in
+    let edit : Change =
+    record { start = start; old_stop = stop; new_stop = start + length insert } in
     let change : Change = body_change kept old.body now.body edit in
-    (body : Relexed) × IsBodyRelexed first (drop old.body text) change.start change.old_stop (body_insert kept change insert (drop now.body made)) body
+    (body : Relexed) × IsBodyRelexed first (drop old.body text) change.start change.old_stop
+    (body_insert kept change insert (drop now.body made)) body
     × (r ≡ counted kept (length (tokens_of_head old)) (length (tokens_of_head now)) body)
 
 -- the same, by the old text and the edit
-unfoldable pub IsRelexedWith : (List ℕ → Head) → Bool → (List ℕ → Token) → List ℕ → ℕ → ℕ → List ℕ → Relexed → Type 0
+unfoldable pub IsRelexedWith : (List ℕ → Head) → Bool → (List ℕ → Token) → List ℕ → ℕ → ℕ → List ℕ
+    → Relexed → Type 0
 IsRelexedWith heads kept first text start stop insert r =
-    IsRelexedAs first text start stop insert kept (heads text) (heads (apply text start stop insert)) (apply text start stop insert) r
+    IsRelexedAs first text start stop insert kept (heads text)
+    (heads (apply text start stop insert)) (apply text start stop insert) r
 
 -- r has the counts of an edit
-pub record IsRelexedByHead (heads : List ℕ → Head) (first : List ℕ → Token) (text : List ℕ) (start stop : ℕ) (insert : List ℕ) (r : Relexed) : Type 0 where
-  pub kept : HeadStays heads text start stop insert → IsRelexedWith heads true first text start stop insert r
-  pub changed : (HeadStays heads text start stop insert → ⊥) → IsRelexedWith heads false first text start stop insert r
+pub record IsRelexedByHead (heads : List ℕ → Head) (first : List ℕ → Token) (text : List ℕ)
+    (start stop : ℕ) (insert : List ℕ) (r : Relexed) : Type 0 where
+  pub kept : HeadStays heads text start stop insert
+      → IsRelexedWith heads true first text start stop insert r
+  pub changed : (HeadStays heads text start stop insert → ⊥)
+      → IsRelexedWith heads false first text start stop insert r
 
 -- the step count grew by the number of tokens that were lexed, except those of a new head
-pub record IsCountedByHead (heads : List ℕ → Head) (text : List ℕ) (start stop : ℕ) (insert : List ℕ) (before after lexed : ℕ) : Type 0 where
+pub record IsCountedByHead (heads : List ℕ → Head) (text : List ℕ) (start stop : ℕ)
+    (insert : List ℕ) (before after lexed : ℕ) : Type 0 where
   pub kept : HeadStays heads text start stop insert → after ≡ before + lexed
-  pub changed : (HeadStays heads text start stop insert → ⊥) → after + length (tokens_of_head (heads (apply text start stop insert))) ≡ before + lexed
+  pub changed : (HeadStays heads text start stop insert → ⊥)
+      → after + length (tokens_of_head (heads (apply text start stop insert))) ≡ before + lexed
 
 -- the new head, if the old one does not stay
 abbrev pub head_unless : Bool → Head → Option Head
@@ -102,7 +140,9 @@ head_put old None = old
 head_put old (Some head) = tokens_of_head head
 
 -- the tokens of the head, and after them those of the body, instead of the old ones
-pub record IsRenewedBehind (first : List ℕ → Token) (body : List ℕ) (change : Change) (made : List ℕ) (count : ℕ) (tokens : List Token) (head : Option Head) (now : List Token) (at : Relexing) : Type 0 where
+pub record IsRenewedBehind (first : List ℕ → Token) (body : List ℕ) (change : Change)
+    (made : List ℕ) (count : ℕ) (tokens : List Token) (head : Option Head) (now : List Token)
+    (at : Relexing) : Type 0 where
   pub behind : List Token
   pub renewed : IsRenewed first body change made (drop count tokens) behind at
   pub now_is : now ≡ head_put (take count tokens) head ++ behind

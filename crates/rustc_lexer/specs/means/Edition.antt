@@ -10,19 +10,21 @@ use Rattle.rustc_lexer.specs.means.Scan.{run_len}
 abbrev pub token : TokenKind → ℕ → Token
 token kind len = record { kind = kind; len = len }
 
--- whether the name after a quote is invalid as the name of a lifetime; the characters begin with the quote
+-- whether the name after a quote is invalid as the name of a lifetime; the characters begin with
+-- the quote
 abbrev pub has_marked_name : List ℕ → Bool
 has_marked_name [] = false
 has_marked_name (quote ∷ []) = false
 has_marked_name (quote ∷ c ∷ s) = is_bad_name (c ∷ (take (run_len is_word_continue s) s))
 
--- a token as an edition before 2024 has it. It reserves no guarded strings: a hash is a symbol, whatever follows it
+-- a token as an edition before 2024 has it. It reserves no guarded strings: a hash is a symbol,
+-- whatever follows it
 abbrev pub before_2024 : TokenKind → ℕ → Token
 before_2024 GuardedStrPrefix len = token Pound 1
 before_2024 kind len = token kind len
 
--- the token of these characters as an edition before 2021 has it. It reserves no prefixes either: no lifetime is raw,
--- and what newer editions read as a prefix is an identifier or a lifetime
+-- the token of these characters as an edition before 2021 has it. It reserves no prefixes either:
+-- no lifetime is raw, and what newer editions read as a prefix is an identifier or a lifetime
 abbrev pub before_2021 : List ℕ → TokenKind → ℕ → Token
 before_2021 cs RawLifetime len = token (Lifetime false) 2
 before_2021 cs UnknownPrefix len = token Ident len

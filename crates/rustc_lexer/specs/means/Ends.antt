@@ -1,4 +1,5 @@
--- Means, by how it is read: the ends of runs of bytes, as the bits of a number, and the tokens that these determine.
+-- Means, by how it is read: the ends of runs of bytes, as the bits of a number, and the tokens that
+-- these determine.
 use Rattle.std.specs.Prelude.{◌+◌, ◌-◌, ◌^◌, drop, ℕ, zero, suc, Bool, true, false, not, ◌&&◌, ◌||◌, ◌==◌, ◌≡◌, ◌<◌, ◌≤◌, nat_lt, List, length, slice_index, if◌then◌else◌, Option, Some, None}
 use Rattle.std.specs.Int.{bit_at}
 use Rattle.rustc_lexer.specs.declared.entry.ahead.Ahead.{Ahead}
@@ -26,15 +27,21 @@ is_end text (suc k) = not (goes_on (slice_index text k) (slice_index text (suc k
 
 -- the bits are the ends of runs, up to the highest bit that is set
 abbrev pub IsEnds : List ℕ → ℕ → Type 0
-IsEnds text m = (j : ℕ) → bit m j ≡ true → (j < length text) × ((k : ℕ) → k ≤ j → bit m k ≡ is_end text k)
+IsEnds text m =
+    (j : ℕ) → bit m j ≡ true → (j < length text) × ((k : ℕ) → k ≤ j → bit m k ≡ is_end text k)
 
--- the bits are the ends of runs after the index `from`, up to the highest bit that is set, and none up to `from` is set
+-- the bits are the ends of runs after the index `from`, up to the highest bit that is set, and none
+-- up to `from` is set
 abbrev pub AreEndsPast : List ℕ → ℕ → ℕ → Type 0
-AreEndsPast text from m = (j : ℕ) → bit m j ≡ true → (from < j) × (j < length text) × ((k : ℕ) → from < k → k ≤ j → bit m k ≡ is_end text k)
+AreEndsPast text from m =
+    (j : ℕ) → bit m j ≡ true
+    → (from < j) × (j < length text) × ((k : ℕ) → from < k → k ≤ j → bit m k ≡ is_end text k)
 
 -- the same for the bits after `from`; those up to it may be of tokens that were taken already
 abbrev pub TellEndsPast : List ℕ → ℕ → ℕ → Type 0
-TellEndsPast text from m = (j : ℕ) → from < j → bit m j ≡ true → (j < length text) × ((k : ℕ) → from < k → k ≤ j → bit m k ≡ is_end text k)
+TellEndsPast text from m =
+    (j : ℕ) → from < j → bit m j ≡ true
+    → (j < length text) × ((k : ℕ) → from < k → k ≤ j → bit m k ≡ is_end text k)
 
 pub record IsLowest (m low : ℕ) : Type 0 where
   pub set : bit m low ≡ true
@@ -67,7 +74,8 @@ pub record TellsAhead (text : List ℕ) (ahead : Ahead) : Type 0 where
   pub behind : ahead.block ≤ ahead.at
   pub small : ahead.ends < 2 ^ 64
   pub past : TellEndsPast (drop ahead.block text) (ahead.at - ahead.block) ahead.ends
-  pub next : (kind : TokenKind) → ahead.classified ≡ Some kind → IsClassified text ahead.at ahead.block ahead.ends kind
+  pub next : (kind : TokenKind) → ahead.classified ≡ Some kind
+      → IsClassified text ahead.at ahead.block ahead.ends kind
 
 -- no token is determined at the offset
 pub record IsUnclassified (text : List ℕ) (old new : Ahead) : Type 0 where
@@ -75,7 +83,8 @@ pub record IsUnclassified (text : List ℕ) (old new : Ahead) : Type 0 where
   pub classified : new.classified ≡ None
   pub tells : TellsAhead text new
 
--- the token that is determined at the offset is in each edition the first of the text that is left, and the offset moves to its end
+-- the token that is determined at the offset is in each edition the first of the text that is left,
+-- and the offset moves to its end
 pub record TakesClassified (text : List ℕ) (old new : Ahead) (token : Token) : Type 0 where
   pub utf8 : IsUtf8 text
   pub classified : old.classified ≡ Some token.kind

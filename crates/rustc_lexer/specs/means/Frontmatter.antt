@@ -1,4 +1,5 @@
--- Means, by how it is read: frontmatter: what may stand in front of the first token, between two fences of dashes.
+-- Means, by how it is read: frontmatter: what may stand in front of the first token, between two
+-- fences of dashes.
 use Rattle.std.specs.Prelude.{ℕ, zero, suc, ◌+◌, ◌==◌, ◌&&◌, ◌||◌, not, Bool, true, false, if◌then◌else◌, List, [], ◌∷◌, length, take, drop, Option, Some, None}
 use Rattle.std.specs.Str.{byte, chars}
 use Rattle.rustc_lexer.specs.{Token, Frontmatter}
@@ -56,7 +57,8 @@ ends_line (c ∷ d ∷ s) = ends_line (d ∷ s)
 abbrev pub opens : List ℕ → Bool
 opens s = begins (fence 3) (drop (spaces_len s) s) && not (ends_line (take (spaces_len s) s))
 
--- The closing, in the bytes of a text or in its characters: the patterns are in ASCII. `s` is the text after the opening.
+-- The closing, in the bytes of a text or in its characters: the patterns are in ASCII. `s` is the
+-- text after the opening.
 
 -- the offset of the first occurrence of the pattern
 abbrev pub first : List ℕ → List ℕ → Option ℕ
@@ -66,7 +68,8 @@ first pattern s = least_offset (begins pattern) s
 abbrev pub line_end : ℕ → List ℕ → ℕ
 line_end offset s = offset + run_len is_inline (drop offset s)
 
--- whether only blanks come before, on the line: past this character, given whether they do before it; and past these
+-- whether only blanks come before, on the line: past this character, given whether they do before
+-- it; and past these
 abbrev pub blank_past : Bool → ℕ → Bool
 blank_past blank c = is_newline c || (is_horizontal_whitespace c && blank)
 
@@ -74,8 +77,8 @@ abbrev pub blank_over : Bool → List ℕ → Bool
 blank_over blank [] = blank
 blank_over blank (c ∷ s) = blank_over (blank_past blank c) s
 
--- the offset of the first three dashes with only blanks before them, on their line and past the three dashes before, of
--- which `skip` are still to come
+-- the offset of the first three dashes with only blanks before them, on their line and past the
+-- three dashes before, of which `skip` are still to come
 abbrev pub first_lone : Bool → ℕ → List ℕ → Option ℕ
 first_lone blank skip [] = None
 first_lone blank (suc skip) (c ∷ s) = one_more (first_lone blank skip s)
@@ -87,10 +90,13 @@ abbrev pub if_found : Option ℕ → (ℕ → ℕ) → ℕ → ℕ
 if_found None end otherwise = otherwise
 if_found (Some offset) end otherwise = end offset
 
--- the end by the first of these endings that occurs. If none does, it is that of the line of lone dashes
+-- the end by the first of these endings that occurs. If none does, it is that of the line of lone
+-- dashes
 abbrev pub end_by : List (Chars × Bool) → List ℕ → ℕ
 end_by [] s = if_found (first_lone true 0 s) (λ offset. line_end offset s) (length s)
-end_by ((pattern, takes_line) ∷ others) s = if_found (first pattern s) (λ offset. if takes_line then line_end (offset + 1) s else offset) (end_by others s)
+end_by ((pattern, takes_line) ∷ others) s =
+    if_found (first pattern s) (λ offset. if takes_line then line_end (offset + 1) s else offset)
+    (end_by others s)
 
 unfoldable pub closing_end : ℕ → List ℕ → ℕ
 closing_end n s = end_by (endings n) s
@@ -104,6 +110,10 @@ past_opening text = past (opening_len (chars text)) text
 -- the frontmatter of a text that opens with one
 unfoldable pub frontmatter : List ℕ → Token
 frontmatter text = record {
-  kind = Frontmatter (next_is is_whitespace (chars text)) (not (next_is is_newline (chars (past_opening text))));
-  len = bytes_of (opening_len (chars text)) (chars text) + closing_end (fence_len (chars text)) (past_opening text);
+  kind =
+      Frontmatter (next_is is_whitespace (chars text))
+      (not (next_is is_newline (chars (past_opening text))));
+  len =
+      bytes_of (opening_len (chars text)) (chars text)
+      + closing_end (fence_len (chars text)) (past_opening text);
 }

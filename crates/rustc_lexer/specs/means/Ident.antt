@@ -7,7 +7,9 @@ use Rattle.rustc_lexer.specs.means.Scan.{after, begins, next_is, run, run_as}
 
 -- of the rest of a word, and what follows it: an emoji makes it invalid
 abbrev pub ident_kind : List ℕ → List ℕ → TokenKind
-ident_kind word rest = if list_all is_id_continue word then (if next_is ends_prefix rest then UnknownPrefix else Ident) else InvalidIdent
+ident_kind word rest =
+    if list_all is_id_continue word then (if next_is ends_prefix rest then UnknownPrefix else Ident)
+    else InvalidIdent
 
 -- what follows the first character of an identifier
 abbrev pub ident_or_unknown_prefix : List ℕ → TokenKind × ℕ

@@ -27,8 +27,10 @@ abbrev pub literal_goes_on : LiteralKind → ℕ → Bool
 literal_goes_on (Str terminated) c = not terminated
 literal_goes_on (ByteStr terminated) c = not terminated
 literal_goes_on (CStr terminated) c = not terminated
-literal_goes_on (Char terminated) c = not terminated && (not (c == byte "/") && not (c == byte "\n"))
-literal_goes_on (Byte terminated) c = not terminated && (not (c == byte "/") && not (c == byte "\n"))
+literal_goes_on (Char terminated) c =
+    not terminated && (not (c == byte "/") && not (c == byte "\n"))
+literal_goes_on (Byte terminated) c =
+    not terminated && (not (c == byte "/") && not (c == byte "\n"))
 literal_goes_on kind c = false
 
 -- whether no token of this kind ends before the character

@@ -43,7 +43,8 @@ abbrev pub begins_raw : List ℕ → Bool
 begins_raw s = begins (codes "r") s && next_is is_raw_mark (drop 1 s)
 
 abbrev pub raw_past_or_ident : RawPrefix → List ℕ → TokenKind × ℕ
-raw_past_or_ident prefix s = if begins_raw s then after 1 (raw_literal prefix) s else ident_or_unknown_prefix s
+raw_past_or_ident prefix s =
+    if begins_raw s then after 1 (raw_literal prefix) s else ident_or_unknown_prefix s
 
 -- what follows a `b`, and what follows a `c`
 abbrev pub letter_b : List ℕ → TokenKind × ℕ
@@ -53,7 +54,8 @@ letter_b s =
     else raw_past_or_ident Br s)
 
 abbrev pub letter_c : List ℕ → TokenKind × ℕ
-letter_c s = if begins (codes "\"") s then literal (after 1 c_str_body) s else raw_past_or_ident Cr s
+letter_c s =
+    if begins (codes "\"") s then literal (after 1 c_str_body) s else raw_past_or_ident Cr s
 
 -- what follows the start of an identifier, of which some letters may be more
 abbrev pub word : ℕ → List ℕ → TokenKind × ℕ

@@ -15,7 +15,8 @@ abbrev pub past_name : ℕ → List ℕ → List ℕ → TokenKind × ℕ
 past_name c name s =
     if begins (codes "'") s
     then (Literal (Char true) (2 + length (encode_utf8_all (c ∷ name))), 1)
-    else gives (if begins (codes "#") s && not (is_ascii_digit c) then UnknownPrefixLifetime else Lifetime (is_bad_name (c ∷ name))) s
+    else gives (if begins (codes "#") s && not (is_ascii_digit c) then UnknownPrefixLifetime else
+    Lifetime (is_bad_name (c ∷ name))) s
 
 -- what follows the first character `c` of a name, where no raw lifetime stands there
 abbrev pub plain_lifetime : ℕ → List ℕ → TokenKind × ℕ
@@ -25,7 +26,8 @@ plain_lifetime c s = and_then (run_as (λ name rest. name) is_word_continue) (pa
 abbrev pub is_raw : ℕ → List ℕ → Bool
 is_raw c s = c == byte "r" && marks_ident s
 
--- what follows the first character `c` of a name; `r`, a hash and the start of an identifier make a raw lifetime
+-- what follows the first character `c` of a name; `r`, a hash and the start of an identifier make a
+-- raw lifetime
 abbrev pub lifetime : ℕ → List ℕ → TokenKind × ℕ
 lifetime c s = if is_raw c s then after 2 (run RawLifetime is_id_continue) s else plain_lifetime c s
 
@@ -41,4 +43,5 @@ is_character_at (c ∷ s) = is_character c s
 -- what follows a single quote
 abbrev pub lifetime_or_char : List ℕ → TokenKind × ℕ
 lifetime_or_char [] = literal char_body []
-lifetime_or_char (c ∷ s) = if is_character c s then literal char_body (c ∷ s) else ((lifetime c s).0, suc (lifetime c s).1)
+lifetime_or_char (c ∷ s) =
+    if is_character c s then literal char_body (c ∷ s) else ((lifetime c s).0, suc (lifetime c s).1)

@@ -17,9 +17,14 @@ pub record Body : Type 0 where
 abbrev pub suffixed : Bool → List ℕ → ℕ
 suffixed takes s = if takes then suffix_len s else 0
 
--- a body and its suffix, past p characters, which are one byte long each; the suffix begins where the body ends
+-- a body and its suffix, past p characters, which are one byte long each; the suffix begins where
+-- the body ends
 abbrev pub literal_past : ℕ → Body × ℕ → List ℕ → TokenKind × ℕ
-literal_past p body s = (Literal body.0.kind (p + bytes_of body.1 s), body.1 + suffixed body.0.takes_suffix (drop body.1 s))
+literal_past p body s = (
+  Literal body.0.kind (p + bytes_of body.1 s),
+  body.1
+      + suffixed body.0.takes_suffix (drop body.1 s),
+)
 
 -- what follows the first character of a literal
 abbrev pub literal : (List ℕ → Body × ℕ) → List ℕ → TokenKind × ℕ

@@ -67,7 +67,9 @@ float_exponent base s = if next_is is_sign s then after 1 (past_sign base) s els
 
 -- an exponent, if one stands here
 abbrev pub optional_exponent : Base → List ℕ → LiteralKind × ℕ
-optional_exponent base s = if next_is is_exponent_letter s then after 1 (float_exponent base) s else gives (Float base false) s
+optional_exponent base s =
+    if next_is is_exponent_letter s then after 1 (float_exponent base) s else gives
+    (Float base false) s
 
 -- the digits of a fraction, and an exponent
 abbrev pub fraction_digits : Base → List ℕ → LiteralKind × ℕ
@@ -75,7 +77,8 @@ fraction_digits base = and_then (run base (or_underscore is_ascii_digit)) option
 
 -- what follows the dot of a float: digits with an exponent, if a digit stands here, or nothing
 unfoldable pub fraction : Base → List ℕ → LiteralKind × ℕ
-fraction base s = if next_is is_ascii_digit s then fraction_digits base s else gives (Float base false) s
+fraction base s =
+    if next_is is_ascii_digit s then fraction_digits base s else gives (Float base false) s
 
 abbrev pub begins_fraction : List ℕ → Bool
 begins_fraction s = begins (codes ".") s && not (next_is is_no_fraction (drop 1 s))
@@ -89,7 +92,9 @@ past_digits base s =
 
 -- what follows the integer part of a number
 abbrev pub tail : IntegerPart → List ℕ → LiteralKind × ℕ
-tail integer_part s = if integer_part.empty then gives (Int integer_part.base true) s else past_digits integer_part.base s
+tail integer_part s =
+    if integer_part.empty then gives (Int integer_part.base true) s else past_digits
+    integer_part.base s
 
 -- a number past its first digit, up to where a suffix may stand
 unfoldable pub number_kind : ℕ → List ℕ → LiteralKind × ℕ

@@ -19,7 +19,8 @@ pub record IsFirstToken (text : List ℕ) (t : Token) : Type 0 where
 
 -- the same in each edition that reserves guarded strings, or in each that does not
 pub record IsFirstBy (guards : Bool) (text : List ℕ) (t : Token) : Type 0 where
-  pub token : (edition : Edition) → nat_le 2024 (year edition) ≡ guards → t ≡ first_token_in edition text
+  pub token : (edition : Edition) → nat_le 2024 (year edition) ≡ guards
+      → t ≡ first_token_in edition text
   pub inside : t.len ≤ length text
   pub boundary : IsCharBoundary text t.len
   pub suffix : HasSuffixWithin t

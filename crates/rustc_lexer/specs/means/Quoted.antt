@@ -14,9 +14,10 @@ is_backslash c = c == byte "\\"
 abbrev pub one_past : Bool × ℕ → Bool × ℕ
 one_past read = (read.0, suc read.1)
 
--- a quoted text goes up to its first stop that is not escaped: whether it is closed, and how many characters it takes.
--- If the stop is the quote, the text is closed and takes it. If it is another stop, the text is not closed and ends
--- before it. Without a stop it takes everything. A backslash that is not escaped itself makes the next character escaped
+-- a quoted text goes up to its first stop that is not escaped: whether it is closed, and how many
+-- characters it takes. If the stop is the quote, the text is closed and takes it. If it is another
+-- stop, the text is not closed and ends before it. Without a stop it takes everything. A backslash
+-- that is not escaped itself makes the next character escaped
 abbrev pub quoted_from : ℕ → (List ℕ → Bool) → Bool → List ℕ → Bool × ℕ
 quoted_from quote stop escaped [] = (false, 0)
 quoted_from quote stop escaped (c ∷ s) =
@@ -33,9 +34,12 @@ at_double_quote s = next_is (λ c. c == byte "\"") s
 abbrev pub double_quoted_string : List ℕ → Bool × ℕ
 double_quoted_string s = quoted (byte "\"") at_double_quote s
 
--- between single quotes, the quote is a stop, and so are a slash, and a newline that no quote follows
+-- between single quotes, the quote is a stop, and so are a slash, and a newline that no quote
+-- follows
 abbrev pub at_single_stop : List ℕ → Bool
-at_single_stop s = begins (codes "'") s || begins (codes "/") s || (begins (codes "\n") s && not (begins (codes "\n'") s))
+at_single_stop s =
+    begins (codes "'") s || begins (codes "/") s
+    || (begins (codes "\n") s && not (begins (codes "\n'") s))
 
 -- one character and its quote
 abbrev pub is_lone : List ℕ → Bool
@@ -63,8 +67,8 @@ char_body s = quoted_body Char single_quoted_string s
 abbrev pub byte_body : List ℕ → Body × ℕ
 byte_body s = quoted_body Byte single_quoted_string s
 
--- the text after the first character of a quoted literal, by what the literal begins with: whether it is closed, and
--- how many characters its body takes, with the quote if that comes after a letter
+-- the text after the first character of a quoted literal, by what the literal begins with: whether
+-- it is closed, and how many characters its body takes, with the quote if that comes after a letter
 abbrev pub quoted_string : QuotedPrefix → List ℕ → Bool × ℕ
 quoted_string Single s = single_quoted_string s
 quoted_string BSingle s = after 1 single_quoted_string s

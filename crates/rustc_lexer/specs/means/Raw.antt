@@ -42,7 +42,8 @@ closes n s = next_is is_quote s && nat_le n (hash_run (drop 1 s))
 abbrev pub close : ℕ → List ℕ → Option ℕ
 close n u = least_offset (closes n) u
 
--- how many hashes come directly after the quote with which the text begins, or 0 if it begins with none
+-- how many hashes come directly after the quote with which the text begins, or 0 if it begins with
+-- none
 abbrev pub quote_hashes : List ℕ → ℕ
 quote_hashes s = if next_is is_quote s then hash_run (drop 1 s) else 0
 
@@ -70,11 +71,12 @@ quote_end before u (Some offset) = Some (before + bytes_of (suc offset) u)
 abbrev pub hash_count : ℕ → Result ℕ RawStrError
 hash_count n = if nat_le n 255 then Ok n else Err (TooManyDelimiters n)
 
--- a string that is closed by the quote at this place ends after the n hashes that follow it. One that is not closed
--- takes the whole text
+-- a string that is closed by the quote at this place ends after the n hashes that follow it. One
+-- that is not closed takes the whole text
 abbrev pub raw_closed : ℕ → ℕ → List ℕ → Option ℕ → Result ℕ RawStrError × ℕ
 raw_closed n before u (Some offset) = (hash_count n, suc offset + n)
-raw_closed n before u None = (Err (NoTerminator n (most_hashes u) (quote_end before u (best_quote u))), length u)
+raw_closed n before u None =
+    (Err (NoTerminator n (most_hashes u) (quote_end before u (best_quote u))), length u)
 
 -- the text after n hashes and a quote. An offset counts `before` bytes in front of it
 abbrev pub raw_text : ℕ → ℕ → List ℕ → Result ℕ RawStrError × ℕ
@@ -82,15 +84,16 @@ raw_text n before u = raw_closed n before u (close n u)
 
 -- the text after the character that should be a quote
 abbrev pub past_starter : ℕ → ℕ → ℕ → List ℕ → Result ℕ RawStrError × ℕ
-past_starter prefix n c u = if is_quote c then raw_text n (prefix + suc n) u else gives (Err (InvalidStarter c)) u
+past_starter prefix n c u =
+    if is_quote c then raw_text n (prefix + suc n) u else gives (Err (InvalidStarter c)) u
 
 -- the text after n hashes. The end of the text counts as U+0000
 abbrev pub raw_starter : ℕ → ℕ → List ℕ → Result ℕ RawStrError × ℕ
 raw_starter prefix n [] = (Err (InvalidStarter 0), 0)
 raw_starter prefix n (c ∷ u) = ((past_starter prefix n c u).0, suc (past_starter prefix n c u).1)
 
--- the text after the `r`: the number of hashes on each side, or why the string is refused. An offset counts `prefix`
--- bytes in front of it
+-- the text after the `r`: the number of hashes on each side, or why the string is refused. An
+-- offset counts `prefix` bytes in front of it
 abbrev pub raw_read : ℕ → List ℕ → Result ℕ RawStrError × ℕ
 raw_read prefix s = after (hash_run s) (raw_starter prefix (hash_run s)) s
 
@@ -105,7 +108,8 @@ is_accepted (Err e) = false
 
 -- the text after the `r`, as the body of a literal. It takes a suffix if it is not refused
 abbrev pub raw_body_by : (Option ℕ → LiteralKind) → Result ℕ RawStrError × ℕ → Body × ℕ
-raw_body_by kind read = (record { kind = kind (accepted read.0); takes_suffix = is_accepted read.0 }, read.1)
+raw_body_by kind read =
+    (record { kind = kind (accepted read.0); takes_suffix = is_accepted read.0 }, read.1)
 
 abbrev pub raw_body : (Option ℕ → LiteralKind) → List ℕ → Body × ℕ
 raw_body kind s = raw_body_by kind (raw_read 0 s)

@@ -20,8 +20,8 @@ use Rattle.rustc_lexer.specs.Locality.{has_two}
 abbrev pub kept_front : List ℕ → List Token → ℕ → ℕ
 kept_front text tokens to = count_by (λ end. has_two text end to) (ends_from 0 tokens)
 
--- token boundary `number` of the new tokens is not before the end of the edit and matches an old one, which `back` old
--- tokens follow
+-- token boundary `number` of the new tokens is not before the end of the edit and matches an old
+-- one, which `back` old tokens follow
 pub record IsBodyMeeting (old new : List Token) (old_stop new_stop number back : ℕ) : Type 0 where
   pub number_inside : number ≤ length new
   pub past_edit : new_stop ≤ bound new number
@@ -30,29 +30,37 @@ pub record IsBodyMeeting (old new : List Token) (old_stop new_stop number back :
   pub same_offset : bound new number + old_stop ≡ bound old old_number + new_stop
 
 -- the counts of an edit
-pub record IsBodyRelexed (first : List ℕ → Token) (text : List ℕ) (start stop : ℕ) (insert : List ℕ) (r : Relexed) : Type 0 where
+pub record IsBodyRelexed (first : List ℕ → Token) (text : List ℕ) (start stop : ℕ) (insert : List ℕ)
+    (r : Relexed) : Type 0 where
   pub front : r.kept_front ≡ kept_front text (tokens_by first text) start
-  pub meeting : IsBodyMeeting (tokens_by first text) (tokens_by first (apply text start stop insert)) stop (start + length insert) (r.kept_front + r.lexed) r.kept_back
+  pub meeting : IsBodyMeeting (tokens_by first text)
+      (tokens_by first (apply text start stop insert)) stop (start + length insert)
+      (r.kept_front + r.lexed) r.kept_back
   pub none_before : (number back : ℕ) → r.kept_front ≤ number → number < r.kept_front + r.lexed
-      → IsBodyMeeting (tokens_by first text) (tokens_by first (apply text start stop insert)) stop (start + length insert) number back → ⊥
+      → IsBodyMeeting (tokens_by first text) (tokens_by first (apply text start stop insert)) stop
+      (start + length insert) number back → ⊥
 
 -- ---- the same by a search for the meeting
 
--- whether an offset of the new text is not before the end of the edit, which is `new_stop` there and `old_stop` in the
--- old text, and, moved back by the edit, is a boundary of the old tokens
+-- whether an offset of the new text is not before the end of the edit, which is `new_stop` there
+-- and `old_stop` in the old text, and, moved back by the edit, is a boundary of the old tokens
 abbrev pub meets_at : List Token → ℕ → ℕ → ℕ → Bool
-meets_at old old_stop new_stop offset = nat_le new_stop offset && list_any (nat_eq (offset - new_stop + old_stop)) (0 ∷ ends_from 0 old)
+meets_at old old_stop new_stop offset =
+    nat_le new_stop offset && list_any (nat_eq (offset - new_stop + old_stop)) (0 ∷ ends_from 0 old)
 
 -- the first number from j on that passes the test, or j + n if none of the n numbers from j on does
 abbrev pub least_from : (ℕ → Bool) → ℕ → ℕ → ℕ
 least_from test zero j = j
 least_from test (suc n) j = cond (test j) j (least_from test n (suc j))
 
--- the number of the boundary of the new tokens at which lexing from boundary k on meets the old ones
+-- the number of the boundary of the new tokens at which lexing from boundary k on meets the old
+-- ones
 unfoldable pub meet : List Token → List Token → ℕ → ℕ → ℕ → ℕ
-meet old new old_stop new_stop k = least_from (λ j. meets_at old old_stop new_stop (bound new j)) (length new - k) k
+meet old new old_stop new_stop k =
+    least_from (λ j. meets_at old old_stop new_stop (bound new j)) (length new - k) k
 
--- the counts of an edit: how many old tokens it keeps at the front and at the back, and how many it lexes
+-- the counts of an edit: how many old tokens it keeps at the front and at the back, and how many it
+-- lexes
 unfoldable pub relexed_of : (List ℕ → Token) → List ℕ → ℕ → ℕ → List ℕ → Relexed
 relexed_of first text start stop insert =
     let old : List Token = tokens_by first text in
@@ -60,25 +68,33 @@ relexed_of first text start stop insert =
     let new_stop : ℕ = start + length insert in
     let k : ℕ = kept_front text old start in
     let j : ℕ = meet old new stop new_stop k in
-    record { kept_front = k; lexed = j - k; kept_back = count_by (nat_lt (bound new j - new_stop + stop)) (ends_from 0 old) }
+    record {
+      kept_front = k;
+      lexed = j - k;
+      kept_back = count_by (nat_lt (bound new j - new_stop + stop)) (ends_from 0 old);
+    }
 
--- relexing is at a boundary of the new tokens, not before the end of the kept front and not after the meeting point.
--- `back` is a boundary of the old tokens. It is the end of the kept front as long as relexing is before the end of the
--- edit. After that it is the first boundary that is not before the present offset, moved back by the edit, or the last
--- boundary
-pub record Stands (first : List ℕ → Token) (old : List ℕ) (change : Change) (text : List ℕ) (at : Relexing) : Type 0 where
+-- relexing is at a boundary of the new tokens, not before the end of the kept front and not after
+-- the meeting point. `back` is a boundary of the old tokens. It is the end of the kept front as
+-- long as relexing is before the end of the edit. After that it is the first boundary that is not
+-- before the present offset, moved back by the edit, or the last boundary
+pub record Stands (first : List ℕ → Token) (old : List ℕ) (change : Change) (text : List ℕ)
+    (at : Relexing) : Type 0 where
   pub front_number : at.front.number ≡ kept_front old (tokens_by first old) change.start
   pub front_bound : IsBound (tokens_by first old) at.front
-  pub front_same : take at.front.number (tokens_by first old) ≡ take at.front.number (tokens_by first text)
+  pub front_same : take at.front.number (tokens_by first old)
+      ≡ take at.front.number (tokens_by first text)
   pub inside : known at ≤ length (tokens_by first text)
   pub offset : at.at ≡ bound (tokens_by first text) (known at)
   pub not_past : known at
-      ≤ meet (tokens_by first old) (tokens_by first text) change.old_stop change.new_stop at.front.number
+      ≤ meet (tokens_by first old) (tokens_by first text) change.old_stop change.new_stop
+      at.front.number
   pub met_is : at.met ≡ meets_at (tokens_by first old) change.old_stop change.new_stop at.at
   pub back_bound : IsBound (tokens_by first old) at.back
   pub not_begun : at.at < change.new_stop → at.back ≡ at.front
   pub below : (k : ℕ) → k < at.back.number
-      → bound (tokens_by first old) k + change.new_stop < max change.new_stop at.at + change.old_stop
+      → bound (tokens_by first old) k + change.new_stop
+      < max change.new_stop at.at + change.old_stop
   pub reached : change.new_stop ≤ at.at → at.back.number < length (tokens_by first old)
       → at.at - change.new_stop + change.old_stop ≤ at.back.offset
 
@@ -92,16 +108,24 @@ AreBoundaries text tokens = (k : ℕ) → k ≤ length tokens → IsCharBoundary
 abbrev pub HasLengths : List Token → List ℕ → Type 0
 HasLengths tokens lengths = lengths ≡ map (λ (t : Token). t.len) tokens
 
--- the old text, whose token boundaries are between characters, and the new one are the same up to `start`
-pub record IsFront (old : List ℕ) (tokens : List Token) (lengths text : List ℕ) (start : ℕ) : Type 0 where
-  pub utf8 : IsUtf8 old
-  pub cuts : AreBoundaries old tokens
-  pub lengths_are : HasLengths tokens lengths
-  pub same : take start text ≡ take start old
+-- the old text, whose token boundaries are between characters, and the new one are the same up to
+-- `start`
+pub record IsFront (old : List ℕ) (tokens : List Token) (lengths text : List ℕ) (start : ℕ) : Type 0
+  where
+    pub utf8 : IsUtf8 old
+    pub cuts : AreBoundaries old tokens
+    pub lengths_are : HasLengths tokens lengths
+    pub same : take start text ≡ take start old
 
 -- what a change did to the text that it made
 abbrev pub damage_of : List ℕ → Change → Damage
-damage_of text change = record { past = change.new_stop; added = change.new_stop - change.start; removed = change.old_stop - change.start; end = length text }
+damage_of text change =
+    record {
+      past = change.new_stop;
+      added = change.new_stop - change.start;
+      removed = change.old_stop - change.start;
+      end = length text;
+    }
 
 -- the end of the change in the old text
 abbrev pub old_stop_of : Damage → ℕ
@@ -109,26 +133,33 @@ old_stop_of damage = damage.past - damage.added + damage.removed
 
 -- the last boundary of the tokens, and no other, is at this offset
 abbrev pub IsLast : List Token → ℕ → Type 0
-IsLast tokens offset = (bound tokens (length tokens) ≡ offset) × ((k : ℕ) → k < length tokens → bound tokens k < offset)
+IsLast tokens offset =
+    (bound tokens (length tokens) ≡ offset)
+    × ((k : ℕ) → k < length tokens → bound tokens k < offset)
 
--- the old tokens were followed to boundary `back` for an offset of the new text, and `met` says whether that offset
--- meets the old tokens
-pub record IsFollowed (old : List Token) (old_stop new_stop offset : ℕ) (back : Bound) (met : Bool) : Type 0 where
+-- the old tokens were followed to boundary `back` for an offset of the new text, and `met` says
+-- whether that offset meets the old tokens
+pub record IsFollowed (old : List Token) (old_stop new_stop offset : ℕ) (back : Bound) (met : Bool)
+    : Type 0 where
   pub bound_is : IsBound old back
   pub below : (k : ℕ) → k < back.number → bound old k + new_stop < max new_stop offset + old_stop
-  pub reached : new_stop ≤ offset → back.number < length old → offset - new_stop + old_stop ≤ back.offset
+  pub reached : new_stop ≤ offset → back.number < length old
+      → offset - new_stop + old_stop ≤ back.offset
   pub met_is : met ≡ meets_at old old_stop new_stop offset
 
 -- relexing has met the old tokens, and these are the tokens that were lexed for it
-pub record IsLexed (first : List ℕ → Token) (old : List ℕ) (change : Change) (text : List ℕ) (tokens : List Token) (at : Relexing) : Type 0 where
+pub record IsLexed (first : List ℕ → Token) (old : List ℕ) (change : Change) (text : List ℕ)
+    (tokens : List Token) (at : Relexing) : Type 0 where
   pub stands : Stands first old change text at
   pub met : at.met ≡ true
   pub lexed : at.lexed ≡ length tokens
-  pub tokens_are : drop at.front.number (tokens_by first text) ≡ tokens ++ drop (known at) (tokens_by first text)
+  pub tokens_are : drop at.front.number (tokens_by first text)
+      ≡ tokens ++ drop (known at) (tokens_by first text)
 
--- the tokens of the old text are replaced by those of the new one: the kept front and back stay, and the lexed tokens
--- come in between
-pub record IsRenewed (first : List ℕ → Token) (old : List ℕ) (change : Change) (text : List ℕ) (tokens now : List Token) (at : Relexing) : Type 0 where
+-- the tokens of the old text are replaced by those of the new one: the kept front and back stay,
+-- and the lexed tokens come in between
+pub record IsRenewed (first : List ℕ → Token) (old : List ℕ) (change : Change) (text : List ℕ)
+    (tokens now : List Token) (at : Relexing) : Type 0 where
   pub lexed : List Token
   pub lexed_is : IsLexed first old change text lexed at
   pub now_is : now ≡ take at.front.number tokens ++ (lexed ++ drop at.back.number tokens)

@@ -1,5 +1,5 @@
--- Means, by how it is read: scanners. A scanner reads a prefix of a list of characters, and returns what it read and
--- how many characters it took.
+-- Means, by how it is read: scanners. A scanner reads a prefix of a list of characters, and returns
+-- what it read and how many characters it took.
 use Rattle.std.specs.Prelude.{ℕ, suc, ◌+◌, Bool, true, false, if◌then◌else◌, List, [], ◌∷◌, length, take, drop, Option, Some, None}
 use Rattle.std.specs.Str.{chars, encode_utf8_all}
 use Rattle.rustc_lexer.specs.{Token, TokenKind}
@@ -37,7 +37,8 @@ run a p s = (a, run_len p s)
 abbrev pub run_as : {A : Type 0} → (List ℕ → List ℕ → A) → (ℕ → Bool) → List ℕ → A × ℕ
 run_as f p s = (f (take (run_len p s) s) (drop (run_len p s) s), run_len p s)
 
--- up to the end that is looked for: true and the length up to there, or false and the length of the whole text
+-- up to the end that is looked for: true and the length up to there, or false and the length of the
+-- whole text
 abbrev pub or_all_at : Option ℕ → List ℕ → Bool × ℕ
 or_all_at None s = (false, length s)
 or_all_at (Some n) s = (true, n)
@@ -59,4 +60,5 @@ scanned scan text = ((scan (chars text)).0, past (scan (chars text)).1 text)
 
 -- the first token of a text, by a scanner of its kind
 abbrev pub token_by : (List ℕ → TokenKind × ℕ) → List ℕ → Token
-token_by scan text = record { kind = (scan (chars text)).0; len = bytes_of (scan (chars text)).1 (chars text) }
+token_by scan text =
+    record { kind = (scan (chars text)).0; len = bytes_of (scan (chars text)).1 (chars text) }

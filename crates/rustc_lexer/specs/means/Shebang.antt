@@ -21,7 +21,8 @@ is_open_bracket kind = false
 -- an attribute goes on after its `#!` with a bracket, past such tokens
 abbrev pub is_attribute : List Token → Bool
 is_attribute [] = false
-is_attribute (token ∷ tokens) = if is_passed token.kind then is_attribute tokens else is_open_bracket token.kind
+is_attribute (token ∷ tokens) =
+    if is_passed token.kind then is_attribute tokens else is_open_bracket token.kind
 
 -- how many bytes stand before the first newline
 abbrev pub before_newline : List ℕ → ℕ
@@ -29,11 +30,14 @@ before_newline text = prefix_len is_inline text
 
 -- the same, less a carriage return directly before that newline
 abbrev pub line_len : List ℕ → ℕ
-line_len text = if begins (codes "\r\n") (drop (before_newline text - 1) text) then before_newline text - 1 else before_newline text
+line_len text =
+    if begins (codes "\r\n") (drop (before_newline text - 1) text) then before_newline text - 1 else
+    before_newline text
 
 -- what follows `#!`
 abbrev pub shebang_past : List ℕ → Option ℕ
-shebang_past tail = if is_attribute (read_tokens (part newest) tail) then None else Some (2 + line_len tail)
+shebang_past tail =
+    if is_attribute (read_tokens (part newest) tail) then None else Some (2 + line_len tail)
 
 -- the length of the shebang line at the front of a text, if one stands there
 unfoldable pub read_shebang : List ℕ → Option ℕ

@@ -11,9 +11,11 @@ use Rattle.rustc_lexer.specs.means.Frontmatter.{frontmatter, opens}
 -- the first token of a text, which is a frontmatter if one opens a document
 abbrev pub token_at : Mode → List ℕ → Token
 token_at (part edition) text = first_token_in edition text
-token_at (document edition) text = if opens (chars text) then frontmatter text else first_token_in edition text
+token_at (document edition) text =
+    if opens (chars text) then frontmatter text else first_token_in edition text
 
--- the token of a state, and the state after it. At the end of the text it is a token of length 0, which changes nothing
+-- the token of a state, and the state after it. At the end of the text it is a token of length 0,
+-- which changes nothing
 abbrev pub advance_by : List ℕ → State → Token × State
 advance_by [] s = (record { kind = Eof; len = 0 }, s)
 advance_by (b ∷ bs) s = (
@@ -28,8 +30,8 @@ advance_by (b ∷ bs) s = (
 unfoldable pub take_next : State → Token × State
 take_next s = advance_by s.rest s
 
--- a cursor holds an iterator, with so many bytes pending. It reads the newest edition, and the text that is left fits
--- together with these bytes
+-- a cursor holds an iterator, with so many bytes pending. It reads the newest edition, and the text
+-- that is left fits together with these bytes
 pub record IsCursor (pending : ℕ) (tokens : State) : Type 0 where
   pub alone : tokens.pending ≡ 0
   pub newest : mode_edition tokens.mode ≡ newest

@@ -6,7 +6,8 @@ use Rattle.rustc_lexer.specs.LanguageText.{Mode, document, part, mode_after}
 use Rattle.rustc_lexer.specs.means.Edition.{first_token_in}
 use Rattle.rustc_lexer.specs.means.Taking.{token_at}
 
--- the tokens of a text, of which `count` at most are read as those of a document: each says how what follows it is read
+-- the tokens of a text, of which `count` at most are read as those of a document: each says how
+-- what follows it is read
 abbrev pub cut : Mode → ℕ → List ℕ → List Token
 cut (part edition) count text = tokens_by (first_token_in edition) text
 cut (document edition) zero text = []
@@ -24,8 +25,9 @@ abbrev pub read_tokens : Mode → List ℕ → List Token
 read_tokens (part edition) text = tokens_by (first_token_in edition) text
 read_tokens (document edition) text = tokens_of_document edition text
 
--- the buffer holds the first of the tokens at its front, each as it is written: as many as there are, or as there is
--- room for; the rest of the buffer stays
-pub record IsFilled {X : Type 0} (written : Token → X) (left : List Token) (buffer filled : List X) (count : ℕ) : Type 0 where
+-- the buffer holds the first of the tokens at its front, each as it is written: as many as there
+-- are, or as there is room for; the rest of the buffer stays
+pub record IsFilled {X : Type 0} (written : Token → X) (left : List Token) (buffer filled : List X)
+    (count : ℕ) : Type 0 where
   pub as_many : count ≡ min (length buffer) (length left)
   pub tokens : filled ≡ map written (take count left) ++ drop count buffer

@@ -30,12 +30,18 @@ use crate::token::FrontmatterAllowed;
 pub fn tokenize_document<'a>(text: &'a str, edition: Edition) -> Tokens<'a>
     requires fits { Fits text.now }
     ensures state { result
-        ≡ record { pending = 0; rest = drop (shebang_len text.now) text.now; mode = document edition } }
+        ≡ record {
+          pending = 0;
+          rest = drop (shebang_len text.now) text.now;
+          mode = document edition;
+        } }
     ensures tokens { tokens_left result ≡ document_tokens edition text.now }
     ensures boundary { IsCharBoundary text.now (shebang_len text.now) }
-    ensures partitions { Partitions (drop (shebang_len text.now) text.now) (document_tokens edition text.now) }
+    ensures partitions { Partitions (drop (shebang_len text.now) text.now)
+        (document_tokens edition text.now) }
     ensures suffixes { All HasSuffix (document_tokens edition text.now) }
-    ensures texts { HaveTexts (drop (shebang_len text.now) text.now) (document_tokens edition text.now) }
+    ensures texts { HaveTexts (drop (shebang_len text.now) text.now)
+        (document_tokens edition text.now) }
 {
     tokenize_as(&text[shebang_len(text)..], FrontmatterAllowed::Yes, edition)
 }

@@ -1,5 +1,6 @@
 //! Families of tokens, which the first character of a token chooses, and the kinds that a byte tells.
 #![tactic(auto, using(crate::proofs::FamilyLemmas::table, std::proofs::lemmas::Grind::common_steps))]
+
 ghost use Rattle.std.specs.Prelude.{◌≡◌, ◌<◌, ◌≤◌, MatchOption};
 ghost use Rattle.rustc_lexer.specs.declared.lexemes.family.Family.TheVariants.{Symbol};
 ghost use Rattle.rustc_lexer.specs.means.Ends as spec;

@@ -1,5 +1,6 @@
 //! Numbers.
 #![tactic(auto, using(crate::proofs::NumberLemmas::number_lemmas, std::proofs::lemmas::Grind::common_steps))]
+
 ghost use Rattle.std.specs.Prelude.{◌≡◌, ◌+◌, ◌<◌, ◌^◌, false, length, slice_index};
 ghost use Rattle.std.specs.Char.{is_ascii_digit, is_ascii_hexdigit};
 ghost use Rattle.std.specs.Str.{chars};

@@ -15,7 +15,8 @@ pub(crate) fn body_change(kept: bool, from: usize, to: usize, edit: Change) -> C
     requires new { edit.new_stop < 2 ^ 32 }
     requires from { from < 2 ^ 32 }
     requires to { to < 2 ^ 32 }
-    requires kept { IsTrue kept → (from ≤ edit.start) × (edit.start ≤ edit.old_stop) × (edit.start ≤ edit.new_stop) }
+    requires kept { IsTrue kept → (from ≤ edit.start) × (edit.start ≤ edit.old_stop)
+        × (edit.start ≤ edit.new_stop) }
     ensures { result ≡ means.body_change kept from to edit }
 {
     if kept {

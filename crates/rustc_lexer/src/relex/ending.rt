@@ -66,7 +66,8 @@ impl Ending {
     /// Returns the ending once one more token comes.
     fn with(self, token: Token) -> Ending
         requires fits { means.last_start self < 2 ^ 64 }
-        ensures { (tokens : List Token) → IsEnding tokens self → IsEnding (tokens ++ token ∷ []) result }
+        ensures { (tokens : List Token) → IsEnding tokens self
+            → IsEnding (tokens ++ token ∷ []) result }
     {
         match self {
             Ending::Empty => Ending::One(token),

@@ -180,13 +180,16 @@ fn append_separated(text: &mut String, ending: Ending, edition: Edition, piece: 
 
 /// Appends the separator and the piece if the tokens stay so. Returns whether it did. There is room for them.
 fn append(text: &mut String, ending: Ending, edition: Edition, separator: &str, piece: &str) -> bool
-    requires fits { length (string_bytes text.old) + (length separator.now + length piece.now) < 2 ^ 32 }
+    requires fits { length (string_bytes text.old) + (length separator.now + length piece.now)
+        < 2 ^ 32 }
     requires room { string_len text.old + (length separator.now + length piece.now)
         ≤ string_capacity text.old }
     requires ending { IsEnding (tokens_of (part edition) (string_bytes text.old)) ending }
-    ensures separated { IsTrue result ↔ IsSeparated edition (string_bytes text.old) separator.now piece.now }
+    ensures separated { IsTrue result
+        ↔ IsSeparated edition (string_bytes text.old) separator.now piece.now }
     ensures text { string_bytes text.new
-        ≡ (if result then string_bytes text.old ++ (separator.now ++ piece.now) else string_bytes text.old) }
+        ≡ (if result then string_bytes text.old ++ (separator.now ++ piece.now) else string_bytes
+        text.old) }
     ensures len { result ≡ false → string_len text.new ≡ string_len text.old }
     ensures capacity { string_capacity text.old ≤ string_capacity text.new }
 {

@@ -43,7 +43,8 @@ pub(crate) fn put_in<S: Stepper, E: Extent>(
     stop: usize,
     insert: &str,
 ) -> Result<Relexed, AllocError>
-    requires of_text { means.AreKeptOf E.whole (S.grammar kept.old.stepper) (string_bytes kept.old.text)
+    requires of_text { means.AreKeptOf E.whole (S.grammar kept.old.stepper)
+        (string_bytes kept.old.text)
         kept.old.tokens.items kept.old.head kept.old.checkpoints }
     requires edit { IsEdit (string_bytes kept.old.text) start stop insert.now }
     requires room { string_len kept.old.text + length insert.now ≤ string_capacity kept.old.text }
@@ -56,8 +57,10 @@ pub(crate) fn put_in<S: Stepper, E: Extent>(
     ensures same_checkpoints { OnErr result (kept.new.checkpoints ≡ kept.old.checkpoints) }
 
     // What the text is afterwards, and what is kept of it.
-    ensures text { string_bytes kept.new.text ≡ apply (string_bytes kept.old.text) start stop insert.now }
-    ensures len { string_len kept.new.text + (stop - start) ≡ string_len kept.old.text + length insert.now }
+    ensures text { string_bytes kept.new.text
+        ≡ apply (string_bytes kept.old.text) start stop insert.now }
+    ensures len { string_len kept.new.text + (stop - start)
+        ≡ string_len kept.old.text + length insert.now }
     ensures capacity { string_capacity kept.old.text ≤ string_capacity kept.new.text }
     ensures kept { OnOk result
         (means.AreKeptOf E.whole (S.grammar kept.new.stepper) (string_bytes kept.new.text)

@@ -93,7 +93,8 @@ impl<S: Stepper, E: Extent> Lexed<S, E> {
         ensures grammar { IfOk result (λ l. S.grammar l.stepper ≡ S.grammar stepper) }
         ensures number { IfOk result (λ l. S.number l.stepper ≡ S.number stepper) }
         ensures count { IfOk result
-            (λ l. S.count l.stepper + length (layout_in E.whole (S.grammar l.stepper) (string_bytes text)).head
+            (λ l. S.count l.stepper + length
+            (layout_in E.whole (S.grammar l.stepper) (string_bytes text)).head
             ≡ S.count stepper + length l.tokens) }
     {
         let mut stepper = stepper;
@@ -123,7 +124,8 @@ impl<S: Stepper, E: Extent> Lexed<S, E> {
     /// Returns the tokens of the text, in order. A shebang line has none.
     pub fn tokens(&self) -> &[Token]
         ensures tokens { result.now ≡ self.now.tokens }
-        ensures from_scratch { result.now ≡ tokens_in E.whole (S.grammar self.now.stepper) self.now.text }
+        ensures from_scratch { result.now
+            ≡ tokens_in E.whole (S.grammar self.now.stepper) self.now.text }
     {
         self.kept.tokens.as_slice()
     }
@@ -158,11 +160,13 @@ impl<S: Stepper, E: Extent> Lexed<S, E> {
     pub fn set_stepper(&mut self, stepper: S) -> Result<(), AllocError>
         ensures text { self.new.text ≡ self.old.text }
         ensures is_text { IsText self.new.text }
-        ensures from_scratch { self.new.tokens ≡ tokens_in E.whole (S.grammar self.new.stepper) self.new.text }
+        ensures from_scratch { self.new.tokens
+            ≡ tokens_in E.whole (S.grammar self.new.stepper) self.new.text }
         ensures grammar { OnOk result (S.grammar self.new.stepper ≡ S.grammar stepper) }
         ensures number { OnOk result (S.number self.new.stepper ≡ S.number stepper) }
         ensures count { OnOk result
-            (S.count self.new.stepper + length (layout_in E.whole (S.grammar stepper) self.new.text).head
+            (S.count self.new.stepper
+            + length (layout_in E.whole (S.grammar stepper) self.new.text).head
             ≡ S.count stepper + length self.new.tokens) }
         ensures same { OnErr result (self.new ≡ self.old) }
     {
@@ -191,7 +195,8 @@ impl<S: Stepper, E: Extent> Lexed<S, E> {
     /// before.
     pub fn edit(&mut self, start: usize, stop: usize, insert: &str) -> Result<Relexed, AllocError>
         requires accepted { IsEdit self.old.text start stop insert.now }
-        ensures { IsEdited S.grammar S.number S.count E.whole self.old start stop insert.now result self.new }
+        ensures { IsEdited S.grammar S.number S.count E.whole self.old start stop insert.now result
+            self.new }
     {
         let removed = String::from_str(self.kept.alloc, &self.kept.text[start..stop])?;
         self.kept.text.reserve(insert.len())?;

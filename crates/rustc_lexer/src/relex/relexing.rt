@@ -276,7 +276,8 @@ impl Relexing {
         ensures steps { TakesSteps (S.grammar stepper.old) text.now change.new_stop
             self.old result self.new }
         ensures tokens { buffer.new
-            ≡ map R.written (take result (tokens_by (S.grammar stepper.old) (drop self.old.at text.now)))
+            ≡ map R.written (take result
+            (tokens_by (S.grammar stepper.old) (drop self.old.at text.now)))
             ++ drop result buffer.old }
         ensures buffer { result ≤ length buffer.old }
 
@@ -321,7 +322,8 @@ impl Relexing {
         ensures steps { TakesSteps (S.grammar stepper.old) text.now change.new_stop
             self.old result self.new }
         ensures tokens { buffer.new
-            ≡ map R.written (take result (tokens_by (S.grammar stepper.old) (drop self.old.at text.now)))
+            ≡ map R.written (take result
+            (tokens_by (S.grammar stepper.old) (drop self.old.at text.now)))
             ++ drop result buffer.old }
         ensures some { 0 < result }
         ensures buffer { result ≤ length buffer.old }
@@ -350,7 +352,8 @@ impl Relexing {
         requires small { self.now.back.offset < 2 ^ 63 }
         ensures past { self.now.at < result }
         ensures inside { result ≤ length text.now }
-        ensures none { (offset : ℕ) → self.now.at < offset → offset < result → change.new_stop ≤ offset
+        ensures none { (offset : ℕ) → self.now.at < offset → offset < result
+            → change.new_stop ≤ offset
             → (change.new_stop ≤ self.now.at)
             × (offset + change.old_stop < self.now.back.offset + change.new_stop) }
     {
@@ -378,7 +381,8 @@ impl Relexing {
               lexed = self.now.lexed;
               kept_back = old_count - self.now.back.number;
             } }
-        ensures exact { (first : List ℕ → Token) (before lengths insert text : List ℕ) (change : Change)
+        ensures exact { (first : List ℕ → Token) (before lengths insert text : List ℕ)
+            (change : Change)
             → IsGrammar first → IsMadeOf first before lengths change insert text
             → length lengths ≡ old_count → IsUnderWay first before change text self.now
             → self.now.met ≡ true

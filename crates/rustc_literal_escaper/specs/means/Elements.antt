@@ -11,8 +11,8 @@ use Rattle.rustc_literal_escaper.specs.declared.steps.Found.{Found}
 use Rattle.rustc_literal_escaper.specs.Grammar.{Item, is_newline, is_passed_over}
 use Rattle.rustc_literal_escaper.specs.means.Escape.{escape, front_run, past_run}
 
--- one step of reading a text: the elements that it reports, each with the text that is left after the characters of
--- that element, and the text that is left after the step
+-- one step of reading a text: the elements that it reports, each with the text that is left after
+-- the characters of that element, and the text that is left after the step
 pub record Front : Type 0 where
   pub found : List (Element × List ℕ)
   pub left : List ℕ
@@ -27,7 +27,8 @@ begins_line (c ∷ s) = is_newline c
 
 -- a warning if more than one line end is skipped. It covers everything that is skipped
 abbrev pub more_lines : List ℕ → List ℕ → List (Element × List ℕ)
-more_lines passed left = if list_any is_newline passed then (Fault MultipleSkippedLinesWarning, left) ∷ [] else []
+more_lines passed left =
+    if list_any is_newline passed then (Fault MultipleSkippedLinesWarning, left) ∷ [] else []
 
 -- a warning if other white space follows what is skipped. It covers the first character of that too
 abbrev pub more_space : List ℕ → List (Element × List ℕ)
@@ -37,7 +38,9 @@ more_space (c ∷ s) = if is_whitespace c then (Fault UnskippedWhitespaceWarning
 -- the step after a backslash and a newline
 abbrev pub line_end : List ℕ → Front
 line_end s = record {
-  found = more_lines (front_run is_passed_over s) (past_run is_passed_over s) ++ more_space (past_run is_passed_over s);
+  found =
+      more_lines (front_run is_passed_over s) (past_run is_passed_over s)
+      ++ more_space (past_run is_passed_over s);
   left = past_run is_passed_over s;
 }
 
@@ -46,7 +49,8 @@ abbrev pub past_backslash : List ℕ → Front
 past_backslash [] = one (escape [])
 past_backslash (c ∷ s) = if is_newline c then line_end s else one (escape (c ∷ s))
 
--- an unescaped character. A double quote or a carriage return is an error, since it has to be escaped
+-- an unescaped character. A double quote or a carriage return is an error, since it has to be
+-- escaped
 abbrev pub unescaped : ℕ → Element
 unescaped c =
     if c == byte "\"" then Fault EscapeOnlyChar else
@@ -68,7 +72,8 @@ abbrev pub front_by : Bool → ℕ → List ℕ → Front
 front_by true = raw_front
 front_by false = front
 
--- a list that is not empty begins with this element, without a warning, and `left` is the text after it
+-- a list that is not empty begins with this element, without a warning, and `left` is the text
+-- after it
 abbrev pub StartsWithOne : Bool → List ℕ → Element → List ℕ → Type 0
 StartsWithOne raw [] element left = ⊥
 StartsWithOne raw (c ∷ s) element left = front_by raw c s ≡ one (element, left)
@@ -84,7 +89,9 @@ item_at total start found = (record { start = start; end = place total found.1 }
 abbrev pub items_in : (ℕ → List ℕ → Front) → ℕ → ℕ → List ℕ → List Item
 items_in at zero total s = []
 items_in at (suc count) total [] = []
-items_in at (suc count) total (c ∷ s) = map (item_at total (place total (c ∷ s))) (at c s).found ++ items_in at count total (at c s).left
+items_in at (suc count) total (c ∷ s) =
+    map (item_at total (place total (c ∷ s))) (at c s).found
+    ++ items_in at count total (at c s).left
 
 -- all items: a text has at most as many steps as characters, since each step takes at least one
 unfoldable pub items_from : (ℕ → List ℕ → Front) → ℕ → List ℕ → List Item

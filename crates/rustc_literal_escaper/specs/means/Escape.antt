@@ -16,7 +16,8 @@ abbrev pub past_run : (ℕ → Bool) → List ℕ → List ℕ
 past_run p [] = []
 past_run p (c ∷ s) = if p c then past_run p s else c ∷ s
 
--- the escapes of one character: NUL, tab, newline and carriage return; quotes and the backslash stand for themselves
+-- the escapes of one character: NUL, tab, newline and carriage return; quotes and the backslash
+-- stand for themselves
 abbrev pub short : ℕ → Element
 short c =
     if c == byte "0" then Byte 0 else
@@ -33,17 +34,24 @@ abbrev pub hex : List ℕ → Element × List ℕ
 hex [] = (Fault TooShortHexEscape, [])
 hex (h ∷ []) = (if is_hex h then Fault TooShortHexEscape else Fault InvalidCharInHexEscape, [])
 hex (h ∷ l ∷ s) =
-    if is_hex h then ((if is_hex l then Byte (digit_value h * 16 + digit_value l) else Fault InvalidCharInHexEscape), s)
+    if is_hex h then (
+      (if is_hex l then Byte (digit_value h * 16 + digit_value l) else Fault
+          InvalidCharInHexEscape),
+      s,
+    )
     else (Fault InvalidCharInHexEscape, l ∷ s)
 
 -- the number that these digits are; more than six are an error
 abbrev pub number : List ℕ → Element
-number digits = if nat_le (length digits) 6 then Unicode (hex_value digits) else Fault OverlongUnicodeEscape
+number digits =
+    if nat_le (length digits) 6 then Unicode (hex_value digits) else Fault OverlongUnicodeEscape
 
--- the escape by the digits that were read, and by what follows them: the closing brace, another character, or nothing
+-- the escape by the digits that were read, and by what follows them: the closing brace, another
+-- character, or nothing
 abbrev pub closed : List ℕ → List ℕ → Element × List ℕ
 closed digits [] = (Fault UnclosedUnicodeEscape, [])
-closed digits (c ∷ s) = (if c == byte "}" then number (filter is_hex digits) else Fault InvalidCharInUnicodeEscape, s)
+closed digits (c ∷ s) =
+    (if c == byte "}" then number (filter is_hex digits) else Fault InvalidCharInUnicodeEscape, s)
 
 abbrev pub closed_at_run : List ℕ → Element × List ℕ
 closed_at_run s = closed (front_run is_digit_or_underscore s) (past_run is_digit_or_underscore s)

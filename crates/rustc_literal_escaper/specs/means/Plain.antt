@@ -19,7 +19,8 @@ is_mark raw c = not (is_simple raw c)
 -- the items of plain ASCII characters, one byte each, the last of which ends at the offset `end`
 abbrev pub plain_items : ℕ → List ℕ → List Item
 plain_items end [] = []
-plain_items end (b ∷ bs) = (record { start = end - length (b ∷ bs); end = end - length bs }, Plain b) ∷ plain_items end bs
+plain_items end (b ∷ bs) =
+    (record { start = end - length (b ∷ bs); end = end - length bs }, Plain b) ∷ plain_items end bs
 
 -- s is some characters of the class, and then the rest `left`
 pub record Passes (class : ℕ → Bool) (s left : List ℕ) : Type 0 where

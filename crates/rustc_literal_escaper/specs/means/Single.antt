@@ -12,7 +12,8 @@ use Rattle.rustc_literal_escaper.specs.Meaning.{error_of, errors_in, is_raw, is_
 use Rattle.rustc_literal_escaper.specs.means.Elements.{front_by, items_from, place}
 use Rattle.rustc_literal_escaper.specs.means.Escape.{escape}
 
--- an unescaped character. A newline, a tab, a single quote or a carriage return is an error, since it has to be escaped
+-- an unescaped character. A newline, a tab, a single quote or a carriage return is an error, since
+-- it has to be escaped
 abbrev pub unescaped : ℕ → Element
 unescaped c =
     if c == 10 then Fault EscapeOnlyChar else
@@ -21,7 +22,8 @@ unescaped c =
     if c == 13 then Fault BareCarriageReturn else
     Plain c
 
--- the first element of a text that begins with the character `c`, and the text that is left after it
+-- the first element of a text that begins with the character `c`, and the text that is left after
+-- it
 abbrev pub single : ℕ → List ℕ → Element × List ℕ
 single c s = if c == byte "\\" then escape s else (unescaped c, s)
 
@@ -40,8 +42,8 @@ abbrev pub literal : {U : Type 0} → (Element → Result U EscapeError) → Lis
 literal meaning [] = Err ZeroChars
 literal meaning (c ∷ s) = alone (meaning (single c s).0) (single c s).1
 
--- between single quotes there is at most one error. Its range begins at the start of the text, and ends after the
--- character that shows the error
+-- between single quotes there is at most one error. Its range begins at the start of the text, and
+-- ends after the character that shows the error
 abbrev pub error_to : ℕ → EscapeError → List ℕ → Option Error
 error_to total error left = Some (record { start = 0; end = place total left }, error)
 
@@ -60,7 +62,8 @@ only total (Err error) left = Err (record { start = 0; end = place total left },
 only total (Ok unit) [] = Ok unit
 only total (Ok unit) (c ∷ s) = Err (record { start = 0; end = place total s }, MoreThanOneChar)
 
-abbrev pub read_single : {U : Type 0} → ℕ → (Element → Result U EscapeError) → List ℕ → Result U Error
+abbrev pub read_single : {U : Type 0} → ℕ → (Element → Result U EscapeError) → List ℕ
+    → Result U Error
 read_single total meaning [] = Err (record { start = 0; end = 0 }, ZeroChars)
 read_single total meaning (c ∷ s) = only total (meaning (single c s).0) (single c s).1
 

@@ -22,7 +22,8 @@ impl<S: Stepper, E: Extent> Lexed<S, E> {
     /// Makes the edits as [`edit_all`](Lexed::edit_all) does. Returns how many tokens all of them kept at the front and at
     /// the back, and how many are now between these. An empty list keeps all at the front.
     pub fn edit_each(&mut self, edits: &[Edit<'_>]) -> Result<Relexed, EditStop>
-        ensures made { AreMade S.grammar S.number S.count E.whole self.old edits.now result self.new }
+        ensures made { AreMade S.grammar S.number S.count E.whole self.old edits.now
+            result self.new }
         ensures kept { IfOk result (AreKeptThrough S.grammar E.whole self.old edits.now self.new) }
     {
         let old_len = self.tokens().len();

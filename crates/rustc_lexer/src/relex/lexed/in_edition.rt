@@ -17,11 +17,14 @@ impl<E: Extent> Lexed<Steps, E> {
     pub fn new(alloc: Global, text: &str) -> Result<Lexed<Steps, E>, AllocError>
         requires fits { Fits text.now }
         ensures text { IfOk result (λ l. l.text ≡ text.now) }
-        ensures from_scratch { IfOk result (λ l. l.tokens ≡ edition_tokens_in E.whole newest text.now) }
-        ensures grammar { IfOk result (λ l. ⟦<Steps as Stepper>⟧.grammar l.stepper ≡ first_in newest) }
+        ensures from_scratch { IfOk result
+            (λ l. l.tokens ≡ edition_tokens_in E.whole newest text.now) }
+        ensures grammar { IfOk result
+            (λ l. ⟦<Steps as Stepper>⟧.grammar l.stepper ≡ first_in newest) }
         ensures number { IfOk result (λ l. ⟦<Steps as Stepper>⟧.number l.stepper ≡ year newest) }
         ensures count { IfOk result
-            (λ l. ⟦<Steps as Stepper>⟧.count l.stepper + length (layout_in E.whole (first_in newest) text.now).head
+            (λ l. ⟦<Steps as Stepper>⟧.count l.stepper
+            + length (layout_in E.whole (first_in newest) text.now).head
             ≡ length l.tokens) }
     {
         Lexed::new_in(alloc, text, Edition::NEWEST)
@@ -36,12 +39,14 @@ impl<E: Extent> Lexed<Steps, E> {
     ) -> Result<Lexed<Steps, E>, AllocError>
         requires fits { Fits text.now }
         ensures text { IfOk result (λ l. l.text ≡ text.now) }
-        ensures from_scratch { IfOk result (λ l. l.tokens ≡ edition_tokens_in E.whole edition text.now) }
+        ensures from_scratch { IfOk result
+            (λ l. l.tokens ≡ edition_tokens_in E.whole edition text.now) }
         ensures grammar { IfOk result
             (λ l. ⟦<Steps as Stepper>⟧.grammar l.stepper ≡ first_in edition) }
         ensures number { IfOk result (λ l. ⟦<Steps as Stepper>⟧.number l.stepper ≡ year edition) }
         ensures count { IfOk result
-            (λ l. ⟦<Steps as Stepper>⟧.count l.stepper + length (layout_in E.whole (first_in edition) text.now).head
+            (λ l. ⟦<Steps as Stepper>⟧.count l.stepper
+            + length (layout_in E.whole (first_in edition) text.now).head
             ≡ length l.tokens) }
     {
         Lexed::with(alloc, text, Steps::new_in(edition))
@@ -60,12 +65,14 @@ impl<E: Extent> Lexed<Steps, E> {
     /// allocation failed, and then nothing has changed.
     pub fn set_edition(&mut self, edition: Edition) -> Result<(), AllocError>
         ensures text { self.new.text ≡ self.old.text }
-        ensures from_scratch { OnOk result (self.new.tokens ≡ edition_tokens_in E.whole edition self.new.text) }
+        ensures from_scratch { OnOk result
+            (self.new.tokens ≡ edition_tokens_in E.whole edition self.new.text) }
         ensures grammar { OnOk result
             (⟦<Steps as Stepper>⟧.grammar self.new.stepper ≡ first_in edition) }
         ensures number { OnOk result (⟦<Steps as Stepper>⟧.number self.new.stepper ≡ year edition) }
         ensures count { OnOk result
-            (⟦<Steps as Stepper>⟧.count self.new.stepper + length (layout_in E.whole (first_in edition) self.new.text).head
+            (⟦<Steps as Stepper>⟧.count self.new.stepper
+            + length (layout_in E.whole (first_in edition) self.new.text).head
             ≡ length self.new.tokens) }
         ensures same { OnErr result (self.new ≡ self.old) }
     {

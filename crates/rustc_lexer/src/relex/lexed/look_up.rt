@@ -48,7 +48,8 @@ impl<S: Stepper, E: Extent> Lexed<S, E> {
         requires to_inside { to ≤ length self.now.tokens }
         ensures pieces { result
             ≡ take (to - from)
-            (drop from (pieces_from self.now.text (start_in E.whole self.now.text) self.now.tokens)) }
+            (drop from (pieces_from self.now.text (start_in E.whole self.now.text)
+                self.now.tokens)) }
         ensures number { length result ≡ to - from }
     {
         let first = Bound {
@@ -76,7 +77,8 @@ impl<S: Stepper, E: Extent> Lexed<S, E> {
         ensures { (from to : ℕ)
             × AreTouched (start_in E.whole self.now.text) self.now.tokens start stop from to
             × (result
-            ≡ take (to - from) (drop from (pieces_from self.now.text (start_in E.whole self.now.text) self.now.tokens))) }
+            ≡ take (to - from) (drop from
+            (pieces_from self.now.text (start_in E.whole self.now.text) self.now.tokens))) }
     {
         let (from, to) = self.numbers_in(start, stop);
         self.pieces_of(from, to)
@@ -90,7 +92,8 @@ impl<S: Stepper, E: Extent> Lexed<S, E> {
         requires before { known.number ≤ number }
         requires known { IsBoundFrom (start_in E.whole self.now.text) self.now.tokens known }
         ensures number { result.number ≤ number }
-        ensures offset { result.offset ≡ start_in E.whole self.now.text + bound self.now.tokens result.number }
+        ensures offset { result.offset
+            ≡ start_in E.whole self.now.text + bound self.now.tokens result.number }
     {
         let count = self.kept.head.count();
         if number < count {
@@ -143,7 +146,8 @@ impl<S: Stepper, E: Extent> Lexed<S, E> {
     pub fn token_at(&self, offset: usize) -> Option<Bound>
         ensures token { IfSome result
             (ContainsByte (start_in E.whole self.now.text) self.now.tokens offset) }
-        ensures some { IsSome result ↔ (start_in E.whole self.now.text ≤ offset) × (offset < length self.now.text) }
+        ensures some { IsSome result ↔ (start_in E.whole self.now.text ≤ offset)
+            × (offset < length self.now.text) }
     {
         let near = self.bound_near(offset);
         token_around(
@@ -159,9 +163,11 @@ impl<S: Stepper, E: Extent> Lexed<S, E> {
     pub fn piece_at(&self, offset: usize) -> Option<Piece<'_>>
         ensures piece { IfSome result (λ piece. (at : Bound)
             × ContainsByte (start_in E.whole self.now.text) self.now.tokens offset at
-            × (take 1 (drop at.number (pieces_from self.now.text (start_in E.whole self.now.text) self.now.tokens))
+            × (take 1 (drop at.number
+            (pieces_from self.now.text (start_in E.whole self.now.text) self.now.tokens))
             ≡ placed piece ∷ [])) }
-        ensures some { IsSome result ↔ (start_in E.whole self.now.text ≤ offset) × (offset < length self.now.text) }
+        ensures some { IsSome result ↔ (start_in E.whole self.now.text ≤ offset)
+            × (offset < length self.now.text) }
     {
         let at = self.token_at(offset)?;
         let text = self.kept.text.as_str();
@@ -213,7 +219,8 @@ impl<S: Stepper, E: Extent> Lexed<S, E> {
 
     /// Returns the numbers of the tokens that contain a byte of the range: the first one, and the one past the last.
     fn numbers_in(&self, start: usize, stop: usize) -> (usize, usize)
-        ensures { AreTouched (start_in E.whole self.now.text) self.now.tokens start stop result.0 result.1 }
+        ensures { AreTouched (start_in E.whole self.now.text) self.now.tokens start stop result.0
+            result.1 }
     {
         if start >= stop {
             return (0, 0);

@@ -24,7 +24,8 @@ impl<S: Stepper, E: Extent> Lexed<S, E> {
             → (self.new ≡ self.old) × (result ≡ Ok (all_stay (length self.old.tokens))) }
         ensures edit { (self.old.text ≡ text.now → ⊥) → (start stop : ℕ) × (insert : List ℕ)
             × IsNarrowest self.old.text text.now start stop insert
-            × IsEdited S.grammar S.number S.count E.whole self.old start stop insert result self.new }
+            × IsEdited S.grammar S.number S.count E.whole self.old start stop insert
+                result self.new }
     {
         let old = self.text();
         if old == text {

@@ -36,7 +36,8 @@ impl<S: Stepper> Lexed<S, Whole> {
     /// Whatever is appended to the text, its tokens up to this place stay as they are. It lexes nothing, but looks at the
     /// head again, and reads only the last tokens.
     pub fn settled(&self) -> usize
-        ensures { AreSettledTo (document_tokens_by (S.grammar self.now.stepper)) self.now.text result }
+        ensures { AreSettledTo (document_tokens_by (S.grammar self.now.stepper)) self.now.text
+            result }
     {
         let text = self.text();
         let start = self.shebang_len();
