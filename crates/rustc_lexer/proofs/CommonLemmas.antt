@@ -170,4 +170,4 @@ narrowest {old} {new} {insert} {start} {back} fits front front_cut longest_front
           );
     }
 
-pub ruleset front_lemmas = (front_more, front_less, front_slice, front_boundary, some_front, shorter, bytes_eq-Decides)
+pub ruleset front_lemmas = (front_more, front_less, front_slice, front_boundary, bytes_eq-Decides)
