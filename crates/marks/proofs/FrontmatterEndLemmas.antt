@@ -17,42 +17,40 @@ use Rattle.rustc_lexer.specs.FrontmatterGrammar.{IsBodyBefore, IsLabelBefore, Is
 use Rattle.rustc_lexer.specs.declared.token.TokenKind.{TokenKind}
 use Rattle.rustc_lexer.specs.declared.token.TokenKind.TheVariants.{Frontmatter}
 use Rattle.rustc_lexer.specs.laws.Choice.{by_either, by_test}
+use Rattle.rustc_lexer.specs.laws.Fences as fences
 use Rattle.rustc_lexer.specs.laws.Fences.{begins-whole}
+use Rattle.rustc_lexer.specs.means.Frontmatter.{is_dash}
+use Rattle.rustc_lexer.specs.means.Scan.{run_len}
+use Rattle.rustc_lexer.specs.laws.LanguageFrontmatter.{fence-length, run-fence}
+use Rattle.rustc_lexer.specs.laws.LanguageRuns as runs
 use Rattle.rustc_lexer.specs.laws.LanguageRuns.{start-word_start, word_start-no_space}
+use Rattle.rustc_lexer.specs.laws.Reach.{run_all}
 use Rattle.rustc_lexer.proofs.PartLemmas.{continue_part}
 use Rattle.marks.specs.declared.fault.Fault.{Fault}
-use Rattle.marks.specs.declared.fault.Fault.TheVariants.{FrontmatterSpace, OpenFrontmatter, FrontmatterIndent, FrontmatterDashes, FrontmatterWords}
-use Rattle.marks.specs.Frontmatter.{blanks, closing_fault, dashes, end_fault, is_newline, is_of}
+use Rattle.marks.specs.declared.fault.Fault.TheVariants.{FrontmatterSpace, OpenFrontmatter, FrontmatterDashes, FrontmatterWords}
+use Rattle.rustc_literal_escaper.specs.Grammar.{is_newline}
+use Rattle.marks.specs.Frontmatter.{blanks, closing_fault, dashes, end_fault, is_of}
 use Rattle.marks.specs.Fault.{fault_of, front_fault}
 use Rattle.marks.specs.FrontmatterEnd.{EndsAfter, IsEndFault, IsOpen, IsToldBy, NoLineBegins, TellsFrontmatter, closed, indented, more_words, other_dashes, unclosed}
 
 -- ---- runs, in characters and in bytes
 
-module _ (p : ℕ → Bool) (c : ℕ) (s : List ℕ) where
-  run-in : p c ≡ true → prefix_len p (c ∷ s) ≡ suc (prefix_len p s)
-  run-in e = rw e (omega arith)
-
-  run-out : p c ≡ false → prefix_len p (c ∷ s) ≡ 0
-  run-out e = rw e refl
-
 -- of a test that another agrees with
 module _ (p q : ℕ → Bool) (same : (c : ℕ) → p c ≡ q c) where
+  run-is : (s : List ℕ) → run_len q s ≡ prefix_len p s
+  run-is [] = refl
+  run-is (c ∷ s) = by_either (p c)
+      (λ e. let f : q c ≡ true = sym (same c) ∙ e in rw (e, f) (omega (arith, run-is s)))
+      (λ e. let f : q c ≡ false = sym (same c) ∙ e in rw (e, f) refl)
+
   run-all : (s : List ℕ) → AreAll q (take (prefix_len p s) s)
-  run-all [] = refl
-  run-all (c ∷ s) = by_either (p c)
-      (λ e. subst (λ n. AreAll q (take n (c ∷ s))) (sym (run-in p c s e)) (let f : q c ≡ true = sym (same c) ∙ e in rw f (run-all s)))
-      (λ e. subst (λ n. AreAll q (take n (c ∷ s))) (sym (run-out p c s e)) refl)
+  run-all s = subst (λ n. AreAll q (take n s)) (run-is s) (run_all q s)
 
   run-stops : (s : List ℕ) → NextIsNot q (drop (prefix_len p s) s)
-  run-stops [] = refl
-  run-stops (c ∷ s) = by_either (p c)
-      (λ e. subst (λ n. NextIsNot q (drop n (c ∷ s))) (sym (run-in p c s e)) (run-stops s))
-      (λ e. subst (λ n. NextIsNot q (drop n (c ∷ s))) (sym (run-out p c s e)) (sym (same c) ∙ e))
+  run-stops s = subst (λ n. NextIsNot q (drop n s)) (run-is s) (runs.run-stops q s)
 
   run-here : (w next : List ℕ) → AreAll q w → NextIsNot q next → prefix_len p (w ++ next) ≡ length w
-  run-here [] [] all stop = refl
-  run-here [] (c ∷ next) all stop = grind (arith, common_steps, same)
-  run-here (c ∷ w) next all stop = grind (arith, common_steps, same, and_parts, run-here w next (and_parts (q c) (list_all q w) all).1 stop)
+  run-here w next all stop = sym (run-is (w ++ next)) ∙ runs.run_len-here q w next all stop
 
 -- of a test that only ASCII passes
 module _ (p : ℕ → Bool) (small : (c : ℕ) → p c ≡ true → c < 128) where
@@ -95,30 +93,24 @@ small-dash c e = grind (arith, common_steps, or_cases, eqb-true)
 small-blank : (c : ℕ) → is_of (codes "\t ") c ≡ true → c < 128
 small-blank c e = grind (arith, common_steps, or_cases, eqb-true)
 
+run-dashes : (s : Chars) → run_len is_dash s ≡ dashes s
+run-dashes = run-is (is_of (codes "-")) is_dash (λ c. same-dash c ∙ by_either (c == 45) (λ e. rw e refl) (λ e. rw e refl))
+
 begins-dashes : (n : ℕ) (s : Chars) → begins (fence n) s ≡ true → n ≤ dashes s
-begins-dashes zero s e = omega arith
-begins-dashes (suc n) [] e = absurd (true≢false (sym e))
-begins-dashes (suc n) (c ∷ s) e =
-    let parts = and_parts (c == 45) (begins (fence n) s) e in
-    omega (arith, begins-dashes n s parts.1, run-in (is_of (codes "-")) c s (same-dash c ∙ rw parts.0 refl))
+begins-dashes n s e = omega (arith, run-dashes s, fences.begins-dashes n s e)
 
 dashes-begin : (n : ℕ) (s : Chars) → n ≤ dashes s → begins (fence n) s ≡ true
-dashes-begin zero s le = refl
-dashes-begin (suc n) [] le = absurd (omega arith)
-dashes-begin (suc n) (c ∷ s) le = by_either (c == 45)
-    (λ e. rw e (dashes-begin n s (omega (arith, le, run-in (is_of (codes "-")) c s (same-dash c ∙ rw e refl)))))
-    (λ e. absurd (omega (arith, le, run-out (is_of (codes "-")) c s (same-dash c ∙ rw e refl))))
+dashes-begin n s le = fences.begins-enough n s (omega (arith, run-dashes s, le))
 
 dashes-are : (s : Chars) → take (dashes s) s ≡ fence (dashes s)
-dashes-are [] = refl
-dashes-are (c ∷ s) = by_either (c == 45)
-    (λ e. subst (λ n. take n (c ∷ s) ≡ fence n) (sym (run-in (is_of (codes "-")) c s (same-dash c ∙ rw e refl))) (rw (eqb-true c 45 e) (ap (λ w. 45 ∷ w) (dashes-are s))))
-    (λ e. subst (λ n. take n (c ∷ s) ≡ fence n) (sym (run-out (is_of (codes "-")) c s (same-dash c ∙ rw e refl))) refl)
+dashes-are s = subst (λ n. take n s ≡ fence n) (run-dashes s) (run-fence s)
 
 -- a line that begins with dashes begins with no blanks
 no-blanks : (s : Chars) → begins (fence 3) s ≡ true → blanks s ≡ 0
 no-blanks [] e = refl
-no-blanks (c ∷ s) e = let dash = eqb-true c 45 (and_parts (c == 45) (begins (fence 2) s) e).0 in run-out (is_of (codes "\t ")) c s (ap (is_of (codes "\t ")) dash)
+no-blanks (c ∷ s) e =
+    let dash = eqb-true c 45 (and_parts (c == 45) (begins (fence 2) s) e).0 in
+    let out : is_of (codes "\t ") c ≡ false = ap (is_of (codes "\t ")) dash in rw out refl
 
 -- dashes stand on one line
 begins-line : (n : ℕ) (line next : Chars) → NextIsNot is_inline next → begins (fence n) (line ++ next) ≡ true → begins (fence n) line ≡ true
@@ -143,11 +135,11 @@ blanks-none s all = all-none is_horizontal_whitespace (λ c e. false_from_ne_tru
 all-drop : (p : ℕ → Bool) (k : ℕ) (s : Chars) → AreAll p s → AreAll p (drop k s)
 all-drop p k s all = (and_parts _ _ (sym (list_all-append p (take k s) (drop k s)) ∙ (ap (list_all p) (take-append-drop k s) ∙ all))).1
 
+has-line : (u line : List ℕ) → list_any is_newline (u ++ 10 ∷ line) ≡ true
+has-line u line = list_any_at is_newline (u ++ 10 ∷ line) (length u) 0 (omega (arith, length-append u (10 ∷ line))) (ap is_newline (get_or-append_seam u 10 line 0))
+
 -- the text after the last newline
 module _ (u line : List ℕ) (none : list_any is_newline line ≡ false) where
-  has-line : list_any is_newline (u ++ 10 ∷ line) ≡ true
-  has-line = list_any_at is_newline (u ++ 10 ∷ line) (length u) 0 (omega (arith, length-append u (10 ∷ line))) (ap is_newline (get_or-append_seam u 10 line 0))
-
   last-line : after_last is_newline (u ++ 10 ∷ line) ≡ line
   last-line =
       let xs : List ℕ = u ++ 10 ∷ line in
@@ -162,6 +154,9 @@ module _ (u line : List ℕ) (none : list_any is_newline line ≡ false) where
       (λ some. not_from_true _ (ap is_newline (ap (λ (k : ℕ). get_or xs k 0) back ∙ get_or-append_seam u 10 line 0))) in
       let front : length xs - suffix_len (λ x. not (is_newline x)) xs ≡ length u + 1 = omega (arith, long, size) in
       ap (λ (k : ℕ). drop k xs) front ∙ (sym (drop-drop 1 (length u) xs) ∙ ap (drop 1) (drop-append_seam u (10 ∷ line)))
+
+  end-line : end_fault (u ++ 10 ∷ line) ≡ closing_fault (dashes (u ++ 10 ∷ line)) line
+  end-line = rw (has-line u line, last-line) refl
 
 -- a text is one line, or has a last line
 data Lines (body : Chars) : Type 0 where
@@ -194,49 +189,20 @@ one-encode (c ∷ s) none =
 
 -- ---- the last line, in bytes
 
--- what is told by how many blanks and dashes there are, and whether only blanks follow
-abbrev told_by : ℕ → ℕ → ℕ → Bool → Option Fault
-told_by n b d all =
-    if nat_lt d 3 then Some OpenFrontmatter
-    else if nat_lt 0 b then Some FrontmatterIndent
-    else if not (nat_eq d n) then Some (FrontmatterDashes n d)
-    else if all then None
-    else Some FrontmatterWords
-
-abbrev told_past : ℕ → ℕ → ℕ → List ℕ → Option Fault
-told_past n b d tail = told_by n b d (nat_eq (blanks tail) (length tail))
-
-abbrev told : ℕ → ℕ → List ℕ → Option Fault
-told n b rest = told_past n b (dashes rest) (drop (dashes rest) rest)
-
-all-encode : (s : Chars) → nat_eq (blanks (encode_utf8_all s)) (length (encode_utf8_all s)) ≡ nat_eq (blanks s) (length s)
+all-encode : (s : Chars) → nat_eq (blanks s) (length (encode_utf8_all s)) ≡ nat_eq (blanks s) (length s)
 all-encode s =
-    let is_blank : ℕ → Bool = is_of (codes "\t ") in
-    let same = run-encode is_blank small-blank s in
-    let left : length (encode_utf8_all s) - blanks s ≡ length (encode_utf8_all (drop (blanks s) s)) = sym (length-drop (blanks s) (encode_utf8_all s)) ∙ ap length (drop-encode is_blank small-blank s) in
     let few = length-le-encodes (drop (blanks s) s) in
     let cut = length-drop (blanks s) s in
+    let left : length (encode_utf8_all s) - blanks s ≡ length (encode_utf8_all (drop (blanks s) s)) = sym (length-drop (blanks s) (encode_utf8_all s)) ∙ ap length (drop-encode (is_of (codes "\t ")) small-blank s) in
     by_either (nat_eq (blanks s) (length s))
     (λ e.
     let none : drop (blanks s) s ≡ [] = drop_all (blanks s) s (omega (arith, eqb-true (blanks s) (length s) e)) in
     let zero_left : length (encode_utf8_all (drop (blanks s) s)) ≡ 0 = ap (λ (w : Chars). length (encode_utf8_all w)) none in
-    eq-eqb _ _ (omega (arith, same, left, zero_left, prefix_len-le-length is_blank (encode_utf8_all s))) ∙ sym e)
-    (λ e. ne_eqb _ _ (λ f. eqb-false (blanks s) (length s) e (omega (arith, f, same, left, few, cut, prefix_len-le-length is_blank s))) ∙ sym e)
+    eq-eqb _ _ (omega (arith, left, zero_left, length-le-encodes s, prefix_len-le-length (is_of (codes "\t ")) s)) ∙ sym e)
+    (λ e. ne_eqb _ _ (λ f. eqb-false (blanks s) (length s) e (omega (arith, f, left, few, cut, prefix_len-le-length (is_of (codes "\t ")) s))) ∙ sym e)
 
 closing-encode : (n : ℕ) (line : Chars) → closing_fault n (encode_utf8_all line) ≡ closing_fault n line
-closing-encode n line =
-    let is_blank : ℕ → Bool = is_of (codes "\t ") in
-    let bytes : List ℕ = encode_utf8_all line in
-    let rest : Chars = drop (blanks line) line in
-    let tail : Chars = drop (dashes rest) rest in
-    let b : blanks bytes ≡ blanks line = run-encode is_blank small-blank line in
-    let at_rest : drop (blanks bytes) bytes ≡ encode_utf8_all rest = ap (λ (k : ℕ). drop k bytes) b ∙ drop-encode is_blank small-blank line in
-    let d : dashes (encode_utf8_all rest) ≡ dashes rest = run-encode (is_of (codes "-")) small-dash rest in
-    let at_tail : drop (dashes (encode_utf8_all rest)) (encode_utf8_all rest) ≡ encode_utf8_all tail = ap (λ (k : ℕ). drop k (encode_utf8_all rest)) d ∙ drop-encode (is_of (codes "-")) small-dash rest in
-    ap (λ (k : ℕ). told n k (drop (blanks bytes) bytes)) b
-    ∙ (ap (told n (blanks line)) at_rest
-    ∙ (ap (λ (k : ℕ). told_past n (blanks line) k (drop (dashes (encode_utf8_all rest)) (encode_utf8_all rest))) d
-    ∙ (ap (told_past n (blanks line) (dashes rest)) at_tail ∙ ap (told_by n (blanks line) (dashes rest)) (all-encode tail))))
+closing-encode n line = simp (run-encode (is_of (codes "\t ")) small-blank, run-encode (is_of (codes "-")) small-dash, drop-encode (is_of (codes "\t ")) small-blank, drop-encode (is_of (codes "-")) small-dash, all-encode)
 
 -- ---- what the shape of the last line says
 
@@ -363,10 +329,6 @@ fence-all : (n : ℕ) → AreAll (is_among (codes "-")) (fence n)
 fence-all zero = refl
 fence-all (suc n) = fence-all n
 
-fence-length : (n : ℕ) → length (fence n) ≡ n
-fence-length zero = refl
-fence-length (suc n) = ap suc (fence-length n)
-
 -- ---- what is told
 
 -- at the end of a body, past one line that begins with n dashes
@@ -375,9 +337,6 @@ record Told (n : ℕ) (next body : Chars) : Type 0 where
   is : IsEndFault n next body end
   same : (front : Chars) → dashes (front ++ body) ≡ n → list_any is_newline front ≡ false → end_fault (encode_utf8_all (front ++ body)) ≡ end
 
-abbrev chosen : Bool → ℕ → List ℕ → Option Fault
-chosen has n line = if has then closing_fault n line else Some OpenFrontmatter
-
 told-found : (n : ℕ) {next body : Chars} → Found n next body → Told n next body
 unfolding encode_utf8
 told-found n {next} (last u line inline lone first) = record {
@@ -385,18 +344,16 @@ told-found n {next} (last u line inline lone first) = record {
   is = line-told n next u line inline lone first;
   same = λ front run none.
       let text : List ℕ = encode_utf8_all (front ++ (u ++ 10 ∷ line)) in
-      let one : list_any is_newline (encode_utf8_all line) ≡ false = one-encode line (inline-none line inline) in
       let split : text ≡ encode_utf8_all (front ++ u) ++ 10 ∷ encode_utf8_all line =
       ap encode_utf8_all (sym (append_assoc front u (10 ∷ line))) ∙ encodes-append (front ++ u) (10 ∷ line) in
-      ap (λ (b : Bool). chosen b (dashes text) (after_last is_newline text)) (ap (list_any is_newline) split ∙ has-line (encode_utf8_all (front ++ u)) (encode_utf8_all line) one)
-      ∙ (ap (λ (k : ℕ). closing_fault k (after_last is_newline text)) (run-encode (is_of (codes "-")) small-dash (front ++ (u ++ 10 ∷ line)) ∙ run)
-      ∙ (ap (closing_fault n) (ap (after_last is_newline) split ∙ last-line (encode_utf8_all (front ++ u)) (encode_utf8_all line) one) ∙ closing-encode n line));
+      let opens : dashes text ≡ n = run-encode (is_of (codes "-")) small-dash (front ++ (u ++ 10 ∷ line)) ∙ run in
+      ap end_fault split ∙ (end-line (encode_utf8_all (front ++ u)) (encode_utf8_all line) (one-encode line (inline-none line inline))
+      ∙ (ap (λ (k : ℕ). closing_fault k (encode_utf8_all line)) (ap dashes (sym split) ∙ opens) ∙ closing-encode n line));
 }
 told-found n {next} {body} (only lone none) = record {
   end = Some OpenFrontmatter;
-  is = unclosed (lone, λ bs ends. true≢false (sym (ap (list_any is_newline) ends.2 ∙ list_any_at is_newline (ends.0 ++ 10 ∷ (bs ++ (fence 3 ++ ends.1))) (length ends.0) 0 (omega (arith, length-append ends.0 (10 ∷ (bs ++ (fence 3 ++ ends.1))))) (ap is_newline (get_or-append_seam ends.0 10 (bs ++ (fence 3 ++ ends.1)) 0))) ∙ none));
-  same = λ front run clean. let text : List ℕ = encode_utf8_all (front ++ body) in
-      ap (λ (b : Bool). chosen b (dashes text) (after_last is_newline text)) (one-encode (front ++ body) (list_any-append is_newline front body ∙ rw (clean, none) refl));
+  is = unclosed (lone, λ bs ends. true≢false (sym (ap (list_any is_newline) ends.2 ∙ has-line ends.0 (bs ++ (fence 3 ++ ends.1))) ∙ none));
+  same = λ front run clean. rw (one-encode (front ++ body) (list_any-append is_newline front body ∙ rw (clean, none) refl)) refl;
 }
 
 -- no line that begins with dashes stands where none does
@@ -443,18 +400,13 @@ told-text kind n bad_label opening body next (the.opening _ space label spaces n
         → fault_of (Frontmatter (next_is is_whitespace (space ++ (fence n ++ label))) bad_label) (encode_utf8_all (space ++ (fence n ++ label) ++ body))
         ≡ (if next_is is_whitespace (space ++ (fence n ++ label)) then Some FrontmatterSpace else front_fault bad_label told.end)
     by_space [] spaces told =
-        let text : List ℕ = encode_utf8_all ((fence n ++ label) ++ body) in
         let free = no-space n (label) many in
         let stops = front-stops (is_among (codes "-")) (label ++ body) next (ap (next_is (is_among (codes "-"))) (append_assoc label body next) ∙ stop) in
         let run : dashes ((fence n ++ label) ++ body) ≡ n =
         ap dashes (append_assoc (fence n) label body) ∙ (run-here (is_of (codes "-")) (is_among (codes "-")) same-dash (fence n) (label ++ body) (fence-all n) stops ∙ fence-length n) in
         let none : list_any is_newline (fence n ++ label) ≡ false = list_any-append is_newline (fence n) label ∙ rw (fence-none n, label-none is) refl in
-        ap (λ (b : Bool). fault_of (Frontmatter b bad_label) text) free
-        ∙ (ap (front_fault bad_label) (told.same (fence n ++ label) run none) ∙ ap (λ (b : Bool). if b then Some FrontmatterSpace else front_fault bad_label told.end) (sym free))
-    by_space (c ∷ space) spaces told =
-        let here : is_whitespace c ≡ true = (and_parts (is_whitespace c) (list_all is_whitespace space) spaces).0 in
-        ap (λ (b : Bool). fault_of (Frontmatter b bad_label) (encode_utf8_all (c ∷ space ++ (fence n ++ label) ++ body))) here
-        ∙ ap (λ (b : Bool). if b then Some FrontmatterSpace else front_fault bad_label told.end) (sym here)
+        rw (free, told.same (fence n ++ label) run none) refl
+    by_space (c ∷ space) spaces told = rw (and_parts (is_whitespace c) (list_all is_whitespace space) spaces).0 refl
 
 pub tells : (kind : TokenKind) (text : List ℕ) → IsUtf8 text → TellsFrontmatter kind text (fault_of kind text)
 tells kind text utf8 n bad_label opening body next is is_body whole kind_is =

@@ -10,7 +10,8 @@ use Rattle.std.proofs.lemmas.Grind.{common_steps}
 use Rattle.memchr.specs.Find.{IsLastByte, is_byte}
 use Rattle.marks.specs.declared.fault.Fault.{Fault}
 use Rattle.marks.specs.declared.fault.Fault.TheVariants.{OpenFrontmatter}
-use Rattle.marks.specs.Frontmatter.{closing_fault, dashes, end_fault, is_newline, is_of}
+use Rattle.rustc_literal_escaper.specs.Grammar.{is_newline}
+use Rattle.marks.specs.Frontmatter.{closing_fault, dashes, end_fault, is_of}
 
 module _ (bytes text : List ℕ) where
   abbrev chosen : Bool → Option Fault

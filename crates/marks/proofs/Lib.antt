@@ -6,4 +6,3 @@ pub mod LiteralLemmas
 pub mod MarkedLemmas
 pub mod PartLemmas
 pub mod PlaceLemmas
-pub mod QuoteLemmas

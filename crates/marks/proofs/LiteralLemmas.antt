@@ -1,23 +1,20 @@
 -- What a literal says between its marks, and the calls that write it.
-use Rattle.std.proofs.Common.{◌≡◌, ℕ, ◌+◌, ◌-◌, ◌<◌, ◌≤◌, if◌then◌else◌, Bool, List, [], ◌∷◌, ◌++◌, take, drop, ap, subst, ◌∙◌, arith, take-append-drop, length-drop, append-nil, sym, length, true, false, IsCharBoundary, IsUtf8, Option, Some, None}
+use Rattle.std.proofs.Common.{◌≡◌, ℕ, ◌+◌, ◌-◌, ◌<◌, ◌≤◌, Bool, List, [], ◌∷◌, ◌++◌, take, drop, ap, subst, ◌∙◌, arith, take-append-drop, length-drop, append-nil, length, IsCharBoundary, IsUtf8, Option, Some}
 use Rattle.std.specs.Fmt.{WritesInCalls}
 use Rattle.rustc_lexer.specs.Classes.{bytes}
-use Rattle.std.proofs.lemmas.Bool.{cases_lt, lt-ltb}
+use Rattle.std.proofs.lemmas.Bool.{cases_lt}
 use Rattle.std.proofs.lemmas.List.{drop-drop, get_or-take, length-take-le}
 use Rattle.std.proofs.lemmas.List.Concat.{flat_map-append}
 use Rattle.std.proofs.lemmas.List.Elements.{All-head, All-tail}
 use Rattle.std.specs.Str.{chars}
-use Rattle.std.specs.declared.ops.Range.{Range}
-use Rattle.rustc_lexer.specs.declared.token.TokenKind.{TokenKind}
-use Rattle.std.proofs.Math.Seq.{drop-append-add, take-append_seam}
-use Rattle.std.proofs.lemmas.Str.{IsCharBoundary-from_rest, IsCharBoundary-start, IsUtf8-between, encodes-chars}
+use Rattle.std.proofs.lemmas.Str.{IsCharBoundary-from_rest, IsUtf8-between, encodes-chars}
 use Rattle.std.proofs.lemmas.Grind.{common_steps}
 use Rattle.rustc_literal_escaper.specs.Grammar.{Item}
 use Rattle.rustc_literal_escaper.specs.Answers.{items_of}
-use Rattle.rustc_literal_escaper.specs.Meaning.{is_raw, is_single}
+use Rattle.rustc_literal_escaper.specs.Meaning.{is_raw}
 use Rattle.rustc_literal_escaper.specs.laws.TheAnswers.{items-are}
-use Rattle.marks.specs.laws.Literal.{stretches-read, the_inside, the_stretches}
-use Rattle.marks.specs.laws.Pieces.{pieces-some}
+use Rattle.marks.specs.laws.Literal.{stretches-read, the_stretches}
+use Rattle.marks.specs.laws.Pieces.{pieces-some, told}
 use Rattle.marks.specs.Literal as lit
 use Rattle.rustc_literal_escaper.specs.Items.{ArePlaced, IsPlaced}
 use Rattle.rustc_literal_escaper.specs.declared.mode.Mode.{Mode}
@@ -25,10 +22,11 @@ use Rattle.marks.specs.declared.class.Class.TheVariants.{Text}
 use Rattle.marks.specs.declared.literal.Look.{Look}
 use Rattle.marks.specs.declared.style.Style.{Style}
 use Rattle.std.specs.List.{between}
-use Rattle.marks.specs.Answers.{contents, stretches_of}
-use Rattle.marks.specs.Literal.{AreStretches, IsQuoted, IsQuotedIn, IsUnquoted, closed_mode, Stretch, delimiter, stretches_at, element_look, look_parts, parts_from, char_error, char_look, stretch}
+use Rattle.marks.specs.Answers.{stretches_of, string_stretches}
+use Rattle.marks.specs.Literal.{Stretch, single_stretches, stretches_at, look_parts, parts_from, char_error, char_look, stretch}
 use Rattle.marks.specs.Marked.{literal_parts}
-use Rattle.marks.specs.means.Literal.{WritesOn, gap, single_stretches, stretches_from, string_stretches}
+use Rattle.marks.specs.means.Literal.{WritesOn, element_look, gap, stretches_from}
+use Rattle.marks.specs.means.Literal as means
 use Rattle.marks.specs.Part.{Own, own, with_marks, without_marks}
 use Rattle.marks.proofs.PartLemmas.{without_fault, writes_parts}
 
@@ -43,57 +41,18 @@ without_from at left (s ∷ ss) = grind (arith, common_steps, flat_map-append, w
 pub without_literal : (mode : Mode) (text : List ℕ) → without_marks (literal_parts mode text) ≡ text
 without_literal mode text = without_from 0 text (stretches_of mode text)
 
--- ---- the stretches of a literal are those that the code finds
+-- ---- the stretches of a string are those that the code finds
 
-pub ruleset text_start = (IsCharBoundary-start)
-
-module _ (mode : Mode) (text : List ℕ) where
-  only : (ss : List Stretch) → AreStretches mode text ss → ss ≡ stretches_of mode text
-  only ss are = ((the_stretches mode text).only tt ss).0 are
-
-  pub none_found : IsUnquoted (delimiter mode) text → Own Text text ∷ [] ≡ literal_parts mode text
-  none_found none = ap (parts_from 0 text) (only [] (lit.unquoted none))
-
-  module _ (begin close : ℕ) (is : IsQuoted (delimiter mode) text begin close) where
-    contents-are : between begin close text ≡ is.contents
-    contents-are =
-        let past : drop begin text ≡ is.contents ++ delimiter mode ∷ is.suffix = ap (λ (n : ℕ). drop n text) is.starts ∙ (ap (drop (length is.prefix + 1)) is.whole ∙ drop-append-add is.prefix (delimiter mode ∷ (is.contents ++ delimiter mode ∷ is.suffix)) 1) in
-        let size : close - begin ≡ length is.contents = omega (arith, is.ends) in
-        ap (λ (n : ℕ). take n (drop begin text)) size ∙ (ap (take (length is.contents)) past ∙ take-append_seam is.contents (delimiter mode ∷ is.suffix))
-
-    module _ (utf8 : IsUtf8 text) (le : begin ≤ close) (at_begin : IsCharBoundary text begin) (at_close : IsCharBoundary text close) where
-      contents-utf8 : IsUtf8 is.contents
-      contents-utf8 = subst IsUtf8 contents-are (IsUtf8-between text begin close utf8 le at_begin at_close)
-
-      ends-at : begin + bytes (chars is.contents) ≡ close
-      ends-at = ap (λ (xs : List ℕ). begin + length xs) (encodes-chars is.contents contents-utf8) ∙ sym is.ends
-
-      pub string_found : is_single mode ≡ false → string_stretches mode begin close text ≡ stretches_of mode text
-      string_found double =
-          let items = items-are (is_raw mode) is.contents contents-utf8 in
-          let pieces = (pieces-some mode items).all in
-          ap (λ (s : List ℕ). stretches_from mode begin begin close (items_of (is_raw mode) s)) contents-are
-          ∙ (stretches-read pieces.1 items begin close ends-at ∙ only (stretches_at begin pieces.0) (lit.quoted is (lit.string double pieces.1)))
-
-      pub single_found : is_single mode ≡ true → single_stretches mode begin close text ≡ stretches_of mode text
-      single_found single =
-          let look : List ℕ → Option Look = λ s. char_look (char_error mode s) s in
-          ap (λ (s : List ℕ). stretch begin close (look s)) contents-are
-          ∙ (ap (λ (n : ℕ). stretch begin n (look is.contents)) (sym ends-at) ∙ (sym (append-nil (stretch begin (begin + bytes (chars is.contents)) (look is.contents)))
-          ∙ only (stretches_at begin ((chars is.contents, look is.contents) ∷ [])) (lit.quoted is (lit.character single))))
-
-module _ (kind : TokenKind) (text : List ℕ) (mode : Mode) (closed : closed_mode kind ≡ Some mode) where
-  inside-is : (found : Option (Mode × Range ℕ)) → IsQuotedIn mode text found → found ≡ contents kind text
-  inside-is found is = ((the_inside kind text).only tt found).0 (record {
-    closed = λ other e. subst (λ (m : Mode). IsQuotedIn m text found) (let same : Some mode ≡ Some other = sym closed ∙ e in cc) is;
-    other = λ e. absurd (let not : Some mode ≡ None = sym closed ∙ e in cc);
-  })
-
-  pub inside_found : (start end : ℕ) → IsQuoted (delimiter mode) text start end → Some (mode, record { start = start; end = end }) ≡ contents kind text
-  inside_found start end is = inside-is (Some (mode, record { start = start; end = end })) (lit.quoted is)
-
-  pub inside_none : IsUnquoted (delimiter mode) text → None ≡ contents kind text
-  inside_none none = inside-is None (lit.unquoted none)
+pub string_found : (mode : Mode) (text : List ℕ) (begin close : ℕ) → IsUtf8 text → begin ≤ close → IsCharBoundary text begin → IsCharBoundary text close → means.string_stretches mode begin close text ≡ string_stretches mode begin close text
+string_found mode text begin close utf8 le at_begin at_close =
+    let inside : List ℕ = between begin close text in
+    let is_utf8 : IsUtf8 inside = IsUtf8-between text begin close utf8 le at_begin at_close in
+    let items = items-are (is_raw mode) inside is_utf8 in
+    let pieces = (pieces-some mode items).all in
+    let high = at_close.0 in
+    let size = length-take-le (close - begin) (drop begin text) (omega (arith, length-drop begin text, high)) in
+    let ends : begin + bytes (chars inside) ≡ close = omega (arith, le, size, ap length (encodes-chars inside is_utf8)) in
+    stretches-read pieces.1 items begin close ends ∙ ((the_stretches mode begin (chars inside)).only tt (stretches_at begin pieces.0)).0 (lit.made pieces.1)
 
 -- ---- the places
 
@@ -122,16 +81,10 @@ placed_first text begin close items rest item order at_begin at_close are is =
 pub placed_all : (text inside : List ℕ) (begin close : ℕ) (raw : Bool) (items : List Item) → items ≡ items_of raw inside → inside ≡ between begin close text → ArePlaced inside (items_of raw inside) → ArePlaced (between begin close text) items
 placed_all text inside begin close raw items are is places = grind (arith, common_steps)
 
--- ---- the stretches of some items, by the first of them
+-- ---- an item that was reported already
 
-module _ (mode : Mode) (begin at close : ℕ) where
-  abbrev first_by : Item → List Item → Bool → List Stretch
-  first_by item rest told =
-      if told then stretches_from mode begin at close rest
-      else gap at (begin + item.0.start) ++ (stretch (begin + item.0.start) (begin + item.0.end) (element_look mode item.1) ++ stretches_from mode begin (begin + item.0.end) close rest)
-
-  pub told_already : (items rest : List Item) (item : Item) → items ≡ item ∷ rest → begin + item.0.start < at → stretches_from mode begin at close items ≡ stretches_from mode begin at close rest
-  told_already items rest item is less = ap (stretches_from mode begin at close) is ∙ ap (first_by item rest) (lt-ltb (begin + item.0.start) at less)
+told_already : (mode : Mode) (begin at close : ℕ) (items rest : List Item) (item : Item) → items ≡ item ∷ rest → begin + item.0.start < at → stretches_from mode begin at close items ≡ stretches_from mode begin at close rest
+told_already mode begin at close items rest item is less = ap (stretches_from mode begin at close) is ∙ told mode begin close at item rest less
 
 -- ---- the calls
 
@@ -177,7 +130,7 @@ module _ {W : Type 0} (took : W → List ℕ → W → Type 0) where
 
   -- all elements, and then none
   pub writes_all : (style : Style) (mode : Mode) (text inside : List ℕ) (begin close : ℕ) (items : List Item) (w last : W) → items ≡ items_of (is_raw mode) inside → inside ≡ between begin close text
-      → WritesLeft style text w 0 (stretches_from mode begin begin close items) last → WritesInCalls took w (with_marks style (parts_from 0 text (string_stretches mode begin close text))) last
+      → WritesLeft style text w 0 (stretches_from mode begin begin close items) last → WritesInCalls took w (with_marks style (parts_from 0 text (means.string_stretches mode begin close text))) last
   writes_all style mode text inside begin close items w last are is wrote = grind (arith, common_steps)
 
   pub writes_end : (style : Style) (mode : Mode) (text rest : List ℕ) (begin at close shown to : ℕ) (items : List Item) (w v u : W) → items ≡ [] → rest ≡ drop to text → WritesOn took style text w shown (gap at close) v to

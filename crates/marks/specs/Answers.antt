@@ -1,23 +1,30 @@
--- What the definition of a literal answers, under the names that contracts use. Each answer is
--- taken from a value whose type says that this answer is allowed and no other; the proof is in
--- laws/Literal.antt.
-use Rattle.std.specs.Prelude.{ℕ, List, Option}
-use Rattle.std.specs.declared.ops.Range.{Range}
+-- The stretches of a literal, under the name that contracts use. Those of a string are taken from a
+-- value whose type says that they are allowed and no others; the proof is in laws/Literal.antt.
+use Rattle.std.specs.Prelude.{ℕ, if◌then◌else◌, List, [], Option, Some, None}
+use Rattle.std.specs.List.{between}
+use Rattle.std.specs.Str.{chars}
 use Rattle.rustc_lexer.specs.Classes.{Utf8}
 use Rattle.rustc_literal_escaper.specs.Grammar.{TheOnly}
-use Rattle.rustc_lexer.specs.declared.token.TokenKind.{TokenKind}
+use Rattle.rustc_literal_escaper.specs.Meaning.{is_single}
 use Rattle.rustc_literal_escaper.specs.declared.mode.Mode.{Mode}
-use Rattle.marks.specs.Literal.{AreStretches, IsInside, Stretch}
-use Rattle.marks.specs.laws.Literal.{the_inside, the_stretches}
+use Rattle.marks.specs.Literal.{AreStretches, Stretch, contents_places, single_stretches}
+use Rattle.marks.specs.laws.Literal.{the_stretches}
 
--- the range between the quotes of a token, with its mode, if it is a literal that is closed
-abbrev pub contents : TokenKind → Utf8 → Option (Mode × Range ℕ)
-contents kind text =
-    let the : TheOnly (Unit {0}) (IsInside kind text) = the_inside kind text in
+abbrev pub string_stretches : Mode → ℕ → ℕ → Utf8 → List Stretch
+string_stretches mode begin close text =
+    let contents = chars (between begin close text) in
+    let the : TheOnly (Unit {0}) (AreStretches mode begin contents) =
+    the_stretches mode begin contents in
     the.answer
 
--- the stretches of a closed literal
+abbrev pub stretches_in : Mode → ℕ → ℕ → Utf8 → List Stretch
+stretches_in mode begin close text =
+    if is_single mode then single_stretches mode begin close text
+    else string_stretches mode begin close text
+
+abbrev pub stretches_by : Mode → Option (ℕ × ℕ) → Utf8 → List Stretch
+stretches_by mode None text = []
+stretches_by mode (Some places) text = stretches_in mode places.0 places.1 text
+
 abbrev pub stretches_of : Mode → Utf8 → List Stretch
-stretches_of mode text =
-    let the : TheOnly (Unit {0}) (AreStretches mode text) = the_stretches mode text in
-    the.answer
+stretches_of mode text = stretches_by mode (contents_places mode text) text

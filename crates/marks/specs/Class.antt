@@ -18,7 +18,8 @@ is_type_name (b ∷ bs) = is_ascii_uppercase b
 
 abbrev pub word_class : List ℕ → Class
 word_class word =
-    if has Strict E2024 word then Keyword else (if is_type_name word then TypeName else Plain)
+    if has Strict E2024 word then Keyword
+    else (if is_type_name word then TypeName else Plain)
 
 abbrev pub literal_class : LiteralKind → Class
 literal_class (Int base empty_int) = Number

@@ -32,8 +32,9 @@ is_r c = c == byte "r"
 -- why a raw string is refused whose prefix has `prefix_len` characters
 abbrev pub raw_fault : List ℕ → ℕ → Option Fault
 raw_fault text prefix_len =
-    if nat_lt 0 prefix_len && next_is is_r (drop (prefix_len - 1) (chars text)) then refused
-    (raw_check text prefix_len) else None
+    if nat_lt 0 prefix_len && next_is is_r (drop (prefix_len - 1) (chars text))
+    then refused (raw_check text prefix_len)
+    else None
 
 abbrev pub literal_fault : LiteralKind → List ℕ → Option Fault
 literal_fault (Int base true) text = Some EmptyNumber
@@ -121,7 +122,9 @@ sentence (FrontmatterDashes opening closing) =
 sentence (OpenRawString expected) =
     codes "nothing closes this raw string: a quote and " ++ (decimal expected ++ codes " # would")
 sentence (FewHashes expected found end) =
-    codes "a quote and " ++ (decimal expected ++ (codes " # would close this raw string; at byte "
+    codes "a quote and "
+    ++ (decimal expected
+    ++ (codes " # would close this raw string; at byte "
     ++ (decimal end ++ (codes " it has " ++ decimal found))))
 sentence (ManyHashes found) =
     codes "a raw string has at most 255 hashes on each side, and this one " ++ decimal found

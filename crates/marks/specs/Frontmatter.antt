@@ -3,12 +3,9 @@
 -- closes.
 use Rattle.std.specs.Prelude.{ℕ, Bool, ◌==◌, nat_eq, nat_lt, if◌then◌else◌, List, drop, codes, length, not, Option, Some, None}
 use Rattle.std.specs.List.{after_last, list_any, prefix_len}
-use Rattle.std.specs.Str.{byte}
+use Rattle.rustc_literal_escaper.specs.Grammar.{is_newline}
 use Rattle.marks.specs.declared.fault.Fault.{Fault}
 use Rattle.marks.specs.declared.fault.Fault.TheVariants.{OpenFrontmatter, FrontmatterIndent, FrontmatterDashes, FrontmatterWords}
-
-abbrev pub is_newline : ℕ → Bool
-is_newline b = b == byte "\n"
 
 abbrev pub is_of : List ℕ → ℕ → Bool
 is_of these b = list_any (λ d. d == b) these

@@ -1,10 +1,10 @@
--- A literal that is closed: its prefix, its opening quote, what stands between the quotes, its
--- closing quote, and its suffix. Between the quotes are pieces: elements, and line ends that are
+-- A literal that is closed. Between its quotes are pieces: elements, and line ends that are
 -- skipped. A piece that is an escape or wrong is a stretch of the literal, and everything else is
--- plain. `next` is all of the text that follows.
-use Rattle.std.specs.Prelude.{◌≡◌, ◌+◌, ◌-◌, ◌==◌, ℕ, length, take, drop, codes, Bool, true, false, if◌then◌else◌, List, [], ◌∷◌, ◌++◌, Option, Some, None, nat_eq}
+-- plain. `w` is the text of a piece, and `next` all of the text after it up to the closing quote.
+use Rattle.std.specs.Prelude.{◌≡◌, ◌+◌, ◌-◌, ◌==◌, ℕ, length, take, drop, codes, not, nat_lt, Bool, true, false, if◌then◌else◌, List, [], ◌∷◌, ◌++◌, Option, Some, None, nat_eq}
 use Rattle.std.specs.Char.{is_whitespace}
-use Rattle.std.specs.List.{list_all, list_any, starts_with}
+use Rattle.std.specs.List.{between, list_all, list_any, position_or_len, starts_with, suffix_len}
+use Rattle.std.specs.Option.{option_and_then, option_map}
 use Rattle.std.specs.Result.{result_err}
 use Rattle.std.specs.Str.{byte, chars}
 use Rattle.std.specs.declared.ops.Range.{Range}
@@ -44,65 +44,67 @@ abbrev pub closed_mode : TokenKind → Option Mode
 closed_mode (Literal kind suffix_start) = literal_mode kind
 closed_mode kind = None
 
--- ---- the quotes
+-- ---- between the quotes
 
 abbrev pub delimiter : Mode → ℕ
 delimiter mode = if is_single mode then byte "'" else byte "\""
 
--- no byte of the text is this quote
-abbrev pub HasNo : ℕ → Utf8 → Type 0
-HasNo quote text = list_any (λ b. b == quote) text ≡ false
+-- the offset of the first byte with this value, or the length of the text if there is none
+unfoldable pub first_offset : ℕ → Utf8 → ℕ
+first_offset b text = position_or_len (λ x. x == b) text
 
--- the contents of a text in quotes, which may have such quotes too, go from the offset `start` to
--- `end`
-pub record IsQuoted (quote : ℕ) (text : Utf8) (start end : ℕ) : Type 0 where
-  pub prefix : Utf8
-  pub contents : Utf8
-  pub suffix : Utf8
-  pub whole : text ≡ prefix ++ quote ∷ (contents ++ quote ∷ suffix)
-  pub before : HasNo quote prefix
-  pub after : HasNo quote suffix
-  pub starts : start ≡ length prefix + 1
-  pub ends : end ≡ start + length contents
+-- the offset of the last byte with this value, or 0 if there is none
+unfoldable pub last_offset : ℕ → Utf8 → ℕ
+last_offset b text = length text - suffix_len (λ x. not (x == b)) text - 1
 
--- a text that is not in quotes
-pub record IsUnquoted (quote : ℕ) (text : Utf8) : Type 0 where
-  pub never : (start end : ℕ) → IsQuoted quote text start end → ⊥
+-- where the text between the first quote and the last one begins and ends, by the offsets of the
+-- quotes
+abbrev pub between_places : ℕ → ℕ → Option (ℕ × ℕ)
+between_places first last = if nat_lt first last then Some (first + 1, last) else None
 
--- the contents of a text in quotes, with the mode in which their escapes are read
-pub data IsQuotedIn (mode : Mode) (text : Utf8) : Option (Mode × Range ℕ) → Type 0 where
-  quoted : {start end : ℕ}
-      → IsQuoted (delimiter mode) text start end
-      → IsQuotedIn mode text (Some (mode, record { start = start; end = end }))
-  unquoted : IsUnquoted (delimiter mode) text → IsQuotedIn mode text None
+abbrev pub contents_places : Mode → Utf8 → Option (ℕ × ℕ)
+contents_places mode text =
+    between_places (first_offset (delimiter mode) text) (last_offset (delimiter mode) text)
 
--- the contents of a token. One that is not a closed literal has none
-pub record IsInside (kind : TokenKind) (text : Utf8) (found : Option (Mode × Range ℕ)) : Type 0
-  where
-    pub closed : (mode : Mode) → closed_mode kind ≡ Some mode → IsQuotedIn mode text found
-    pub other : closed_mode kind ≡ None → found ≡ None
+-- the range between the quotes of a literal that is closed, with its mode
+abbrev pub contents_in : Mode → Utf8 → Option (Mode × Range ℕ)
+contents_in mode text =
+    option_map (λ (places : ℕ × ℕ). (mode, record { start = places.0; end = places.1 }))
+    (contents_places mode text)
+
+abbrev pub contents : TokenKind → Utf8 → Option (Mode × Range ℕ)
+contents kind text = option_and_then (λ (mode : Mode). contents_in mode text) (closed_mode kind)
 
 -- ---- the pieces between the quotes
 
+abbrev pub is_plain : Element → Bool
+is_plain (Plain c) = true
+is_plain element = false
+
 -- how an element looks: wrong, plain (None), or an escape
-abbrev pub look_by : Option EscapeError → Element → Option Look
-look_by (Some error) element = Some (Wrong error)
-look_by None (Plain c) = None
-look_by None element = Some Escape
+pub data Looks (mode : Mode) (element : Element) : Option Look → Type 0 where
+  wrong : {error : EscapeError}
+      → error_of mode element ≡ Some error
+      → Looks mode element (Some (Wrong error))
+  plain : error_of mode element ≡ None
+      → is_plain element ≡ true
+      → Looks mode element None
+  escape : error_of mode element ≡ None
+      → is_plain element ≡ false
+      → Looks mode element (Some Escape)
 
-abbrev pub element_look : Mode → Element → Option Look
-element_look mode element = look_by (error_of mode element) element
-
--- a piece that is not a skipped line end, or has a warning about one
-pub data IsPieceBefore (mode : Mode) (next : Chars) : (raw : Bool) → Option Look → Chars
-    → Type 0 where
-  element : {element : Element} {w : Chars}
+-- w is an element, or a skipped line end with a warning; and how it looks
+pub data IsPieceBefore (mode : Mode) (next : Chars)
+    : (raw : Bool) → Option Look → Chars → Type 0 where
+  element : {element : Element} {look : Option Look} {w : Chars}
       → IsElementBefore (codes "\"") next element w
       → (w ≡ codes "\\\n" → ⊥)
-      → IsPieceBefore mode next false (element_look mode element) w
-  raw_element : {element : Element} {c : ℕ}
+      → Looks mode element look
+      → IsPieceBefore mode next false look w
+  raw_element : {element : Element} {look : Option Look} {c : ℕ}
       → IsRawElement element c
-      → IsPieceBefore mode next true (element_look mode element) (c ∷ [])
+      → Looks mode element look
+      → IsPieceBefore mode next true look (c ∷ [])
   -- a backslash at the end of a line, if the white space that is skipped has more line ends
   lines : (space : Chars)
       → list_all is_passed_over space ≡ true
@@ -133,12 +135,12 @@ pub data AreSkippedBefore (next : Chars) : (raw : Bool) → Chars → Type 0 whe
 abbrev pub Piece : Type 0
 Piece = Chars × Option Look
 
--- together they are an escape
+-- these are one piece, an escape
 abbrev pub skipped : Chars → List Piece
 skipped [] = []
 skipped (c ∷ w) = (c ∷ w, Some Escape) ∷ []
 
--- the pieces of a string
+-- the pieces of the text between double quotes
 pub data ArePieces (mode : Mode) (raw : Bool) : Chars → List Piece → Type 0 where
   last : {gap : Chars} → AreSkippedBefore [] raw gap → ArePieces mode raw gap (skipped gap)
   more : {gap w next : Chars} {look : Option Look} {pieces : List Piece}
@@ -146,25 +148,6 @@ pub data ArePieces (mode : Mode) (raw : Bool) : Chars → List Piece → Type 0 
       → IsPieceBefore mode next raw look w
       → ArePieces mode raw next pieces
       → ArePieces mode raw (gap ++ (w ++ next)) (skipped gap ++ (w, look) ∷ pieces)
-
--- what is wrong between single quotes
-abbrev pub char_error : Mode → Utf8 → Option EscapeError
-char_error Byte contents = result_err (byte_literal (chars contents))
-char_error mode contents = result_err (char_literal (chars contents))
-
-abbrev pub char_look : Option EscapeError → Utf8 → Option Look
-char_look (Some error) contents = Some (Wrong error)
-char_look None contents = if starts_with nat_eq contents (codes "\\") then Some Escape else None
-
--- the pieces between the quotes. Between single quotes everything is one piece
-pub data AreInside (mode : Mode) (contents : Utf8) : List Piece → Type 0 where
-  string : {pieces : List Piece}
-      → is_single mode ≡ false
-      → ArePieces mode (is_raw mode) (chars contents) pieces
-      → AreInside mode contents pieces
-  character : is_single mode ≡ true
-      → AreInside mode contents
-      ((chars contents, char_look (char_error mode contents) contents) ∷ [])
 
 -- ---- the stretches, each with its places in the literal
 
@@ -177,18 +160,32 @@ abbrev pub stretch : ℕ → ℕ → Option Look → List Stretch
 stretch start end None = []
 stretch start end (Some look) = record { start = start; end = end; look = look } ∷ []
 
--- the stretches of pieces, the first of which begins at the offset `from`
+-- the stretches of pieces, the first of which begins at the offset `from`. A plain one has none
 abbrev pub stretches_at : ℕ → List Piece → List Stretch
 stretches_at from [] = []
 stretches_at from (piece ∷ pieces) =
     stretch from (from + bytes piece.0) piece.1 ++ stretches_at (from + bytes piece.0) pieces
 
--- the stretches of a literal
-pub data AreStretches (mode : Mode) (text : Utf8) : List Stretch → Type 0 where
-  quoted : {start end : ℕ} {pieces : List Piece} (quotes : IsQuoted (delimiter mode) text start end)
-      → AreInside mode quotes.contents pieces
-      → AreStretches mode text (stretches_at start pieces)
-  unquoted : IsUnquoted (delimiter mode) text → AreStretches mode text []
+-- the stretches of the text between double quotes, which begins at this offset
+pub data AreStretches (mode : Mode) (begin : ℕ) (text : Chars) : List Stretch → Type 0 where
+  made : {pieces : List Piece}
+      → ArePieces mode (is_raw mode) text pieces
+      → AreStretches mode begin text (stretches_at begin pieces)
+
+-- what is wrong between single quotes
+abbrev pub char_error : Mode → Utf8 → Option EscapeError
+char_error Byte contents = result_err (byte_literal (chars contents))
+char_error mode contents = result_err (char_literal (chars contents))
+
+abbrev pub char_look : Option EscapeError → Utf8 → Option Look
+char_look (Some error) contents = Some (Wrong error)
+char_look None contents = if starts_with nat_eq contents (codes "\\") then Some Escape else None
+
+-- between single quotes everything is one stretch: an error, an escape, or plain
+abbrev pub single_stretches : Mode → ℕ → ℕ → Utf8 → List Stretch
+single_stretches mode begin close text =
+    let contents = between begin close text in
+    stretch begin close (char_look (char_error mode contents) contents)
 
 -- ---- the parts
 

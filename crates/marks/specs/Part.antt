@@ -27,8 +27,8 @@ first_line text = position_or_len ends_line text
 -- rest
 abbrev pub fault_parts : Fault → Class → List ℕ → List Part
 fault_parts fault class text =
-    Open fault ∷ Own class (take (first_line text) text) ∷ Close fault
-    ∷ Own class (drop (first_line text) text) ∷ []
+    Open fault ∷ Own class (take (first_line text) text)
+    ∷ Close fault ∷ Own class (drop (first_line text) text) ∷ []
 
 -- text as it is written: with entities in a page, unchanged in a terminal
 abbrev pub shown : Style → List ℕ → List ℕ

@@ -1,3 +1,2 @@
 pub mod Literal
 pub mod Pieces
-pub mod Quotes

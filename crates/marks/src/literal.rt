@@ -1,12 +1,11 @@
 //! Writes literals: their escapes, and what is wrong in them.
-ghost use Rattle.std.specs.Prelude.{◌≡◌, ◌≤◌, ◌<◌, IfSome, MatchOption, MatchResult, OnOk};
+ghost use Rattle.std.specs.Prelude.{◌≡◌, ◌+◌, ◌≤◌, ◌<◌, length, IfSome, MatchResult, OnOk};
 ghost use Rattle.std.specs.Fmt.{WritesInCalls};
 ghost use Rattle.std.specs.Str.{IsCharBoundary};
 ghost use Rattle.rustc_lexer.specs.Classes.{Fits};
 ghost use Rattle.rustc_literal_escaper.specs.Answers.{items_of};
 ghost use Rattle.rustc_literal_escaper.specs.Meaning.{is_raw, is_single};
 ghost use Rattle.rustc_literal_escaper.specs.Items.{ArePlaced};
-ghost use Rattle.marks.specs.Answers.{contents};
 ghost use Rattle.marks.specs.Literal as spec;
 ghost use Rattle.marks.specs.Marked.{literal_parts};
 ghost use Rattle.marks.specs.means.Literal as means;
@@ -58,35 +57,25 @@ pub fn mode_of(kind: TokenKind) -> Option<Mode>
 ///
 /// These are the arguments that the calls of `rustc_literal_escaper` take. The ranges that they give count from the start
 /// of the range that this call returns.
-#[tactic(auto, using(crate::proofs::LiteralLemmas::inside_found, crate::proofs::LiteralLemmas::inside_none))]
 pub fn inside(kind: TokenKind, text: &str) -> Option<(Mode, Range<usize>)>
-    ensures value { result ≡ contents kind text.now }
+    ensures value { result ≡ spec.contents kind text.now }
     ensures places { IfSome result (λ found. IsCharBoundary text.now found.1.start
         × IsCharBoundary text.now found.1.end × (found.1.start ≤ found.1.end)) }
 {
     let mode = mode_of(kind)?;
-    let Some((start, end)) = between_quotes(mode, text) else {
-        return None;
-    };
+    let (start, end) = between_quotes(mode, text)?;
     Some((mode, start..end))
 }
 
 /// Returns where the text between the quotes of a literal begins and ends, or `None` if there are no two quotes.
-#[tactic(auto, using(crate::proofs::QuoteLemmas::no_quote, crate::proofs::QuoteLemmas::one_quote, crate::proofs::QuoteLemmas::two_quotes, crate::proofs::QuoteLemmas::cut_quotes))]
 fn between_quotes(mode: Mode, text: &str) -> Option<(usize, usize)>
-    ensures quotes { MatchOption result (spec.IsUnquoted (spec.delimiter mode) text.now)
-        (λ places. spec.IsQuoted (spec.delimiter mode) text.now places.0 places.1) }
+    ensures places { result ≡ spec.contents_places mode text.now }
     ensures inside { IfSome result (λ places. IsCharBoundary text.now places.0
         × IsCharBoundary text.now places.1 × (places.0 ≤ places.1)) }
 {
     let quote = quote_of(mode);
-    let bytes = text.as_bytes();
-    let Some(first) = memchr(quote, bytes) else {
-        return None;
-    };
-    let Some(last) = memrchr(quote, bytes) else {
-        return None;
-    };
+    let first = first_place(quote, text);
+    let last = last_place(quote, text);
     if first < last {
         Some((first + 1, last))
     } else {
@@ -95,7 +84,7 @@ fn between_quotes(mode: Mode, text: &str) -> Option<(usize, usize)>
 }
 
 /// Writes a closed literal: its escapes in their class, its faults between their marks, and the rest as text.
-#[tactic(auto, using(crate::proofs::LiteralLemmas::none_found, crate::proofs::LiteralLemmas::single_found, crate::proofs::LiteralLemmas::string_found))]
+#[tactic(auto, using(crate::proofs::LiteralLemmas::string_found))]
 pub fn write_literal<W: fmt::Write>(
     style: Style,
     mode: Mode,
@@ -131,8 +120,28 @@ fn quote_of(mode: Mode) -> u8
     if is_single(mode) { b'\'' } else { b'"' }
 }
 
+/// Returns the place of the first byte of this value, or the length of the text.
+#[tactic(auto, using(crate::proofs::PlaceLemmas::place_found, crate::proofs::PlaceLemmas::place_none, crate::proofs::PlaceLemmas::past_first))]
+fn first_place(byte: u8, text: &str) -> usize
+    requires ascii { byte < 128 }
+    ensures value { result ≡ spec.first_offset byte text.now }
+    ensures past { result < length text.now → IsCharBoundary text.now (result + 1) }
+{
+    memchr(byte, text.as_bytes()).unwrap_or(text.len())
+}
+
+/// Returns the place of the last byte of this value, or 0.
+#[tactic(auto, using(crate::proofs::PlaceLemmas::last_found, crate::proofs::PlaceLemmas::last_none, crate::proofs::PlaceLemmas::place_lemmas))]
+fn last_place(byte: u8, text: &str) -> usize
+    requires ascii { byte < 128 }
+    ensures value { result ≡ spec.last_offset byte text.now }
+    ensures place { IsCharBoundary text.now result }
+{
+    memrchr(byte, text.as_bytes()).unwrap_or(0)
+}
+
 /// Writes a literal between single quotes. The text between them goes from the place `begin` to `close`.
-#[tactic(auto, using(crate::proofs::LiteralLemmas::text_start))]
+#[tactic(auto, using(crate::proofs::PlaceLemmas::place_lemmas))]
 fn write_single<W: fmt::Write>(
     style: Style,
     mode: Mode,
@@ -146,7 +155,7 @@ fn write_single<W: fmt::Write>(
     requires order { begin ≤ close }
     ensures { OnOk result (WritesInCalls W.write_str_gives output.old
         (with_marks style (spec.parts_from 0 text.now
-        (means.single_stretches mode begin close text.now))) output.new) }
+        (spec.single_stretches mode begin close text.now))) output.new) }
 {
     let look = single_look(mode, &text[begin..close]);
     let shown = write_stretch(style, look, text, 0, begin, close, output)?;
@@ -230,8 +239,8 @@ fn write_skipped<W: fmt::Write>(
     requires order { (shown ≤ at) × (at ≤ start) }
     ensures { MatchResult result
         (λ to. (IsCharBoundary text.now to × (to ≤ start))
-        × means.WritesOn W.write_str_gives style text.now
-        output.old shown (means.gap at start) output.new to) (λ error. Unit {0}) }
+        × means.WritesOn W.write_str_gives style text.now output.old shown (means.gap at start)
+        output.new to) (λ error. Unit {0}) }
 {
     if at < start {
         write_stretch(style, Some(Look::Escape), text, shown, at, start, output)
@@ -258,8 +267,8 @@ fn write_stretch<W: fmt::Write>(
     requires order { (shown ≤ start) × (start ≤ end) }
     ensures { MatchResult result
         (λ to. (IsCharBoundary text.now to × (to ≤ end))
-        × means.WritesOn W.write_str_gives style text.now
-        output.old shown (spec.stretch start end look) output.new to) (λ error. Unit {0}) }
+        × means.WritesOn W.write_str_gives style text.now output.old shown
+        (spec.stretch start end look) output.new to) (λ error. Unit {0}) }
 {
     let Some(look) = look else {
         return Ok(shown);
@@ -295,7 +304,7 @@ fn elements_of(mode: Mode, inside: &str) -> Elements<'_>
 
 /// Returns the look of an element, or `None` if it is plain.
 fn look_of(mode: Mode, element: Element) -> Option<Look>
-    ensures { result ≡ spec.element_look mode element }
+    ensures { result ≡ means.element_look mode element }
 {
     match (element.error_in(mode), element) {
         (Some(error), _) => Some(Look::Wrong(error)),

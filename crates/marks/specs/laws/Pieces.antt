@@ -1,17 +1,17 @@
 -- What stands between double quotes has pieces, and one list of stretches: that of its items.
-use Rattle.std.proofs.Common.{◌≡◌, ℕ, ◌+◌, ◌<◌, ◌≤◌, Bool, true, false, true≢false, if◌then◌else◌, List, [], ◌∷◌, ◌++◌, refl, sym, ap, subst, ◌∙◌, arith, append_assoc, append-nil, length, codes, Option, Some, None, nat_lt}
+use Rattle.std.proofs.Common.{◌≡◌, ℕ, ◌+◌, ◌<◌, ◌≤◌, Bool, true, false, true≢false, if◌then◌else◌, List, [], ◌∷◌, ◌++◌, refl, sym, ap, subst, ◌∙◌, arith, append_assoc, append-nil, codes, Option, Some, None}
 use Rattle.std.specs.Char.{is_whitespace}
 use Rattle.std.specs.List.{list_all, list_any}
-use Rattle.std.proofs.lemmas.Bool.{le-ltb, lt-ltb, eqb-true, or_parts}
+use Rattle.std.proofs.lemmas.Bool.{le-ltb, lt-ltb}
 use Rattle.std.proofs.lemmas.Bool.Decides.{nat_tests}
 use Rattle.std.proofs.lemmas.Grind.{common_steps}
 use Rattle.std.proofs.lemmas.Str.{length-le-encodes}
 use Rattle.rustc_lexer.specs.Classes.{Chars, bytes, next_is}
-use Rattle.rustc_lexer.specs.laws.Choice.{by_either}
 use Rattle.rustc_literal_escaper.specs.Grammar as the
 use Rattle.rustc_literal_escaper.specs.Grammar.{AreItems, IsElementBefore, Item, is_among, is_newline, is_passed_over, item, lines_warning, space_warning}
 use Rattle.rustc_literal_escaper.specs.Meaning.{error_of}
 use Rattle.rustc_literal_escaper.specs.laws.Elements.{bytes-append}
+use Rattle.rustc_literal_escaper.specs.laws.Escape.{by_either}
 use Rattle.rustc_literal_escaper.specs.declared.element.Element.{Element}
 use Rattle.rustc_literal_escaper.specs.declared.element.Element.TheVariants.{Fault, Plain}
 use Rattle.rustc_literal_escaper.specs.declared.error.EscapeError.{EscapeError}
@@ -21,8 +21,8 @@ use Rattle.rustc_literal_escaper.specs.declared.mode.Mode.TheVariants.{Char}
 use Rattle.marks.specs.declared.literal.Look.{Look}
 use Rattle.marks.specs.declared.literal.Look.TheVariants.{Escape, Wrong}
 use Rattle.marks.specs.Literal as lit
-use Rattle.marks.specs.Literal.{ArePieces, AreSkippedBefore, IsPieceBefore, Piece, Stretch, element_look, look_by, skipped, stretch, stretches_at}
-use Rattle.marks.specs.means.Literal.{gap, stretches_from}
+use Rattle.marks.specs.Literal.{ArePieces, AreSkippedBefore, IsPieceBefore, Looks, Piece, Stretch, is_plain, skipped, stretch, stretches_at}
+use Rattle.marks.specs.means.Literal.{element_look, gap, look_by, stretches_from}
 
 -- a skipped line end, with the space after it
 abbrev line : Chars → Chars
@@ -34,6 +34,20 @@ bytes-some c w = omega (arith, length-le-encodes (c ∷ w))
 fault-look : (mode : Mode) (error : EscapeError) → element_look mode (Fault error) ≡ Some (Wrong error)
 fault-look Char error = refl
 fault-look mode error = refl
+
+none-look : (e : Element) → look_by None e ≡ (if is_plain e then None else Some Escape)
+none-look (Plain c) = refl
+none-look e = refl
+
+looks-read : {mode : Mode} {e : Element} {look : Option Look} → Looks mode e look → element_look mode e ≡ look
+looks-read (lit.wrong is) = rw is refl
+looks-read {e} (lit.plain is plain) = rw is (none-look e ∙ rw plain refl)
+looks-read {e} (lit.escape is other) = rw is (none-look e ∙ rw other refl)
+
+looks-some : (mode : Mode) (e : Element) (o : Option EscapeError) → error_of mode e ≡ o → Looks mode e (look_by o e)
+looks-some mode e (Some error) is = lit.wrong is
+looks-some mode (Plain c) None is = lit.plain is refl
+looks-some mode e None is = lit.escape is refl
 
 -- ---- each text has pieces
 
@@ -58,14 +72,11 @@ plain-space c white stays = grind (arith, common_steps, nat_tests)
 
 module _ (mode : Mode) where
   -- a line end that has no warning, before some pieces
-  skip : (space next : Chars) → list_all is_passed_over space ≡ true → list_any is_newline space ≡ false → next_is is_whitespace next ≡ false → HasPieces mode false next → HasPieces mode false (line space ++ next)
-  skip space next all one quiet has = by_pieces has.1 quiet
-    where
-      by_pieces : {s : Chars} {pieces : List Piece} → ArePieces mode false s pieces → next_is is_whitespace s ≡ false → HasPieces mode false (line space ++ s)
-      by_pieces (lit.last {gap = g} are) quiet = (_, lit.last (lit.more space all one (ap (next_is is_whitespace) (append-nil g) ∙ quiet) are))
-      by_pieces (lit.more {gap = g} {w} {next} {look} {pieces} are is rest) quiet =
-          let here : ArePieces mode false (line (space ++ g) ++ (w ++ next)) (skipped (line (space ++ g)) ++ (w, look) ∷ pieces) = lit.more (lit.more space all one quiet are) is rest in
-          (skipped (line (space ++ g)) ++ (w, look) ∷ pieces, subst (λ (s : Chars). ArePieces mode false s (skipped (line (space ++ g)) ++ (w, look) ∷ pieces)) (ap line (append_assoc space g (w ++ next))) here)
+  skip : {s : Chars} {pieces : List Piece} → ArePieces mode false s pieces → (space : Chars) → list_all is_passed_over space ≡ true → list_any is_newline space ≡ false → next_is is_whitespace s ≡ false → HasPieces mode false (line space ++ s)
+  skip (lit.last {gap = g} are) space all one quiet = (_, lit.last (lit.more space all one (ap (next_is is_whitespace) (append-nil g) ∙ quiet) are))
+  skip (lit.more {gap = g} {w} {next} {look} {pieces} are is rest) space all one quiet =
+      let more : List Piece = skipped (line (space ++ g)) ++ (w, look) ∷ pieces in
+      (more, subst (λ (s : Chars). ArePieces mode false s more) (ap line (append_assoc space g (w ++ next))) (lit.more (lit.more space all one quiet are) is rest))
 
   line-has : (space next : Chars) → list_all is_passed_over space ≡ true → next_is is_passed_over next ≡ false → HasBoth mode false next → HasPieces mode false (line space ++ next)
   line-has space next all stops has = by_either (list_any is_newline space)
@@ -73,30 +84,30 @@ module _ (mode : Mode) where
       (λ one. by_next next one stops has)
     where
       by_next : (s : Chars) → list_any is_newline space ≡ false → next_is is_passed_over s ≡ false → HasBoth mode false s → HasPieces mode false (line space ++ s)
-      by_next [] one stops has = skip space [] all one refl has.all
+      by_next [] one stops has = skip has.all.1 space all one refl
       by_next (c ∷ t) one stops has = by_either (is_whitespace c)
           (λ white.
           let rest = has.past c t refl white in
           let pieces : List Piece = (line (space ++ c ∷ []), Some (Wrong UnskippedWhitespaceWarning)) ∷ rest.0 in
           (pieces, subst (λ (s : Chars). ArePieces mode false s pieces) (ap line (append_assoc space (c ∷ []) t)) (lit.more lit.none (lit.white_space space c all one white stops) rest.1)))
-          (λ quiet. skip space (c ∷ t) all one quiet has.all)
+          (λ quiet. skip has.all.1 space all one quiet)
 
   pub pieces-some : {raw : Bool} {i : ℕ} {s : Chars} {items : List Item} → AreItems raw i s items → HasBoth mode raw s
   pieces-some the.nothing = record { all = (_, lit.last lit.none); past = λ c t e white. absurd (let not : [] ≡ c ∷ t = e in cc) }
-  pieces-some (the.element {next} {w} is other are) =
+  pieces-some (the.element {next} {element = e} {w} is other are) =
       let rest = pieces-some are in
       record {
-        all = (_, lit.more lit.none (lit.element is other) rest.all.1);
+        all = (_, lit.more lit.none (lit.element is other (looks-some mode e (error_of mode e) refl)) rest.all.1);
         past = λ c t e white. subst (HasPieces mode false) (one-char is c t e white) rest.all;
       }
   pieces-some (the.line_end {next} space all stops are) = record {
     all = line-has space next all stops (pieces-some are);
     past = λ c t e white. let slash : 92 ≡ c = cc in absurd (true≢false (sym white ∙ ap is_whitespace (sym slash)));
   }
-  pieces-some (the.raw_element {c} {next} is are) =
+  pieces-some (the.raw_element {c} {next} {element = e} is are) =
       let rest = pieces-some are in
       record {
-        all = (_, lit.more lit.none (lit.raw_element is) rest.all.1);
+        all = (_, lit.more lit.none (lit.raw_element is (looks-some mode e (error_of mode e) refl)) rest.all.1);
         past = λ d t e white. subst (HasPieces mode true) (let same : next ≡ t = cc in same) rest.all;
       }
 
@@ -106,17 +117,12 @@ module _ (mode : Mode) (begin close : ℕ) where
   abbrev pub found : ℕ → List Item → List Stretch
   found at items = stretches_from mode begin at close items
 
-  abbrev first_by : ℕ → Item → List Item → Bool → List Stretch
-  first_by at i items told =
-      if told then found at items
-      else gap at (begin + i.0.start) ++ (stretch (begin + i.0.start) (begin + i.0.end) (element_look mode i.1) ++ found (begin + i.0.end) items)
+  fresh : (at : ℕ) (i : Item) (items : List Item) {look : Option Look} {rest : List Stretch} → at ≤ begin + i.0.start → element_look mode i.1 ≡ look → found (begin + i.0.end) items ≡ rest
+      → found at (i ∷ items) ≡ gap at (begin + i.0.start) ++ (stretch (begin + i.0.start) (begin + i.0.end) look ++ rest)
+  fresh at i items le looks more = rw (le-ltb (begin + i.0.start) at le, looks, more) refl
 
-  fresh : (at : ℕ) (i : Item) (items : List Item) (look : Option Look) → at ≤ begin + i.0.start → element_look mode i.1 ≡ look
-      → found at (i ∷ items) ≡ gap at (begin + i.0.start) ++ (stretch (begin + i.0.start) (begin + i.0.end) look ++ found (begin + i.0.end) items)
-  fresh at i items look le looks = ap (first_by at i items) (le-ltb (begin + i.0.start) at le) ∙ ap (λ (l : Option Look). gap at (begin + i.0.start) ++ (stretch (begin + i.0.start) (begin + i.0.end) l ++ found (begin + i.0.end) items)) looks
-
-  told : (at : ℕ) (i : Item) (items : List Item) → begin + i.0.start < at → found at (i ∷ items) ≡ found at items
-  told at i items less = ap (first_by at i items) (lt-ltb (begin + i.0.start) at less)
+  pub told : (at : ℕ) (i : Item) (items : List Item) → begin + i.0.start < at → found at (i ∷ items) ≡ found at items
+  told at i items less = rw (lt-ltb (begin + i.0.start) at less) refl
 
   -- a second warning
   told-space : (at j : ℕ) (space next : Chars) (items : List Item) → begin + j < at → found at (space_warning j space next ++ items) ≡ found at items
@@ -132,15 +138,15 @@ module _ (mode : Mode) (begin close : ℕ) where
     same : (at : ℕ) → at ≤ begin + j → found at all ≡ gap at (begin + j) ++ (stretch (begin + j) (begin + (j + bytes w)) look ++ found (begin + (j + bytes w)) items)
 
   piece-read : {raw : Bool} {next : Chars} {look : Option Look} {w : Chars} → IsPieceBefore mode next raw look w → (j : ℕ) (items : List Item) → AreItems raw (j + bytes w) next items → ReadsPiece raw j w next look items
-  piece-read (lit.element {element = e} {w} is other) j items are = record {
+  piece-read (lit.element {element = e} {w} is other looks) j items are = record {
     all = item j e w ∷ items;
     are = the.element is other are;
-    same = λ at le. fresh at (item j e w) items (element_look mode e) le refl;
+    same = λ at le. fresh at (item j e w) items le (looks-read looks) refl;
   }
-  piece-read (lit.raw_element {element = e} {c} is) j items are = record {
+  piece-read (lit.raw_element {element = e} {c} is looks) j items are = record {
     all = item j e (c ∷ []) ∷ items;
     are = the.raw_element is are;
-    same = λ at le. fresh at (item j e (c ∷ [])) items (element_look mode e) le refl;
+    same = λ at le. fresh at (item j e (c ∷ [])) items le (looks-read looks) refl;
   }
   piece-read {next = next} (lit.lines space all many stops) j items are =
       let warning : Item = item j (Fault MultipleSkippedLinesWarning) (line space) in
@@ -150,8 +156,7 @@ module _ (mode : Mode) (begin close : ℕ) where
       record {
         all = warning ∷ more;
         are = subst (AreItems false j (line space ++ next)) is (the.line_end space all stops are);
-        same = λ at le. fresh at warning more (Some (Wrong MultipleSkippedLinesWarning)) le (fault-look mode MultipleSkippedLinesWarning)
-            ∙ ap (λ (ss : List Stretch). gap at (begin + j) ++ (stretch (begin + j) (begin + (j + bytes (line space))) (Some (Wrong MultipleSkippedLinesWarning)) ++ ss)) (told-space (begin + (j + bytes (line space))) j space next items (omega arith));
+        same = λ at le. fresh at warning more le (fault-look mode MultipleSkippedLinesWarning) (told-space (begin + (j + bytes (line space))) j space next items (omega arith));
       }
   piece-read {next = next} (lit.white_space space c all one white stays) j items are =
       let w : Chars = line (space ++ c ∷ []) in
@@ -165,8 +170,7 @@ module _ (mode : Mode) (begin close : ℕ) where
         all = warning ∷ character ∷ items;
         are = subst (AreItems false j (w ++ next)) is (subst (λ (s : Chars). AreItems false j s ((lines_warning j space ++ space_warning j space (c ∷ next)) ++ character ∷ items)) (ap line (sym (append_assoc space (c ∷ []) next)))
             (the.line_end space all stays (the.element (the.plain (plain-space c white stays)) (λ e. absurd (let not : c ∷ [] ≡ 92 ∷ 10 ∷ [] = e in cc)) after)));
-        same = λ at le. fresh at warning (character ∷ items) (Some (Wrong UnskippedWhitespaceWarning)) le (fault-look mode UnskippedWhitespaceWarning)
-            ∙ ap (λ (ss : List Stretch). gap at (begin + j) ++ (stretch (begin + j) (begin + (j + bytes w)) (Some (Wrong UnskippedWhitespaceWarning)) ++ ss)) (told (begin + (j + bytes w)) character items (omega arith));
+        same = λ at le. fresh at warning (character ∷ items) le (fault-look mode UnskippedWhitespaceWarning) (told (begin + (j + bytes w)) character items (omega arith));
       }
 
   -- line ends without a warning have no items

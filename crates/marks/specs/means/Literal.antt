@@ -1,17 +1,30 @@
 -- The stretches of a literal, as the code finds them in the items of what stands between the
 -- quotes.
-use Rattle.std.specs.Prelude.{ℕ, ◌+◌, nat_lt, if◌then◌else◌, List, [], ◌∷◌, ◌++◌, drop, Some}
+use Rattle.std.specs.Prelude.{ℕ, ◌+◌, nat_lt, if◌then◌else◌, List, [], ◌∷◌, ◌++◌, drop, Option, Some, None}
 use Rattle.std.specs.Fmt.{WritesInCalls}
 use Rattle.std.specs.List.{between}
 use Rattle.rustc_lexer.specs.Classes.{Utf8}
+use Rattle.rustc_literal_escaper.specs.declared.element.Element.{Element}
+use Rattle.rustc_literal_escaper.specs.declared.element.Element.TheVariants.{Plain}
+use Rattle.rustc_literal_escaper.specs.declared.error.EscapeError.{EscapeError}
 use Rattle.rustc_literal_escaper.specs.declared.mode.Mode.{Mode}
 use Rattle.rustc_literal_escaper.specs.Answers.{items_of}
 use Rattle.rustc_literal_escaper.specs.Grammar.{Item}
-use Rattle.rustc_literal_escaper.specs.Meaning.{is_raw}
-use Rattle.marks.specs.declared.literal.Look.TheVariants.{Escape}
+use Rattle.rustc_literal_escaper.specs.Meaning.{error_of, is_raw}
+use Rattle.marks.specs.declared.literal.Look.{Look}
+use Rattle.marks.specs.declared.literal.Look.TheVariants.{Escape, Wrong}
 use Rattle.marks.specs.declared.style.Style.{Style}
-use Rattle.marks.specs.Literal.{Stretch, char_error, char_look, element_look, parts_from, stretch}
+use Rattle.marks.specs.Literal.{Stretch, parts_from, stretch}
 use Rattle.marks.specs.Part.{with_marks}
+
+-- the look of an element by its error
+abbrev pub look_by : Option EscapeError → Element → Option Look
+look_by (Some error) element = Some (Wrong error)
+look_by None (Plain c) = None
+look_by None element = Some Escape
+
+abbrev pub element_look : Mode → Element → Option Look
+element_look mode element = look_by (error_of mode element) element
 
 -- between two elements there is only a backslash at the end of a line and what it skips
 abbrev pub gap : ℕ → ℕ → List Stretch
@@ -32,16 +45,10 @@ abbrev pub string_stretches : Mode → ℕ → ℕ → Utf8 → List Stretch
 string_stretches mode begin close text =
     stretches_from mode begin begin close (items_of (is_raw mode) (between begin close text))
 
--- and of a text between single quotes
-abbrev pub single_stretches : Mode → ℕ → ℕ → Utf8 → List Stretch
-single_stretches mode begin close text =
-    stretch begin close (char_look (char_error mode (between begin close text))
-    (between begin close text))
-
 -- a writer that has written a literal up to the offset `shown` writes these stretches, and has then
 -- written it up to `to`: whatever stretches follow, writing those too completes the literal
-abbrev pub WritesOn : {W : Type 0} → (W → List ℕ → W → Type 0) → Style → Utf8 → W → ℕ → List Stretch
-    → W → ℕ → Type 0
+abbrev pub WritesOn : {W : Type 0} → (W → List ℕ → W → Type 0) → Style → Utf8
+    → W → ℕ → List Stretch → W → ℕ → Type 0
 WritesOn {W} took style text old shown stretches new to =
     (more : List Stretch) (last : W)
     → WritesInCalls took new (with_marks style (parts_from to (drop to text) more)) last

@@ -50,22 +50,15 @@ pub fn mode_of(kind: TokenKind) -> Option<Mode> {
 #[must_use]
 pub fn inside(kind: TokenKind, text: &str) -> Option<(Mode, Range<usize>)> {
     let mode = mode_of(kind)?;
-    let Some((start, end)) = between_quotes(mode, text) else {
-        return None;
-    };
+    let (start, end) = between_quotes(mode, text)?;
     Some((mode, start..end))
 }
 
 /// Returns where the text between the quotes of a literal begins and ends, or `None` if there are no two quotes.
 fn between_quotes(mode: Mode, text: &str) -> Option<(usize, usize)> {
     let quote = quote_of(mode);
-    let bytes = text.as_bytes();
-    let Some(first) = memchr(quote, bytes) else {
-        return None;
-    };
-    let Some(last) = memrchr(quote, bytes) else {
-        return None;
-    };
+    let first = first_place(quote, text);
+    let last = last_place(quote, text);
     if first < last {
         Some((first + 1, last))
     } else {
@@ -98,6 +91,16 @@ fn is_single(mode: Mode) -> bool {
 /// Returns the quote of such a literal.
 fn quote_of(mode: Mode) -> u8 {
     if is_single(mode) { b'\'' } else { b'"' }
+}
+
+/// Returns the place of the first byte of this value, or the length of the text.
+fn first_place(byte: u8, text: &str) -> usize {
+    memchr(byte, text.as_bytes()).unwrap_or(text.len())
+}
+
+/// Returns the place of the last byte of this value, or 0.
+fn last_place(byte: u8, text: &str) -> usize {
+    memrchr(byte, text.as_bytes()).unwrap_or(0)
 }
 
 /// Writes a literal between single quotes. The text between them goes from the place `begin` to `close`.
