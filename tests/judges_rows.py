@@ -119,7 +119,7 @@ PACKAGES = [
     ("rust/lexdump/src/planted.rs", None, "", "lexdump/src/planted.rs is not what is made"),
     ("rust/ends/src/fault.rs", "", None, "ends/src/fault.rs is not what is made"),
     (f"{LEXER}/src/relex/edit.rt", "(put.is_ok())", "(text.replace_range(start..stop, insert).is_ok())", "a condition that a release does not run"),
-    ("crates/ends/src/fault.rt", "pub fn status", "#[planted]\npub fn status", "fault.rt: line 36: an attribute that is not known"),
+    ("crates/ends/src/fault.rt", "pub fn status", "#[planted]\npub fn status", "fault.rt: line 37: an attribute that is not known"),
     ("tools/erase", " Pieces ", " Planted ", "not each item of ATTRIBUTES stands once"),
     ("tools/erase", "Head::find", "Head::planted", "not each item of ATTRIBUTES stands once"),
 ]

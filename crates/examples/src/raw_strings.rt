@@ -27,7 +27,7 @@ pub fn raw_faults(alloc: Global, text: &str) -> Result<Vec<RawFault>, AllocError
     ensures { IfOk result
         (λ faults. faults.items
         ≡ faults_of (pieces_from text.now (shebang_len text.now)
-            (document_tokens newest text.now))) }
+        (document_tokens newest text.now))) }
 {
     let mut faults = Vec::new(alloc);
     let tokens = tokenize_document(text, Edition::NEWEST);

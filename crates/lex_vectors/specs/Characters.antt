@@ -30,14 +30,19 @@ parts text is some = by_chars (chars text) refl
     by_chars : (cs : List ℕ) → chars text ≡ cs → Parts text
     by_chars [] e = absurd (omega (arith, some, ap length (empty-text text is e)))
     by_chars (c ∷ cs) e =
-        record { c = c; cs = cs; whole = e; len = ap (λ (xs : List ℕ). (of_chars xs).len) e;
-        at = split text (c ∷ []) cs is e }
+        record {
+          c = c;
+          cs = cs;
+          whole = e;
+          len = ap (λ (xs : List ℕ). (of_chars xs).len) e;
+          at = split text (c ∷ []) cs is e;
+        }
 
 same_token : (text other : List ℕ) → Parts text → AgreePast (character text).len text other
     → character other ≡ character text
 same_token text other p agree =
     let here : AgreePast (bytes (p.c ∷ [])) text other =
-        subst (λ (k : ℕ). AgreePast k text other) p.len agree in
+    subst (λ (k : ℕ). AgreePast k text other) p.len agree in
     ap of_chars (split-same other p.at here.below) ∙ sym (ap of_chars p.whole)
 
 pub character_grammar : IsGrammar character

@@ -60,7 +60,7 @@ pub fn write_first_tokens<W: fmt::Write>(
     requires fits { Fits text.now }
     ensures { OnOk result (WritesInCalls W.write_str_gives output.old
         (marked_tokens style text.now
-            (take count (tokens_of (part edition) text.now))) output.new) }
+        (take count (tokens_of (part edition) text.now))) output.new) }
 {
     let mut tokens = tokenize_in(text, edition);
     let mut start = 0;

@@ -277,7 +277,7 @@ fn check_unescaped<'a, F: FnMut(Range<usize>, EscapeError)>(
         last
         → FoldsTo (λ f error g. F.step f error.0 error.1 tt g)
         callback.old (spec.errors_in mode (items_from (front_by false) total
-            (chars rest.now))) last }
+        (chars rest.now))) last }
     ensures shorter { length result.now ≤ length rest.now }
     ensures text { IsUtf8 result.now }
 {

@@ -278,7 +278,7 @@ fn unescaped_by_call(c: char) -> Element
 fn strip_newline(text: &str) -> Option<&str>
     ensures { MatchOption result (IsTrue (not (spec.begins_line (chars text.now))))
         (λ r. (chars text.now ≡ 10 ∷ chars r.now) × (length r.now < length text.now)
-            × IsUtf8 r.now) }
+        × IsUtf8 r.now) }
 {
     let (c, tail) = split_passed(text)?;
     if c == '\n' { Some(tail) } else { None }

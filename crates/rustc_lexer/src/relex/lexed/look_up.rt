@@ -49,7 +49,7 @@ impl<S: Stepper, E: Extent> Lexed<S, E> {
         ensures pieces { result
             ≡ take (to - from)
             (drop from (pieces_from self.now.text (start_in E.whole self.now.text)
-                self.now.tokens)) }
+            self.now.tokens)) }
         ensures number { length result ≡ to - from }
     {
         let first = Bound {

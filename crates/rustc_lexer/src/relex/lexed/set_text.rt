@@ -25,7 +25,7 @@ impl<S: Stepper, E: Extent> Lexed<S, E> {
         ensures edit { (self.old.text ≡ text.now → ⊥) → (start stop : ℕ) × (insert : List ℕ)
             × IsNarrowest self.old.text text.now start stop insert
             × IsEdited S.grammar S.number S.count E.whole self.old start stop insert
-                result self.new }
+            result self.new }
     {
         let old = self.text();
         if old == text {
