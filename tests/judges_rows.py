@@ -89,7 +89,7 @@ KINDS = [
     (f"{LEXER}/src/token.rt", 'TokenKind::Tilde => (26, "Tilde"),\n', "", "Tilde has no number"),
     (f"{SPECS}/Kinds.antt", "kind_entry Whitespace = (3,", "kind_entry Whitespace = (4,", "Whitespace has another number in token.rt"),
     (f"{SPECS}/means.antt", "pub mod BlockComment\n", "", "specs/means.antt is not as token.rt or the files"),
-    ("crates/lexdump_run/src/listing.rt", 'flag_field(" terminated="', 'flag_field(" ended="', "listing.rt is not as token.rt"),
+    ("crates/lexdump_run/src/listing.rt", 'push_field(lines, output, "terminated", flag_name(terminated))\n        }\n        TokenKind', 'push_field(lines, output, "ended", flag_name(terminated))\n        }\n        TokenKind', "listing.rt is not as token.rt"),
 ]
 NUMBERS = [
     (HEADER, "RUSTC_LEXER_OUTER_DOC = 1", "RUSTC_LEXER_OUTER_DOC = 3", "RUSTC_LEXER_OUTER_DOC = 3 is not as the library has it"),

@@ -48,3 +48,5 @@ pushes_both old mid new held between left one two bytes (Err fault) e p q =
 -- what is held is written, and then the bytes themselves
 pub pushes_past : (old mid new : Option (List ℕ)) (held left bytes : List ℕ) → Appends old mid held → left ≡ [] → Appends mid new bytes → Pushes old new held left bytes (Ok tt)
 pushes_past old mid new held left bytes a e b = grind (arith, common_steps, append-nil, appends-more)
+
+pub ruleset push_lemmas = (append-nil)

@@ -1,5 +1,4 @@
 pub mod Fault
-pub mod Fields
 pub mod Job
 pub mod Listing
 pub mod Outcome

@@ -10,7 +10,7 @@ use Rattle.rustc_lexer.specs.declared.token.LiteralKind.TheVariants.{Int, Float,
 use Rattle.rustc_lexer.specs.declared.token.Token.{Token}
 use Rattle.rustc_lexer.specs.declared.token.TokenKind.{TokenKind}
 use Rattle.rustc_lexer.specs.declared.token.TokenKind.TheVariants.{LineComment, BlockComment, Frontmatter, Literal, Lifetime}
-use Rattle.rustc_lexer.specs.Kinds.{kind_entry}
+use Rattle.rustc_lexer.specs.Kinds.{kind_entry, literal_entry}
 
 abbrev pub bool_text : Bool → List ℕ
 bool_text true = codes "true"
@@ -31,34 +31,43 @@ base_text Octal = codes "8"
 base_text Decimal = codes "10"
 base_text Hexadecimal = codes "16"
 
--- the kind of a literal with its own fields
-unfoldable pub literal_text : LiteralKind → List ℕ
-literal_text (Int base empty_int) =
-    codes "Int base=" ++ (base_text base ++ (codes " empty_int=" ++ bool_text empty_int))
-literal_text (Float base empty_exponent) =
-    codes "Float base=" ++ (base_text base
-    ++ (codes " empty_exponent=" ++ bool_text empty_exponent))
-literal_text (Char terminated) = codes "Char terminated=" ++ bool_text terminated
-literal_text (Byte terminated) = codes "Byte terminated=" ++ bool_text terminated
-literal_text (Str terminated) = codes "Str terminated=" ++ bool_text terminated
-literal_text (ByteStr terminated) = codes "ByteStr terminated=" ++ bool_text terminated
-literal_text (CStr terminated) = codes "CStr terminated=" ++ bool_text terminated
-literal_text (RawStr n_hashes) = codes "RawStr n_hashes=" ++ hashes_text n_hashes
-literal_text (RawByteStr n_hashes) = codes "RawByteStr n_hashes=" ++ hashes_text n_hashes
-literal_text (RawCStr n_hashes) = codes "RawCStr n_hashes=" ++ hashes_text n_hashes
+-- a field: a space, its name, an equals sign and its value
+unfoldable pub field : List ℕ → List ℕ → List ℕ
+field name value = 32 ∷ (name ++ 61 ∷ value)
 
--- the fields of a kind, each after a space
+-- the fields of the kind of a literal
+unfoldable pub literal_fields : LiteralKind → List ℕ
+literal_fields (Int base empty_int) =
+    field (codes "base") (base_text base) ++ field (codes "empty_int") (bool_text empty_int)
+literal_fields (Float base empty_exponent) =
+    field (codes "base") (base_text base)
+    ++ field (codes "empty_exponent") (bool_text empty_exponent)
+literal_fields (Char terminated) = field (codes "terminated") (bool_text terminated)
+literal_fields (Byte terminated) = field (codes "terminated") (bool_text terminated)
+literal_fields (Str terminated) = field (codes "terminated") (bool_text terminated)
+literal_fields (ByteStr terminated) = field (codes "terminated") (bool_text terminated)
+literal_fields (CStr terminated) = field (codes "terminated") (bool_text terminated)
+literal_fields (RawStr n_hashes) = field (codes "n_hashes") (hashes_text n_hashes)
+literal_fields (RawByteStr n_hashes) = field (codes "n_hashes") (hashes_text n_hashes)
+literal_fields (RawCStr n_hashes) = field (codes "n_hashes") (hashes_text n_hashes)
+
+-- the kind of a literal and its fields
+abbrev pub literal_text : LiteralKind → List ℕ
+literal_text kind = field (codes "kind") (literal_entry kind).1 ++ literal_fields kind
+
+-- the fields of a kind
 unfoldable pub fields_text : TokenKind → List ℕ
-fields_text (LineComment doc_style) = codes " doc_style=" ++ style_text doc_style
+fields_text (LineComment doc_style) = field (codes "doc_style") (style_text doc_style)
 fields_text (BlockComment doc_style terminated) =
-    codes " doc_style=" ++ (style_text doc_style ++ (codes " terminated=" ++ bool_text terminated))
+    field (codes "doc_style") (style_text doc_style)
+    ++ field (codes "terminated") (bool_text terminated)
 fields_text (Frontmatter has_invalid_preceding_whitespace invalid_infostring) =
-    codes " has_invalid_preceding_whitespace=" ++ (bool_text has_invalid_preceding_whitespace
-    ++ (codes " invalid_infostring=" ++ bool_text invalid_infostring))
+    field (codes "has_invalid_preceding_whitespace") (bool_text has_invalid_preceding_whitespace)
+    ++ field (codes "invalid_infostring") (bool_text invalid_infostring)
 fields_text (Literal kind suffix_start) =
-    codes " kind=" ++ (literal_text kind ++ (codes " suffix_start=" ++ decimal suffix_start))
+    literal_text kind ++ field (codes "suffix_start") (decimal suffix_start)
 fields_text (Lifetime starts_with_number) =
-    codes " starts_with_number=" ++ bool_text starts_with_number
+    field (codes "starts_with_number") (bool_text starts_with_number)
 fields_text kind = []
 
 -- where a token begins and how long it is, each with a space after it

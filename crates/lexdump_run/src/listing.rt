@@ -1,22 +1,21 @@
 //! The listing: one line per token, with its start, its length, its kind and the kind's fields.
-ghost use Rattle.std.specs.Prelude.{◌≡◌, ◌+◌, ◌^◌, ◌<◌, ◌++◌, [], Ok, codes, false, true, is_err, length, IfErr, IfOk, OnErr, OnOk};
+ghost use Rattle.std.specs.Prelude.{◌≡◌, ◌+◌, ◌^◌, ◌<◌, Ok, false, true, is_err, length, IfErr, IfOk, OnErr, OnOk};
 ghost use Rattle.std.specs.Io.KnownBytes.{Appends};
 ghost use Rattle.ends.specs.Known.{AppendsFront};
-ghost use Rattle.lexdump_run.specs.Listing.{base_text, bool_text, fields_text, hashes_text, line_text, listing, listing_from, literal_text, place_text, shebang_line, style_text};
+ghost use Rattle.ends.specs.Watch.{has_failed};
+ghost use Rattle.lexdump_run.specs.Listing.{base_text, bool_text, field, fields_text, hashes_text, line_text, listing, listing_from, literal_fields, literal_text, place_text, shebang_line, style_text};
 ghost use Rattle.lexdump_run.specs.Pushed.{Pushes};
 ghost use Rattle.lexdump_run.specs.Fault.{stop_fault};
-ghost use Rattle.lexdump_run.specs.Fields.{field_text, fields_shown};
 ghost use Rattle.lexdump_run.specs.Outcome.{IsRefused};
 ghost use Rattle.rustc_lexer.specs.Classes.{Fits};
 ghost use Rattle.rustc_lexer.specs.Edits.{apply_list, AreEdits};
 ghost use Rattle.rustc_lexer.specs.LanguageText.{mode_in, part};
 ghost use Rattle.rustc_lexer.specs.Answers.{shebang};
 ghost use Rattle.rustc_lexer.specs.Tokens.{bound, tokens_of};
-ghost use Rattle.ends.specs.Watch.{has_failed};
 
 use crate::output::Block;
 use ends::{Fault, Watched};
-use itoa::write_digits;
+use itoa::{Buffer, write_digits};
 use rustc_lexer::{
     Base, DocStyle, Edit, EditStop, Edition, FrontmatterAllowed, LexedText, LiteralKind, Stepper,
     Steps, Token, TokenKind, strip_shebang, tokenize_as,
@@ -175,7 +174,6 @@ pub fn list_pieces<W: Write, S: Stepper>(
 }
 
 /// Adds the line of a token that begins at byte `start`.
-#[tactic(auto, using(crate::proofs::PushLemmas::pushes_both, crate::proofs::PushLemmas::pushes_first, std::proofs::Common::append_assoc, std::proofs::lemmas::Grind::common_steps), unfolding(crate::specs::Listing::line_text))]
 fn push_line<W: Write>(
     lines: &mut Block,
     output: &mut Watched<W>,
@@ -189,9 +187,7 @@ fn push_line<W: Write>(
 {
     push_place(lines, output, start, token.len)?;
     lines.push(output, token.kind.name())?;
-    if token.kind.has_fields() {
-        return push_fields(lines, output, token.kind);
-    }
+    push_fields(lines, output, token.kind)?;
     lines.push(output, "\n")
 }
 
@@ -218,27 +214,8 @@ fn push_place<W: Write>(
     lines.push_bytes(output, &place[start_at..])
 }
 
-/// A field: what comes before its value, and the value.
-#[derive(Clone, Copy)]
-struct Field {
-    label: &'static str,
-    value: Value,
-}
-
-/// The value of a field.
-#[derive(Clone, Copy)]
-enum Value {
-    Text(&'static str),
-    Number(u32),
-}
-
-/// No field.
-const NONE: Field = Field {
-    label: "",
-    value: Value::Text(""),
-};
-
-/// Adds the fields of a kind, each after a space, then a newline.
+/// Adds the fields of a kind.
+#[tactic(auto, using(crate::proofs::PushLemmas::pushes_both, crate::proofs::PushLemmas::pushes_first, std::proofs::lemmas::Grind::common_steps), unfolding(crate::specs::Listing::fields_text))]
 fn push_fields<W: Write>(
     lines: &mut Block,
     output: &mut Watched<W>,
@@ -247,140 +224,149 @@ fn push_fields<W: Write>(
     requires writes { has_failed output.old ≡ false }
     ensures failed { has_failed output.new ≡ is_err result }
     ensures pushed { Pushes (W.contents output.old.inner) (W.contents output.new.inner)
-        lines.old lines.new (fields_text kind ++ codes "\n") result }
-{
-    let (first, second, third) = fields(kind);
-    push_field(lines, output, first)?;
-    push_field(lines, output, second)?;
-    push_field(lines, output, third)?;
-    lines.push(output, "\n")
-}
-
-/// Adds a field.
-#[tactic(auto, using(crate::proofs::PushLemmas::pushes_both, crate::proofs::PushLemmas::pushes_first, std::proofs::lemmas::Grind::common_steps))]
-fn push_field<W: Write>(
-    lines: &mut Block,
-    output: &mut Watched<W>,
-    field: Field,
-) -> Result<(), Fault>
-    requires writes { has_failed output.old ≡ false }
-    ensures failed { has_failed output.new ≡ is_err result }
-    ensures pushed { Pushes (W.contents output.old.inner) (W.contents output.new.inner)
-        lines.old lines.new (field_text field) result }
-{
-    lines.push(output, field.label)?;
-    match field.value {
-        Value::Text(text) => lines.push(output, text),
-        Value::Number(number) => lines.push_number(output, number as usize),
-    }
-}
-
-/// Returns the fields of a kind, at most three.
-#[tactic(auto, unfolding(crate::specs::Listing::fields_text))]
-fn fields(kind: TokenKind) -> (Field, Field, Field)
-    ensures { fields_shown result.0 result.1 result.2 ≡ fields_text kind }
+        lines.old lines.new (fields_text kind) result }
 {
     match kind {
         TokenKind::LineComment { doc_style } => {
-            (text_field(" doc_style=", style_name(doc_style)), NONE, NONE)
+            push_field(lines, output, "doc_style", style_name(doc_style))
         }
         TokenKind::BlockComment {
             doc_style,
             terminated,
-        } => (
-            text_field(" doc_style=", style_name(doc_style)),
-            flag_field(" terminated=", terminated),
-            NONE,
-        ),
+        } => {
+            push_field(lines, output, "doc_style", style_name(doc_style))?;
+            push_field(lines, output, "terminated", flag_name(terminated))
+        }
         TokenKind::Frontmatter {
             has_invalid_preceding_whitespace,
             invalid_infostring,
-        } => (
-            flag_field(
-                " has_invalid_preceding_whitespace=",
-                has_invalid_preceding_whitespace,
-            ),
-            flag_field(" invalid_infostring=", invalid_infostring),
-            NONE,
-        ),
-        TokenKind::Literal { kind, suffix_start } => {
-            let (first, second) = literal_fields(kind);
-            let suffix_start = Field {
-                label: " suffix_start=",
-                value: Value::Number(suffix_start),
-            };
-            (first, second, suffix_start)
+        } => {
+            push_field(
+                lines,
+                output,
+                "has_invalid_preceding_whitespace",
+                flag_name(has_invalid_preceding_whitespace),
+            )?;
+            push_field(
+                lines,
+                output,
+                "invalid_infostring",
+                flag_name(invalid_infostring),
+            )
         }
-        TokenKind::Lifetime { starts_with_number } => (
-            flag_field(" starts_with_number=", starts_with_number),
-            NONE,
-            NONE,
+        TokenKind::Literal { kind, suffix_start } => {
+            push_literal(lines, output, kind)?;
+            let mut buffer = Buffer::new();
+            push_field(
+                lines,
+                output,
+                "suffix_start",
+                buffer.format(suffix_start as usize),
+            )
+        }
+        TokenKind::Lifetime { starts_with_number } => push_field(
+            lines,
+            output,
+            "starts_with_number",
+            flag_name(starts_with_number),
         ),
-        _ => (NONE, NONE, NONE),
+        _ => Ok(()),
     }
 }
 
-/// Returns the field with the kind of a literal, and that kind's own fields, at most two.
-#[tactic(auto, unfolding(crate::specs::Listing::literal_text))]
-fn literal_fields(kind: LiteralKind) -> (Field, Field)
-    ensures { field_text result.0 ++ field_text result.1 ≡ codes " kind=" ++ literal_text kind }
+/// Adds the kind of a literal and its fields.
+#[tactic(auto, using(crate::proofs::PushLemmas::pushes_both, crate::proofs::PushLemmas::pushes_first, std::proofs::lemmas::Grind::common_steps))]
+fn push_literal<W: Write>(
+    lines: &mut Block,
+    output: &mut Watched<W>,
+    kind: LiteralKind,
+) -> Result<(), Fault>
+    requires writes { has_failed output.old ≡ false }
+    ensures failed { has_failed output.new ≡ is_err result }
+    ensures pushed { Pushes (W.contents output.old.inner) (W.contents output.new.inner)
+        lines.old lines.new (literal_text kind) result }
+{
+    push_field(lines, output, "kind", kind.name())?;
+    push_literal_fields(lines, output, kind)
+}
+
+/// Adds the fields of the kind of a literal.
+#[tactic(auto, using(crate::proofs::PushLemmas::pushes_both, crate::proofs::PushLemmas::pushes_first, std::proofs::lemmas::Grind::common_steps), unfolding(crate::specs::Listing::literal_fields))]
+fn push_literal_fields<W: Write>(
+    lines: &mut Block,
+    output: &mut Watched<W>,
+    kind: LiteralKind,
+) -> Result<(), Fault>
+    requires writes { has_failed output.old ≡ false }
+    ensures failed { has_failed output.new ≡ is_err result }
+    ensures pushed { Pushes (W.contents output.old.inner) (W.contents output.new.inner)
+        lines.old lines.new (literal_fields kind) result }
 {
     match kind {
-        LiteralKind::Int { base, empty_int } => (
-            text_field(" kind=Int base=", base_name(base)),
-            flag_field(" empty_int=", empty_int),
-        ),
+        LiteralKind::Int { base, empty_int } => {
+            push_field(lines, output, "base", base_name(base))?;
+            push_field(lines, output, "empty_int", flag_name(empty_int))
+        }
         LiteralKind::Float {
             base,
             empty_exponent,
-        } => (
-            text_field(" kind=Float base=", base_name(base)),
-            flag_field(" empty_exponent=", empty_exponent),
-        ),
-        LiteralKind::Char { terminated } => end_fields(" kind=Char terminated=", terminated),
-        LiteralKind::Byte { terminated } => end_fields(" kind=Byte terminated=", terminated),
-        LiteralKind::Str { terminated } => end_fields(" kind=Str terminated=", terminated),
-        LiteralKind::ByteStr { terminated } => end_fields(" kind=ByteStr terminated=", terminated),
-        LiteralKind::CStr { terminated } => end_fields(" kind=CStr terminated=", terminated),
-        LiteralKind::RawStr { n_hashes } => hash_fields(" kind=RawStr n_hashes=", n_hashes),
-        LiteralKind::RawByteStr { n_hashes } => hash_fields(" kind=RawByteStr n_hashes=", n_hashes),
-        LiteralKind::RawCStr { n_hashes } => hash_fields(" kind=RawCStr n_hashes=", n_hashes),
+        } => {
+            push_field(lines, output, "base", base_name(base))?;
+            push_field(lines, output, "empty_exponent", flag_name(empty_exponent))
+        }
+        LiteralKind::Char { terminated } | LiteralKind::Byte { terminated } => {
+            push_field(lines, output, "terminated", flag_name(terminated))
+        }
+        LiteralKind::Str { terminated }
+        | LiteralKind::ByteStr { terminated }
+        | LiteralKind::CStr { terminated } => {
+            push_field(lines, output, "terminated", flag_name(terminated))
+        }
+        LiteralKind::RawStr { n_hashes }
+        | LiteralKind::RawByteStr { n_hashes }
+        | LiteralKind::RawCStr { n_hashes } => {
+            let mut buffer = Buffer::new();
+            push_field(
+                lines,
+                output,
+                "n_hashes",
+                hashes_name(&mut buffer, n_hashes),
+            )
+        }
     }
 }
 
-/// Returns a field whose value is a text.
-fn text_field(label: &'static str, text: &'static str) -> Field
-    ensures { field_text result ≡ label.now ++ text.now }
+/// Adds a field: a space, its name, an equals sign and its value.
+#[tactic(auto, using(crate::proofs::PushLemmas::push_lemmas, std::proofs::lemmas::Grind::common_steps), unfolding(crate::specs::Listing::field))]
+fn push_field<W: Write>(
+    lines: &mut Block,
+    output: &mut Watched<W>,
+    name: &str,
+    value: &str,
+) -> Result<(), Fault>
+    requires writes { has_failed output.old ≡ false }
+    ensures failed { has_failed output.new ≡ is_err result }
+    ensures pushed { Pushes (W.contents output.old.inner) (W.contents output.new.inner)
+        lines.old lines.new (field name.now value.now) result }
 {
-    Field {
-        label,
-        value: Value::Text(text),
+    lines.push_all(output, &[" ", name, "=", value])
+}
+
+/// Returns `true` or `false`.
+fn flag_name(flag: bool) -> &'static str
+    ensures { result.now ≡ bool_text flag }
+{
+    if flag { "true" } else { "false" }
+}
+
+/// Returns the number of hashes of a raw string, or `none`.
+fn hashes_name(buffer: &mut Buffer, n_hashes: Option<u8>) -> &str
+    ensures { result.now ≡ hashes_text n_hashes }
+{
+    match n_hashes {
+        None => "none",
+        Some(n) => buffer.format(usize::from(n)),
     }
-}
-
-/// Returns a field whose value is `true` or `false`.
-fn flag_field(label: &'static str, value: bool) -> Field
-    ensures { field_text result ≡ label.now ++ bool_text value }
-{
-    text_field(label, if value { "true" } else { "false" })
-}
-
-/// Returns the fields of a literal that may be unterminated.
-fn end_fields(label: &'static str, terminated: bool) -> (Field, Field)
-    ensures { field_text result.0 ++ field_text result.1 ≡ label.now ++ bool_text terminated }
-{
-    (flag_field(label, terminated), NONE)
-}
-
-/// Returns the fields of a raw string: the number of its hashes, or `none`.
-fn hash_fields(label: &'static str, n_hashes: Option<u8>) -> (Field, Field)
-    ensures { field_text result.0 ++ field_text result.1 ≡ label.now ++ hashes_text n_hashes }
-{
-    let value = match n_hashes {
-        None => Value::Text("none"),
-        Some(n) => Value::Number(u32::from(n)),
-    };
-    (Field { label, value }, NONE)
 }
 
 /// Returns the style of a doc comment, or `none`.

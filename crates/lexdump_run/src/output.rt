@@ -1,10 +1,11 @@
 //! Output in blocks: collects bytes until a block is full, then writes it at once.
 ghost use Rattle.std.specs.Prelude.{◌≡◌, ◌+◌, ◌≤◌, ◌++◌, [], false, true, is_err, length, IfErr, IfOk, OnErr, OnOk};
 ghost use Rattle.std.specs.Fmt.{decimal};
+ghost use Rattle.std.specs.List.{flat_map};
 ghost use Rattle.std.specs.Io.KnownBytes.{Appends};
 ghost use Rattle.ends.specs.Known.{AppendsFront};
-ghost use Rattle.lexdump_run.specs.Pushed.{Pushes};
 ghost use Rattle.ends.specs.Watch.{has_failed};
+ghost use Rattle.lexdump_run.specs.Pushed.{Pushes};
 
 use ends::{Fault, Watched, write_all, write_bytes};
 use itoa::Buffer;
@@ -52,6 +53,24 @@ impl Block {
             self.old self.new text.now result }
     {
         self.push_bytes(output, text.as_bytes())
+    }
+
+    /// Adds texts, one after another.
+    #[tactic(auto, using(crate::proofs::PushLemmas::went_none, crate::proofs::PushLemmas::went_all, std::proofs::lemmas::Grind::common_steps))]
+    pub fn push_all<W: Write>(
+        &mut self,
+        output: &mut Watched<W>,
+        texts: &[&str],
+    ) -> Result<(), Fault>
+        requires writes { has_failed output.old ≡ false }
+        ensures failed { has_failed output.new ≡ is_err result }
+        ensures pushed { Pushes (W.contents output.old.inner) (W.contents output.new.inner)
+            self.old self.new (flat_map (λ text. text.now) texts.now) result }
+    {
+        for text in texts {
+            self.push(output, text)?;
+        }
+        Ok(())
     }
 
     /// Adds a number in decimal.

@@ -2,10 +2,10 @@
 ghost use Rattle.std.specs.Prelude.{◌≡◌, false, codes, Result};
 ghost use Rattle.ends.specs.Fault.{fault_line, IsReported};
 ghost use Rattle.ends.specs.Run.{Leaves};
+ghost use Rattle.ends.specs.Watch.{has_failed};
 ghost use Rattle.ends.specs.Words.{words_of};
 ghost use Rattle.ends.specs.declared.fault.Fault.{Fault as TheFault};
 ghost use Rattle.lexdump_run.specs.Program.{Ran};
-ghost use Rattle.ends.specs.Watch.{has_failed};
 
 use crate::job::read_job;
 use crate::run_job::run;

@@ -1,10 +1,10 @@
 //! A whole run, from a reader to a writer.
 ghost use Rattle.std.specs.Prelude.{◌≡◌, ◌↔◌, false, IsTrue, IsErrOf, IfSome};
 ghost use Rattle.ends.specs.Run.{Leaves};
+ghost use Rattle.ends.specs.Watch.{has_failed};
 ghost use Rattle.rustc_lexer.specs.Classes.{Fits};
 ghost use Rattle.lexdump_run.specs.Outcome.{Ends};
 ghost use Rattle.lexdump_run.specs.Pushed.{Lists};
-ghost use Rattle.ends.specs.Watch.{has_failed};
 
 use crate::job::Job;
 use crate::listing::{edited, list_pieces, list_tokens, tell_shebang};

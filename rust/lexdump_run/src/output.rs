@@ -30,6 +30,18 @@ impl Block {
         self.push_bytes(output, text.as_bytes())
     }
 
+    /// Adds texts, one after another.
+    pub fn push_all<W: Write>(
+        &mut self,
+        output: &mut Watched<W>,
+        texts: &[&str],
+    ) -> Result<(), Fault> {
+        for text in texts {
+            self.push(output, text)?;
+        }
+        Ok(())
+    }
+
     /// Adds a number in decimal.
     pub fn push_number<W: Write>(
         &mut self,
