@@ -1,11 +1,11 @@
 //! Each call alone, by both: of texts that are at hand, with `black_box` at both ends; and calls for strings over long
 //! texts.
 
-use crate::Sum;
+use crate::{Sum, Use};
 use std::hint::black_box;
 
 /// A call: its name with what it is given, and a function that makes it: many times, or of a long text.
-pub type Call = (&'static str, fn(&str) -> Sum);
+pub type Call = (&'static str, Use);
 
 /// How often a call is made of each item.
 const TIMES: u64 = 256;
@@ -23,6 +23,7 @@ fn each<T: Copy, A>(items: &[T], call: impl Fn(T) -> A) -> Sum {
 
 const WORDS: &[&str] = &["fn", "self", "usize", "iter", "as_bytes", "FromIterator"];
 const LETTER: &[&str] = &["x", "y"];
+const EMPTY: &[&str] = &[""];
 const LETTERS: &[char] = &['a', 'q', 'Z', '_', '7'];
 const WIDE: &[char] = &['é', 'α', 'ж', '漢', '名', '€'];
 const SPACES: &[char] = &[' ', '\n', '\t', 'a', ';', '\u{2028}'];
@@ -46,6 +47,7 @@ const RAW: &[&str] = &[
 ];
 const PLAIN: &[&str] = &["a", "q", "Z", "7", "~"];
 const ESCAPES: &[&str] = &["\\n", "\\t", "\\\\", "\\0", "\\'"];
+const BAD: &[&str] = &["\\q", "\\z"];
 const HEX: &[&str] = &["\\x41", "\\x7f", "\\x00"];
 const UNICODE: &[&str] = &["\\u{e9}", "\\u{1F63b}", "\\u{10_FFFF}"];
 const STRINGS: &[&str] = &[
@@ -66,8 +68,8 @@ macro_rules! call {
 
 /// A call whose closure is told of each unit.
 macro_rules! units {
-    ($call:ident, $texts:ident) => {
-        (concat!("`", stringify!($call), "`"), |_| {
+    ($call:ident, $texts:ident $(, $of:literal)?) => {
+        (concat!("`", stringify!($call), "`" $(, " of ", $of)?), |_| {
             each($texts, |text| {
                 $call(text, |range, unit| {
                     let _ = black_box((range, unit));
@@ -103,9 +105,25 @@ macro_rules! long {
     };
 }
 
+/// The search for errors of a long text.
+macro_rules! long_errors {
+    ($mode:ident) => {
+        (
+            concat!("`check_for_errors` with `", stringify!($mode), "`"),
+            |text| {
+                let mut sum = Sum::default();
+                check_for_errors(text, Mode::$mode, |range, error| {
+                    sum = sum.add(u64::from(error.is_fatal()), range.end as u32);
+                });
+                sum.of_bytes(text)
+            },
+        )
+    };
+}
+
 macro_rules! calls {
     ($module:ident, $lexer:ident, $escaper:ident) => {
-        mod $module {
+        pub mod $module {
             use super::*;
             use $escaper::*;
             use $lexer::{
@@ -138,7 +156,7 @@ macro_rules! calls {
                 Cursor::new(text, FrontmatterAllowed::No).advance_token()
             }
 
-            pub const CALLS: [Call; 43] = [
+            pub const CALLS: &[Call] = &[
                 call!("`strip_shebang`", SHEBANGS, strip_shebang),
                 call!("`next` of a line", LINES, next),
                 call!("`next` of a line with `Yes`", LINES, next_yes),
@@ -190,24 +208,39 @@ macro_rules! calls {
                 errors!(RawStr, RAW_STRINGS),
                 errors!(RawByteStr, RAW_STRINGS),
                 errors!(RawCStr, RAW_STRINGS),
+                call!("`unescape_char` of a wrong escape", BAD, unescape_char),
+                call!("`unescape_byte` of a wrong escape", BAD, unescape_byte),
+                errors!(Char, BAD, "a wrong escape"),
+                errors!(Byte, BAD, "a wrong escape"),
+                call!("`unescape_char` of an empty one", EMPTY, unescape_char),
+                call!("`unescape_byte` of an empty one", EMPTY, unescape_byte),
+                units!(unescape_str, EMPTY, "an empty one"),
+                units!(unescape_byte_str, EMPTY, "an empty one"),
+                units!(unescape_c_str, EMPTY, "an empty one"),
+                units!(check_raw_str, EMPTY, "an empty one"),
+                errors!(Str, EMPTY, "an empty one"),
+                errors!(RawStr, EMPTY, "an empty one"),
+                units!(unescape_str, LETTER, "a letter"),
+                units!(unescape_byte_str, LETTER, "a letter"),
+                units!(unescape_c_str, LETTER, "a letter"),
+                units!(check_raw_str, LETTER, "a letter"),
+                errors!(Str, LETTER, "a letter"),
+                errors!(RawStr, LETTER, "a letter"),
             ];
 
-            fn errors(text: &str) -> Sum {
-                let mut sum = Sum::default();
-                check_for_errors(text, Mode::Str, |range, error| {
-                    sum = sum.add(u64::from(error.is_fatal()), range.end as u32);
-                });
-                sum.of_bytes(text)
-            }
-
-            pub const LONG: [Call; 7] = [
+            pub const LONG: &[Call] = &[
                 long!(unescape_str),
                 long!(unescape_byte_str),
                 long!(unescape_c_str),
                 long!(check_raw_str),
                 long!(check_raw_byte_str),
                 long!(check_raw_c_str),
-                ("`check_for_errors`", errors),
+                long_errors!(Str),
+                long_errors!(ByteStr),
+                long_errors!(CStr),
+                long_errors!(RawStr),
+                long_errors!(RawByteStr),
+                long_errors!(RawCStr),
             ];
         }
     };
@@ -216,18 +249,16 @@ macro_rules! calls {
 calls!(theirs, original, original_escaper);
 calls!(ours, rustc_lexer, rustc_literal_escaper);
 
-/// The calls of both, the original's first; and those of a long text.
-pub const CALLS: [[Call; 43]; 2] = [theirs::CALLS, ours::CALLS];
-pub const LONG: [[Call; 7]; 2] = [theirs::LONG, ours::LONG];
-
 /// What stands between the quotes, of each kind of text.
 #[rustfmt::skip]
-pub const TEXTS: [(&str, &str); 7] = [
+pub const TEXTS: [(&str, &str); 9] = [
     ("plain", "some words that stand for themselves, and no other. "),
     ("an escape a line", "some words that stand for themselves, and no other.\\n"),
     ("short plain runs", "ab\\ncde\\tf\\\\gh\\x41"),
     ("all escapes", "\\n\\x41\\u{e9}\\\\\\t\\0"),
     ("skipped line ends", "a \\\n        b \\\n    "),
     ("two warnings", "a \\\n\n \u{a0}b"),
+    ("lone carriage returns", "ab\rcd\r"),
+    ("lines that end in `\\r\\n`", "some words that stand for themselves, and no other.\r\n"),
     ("wide characters", "é漢字a字é名😀 名 "),
 ];

@@ -1,14 +1,15 @@
 //! Times each use of the crates beside the originals, in one process, and prints a table of nanoseconds:
-//! `cargo run --release --bin times -- FILE [ROUNDS]`. `tools/compare/measure` writes some into the notes.
+//! `cargo run --release --bin times -- FILE [ROUNDS]`. `tools/compare/measure` writes some into docs/SPEED.md.
 //!
-//! First each way to take the tokens of the file's first 256 KB, for each token: the times of the consumer that reads all
-//! fields, and a ratio. If the ratios of two consumers differ by more than 0.1, it shows the least and the greatest. Then
-//! each call alone; then a table of the ratios of calls for strings over 100 KB. Both run in turns, and the least time of
-//! all rounds counts. Both must give their consumer the same numbers.
+//! First each way to take the tokens of the file's first 256 KB, for each token, with each consumer; then texts of one
+//! kind and frontmatters that nothing closes; then each call alone, and calls for strings over 100 KB. Both run in turns,
+//! and the least time of all rounds counts. Both must give their consumer the same numbers.
 
 mod calls;
+mod kinds;
 mod tokens;
 
+use calls::{ours, theirs};
 use std::hint::black_box;
 use std::time::{Duration, Instant};
 use std::{env, fs};
@@ -39,35 +40,35 @@ impl Sum {
     }
 }
 
-/// The least time of each of both in turns, in nanoseconds for each item that they count.
-fn least(uses: [&dyn Fn() -> Sum; 2], rounds: usize) -> [f64; 2] {
+/// What is timed: a function of a text.
+type Use = fn(&str) -> Sum;
+
+/// All that is timed is called here, by a name that `measure` gives callgrind, which counts the instructions.
+#[unsafe(no_mangle)]
+#[inline(never)]
+fn counted(what: Use, text: &str) -> Sum {
+    black_box(what(black_box(text)))
+}
+
+/// Prints a row: a use, what it is with, and the least time of each of both in turns, in nanoseconds for each item that
+/// they count. More than one round take as many milliseconds at least.
+fn row(name: &str, with: &str, uses: [Use; 2], text: &str, rounds: usize) {
     let mut least = [Duration::MAX; 2];
     let mut sums = [Sum::default(); 2];
-    for _ in 0..rounds {
+    let mut left = rounds;
+    let begin = Instant::now();
+    while left > 0 || begin.elapsed() < Duration::from_millis(rounds as u64 - 1) {
+        left = left.saturating_sub(1);
         for which in 0..2 {
             let start = Instant::now();
-            sums[which] = black_box(uses[which]());
+            sums[which] = counted(uses[which], text);
             least[which] = least[which].min(start.elapsed());
         }
     }
-    assert_eq!(sums[0], sums[1], "both give the same");
-    least.map(|least| least.as_secs_f64() * 1e9 / sums[0].count as f64)
-}
-
-/// Prints a row: a name, the times of the first consumer, and the ratio.
-fn row(name: &str, times: &[[f64; 2]]) {
-    let ratio = |at: usize| times[at][1] / times[at][0];
-    let mut order: Vec<usize> = (0..times.len()).collect();
-    order.sort_by(|a, b| ratio(*a).total_cmp(&ratio(*b)));
-    let (least, most) = (order[0], order[order.len() - 1]);
-    let [theirs, ours] = times[0];
-    let shown = if ratio(most) - ratio(least) > 0.1 {
-        let of = |at: usize| format!("{:.2} ({})", ratio(at), tokens::CONSUMERS[at]);
-        format!("{} to {}", of(least), of(most))
-    } else {
-        format!("{:.2}", ratio(0))
-    };
-    println!("| {name} | {theirs:.2} | {ours:.2} | {shown} |");
+    assert_eq!(sums[0], sums[1], "both give the same: {name} {with}");
+    let [theirs, ours] = least.map(|least| least.as_secs_f64() * 1e9 / sums[0].count as f64);
+    let ratio = ours / theirs;
+    println!("| {name} | {with} | {theirs:.3} | {ours:.3} | {ratio:.3} |");
 }
 
 fn main() {
@@ -76,30 +77,40 @@ fn main() {
     let rounds = words.next().map_or(50, |word| word.parse().unwrap());
     let mut text = fs::read_to_string(path).unwrap();
     text.truncate(text.floor_char_boundary(1 << 18));
-    println!("| Use | Original | This crate | Ratio |\n|---|---|---|---|");
-    for (name, consumers) in tokens::ways() {
-        let time = |[theirs, ours]: [fn(&str) -> Sum; 2]| {
-            least([&|| theirs(&text), &|| ours(&text)], rounds)
-        };
-        let times: Vec<[f64; 2]> = consumers.into_iter().map(time).collect();
-        row(name, &times);
+    println!("| Use | With | Original | This crate | Ratio |\n|---|---|---|---|---|");
+    for (name, pairs) in tokens::ways() {
+        let alone = pairs.len() == 1;
+        for (consumer, pair) in tokens::CONSUMERS.into_iter().zip(pairs) {
+            row(name, if alone { "" } else { consumer }, pair, &text, rounds);
+        }
     }
-    let pair = |[theirs, ours]: [calls::Call; 2], text: &str| {
-        least([&|| theirs.1(text), &|| ours.1(text)], rounds)
-    };
-    let [theirs, ours] = calls::CALLS;
-    for at in 0..theirs.len() {
-        row(theirs[at].0, &[pair([theirs[at], ours[at]], "")]);
+    for (kind, pieces) in kinds::KINDS {
+        let text = kinds::text(pieces);
+        row("`for` over one kind", kind, tokens::FOR_LOOP, &text, rounds);
     }
-    let [theirs, ours] = calls::LONG;
-    let names = ours.map(|call| call.0).join(" | ");
-    println!("\n| Text | {names} |\n|---{}|", "|---".repeat(ours.len()));
-    for (kind, part) in calls::TEXTS {
-        let text = part.repeat(100_000 / part.len());
-        let ratios = (0..ours.len()).map(|at| {
-            let [theirs, ours] = pair([theirs[at], ours[at]], &text);
-            format!(" {:.2} |", ours / theirs)
-        });
-        println!("| {kind} |{}", ratios.collect::<String>());
+    for (start, unit) in kinds::SHAPES {
+        let text = kinds::again(start, unit);
+        let name = format!("`{start}{unit}`").replace('\u{200d}', "\\u{200d}");
+        row(
+            "`for` over one shape",
+            &name,
+            tokens::FOR_LOOP,
+            &text,
+            rounds,
+        );
+    }
+    for (kind, line) in kinds::LINES {
+        let text = format!("---\n{}", line.repeat(1_000_000 / line.len()));
+        row("an open frontmatter", kind, tokens::WITH_YES, &text, rounds);
+    }
+    for (theirs, ours) in theirs::CALLS.iter().zip(ours::CALLS) {
+        row(theirs.0, "", [theirs.1, ours.1], "", rounds);
+    }
+    for (theirs, ours) in theirs::LONG.iter().zip(ours::LONG) {
+        let name = format!("{} of a text", theirs.0);
+        for (kind, part) in calls::TEXTS {
+            let text = part.repeat(100_000 / part.len());
+            row(&name, kind, [theirs.1, ours.1], &text, rounds);
+        }
     }
 }

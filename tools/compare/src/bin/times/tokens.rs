@@ -1,18 +1,20 @@
 //! Each way to take the tokens of a text, by both, with each consumer.
 
-use crate::Sum;
+use crate::{Sum, Use};
 use ours::Consumer;
-use rustc_lexer::{Edition, FrontmatterAllowed, Token, TokenKind, tokenize, tokenize_in};
+use rustc_lexer::{
+    Edition, FrontmatterAllowed, LexedText, Token, TokenKind, tokenize, tokenize_in,
+};
 
 /// What consumers do with tokens: they read all fields, have a `match` with an arm for each kind, read the lengths of those
 /// that are not `Eof`, or keep all in a `Vec`.
 pub const CONSUMERS: [&str; 4] = ["all fields", "`match`", "lengths", "`push`"];
 
 /// A way to take tokens: its name, and what each consumer makes of the tokens of a text.
-pub type Way = (&'static str, [fn(&str) -> Sum; 4]);
+pub type Way = (&'static str, [Use; 4]);
 
 /// The functions of a way by both, the original's first, for each consumer.
-type Pairs = Vec<[fn(&str) -> Sum; 2]>;
+type Pairs = Vec<[Use; 2]>;
 
 /// A way by a function that takes the number of the consumer.
 macro_rules! way {
@@ -132,7 +134,7 @@ macro_rules! ways {
                 }
             }
 
-            fn by_for<const CONSUMER: usize>(text: &str) -> Sum {
+            pub fn by_for<const CONSUMER: usize>(text: &str) -> Sum {
                 let mut consumer = Consumer::<CONSUMER>::new();
                 for token in tokenize(text, FrontmatterAllowed::No) {
                     consumer.take(token);
@@ -192,6 +194,12 @@ macro_rules! ways {
                     }
                 }
                 consumer.sum()
+            }
+
+            /// The first token of a document.
+            pub fn with_yes(text: &str) -> Sum {
+                let first = tokenize(text, FrontmatterAllowed::Yes).next();
+                Sum::new(1, first.map_or(0, |token| u64::from(token.len)))
             }
 
             /// All tokens, by the iterator's own `collect`.
@@ -263,6 +271,15 @@ fn by_for_2021<const CONSUMER: usize>(text: &str) -> Sum {
     by_for_in::<CONSUMER>(text, Edition::E2021)
 }
 
+/// A `for` loop that reads all fields, and the first token of a document, by both.
+pub const FOR_LOOP: [Use; 2] = [theirs::by_for::<0>, ours::by_for::<0>];
+pub const WITH_YES: [Use; 2] = [theirs::with_yes, ours::with_yes];
+
+fn kept(text: &str) -> Sum {
+    let lexed = LexedText::new(text);
+    Sum::new(std::hint::black_box(&lexed).tokens().len() as u64, 0)
+}
+
 fn into_vec(text: &str) -> Sum {
     let tokens = tokenize(text, FrontmatterAllowed::No).into_vec();
     Sum::new(std::hint::black_box(&tokens).len() as u64, 0)
@@ -270,7 +287,7 @@ fn into_vec(text: &str) -> Sum {
 
 /// Each way with its functions. What the original has not is beside what it has.
 pub fn ways() -> Vec<(&'static str, Pairs)> {
-    let pairs = |(name, ours): Way, theirs: [fn(&str) -> Sum; 4]| {
+    let pairs = |(name, ours): Way, theirs: [Use; 4]| {
         (name, theirs.into_iter().zip(ours).map(Into::into).collect())
     };
     let mut ways = Vec::new();
@@ -285,12 +302,13 @@ pub fn ways() -> Vec<(&'static str, Pairs)> {
         ways.push(pairs(ours, theirs::WAYS[0].1));
     }
     let two_lists = [theirs::kinds_and_starts, ours::kinds_and_starts];
-    let alone: [(_, [fn(&str) -> Sum; 2]); 3] = [
+    let alone: [(_, [Use; 2]); 4] = [
         (
             "`collect` of `tokenize`",
             [theirs::collected, ours::collected],
         ),
         ("`Tokens::into_vec`", [theirs::collected, into_vec]),
+        ("`LexedText::new`", [theirs::collected, kept]),
         ("kinds and starts in two lists", two_lists),
     ];
     ways.extend(alone.map(|(name, pair)| (name, vec![pair])));

@@ -1,0 +1,174 @@
+//! Times edits of kept texts and texts that are written, which the original does not have, beside lexing the whole text:
+//! `cargo run --release --bin edits -- FILE [ROUNDS]`, on Linux with 64 bits. Edited are the file's first 970,000 bytes.
+//! Times are the least of all rounds, those of single edits by the clock, of what takes longer by the processor's time.
+
+use rustc_lexer::{
+    Edit, FrontmatterAllowed, JoinedText, LexedDocument, LexedText, TokenKind, tokenize,
+};
+use std::hint::black_box;
+use std::time::Instant;
+use std::{env, fs};
+
+/// Seconds and nanoseconds, as the system has them.
+#[repr(C)]
+struct TimeSpec(i64, i64);
+
+unsafe extern "C" {
+    fn clock_gettime(clock: i32, time: &mut TimeSpec) -> i32;
+}
+
+/// How many microseconds this thread has had of a processor.
+fn now() -> f64 {
+    const OF_THE_THREAD: i32 = 3;
+    let mut time = TimeSpec(0, 0);
+    // SAFETY: the call writes only the time.
+    let status = unsafe { clock_gettime(OF_THE_THREAD, &mut time) };
+    assert_eq!(status, 0, "there is a clock");
+    time.0 as f64 * 1e6 + time.1 as f64 / 1e3
+}
+
+/// The least time of something, of which it is told what it is made of, and which is made anew each time.
+fn least<M>(rounds: usize, make: impl Fn() -> M, what: impl Fn(&mut M)) -> f64 {
+    let mut least = f64::MAX;
+    for _ in 0..rounds {
+        let mut made = make();
+        let start = now();
+        what(black_box(&mut made));
+        least = least.min(now() - start);
+    }
+    least
+}
+
+fn row(name: &str, time: f64, whole: f64) {
+    println!("| {name} | {time:.3} | {:.6} |", time / whole);
+}
+
+/// The least times to put something in at each of the offsets of a kept text of either type, and to take it out again, as
+/// the mean over the offsets.
+macro_rules! in_and_out {
+    ($Kept:ident, $text:expr, $places:expr, $insert:expr, $rounds:expr) => {{
+        let mut kept = $Kept::new(&$text);
+        let mut times = vec![[f64::MAX; 2]; $places.len()];
+        for _ in 0..$rounds {
+            for (&at, least) in $places.iter().zip(&mut times) {
+                for (way, len, insert) in [(0, 0, $insert), (1, $insert.len(), "")] {
+                    let start = Instant::now();
+                    black_box(kept.edit(at..at + len, insert));
+                    least[way] = least[way].min(start.elapsed().as_secs_f64() * 1e6);
+                }
+            }
+        }
+        let sum = |way: usize| times.iter().map(|least| least[way]).sum::<f64>();
+        [0, 1].map(|way| sum(way) / times.len() as f64)
+    }};
+}
+
+/// So many offsets inside words, spread over the text.
+fn in_words(text: &str, count: usize) -> Vec<usize> {
+    let (mut found, mut start) = (Vec::new(), 0);
+    for token in tokenize(text, FrontmatterAllowed::No) {
+        if token.kind == TokenKind::Ident && token.len > 1 && text.as_bytes()[start].is_ascii() {
+            found.push(start + 1);
+        }
+        start += token.len as usize;
+    }
+    let spread = |at| found[at * found.len() / count];
+    (0..count).map(spread).collect()
+}
+
+fn edits(text: &str, whole: f64, rounds: usize) {
+    let middle = in_words(text, 2)[1];
+    let space = middle + text[middle..].find(' ').expect("a space");
+    let words = in_words(text, 200);
+    let here_and_there = (0..200).map(|at| words[at * 83 % 200]).collect();
+    for (name, insert, places) in [
+        ("a letter at the end", "x", vec![text.len()]),
+        ("a letter at the front", "x", vec![0]),
+        ("a letter in a word in the middle", "x", vec![middle]),
+        ("a letter in words here and there", "x", here_and_there),
+        ("a letter beside a space in the middle", "x", vec![space]),
+        ("`/*` in front", "/*", vec![0]),
+    ] {
+        let times = in_and_out!(LexedText, text, places, insert, rounds);
+        for (way, time) in ["put in", "taken out"].into_iter().zip(times) {
+            row(&format!("{name}, {way}"), time, whole);
+        }
+    }
+}
+
+fn lists(text: &str, whole: f64, rounds: usize) {
+    for count in [64, 128, 1_000, 6_924] {
+        let places = in_words(text, count);
+        let edits = places.iter().enumerate().map(|(before, at)| Edit {
+            start: at + before,
+            stop: at + before,
+            insert: "x",
+        });
+        let edits: Vec<Edit> = edits.collect();
+        let make = || LexedText::new(text);
+        let time = least(rounds, make, |kept| {
+            kept.edit_each(&edits).expect("the edits are accepted");
+        });
+        row(&format!("a list of {count} by `edit_each`"), time, whole);
+    }
+}
+
+fn heads(text: &str, rounds: usize) {
+    let lines = |len: usize, total: usize| {
+        let line = format!("{}\n", "a".repeat(len - 1));
+        format!("---\n{}---\n", line.repeat(total / len))
+    };
+    let middle = in_words(text, 2)[1];
+    let [part, _] = in_and_out!(LexedText, text, [middle], "x", rounds);
+    for (name, head) in [
+        ("60 bytes", lines(13, 52)),
+        ("10 KB in lines of 68 bytes", lines(68, 10_000)),
+        ("10 KB in lines of 6 bytes", lines(6, 10_000)),
+    ] {
+        let (place, document) = (middle + head.len(), format!("{head}{text}"));
+        let [time, _] = in_and_out!(LexedDocument, document, [place], "x", rounds);
+        row(&format!("a head of {name}, over a `LexedText`"), time, part);
+    }
+}
+
+fn written(text: &str, whole: f64, rounds: usize) {
+    let kept = LexedText::new(text);
+    let pieces: Vec<&str> = kept.pieces().map(|piece| piece.text).collect();
+    let count = pieces.len() as f64;
+    let time = least(rounds, JoinedText::new, |joined| {
+        for piece in &pieces {
+            joined.push(piece);
+        }
+    });
+    row(
+        "a push of a token to a `JoinedText`",
+        time / count,
+        whole / count,
+    );
+}
+
+fn main() {
+    let mut words = env::args().skip(1);
+    let big = fs::read_to_string(words.next().expect("the name of a file")).unwrap();
+    let rounds = words.next().map_or(50, |word| word.parse().unwrap());
+    let text = &big[..big.floor_char_boundary(970_000)];
+    println!("| What | Microseconds | Of lexing it whole |\n|---|---|---|");
+    let lex = |text: &str| {
+        let time = least(rounds, || (), |()| drop(black_box(LexedText::new(text))));
+        let (len, count) = (text.len(), LexedText::new(text).tokens().len());
+        row(
+            &format!("`LexedText::new` of {len} bytes, {count} tokens"),
+            time,
+            time,
+        );
+        time
+    };
+    let whole = lex(text);
+    edits(text, whole, rounds);
+    lists(text, whole, rounds.min(20));
+    heads(text, rounds);
+    written(text, whole, rounds.min(20));
+    let whole = lex(&big);
+    let [put_in, _] = in_and_out!(LexedText, big, [0], "x", rounds);
+    row("a letter at its front", put_in, whole);
+}
