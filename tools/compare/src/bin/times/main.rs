@@ -92,7 +92,7 @@ fn main() {
         let text = kinds::again(start, unit);
         let name = format!("`{start}{unit}`").replace('\u{200d}', "\\u{200d}");
         row(
-            "`for` over one shape",
+            "`for` over one piece again and again",
             &name,
             tokens::FOR_LOOP,
             &text,
