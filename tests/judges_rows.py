@@ -152,7 +152,7 @@ NAMES = [
     ("docs/notes/PROMISES.md", "| `tokenize_in`; `settled` |", "| `planted`; `settled` |", "no function planted"),
     ("docs/PROVED.md", "`ReadsAs.partitions`", "`ReadsAs.planted`", "no clause ReadsAs.planted"),
     ("docs/PROVED.md", "`TakesTokens`;", "`TakesPlanted`;", "no clause TakesPlanted"),
-    ("docs/PROVED.md", "300 [wrong bodies]", "200 [wrong bodies]", "it does not have that there are"),
+    ("docs/PROVED.md", "400 [wrong bodies]", "200 [wrong bodies]", "it does not have that there are"),
     ("docs/PROVED.md", "by `TheLaws`", "by `Planted`", "Planted"),
     ("crates/ends/src/fault.rt", "//! Why", "//! why", "fault.rt: its first line does not say what it is for"),
     ("crates/README.md", "`marks`", "`planted`", "crates/README.md: marks is not there"),
