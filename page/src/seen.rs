@@ -55,7 +55,7 @@ fn fresh(source: &Source, edition: usize) -> Range<usize> {
     let Some(first) = lexed.next() else {
         return 0..0;
     };
-    let end = lexed.last().unwrap_or(first);
+    let end = lexed.next_back().unwrap_or(first);
     first.start as usize..end.start as usize + end.text.len()
 }
 
