@@ -100,7 +100,10 @@ impl<S: Stepper> Keeps for LexedText<S> {
     }
 
     fn try_each(&mut self, edits: &[Edit<'_>]) -> Result<Relexed, EditStop> {
-        self.edit_each(edits)
+        match self.edit_each(edits) {
+            Ok(relexed) => Ok(relexed),
+            Err(stopped) => Err(stopped.stop),
+        }
     }
 }
 

@@ -11,6 +11,7 @@ use Rattle.rustc_lexer.specs.declared.relex.edit_list.EditStop.TheVariants.{Memo
 use Rattle.rustc_lexer.specs.declared.relex.relexing.Relexed.{Relexed}
 use Rattle.rustc_lexer.specs.Edits.{IsEdit, IsRelexed, Layout, applied, apply, apply_list, count_after, AreEdits, AreLeast, AreStepped, IsRefusedOn, IsStop, IsStopStepped, stop_at}
 use Rattle.rustc_lexer.specs.Kept.{AreKept}
+use Rattle.rustc_lexer.specs.means.EditList.{StayAtEnds}
 
 pub apply-next : (text : List ℕ) (es : List Edit) (n : ℕ) (d : Edit) → n < length es → apply_list text (take (suc n) es) ≡ applied (apply_list text (take n es)) (get_or es n d)
 apply-next text [] n d few = absurd (omega arith)
@@ -86,15 +87,6 @@ edits-more text now es n few same are is = grind (arith, common_steps, edits-nex
 -- which edit stopped the list, and why
 pub stop_of : (text : List ℕ) (es : List Edit) (s : EditStop) → stop_at s < length es → IsRefusedOn s text (get_or es (stop_at s) none) → IsStop s text es
 stop_of text es s few refused = (few, subst (λ (o : Option Edit). IfSome o (IsRefusedOn s text)) (sym (slice_get-get_or es (stop_at s) none few)) refused)
-
--- so many of the tokens stay at the front, and so many at the back
-pub record StayAtEnds (old new : List Token) (front back : ℕ) : Type 0 where
-  pub front_inside : front ≤ length old
-  pub front_within : front ≤ length new
-  pub same_front : take front new ≡ take front old
-  pub back_inside : back ≤ length old
-  pub back_within : back ≤ length new
-  pub same_back : drop (length new - back) new ≡ drop (length old - back) old
 
 -- fewer of them stay too
 fewer_back : (n back : ℕ) (old new : List Token) → n ≤ back → back ≤ length old → back ≤ length new → drop (length new - back) new ≡ drop (length old - back) old → drop (length new - n) new ≡ drop (length old - n) old

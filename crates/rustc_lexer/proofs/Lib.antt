@@ -1,4 +1,6 @@
 pub mod AdvanceLemmas
+pub mod AheadLemmas
+pub mod AheadTextLemmas
 pub mod ApartLemmas
 pub mod BitLemmas
 pub mod BlockCommentDepth
@@ -27,6 +29,7 @@ pub mod FinalHeadLemmas
 pub mod FindLemmas
 pub mod FrontLemmas
 pub mod FrontmatterLemmas
+pub mod GapLemmas
 pub mod GoesOnLemmas
 pub mod GrowingFront
 pub mod GrowingHead
@@ -42,6 +45,7 @@ pub mod KernelLemmas
 pub mod KindLemmas
 pub mod CheckpointLemmas
 pub mod CommonLemmas
+pub mod CutLemmas
 pub mod LaneLemmas
 pub mod LayoutLemmas
 pub mod LengthLemmas
@@ -49,6 +53,7 @@ pub mod LexedLemmas
 pub mod LexemeLemmas
 pub mod LifetimeLemmas
 pub mod LiteralLemmas
+pub mod MadeLemmas
 pub mod ManyLemmas
 pub mod MeetingLemmas
 pub mod NumberLemmas

@@ -1,6 +1,6 @@
 -- A text that is kept with its tokens: what its edits do, and its pieces.
-use Rattle.std.specs.Prelude.{ℕ, ◌+◌, ◌-◌, ◌<◌, ◌≤◌, ◌^◌, List, [], ◌∷◌, ◌++◌, length, take, drop, ◌≡◌, Option, Some, None, Bool, true, false, Result, IfOk, IfErr, OnOk, OnErr}
-use Rattle.rustc_lexer.specs.declared.relex.{edit.Edit.Edit, edit_list.EditStop.EditStop, pieces.Piece.Piece, relexing.Relexed.Relexed}
+use Rattle.std.specs.Prelude.{ℕ, ◌+◌, ◌-◌, ◌<◌, ◌≤◌, ◌^◌, List, [], ◌∷◌, ◌++◌, length, take, drop, ◌≡◌, Option, Some, None, Bool, true, false, Result, Ok, Err, IfOk, IfErr, OnOk, OnErr}
+use Rattle.rustc_lexer.specs.declared.relex.{edit.Edit.Edit, edit_list.{EditStop.EditStop, Stopped.Stopped}, pieces.Piece.Piece, relexing.Relexed.Relexed}
 use Rattle.rustc_lexer.specs.{Edition, Token}
 use Rattle.rustc_lexer.specs.Document.{document_tokens, document_tokens_by, shebang_len, whole_by}
 use Rattle.rustc_lexer.specs.Edits.{AreEdits, AreStepped, IsRelexed, IsRelexedList, IsStop, IsStopStepped, Layout, apply, apply_list, part_by, stop_at}
@@ -89,6 +89,11 @@ pub record AreMade {S T : Type 0} (first : S → List ℕ → Token) (year steps
   pub stop_count : IfErr result
       (λ e. IsStopStepped e (layout_in whole (first old.stepper)) old.text edits (steps old.stepper)
       (steps new.stepper))
+
+-- why a list of edits stopped
+abbrev pub reason : Result Relexed Stopped → Result Relexed EditStop
+reason (Ok r) = Ok r
+reason (Err stopped) = Err stopped.stop
 
 -- which tokens stay through all of the edits
 pub record AreKeptThrough {S : Type 0} (first : S → List ℕ → Token) (whole : Bool) (old : Held S)

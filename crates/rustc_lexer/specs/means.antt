@@ -3,10 +3,12 @@ pub mod BlockGrammar
 pub mod ByteRuns
 pub mod Comment
 pub mod Document
+pub mod EditList
 pub mod Edition
 pub mod Emoji
 pub mod Ends
 pub mod Frontmatter
+pub mod Gap
 pub mod Guarded
 pub mod Hash
 pub mod Ident

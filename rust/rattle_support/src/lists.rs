@@ -145,7 +145,7 @@ impl String {
 
     /// Replaces the bytes of the range by a text.
     pub fn replace_range(&mut self, range: Range<usize>, with: &str) -> Result<(), AllocError> {
-        self.0.try_reserve(with.len())?;
+        self.0.try_reserve(with.len().saturating_sub(range.len()))?;
         self.0.replace_range(range, with);
         Ok(())
     }

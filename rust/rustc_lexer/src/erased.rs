@@ -31,7 +31,7 @@ pub use lexemes::ident::is_ident;
 pub use raw_check::{starts_raw, validate_raw_str};
 pub use relex::{
     BodyChange, Bound, Change, Edit, EditStop, Head, JoinError, JoinedText, Lexed, LexedDocument,
-    LexedText, Measured, Piece, Pieces, Relexed, Relexing, is_seam, settled, settled_in,
+    LexedText, Measured, Piece, Pieces, Relexed, Relexing, Stopped, is_seam, settled, settled_in,
 };
 pub use shebang::strip_shebang;
 pub use token::{

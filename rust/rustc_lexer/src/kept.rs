@@ -2,7 +2,7 @@
 
 use crate::checked::Checked;
 use crate::edit_error::{EditError, check_accepted, try_fitting};
-use crate::erased::{self, Edit, EditStop};
+use crate::erased::{self, Edit, EditStop, Stopped};
 use crate::support::{AllocError, Global};
 use crate::{Bound, Edition, Piece, Pieces, Relexed, Stepper, Steps, Token};
 use alloc::string::String;
@@ -455,6 +455,8 @@ macro_rules! kept_text {
 
             /// Makes the edits as `edit_all` does, and returns which tokens all of them kept: what to repaint is between.
             ///
+            /// A list of 64 edits or more, of which each begins behind the one before it, moves text and tokens once.
+            ///
             /// ```
             #[doc = concat!("use rustc_lexer::{Edit, ", stringify!($Kept), ", Relexed};")]
             ///
@@ -463,13 +465,13 @@ macro_rules! kept_text {
             /// let relexed = lexed.edit_each(&edits)?;
             /// assert_eq!(relexed, Relexed { kept_front: 2, lexed: 7, kept_back: 4 });
             /// assert_eq!(lexed.text(), "a b - d + f g");
-            /// # Ok::<(), rustc_lexer::EditStop>(())
+            /// # Ok::<(), rustc_lexer::Stopped>(())
             /// ```
             ///
             /// # Errors
             ///
-            /// Which edit is the first that is refused, and why. Those before it are made.
-            pub fn edit_each(&mut self, edits: &[Edit<'_>]) -> Result<Relexed, EditStop> {
+            /// Which edit is the first that is refused, why, and which tokens the edits before it kept. Those are made.
+            pub fn edit_each(&mut self, edits: &[Edit<'_>]) -> Result<Relexed, Stopped> {
                 self.change(|kept| kept.edit_each(edits))
             }
 

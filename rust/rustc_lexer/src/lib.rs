@@ -182,7 +182,7 @@ pub use erased::{
 };
 #[cfg(feature = "alloc")]
 #[doc(inline)]
-pub use erased::{Edit, EditStop, Pieces};
+pub use erased::{Edit, EditStop, Pieces, Stopped};
 #[cfg(feature = "alloc")]
 pub use joined_text::JoinedText;
 #[cfg(feature = "alloc")]

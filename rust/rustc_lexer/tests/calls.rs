@@ -687,7 +687,9 @@ fn traits_that_are_taken_for_granted() {
     {
         is_error::<rustc_lexer::EditError>();
         is_error::<rustc_lexer::EditStop>();
+        is_error::<rustc_lexer::Stopped>();
         is_key::<(rustc_lexer::EditError, rustc_lexer::EditStop)>();
+        is_key::<rustc_lexer::Stopped>();
         is_key::<rustc_lexer::Edit<'_>>();
         stays_at_its_end::<rustc_lexer::Pieces<'_>>();
         has_two_ends::<rustc_lexer::Pieces<'_>>();

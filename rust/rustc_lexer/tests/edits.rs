@@ -8,7 +8,7 @@ use random::Random;
 use rattle_support::Global;
 use rustc_lexer::{
     EditError, EditStop, Edition, FrontmatterAllowed, LexedDocument, LexedText, Relexed, Steps,
-    Token, TokenKind, erased, tokenize, tokenize_in,
+    Stopped, Token, TokenKind, erased, tokenize, tokenize_in,
 };
 use std::ops::Range;
 use std::panic::catch_unwind;
@@ -500,13 +500,89 @@ fn random_lists_of_edits() {
     lists!(LexedDocument);
 }
 
+/// A long list, most of whose edits are behind the one before, does what each of its edits does.
+#[test]
+fn long_lists_in_order() {
+    macro_rules! lists {
+        ($Kept:ident) => {
+            let mut random = Random(4, BITS);
+            for round in 0..80 {
+                let mut lexed = $Kept::new_in(random.text(300), Edition::ALL[round % 4]);
+                let (mut made, old) = (lexed.clone(), lexed.tokens().len());
+                let (mut front, mut back) = (old, old);
+                let (mut ranges, mut inserts, mut at) = (vec![], vec![], 0);
+                for _ in 0..63 + random.below(40) {
+                    let from = if random.below(200) == 0 { 0 } else { at };
+                    let range = random.range_in(&made.text()[from..], 6, 4);
+                    let (range, insert) = (from + range.start..from + range.end, random.text(3));
+                    let relexed = made.edit(range.clone(), &insert);
+                    front = front.min(relexed.kept_front);
+                    back = back.min(relexed.kept_back);
+                    at = range.start + random.below(2) * insert.len();
+                    ranges.push(range);
+                    inserts.push(insert);
+                }
+                let pairs = ranges.iter().zip(&inserts);
+                let edits = pairs.map(|(range, insert)| edit(range.start, range.end, insert));
+                let edits: Vec<_> = edits.collect();
+                let relexed = lexed.edit_each(&edits).unwrap();
+                let (text, new) = (lexed.text(), lexed.tokens());
+                assert_eq!((text, new), (made.text(), made.tokens()), "{edits:?}");
+                let back = back.min(new.len().min(old) - front);
+                let kept = counts(front, new.len() - front - back, back);
+                assert_eq!(relexed, kept, "{edits:?}");
+                // The places that it remembers are those of the new tokens.
+                let range = random.range(text);
+                assert_eq!(lexed.edit(range.clone(), "b"), made.edit(range, "b"));
+                assert_eq!(lexed.tokens(), made.tokens(), "{edits:?}");
+            }
+        };
+    }
+    lists!(LexedText);
+    lists!(LexedDocument);
+}
+
+/// Of a long list in order, the edits before one that is out of the text are made in one pass, and it is told what
+/// they kept.
+#[test]
+fn a_long_list_that_stops() {
+    macro_rules! stops {
+        ($Kept:ident) => {
+            for at in [0, 1, 2, 63, 64, 99] {
+                let mut edits = vec![];
+                for number in 0..100 {
+                    let place = if number == at { 999 } else { 3 * number };
+                    edits.push(edit(place, place + 1, "bb"));
+                }
+                let mut lexed = $Kept::new("a ".repeat(100));
+                // The edits are of tokens with a space between them, from the first on.
+                let relexed = match at {
+                    0 => counts(200, 0, 0),
+                    _ => counts(0, 2 * at - 1, 201 - 2 * at),
+                };
+                let stop = EditStop::Range { at };
+                assert_eq!(lexed.edit_each(&edits), Err(Stopped { stop, relexed }));
+                let text = "bb ".repeat(at) + &"a ".repeat(100 - at);
+                assert_eq!(lexed.text(), text);
+                assert!(tokenize_in(&text, Edition::NEWEST).eq(lexed.tokens().iter().copied()));
+            }
+        };
+    }
+    stops!(LexedText);
+    stops!(LexedDocument);
+}
+
 /// What was made before an edit that is refused stays. The first such edit is named, wherever it stands.
 #[test]
 fn a_list_of_edits_that_stops() {
     macro_rules! stops {
         ($lexed:expr, $at:expr, $edits:expr) => {
             let (mut lexed, stop) = ($lexed, EditStop::Range { at: $at });
-            assert_eq!(lexed.edit_each($edits), Err(stop));
+            let relexed = match $at {
+                0 => counts(1, 0, 0),
+                _ => counts(0, 1, 0),
+            };
+            assert_eq!(lexed.edit_each($edits), Err(Stopped { stop, relexed }));
             assert_eq!(lexed.text(), "b".repeat($at) + "a");
             let mut lexed = $lexed;
             assert_eq!(lexed.edit_all($edits), Err(stop));
@@ -524,7 +600,9 @@ fn a_list_of_edits_that_stops() {
         (EditStop::TooLong { at: 10 }, "edit 10: text too long"),
         (EditStop::Memory { at: 2 }, "edit 2: no memory"),
     ] {
+        let relexed = counts(0, 0, 0);
         assert_eq!(stop.to_string(), said);
+        assert_eq!(Stopped { stop, relexed }.to_string(), said);
     }
 }
 

@@ -157,7 +157,7 @@ fn lists_of_edits() {
                 in_turn(
                     || $Kept::new($texts[0]),
                     |lexed| match each {
-                        true => lexed.edit_each(&$edits).map(drop),
+                        true => lexed.edit_each(&$edits).map(drop).map_err(|it| it.stop),
                         false => lexed.edit_all(&$edits),
                     },
                     |lexed, answer| {
@@ -184,6 +184,32 @@ fn lists_of_edits() {
     let texts = ["--\n---\nb", "---\n---\nb", "#!a\n---\n---\nb"];
     let edits = [edit(0, 0, "-"), edit(0, 0, "#!a\n")];
     lists!(LexedDocument, tokenize_document, texts, edits);
+}
+
+/// The same of a list that is made in one pass.
+#[test]
+fn a_long_list_of_edits() {
+    let edits: Vec<_> = (0..70).map(|at| edit(3 * at, 3 * at + 1, "b+")).collect();
+    let mut stops = Vec::new();
+    for requests in 0.. {
+        let mut lexed = LexedText::new("a ".repeat(70));
+        let answer = given(requests, || lexed.edit_each(&edits));
+        let made = match answer {
+            Ok(_) => 70,
+            Err(stopped) => match stopped.stop {
+                EditStop::Memory { at } => at,
+                stop => panic!("{stop:?}"),
+            },
+        };
+        let text = "b+ ".repeat(made) + &"a ".repeat(70 - made);
+        assert_held!(lexed, text, tokenize_in(&text, Edition::E2024));
+        if made == 70 {
+            break;
+        }
+        stops.push(made);
+    }
+    stops.dedup();
+    assert!(stops.iter().copied().eq(0..70), "{stops:?}");
 }
 
 /// An edit that cuts a character is refused for that, with no request.

@@ -156,7 +156,7 @@ fn a_panic_at_each_step() {
                 let mut lexed = $Kept::try_with("a", Few(3)).unwrap();
                 let edits = [edit_at(1, "b"), edit_at(2, "c"), edit_at(3, "d")];
                 let made = || match each {
-                    true => lexed.edit_each(&edits).map(drop),
+                    true => lexed.edit_each(&edits).map(drop).map_err(|it| it.stop),
                     false => lexed.edit_all(&edits),
                 };
                 assert_eq!(said(made), "no step is left");

@@ -164,7 +164,8 @@ fn edits_that_make_one() {
     assert_eq!(text.edit_all(&edits), Err(EditStop::TooLong { at: 1 }));
     assert_eq!(document.edit_all(&edits), Err(EditStop::TooLong { at: 1 }));
     assert_eq!((text.text(), document.text()), ("baé", "baé"));
-    assert_eq!(text.edit_each(&edits), Err(EditStop::TooLong { at: 1 }));
-    assert_eq!(document.edit_each(&edits), Err(EditStop::TooLong { at: 1 }));
+    for each in [text.edit_each(&edits), document.edit_each(&edits)] {
+        assert_eq!(each.map_err(|it| it.stop), Err(EditStop::TooLong { at: 1 }));
+    }
     assert_eq!((text.text(), document.text()), ("bbaé", "bbaé"));
 }

@@ -16,7 +16,7 @@ use Rattle.rustc_lexer.specs.means.Raw.{is_hash, hash_run, close, most_hashes, q
 use Rattle.rustc_lexer.specs.means.Scan.{bytes_of}
 use Rattle.rustc_lexer.specs.Classes.{NextIsNot, bytes}
 use Rattle.rustc_lexer.specs.laws.Choice.{by_either}
-use Rattle.rustc_lexer.specs.laws.LanguageLiterals.{bytes-append, bytes-one}
+use Rattle.rustc_lexer.specs.laws.LanguageLiterals.{bytes-one}
 use Rattle.rustc_lexer.specs.laws.LanguageRaw.{guard-length, guard-hashes, at_least, split-hashes, before-quote, lacks-rest, lacks-front, close-read, unclosed-read, Closing, found, lost, closing, guarded, whole-text}
 
 -- ---- the most hashes behind a quote

@@ -1,11 +1,14 @@
 //! Bounds that are remembered, so that a search begins near its target.
-ghost use Rattle.std.specs.Prelude.{◌≤◌, List};
+ghost use Rattle.std.specs.Prelude.{◌≡◌, ◌+◌, ◌<◌, ◌≤◌, ◌^◌, List, length};
 ghost use Rattle.std.specs.List.{All, Contains};
 ghost use Rattle.rustc_lexer.specs.{Token};
 ghost use Rattle.rustc_lexer.specs.means.Checkpoints.{AreBounds, IsMovable, IsReplaced};
 ghost use Rattle.rustc_lexer.specs.Offsets.{IsBound};
+ghost use Rattle.rustc_lexer.specs.Tokens.{bound};
 
 use crate::relex::front::{Bound, FIRST};
+use crate::relex::lex::BUFFER_LEN;
+use crate::token::Token;
 
 /// How many token boundaries are remembered.
 const COUNT: usize = 64;
@@ -24,6 +27,25 @@ impl Checkpoints {
         Checkpoints {
             bounds: [FIRST; COUNT],
         }
+    }
+
+    /// Returns checkpoints of the tokens of a text of `len` bytes.
+    pub(crate) fn of(tokens: &[Token], len: usize) -> Checkpoints
+        requires fits { bound tokens.now (length tokens.now) < 2 ^ 32 }
+        ensures { AreBounds tokens.now result }
+    {
+        let mut checkpoints = Checkpoints::new();
+        let mut at = FIRST;
+        'left: while at.number < tokens.len() {
+            checkpoints.remember(at, len);
+            let number = (at.number + BUFFER_LEN).min(tokens.len());
+            let end = end_from(at.offset as u32, &tokens[at.number..number]);
+            at = Bound {
+                number,
+                offset: end as usize,
+            };
+        }
+        checkpoints
     }
 
     /// Remembers the boundary, instead of the one for the same share of a text of `len` bytes.
@@ -112,4 +134,16 @@ fn move_bound(bound: Bound, kept: Bound, met: Bound, now: Bound) -> Bound
     } else {
         kept
     }
+}
+
+/// Returns where the last of the tokens ends. The first one begins at `start`.
+pub(crate) fn end_from(start: u32, tokens: &[Token]) -> u32
+    requires { start + bound tokens.now (length tokens.now) < 2 ^ 32 }
+    ensures { result ≡ start + bound tokens.now (length tokens.now) }
+{
+    let mut end = start;
+    for token in tokens {
+        end += token.len;
+    }
+    end
 }

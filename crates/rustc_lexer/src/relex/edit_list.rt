@@ -2,6 +2,7 @@
 ghost use Rattle.std.specs.Prelude.{Some};
 ghost use Rattle.rustc_lexer.specs.Edits.{stop_text};
 
+use crate::relex::relexing::Relexed;
 use std::error::Error;
 use std::fmt;
 
@@ -27,6 +28,24 @@ pub enum EditStop {
     },
 }
 
+/// Why a list of edits stopped, and what the edits before that one kept.
+///
+/// ```ignore
+/// let mut held = LexedText::new(alloc, "ab cd")?;
+/// let edits = [Edit { start: 0, stop: 2, insert: "x" }, Edit { start: 9, stop: 9, insert: "" }];
+/// let stopped = held.edit_each(&edits).unwrap_err();
+/// assert_eq!(stopped.stop, EditStop::Range { at: 1 });
+/// assert_eq!(stopped.relexed.kept_back, 2);
+/// ```
+#[derive(Clone, Copy, Debug, PartialEq, Eq)]
+pub struct Stopped {
+    /// Which edit was refused, and why.
+    pub stop: EditStop,
+
+    /// Which tokens all edits before it kept.
+    pub relexed: Relexed,
+}
+
 impl fmt::Display for EditStop {
     ghost output = { λ stop. Some (stop_text stop) };
 
@@ -40,3 +59,13 @@ impl fmt::Display for EditStop {
 }
 
 impl Error for EditStop {}
+
+impl fmt::Display for Stopped {
+    ghost output = { λ stopped. Some (stop_text stopped.stop) };
+
+    fn fmt<W: fmt::Write>(&self, f: &mut fmt::Formatter<W>) -> fmt::Result {
+        self.stop.fmt(f)
+    }
+}
+
+impl Error for Stopped {}

@@ -1,11 +1,13 @@
 //! The head of a document: the part before its body.
-ghost use Rattle.std.specs.Prelude.{◌≡◌, ◌++◌, Bool, OnOk, false, length, true};
+ghost use Rattle.std.specs.Prelude.{◌≡◌, ◌++◌, Bool, IsTrue, OnOk, false, length, true};
 ghost use Rattle.std.specs.Str.{IsCharBoundary};
 ghost use Rattle.rustc_lexer.specs.Classes.{Fits};
 ghost use Rattle.rustc_lexer.specs.Relexing as spec;
 ghost use Rattle.rustc_lexer.specs.means.Document as means;
+ghost use Rattle.rustc_lexer.specs.means.Gap.{IsHeadBy};
 
 use crate::frontmatter::frontmatter;
+use crate::relex::final_head::is_head_final;
 use crate::scan::eat_whitespace;
 use crate::shebang::shebang_len;
 use crate::token::{Token, TokenKind};
@@ -37,6 +39,11 @@ pub trait Extent: Copy {
         requires fits { Fits text.now }
         ensures head { result ≡ means.head_by whole text.now }
         ensures boundary { IsCharBoundary text.now result.body };
+
+    /// Returns whether it is known that each text that begins with the first `len` bytes of this one has the same head.
+    fn settles_head(text: &str, len: usize) -> bool
+        requires fits { Fits text.now }
+        ensures { IsTrue result → IsHeadBy whole (means.head_by whole text.now) len text.now };
 }
 
 /// A whole document.
@@ -76,6 +83,15 @@ impl Extent for Whole {
             },
         }
     }
+
+    #[tactic(auto, using(crate::proofs::AheadLemmas::settled_head, std::proofs::lemmas::Grind::common_steps))]
+    fn settles_head(text: &str, len: usize) -> bool {
+        if !text.is_char_boundary(len) {
+            return false;
+        }
+        let front = &text[..len];
+        is_head_final(front, shebang_len(front))
+    }
 }
 
 /// A part of a document.
@@ -92,6 +108,10 @@ impl Extent for Part {
             frontmatter: None,
             body: 0,
         }
+    }
+
+    fn settles_head(_text: &str, _len: usize) -> bool {
+        true
     }
 }
 

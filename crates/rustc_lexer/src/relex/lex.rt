@@ -11,7 +11,7 @@ use crate::token::{Token, TokenKind};
 use std::alloc::AllocError;
 
 /// How many tokens are lexed at once, and how many there are between two checkpoints.
-const BUFFER_LEN: usize = 128;
+pub(crate) const BUFFER_LEN: usize = 128;
 
 /// Lexes all tokens of a text, and appends them to a list. Returns checkpoints among them.
 pub(crate) fn lex_all<S: Stepper>(

@@ -1,5 +1,6 @@
 // Made by tools/erase from crates/rustc_lexer/src/relex.rt: edit that file.
 //! Texts that are kept with their tokens, and edits of them.
+mod ahead;
 mod body_change;
 mod checkpoints;
 mod common;
@@ -9,7 +10,9 @@ mod edit_list;
 mod ending;
 mod final_head;
 mod front;
+mod gap;
 mod head;
+mod in_order;
 mod joined;
 mod kept;
 mod lex;
@@ -21,7 +24,7 @@ mod settle;
 
 pub use body_change::BodyChange;
 pub use edit::Edit;
-pub use edit_list::EditStop;
+pub use edit_list::{EditStop, Stopped};
 pub use front::{Bound, Measured};
 pub use head::Head;
 pub use joined::{JoinError, JoinedText, is_seam};

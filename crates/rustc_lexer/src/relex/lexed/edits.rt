@@ -1,11 +1,14 @@
 //! Several edits of a kept text, one after another.
-ghost use Rattle.std.specs.Prelude.{IfOk};
-ghost use Rattle.rustc_lexer.specs.Kept.{AreKeptThrough, AreMade};
+ghost use Rattle.std.specs.Prelude.{◌≡◌, IfErr, IfOk, OnOk, length, take};
+ghost use Rattle.rustc_lexer.specs.Edits.{stop_at};
+ghost use Rattle.rustc_lexer.specs.Kept.{AreKeptThrough, AreMade, reason, tokens_in};
+ghost use Rattle.rustc_lexer.specs.means.EditList.{AreKeptTo, GoOn};
 
 use crate::entry::stepper::Stepper;
 use crate::relex::edit::{Edit, accepts, contains_range};
-use crate::relex::edit_list::EditStop;
+use crate::relex::edit_list::{EditStop, Stopped};
 use crate::relex::head::Extent;
+use crate::relex::in_order::{Made, edit_in_order};
 use crate::relex::lexed::Lexed;
 use crate::relex::relexing::Relexed;
 
@@ -15,21 +18,56 @@ impl<S: Stepper, E: Extent> Lexed<S, E> {
     pub fn edit_all(&mut self, edits: &[Edit<'_>]) -> Result<(), EditStop>
         ensures { AreMade S.grammar S.number S.count E.whole self.old edits.now result self.new }
     {
-        self.edit_each(edits)?;
-        Ok(())
+        match self.edit_each(edits) {
+            Ok(_) => Ok(()),
+            Err(stopped) => Err(stopped.stop),
+        }
     }
 
     /// Makes the edits as [`edit_all`](Lexed::edit_all) does. Returns how many tokens all of them kept at the front and at
-    /// the back, and how many are now between these. An empty list keeps all at the front.
-    pub fn edit_each(&mut self, edits: &[Edit<'_>]) -> Result<Relexed, EditStop>
+    /// the back, and how many are now between these. An empty list keeps all at the front. `Err` also says what the edits
+    /// before the refused one kept.
+    ///
+    /// A list of at least 64 edits, each behind the one before it, moves what is behind them once.
+    pub fn edit_each(&mut self, edits: &[Edit<'_>]) -> Result<Relexed, Stopped>
         ensures made { AreMade S.grammar S.number S.count E.whole self.old edits.now
-            result self.new }
+            (reason result) self.new }
         ensures kept { IfOk result (AreKeptThrough S.grammar E.whole self.old edits.now self.new) }
+        ensures stopped { IfErr result (λ stopped. AreKeptThrough S.grammar E.whole self.old
+            (take (stop_at stopped.stop) edits.now) self.new stopped.relexed) }
     {
         let old_len = self.tokens().len();
-        let mut front = old_len;
-        let mut back = old_len;
-        for (at, edit) in edits.iter().enumerate() {
+        let mut made = Made {
+            count: 0,
+            front: old_len,
+            back: old_len,
+        };
+        let all = self.make(edits, &mut made);
+        let relexed = made.counts(old_len, self.tokens().len());
+        match all {
+            Ok(()) => Ok(relexed),
+            Err(stop) => Err(Stopped { stop, relexed }),
+        }
+    }
+
+    /// Makes the edits, and counts those that it made.
+    fn make(&mut self, edits: &[Edit<'_>], made: &mut Made) -> Result<(), EditStop>
+        requires none { made.old ≡ (record {
+          count = 0;
+          front = length self.old.tokens;
+          back = length self.old.tokens;
+        }) }
+        requires from_scratch { self.old.tokens
+            ≡ tokens_in E.whole (S.grammar self.old.stepper) self.old.text }
+        ensures made { AreMade S.grammar S.number S.count E.whole self.old edits.now
+            result self.new }
+        ensures kept { AreKeptTo S.grammar E.whole self.old edits.now made.new self.new }
+        ensures all { OnOk result (made.new.count ≡ length edits.now) }
+        ensures stop { IfErr result (λ stop. stop_at stop ≡ made.new.count) }
+    {
+        'list: while made.count < edits.len() {
+            let at = made.count;
+            let edit = edits[at];
             let text = self.text();
             if !accepts(text, edit.start, edit.stop, edit.insert) {
                 return Err(if contains_range(text, edit.start, edit.stop) {
@@ -39,19 +77,21 @@ impl<S: Stepper, E: Extent> Lexed<S, E> {
                 });
             }
             match self.edit(edit.start, edit.stop, edit.insert) {
-                Ok(counts) => {
-                    front = front.min(counts.kept_front);
-                    back = back.min(counts.kept_back);
-                }
+                Ok(counts) => *made = made.more(counts),
                 Err(_) => return Err(EditStop::Memory { at }),
             }
+            if at == 0 {
+                self.make_in_order(edits, made)?;
+            }
         }
-        let len = self.tokens().len();
-        let kept_back = back.min(len.min(old_len) - front);
-        Ok(Relexed {
-            kept_front: front,
-            lexed: len - front - kept_back,
-            kept_back,
-        })
+        Ok(())
+    }
+
+    /// Makes the next edits of a long list that are in order.
+    fn make_in_order(&mut self, edits: &[Edit<'_>], made: &mut Made) -> Result<(), EditStop>
+        ensures { GoOn S.grammar S.number S.count E.whole edits.now made.old self.old
+            result made.new self.new }
+    {
+        edit_in_order(&mut self.kept, edits, made)
     }
 }

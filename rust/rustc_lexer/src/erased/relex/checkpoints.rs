@@ -2,6 +2,8 @@
 //! Bounds that are remembered, so that a search begins near its target.
 
 use crate::erased::relex::front::{Bound, FIRST};
+use crate::erased::relex::lex::BUFFER_LEN;
+use crate::erased::token::Token;
 
 /// How many token boundaries are remembered.
 const COUNT: usize = 64;
@@ -18,6 +20,22 @@ impl Checkpoints {
         Checkpoints {
             bounds: [FIRST; COUNT],
         }
+    }
+
+    /// Returns checkpoints of the tokens of a text of `len` bytes.
+    pub(crate) fn of(tokens: &[Token], len: usize) -> Checkpoints {
+        let mut checkpoints = Checkpoints::new();
+        let mut at = FIRST;
+        while at.number < tokens.len() {
+            checkpoints.remember(at, len);
+            let number = (at.number + BUFFER_LEN).min(tokens.len());
+            let end = end_from(at.offset as u32, &tokens[at.number..number]);
+            at = Bound {
+                number,
+                offset: end as usize,
+            };
+        }
+        checkpoints
     }
 
     /// Remembers the boundary, instead of the one for the same share of a text of `len` bytes.
@@ -84,4 +102,13 @@ fn move_bound(bound: Bound, kept: Bound, met: Bound, now: Bound) -> Bound {
     } else {
         kept
     }
+}
+
+/// Returns where the last of the tokens ends. The first one begins at `start`.
+pub(crate) fn end_from(start: u32, tokens: &[Token]) -> u32 {
+    let mut end = start;
+    for token in tokens {
+        end += token.len;
+    }
+    end
 }

@@ -1,6 +1,7 @@
 // Made by tools/erase from crates/rustc_lexer/src/relex/edit_list.rt: edit that file.
 //! Why a list of edits stopped.
 
+use crate::erased::relex::relexing::Relexed;
 use core::error::Error;
 use core::fmt;
 
@@ -27,6 +28,24 @@ pub enum EditStop {
     },
 }
 
+/// Why a list of edits stopped, and what the edits before that one kept.
+///
+/// ```ignore
+/// let mut held = LexedText::new(alloc, "ab cd")?;
+/// let edits = [Edit { start: 0, stop: 2, insert: "x" }, Edit { start: 9, stop: 9, insert: "" }];
+/// let stopped = held.edit_each(&edits).unwrap_err();
+/// assert_eq!(stopped.stop, EditStop::Range { at: 1 });
+/// assert_eq!(stopped.relexed.kept_back, 2);
+/// ```
+#[derive(Clone, Copy, Debug, PartialEq, Eq, Hash)]
+pub struct Stopped {
+    /// Which edit was refused, and why.
+    pub stop: EditStop,
+
+    /// Which tokens all edits before it kept.
+    pub relexed: Relexed,
+}
+
 impl fmt::Display for EditStop {
     fn fmt(&self, f: &mut fmt::Formatter) -> fmt::Result {
         match self {
@@ -38,3 +57,11 @@ impl fmt::Display for EditStop {
 }
 
 impl Error for EditStop {}
+
+impl fmt::Display for Stopped {
+    fn fmt(&self, f: &mut fmt::Formatter) -> fmt::Result {
+        self.stop.fmt(f)
+    }
+}
+
+impl Error for Stopped {}

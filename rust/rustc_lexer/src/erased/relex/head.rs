@@ -3,6 +3,7 @@
 use crate::support::Vec;
 
 use crate::erased::frontmatter::frontmatter;
+use crate::erased::relex::final_head::is_head_final;
 use crate::erased::scan::eat_whitespace;
 use crate::erased::shebang::shebang_len;
 use crate::erased::token::{Token, TokenKind};
@@ -28,6 +29,9 @@ pub struct Head {
 pub trait Extent: Copy {
     /// Finds the head of a text.
     fn find_head(text: &str) -> Head;
+
+    /// Returns whether it is known that each text that begins with the first `len` bytes of this one has the same head.
+    fn settles_head(text: &str, len: usize) -> bool;
 }
 
 /// A whole document.
@@ -65,6 +69,14 @@ impl Extent for Whole {
             },
         }
     }
+
+    fn settles_head(text: &str, len: usize) -> bool {
+        if !text.is_char_boundary(len) {
+            return false;
+        }
+        let front = &text[..len];
+        is_head_final(front, shebang_len(front))
+    }
 }
 
 /// A part of a document.
@@ -79,6 +91,10 @@ impl Extent for Part {
             frontmatter: None,
             body: 0,
         }
+    }
+
+    fn settles_head(_text: &str, _len: usize) -> bool {
+        true
     }
 }
 

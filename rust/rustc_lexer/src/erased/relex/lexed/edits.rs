@@ -3,8 +3,9 @@
 
 use crate::erased::entry::stepper::Stepper;
 use crate::erased::relex::edit::{Edit, accepts, contains_range};
-use crate::erased::relex::edit_list::EditStop;
+use crate::erased::relex::edit_list::{EditStop, Stopped};
 use crate::erased::relex::head::Extent;
+use crate::erased::relex::in_order::{Made, edit_in_order};
 use crate::erased::relex::lexed::Lexed;
 use crate::erased::relex::relexing::Relexed;
 
@@ -12,17 +13,37 @@ impl<S: Stepper, E: Extent> Lexed<S, E> {
     /// Makes the edits in order, each on the text that the edits before it leave, up to the first one that is refused.
     /// `Err` says which one that is and why. The edits before it stay made.
     pub fn edit_all(&mut self, edits: &[Edit<'_>]) -> Result<(), EditStop> {
-        self.edit_each(edits)?;
-        Ok(())
+        match self.edit_each(edits) {
+            Ok(_) => Ok(()),
+            Err(stopped) => Err(stopped.stop),
+        }
     }
 
     /// Makes the edits as [`edit_all`](Lexed::edit_all) does. Returns how many tokens all of them kept at the front and at
-    /// the back, and how many are now between these. An empty list keeps all at the front.
-    pub fn edit_each(&mut self, edits: &[Edit<'_>]) -> Result<Relexed, EditStop> {
+    /// the back, and how many are now between these. An empty list keeps all at the front. `Err` also says what the edits
+    /// before the refused one kept.
+    ///
+    /// A list of at least 64 edits, each behind the one before it, moves what is behind them once.
+    pub fn edit_each(&mut self, edits: &[Edit<'_>]) -> Result<Relexed, Stopped> {
         let old_len = self.tokens().len();
-        let mut front = old_len;
-        let mut back = old_len;
-        for (at, edit) in edits.iter().enumerate() {
+        let mut made = Made {
+            count: 0,
+            front: old_len,
+            back: old_len,
+        };
+        let all = self.make(edits, &mut made);
+        let relexed = made.counts(old_len, self.tokens().len());
+        match all {
+            Ok(()) => Ok(relexed),
+            Err(stop) => Err(Stopped { stop, relexed }),
+        }
+    }
+
+    /// Makes the edits, and counts those that it made.
+    fn make(&mut self, edits: &[Edit<'_>], made: &mut Made) -> Result<(), EditStop> {
+        while made.count < edits.len() {
+            let at = made.count;
+            let edit = edits[at];
             let text = self.text();
             if !accepts(text, edit.start, edit.stop, edit.insert) {
                 return Err(if contains_range(text, edit.start, edit.stop) {
@@ -32,19 +53,18 @@ impl<S: Stepper, E: Extent> Lexed<S, E> {
                 });
             }
             match self.edit(edit.start, edit.stop, edit.insert) {
-                Ok(counts) => {
-                    front = front.min(counts.kept_front);
-                    back = back.min(counts.kept_back);
-                }
+                Ok(counts) => *made = made.more(counts),
                 Err(_) => return Err(EditStop::Memory { at }),
             }
+            if at == 0 {
+                self.make_in_order(edits, made)?;
+            }
         }
-        let len = self.tokens().len();
-        let kept_back = back.min(len.min(old_len) - front);
-        Ok(Relexed {
-            kept_front: front,
-            lexed: len - front - kept_back,
-            kept_back,
-        })
+        Ok(())
+    }
+
+    /// Makes the next edits of a long list that are in order.
+    fn make_in_order(&mut self, edits: &[Edit<'_>], made: &mut Made) -> Result<(), EditStop> {
+        edit_in_order(&mut self.kept, edits, made)
     }
 }

@@ -2,6 +2,7 @@
 //! From an offset to a token of a kept text, and the pieces of the text.
 
 use crate::erased::entry::stepper::Stepper;
+use crate::erased::relex::checkpoints::end_from;
 use crate::erased::relex::front::Bound;
 use crate::erased::relex::head::Extent;
 use crate::erased::relex::lexed::Lexed;
@@ -163,15 +164,6 @@ impl<S: Stepper, E: Extent> Lexed<S, E> {
         }
         (self.ended_at(start), self.begun_before(stop))
     }
-}
-
-/// Returns where the last of the tokens ends. The first one begins at `start`.
-fn end_from(start: u32, tokens: &[Token]) -> u32 {
-    let mut end = start;
-    for token in tokens {
-        end += token.len;
-    }
-    end
 }
 
 /// Returns the token that contains the byte at `offset`, by its number and its start. The first token begins at `first`,

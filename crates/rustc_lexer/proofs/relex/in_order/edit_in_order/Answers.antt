@@ -1,0 +1,46 @@
+use Rattle.std.proofs.Common.{◌+◌, ◌≤◌, ◌∙◌, List, ℕ, ap, sym, subst, length, take, drop, get_or, string_bytes, Ok, rules}
+use Rattle.std.specs.String.{string_capacity, string_len}
+use Rattle.rustc_lexer.specs.Kept.{Held}
+use Rattle.rustc_lexer.specs.means.Document.{tokens_of_head}
+use Rattle.rustc_lexer.specs.means.EditList.{GoOn}
+use Rattle.rustc_lexer.specs.means.Gap.{IsTaken, plain}
+use Rattle.rustc_lexer.proofs.AheadLemmas.{begun, opened, taken_edit}
+use Rattle.rustc_lexer.proofs.EditListLemmas.{none}
+use Rattle.rustc_lexer.proofs.MadeLemmas.{on_more, on_none, on_refused}
+use Rattle.rustc_lexer.proofs.relex.in_order.edit_in_order.Goals as goal
+
+pub list-init : goal.list-init
+list-init g c =
+    let text : List ℕ = string_bytes c.args.kept.now.text in
+    let toks = c.args.kept.now.tokens.items in
+    let head = c.args.kept.now.head in
+    let whole = g.E.Extent.whole in
+    let first = g.S.Stepper.grammar c.args.kept.now.stepper in
+    let front = c.in-Ok.ensures.front ∙ ap (λ (xs : List ℕ). take head.body xs) c.as_str-2.ensures.value in
+    let room = subst (λ (xs : List ℕ). string_len c.in-Ok.opened.front + length (drop c.in-Ok.opened.from xs) ≤ string_capacity c.in-Ok.opened.front) c.as_str-2.ensures.value c.in-Ok.ensures.room in
+    let same = begun whole first text toks head c.in-Ok.opened front c.in-Ok.ensures.from c.in-Ok.ensures.count c.in-Ok.ensures.rest c.args.kept.now.stepper in
+    record {
+      ahead = opened whole first text toks head c.in-Ok.opened front c.in-Ok.ensures.from c.in-Ok.ensures.count c.in-Ok.ensures.rest c.args.kept.now.checkpoints c.requires.kept (search rules) room;
+      own = c.count-own.ensures;
+      made = subst (λ (h : Held _). GoOn g.S.Stepper.grammar g.S.Stepper.number g.S.Stepper.count whole c.args.edits.now c.args.made.now (plain text toks c.args.kept.now.stepper) (Ok (tt {0})) c.args.made.now h) (sym same) on_none;
+    }
+
+pub list-preserved : goal.list-preserved
+list-preserved g c =
+    let inv = c.list.invariant in
+    let front : List ℕ = string_bytes c.list.ahead.front in
+    let ins : List ℕ = (get_or c.args.edits.now c.list.made.count none).insert.now in
+    let taken = subst (λ (xs : List ℕ). IsTaken c.list.ahead.settled front (drop c.list.ahead.from xs) c.count-own.result c.list.ahead.gap c.in-Some.start c.in-Some.stop ins) c.as_str-text.ensures.value c.in-Some.ensures.taken in
+    record {
+      ahead = c.in-Ok-edit_ahead.ensures.ahead;
+      own = inv.own ∙ ap (λ h. length (tokens_of_head h)) (sym c.in-Ok-edit_ahead.ensures.head);
+      made = on_more inv.made c.list-test.true c.in-Some.ensures.start c.in-Some.ensures.stop (taken_edit taken) c.more.result c.in-Ok-edit_ahead.ensures.edited c.more.ensures.count c.more.ensures.front c.more.ensures.back;
+    }
+
+pub returns-in-Err-clause-made : goal.returns-in-Err-clause-made
+returns-in-Err-clause-made g c =
+    let inv = c.list.invariant in
+    let front : List ℕ = string_bytes c.list.ahead.front in
+    let ins : List ℕ = (get_or c.args.edits.now c.list.made.count none).insert.now in
+    let taken = subst (λ (xs : List ℕ). IsTaken c.list.ahead.settled front (drop c.list.ahead.from xs) c.count-own.result c.list.ahead.gap c.in-Some.start c.in-Some.stop ins) c.as_str-text.ensures.value c.in-Some.ensures.taken in
+    rw (c.close.ensures.text, c.close.ensures.tokens, c.close.ensures.stepper) (on_refused inv.made c.list-test.true c.in-Some.ensures.start c.in-Some.ensures.stop (taken_edit taken) c.in-Err.ensures.edited)
