@@ -246,6 +246,25 @@ fn what_a_list_keeps() {
     }
 }
 
+/// A long list, whose third edit is in front of the second and puts a frontmatter there.
+#[test]
+fn a_long_list_that_makes_a_head() {
+    let text = "     a b c\n".repeat(20);
+    let mut edits = vec![edit(8, 8, "d"), edit(6, 6, "e"), edit(0, 0, "---\n---\n")];
+    edits.extend((0..70).map(|at| edit(40 + 2 * at, 40 + 2 * at, "f")));
+    let (mut lexed, mut made) = (LexedDocument::new(&*text), LexedDocument::new(&*text));
+    let (mut front, mut back) = (usize::MAX, usize::MAX);
+    for edit in &edits {
+        let relexed = made.edit(edit.start..edit.stop, edit.insert);
+        front = front.min(relexed.kept_front);
+        back = back.min(relexed.kept_back);
+    }
+    let relexed = lexed.edit_each(&edits).unwrap();
+    assert_eq!((relexed.kept_front, relexed.kept_back), (front, back));
+    assert_eq!((lexed.text(), lexed.tokens()), (made.text(), made.tokens()));
+    check(&lexed, Edition::E2024, "a head in a long list");
+}
+
 /// A grammar whose tokens are single characters, and its steps.
 #[derive(Clone)]
 struct Characters(usize);

@@ -512,7 +512,13 @@ fn long_lists_in_order() {
                 let (mut front, mut back) = (old, old);
                 let (mut ranges, mut inserts, mut at) = (vec![], vec![], 0);
                 for _ in 0..63 + random.below(40) {
-                    let from = if random.below(200) == 0 { 0 } else { at };
+                    let mut from = usize::saturating_sub(at, random.below(4));
+                    if random.below(200) == 0 {
+                        from = 0;
+                    }
+                    while !made.text().is_char_boundary(from) {
+                        from -= 1;
+                    }
                     let range = random.range_in(&made.text()[from..], 6, 4);
                     let (range, insert) = (from + range.start..from + range.end, random.text(3));
                     let relexed = made.edit(range.clone(), &insert);
@@ -540,6 +546,17 @@ fn long_lists_in_order() {
     }
     lists!(LexedText);
     lists!(LexedDocument);
+}
+
+/// Of each two of these edits the second is one character behind what the first keeps, and changes the token there.
+#[test]
+fn a_long_list_that_goes_back() {
+    let inserts = (0..40).flat_map(|at| [(7 * at + 3, "9"), (7 * at + 2, "5")]);
+    let edits: Vec<_> = inserts.map(|(at, insert)| edit(at, at, insert)).collect();
+    let mut lexed = LexedText::new("1..2 ".repeat(40));
+    assert_eq!(lexed.edit_each(&edits), Ok(counts(0, 159, 1)));
+    assert_eq!(lexed.text(), "1.5.92 ".repeat(40));
+    check(&lexed, "a list that goes back");
 }
 
 /// Of a long list in order, the edits before one that is out of the text are made in one pass, and it is told what
