@@ -17,6 +17,7 @@ use crate::scan::{eat_whitespace, split_first};
 use crate::token::{Token, TokenKind};
 
 mod block_comment;
+pub(crate) mod body;
 pub(crate) mod classified;
 mod comment;
 pub(crate) mod family;

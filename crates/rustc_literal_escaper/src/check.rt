@@ -17,8 +17,8 @@ use crate::scan::{begins_in_ascii, past_plain, split_first};
 use crate::simple::{alone_after, past_last_simple, past_simple, split_alone};
 use crate::single;
 use crate::steps::{
-    byte_at, is_plain, line_at, lone_element, more_lines, more_space, pass_over, raw_element,
-    unescaped_at,
+    PassedOver, byte_at, is_plain, line_at, lone_element, more_lines, more_space, pass_over,
+    raw_element, unescaped_at,
 };
 use crate::strings::SHORT_TEXT;
 use std::ops::Range;
@@ -316,7 +316,7 @@ fn check_warnings<'a, F: FnMut(Range<usize>, EscapeError)>(
     ensures shorter { length result.now ≤ length line.now }
     ensures text { IsUtf8 result.now }
 {
-    let (newline, left) = pass_over(line);
+    let PassedOver { newline, left } = pass_over(line);
     check_found(more_lines(newline, left, start, total), mode, callback);
     check_found(more_space(left, start, total), mode, callback);
     left

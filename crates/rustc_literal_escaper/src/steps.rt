@@ -295,7 +295,7 @@ fn line_end(line: &str, start: usize, total: usize) -> Found<'_>
     ensures shorter { length result.left.now ≤ length line.now }
     ensures text { IsUtf8 result.left.now }
 {
-    let (newline, left) = pass_over(line);
+    let PassedOver { newline, left } = pass_over(line);
     let more_lines = more_lines(newline, left, start, total);
     let more_space = more_space(left, start, total);
     if newline {
@@ -313,17 +313,26 @@ fn line_end(line: &str, start: usize, total: usize) -> Found<'_>
     }
 }
 
-/// Returns whether a newline is in the white space that is skipped, and the text after that.
+/// The white space that a backslash at the end of a line skips.
+#[derive(Clone, Copy)]
+pub(crate) struct PassedOver<'a> {
+    /// Whether a newline is in it.
+    pub(crate) newline: bool,
+    /// The text after it.
+    pub(crate) left: &'a str,
+}
+
+/// Returns the white space at the front that is skipped.
 ///
 /// Where the newlines are is hard to predict, so nothing branches on it.
 #[inline(always)]
 #[tactic(auto, using(crate::proofs::PlaceLemmas::place_lemmas))]
-pub(crate) fn pass_over(line: &str) -> (bool, &str)
-    ensures newline { result.0
+pub(crate) fn pass_over(line: &str) -> PassedOver<'_>
+    ensures newline { result.newline
         ≡ list_any grammar.is_newline (front_run grammar.is_passed_over (chars line.now)) }
-    ensures left { chars result.1.now ≡ past_run grammar.is_passed_over (chars line.now) }
-    ensures shorter { length result.1.now ≤ length line.now }
-    ensures text { IsUtf8 result.1.now }
+    ensures left { chars result.left.now ≡ past_run grammar.is_passed_over (chars line.now) }
+    ensures shorter { length result.left.now ≤ length line.now }
+    ensures text { IsUtf8 result.left.now }
 {
     let mut newline = false;
     let mut left = line;
@@ -331,7 +340,7 @@ pub(crate) fn pass_over(line: &str) -> (bool, &str)
         newline |= c == '\n';
         left = tail;
     }
-    (newline, left)
+    PassedOver { newline, left }
 }
 
 /// Returns the first character and the text after it if the character is white space that is skipped.

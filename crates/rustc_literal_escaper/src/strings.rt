@@ -13,7 +13,8 @@ use crate::error::EscapeError;
 use crate::scan::{begins_in_ascii, split_first};
 use crate::simple::{run_after, split_alone, split_simple};
 use crate::steps::{
-    byte_at, is_plain, line_at, lone_element, more_lines, more_space, pass_over, unescaped_at,
+    PassedOver, byte_at, is_plain, line_at, lone_element, more_lines, more_space, pass_over,
+    unescaped_at,
 };
 use crate::unit::{MixedUnit, NonZeroChar};
 use std::ops::Range;
@@ -373,7 +374,7 @@ fn each_warning<'a, M: Meaning, F: FnMut(Range<usize>, Result<M::Meant, EscapeEr
     ensures shorter { length result.now ≤ length line.now }
     ensures text { IsUtf8 result.now }
 {
-    let (newline, left) = pass_over(line);
+    let PassedOver { newline, left } = pass_over(line);
     each_found::<M, F>(more_lines(newline, left, start, total), callback);
     each_found::<M, F>(more_space(left, start, total), callback);
     left

@@ -7,6 +7,7 @@ ghost use Rattle.rustc_lexer.specs.means.Raw.{hash_run};
 ghost use Rattle.rustc_lexer.specs.means.Scan.{past, scanned};
 
 use crate::cursor::Cursor;
+use crate::lexemes::body::BodyEnd;
 use crate::lexemes::literal::eat_literal_suffix;
 use crate::lexemes::quoted::double_quoted_string;
 use crate::scan::{self, strip};
@@ -68,21 +69,25 @@ fn string_past(rest: &str, n_hashes: usize) -> Option<(bool, usize)>
     ensures boundary { IfSome result (λ string. IsCharBoundary rest.now string.1) }
 {
     let body = strip(&rest[n_hashes..], b'"')?;
-    let (terminated, left) = guarded_body(body, n_hashes);
-    Some((terminated, rest.len() - left.len()))
+    let end = guarded_body(body, n_hashes);
+    Some((end.terminated, rest.len() - end.rest.len()))
 }
 
-/// Returns whether a quote closes the string, and the text after the token. `body` is the text after the opening
-/// quote.
-fn guarded_body(body: &str, n_hashes: usize) -> (bool, &str)
-    ensures shorter { length result.1.now ≤ length body.now }
-    ensures read { (result.0, result.1.now) ≡ scanned (spec.guarded_body n_hashes) body.now }
+/// Returns whether a quote closes the string, and the text after its hashes and its suffix. `body` is the text after
+/// the opening quote.
+fn guarded_body(body: &str, n_hashes: usize) -> BodyEnd<'_>
+    ensures shorter { length result.rest.now ≤ length body.now }
+    ensures read { (result.terminated, result.rest.now)
+        ≡ scanned (spec.guarded_body n_hashes) body.now }
 {
-    let (terminated, left) = double_quoted_string(body);
-    if terminated {
-        (true, eat_literal_suffix(eat_hashes_up_to(left, n_hashes)))
+    let end = double_quoted_string(body);
+    if end.terminated {
+        BodyEnd {
+            terminated: true,
+            rest: eat_literal_suffix(eat_hashes_up_to(end.rest, n_hashes)),
+        }
     } else {
-        (false, left)
+        end
     }
 }
 

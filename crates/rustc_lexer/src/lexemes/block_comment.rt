@@ -4,6 +4,7 @@ ghost use Rattle.std.specs.Str.{chars};
 ghost use Rattle.rustc_lexer.specs.means.BlockComment as spec;
 ghost use Rattle.rustc_lexer.specs.means.Scan.{or_all, scanned};
 
+use crate::lexemes::body::BodyEnd;
 use crate::scan::{begins_with, eat_until_either, split_first, strip};
 use crate::token::{DocStyle, TokenKind};
 
@@ -13,7 +14,7 @@ pub(crate) fn block_comment(body: &str) -> (TokenKind, &str)
     ensures { (result.0, result.1.now) ≡ scanned spec.block_comment body.now }
 {
     let doc_style = block_doc_style(body);
-    let (terminated, rest) = past_comment(body);
+    let BodyEnd { terminated, rest } = past_comment(body);
     (
         TokenKind::BlockComment {
             doc_style,
@@ -40,23 +41,30 @@ fn block_doc_style(body: &str) -> Option<DocStyle>
     }
 }
 
-/// Returns whether the comment is closed, and the text after it, which is empty if nothing closes the comment.
-/// `body` is the text after its `/*`.
-fn past_comment(body: &str) -> (bool, &str)
-    ensures { (result.0, result.1.now) ≡ scanned (or_all spec.comment_end) body.now }
+/// Returns where the comment is closed. `body` is the text after its `/*`. If nothing closes the comment, it takes
+/// the whole body.
+fn past_comment(body: &str) -> BodyEnd<'_>
+    ensures { (result.terminated, result.rest.now)
+        ≡ scanned (or_all spec.comment_end) body.now }
 {
     let mut depth = 1usize;
     let mut rest = body;
     'comment: loop {
         let stop = eat_until_either(rest, b'*', b'/');
         let Some((c, tail)) = split_first(stop) else {
-            return (false, stop);
+            return BodyEnd {
+                terminated: false,
+                rest: stop,
+            };
         };
         if c == '*' {
             if let Some(past_mark) = strip(tail, b'/') {
                 depth -= 1;
                 if depth == 0 {
-                    return (true, past_mark);
+                    return BodyEnd {
+                        terminated: true,
+                        rest: past_mark,
+                    };
                 }
                 rest = past_mark;
             } else {

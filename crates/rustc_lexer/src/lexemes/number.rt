@@ -63,13 +63,13 @@ fn part_past_zero(tail: &str) -> (Base, bool, &str)
         ≡ scanned spec.part_past_zero tail.now }
 {
     if let Some(digits) = strip(tail, b'b') {
-        let (has_digit, rest) = eat_decimal_digits(digits);
+        let DigitRun { has_digit, rest } = eat_decimal_digits(digits);
         (Base::Binary, !has_digit, rest)
     } else if let Some(digits) = strip(tail, b'o') {
-        let (has_digit, rest) = eat_decimal_digits(digits);
+        let DigitRun { has_digit, rest } = eat_decimal_digits(digits);
         (Base::Octal, !has_digit, rest)
     } else if let Some(digits) = strip(tail, b'x') {
-        let (has_digit, rest) = eat_hexadecimal_digits(digits);
+        let DigitRun { has_digit, rest } = eat_hexadecimal_digits(digits);
         (Base::Hexadecimal, !has_digit, rest)
     } else {
         (Base::Decimal, false, eat_decimal(tail))
@@ -158,7 +158,7 @@ fn eat_float_exponent(base: Base, rest: &str) -> (LiteralKind, &str)
 fn past_sign(base: Base, rest: &str) -> (LiteralKind, &str)
     ensures { (result.0, result.1.now) ≡ scanned (spec.past_sign base) rest.now }
 {
-    let (has_digit, rest) = eat_decimal_digits(rest);
+    let DigitRun { has_digit, rest } = eat_decimal_digits(rest);
     let empty_exponent = !has_digit;
     let float = LiteralKind::Float {
         base,
@@ -167,23 +167,39 @@ fn past_sign(base: Base, rest: &str) -> (LiteralKind, &str)
     (float, rest)
 }
 
-/// Returns whether the run of digits and underscores at the front has a digit, and the text after that run.
-fn eat_decimal_digits(rest: &str) -> (bool, &str)
-    ensures { (result.0, result.1.now) ≡ scanned (spec.digits is_ascii_digit) rest.now }
+/// The run of digits and underscores at the front of a text.
+#[derive(Clone, Copy)]
+struct DigitRun<'a> {
+    /// Whether it has a digit.
+    has_digit: bool,
+    /// The text after it.
+    rest: &'a str,
+}
+
+/// Returns the run of decimal digits and underscores at the front.
+fn eat_decimal_digits(rest: &str) -> DigitRun<'_>
+    ensures { (result.has_digit, result.rest.now)
+        ≡ scanned (spec.digits is_ascii_digit) rest.now }
 {
     let digits = eat_while(rest, is_underscore);
     let has_digit = begins_digit(digits);
-    (has_digit, eat_decimal(digits))
+    DigitRun {
+        has_digit,
+        rest: eat_decimal(digits),
+    }
 }
 
-/// Returns whether the run of hexadecimal digits and underscores at the front has a digit, and the text after that
-/// run.
-fn eat_hexadecimal_digits(rest: &str) -> (bool, &str)
-    ensures { (result.0, result.1.now) ≡ scanned (spec.digits is_ascii_hexdigit) rest.now }
+/// Returns the run of hexadecimal digits and underscores at the front.
+fn eat_hexadecimal_digits(rest: &str) -> DigitRun<'_>
+    ensures { (result.has_digit, result.rest.now)
+        ≡ scanned (spec.digits is_ascii_hexdigit) rest.now }
 {
     let digits = eat_while(rest, is_underscore);
     let has_digit = first(digits).is_ascii_hexdigit();
-    (has_digit, eat_hexadecimal(digits))
+    DigitRun {
+        has_digit,
+        rest: eat_hexadecimal(digits),
+    }
 }
 
 /// Returns whether a digit is next.

@@ -12,6 +12,7 @@ use crate::erased::scan::{eat_whitespace, split_first};
 use crate::erased::token::{Token, TokenKind};
 
 mod block_comment;
+pub(crate) mod body;
 pub(crate) mod classified;
 mod comment;
 pub(crate) mod family;

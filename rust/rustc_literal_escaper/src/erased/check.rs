@@ -9,8 +9,8 @@ use crate::erased::scan::{begins_in_ascii, past_plain, split_first};
 use crate::erased::simple::{alone_after, past_last_simple, past_simple, split_alone};
 use crate::erased::single;
 use crate::erased::steps::{
-    byte_at, is_plain, line_at, lone_element, more_lines, more_space, pass_over, raw_element,
-    unescaped_at,
+    PassedOver, byte_at, is_plain, line_at, lone_element, more_lines, more_space, pass_over,
+    raw_element, unescaped_at,
 };
 use crate::erased::strings::SHORT_TEXT;
 use core::ops::Range;
@@ -232,7 +232,7 @@ fn check_warnings<'a, F: FnMut(Range<usize>, EscapeError)>(
     mode: Mode,
     callback: &mut F,
 ) -> &'a str {
-    let (newline, left) = pass_over(line);
+    let PassedOver { newline, left } = pass_over(line);
     check_found(more_lines(newline, left, start, total), mode, callback);
     check_found(more_space(left, start, total), mode, callback);
     left

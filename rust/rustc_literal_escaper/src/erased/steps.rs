@@ -204,7 +204,7 @@ fn strip_newline(text: &str) -> Option<&str> {
 /// Returns the warnings after a backslash and a newline, which begin at the place `start`.
 #[inline(always)]
 fn line_end(line: &str, start: usize, total: usize) -> Found<'_> {
-    let (newline, left) = pass_over(line);
+    let PassedOver { newline, left } = pass_over(line);
     let more_lines = more_lines(newline, left, start, total);
     let more_space = more_space(left, start, total);
     if newline {
@@ -222,18 +222,27 @@ fn line_end(line: &str, start: usize, total: usize) -> Found<'_> {
     }
 }
 
-/// Returns whether a newline is in the white space that is skipped, and the text after that.
+/// The white space that a backslash at the end of a line skips.
+#[derive(Clone, Copy)]
+pub(crate) struct PassedOver<'a> {
+    /// Whether a newline is in it.
+    pub(crate) newline: bool,
+    /// The text after it.
+    pub(crate) left: &'a str,
+}
+
+/// Returns the white space at the front that is skipped.
 ///
 /// Where the newlines are is hard to predict, so nothing branches on it.
 #[inline(always)]
-pub(crate) fn pass_over(line: &str) -> (bool, &str) {
+pub(crate) fn pass_over(line: &str) -> PassedOver<'_> {
     let mut newline = false;
     let mut left = line;
     while let Some((c, tail)) = split_passed(left) {
         newline |= c == '\n';
         left = tail;
     }
-    (newline, left)
+    PassedOver { newline, left }
 }
 
 /// Returns the first character and the text after it if the character is white space that is skipped.

@@ -6,7 +6,8 @@ use crate::erased::error::EscapeError;
 use crate::erased::scan::{begins_in_ascii, split_first};
 use crate::erased::simple::{run_after, split_alone, split_simple};
 use crate::erased::steps::{
-    byte_at, is_plain, line_at, lone_element, more_lines, more_space, pass_over, unescaped_at,
+    PassedOver, byte_at, is_plain, line_at, lone_element, more_lines, more_space, pass_over,
+    unescaped_at,
 };
 use crate::erased::unit::{MixedUnit, NonZeroChar};
 use core::ops::Range;
@@ -287,7 +288,7 @@ fn each_warning<'a, M: Meaning, F: FnMut(Range<usize>, Result<M::Meant, EscapeEr
     total: usize,
     callback: &mut F,
 ) -> &'a str {
-    let (newline, left) = pass_over(line);
+    let PassedOver { newline, left } = pass_over(line);
     each_found::<M, F>(more_lines(newline, left, start, total), callback);
     each_found::<M, F>(more_space(left, start, total), callback);
     left

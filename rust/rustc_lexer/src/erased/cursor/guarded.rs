@@ -2,6 +2,7 @@
 //! Guarded strings.
 
 use crate::erased::cursor::Cursor;
+use crate::erased::lexemes::body::BodyEnd;
 use crate::erased::lexemes::literal::eat_literal_suffix;
 use crate::erased::lexemes::quoted::double_quoted_string;
 use crate::erased::scan::{self, strip};
@@ -52,18 +53,21 @@ fn count_hashes(rest: &str) -> usize {
 #[inline]
 fn string_past(rest: &str, n_hashes: usize) -> Option<(bool, usize)> {
     let body = strip(&rest[n_hashes..], b'"')?;
-    let (terminated, left) = guarded_body(body, n_hashes);
-    Some((terminated, rest.len() - left.len()))
+    let end = guarded_body(body, n_hashes);
+    Some((end.terminated, rest.len() - end.rest.len()))
 }
 
-/// Returns whether a quote closes the string, and the text after the token. `body` is the text after the opening
-/// quote.
-fn guarded_body(body: &str, n_hashes: usize) -> (bool, &str) {
-    let (terminated, left) = double_quoted_string(body);
-    if terminated {
-        (true, eat_literal_suffix(eat_hashes_up_to(left, n_hashes)))
+/// Returns whether a quote closes the string, and the text after its hashes and its suffix. `body` is the text after
+/// the opening quote.
+fn guarded_body(body: &str, n_hashes: usize) -> BodyEnd<'_> {
+    let end = double_quoted_string(body);
+    if end.terminated {
+        BodyEnd {
+            terminated: true,
+            rest: eat_literal_suffix(eat_hashes_up_to(end.rest, n_hashes)),
+        }
     } else {
-        (false, left)
+        end
     }
 }
 

@@ -1,6 +1,7 @@
 // Made by tools/erase from crates/rustc_lexer/src/lexemes/block_comment.rt: edit that file.
 //! Block comments, which nest.
 
+use crate::erased::lexemes::body::BodyEnd;
 use crate::erased::scan::{begins_with, eat_until_either, split_first, strip};
 use crate::erased::token::{DocStyle, TokenKind};
 
@@ -8,7 +9,7 @@ use crate::erased::token::{DocStyle, TokenKind};
 #[inline(always)]
 pub(crate) fn block_comment(body: &str) -> (TokenKind, &str) {
     let doc_style = block_doc_style(body);
-    let (terminated, rest) = past_comment(body);
+    let BodyEnd { terminated, rest } = past_comment(body);
     (
         TokenKind::BlockComment {
             doc_style,
@@ -32,21 +33,27 @@ fn block_doc_style(body: &str) -> Option<DocStyle> {
     }
 }
 
-/// Returns whether the comment is closed, and the text after it, which is empty if nothing closes the comment.
-/// `body` is the text after its `/*`.
-fn past_comment(body: &str) -> (bool, &str) {
+/// Returns where the comment is closed. `body` is the text after its `/*`. If nothing closes the comment, it takes
+/// the whole body.
+fn past_comment(body: &str) -> BodyEnd<'_> {
     let mut depth = 1usize;
     let mut rest = body;
     loop {
         let stop = eat_until_either(rest, b'*', b'/');
         let Some((c, tail)) = split_first(stop) else {
-            return (false, stop);
+            return BodyEnd {
+                terminated: false,
+                rest: stop,
+            };
         };
         if c == '*' {
             if let Some(past_mark) = strip(tail, b'/') {
                 depth -= 1;
                 if depth == 0 {
-                    return (true, past_mark);
+                    return BodyEnd {
+                        terminated: true,
+                        rest: past_mark,
+                    };
                 }
                 rest = past_mark;
             } else {

@@ -45,13 +45,13 @@ fn integer_part(first_digit: char, tail: &str) -> (Base, bool, &str) {
 #[inline(always)]
 fn part_past_zero(tail: &str) -> (Base, bool, &str) {
     if let Some(digits) = strip(tail, b'b') {
-        let (has_digit, rest) = eat_decimal_digits(digits);
+        let DigitRun { has_digit, rest } = eat_decimal_digits(digits);
         (Base::Binary, !has_digit, rest)
     } else if let Some(digits) = strip(tail, b'o') {
-        let (has_digit, rest) = eat_decimal_digits(digits);
+        let DigitRun { has_digit, rest } = eat_decimal_digits(digits);
         (Base::Octal, !has_digit, rest)
     } else if let Some(digits) = strip(tail, b'x') {
-        let (has_digit, rest) = eat_hexadecimal_digits(digits);
+        let DigitRun { has_digit, rest } = eat_hexadecimal_digits(digits);
         (Base::Hexadecimal, !has_digit, rest)
     } else {
         (Base::Decimal, false, eat_decimal(tail))
@@ -126,7 +126,7 @@ fn eat_float_exponent(base: Base, rest: &str) -> (LiteralKind, &str) {
 /// Lexes the digits of an exponent. Returns the kind of the float, and the text after it.
 #[inline(always)]
 fn past_sign(base: Base, rest: &str) -> (LiteralKind, &str) {
-    let (has_digit, rest) = eat_decimal_digits(rest);
+    let DigitRun { has_digit, rest } = eat_decimal_digits(rest);
     let empty_exponent = !has_digit;
     let float = LiteralKind::Float {
         base,
@@ -135,19 +135,33 @@ fn past_sign(base: Base, rest: &str) -> (LiteralKind, &str) {
     (float, rest)
 }
 
-/// Returns whether the run of digits and underscores at the front has a digit, and the text after that run.
-fn eat_decimal_digits(rest: &str) -> (bool, &str) {
-    let digits = eat_while(rest, is_underscore);
-    let has_digit = begins_digit(digits);
-    (has_digit, eat_decimal(digits))
+/// The run of digits and underscores at the front of a text.
+#[derive(Clone, Copy)]
+struct DigitRun<'a> {
+    /// Whether it has a digit.
+    has_digit: bool,
+    /// The text after it.
+    rest: &'a str,
 }
 
-/// Returns whether the run of hexadecimal digits and underscores at the front has a digit, and the text after that
-/// run.
-fn eat_hexadecimal_digits(rest: &str) -> (bool, &str) {
+/// Returns the run of decimal digits and underscores at the front.
+fn eat_decimal_digits(rest: &str) -> DigitRun<'_> {
+    let digits = eat_while(rest, is_underscore);
+    let has_digit = begins_digit(digits);
+    DigitRun {
+        has_digit,
+        rest: eat_decimal(digits),
+    }
+}
+
+/// Returns the run of hexadecimal digits and underscores at the front.
+fn eat_hexadecimal_digits(rest: &str) -> DigitRun<'_> {
     let digits = eat_while(rest, is_underscore);
     let has_digit = first(digits).is_ascii_hexdigit();
-    (has_digit, eat_hexadecimal(digits))
+    DigitRun {
+        has_digit,
+        rest: eat_hexadecimal(digits),
+    }
 }
 
 /// Returns whether a digit is next.

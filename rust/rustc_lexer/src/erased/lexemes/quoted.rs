@@ -1,34 +1,47 @@
 // Made by tools/erase from crates/rustc_lexer/src/lexemes/quoted.rt: edit that file.
 //! Text in quotes: strings and characters.
 
+use crate::erased::lexemes::body::BodyEnd;
 use crate::erased::lexemes::literal::{eat_literal_suffix, literal};
 use crate::erased::scan::{eat_until_either, split_first, strip};
 use crate::erased::token::{LiteralKind, TokenKind};
 
-/// Returns whether a double quote closes the text, and the text after that quote. `body` is the text after the
-/// opening quote. If no quote closes it, it takes the whole body.
-pub(crate) fn double_quoted_string(body: &str) -> (bool, &str) {
+/// Returns where a double quote closes the text. `body` is the text after the opening quote. If no quote closes it,
+/// it takes the whole body.
+pub(crate) fn double_quoted_string(body: &str) -> BodyEnd<'_> {
     let mut rest = body;
     loop {
         let stop = eat_until_either(rest, b'"', b'\\');
         let Some((c, tail)) = split_first(stop) else {
-            return (false, stop);
+            return BodyEnd {
+                terminated: false,
+                rest: stop,
+            };
         };
         if c == '"' {
-            return (true, tail);
+            return BodyEnd {
+                terminated: true,
+                rest: tail,
+            };
         }
         let Some((_, past_escaped)) = split_first(tail) else {
-            return (false, tail);
+            return BodyEnd {
+                terminated: false,
+                rest: tail,
+            };
         };
         rest = past_escaped;
     }
 }
 
-/// Returns whether a single quote closes the text, and the text after that quote. `body` is the text after the
-/// opening quote. If no quote closes it, it stops before a slash, and before a newline that no quote follows.
-pub(crate) fn single_quoted_string(body: &str) -> (bool, &str) {
+/// Returns where a single quote closes the text. `body` is the text after the opening quote. If no quote closes it,
+/// it stops before a slash, and before a newline that no quote follows.
+pub(crate) fn single_quoted_string(body: &str) -> BodyEnd<'_> {
     if let Some(rest) = strip_lone(body) {
-        return (true, rest);
+        return BodyEnd {
+            terminated: true,
+            rest,
+        };
     }
     let mut rest = body;
     let mut escaped = false;
@@ -36,15 +49,24 @@ pub(crate) fn single_quoted_string(body: &str) -> (bool, &str) {
         if escaped {
             escaped = false;
         } else if c == '\'' {
-            return (true, tail);
+            return BodyEnd {
+                terminated: true,
+                rest: tail,
+            };
         } else if stops_open(c, tail) {
-            return (false, rest);
+            return BodyEnd {
+                terminated: false,
+                rest,
+            };
         } else {
             escaped = c == '\\';
         }
         rest = tail;
     }
-    (false, rest)
+    BodyEnd {
+        terminated: false,
+        rest,
+    }
 }
 
 /// Returns the text after one character and a quote, if these are at the front. The character is not a backslash.
@@ -80,7 +102,7 @@ pub(crate) enum QuotedPrefix {
 /// of its prefix.
 #[inline(always)]
 pub(crate) fn quoted_literal(prefix: QuotedPrefix, tail: &str) -> (TokenKind, &str) {
-    let (terminated, rest) = quoted_string(prefix, tail);
+    let BodyEnd { terminated, rest } = quoted_string(prefix, tail);
     let kind = quoted_kind(prefix, terminated);
     let token = literal(kind, tail, rest);
     if terminated {
@@ -90,10 +112,9 @@ pub(crate) fn quoted_literal(prefix: QuotedPrefix, tail: &str) -> (TokenKind, &s
     }
 }
 
-/// Returns whether a quote closes the literal, and the text after its body. `tail` is the text after the first
-/// character of its prefix.
+/// Returns where a quote closes the literal. `tail` is the text after the first character of its prefix.
 #[inline(always)]
-fn quoted_string(prefix: QuotedPrefix, tail: &str) -> (bool, &str) {
+fn quoted_string(prefix: QuotedPrefix, tail: &str) -> BodyEnd<'_> {
     match prefix {
         QuotedPrefix::Single => single_quoted_string(tail),
         QuotedPrefix::BSingle => single_quoted_string(after_first(tail)),

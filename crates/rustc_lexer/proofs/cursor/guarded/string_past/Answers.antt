@@ -9,7 +9,7 @@ pub returns-in_err-body-clause-read : goal.returns-in_err-body-clause-read
 returns-in_err-body-clause-read c = rw c.from_residual.ensures (no_string _ _ _ c.utf8.rest c.requires c.range_from.ensures.value c.in_err-body.ensures)
 
 pub returns-clause-read : goal.returns-clause-read
-returns-clause-read c = string_here _ _ _ c.utf8.rest c.requires c.range_from.ensures.value _ _ _ c.in_ok-body.ensures.1 c.guarded_body-terminated.ensures.read c.in_ok-body.ensures.0
+returns-clause-read c = string_here _ _ _ c.utf8.rest c.requires c.range_from.ensures.value _ _ _ c.in_ok-body.ensures.1 c.guarded_body-end.ensures.read c.in_ok-body.ensures.0
 
 pub returns-clause-boundary : goal.returns-clause-boundary
-returns-clause-boundary c = string_boundary _ _ _ c.utf8.rest c.requires c.range_from.ensures.value _ _ _ c.in_ok-body.ensures.1 c.guarded_body-terminated.ensures.read
+returns-clause-boundary c = string_boundary _ _ _ c.utf8.rest c.requires c.range_from.ensures.value _ _ _ c.in_ok-body.ensures.1 c.guarded_body-end.ensures.read

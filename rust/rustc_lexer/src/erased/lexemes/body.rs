@@ -1,0 +1,11 @@
+// Made by tools/erase from crates/rustc_lexer/src/lexemes/body.rt: edit that file.
+//! Where the body of a quoted literal or of a block comment ends.
+
+/// What stands where a body ends.
+#[derive(Clone, Copy)]
+pub(crate) struct BodyEnd<'a> {
+    /// Whether something closes the body.
+    pub(crate) terminated: bool,
+    /// The text after the body and what closes it.
+    pub(crate) rest: &'a str,
+}
