@@ -15,9 +15,9 @@ static void check_bad_texts(void) {
         uint32_t is = 9;
         CHECK(rustc_lexer_check(text, len) == RUSTC_LEXER_NOT_UTF8);
         CHECK(call(rustc_lexer_tokens, bad[i], len, &place, BUFFER_LEN, &count) == RUSTC_LEXER_NOT_UTF8);
-        CHECK(count == 0 && place.at == 0 && place.frontmatter_allowed == 1 && is_marked(0));
+        CHECK(count == 0 && place.at == 0 && place.frontmatter_allowed == 1 && is_untouched(0));
         CHECK(call(tokens_in_newest, bad[i], len, &place, BUFFER_LEN, &count) == RUSTC_LEXER_NOT_UTF8);
-        CHECK(count == 0 && place.at == 0 && place.frontmatter_allowed == 1 && is_marked(0));
+        CHECK(count == 0 && place.at == 0 && place.frontmatter_allowed == 1 && is_untouched(0));
         CHECK(rustc_lexer_strip_shebang(text, len, &end) == RUSTC_LEXER_NOT_UTF8 && end == 0);
         end = 99;
         CHECK(rustc_lexer_settled(text, len, &end) == RUSTC_LEXER_NOT_UTF8 && end == 0);
@@ -32,7 +32,7 @@ static void check_bad_texts(void) {
         struct rustc_lexer_relexing relexing = {0};
         CHECK(rustc_lexer_relex(text, len, buffer, 0, &edit, 2024, &relexing, buffer + 1, BUFFER_LEN - 1, &count) ==
                   RUSTC_LEXER_NOT_UTF8 &&
-              count == 0 && relexing.stage == RUSTC_LEXER_STAGE_BEGIN && is_marked(0));
+              count == 0 && relexing.stage == RUSTC_LEXER_STAGE_BEGIN && is_untouched(0));
         struct rustc_lexer_head head = {.body = 8};
         CHECK(rustc_lexer_body_edit(text, len, &edit, &head, &edit, &is) == RUSTC_LEXER_NOT_UTF8);
         CHECK(head.body == 8 && edit.new_stop == len && is == 0);
@@ -44,7 +44,7 @@ static void check_empty_text(batch_call *tokens) {
     size_t count, end = 99;
     uint32_t is = 9;
     CHECK(call(tokens, "", 0, &place, BUFFER_LEN, &count) == RUSTC_LEXER_OK);
-    CHECK(count == 0 && place.at == 0 && place.frontmatter_allowed == 1 && is_marked(0));
+    CHECK(count == 0 && place.at == 0 && place.frontmatter_allowed == 1 && is_untouched(0));
     CHECK(rustc_lexer_strip_shebang((const uint8_t *)"", 0, &end) == RUSTC_LEXER_OK && end == 0);
     end = 99;
     CHECK(rustc_lexer_settled((const uint8_t *)"", 0, &end) == RUSTC_LEXER_OK && end == 0);
@@ -143,14 +143,14 @@ static void check_buffer(batch_call *tokens) {
     struct rustc_lexer_place place = {0, 0};
     size_t count;
     CHECK(call(tokens, "ab cd", 5, &place, 0, &count) == RUSTC_LEXER_OK);
-    CHECK(count == 0 && place.at == 0 && is_marked(0));
+    CHECK(count == 0 && place.at == 0 && is_untouched(0));
     CHECK(call(tokens, "ab cd", 5, &place, 1, &count) == RUSTC_LEXER_OK);
-    CHECK(count == 1 && place.at == 2 && is_token(0, RUSTC_LEXER_IDENT, 2) && is_marked(1));
+    CHECK(count == 1 && place.at == 2 && is_token(0, RUSTC_LEXER_IDENT, 2) && is_untouched(1));
     CHECK(call(tokens, "ab cd", 5, &place, 2, &count) == RUSTC_LEXER_OK);
     CHECK(count == 2 && place.at == 5 && is_token(0, RUSTC_LEXER_WHITESPACE, 1));
-    CHECK(is_token(1, RUSTC_LEXER_IDENT, 2) && is_marked(2));
+    CHECK(is_token(1, RUSTC_LEXER_IDENT, 2) && is_untouched(2));
     CHECK(call(tokens, "ab cd", 5, &place, BUFFER_LEN, &count) == RUSTC_LEXER_OK);
-    CHECK(count == 0 && place.at == 5 && is_marked(0));
+    CHECK(count == 0 && place.at == 5 && is_untouched(0));
 }
 
 static void check_frontmatter(batch_call *tokens) {
@@ -175,7 +175,7 @@ static void check_places(batch_call *tokens) {
         bool good = at == 0 || at == 1 || at == 3;
         uint32_t status = call(tokens, text, 3, &place, BUFFER_LEN, &count);
         CHECK(status == (good ? RUSTC_LEXER_OK : RUSTC_LEXER_BAD_PLACE));
-        CHECK(good ? place.at == 3 : count == 0 && place.at == at && place.frontmatter_allowed == 5 && is_marked(0));
+        CHECK(good ? place.at == 3 : count == 0 && place.at == at && place.frontmatter_allowed == 5 && is_untouched(0));
     }
     struct rustc_lexer_place last = {UINT32_MAX, 0};
     CHECK(call(tokens, text, 3, &last, BUFFER_LEN, &count) == RUSTC_LEXER_BAD_PLACE);
@@ -212,9 +212,9 @@ static void check_editions(void) {
         const uint8_t *letter = (const uint8_t *)"\xc3\xa9";
         memset(buffer, 0xAA, sizeof buffer);
         CHECK(rustc_lexer_tokens_in(letter, 2, none[i], &start, buffer, 8, &count) == RUSTC_LEXER_BAD_EDITION);
-        CHECK(count == 0 && start.at == 0 && start.frontmatter_allowed == 7 && is_marked(0));
+        CHECK(count == 0 && start.at == 0 && start.frontmatter_allowed == 7 && is_untouched(0));
         CHECK(rustc_lexer_tokens_in(letter, 2, none[i], &inside, buffer, 8, &count) == RUSTC_LEXER_BAD_PLACE);
-        CHECK(count == 0 && inside.at == 1 && is_marked(0));
+        CHECK(count == 0 && inside.at == 1 && is_untouched(0));
     }
 }
 
@@ -403,7 +403,7 @@ static void check_errors(unescape_call *errors) {
     CHECK(errors(text, len, 11, 0, units, 16, &count) == RUSTC_LEXER_BAD_MODE && count == 0);
 }
 
-/* What is marked of a text, with so much room. Behind what is written the buffer keeps its marks. */
+/* What is marked of a text, with so much room. Behind what is written the buffer keeps its bytes. */
 static bool is_marked_as(const char *text, uint32_t style, uint32_t edition, size_t count, const char *wanted) {
     uint8_t bytes[200];
     size_t written = 99, len = strlen(wanted);

@@ -1,5 +1,5 @@
-/* What the tests share: a check that names what failed and ends the program, and a buffer of tokens with a mark in each
- * byte. */
+/* What the tests share: a check that names what failed and ends the program, and a buffer of tokens that shows what a
+ * call leaves untouched. */
 #ifndef CHECKS_H
 #define CHECKS_H
 
@@ -35,7 +35,7 @@ static inline uint32_t tokens_in_newest_unchecked(const uint8_t *text, size_t le
     return rustc_lexer_tokens_in_unchecked(text, len, 2024, place, tokens, room, count);
 }
 
-/* A call with so much room, on a buffer that has a mark in each byte. */
+/* A call with so much room, on a buffer that has 0xAA in each byte. */
 static inline uint32_t call(batch_call *tokens, const char *text, size_t len, struct rustc_lexer_place *place,
                      size_t buffer_len, size_t *count) {
     memset(buffer, 0xAA, sizeof buffer);
@@ -43,8 +43,8 @@ static inline uint32_t call(batch_call *tokens, const char *text, size_t len, st
     return tokens((const uint8_t *)text, len, place, buffer, buffer_len, count);
 }
 
-/* Whether the buffer from a token on still has the marks. */
-static inline bool is_marked(size_t from) {
+/* Whether the buffer from a token on still has these bytes. */
+static inline bool is_untouched(size_t from) {
     const unsigned char *bytes = (const unsigned char *)&buffer[from];
     for (size_t i = 0; i < (BUFFER_LEN - from) * sizeof buffer[0]; i++)
         if (bytes[i] != 0xAA)

@@ -144,7 +144,7 @@ static void check_bad_edits(relex_call *relex) {
         struct rustc_lexer_relexing relexing = {0};
         memset(buffer, 0xAA, sizeof buffer);
         CHECK(relex(text, 5, old, 5, &bad[i], 2024, &relexing, buffer, BUFFER_LEN, &count) == RUSTC_LEXER_BAD_EDIT);
-        CHECK(count == 0 && relexing.stage == RUSTC_LEXER_STAGE_BEGIN && is_marked(0));
+        CHECK(count == 0 && relexing.stage == RUSTC_LEXER_STAGE_BEGIN && is_untouched(0));
     }
     struct rustc_lexer_edit good = {3, 3, 4};
     struct rustc_lexer_relexing none[] = {{0, 0, 0, 6, 0, 0, 1}, {0, 0, 0, 0, 0, 2, 1}, {0, 0, 0, 0, 0, 6, 1},

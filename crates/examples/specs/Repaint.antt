@@ -21,28 +21,28 @@ shown_after relexed added removed shown painted =
     take relexed.kept_front shown
     ++ (painted ++ map (moved added removed) (drop (length shown - relexed.kept_back) shown))
 
--- the mark that opens a token of a kind, which sets the style of a terminal; none where the token
--- is left plain
-abbrev pub open_mark : TokenKind → List ℕ
-open_mark (LineComment doc_style) = 27 ∷ codes "[2m"
-open_mark (BlockComment doc_style terminated) = 27 ∷ codes "[2m"
-open_mark (Literal kind suffix_start) = 27 ∷ codes "[32m"
-open_mark (Lifetime starts_with_number) = 27 ∷ codes "[35m"
-open_mark RawLifetime = 27 ∷ codes "[35m"
-open_mark UnknownPrefixLifetime = 27 ∷ codes "[35m"
-open_mark Unknown = 27 ∷ codes "[31m"
-open_mark kind = []
+-- what is written before a token of a kind, which sets the style of a terminal; nothing where the
+-- token is left plain
+abbrev pub open_style : TokenKind → List ℕ
+open_style (LineComment doc_style) = 27 ∷ codes "[2m"
+open_style (BlockComment doc_style terminated) = 27 ∷ codes "[2m"
+open_style (Literal kind suffix_start) = 27 ∷ codes "[32m"
+open_style (Lifetime starts_with_number) = 27 ∷ codes "[35m"
+open_style RawLifetime = 27 ∷ codes "[35m"
+open_style UnknownPrefixLifetime = 27 ∷ codes "[35m"
+open_style Unknown = 27 ∷ codes "[31m"
+open_style kind = []
 
--- the mark that closes it, which sets the style back
+-- what is written after it, which sets the style back
 abbrev pub close_after : List ℕ → List ℕ
 close_after [] = []
 close_after (b ∷ bs) = 27 ∷ codes "[0m"
 
-abbrev pub close_mark : TokenKind → List ℕ
-close_mark kind = close_after (open_mark kind)
+abbrev pub close_style : TokenKind → List ℕ
+close_style kind = close_after (open_style kind)
 
--- each piece of a text between its marks
-abbrev pub marked : List Placed → List ℕ
-marked [] = []
-marked (piece ∷ pieces) =
-    open_mark piece.token.kind ++ (piece.text ++ (close_mark piece.token.kind ++ marked pieces))
+-- each piece of a text in its style
+abbrev pub styled : List Placed → List ℕ
+styled [] = []
+styled (piece ∷ pieces) =
+    open_style piece.token.kind ++ (piece.text ++ (close_style piece.token.kind ++ styled pieces))

@@ -3,7 +3,7 @@ ghost use Rattle.std.specs.Prelude.{◌≡◌, ◌+◌, ◌-◌, OnOk, OnErr, If
 ghost use Rattle.std.specs.Fmt.{WritesInCalls};
 ghost use Rattle.rustc_lexer.specs.Edits.{IsEdit, apply};
 ghost use Rattle.rustc_lexer.specs.Kept.{pieces_from};
-ghost use Rattle.examples.specs.Repaint.{changed, close_mark, marked, open_mark, shown_after};
+ghost use Rattle.examples.specs.Repaint.{changed, close_style, open_style, shown_after, styled};
 
 use rustc_lexer::{LexedText, Relexed, Stepper, TokenKind};
 use std::alloc::AllocError;
@@ -44,7 +44,7 @@ pub fn repaint<S: Stepper, W: fmt::Write>(
     requires all { relexed.kept_front + relexed.lexed + relexed.kept_back
         ≡ length lexed.now.tokens }
     ensures { OnOk result (WritesInCalls W.write_str_gives output.old
-        (marked (changed relexed (pieces_from lexed.now.text 0 lexed.now.tokens)))
+        (styled (changed relexed (pieces_from lexed.now.text 0 lexed.now.tokens)))
         output.new) }
 {
     let back = lexed.tokens().len() - relexed.kept_back;
@@ -58,7 +58,7 @@ pub fn repaint<S: Stepper, W: fmt::Write>(
 
 /// Returns what is written before a token: the terminal's sequence for its style, or nothing if it has none.
 fn opening(kind: TokenKind) -> &'static str
-    ensures { result.now ≡ open_mark kind }
+    ensures { result.now ≡ open_style kind }
 {
     match kind {
         TokenKind::LineComment { .. } | TokenKind::BlockComment { .. } => "\x1b[2m",
@@ -72,7 +72,7 @@ fn opening(kind: TokenKind) -> &'static str
 
 /// Returns what is written after a token, which resets the style.
 fn closing(kind: TokenKind) -> &'static str
-    ensures { result.now ≡ close_mark kind }
+    ensures { result.now ≡ close_style kind }
 {
     if opening(kind).is_empty() {
         ""

@@ -28,8 +28,8 @@ macro_rules! calls {
         &[$(
             $($(Entry::Part($part, 1 $(* $times)?),)+)?
             $(Entry::Part($text, 1),)?
-            $(Entry::Mark(Some($call)),)+
-            Entry::Mark(None),
+            $(Entry::End(Some($call)),)+
+            Entry::End(None),
         )*]
     };
 }

@@ -31,7 +31,7 @@ impl Made {
         }
     }
 
-    /// Adds an entry. Returns the mark, if it is one. After a mark the next part or token begins a new text.
+    /// Adds an entry. Returns what the text is for, if the entry ends it. The next part or token begins a new one.
     pub fn add<M: Copy>(&mut self, entry: &Entry<M>) -> Result<Option<M>, AllocError> {
         match *entry {
             Entry::Part(part, times) => {
@@ -42,10 +42,10 @@ impl Made {
                 self.begin_if_whole();
                 self.each.push(Token { kind, len })?;
             }
-            Entry::Mark(mark) => {
+            Entry::End(purpose) => {
                 self.repeat("", 1)?;
                 self.is_whole = true;
-                return Ok(Some(mark));
+                return Ok(Some(purpose));
             }
         }
         Ok(None)
@@ -72,7 +72,7 @@ impl Made {
     }
 
     /// Returns the number of the first of these calls that gives other tokens than these.
-    fn fault(&self, ways: Ways) -> Option<usize> {
+    fn mismatch(&self, ways: Ways) -> Option<usize> {
         let text = self.text.as_str();
         let wanted = self.tokens.as_slice();
         for (number, way) in Way::ALL.into_iter().enumerate() {
@@ -101,9 +101,9 @@ fn lex<'a>(text: &'a str, way: Way) -> Tokens<'a>
 }
 
 /// Collects the rows of the table that fail.
-fn write_faults(
+fn write_mismatches(
     alloc: Global,
-    faults: &mut String,
+    mismatches: &mut String,
     table: (&str, &[Entry<Ways>]),
 ) -> Result<(), Fail> {
     let (name, entries) = table;
@@ -112,8 +112,8 @@ fn write_faults(
         let Some(ways) = made.add(entry)? else {
             continue;
         };
-        if let Some(number) = made.fault(ways) {
-            writeln!(faults, "{name}, by call {number}: {:?}", made.text)?;
+        if let Some(number) = made.mismatch(ways) {
+            writeln!(mismatches, "{name}, by call {number}: {:?}", made.text)?;
         }
     }
     Ok(())
@@ -121,11 +121,11 @@ fn write_faults(
 
 #[test]
 fn rows(rt: HostRuntime) -> Result<(), Fail> {
-    let mut faults = String::new(rt.alloc());
+    let mut mismatches = String::new(rt.alloc());
     for table in all() {
-        write_faults(rt.alloc(), &mut faults, table)?;
+        write_mismatches(rt.alloc(), &mut mismatches, table)?;
     }
-    assert!(rt; faults.is_empty(), "{faults}");
+    assert!(rt; mismatches.is_empty(), "{mismatches}");
     Ok(())
 }
 

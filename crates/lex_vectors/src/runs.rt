@@ -91,7 +91,7 @@ static ALL: &[Runs] = runs! {
 impl Runs {
     /// Returns the first stop, and the length of a run before it, for which the token is not the one of the
     /// table.
-    fn fault(&self, alloc: Global) -> Result<Option<(&'static str, usize)>, AllocError> {
+    fn mismatch(&self, alloc: Global) -> Result<Option<(&'static str, usize)>, AllocError> {
         let all = self.members.repeat(alloc, MOST)?;
         for (stops, reach) in self.stops {
             for stop in *stops {
@@ -177,8 +177,8 @@ fn split(token: Token) -> (TokenKind, usize, usize) {
 #[test]
 fn tokens_of_runs(rt: HostRuntime) -> Result<(), AllocError> {
     for runs in ALL {
-        let fault = runs.fault(rt.alloc())?;
-        assert!(rt; fault.is_none(), "after {}", runs.front);
+        let mismatch = runs.mismatch(rt.alloc())?;
+        assert!(rt; mismatch.is_none(), "after {}", runs.front);
     }
     Ok(())
 }

@@ -30,14 +30,14 @@ out_of (suc depth) s = followed_by (comment_end s) (λ n. out_of depth (drop n s
 pub out-nothing : (depth : ℕ) → 0 < depth → out_of depth [] ≡ None
 out-nothing depth w1 = grind (arith, common_steps)
 
--- a character that begins no mark leaves the depth as it is
+-- a character that begins neither `/*` nor `*/` leaves the depth as it is
 pub out-plain : (depth c : ℕ) (s : List ℕ) → 0 < depth → at_closing (c ∷ s) ≡ false → at_opening (c ∷ s) ≡ false → out_of depth (c ∷ s) ≡ more 1 (out_of depth s)
 out-plain zero c s some e f = absurd (omega arith)
 out-plain (suc depth) c s some e f =
     let here : (n : ℕ) → out_of depth (drop (1 + n) (c ∷ s)) ≡ out_of depth (drop n s) = λ n. let one : 1 + n ≡ suc n = omega arith in rw one refl in
     rw (e, f) (followed_by-more 1 (comment_end s) (λ n. out_of depth (drop n (c ∷ s))) ∙ ap (more 1) (followed_by-same (comment_end s) _ _ here))
 
--- and the marks lead out of a comment and into one
+-- and `*/` leads out of a comment, `/*` into one
 pub out-closing : (depth : ℕ) (s : List ℕ) → out_of (suc depth) (42 ∷ 47 ∷ s) ≡ more 2 (out_of depth s)
 out-closing depth s = refl
 

@@ -1,4 +1,4 @@
--- The loop over a block comment: from mark to mark.
+-- The loop over a block comment: from one star or slash to the next.
 use Rattle.std.proofs.Common.{◌≡◌, ◌≢◌, ℕ, suc, ◌+◌, ◌<◌, ◌==◌, Bool, true, false, List, [], ◌∷◌, ◌++◌, length, drop, refl, sym, ap, ◌∙◌, arith, length-append, subst, Option, Some, None, not}
 use Rattle.std.specs.Str.{chars, IsUtf8}
 use Rattle.std.proofs.lemmas.Bool.{and_parts, or_cases, or_parts, eqb-true, not-true, not-false}
@@ -42,26 +42,26 @@ step text rest tail w depth to n at reads len cut e = record {
     moved (Some m) = ap (λ xs. (true, xs)) (further m)
 
 -- what is neither a star nor a slash
-abbrev pub is_unmarked : ℕ → Bool
-is_unmarked c = not (is_byte2 42 47 c)
+abbrev pub is_other : ℕ → Bool
+is_other c = not (is_byte2 42 47 c)
 
--- up to the next mark
-run_on : (text rest : List ℕ) (depth : ℕ) (cs : List ℕ) → 0 < depth → chars rest ≡ cs → Commenting text rest depth → Commenting text (past (run_len is_unmarked cs) rest) depth
+-- up to the next star or slash
+run_on : (text rest : List ℕ) (depth : ℕ) (cs : List ℕ) → 0 < depth → chars rest ≡ cs → Commenting text rest depth → Commenting text (past (run_len is_other cs) rest) depth
 run_on text rest depth [] some reads at = subst (λ xs. Commenting text xs depth) (sym (past-zero rest at.utf8)) at
-run_on text rest depth (c ∷ cs) some reads at = by_either (is_unmarked c)
+run_on text rest depth (c ∷ cs) some reads at = by_either (is_other c)
     (λ e.
     let left : chars (past 1 rest) ≡ cs = chars-past 1 rest at.utf8 ∙ ap (drop 1) reads in
     let here : chars rest ≡ c ∷ chars (past 1 rest) = reads ∙ ap (λ xs. c ∷ xs) (sym left) in
     let p = or_parts (c == 42) (c == 47) (not-true _ e) in
     let next : Commenting text (past 1 rest) depth = step text rest (past 1 rest) (c ∷ []) depth depth 1 at here refl refl (out-plain depth c (chars (past 1 rest)) some (rw p.0 refl) (rw p.1 refl)) in
-    let longer : 1 + run_len is_unmarked cs ≡ run_len is_unmarked (c ∷ cs) = rw e (omega arith) in
-    subst (λ xs. Commenting text xs depth) (past-past (run_len is_unmarked cs) 1 rest at.utf8 ∙ ap (λ n. past n rest) longer) (run_on text (past 1 rest) depth cs some left next))
+    let longer : 1 + run_len is_other cs ≡ run_len is_other (c ∷ cs) = rw e (omega arith) in
+    subst (λ xs. Commenting text xs depth) (past-past (run_len is_other cs) 1 rest at.utf8 ∙ ap (λ n. past n rest) longer) (run_on text (past 1 rest) depth cs some left next))
     (λ e.
-    let none : run_len is_unmarked (c ∷ cs) ≡ 0 = rw e refl in
+    let none : run_len is_other (c ∷ cs) ≡ 0 = rw e refl in
     subst (λ xs. Commenting text xs depth) (sym (ap (λ n. past n rest) none ∙ past-zero rest at.utf8)) at)
 
 -- the loop at a star or a slash
-module _ (text rest stop : List ℕ) (depth : ℕ) (some : 0 < depth) (at : Commenting text rest depth) (there : stop ≡ past (run_len is_unmarked (chars rest)) rest) where
+module _ (text rest stop : List ℕ) (depth : ℕ) (some : 0 < depth) (at : Commenting text rest depth) (there : stop ≡ past (run_len is_other (chars rest)) rest) where
   pub at_stop : Commenting text stop depth
   at_stop = subst (λ xs. Commenting text xs depth) (sym there) (run_on text rest depth (chars rest) some refl at)
 
@@ -84,21 +84,21 @@ module _ (text rest stop : List ℕ) (depth : ℕ) (some : 0 < depth) (at : Comm
     begins-one : (a : ℕ) (s : List ℕ) → begins (a ∷ []) s ≡ true → s ≡ a ∷ drop 1 s
     begins-one a s w2 = grind (arith, common_steps, eqb-true, and_parts)
 
-    -- both characters of a mark
-    mark_reads : (a b : ℕ) (past_mark : List ℕ) → c ≡ a → begins (b ∷ []) (chars tail) ≡ true → past_mark ≡ past 1 tail → chars stop ≡ a ∷ b ∷ chars past_mark
-    mark_reads a b past_mark e f g =
+    -- both characters of `*/` or `/*`
+    pair_reads : (a b : ℕ) (past_pair : List ℕ) → c ≡ a → begins (b ∷ []) (chars tail) ≡ true → past_pair ≡ past 1 tail → chars stop ≡ a ∷ b ∷ chars past_pair
+    pair_reads a b past_pair e f g =
         grind (arith, common_steps, at_stop, g, chars-past 1 tail (IsUtf8-cut 1 stop tail (at_stop).utf8 cut), reads, e, begins-one b (chars tail) f, (ap chars g ∙ chars-past 1 tail (IsUtf8-cut 1 stop tail (at_stop).utf8 cut)))
 
-    past_both : (past_mark : List ℕ) → past_mark ≡ past 1 tail → past_mark ≡ past 2 stop
-    past_both past_mark g = let stopped = at_stop in past-two stop tail past_mark stopped.utf8 cut g
+    past_both : (past_pair : List ℕ) → past_pair ≡ past 1 tail → past_pair ≡ past 2 stop
+    past_both past_pair g = let stopped = at_stop in past-two stop tail past_pair stopped.utf8 cut g
 
-    pub closed_one : (past_mark : List ℕ) (less : ℕ) → c ≡ 42 → begins (47 ∷ []) (chars tail) ≡ true → past_mark ≡ past 1 tail → suc less ≡ depth → Commenting text past_mark less
-    closed_one past_mark less e f g h =
-        step text stop past_mark (42 ∷ 47 ∷ []) depth less 2 at_stop (mark_reads 42 47 past_mark e f g) refl (past_both past_mark g) (ap (λ d. out_of d (42 ∷ 47 ∷ chars past_mark)) (sym h) ∙ out-closing less (chars past_mark))
+    pub closed_one : (past_pair : List ℕ) (less : ℕ) → c ≡ 42 → begins (47 ∷ []) (chars tail) ≡ true → past_pair ≡ past 1 tail → suc less ≡ depth → Commenting text past_pair less
+    closed_one past_pair less e f g h =
+        step text stop past_pair (42 ∷ 47 ∷ []) depth less 2 at_stop (pair_reads 42 47 past_pair e f g) refl (past_both past_pair g) (ap (λ d. out_of d (42 ∷ 47 ∷ chars past_pair)) (sym h) ∙ out-closing less (chars past_pair))
 
-    pub opened_one : (past_mark : List ℕ) (deeper : ℕ) → c ≢ 42 → begins (42 ∷ []) (chars tail) ≡ true → past_mark ≡ past 1 tail → deeper ≡ suc depth → Commenting text past_mark deeper
-    opened_one past_mark deeper ne f g h =
-        step text stop past_mark (47 ∷ 42 ∷ []) depth deeper 2 at_stop (mark_reads 47 42 past_mark (is_slash ne) f g) refl (past_both past_mark g) (out-opening depth (chars past_mark) some ∙ ap (λ d. more 2 (out_of d (chars past_mark))) (sym h))
+    pub opened_one : (past_pair : List ℕ) (deeper : ℕ) → c ≢ 42 → begins (42 ∷ []) (chars tail) ≡ true → past_pair ≡ past 1 tail → deeper ≡ suc depth → Commenting text past_pair deeper
+    opened_one past_pair deeper ne f g h =
+        step text stop past_pair (47 ∷ 42 ∷ []) depth deeper 2 at_stop (pair_reads 47 42 past_pair (is_slash ne) f g) refl (past_both past_pair g) (out-opening depth (chars past_pair) some ∙ ap (λ d. more 2 (out_of d (chars past_pair))) (sym h))
 
 pub closed : (text rest : List ℕ) (depth : ℕ) → Commenting text rest depth → depth ≡ 0 → (true, rest) ≡ scanned (or_all comment_end) text
 closed text rest depth at none = ap (λ xs. (true, xs)) (sym (past-zero rest at.utf8)) ∙ (ap (λ d. leaves (out_of d (chars rest)) (chars rest) rest) (sym none) ∙ at.same)

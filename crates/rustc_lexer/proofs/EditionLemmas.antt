@@ -73,7 +73,7 @@ first_oldest edition text w2 = grind (arith, common_steps)
 pub first_by : (guards : Bool) (text : List ℕ) (t : Token) → IsFirstToken text t → is_newer t.kind ≡ false → IsFirstBy guards text t
 first_by guards text t is old = grind (arith, common_steps, older)
 
--- a hash before a mark, where the edition reserves it
+-- a hash before a quote or a hash, where the edition reserves it
 pub guard_by : (text : List ℕ) → IsFirstToken text record { kind = GuardedStrPrefix; len = 2 } → IsFirstBy true text record { kind = GuardedStrPrefix; len = 2 }
 guard_by text is = record { token = λ edition e. rw e is.token; inside = is.inside; boundary = is.boundary; suffix = is.suffix }
 

@@ -14,7 +14,7 @@ use Rattle.rustc_lexer.specs.Locality.{has_two}
 use Rattle.rustc_lexer.specs.Tokens.{bound, tokens_by}
 use Rattle.rustc_lexer.specs.laws.Choice.{by_either}
 use Rattle.rustc_lexer.specs.laws.Edition.{first_token_grammar}
-use Rattle.rustc_lexer.specs.laws.LanguageShebang.{front-is, mark-utf8, no-mark, short}
+use Rattle.rustc_lexer.specs.laws.LanguageShebang.{front-is, hash_bang-utf8, no-hash_bang, short}
 use Rattle.rustc_lexer.specs.laws.Texts.{left_text}
 use Rattle.rustc_lexer.specs.means.Document.{head_at, head_of}
 use Rattle.rustc_lexer.specs.means.Lexeme.{first_token}
@@ -103,12 +103,12 @@ two-tell [] m two = absurd (omega arith)
 two-tell (c ∷ []) m two = absurd (omega arith)
 two-tell (c ∷ d ∷ s) m two = refl
 
-mark-stays : (s m : List ℕ) (n : ℕ) → n ≡ before_newline s → n < length s → begins (codes "\r\n") (drop (n - 1) s ++ m) ≡ begins (codes "\r\n") (drop (n - 1) s)
-mark-stays [] m n e less = absurd (omega arith)
-mark-stays (c ∷ s) m zero e less = by_either (c == 10)
+carriage_return-stays : (s m : List ℕ) (n : ℕ) → n ≡ before_newline s → n < length s → begins (codes "\r\n") (drop (n - 1) s ++ m) ≡ begins (codes "\r\n") (drop (n - 1) s)
+carriage_return-stays [] m n e less = absurd (omega arith)
+carriage_return-stays (c ∷ s) m zero e less = by_either (c == 10)
     (λ f. ap (λ (x : ℕ). (x == 13) && begins (codes "\n") (s ++ m)) (eqb-true c 10 f) ∙ sym (ap (λ (x : ℕ). (x == 13) && begins (codes "\n") s) (eqb-true c 10 f)))
     (λ f. absurd (let one : before_newline (c ∷ s) ≡ 1 + before_newline s = rw f refl in omega arith))
-mark-stays s m (suc j) e less =
+carriage_return-stays s m (suc j) e less =
     let back : suc j - 1 ≡ j = omega arith in
     ap (λ (n : ℕ). begins (codes "\r\n") (drop n s ++ m)) back ∙ (two-tell (drop j s) m (omega (arith, length-drop j s)) ∙ sym (ap (λ (n : ℕ). begins (codes "\r\n") (drop n s)) back))
 
@@ -120,7 +120,7 @@ line-stays s m less = elim (cases_lt (before_newline s) (length s)) [
   | inl ended ↦
       let n : ℕ = before_newline s in
       let cut : drop (n - 1) (s ++ m) ≡ drop (n - 1) s ++ m = drop-append-le (n - 1) s m (omega (arith, ended)) in
-      ap (line_to (s ++ m)) (inline-append s m ended) ∙ ap (λ (b : Bool). if b then n - 1 else n) (ap (begins (codes "\r\n")) cut ∙ mark-stays s m n refl ended)
+      ap (line_to (s ++ m)) (inline-append s m ended) ∙ ap (λ (b : Bool). if b then n - 1 else n) (ap (begins (codes "\r\n")) cut ∙ carriage_return-stays s m n refl ended)
   | inr all ↦ absurd (
       let whole : before_newline s ≡ length s = omega (arith, all, prefix_len-le-length is_inline s) in
       let none : begins (codes "\r\n") (drop (length s - 1) s) ≡ false = short (drop (length s - 1) s) (omega (arith, length-drop (length s - 1) s)) in
@@ -130,51 +130,51 @@ line-stays s m less = elim (cases_lt (before_newline s) (length s)) [
 
 -- ---- the shebang line
 
-past-mark : (text rest : List ℕ) → text ≡ 35 ∷ 33 ∷ rest → read_shebang text ≡ (if is_attribute (tokens_by first_token rest) then None else Some (2 + line_len rest))
+past-hash_bang : (text rest : List ℕ) → text ≡ 35 ∷ 33 ∷ rest → read_shebang text ≡ (if is_attribute (tokens_by first_token rest) then None else Some (2 + line_len rest))
 unfolding read_shebang
-past-mark text rest e = ap read_shebang e
+past-hash_bang text rest e = ap read_shebang e
 
 tail-text : (text rest : List ℕ) → IsText text → text ≡ 35 ∷ 33 ∷ rest → IsText rest
-tail-text text rest is e = subst IsText (ap (drop 2) e) (left_text text 2 is (omega (arith, ap (λ (xs : List ℕ). length xs) e)) (subst IsUtf8 (sym (ap (take 2) e)) mark-utf8))
+tail-text text rest is e = subst IsText (ap (drop 2) e) (left_text text 2 is (omega (arith, ap (λ (xs : List ℕ). length xs) e)) (subst IsUtf8 (sym (ap (take 2) e)) hash_bang-utf8))
 
 module _ (text more : List ℕ) (is : IsText text) (its : IsText (text ++ more)) where
   abbrev tail : List ℕ
   tail = drop 2 text
 
-  module _ (mark : begins (codes "#!") text ≡ true) (ended : shebang_len text < length text) (decided : is_decided tail (tokens_by first_token tail) ≡ true) where
-    marked : text ≡ 35 ∷ 33 ∷ tail
-    marked = front-is text mark
+  module _ (begun : begins (codes "#!") text ≡ true) (ended : shebang_len text < length text) (decided : is_decided tail (tokens_by first_token tail) ≡ true) where
+    whole : text ≡ 35 ∷ 33 ∷ tail
+    whole = front-is text begun
 
-    marked_more : text ++ more ≡ 35 ∷ 33 ∷ (tail ++ more)
-    marked_more = ap (λ (xs : List ℕ). xs ++ more) marked
+    whole_more : text ++ more ≡ 35 ∷ 33 ∷ (tail ++ more)
+    whole_more = ap (λ (xs : List ℕ). xs ++ more) whole
 
     same_attribute : is_attribute (tokens_by first_token (tail ++ more)) ≡ is_attribute (tokens_by first_token tail)
-    same_attribute = attribute-stays tail more (tail-text text tail is marked) (tail-text (text ++ more) (tail ++ more) its marked_more) decided
+    same_attribute = attribute-stays tail more (tail-text text tail is whole) (tail-text (text ++ more) (tail ++ more) its whole_more) decided
 
     abbrev answer : List ℕ → Bool → Option ℕ
     answer rest b = if b then None else Some (2 + line_len rest)
 
-    marked-stays : shebang_len (text ++ more) ≡ shebang_len text
-    marked-stays = by_either (is_attribute (tokens_by first_token tail))
-        (λ e. ap (λ (r : Option ℕ). unwrap_or r 0) (past-mark (text ++ more) (tail ++ more) marked_more ∙ (ap (answer (tail ++ more)) (same_attribute ∙ e) ∙ sym (past-mark text tail marked ∙ ap (answer tail) e))))
+    line-kept : shebang_len (text ++ more) ≡ shebang_len text
+    line-kept = by_either (is_attribute (tokens_by first_token tail))
+        (λ e. ap (λ (r : Option ℕ). unwrap_or r 0) (past-hash_bang (text ++ more) (tail ++ more) whole_more ∙ (ap (answer (tail ++ more)) (same_attribute ∙ e) ∙ sym (past-hash_bang text tail whole ∙ ap (answer tail) e))))
         (λ e.
-        let here : shebang_len text ≡ 2 + line_len tail = ap (λ (r : Option ℕ). unwrap_or r 0) (past-mark text tail marked ∙ ap (answer tail) e) in
-        let line : line_len (tail ++ more) ≡ line_len tail = line-stays tail more (omega (arith, here, ended, ap (λ (xs : List ℕ). length xs) marked)) in
-        ap (λ (r : Option ℕ). unwrap_or r 0) (past-mark (text ++ more) (tail ++ more) marked_more ∙ ap (answer (tail ++ more)) (same_attribute ∙ e)) ∙ (ap (λ n. 2 + n) line ∙ sym here))
+        let here : shebang_len text ≡ 2 + line_len tail = ap (λ (r : Option ℕ). unwrap_or r 0) (past-hash_bang text tail whole ∙ ap (answer tail) e) in
+        let line : line_len (tail ++ more) ≡ line_len tail = line-stays tail more (omega (arith, here, ended, ap (λ (xs : List ℕ). length xs) whole)) in
+        ap (λ (r : Option ℕ). unwrap_or r 0) (past-hash_bang (text ++ more) (tail ++ more) whole_more ∙ ap (answer (tail ++ more)) (same_attribute ∙ e)) ∙ (ap (λ n. 2 + n) line ∙ sym here))
 
   line_final-stays : is_line_final text ≡ true → shebang_len (text ++ more) ≡ shebang_len text
   line_final-stays final = by_either (begins (codes "#!") text)
       (λ e.
       let both = and_parts (nat_lt (shebang_len text) (length text)) (is_decided tail (tokens_by first_token tail)) (ap (λ (b : Bool). if b then nat_lt (shebang_len text) (length text) && is_decided tail (tokens_by first_token tail) else nat_le 2 (length text)) (sym e) ∙ final) in
-      marked-stays e (ltb-true (shebang_len text) (length text) both.0) both.1)
+      line-kept e (ltb-true (shebang_len text) (length text) both.0) both.1)
       (λ e.
       let two : 2 ≤ length text = leb-true 2 (length text) (ap (λ (b : Bool). if b then nat_lt (shebang_len text) (length text) && is_decided tail (tokens_by first_token tail) else nat_le 2 (length text)) (sym e) ∙ final) in
-      ap (λ (r : Option ℕ). unwrap_or r 0) (no-mark (text ++ more) (mark-tells text more two ∙ e) ∙ sym (no-mark text e)))
+      ap (λ (r : Option ℕ). unwrap_or r 0) (no-hash_bang (text ++ more) (hash_bang-tells text more two ∙ e) ∙ sym (no-hash_bang text e)))
     where
-      mark-tells : (s m : List ℕ) → 2 ≤ length s → begins (codes "#!") (s ++ m) ≡ begins (codes "#!") s
-      mark-tells [] m two = absurd (omega arith)
-      mark-tells (c ∷ []) m two = absurd (omega arith)
-      mark-tells (c ∷ d ∷ s) m two = refl
+      hash_bang-tells : (s m : List ℕ) → 2 ≤ length s → begins (codes "#!") (s ++ m) ≡ begins (codes "#!") s
+      hash_bang-tells [] m two = absurd (omega arith)
+      hash_bang-tells (c ∷ []) m two = absurd (omega arith)
+      hash_bang-tells (c ∷ d ∷ s) m two = refl
 
 -- ---- the head
 

@@ -6,7 +6,7 @@ use Rattle.std.proofs.lemmas.Grind.{common_steps}
 use Rattle.rustc_lexer.specs.{Ident, UnknownPrefix}
 use Rattle.rustc_lexer.specs.Classes.{is_id_start, is_id_continue, ends_prefix, is_word_continue}
 use Rattle.rustc_lexer.specs.Tables.{is_emoji}
-use Rattle.rustc_lexer.specs.means.Ident.{ident_or_unknown_prefix, invalid_ident, marks_ident}
+use Rattle.rustc_lexer.specs.means.Ident.{ident_or_unknown_prefix, invalid_ident, begins_hash_ident}
 use Rattle.rustc_lexer.specs.means.Scan.{begins, next_is, past, run_len, scanned}
 use Rattle.rustc_lexer.specs.laws.Past.{chars-past, past-past, past-two}
 
@@ -45,14 +45,14 @@ module _ (tail rest : List ℕ) (is : IsUtf8 tail) (e : rest ≡ past (len (char
 
 -- a hash and what follows it
 module _ (tail word : List ℕ) (is : IsUtf8 tail) (e : word ≡ past 1 tail) (hash : begins (codes "#") (chars tail) ≡ true) where
-  marks-is : marks_ident (chars tail) ≡ next_is is_id_start (chars word)
-  marks-is = ap (λ (b : Bool). b && next_is is_id_start (drop 1 (chars tail))) hash ∙ ap (next_is is_id_start) (sym (ap chars e ∙ chars-past 1 tail is))
+  hash_ident-is : begins_hash_ident (chars tail) ≡ next_is is_id_start (chars word)
+  hash_ident-is = ap (λ (b : Bool). b && next_is is_id_start (drop 1 (chars tail))) hash ∙ ap (next_is is_id_start) (sym (ap chars e ∙ chars-past 1 tail is))
 
-  pub marks-none : chars word ≡ [] → marks_ident (chars tail) ≡ false
-  marks-none none = marks-is ∙ ap (next_is is_id_start) none
+  pub hash_ident-none : chars word ≡ [] → begins_hash_ident (chars tail) ≡ false
+  hash_ident-none none = hash_ident-is ∙ ap (next_is is_id_start) none
 
-  pub marks-by : (c : ℕ) (cs : List ℕ) (b : Bool) → chars word ≡ c ∷ cs → b ≡ is_id_start c → marks_ident (chars tail) ≡ b
-  marks-by c cs b f g = marks-is ∙ (ap (next_is is_id_start) f ∙ sym g)
+  pub hash_ident-by : (c : ℕ) (cs : List ℕ) (b : Bool) → chars word ≡ c ∷ cs → b ≡ is_id_start c → begins_hash_ident (chars tail) ≡ b
+  hash_ident-by c cs b f g = hash_ident-is ∙ (ap (next_is is_id_start) f ∙ sym g)
 
-  pub past-marked : (ident left : List ℕ) → ident ≡ past 1 word → left ≡ past (run_len is_id_continue (chars ident)) ident → left ≡ past (2 + run_len is_id_continue (drop 2 (chars tail))) tail
-  past-marked ident left f g = grind (arith, common_steps, past-two, chars-past, past-past)
+  pub past-hash_ident : (ident left : List ℕ) → ident ≡ past 1 word → left ≡ past (run_len is_id_continue (chars ident)) ident → left ≡ past (2 + run_len is_id_continue (drop 2 (chars tail))) tail
+  past-hash_ident ident left f g = grind (arith, common_steps, past-two, chars-past, past-past)

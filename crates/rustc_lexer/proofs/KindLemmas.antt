@@ -84,8 +84,8 @@ quiet kind w e = grind (arith, common_steps)
 
 says : {next w : Chars} {kind : TokenKind} → IsTokenBefore next kind w → Says kind w
 says (the.end none) = refl
-says (the.ident is stop mark) = is
-says (the.unknown_prefix is mark new) = is
+says (the.ident is stop end) = is
+says (the.unknown_prefix is end new) = is
 says (the.raw_ident {w} is stop) = (w, refl, is)
 says (the.literal {w = w} is) = record { within = omega arith; ends = λ bad. refl; text = λ text e. literal-text is [] (λ f. refl) (bytes w) text (e ∙ sym (append-nil w)) }
 says (the.literal_with {w = w} {suffix = suffix} is suffix_is) = record {

@@ -11,11 +11,11 @@ use Rattle.rustc_lexer.specs.{TokenKind, Ident, UnknownPrefix, Whitespace}
 use Rattle.rustc_lexer.specs.means.ByteRuns.{is_continue_byte, is_space_byte, is_wide}
 use Rattle.rustc_lexer.specs.Classes.{is_id_continue, ends_prefix}
 use Rattle.rustc_lexer.specs.Tables.{is_emoji}
-use Rattle.rustc_lexer.specs.means.Ident.{ident_or_unknown_prefix, marks_ident}
+use Rattle.rustc_lexer.specs.means.Ident.{ident_or_unknown_prefix, begins_hash_ident}
 use Rattle.rustc_lexer.specs.laws.Choice.{by_symbol}
 use Rattle.rustc_lexer.specs.laws.LanguageWords.{by_letter}
 use Rattle.rustc_lexer.proofs.EditionLemmas.{first_by, is_newer}
-use Rattle.rustc_lexer.specs.means.Lexeme.{family_of, word, symbols, symbol_kind, past_first, is_raw_mark, begins_raw}
+use Rattle.rustc_lexer.specs.means.Lexeme.{family_of, word, symbols, symbol_kind, past_first, opens_raw, begins_raw}
 use Rattle.rustc_lexer.specs.means.Quick.{is_space_lead, turns_word, IsFirstBy, IsFirstToken}
 use Rattle.rustc_lexer.specs.means.Scan.{begins, next_is, past, run_len, scanned}
 use Rattle.rustc_lexer.proofs.BridgeLemmas.{chars-ascii, IsUtf8-ascii, skips, stops_here}
@@ -32,30 +32,30 @@ emoji-ascii : (b : ℕ) → b < 128 → is_emoji b ≡ false
 unfolding is_emoji
 emoji-ascii b l = rw (lt-leb 128 b l) refl
 
--- ---- a word is an identifier where no mark follows it
+-- ---- a word is an identifier where nothing follows it that ends a prefix
 
--- the marks one by one
-record Unmarked (c : ℕ) : Type 0 where
+-- what ends a prefix, one by one
+record NoPrefixEnd (c : ℕ) : Type 0 where
   hash : (c == 35) ≡ false
   double : (c == 34) ≡ false
   single : (c == 39) ≡ false
 
-unmarked : (c : ℕ) → ends_prefix c ≡ false → Unmarked c
-unmarked c e = grind (arith, common_steps, or_parts)
+no_prefix_end : (c : ℕ) → ends_prefix c ≡ false → NoPrefixEnd c
+no_prefix_end c e = grind (arith, common_steps, or_parts)
 
-no_raw : (s : List ℕ) → next_is ends_prefix s ≡ false → next_is is_raw_mark s ≡ false
-no_raw s w1 = grind (arith, common_steps, unmarked)
+no_raw : (s : List ℕ) → next_is ends_prefix s ≡ false → next_is opens_raw s ≡ false
+no_raw s w1 = grind (arith, common_steps, no_prefix_end)
 
 -- nothing goes on with what follows the letter
 record IsPlain (s : List ℕ) : Type 0 where
-  no_ident : marks_ident s ≡ false
+  no_ident : begins_hash_ident s ≡ false
   no_char : begins (codes "'") s ≡ false
   no_string : begins (codes "\"") s ≡ false
-  no_hash : next_is is_raw_mark s ≡ false
+  no_hash : next_is opens_raw s ≡ false
   no_letter : begins_raw s ≡ false
 
 is_plain : (s : List ℕ) → next_is ends_prefix (drop (run_len is_id_continue s) s) ≡ false → IsPlain s
-is_plain s w1 = grind (arith, common_steps, unmarked, or_cases, no_raw, eqb-true, is_xid_continue-ascii)
+is_plain s w1 = grind (arith, common_steps, no_prefix_end, or_cases, no_raw, eqb-true, is_xid_continue-ascii)
 
 word-plain : (b : ℕ) (s : List ℕ) → next_is ends_prefix (drop (run_len is_id_continue s) s) ≡ false → word b s ≡ ident_or_unknown_prefix s
 word-plain b s h = grind (arith, common_steps, by_letter, is_plain s h)
@@ -94,9 +94,9 @@ word_first text b rest end is e small family counted ends = first text b rest Id
         let whole : IsUtf8 left = subst (λ k. IsUtf8 (drop k rest)) (sym counted) (skips is_continue_byte is_id_continue continue_part rest inner).utf8 in
         let next = turned-emoji left whole (not-true _ ends) in
         let offset : left ≡ past (run_len is_id_continue (chars rest)) rest = stops_here is_continue_byte is_id_continue continue_part rest rest end inner refl counted left refl next.1.1 in
-        let unmarked : next_is ends_prefix (drop (run_len is_id_continue (chars rest)) (chars rest)) ≡ false =
+        let no_end : next_is ends_prefix (drop (run_len is_id_continue (chars rest)) (chars rest)) ≡ false =
         sym (ap (next_is ends_prefix) (ap chars offset ∙ chars-past (run_len is_id_continue (chars rest)) rest inner)) ∙ next.1.0 in
-        by_family Word b rest _ family (ap (λ (t : Bool). let k : TokenKind = if t then UnknownPrefix else Ident in (k, left)) (sym next.1.0) ∙ (ident_or_unknown_prefix-valid rest left inner offset next.0 ∙ sym (scanned-same (word b) ident_or_unknown_prefix rest (word-plain b (chars rest) unmarked))))
+        by_family Word b rest _ family (ap (λ (t : Bool). let k : TokenKind = if t then UnknownPrefix else Ident in (k, left)) (sym next.1.0) ∙ (ident_or_unknown_prefix-valid rest left inner offset next.0 ∙ sym (scanned-same (word b) ident_or_unknown_prefix rest (word-plain b (chars rest) no_end))))
 
 pub space_first : (text : List ℕ) (b : ℕ) (rest : List ℕ) (end : ℕ) → IsUtf8 text → text ≡ b ∷ rest → b < 128 → Space ≡ family_of b → end ≡ prefix_len is_space_byte rest → not (next_is is_space_lead (drop end rest)) ≡ true
     → IsFirstToken text record { kind = Whitespace; len = 1 + end }

@@ -53,10 +53,10 @@ escaped e left is small =
     let reads_one : chars (e ∷ 39 ∷ left) ≡ e ∷ chars (39 ∷ left) = chars-ascii e (39 ∷ left) one small in
     let reads_two : chars (39 ∷ left) ≡ 39 ∷ chars left = chars-ascii 39 left two (omega arith) in
     let start : Seeking 39 at_single_stop text text false = seek-start 39 at_single_stop text is in
-    let past_mark : Seeking 39 at_single_stop text (e ∷ 39 ∷ left) true =
+    let past_slash : Seeking 39 at_single_stop text (e ∷ 39 ∷ left) true =
     seek-on 39 at_single_stop text text (e ∷ 39 ∷ left) false 92 start reads (past-ascii 92 (e ∷ 39 ∷ left) is (omega arith)) true refl refl in
     let past_escaped : Seeking 39 at_single_stop text (39 ∷ left) false =
-    seek-on 39 at_single_stop text (e ∷ 39 ∷ left) (39 ∷ left) true e past_mark reads_one (past-ascii e (39 ∷ left) one small) false refl refl in
+    seek-on 39 at_single_stop text (e ∷ 39 ∷ left) (39 ∷ left) true e past_slash reads_one (past-ascii e (39 ∷ left) one small) false refl refl in
     let found = seek-closed 39 at_single_stop text (39 ∷ left) left false 39 past_escaped reads_two (past-ascii 39 left two (omega arith)) refl refl in
     record {
       utf8 = last;
@@ -75,12 +75,12 @@ module _ (text bytes : List ℕ) (offset : ℕ) (is : IsUtf8 text) (same : bytes
       by_text (b ∷ c ∷ d ∷ ds) u l p m q = by_either (b == 92)
           (λ e.
           let at : offset ≡ 2 = p ∙ ap (λ (t : Bool). 1 + from_bool t) e in
-          let mark : b ≡ 92 = eqb-true b 92 e in
+          let slash : b ≡ 92 = eqb-true b 92 e in
           let first : c < 128 = subst (λ n. slice_index (b ∷ c ∷ d ∷ ds) (n - 1) < 128) at m in
           let closes : d ≡ 39 = subst (λ n. slice_index (b ∷ c ∷ d ∷ ds) n ≡ 39) at q in
           subst (λ n. ShortChar (b ∷ c ∷ d ∷ ds) (drop (n + 1) (b ∷ c ∷ d ∷ ds))) (sym at)
-          (subst (λ x. ShortChar (x ∷ c ∷ d ∷ ds) ds) (sym mark)
-          (subst (λ x. ShortChar (92 ∷ c ∷ x ∷ ds) ds) (sym closes) (escaped c ds (subst (λ x. IsUtf8 (92 ∷ c ∷ x ∷ ds)) closes (subst (λ x. IsUtf8 (x ∷ c ∷ d ∷ ds)) mark u)) first))))
+          (subst (λ x. ShortChar (x ∷ c ∷ d ∷ ds) ds) (sym slash)
+          (subst (λ x. ShortChar (92 ∷ c ∷ x ∷ ds) ds) (sym closes) (escaped c ds (subst (λ x. IsUtf8 (92 ∷ c ∷ x ∷ ds)) closes (subst (λ x. IsUtf8 (x ∷ c ∷ d ∷ ds)) slash u)) first))))
           (λ e.
           let at : offset ≡ 1 = p ∙ ap (λ (t : Bool). 1 + from_bool t) e in
           let first : b < 128 = subst (λ n. slice_index (b ∷ c ∷ d ∷ ds) (n - 1) < 128) at m in

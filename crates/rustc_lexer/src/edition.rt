@@ -188,7 +188,7 @@ fn choose_before_2021(rest: &str) -> Token
 
 /// Returns whether the name after the quote at the start of the text is invalid as the name of a lifetime.
 fn has_bad_name(text: &str) -> bool
-    ensures { result ≡ spec.has_marked_name (chars text.now) }
+    ensures { result ≡ spec.has_bad_name (chars text.now) }
 {
     let Some((_, name)) = split_first(text) else {
         return false;

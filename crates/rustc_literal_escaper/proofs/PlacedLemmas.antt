@@ -119,16 +119,16 @@ skip space e from left (r ∷ places) made = (
   made.0,
   record {
     skipped = 92 ∷ 10 ∷ (space ++ made.1.skipped);
-    marked = made.1.marked;
+    covered = made.1.covered;
     line_ends = (space ∷ made.1.line_ends.0, rw e made.1.line_ends.1, ap (λ (xs : List ℕ). 92 ∷ 10 ∷ (space ++ xs)) made.1.line_ends.2);
     start = (let s = made.1.start in let l = length-append space made.1.skipped in let n = ap length (line-ascii space e) in omega arith);
     end = made.1.end;
-    whole = ap (λ (xs : List ℕ). 92 ∷ 10 ∷ (space ++ xs)) made.1.whole ∙ ap (λ (xs : List ℕ). 92 ∷ 10 ∷ xs) (sym (append_assoc space made.1.skipped (made.1.marked ++ made.0)));
+    whole = ap (λ (xs : List ℕ). 92 ∷ 10 ∷ (space ++ xs)) made.1.whole ∙ ap (λ (xs : List ℕ). 92 ∷ 10 ∷ xs) (sym (append_assoc space made.1.skipped (made.1.covered ++ made.0)));
   },
   made.2,
 )
 
--- its warnings mark no places
+-- its warnings have no places
 if-none : (b : Bool) (i : Item) → is_unit i ≡ false → filter is_unit (if b then i ∷ [] else []) ≡ []
 if-none b i e = grind (arith, common_steps)
 
@@ -145,7 +145,7 @@ none raw = grind (arith, common_steps)
 
 -- an element, and what is made of the text after it
 one-made : (raw : Bool) (from : ℕ) (e : Element) (w next : List ℕ) (items : List Item) → Tells e → IsMadeOf raw (from + bytes w) (encode_utf8_all next) (places_of items) → IsMadeOf raw from (encode_utf8_all (w ++ next)) (places_of (item from e w ∷ items))
-one-made raw from e w next items tells made = rw tells (encode_utf8_all next, record { skipped = []; marked = encode_utf8_all w; line_ends = none raw; start = (omega arith); end = refl; whole = encodes-append w next }, made)
+one-made raw from e w next items tells made = rw tells (encode_utf8_all next, record { skipped = []; covered = encode_utf8_all w; line_ends = none raw; start = (omega arith); end = refl; whole = encodes-append w next }, made)
 
 made : {raw : Bool} {from : ℕ} {s : List ℕ} {items : List Item} → AreItems raw from s items → IsMadeOf raw from (encode_utf8_all s) (places_of items)
 made {raw} g.nothing = none raw

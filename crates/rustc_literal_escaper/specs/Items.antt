@@ -63,11 +63,11 @@ AreLineEnds false bytes =
 pub record IsNext (raw : Bool) (from : ℕ) (left : List ℕ) (place : Range ℕ) (rest : List ℕ) : Type 0
   where
     pub skipped : List ℕ
-    pub marked : List ℕ
+    pub covered : List ℕ
     pub line_ends : AreLineEnds raw skipped
     pub start : place.start ≡ from + length skipped
-    pub end : place.end ≡ place.start + length marked
-    pub whole : left ≡ skipped ++ (marked ++ rest)
+    pub end : place.end ≡ place.start + length covered
+    pub whole : left ≡ skipped ++ (covered ++ rest)
 
 -- the rest consists of the bytes of these ranges, in order, with nothing but skipped line ends
 -- around them

@@ -208,7 +208,7 @@ fn check_string<F: FnMut(Range<usize>, EscapeError)>(src: &str, mode: Mode, call
 
 /// Calls `callback` with each error and warning in the rest of a string of `total` bytes that may have escapes.
 ///
-/// It does what [`Elements::next_fault`] does, but keeps no warning for later, and the compiler makes it shorter.
+/// It does what [`Elements::next_error`] does, but keeps no warning for later, and the compiler makes it shorter.
 #[inline(always)]
 #[tactic(auto, using(crate::specs::laws::Elements::nothing))]
 fn check_escaped<F: FnMut(Range<usize>, EscapeError)>(

@@ -87,7 +87,7 @@ impl<'a> Elements<'a> {
     ///
     /// Returns `None` if nothing more is wrong.
     #[inline(always)]
-    pub(crate) fn next_fault(&mut self, mode: Mode) -> Option<(Range<usize>, EscapeError)>
+    pub(crate) fn next_error(&mut self, mode: Mode) -> Option<(Range<usize>, EscapeError)>
         ensures { TakesFirst (errors_in mode self.old) result (errors_in mode self.new) }
     {
         if let Some((range, element)) = self.next_waiting() {

@@ -19,7 +19,7 @@ use std::ops::Range;
 ///
 /// ```ignore
 /// for (place, error) in Faults::new(r"a\q", Mode::Str) {
-///     mark(place, error);
+///     underline(place, error);
 /// }
 /// ```
 #[derive(Drop)]
@@ -78,14 +78,14 @@ impl<'a> Iterator for Faults<'a> {
         // The mode is known in each arm, which makes its loop short.
         let elements = &mut self.elements;
         match self.mode {
-            Mode::Char => elements.next_fault(Mode::Char),
-            Mode::Byte => elements.next_fault(Mode::Byte),
-            Mode::Str => elements.next_fault(Mode::Str),
-            Mode::ByteStr => elements.next_fault(Mode::ByteStr),
-            Mode::CStr => elements.next_fault(Mode::CStr),
-            Mode::RawStr => elements.next_fault(Mode::RawStr),
-            Mode::RawByteStr => elements.next_fault(Mode::RawByteStr),
-            Mode::RawCStr => elements.next_fault(Mode::RawCStr),
+            Mode::Char => elements.next_error(Mode::Char),
+            Mode::Byte => elements.next_error(Mode::Byte),
+            Mode::Str => elements.next_error(Mode::Str),
+            Mode::ByteStr => elements.next_error(Mode::ByteStr),
+            Mode::CStr => elements.next_error(Mode::CStr),
+            Mode::RawStr => elements.next_error(Mode::RawStr),
+            Mode::RawByteStr => elements.next_error(Mode::RawByteStr),
+            Mode::RawCStr => elements.next_error(Mode::RawCStr),
         }
     }
 }

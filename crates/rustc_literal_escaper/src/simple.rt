@@ -138,7 +138,7 @@ fn simple_end(bytes: &[u8], raw: bool) -> usize
     if bytes[0] == b'\\' {
         return 0;
     }
-    let found = escaped_marks(u8x32::from_slice(bytes));
+    let found = escaped_stops(u8x32::from_slice(bytes));
     if found == 0 {
         return simple_end_by_lanes(bytes, false);
     }
@@ -182,7 +182,7 @@ fn simple_end_by_lanes(bytes: &[u8], raw: bool) -> usize
 {
     let mut end = 0;
     'lanes: while bytes.len() - end >= 32 {
-        let found = marks(u8x32::from_slice(&bytes[end..]), raw);
+        let found = stops(u8x32::from_slice(&bytes[end..]), raw);
         if found != 0 {
             return end + found.trailing_zeros() as usize;
         }
@@ -193,16 +193,16 @@ fn simple_end_by_lanes(bytes: &[u8], raw: bool) -> usize
 
 /// Returns a mask. Bit k is set if lane k is not simple.
 #[inline(always)]
-fn marks(v: u8x32, raw: bool) -> u64
-    ensures { result ≡ mask_l (map (spec.is_mark raw) v) }
+fn stops(v: u8x32, raw: bool) -> u64
+    ensures { result ≡ mask_l (map (spec.is_stop raw) v) }
 {
-    if raw { raw_marks(v) } else { escaped_marks(v) }
+    if raw { raw_stops(v) } else { escaped_stops(v) }
 }
 
 /// Returns a mask for a raw string. Bit k is set if lane k is U+0000, a carriage return or outside ASCII.
 #[inline(always)]
-fn raw_marks(v: u8x32) -> u64
-    ensures { result ≡ mask_l (map (spec.is_mark true) v) }
+fn raw_stops(v: u8x32) -> u64
+    ensures { result ≡ mask_l (map (spec.is_stop true) v) }
 {
     let from_1 = v - u8x32::splat(1);
     (from_1.simd_ge(u8x32::splat(127)) | v.simd_eq(u8x32::splat(b'\r'))).to_bitmask()
@@ -211,8 +211,8 @@ fn raw_marks(v: u8x32) -> u64
 /// Returns a mask for a string that may have escapes. Bit k is set if lane k is one of these, a backslash or a
 /// double quote.
 #[inline(always)]
-fn escaped_marks(v: u8x32) -> u64
-    ensures { result ≡ mask_l (map (spec.is_mark false) v) }
+fn escaped_stops(v: u8x32) -> u64
+    ensures { result ≡ mask_l (map (spec.is_stop false) v) }
 {
     let from_1 = v - u8x32::splat(1);
     (from_1.simd_ge(u8x32::splat(127))

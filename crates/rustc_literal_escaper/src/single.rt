@@ -84,13 +84,13 @@ fn read_other<M: Meaning>(src: &str) -> Result<M::Meant, EscapeError>
     if is_plain(c) {
         return alone(M::of(Element::Plain(c)), tail);
     }
-    read_marked::<M>(c, tail)
+    read_element::<M>(c, tail)
 }
 
 /// Returns what the element that begins with the character `c` stands for, if no text is left after it.
 #[inline(never)]
 #[tactic(auto, using(crate::proofs::WholeLemmas::alone_at))]
-fn read_marked<M: Meaning>(c: char, tail: &str) -> Result<M::Meant, EscapeError>
+fn read_element<M: Meaning>(c: char, tail: &str) -> Result<M::Meant, EscapeError>
     ensures { result ≡ spec.alone (M.meaning (spec.single c (chars tail.now)).0)
         (spec.single c (chars tail.now)).1 }
 {
@@ -100,7 +100,7 @@ fn read_marked<M: Meaning>(c: char, tail: &str) -> Result<M::Meant, EscapeError>
     read_rest::<M>(c, tail)
 }
 
-/// Does what [`read_marked`] does, for the elements that few literals have.
+/// Does what [`read_element`] does, for the elements that few literals have.
 #[inline(never)]
 fn read_rest<M: Meaning>(c: char, tail: &str) -> Result<M::Meant, EscapeError>
     ensures { result ≡ spec.alone (M.meaning (spec.single c (chars tail.now)).0)

@@ -12,7 +12,7 @@ pub(crate) static ROWS: &[Entry<Ways>] = rows! {
     "/*/**/*/" => [(BLOCK, 8)],
     "/* *//* */" => [(BLOCK, 5), (BLOCK, 5)],
     "/** /*! */ */" => [(BlockComment { doc_style: Some(Outer), terminated: true }, 13)],
-    // A mark is part of one opening or closing only.
+    // A star is part of one opening or closing only.
     "/*" => [(OPEN_BLOCK, 2)],
     "/*/" => [(OPEN_BLOCK, 3)],
     "/*/*/" => [(OPEN_BLOCK, 5)],

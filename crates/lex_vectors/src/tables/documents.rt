@@ -15,7 +15,7 @@ pub static KEPT: &[Entry<Role>] = edits! {
         (FRONT, 7), SPACE, (LIFETIME, 2), HASH, (Ident, 4),
     ],
     E2024 "#!a\nb c" (5..5 "d": [0, 2, 2]) => "#!a\nbd c" [SPACE, WORD, SPACE, LETTER],
-    // A shebang line comes with its mark, goes with it, and takes the next line in; a bracket makes it an
+    // A shebang line comes with its `#!`, goes with it, and takes the next line in; a bracket makes it an
     // attribute.
     E2024 "#a\nb" (1..1 "!": [0, 0, 2]) => "#!a\nb" [SPACE, LETTER],
     E2024 "#!a\nb" (0..1 "": [0, 2, 2]) => "!a\nb" [(Bang, 1), LETTER, SPACE, LETTER],

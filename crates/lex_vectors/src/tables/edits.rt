@@ -27,11 +27,11 @@ macro_rules! edits {
         &[$(
             $($($crate::tables::row::Entry::Part($part, 1 $(* $times)?),)+)?
             $($crate::tables::row::Entry::Part($text, 1),)?
-            $crate::tables::row::Entry::Mark($crate::tables::edits::Role::Before(rustc_lexer::Edition::$edition)),
+            $crate::tables::row::Entry::End($crate::tables::edits::Role::Before(rustc_lexer::Edition::$edition)),
             $(
                 $($($crate::tables::row::Entry::Part($new_part, 1 $(* $new_times)?),)+)?
                 $($crate::tables::row::Entry::Part($new, 1),)?
-                $crate::tables::row::Entry::Mark($crate::tables::edits::Role::Edit(
+                $crate::tables::row::Entry::End($crate::tables::edits::Role::Edit(
                     $start,
                     $stop,
                     $crate::tables::edits::counts!($($kept_front, $lexed, $kept_back)?),
@@ -40,7 +40,7 @@ macro_rules! edits {
             $($($($crate::tables::row::Entry::Token($of_each),)* $crate::tables::row::Entry::Part($each, 1 $(* $each_times)?),)+)?
             $($crate::tables::row::Entry::Part($made, 1),)?
             $($crate::tables::row::Entry::Token($token),)*
-            $crate::tables::row::Entry::Mark($crate::tables::edits::Role::After),
+            $crate::tables::row::Entry::End($crate::tables::edits::Role::After),
         )*]
     };
 }
@@ -101,7 +101,7 @@ pub static LONG: &[Entry<Role>] = edits! {
     E2024 "ab cd ef" (3..3 ["/*a " * 300]: [0, 3, 0]) => {"ab " => [], "/*a " * 300 => [], "cd ef" => []} [
         WORD, SPACE, (OPEN_BLOCK, 1205),
     ],
-    // An opening before many tokens, and away again; a mark after many tokens; an emoji less.
+    // An opening before many tokens, and away again; a closing and an opening after many tokens; an emoji less.
     E2024 ["x " * 50_000] (0..0 "/*": [0, 1, 0]) => {"/*" => [], "x " * 50_000 => []} [(OPEN_BLOCK, 100_002)],
     E2024 ["x " * 50_000] (0..0 "/*": [0, 1, 0]) (0..2 "": [0, 100_000, 0]) => {"x " * 50_000 => [LETTER, SPACE]} [],
     E2024 ["x " * 50_000] (100_000..100_000 "*/": [99_998, 4, 0]) => {

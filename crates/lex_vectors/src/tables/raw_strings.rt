@@ -82,7 +82,7 @@ macro_rules! checks {
         &[$(
             $($(Entry::Part($part, 1 $(* $times)?),)+)?
             $(Entry::Part($text, 1),)?
-            Entry::Mark(($prefix_len, $answer)),
+            Entry::End(($prefix_len, $answer)),
         )*]
     };
 }

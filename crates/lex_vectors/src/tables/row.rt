@@ -9,7 +9,7 @@ pub enum Entry<M> {
     /// A token of the text, by kind and length.
     Token((TokenKind, u32)),
     /// The end of the text, and what it is for.
-    Mark(M),
+    End(M),
 }
 
 /// A call that lexes a text.
@@ -82,7 +82,7 @@ macro_rules! rows {
             $($crate::tables::row::Entry::Part($text, 1),)?
             $($crate::tables::row::Entry::Part($name, 1),)?
             $($crate::tables::row::Entry::Token($token),)*
-            $crate::tables::row::Entry::Mark($ways),
+            $crate::tables::row::Entry::End($ways),
         )*]
     };
     ($ways:ident: $($text:tt => $tokens:tt),* $(,)?) => {

@@ -2,15 +2,15 @@
 use Rattle.std.proofs.Common.{ℕ, ◌≤◌, List, length, arith, length-drop}
 use Rattle.std.proofs.lemmas.Grind.{common_steps}
 use Rattle.rustc_lexer.specs.means.BlockComment.{at_closing, at_opening, block_doc_style}
-use Rattle.rustc_lexer.specs.means.BlockGrammar.{Closes, at_mark, nested, past_one}
+use Rattle.rustc_lexer.specs.means.BlockGrammar.{Closes, closing, nested, past_one}
 use Rattle.rustc_lexer.specs.laws.Reach.{IsDecidedBy}
 
--- a mark has two characters, so each closed comment has
+-- `*/` has two characters, so each closed comment has
 pub two_at_least : {s : List ℕ} {n : ℕ} → Closes s n → 2 ≤ n
 two_at_least w0 = grind (arith, common_steps)
 
 pub closes-inside : {s : List ℕ} {n : ℕ} → Closes s n → n ≤ length s
-closes-inside at_mark = omega arith
+closes-inside closing = omega arith
 closes-inside (nested {s} {a} {b} p q) = omega (arith, closes-inside p, closes-inside q, length-drop a s)
 closes-inside (past_one e f p) = omega (arith, closes-inside p)
 

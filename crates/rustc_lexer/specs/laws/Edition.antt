@@ -9,13 +9,13 @@ use Rattle.rustc_lexer.specs.Classes.{bytes, IsText}
 use Rattle.rustc_lexer.specs.GrammarLaws.{reach}
 use Rattle.rustc_lexer.specs.Language.{IsTokenBefore}
 use Rattle.rustc_lexer.specs.LanguageText.{newest, IsTokenIn, kept, pound, ident, lifetime, lifetime_r}
-use Rattle.rustc_lexer.specs.laws.Ident.{marks_ident-decided}
+use Rattle.rustc_lexer.specs.laws.Ident.{begins_hash_ident-decided}
 use Rattle.rustc_lexer.specs.laws.LanguageIn.{Front, first-front, token-read-in}
 use Rattle.rustc_lexer.specs.laws.Language.{token-alike}
 use Rattle.rustc_lexer.specs.laws.Reach.{cut, decided_same}
 use Rattle.rustc_lexer.specs.laws.LanguageFront.{split, split-boundary, split-same, Split}
 use Rattle.rustc_lexer.specs.means.Edition.{first_token_in}
-use Rattle.rustc_lexer.specs.means.Ident.{marks_ident}
+use Rattle.rustc_lexer.specs.means.Ident.{begins_hash_ident}
 use Rattle.rustc_lexer.specs.means.Lexeme.{first_token}
 
 reach-two : (kind : TokenKind) (w : List ℕ) → reach kind w ≤ 2
@@ -30,7 +30,7 @@ in-alike (kept le p) other e = kept le (two-alike p other e)
 in-alike (pound lt) other e = pound lt
 in-alike (ident lt p) other e = ident lt (two-alike p other e)
 in-alike (lifetime lt p) other e = lifetime lt (two-alike p other e)
-in-alike {next = next} (lifetime_r lt goes) other e = lifetime_r lt (decided_same 2 2 marks_ident other next marks_ident-decided (omega arith) e ∙ goes)
+in-alike {next = next} (lifetime_r lt goes) other e = lifetime_r lt (decided_same 2 2 begins_hash_ident other next begins_hash_ident-decided (omega arith) e ∙ goes)
 
 module _ (edition : Edition) where
   -- a text is its first token, and the rest

@@ -1,9 +1,9 @@
 -- How far identifiers look.
 use Rattle.std.proofs.Common.{arith}
 use Rattle.std.proofs.lemmas.Grind.{common_steps}
-use Rattle.rustc_lexer.specs.means.Ident.{marks_ident}
+use Rattle.rustc_lexer.specs.means.Ident.{begins_hash_ident}
 use Rattle.rustc_lexer.specs.laws.Reach.{IsDecidedBy}
 
--- a marked identifier is decided by the hash and the character after it
-pub marks_ident-decided : IsDecidedBy 2 marks_ident
-marks_ident-decided w0 = grind (arith, common_steps)
+-- whether a hash and an identifier are next is decided by the hash and the character after it
+pub begins_hash_ident-decided : IsDecidedBy 2 begins_hash_ident
+begins_hash_ident-decided w0 = grind (arith, common_steps)

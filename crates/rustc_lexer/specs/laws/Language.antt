@@ -17,16 +17,16 @@ use Rattle.rustc_lexer.specs.laws.Choice.{by_test}
 use Rattle.rustc_lexer.specs.laws.LanguageComments.{space-sound, space-read, hash-sound, pound-read, guarded-read, symbol-read, slash-sound, slash-read, line-read, block-read, open-read}
 use Rattle.rustc_lexer.specs.laws.LanguageLifetimes.{quote-sound, lifetime-read, prefix-read, raw_lifetime-read, char-reads, one-reads, name-reads}
 use Rattle.rustc_lexer.specs.laws.LanguageLiterals.{str-sound, byte-sound, byte_str-sound, c_str-sound, raw_str-sound, raw_byte_str-sound, raw_c_str-sound, number-sound, ReadsLiteral, plain-read, with_suffix-read, str-reads, byte-reads, byte_str-reads, c_str-reads, raw_str-reads, raw_byte_str-reads, raw_c_str-reads, number-reads}
-use Rattle.rustc_lexer.specs.laws.LanguageReach.{ends, same, stops, goes, past, literal_reach, reach-literal, suffix-alike, literal-looks, literal-alike, no-hash, known-decided, by_only, marked_word, mark-decided_by}
+use Rattle.rustc_lexer.specs.laws.LanguageReach.{ends, same, stops, goes, past, literal_reach, reach-literal, suffix-alike, literal-looks, literal-alike, no-hash, known-decided, by_only, unknown_k, raw_ident-decided_by}
 use Rattle.rustc_lexer.specs.laws.LanguageRuns.{Sound, letters-start}
-use Rattle.rustc_lexer.specs.laws.LanguageWords.{by_letter, continue-word, no-opening, raw_mark-none, none-raw, ident-sound, invalid-sound, raw_ident-sound, keyword-sound, ident-is_read, prefix-read as word_prefix-read, invalid-read, raw_ident-read, keyword-read}
+use Rattle.rustc_lexer.specs.laws.LanguageWords.{by_letter, continue-word, no-opening, opens_raw-none, none-raw, ident-sound, invalid-sound, raw_ident-sound, keyword-sound, ident-is_read, prefix-read as word_prefix-read, invalid-read, raw_ident-read, keyword-read}
 use Rattle.rustc_lexer.specs.laws.Reach.{cut}
 use Rattle.rustc_lexer.specs.Language as the
 use Rattle.rustc_lexer.specs.Language.{begins_prefixed, IsTokenBefore}
 use Rattle.rustc_lexer.specs.LiteralGrammar.{IsLiteralBefore}
 use Rattle.rustc_lexer.specs.LanguageText.{TheOnly}
 use Rattle.rustc_lexer.specs.GrammarLaws.{reach, BeginsWith}
-use Rattle.rustc_lexer.specs.means.Lexeme.{is_raw_mark, begins_raw, raw_past_or_ident, letter_r, letter_k, letter_b, letter_c, word, past_first, read_by, lexeme}
+use Rattle.rustc_lexer.specs.means.Lexeme.{opens_raw, begins_raw, raw_past_or_ident, letter_r, letter_k, letter_b, letter_c, word, past_first, read_by, lexeme}
 use Rattle.rustc_lexer.specs.means.Literal.{literal}
 use Rattle.rustc_lexer.specs.means.Quoted.{byte_body, byte_str_body, c_str_body}
 use Rattle.rustc_lexer.specs.means.Raw.{raw_literal}
@@ -39,13 +39,13 @@ SoundAll c scan = (s : List ℕ) → Sound c s (scan s)
 
 r-sound : SoundAll 114 letter_r
 r-sound s =
-    grind (arith, common_steps, raw_ident-sound, raw_str-sound, ident-sound, letters-start, raw_mark-none, no-opening)
+    grind (arith, common_steps, raw_ident-sound, raw_str-sound, ident-sound, letters-start, opens_raw-none, no-opening)
 
 k-sound : SoundAll 107 letter_k
 k-sound s = grind (arith, common_steps, keyword-sound, ident-sound, letters-start, no-opening)
 
--- an `r` and its mark, past one letter
-raw-parts : (c : ℕ) (scan : List ℕ → TokenKind × ℕ) → ((s : List ℕ) → NextIs is_raw_mark s → Sound c (114 ∷ s) (scan (114 ∷ s))) → (s : List ℕ) → begins_raw s ≡ true → Sound c s (scan s)
+-- an `r` and what opens a raw string after it, past one letter
+raw-parts : (c : ℕ) (scan : List ℕ → TokenKind × ℕ) → ((s : List ℕ) → NextIs opens_raw s → Sound c (114 ∷ s) (scan (114 ∷ s))) → (s : List ℕ) → begins_raw s ≡ true → Sound c s (scan s)
 raw-parts c scan is w3 e = grind (arith, common_steps, and_parts, eqb-true)
 
 b-sound : SoundAll 98 letter_b
@@ -130,14 +130,14 @@ token-alike {next} (the.block_comment p is) other e = the.block_comment p is
 token-alike {next} (the.open_comment none never is) other e = the.open_comment (ends next other e none) never is
 token-alike {next} (the.ident is stop none) other e = the.ident is (stops _ next other e stop) (stops _ next other e none)
 token-alike {next} (the.unknown_prefix {w} is go free) other e = by_only (bytes_eq w (codes "k")) other next e
-    (λ is_k two. marked_word next other w is_k is (goes _ next other (cut 1 2 other next (omega arith) two) go) two free)
+    (λ is_k two. unknown_k next other w is_k is (goes _ next other (cut 1 2 other next (omega arith) two) go) two free)
     (λ no_k one. the.unknown_prefix is (goes _ next other one go) (grind (arith, common_steps, same, known-decided, or_parts, continue-word, and_parts, or_from, no-hash)))
 token-alike {next} (the.invalid_ident start all wrong stop) other e = the.invalid_ident start all wrong (stops _ next other e stop)
 token-alike {next} (the.raw_ident is stop) other e = the.raw_ident is (stops _ next other e stop)
 token-alike {next} (the.forced_keyword is stop) other e = the.forced_keyword is (stops _ next other e stop)
 token-alike {next} (the.lifetime start all stop quote hash) other e = the.lifetime start all (stops _ next other e stop) (stops _ next other e quote) (λ go. hash (goes _ other next (sym e) go))
 token-alike {next} (the.unknown_prefix_lifetime {c} {w} start all hash free) other e = by_only (bytes_eq (c ∷ w) (codes "r")) other next e
-    (λ is_r two. the.unknown_prefix_lifetime start all (goes _ next other (cut 1 2 other next (omega arith) two) hash) (mark-decided_by (c ∷ w) is_r next other two free))
+    (λ is_r two. the.unknown_prefix_lifetime start all (goes _ next other (cut 1 2 other next (omega arith) two) hash) (raw_ident-decided_by (c ∷ w) is_r next other two free))
     (λ no_r one. the.unknown_prefix_lifetime start all (goes _ next other one hash) (no-hash 114 c w other all no_r))
 token-alike {next} (the.raw_lifetime is stop) other e = the.raw_lifetime is (stops _ next other e stop)
 token-alike {next} (the.literal {kind} {w} is) other far =

@@ -6,10 +6,10 @@ use Rattle.std.proofs.lemmas.List.{append-nil}
 use Rattle.std.proofs.lemmas.Grind.{common_steps}
 use Rattle.rustc_lexer.specs.{DocStyle, TokenKind, Outer, Inner, LineComment, BlockComment, Whitespace, GuardedStrPrefix, Pound, Slash}
 use Rattle.rustc_lexer.specs.means.BlockComment.{at_closing, at_opening, block_doc_style, block_comment_to, block_comment, comment_end}
-use Rattle.rustc_lexer.specs.means.BlockGrammar.{Closes as ClosesIn, at_mark, nested as nested_in, past_one}
+use Rattle.rustc_lexer.specs.means.BlockGrammar.{Closes as ClosesIn, closing, nested as nested_in, past_one}
 use Rattle.rustc_lexer.specs.Classes.{is_among, is_whitespace, NextNotIn, AreAll, NextIsNot, is_inline}
 use Rattle.rustc_lexer.specs.means.Comment.{line_doc_style, line_comment, slash}
-use Rattle.rustc_lexer.specs.means.Hash.{is_guarded_mark, hash}
+use Rattle.rustc_lexer.specs.means.Hash.{opens_guarded, hash}
 use Rattle.rustc_lexer.specs.laws.BlockComment.{two_at_least, closes-inside, at_closing_decided, at_opening_decided, style_decided}
 use Rattle.rustc_lexer.specs.laws.BlockGrammar.{allowed, comment_end-found}
 use Rattle.rustc_lexer.specs.laws.Choice.{by_test}
@@ -29,11 +29,11 @@ pub space-read : (c : ℕ) (w next : List ℕ) → AreAll is_whitespace (c ∷ w
 space-read c w next all stop = grind (arith, common_steps, and_parts, read-first, chooses-space, run_len-here)
 
 pub hash-sound : (s : List ℕ) → Sound 35 s (hash s)
-hash-sound s = by_test (Sound 35 s) (next_is is_guarded_mark s) (after 1 (gives GuardedStrPrefix) s) (gives Pound s) (at_mark_here s) (λ e. the.pound e)
+hash-sound s = by_test (Sound 35 s) (next_is opens_guarded s) (after 1 (gives GuardedStrPrefix) s) (gives Pound s) (guarded_here s) (λ e. the.pound e)
   where
-    at_mark_here : (s : List ℕ) → next_is is_guarded_mark s ≡ true → Sound 35 s (after 1 (gives GuardedStrPrefix) s)
-    at_mark_here [] e = absurd (true≢false (sym e))
-    at_mark_here (d ∷ s) e = the.guarded_prefix e
+    guarded_here : (s : List ℕ) → next_is opens_guarded s ≡ true → Sound 35 s (after 1 (gives GuardedStrPrefix) s)
+    guarded_here [] e = absurd (true≢false (sym e))
+    guarded_here (d ∷ s) e = the.guarded_prefix e
 
 pub pound-read : (next : List ℕ) → NextNotIn (codes "\"#") next → Read Pound 1 (35 ∷ next)
 pound-read next stop = read-first 35 hash next Pound 0 1 chooses-hash (rw stop refl) refl
@@ -95,7 +95,7 @@ closes-two w0 = grind (arith, common_steps, length-append)
 
 -- what the text has closes the comment in the text
 closes-in : {w : List ℕ} → IsCommentRest w → (next : List ℕ) → ClosesIn (w ++ next) (length w)
-closes-in the.closing next = at_mark
+closes-in the.closing next = closing
 closes-in (the.nested {v} {w} p q) next =
     let text : v ++ (w ++ next) ≡ v ++ w ++ next = sym (append_assoc v w next) in
     let sum : 2 + (length v + length w) ≡ suc (suc (length (v ++ w))) = omega (arith, length-append v w) in
@@ -110,7 +110,7 @@ closes-in (the.other {c} {w} e f p) next =
 
 -- and the other way
 closes-text : {s : List ℕ} {n : ℕ} → ClosesIn s n → IsCommentRest (take n s)
-closes-text at_mark = the.closing
+closes-text closing = the.closing
 closes-text (nested_in {s} {a} {b} p q) =
     let two : 2 + (a + b) ≡ suc (suc (a + b)) = omega arith in
     let text : 47 ∷ 42 ∷ take a s ++ take b (drop a s) ≡ take (2 + (a + b)) (47 ∷ 42 ∷ s) = ap (λ (xs : List ℕ). 47 ∷ 42 ∷ xs) (sym (take-add a b s)) ∙ ap (λ (n : ℕ). take n (47 ∷ 42 ∷ s)) (sym two) in

@@ -8,7 +8,7 @@ use Rattle.std.proofs.lemmas.Grind.{common_steps}
 use Rattle.rustc_lexer.specs.{Edition, Token, TokenKind, Ident, UnknownPrefix, UnknownPrefixLifetime, RawLifetime, Lifetime, GuardedStrPrefix, Pound}
 use Rattle.rustc_lexer.specs.Classes.{is_among, is_id_continue, is_ident, is_word_continue, is_word_start, begins_ident_after, AreAll, NextIs, bytes, IsText, is_bad_name}
 use Rattle.rustc_lexer.specs.LanguageText.{year, lexed_since, newest, IsTokenIn, kept, pound, ident, lifetime, lifetime_r}
-use Rattle.rustc_lexer.specs.means.Edition.{token, has_marked_name, before_2024, before_2021, changed, first_token_in}
+use Rattle.rustc_lexer.specs.means.Edition.{token, has_bad_name, before_2024, before_2021, changed, first_token_in}
 use Rattle.rustc_lexer.specs.Language as the
 use Rattle.rustc_lexer.specs.Language.{IsTokenBefore}
 use Rattle.rustc_lexer.specs.means.Lexeme.{past_first, lexeme, first_token, symbols, symbol_kind}
@@ -16,7 +16,7 @@ use Rattle.rustc_lexer.specs.means.Scan.{bytes_of, next_is, run_len}
 use Rattle.rustc_lexer.specs.laws.Choice.{by_either, by_symbol}
 use Rattle.rustc_lexer.specs.laws.Language.{lexeme-sound}
 use Rattle.rustc_lexer.specs.laws.LanguageRuns.{run_len-here}
-use Rattle.rustc_lexer.specs.laws.LanguageWords.{marked-sound}
+use Rattle.rustc_lexer.specs.laws.LanguageWords.{hash_ident-sound}
 use Rattle.rustc_lexer.specs.laws.LanguageFront.{empty-text, first-is}
 use Rattle.rustc_lexer.specs.laws.LanguageLifetimes.{hash-stops}
 
@@ -62,12 +62,12 @@ view whole = other refl
 pub unhashed : {next : List ℕ} {kind : TokenKind} {c : ℕ} {w : List ℕ} → IsTokenBefore next kind (c ∷ w) → c ≢ 35 → (len : ℕ) → before_2024 kind len ≡ token kind len
 unhashed p none len = grind (arith, common_steps, view, kept_2021)
 
--- whether a name is marked
-name-marked : (c : ℕ) (w next : List ℕ) → AreAll is_word_continue w → NextIs (is_among (codes "#")) next → has_marked_name (39 ∷ c ∷ w ++ next) ≡ is_bad_name (c ∷ w)
-name-marked c w next all hash = grind (arith, common_steps, run_len-here, hash-stops, take-append_seam)
+-- whether a name is invalid
+name-bad : (c : ℕ) (w next : List ℕ) → AreAll is_word_continue w → NextIs (is_among (codes "#")) next → has_bad_name (39 ∷ c ∷ w ++ next) ≡ is_bad_name (c ∷ w)
+name-bad c w next all hash = grind (arith, common_steps, run_len-here, hash-stops, take-append_seam)
 
-lifetime-marked : {next : List ℕ} {kind : TokenKind} {c : ℕ} {w : List ℕ} → View next kind (39 ∷ c ∷ w) → kind ≡ UnknownPrefixLifetime → has_marked_name (39 ∷ c ∷ w ++ next) ≡ is_bad_name (c ∷ w)
-lifetime-marked w0 w1 = grind (arith, common_steps, name-marked)
+lifetime-bad : {next : List ℕ} {kind : TokenKind} {c : ℕ} {w : List ℕ} → View next kind (39 ∷ c ∷ w) → kind ≡ UnknownPrefixLifetime → has_bad_name (39 ∷ c ∷ w ++ next) ≡ is_bad_name (c ∷ w)
+lifetime-bad w0 w1 = grind (arith, common_steps, name-bad)
 
 -- ---- a token of an edition is what is read in it
 
@@ -86,7 +86,7 @@ IsRawBefore next w = IsTokenBefore next RawLifetime (39 ∷ 114 ∷ w)
 raw-first : (next text : List ℕ) → chars text ≡ 39 ∷ 114 ∷ next → begins_ident_after (codes "#") next ≡ true → (first_token text).kind ≡ RawLifetime
 raw-first next text e goes =
     let n : ℕ = 2 + run_len is_id_continue (drop 2 next) in
-    ap (λ (t : Token). t.kind) (first-is (marked-sound IsRawBefore (λ w rest is stop. the.raw_lifetime is stop) next goes) text (e ∙ ap (λ (u : List ℕ). 39 ∷ 114 ∷ u) (sym (take-append-drop n next))))
+    ap (λ (t : Token). t.kind) (first-is (hash_ident-sound IsRawBefore (λ w rest is stop. the.raw_lifetime is stop) next goes) text (e ∙ ap (λ (u : List ℕ). 39 ∷ 114 ∷ u) (sym (take-append-drop n next))))
 
 pub token-read-in : {edition : Edition} {next : List ℕ} {kind : TokenKind} {c : ℕ} {w : List ℕ} → IsTokenIn edition next kind (c ∷ w) → (text : List ℕ) → chars text ≡ c ∷ w ++ next → first_token_in edition text ≡ token kind (bytes (c ∷ w))
 token-read-in {edition} {next} {kind} {c} {w} (kept le p) text e = ap (changed edition (chars text)) (first-is p text e) ∙ keeps edition (chars text) kind (bytes (c ∷ w)) le
@@ -103,7 +103,7 @@ token-read-in {edition} {next} (pound lt) text e = by_next next e ∙ ap (token 
 token-read-in {edition} {next} {kind} {c} {w} (ident lt p) text e = ap (changed edition (chars text)) (first-is p text e) ∙ before edition (chars text) (token UnknownPrefix (bytes (c ∷ w))) lt
 token-read-in {edition} {next} (lifetime {c} {w} lt p) text e =
     ap (changed edition (chars text)) (first-is p text e) ∙ (before edition (chars text) (token UnknownPrefixLifetime (bytes (39 ∷ c ∷ w))) lt
-    ∙ ap (λ (b : Bool). token (Lifetime b) (bytes (39 ∷ c ∷ w))) (ap has_marked_name e ∙ lifetime-marked (view p) refl))
+    ∙ ap (λ (b : Bool). token (Lifetime b) (bytes (39 ∷ c ∷ w))) (ap has_bad_name e ∙ lifetime-bad (view p) refl))
 token-read-in {edition} {next} (lifetime_r lt goes) text e =
     before edition (chars text) (first_token text) lt ∙ (ap (λ (k : TokenKind). before_2021 (chars text) k (first_token text).len) (raw-first next text e goes) ∙ ap (token (Lifetime false)) (sym r-two))
 
@@ -142,7 +142,7 @@ fronts {next} edition (cut_hash {c}) p = by_year 2024 (year edition) (λ le. kee
 fronts {next} edition (cut_raw {w} is) p = by_year 2021 (year edition) (λ le. keep edition next RawLifetime 39 (114 ∷ 35 ∷ w) le p)
     (λ lt. front-is (Lifetime false) 39 (114 ∷ []) (35 ∷ w ++ next) refl (before edition (39 ∷ 114 ∷ 35 ∷ w ++ next) (token RawLifetime (bytes (39 ∷ 114 ∷ 35 ∷ w))) lt ∙ ap (token (Lifetime false)) (sym r-two)) (lifetime_r lt (goes-name w next is)))
 fronts {next} edition (name {c} {w} start all hash) p = by_year 2021 (year edition) (λ le. keep edition next UnknownPrefixLifetime 39 (c ∷ w) le p)
-    (λ lt. front-is (Lifetime (is_bad_name (c ∷ w))) 39 (c ∷ w) next refl (before edition (39 ∷ c ∷ w ++ next) (token UnknownPrefixLifetime (bytes (39 ∷ c ∷ w))) lt ∙ ap (λ (b : Bool). token (Lifetime b) (bytes (39 ∷ c ∷ w))) (name-marked c w next all hash)) (lifetime lt p))
+    (λ lt. front-is (Lifetime (is_bad_name (c ∷ w))) 39 (c ∷ w) next refl (before edition (39 ∷ c ∷ w ++ next) (token UnknownPrefixLifetime (bytes (39 ∷ c ∷ w))) lt ∙ ap (λ (b : Bool). token (Lifetime b) (bytes (39 ∷ c ∷ w))) (name-bad c w next all hash)) (lifetime lt p))
 fronts {next} {kind} {c} {w} edition prefix p = by_year 2021 (year edition) (λ le. keep edition next UnknownPrefix c w le p)
     (λ lt. front-is Ident c w next refl (before edition (c ∷ w ++ next) (token UnknownPrefix (bytes (c ∷ w))) lt) (ident lt p))
 

@@ -11,12 +11,12 @@ use Rattle.unicode_ident.proofs.Computing.{unicode_ident}
 use Rattle.rustc_lexer.specs.{TokenKind, Char, Literal, Lifetime, RawLifetime, UnknownPrefixLifetime}
 use Rattle.rustc_lexer.specs.Classes.{is_among, is_id_continue, is_ident, NextIn, is_word_continue, is_word_start, is_name_start, begins_ident_after, AreAll, NextIs, NextIsNot, bytes, ends_prefix, is_bad_name}
 use Rattle.rustc_lexer.specs.Tables.{is_emoji, emoji_ranges}
-use Rattle.rustc_lexer.specs.means.Ident.{marks_ident}
+use Rattle.rustc_lexer.specs.means.Ident.{begins_hash_ident}
 use Rattle.rustc_lexer.specs.laws.Choice.{by_either, by_test}
 use Rattle.rustc_lexer.specs.laws.LanguageLiterals.{bytes-append, bytes-one, literal-sound, past-read, ReadsLiteral}
 use Rattle.rustc_lexer.specs.laws.LanguageQuoted.{single-read, single-sound}
-use Rattle.rustc_lexer.specs.laws.LanguageRuns.{run_len-here, run-stops, either-way, other_than, Sound, Read, pair, read-first, begins-next, chooses-quote, word-no_mark, mark-stops, word_start-no_digit}
-use Rattle.rustc_lexer.specs.laws.LanguageWords.{marked-sound}
+use Rattle.rustc_lexer.specs.laws.LanguageRuns.{run_len-here, run-stops, either-way, other_than, Sound, Read, pair, read-first, begins-next, chooses-quote, word-no_prefix_end, prefix_end-stops, word_start-no_digit}
+use Rattle.rustc_lexer.specs.laws.LanguageWords.{hash_ident-sound}
 use Rattle.rustc_lexer.specs.laws.Lifetime.{raw, quoted_name, unquoted_name}
 use Rattle.rustc_lexer.specs.laws.Reach.{run_all}
 use Rattle.rustc_lexer.specs.Language as the
@@ -34,10 +34,10 @@ backslash-none : (is_name_start 92 ≡ false) × (is_name_start 47 ≡ false) ×
 unfolding unicode_ident is_emoji emoji_ranges
 backslash-none = (refl, refl, refl)
 
--- a word does not begin with a mark, nor does what follows it
+-- a word does not begin with what ends a prefix, nor does what follows it
 word-begins : (d : ℕ) (w next : List ℕ) → ends_prefix d ≡ true → AreAll is_word_continue w → begins (d ∷ []) next ≡ false → begins (d ∷ []) (w ++ next) ≡ false
-word-begins d [] next mark all none = none
-word-begins d (c ∷ w) next mark all none = false_from_ne_true (begins (d ∷ []) (c ∷ w ++ next)) (λ e. either-way (ends_prefix c) (ap ends_prefix (eqb-true c d (and_parts (c == d) true e).0) ∙ mark) (word-no_mark c (and_parts (is_word_continue c) (list_all is_word_continue w) all).0))
+word-begins d [] next is_end all none = none
+word-begins d (c ∷ w) next is_end all none = false_from_ne_true (begins (d ∷ []) (c ∷ w ++ next)) (λ e. either-way (ends_prefix c) (ap ends_prefix (eqb-true c d (and_parts (c == d) true e).0) ∙ is_end) (word-no_prefix_end c (and_parts (is_word_continue c) (list_all is_word_continue w) all).0))
 
 -- ---- lifetimes
 
@@ -60,7 +60,7 @@ lifetime-read c w next start all stop quote hash =
     ∙ pair _ _ _ _ refl (omega arith)
 
 pub hash-stops : (next : List ℕ) → NextIs (is_among (codes "#")) next → NextIsNot is_word_continue next
-hash-stops next w1 = grind (arith, common_steps, mark-stops, or_left)
+hash-stops next w1 = grind (arith, common_steps, prefix_end-stops, or_left)
 
 hash-no_quote : (next : List ℕ) → begins (codes "#") next ≡ true → begins (codes "'") next ≡ false
 hash-no_quote next w1 = grind (arith, common_steps, eqb-true, and_parts)
@@ -127,9 +127,9 @@ name-sound c s start none no_raw = by_test (λ r. IsLifetime c s (r.0, n + r.1))
 
 raw-lifetime : (c : ℕ) (s : List ℕ) → is_raw c s ≡ true → IsLifetime c s (raw s)
 raw-lifetime c s e =
-    let parts = and_parts (c == 114) (marks_ident s) e in
+    let parts = and_parts (c == 114) (begins_hash_ident s) e in
     let letter : 114 ≡ c = sym (eqb-true c 114 parts.0) in
-    subst (λ (x : ℕ). IsLifetime x s (raw s)) letter (marked-sound (λ next w. IsTokenBefore next RawLifetime (39 ∷ 114 ∷ w)) (λ w next is stop. the.raw_lifetime is stop) s parts.1)
+    subst (λ (x : ℕ). IsLifetime x s (raw s)) letter (hash_ident-sound (λ next w. IsTokenBefore next RawLifetime (39 ∷ 114 ∷ w)) (λ w next is stop. the.raw_lifetime is stop) s parts.1)
 
 -- ---- characters
 
@@ -195,8 +195,8 @@ pub name-reads : (next : List ℕ) (c d : ℕ) (w : List ℕ) → is_name_start 
 name-reads next c d w start all =
     let text : 39 ∷ c ∷ d ∷ w ++ 39 ∷ next ≡ 39 ∷ c ∷ d ∷ w ++ 39 ∷ [] ++ next = ap (λ (u : List ℕ). 39 ∷ c ∷ d ∷ u) (sym (append_assoc w (39 ∷ []) next)) in
     let first_word : is_word_continue d ≡ true = (and_parts (is_word_continue d) (list_all is_word_continue w) all).0 in
-    let none : (d == 39) ≡ false = false_from_ne_true (d == 39) (λ e. either-way (ends_prefix d) (ap ends_prefix (eqb-true d 39 e)) (word-no_mark d first_word)) in
+    let none : (d == 39) ≡ false = false_from_ne_true (d == 39) (λ e. either-way (ends_prefix d) (ap ends_prefix (eqb-true d 39 e)) (word-no_prefix_end d first_word)) in
     let size : 2 + length (encode_utf8_all (c ∷ d ∷ w)) ≡ bytes (39 ∷ c ∷ d ∷ w ++ 39 ∷ []) = omega (arith, bytes-one 39 (c ∷ d ∷ w ++ 39 ∷ []) refl, bytes-append (c ∷ d ∷ w) (39 ∷ []), bytes-one 39 [] refl) in
     subst (λ (s : List ℕ). Read (Literal (Char true) (bytes (39 ∷ c ∷ d ∷ w ++ 39 ∷ []))) (length (39 ∷ c ∷ d ∷ w ++ 39 ∷ []) + 0) s) text
-    (plain-read c (d ∷ w) (39 ∷ next) (Literal (Char true) (2 + length (encode_utf8_all (c ∷ d ∷ w)))) 1 start (rw none refl) (no_raw-word c (d ∷ w) (39 ∷ next) all (λ e. absurd (true≢false (sym e)))) all (mark-stops (39 ∷ next) refl) refl
+    (plain-read c (d ∷ w) (39 ∷ next) (Literal (Char true) (2 + length (encode_utf8_all (c ∷ d ∷ w)))) 1 start (rw none refl) (no_raw-word c (d ∷ w) (39 ∷ next) all (λ e. absurd (true≢false (sym e)))) all (prefix_end-stops (39 ∷ next) refl) refl
     ∙ pair _ _ _ _ (ap (Literal (Char true)) size) (omega (arith, length-append w (39 ∷ []))))

@@ -12,9 +12,9 @@ use Rattle.rustc_lexer.specs.declared.lexemes.raw.RawPrefix.{RawPrefix}
 use Rattle.rustc_lexer.specs.declared.lexemes.raw.RawPrefix.TheVariants.{R, Br, Cr}
 use Rattle.rustc_lexer.specs.{LiteralKind, RawStrError, TokenKind, Byte, Str, ByteStr, CStr, RawStr, RawByteStr, RawCStr, Literal}
 use Rattle.rustc_lexer.specs.Classes.{is_id_start, is_id_continue, begins_ident_after, NextIs, bytes}
-use Rattle.rustc_lexer.specs.means.Ident.{marks_ident}
+use Rattle.rustc_lexer.specs.means.Ident.{begins_hash_ident}
 use Rattle.rustc_lexer.specs.laws.Choice.{by_test}
-use Rattle.rustc_lexer.specs.laws.Ident.{marks_ident-decided}
+use Rattle.rustc_lexer.specs.laws.Ident.{begins_hash_ident-decided}
 use Rattle.rustc_lexer.specs.laws.LanguageQuoted.{double-read, double-sound, single-read, single-sound}
 use Rattle.rustc_lexer.specs.laws.LanguageRaw.{raw-read, raw-sound}
 use Rattle.rustc_lexer.specs.laws.LanguageRuns.{run_len-here, run-stops, either-way, Sound, Read, pair, read-first, sound-after, decided-front, digit-small, letters-start, chooses-word, chooses-number, chooses-str}
@@ -24,7 +24,7 @@ use Rattle.rustc_lexer.specs.Language as the
 use Rattle.rustc_lexer.specs.LiteralGrammar as lit
 use Rattle.rustc_lexer.specs.LiteralGrammar.{hashes, IsDoubleQuoted, IsSingleQuoted, IsRaw, IsLiteralBefore, IsSuffixBefore}
 use Rattle.rustc_lexer.specs.Language.{IsTokenBefore}
-use Rattle.rustc_lexer.specs.means.Lexeme.{is_raw_mark, word}
+use Rattle.rustc_lexer.specs.means.Lexeme.{opens_raw, word}
 use Rattle.rustc_lexer.specs.means.Literal.{Body, suffix_len, suffixed, literal_past, literal}
 use Rattle.rustc_lexer.specs.means.Number.{number_kind, number}
 use Rattle.rustc_lexer.specs.NumberGrammar.{HasNumberForm, IsNumberBefore}
@@ -134,11 +134,11 @@ lettered-reads c d kind scan next t w start one is e =
 accepts : (r : Result ℕ RawStrError) → is_accepted r ≡ is_some (accepted r)
 accepts r = grind (arith, common_steps)
 
--- what marks an identifier in a front of a text marks one in the text
-marks-front : (m : ℕ) (s : List ℕ) → marks_ident (take m s) ≡ true → marks_ident s ≡ true
-marks-front zero s e = absurd (true≢false (sym e))
-marks-front (suc m) [] e = e
-marks-front (suc m) (c ∷ s) e = let parts = and_parts (begins (codes "#") (c ∷ take m s)) _ e in rw (and_parts (c == 35) true parts.0).0 (next_start m s parts.1)
+-- a text begins with a hash and an identifier if a front of it does
+hash_ident-front : (m : ℕ) (s : List ℕ) → begins_hash_ident (take m s) ≡ true → begins_hash_ident s ≡ true
+hash_ident-front zero s e = absurd (true≢false (sym e))
+hash_ident-front (suc m) [] e = e
+hash_ident-front (suc m) (c ∷ s) e = let parts = and_parts (begins (codes "#") (c ∷ take m s)) _ e in rw (and_parts (c == 35) true parts.0).0 (next_start m s parts.1)
   where
     next_start : (m : ℕ) (s : List ℕ) → next_is is_id_start (take m s) ≡ true → next_is is_id_start s ≡ true
     next_start zero s e = absurd (true≢false (sym e))
@@ -148,40 +148,40 @@ marks-front (suc m) (c ∷ s) e = let parts = and_parts (begins (codes "#") (c �
 abbrev taken : List ℕ → ℕ
 taken s = (raw_read 0 s).1
 
-pub raw_str-sound : (s : List ℕ) → NextIs is_raw_mark s → marks_ident s ≡ false → Sound 114 s (raw_literal R s)
-raw_str-sound s mark no_ident =
-    let free : begins_ident_after (codes "#") (take (taken s) s) ≡ false = false_from_ne_true (marks_ident (take (taken s) s)) (λ e. either-way (marks_ident s) (marks-front (taken s) s e) no_ident) in
+pub raw_str-sound : (s : List ℕ) → NextIs opens_raw s → begins_hash_ident s ≡ false → Sound 114 s (raw_literal R s)
+raw_str-sound s opens no_ident =
+    let free : begins_ident_after (codes "#") (take (taken s) s) ≡ false = false_from_ne_true (begins_hash_ident (take (taken s) s)) (λ e. either-way (begins_hash_ident s) (hash_ident-front (taken s) s e) no_ident) in
     literal-sound (114 ∷ []) 1 (RawStr (accepted (raw_read 0 s).0)) (is_accepted (raw_read 0 s).0) (taken s) s (bytes-letter 114 refl)
-    (subst (λ (b : Bool). IsLiteralBefore (drop (taken s) s) (RawStr (accepted (raw_read 0 s).0)) b (114 ∷ take (taken s) s)) (sym (accepts (raw_read 0 s).0)) (lit.raw_str (raw-sound s mark) free))
+    (subst (λ (b : Bool). IsLiteralBefore (drop (taken s) s) (RawStr (accepted (raw_read 0 s).0)) b (114 ∷ take (taken s) s)) (sym (accepts (raw_read 0 s).0)) (lit.raw_str (raw-sound s opens) free))
 
-pub raw_byte_str-sound : (s : List ℕ) → NextIs is_raw_mark s → Sound 98 (114 ∷ s) (after 1 (raw_literal Br) (114 ∷ s))
-raw_byte_str-sound s mark =
+pub raw_byte_str-sound : (s : List ℕ) → NextIs opens_raw s → Sound 98 (114 ∷ s) (after 1 (raw_literal Br) (114 ∷ s))
+raw_byte_str-sound s opens =
     sound-after 98 114 s (raw_literal Br)
     (literal-sound (98 ∷ 114 ∷ []) 2 (RawByteStr (accepted (raw_read 0 s).0)) (is_accepted (raw_read 0 s).0) (taken s) s (bytes-letters 98 114 refl refl)
-    (subst (λ (b : Bool). IsLiteralBefore (drop (taken s) s) (RawByteStr (accepted (raw_read 0 s).0)) b (98 ∷ 114 ∷ take (taken s) s)) (sym (accepts (raw_read 0 s).0)) (lit.raw_byte_str (raw-sound s mark))))
+    (subst (λ (b : Bool). IsLiteralBefore (drop (taken s) s) (RawByteStr (accepted (raw_read 0 s).0)) b (98 ∷ 114 ∷ take (taken s) s)) (sym (accepts (raw_read 0 s).0)) (lit.raw_byte_str (raw-sound s opens))))
 
-pub raw_c_str-sound : (s : List ℕ) → NextIs is_raw_mark s → Sound 99 (114 ∷ s) (after 1 (raw_literal Cr) (114 ∷ s))
-raw_c_str-sound s mark =
+pub raw_c_str-sound : (s : List ℕ) → NextIs opens_raw s → Sound 99 (114 ∷ s) (after 1 (raw_literal Cr) (114 ∷ s))
+raw_c_str-sound s opens =
     sound-after 99 114 s (raw_literal Cr)
     (literal-sound (99 ∷ 114 ∷ []) 2 (RawCStr (accepted (raw_read 0 s).0)) (is_accepted (raw_read 0 s).0) (taken s) s (bytes-letters 99 114 refl refl)
-    (subst (λ (b : Bool). IsLiteralBefore (drop (taken s) s) (RawCStr (accepted (raw_read 0 s).0)) b (99 ∷ 114 ∷ take (taken s) s)) (sym (accepts (raw_read 0 s).0)) (lit.raw_c_str (raw-sound s mark))))
+    (subst (λ (b : Bool). IsLiteralBefore (drop (taken s) s) (RawCStr (accepted (raw_read 0 s).0)) b (99 ∷ 114 ∷ take (taken s) s)) (sym (accepts (raw_read 0 s).0)) (lit.raw_c_str (raw-sound s opens))))
 
 -- what follows the `r`
-guard-mark : (n c : ℕ) (s : List ℕ) → is_raw_mark c ≡ true → NextIs is_raw_mark (hashes n ++ c ∷ s)
-guard-mark n c s w3 = grind (arith, common_steps)
+guard-opens : (n c : ℕ) (s : List ℕ) → opens_raw c ≡ true → NextIs opens_raw (hashes n ++ c ∷ s)
+guard-opens n c s w3 = grind (arith, common_steps)
 
-raw-mark : {next : List ℕ} {o : Option ℕ} {w : List ℕ} → IsRaw next o w → NextIs is_raw_mark (w ++ next)
-raw-mark {next} w1 = grind (arith, common_steps, append_assoc, guard-mark)
+raw-opens : {next : List ℕ} {o : Option ℕ} {w : List ℕ} → IsRaw next o w → NextIs opens_raw (w ++ next)
+raw-opens {next} w1 = grind (arith, common_steps, append_assoc, guard-opens)
 
-whole-marks : (w next : List ℕ) → next ≡ [] → marks_ident (w ++ next) ≡ marks_ident w
-whole-marks w next none = ap (λ (xs : List ℕ). marks_ident (w ++ xs)) none ∙ ap marks_ident (append-nil w)
+whole-hash_ident : (w next : List ℕ) → next ≡ [] → begins_hash_ident (w ++ next) ≡ begins_hash_ident w
+whole-hash_ident w next none = ap (λ (xs : List ℕ). begins_hash_ident (w ++ xs)) none ∙ ap begins_hash_ident (append-nil w)
 
-raw-marks : {next : List ℕ} {o : Option ℕ} {w : List ℕ} → IsRaw next o w → marks_ident (w ++ next) ≡ marks_ident w
-raw-marks {next} (lit.closed n w le lacks) = decided-front 2 marks_ident marks_ident-decided (hashes n ++ (34 ∷ w ++ 34 ∷ hashes n)) next (omega (arith, length-append (hashes n) (34 ∷ w ++ 34 ∷ hashes n), length-append w (34 ∷ hashes n)))
-raw-marks {next} (lit.too_many n w le lacks) = decided-front 2 marks_ident marks_ident-decided (hashes n ++ (34 ∷ w ++ 34 ∷ hashes n)) next (omega (arith, length-append (hashes n) (34 ∷ w ++ 34 ∷ hashes n), length-append w (34 ∷ hashes n)))
-raw-marks {next} (lit.unclosed n w none lacks) = whole-marks (hashes n ++ 34 ∷ w) next none
-raw-marks {next} (lit.no_quote n c out) = decided-front 2 marks_ident marks_ident-decided (hashes (suc n) ++ c ∷ []) next (omega (arith, length-append (hashes n) (c ∷ [])))
-raw-marks {next} (lit.no_more n none) = whole-marks (hashes (suc n)) next none
+raw-hash_ident : {next : List ℕ} {o : Option ℕ} {w : List ℕ} → IsRaw next o w → begins_hash_ident (w ++ next) ≡ begins_hash_ident w
+raw-hash_ident {next} (lit.closed n w le lacks) = decided-front 2 begins_hash_ident begins_hash_ident-decided (hashes n ++ (34 ∷ w ++ 34 ∷ hashes n)) next (omega (arith, length-append (hashes n) (34 ∷ w ++ 34 ∷ hashes n), length-append w (34 ∷ hashes n)))
+raw-hash_ident {next} (lit.too_many n w le lacks) = decided-front 2 begins_hash_ident begins_hash_ident-decided (hashes n ++ (34 ∷ w ++ 34 ∷ hashes n)) next (omega (arith, length-append (hashes n) (34 ∷ w ++ 34 ∷ hashes n), length-append w (34 ∷ hashes n)))
+raw-hash_ident {next} (lit.unclosed n w none lacks) = whole-hash_ident (hashes n ++ 34 ∷ w) next none
+raw-hash_ident {next} (lit.no_quote n c out) = decided-front 2 begins_hash_ident begins_hash_ident-decided (hashes (suc n) ++ c ∷ []) next (omega (arith, length-append (hashes n) (c ∷ [])))
+raw-hash_ident {next} (lit.no_more n none) = whole-hash_ident (hashes (suc n)) next none
 
 -- the body of a literal, from what is read of it
 raw-body : (kind : Option ℕ → LiteralKind) (next : List ℕ) (o : Option ℕ) (w : List ℕ) → IsRaw next o w → raw_body kind (w ++ next) ≡ (record { kind = kind o; takes_suffix = is_some o }, length w)
@@ -189,9 +189,9 @@ raw-body kind next o w q = grind (arith, common_steps, accepts, raw-read)
 
 pub raw_str-reads : (next : List ℕ) (o : Option ℕ) (w : List ℕ) → IsRaw next o w → begins_ident_after (codes "#") w ≡ false → ReadsLiteral next (RawStr o) (is_some o) (114 ∷ w)
 raw_str-reads next o w q free =
-    let no_ident : marks_ident (w ++ next) ≡ false = raw-marks q ∙ free in
+    let no_ident : begins_hash_ident (w ++ next) ≡ false = raw-hash_ident q ∙ free in
     read-first 114 (word 114) (w ++ next) (Literal (RawStr o) (bytes (114 ∷ w))) (length w + suffixed (is_some o) next) _ (chooses-word 114 letters-start.0)
-    (rw (no_ident, raw-mark q) (past-read (114 ∷ []) w next 1 (RawStr o) (is_some o) (raw_body RawStr (w ++ next)) (raw-body RawStr next o w q) (bytes-letter 114 refl))) (omega arith)
+    (rw (no_ident, raw-opens q) (past-read (114 ∷ []) w next 1 (RawStr o) (is_some o) (raw_body RawStr (w ++ next)) (raw-body RawStr next o w q) (bytes-letter 114 refl))) (omega arith)
 
 raw_past-reads : (c : ℕ) (prefix : RawPrefix) (next : List ℕ) (o : Option ℕ) (w : List ℕ) → is_id_start c ≡ true → len_utf8 c ≡ 1 → prefix_len prefix ≡ 2 → word c (114 ∷ w ++ next) ≡ after 1 (raw_literal prefix) (114 ∷ w ++ next) → IsRaw next o w
     → ReadsLiteral next (prefix_kind prefix o) (is_some o) (c ∷ 114 ∷ w)
@@ -236,7 +236,7 @@ pub c_str-reads : {next : List ℕ} (t : Bool) (w : List ℕ) → IsDoubleQuoted
 c_str-reads {next} t w q = lettered-reads 99 34 CStr double_quoted_string next t w letters-start.3 refl refl (double-read q)
 
 pub raw_byte_str-reads : {next : List ℕ} (o : Option ℕ) (w : List ℕ) → IsRaw next o w → ReadsLiteral next (RawByteStr o) (is_some o) (98 ∷ 114 ∷ w)
-raw_byte_str-reads {next} o w q = let mark : NextIs is_raw_mark (w ++ next) = raw-mark q in raw_past-reads 98 Br next o w letters-start.2 refl refl (rw mark refl) q
+raw_byte_str-reads {next} o w q = let opens : NextIs opens_raw (w ++ next) = raw-opens q in raw_past-reads 98 Br next o w letters-start.2 refl refl (rw opens refl) q
 
 pub raw_c_str-reads : {next : List ℕ} (o : Option ℕ) (w : List ℕ) → IsRaw next o w → ReadsLiteral next (RawCStr o) (is_some o) (99 ∷ 114 ∷ w)
-raw_c_str-reads {next} o w q = let mark : NextIs is_raw_mark (w ++ next) = raw-mark q in raw_past-reads 99 Cr next o w letters-start.3 refl refl (rw mark refl) q
+raw_c_str-reads {next} o w q = let opens : NextIs opens_raw (w ++ next) = raw-opens q in raw_past-reads 99 Cr next o w letters-start.3 refl refl (rw opens refl) q

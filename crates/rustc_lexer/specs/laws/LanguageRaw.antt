@@ -10,7 +10,7 @@ use Rattle.rustc_lexer.specs.laws.LanguageRuns.{either-way, pair, parted, run-st
 use Rattle.rustc_lexer.specs.LiteralGrammar as lit
 use Rattle.rustc_lexer.specs.LiteralGrammar.{hashes, NoQuoteWith, IsRaw}
 use Rattle.rustc_lexer.specs.means.Least.{one_more}
-use Rattle.rustc_lexer.specs.means.Lexeme.{is_raw_mark}
+use Rattle.rustc_lexer.specs.means.Lexeme.{opens_raw}
 use Rattle.rustc_lexer.specs.means.Raw.{is_hash, is_quote, hash_run, closes, close, hash_count, raw_closed, raw_text, raw_starter, raw_read, accepted}
 
 -- ---- hashes
@@ -193,19 +193,19 @@ past-quote n u (found w z lacks whole) = by_either (nat_le n 255)
     seen o e = ap raw_seen (sym text) ∙ closed-seen n w z o lacks e
 past-quote n u (lost lacks) = parted IsRaw (hashes n ++ 34 ∷ u) [] (hashes n ++ 34 ∷ u) None _ (append-nil (hashes n ++ 34 ∷ u)) (unclosed-seen n u lacks) (lit.unclosed n u refl lacks)
 
-past-guard : (n : ℕ) (v : List ℕ) → NextIsNot is_hash v → NextIs is_raw_mark (hashes n ++ v) → IsRead (hashes n ++ v)
-past-guard zero [] stop mark = absurd (true≢false (sym mark))
-past-guard (suc n) [] stop mark = subst IsRead (sym (append-nil (hashes (suc n)))) (parted IsRaw (hashes (suc n)) [] (hashes (suc n)) None _ (append-nil (hashes (suc n))) (no_more-seen (suc n)) (lit.no_more n refl))
-past-guard n (c ∷ u) stop mark = by_either (c == 34)
+past-guard : (n : ℕ) (v : List ℕ) → NextIsNot is_hash v → NextIs opens_raw (hashes n ++ v) → IsRead (hashes n ++ v)
+past-guard zero [] stop opens = absurd (true≢false (sym opens))
+past-guard (suc n) [] stop opens = subst IsRead (sym (append-nil (hashes (suc n)))) (parted IsRaw (hashes (suc n)) [] (hashes (suc n)) None _ (append-nil (hashes (suc n))) (no_more-seen (suc n)) (lit.no_more n refl))
+past-guard n (c ∷ u) stop opens = by_either (c == 34)
     (λ e. subst (λ (x : ℕ). IsRead (hashes n ++ x ∷ u)) (sym (eqb-true c 34 e)) (past-quote n u (closing n u)))
-    (λ e. not_quote n e mark)
+    (λ e. not_quote n e opens)
   where
-    not_quote : (n : ℕ) → (c == 34) ≡ false → NextIs is_raw_mark (hashes n ++ c ∷ u) → IsRead (hashes n ++ c ∷ u)
-    not_quote zero e mark = absurd (either-way (is_raw_mark c) mark (or_from (c == 35) _ stop (or_from (c == 34) false e refl)))
-    not_quote (suc n) e mark =
+    not_quote : (n : ℕ) → (c == 34) ≡ false → NextIs opens_raw (hashes n ++ c ∷ u) → IsRead (hashes n ++ c ∷ u)
+    not_quote zero e opens = absurd (either-way (opens_raw c) opens (or_from (c == 35) _ stop (or_from (c == 34) false e refl)))
+    not_quote (suc n) e opens =
         let out : is_among (codes "\"#") c ≡ false = or_from (c == 34) _ e (or_from (c == 35) false stop refl) in
         parted IsRaw (hashes (suc n) ++ c ∷ []) u (hashes (suc n) ++ c ∷ u) None _ (append_assoc (hashes (suc n)) (c ∷ []) u)
         (ap raw_seen (sym (append_assoc (hashes (suc n)) (c ∷ []) u)) ∙ no_quote-seen (suc n) c u out) (lit.no_quote n c out)
 
-pub raw-sound : (s : List ℕ) → NextIs is_raw_mark s → IsRaw (drop (raw_seen s).1 s) (raw_seen s).0 (take (raw_seen s).1 s)
-raw-sound s mark = let g = guarded s in subst IsRead g.whole (past-guard g.count g.left g.stops (subst (λ (xs : List ℕ). NextIs is_raw_mark xs) (sym g.whole) mark))
+pub raw-sound : (s : List ℕ) → NextIs opens_raw s → IsRaw (drop (raw_seen s).1 s) (raw_seen s).0 (take (raw_seen s).1 s)
+raw-sound s opens = let g = guarded s in subst IsRead g.whole (past-guard g.count g.left g.stops (subst (λ (xs : List ℕ). NextIs opens_raw xs) (sym g.whole) opens))

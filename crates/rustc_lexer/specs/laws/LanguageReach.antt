@@ -16,10 +16,10 @@ use Rattle.rustc_lexer.specs.NumberGrammar as number
 use Rattle.rustc_lexer.specs.NumberGrammar.{HasNumberForm, IsNumberBefore}
 use Rattle.rustc_lexer.specs.means.Scan.{begins, next_is}
 use Rattle.rustc_lexer.specs.laws.LanguageLiterals.{HasDigit, number-digit}
-use Rattle.rustc_lexer.specs.laws.LanguageRuns.{word-no_mark}
+use Rattle.rustc_lexer.specs.laws.LanguageRuns.{word-no_prefix_end}
 use Rattle.rustc_lexer.specs.laws.LanguageLifetimes.{end-stops}
-use Rattle.rustc_lexer.specs.laws.Ident.{marks_ident-decided}
-use Rattle.rustc_lexer.specs.means.Ident.{marks_ident}
+use Rattle.rustc_lexer.specs.laws.Ident.{begins_hash_ident-decided}
+use Rattle.rustc_lexer.specs.means.Ident.{begins_hash_ident}
 use Rattle.rustc_lexer.specs.laws.NumberLongest.{number-looks, number_reach, number-alike}
 use Rattle.rustc_lexer.specs.laws.Reach.{begins-decided, cut, decided_same, next_is-decided}
 
@@ -143,28 +143,28 @@ literal-alike {next} (lit.raw_c_str q) s other e = lit.raw_c_str (raw-alike q ot
 pub no-hash : (d c : ℕ) (w s : List ℕ) → AreAll is_word_continue w → bytes_eq (c ∷ w) (d ∷ []) ≡ false → begins_ident_after (d ∷ 35 ∷ []) (c ∷ w ++ s) ≡ false
 no-hash d c [] s all e = rw (sym (and-true (c == d)) ∙ e) refl
 no-hash d c (x ∷ w) s all e =
-    let none : (x == 35) ≡ false = (or_parts (x == 35) _ (word-no_mark x (and_parts (is_word_continue x) (list_all is_word_continue w) all).0)).0 in
+    let none : (x == 35) ≡ false = (or_parts (x == 35) _ (word-no_prefix_end x (and_parts (is_word_continue x) (list_all is_word_continue w) all).0)).0 in
     rw (none, and-false (c == d)) refl
 
--- a known prefix ends with its mark, and is decided by that: letters, and then any character of a mark
-mark-decided : (letters w : List ℕ) (m c : ℕ) (u v : List ℕ) → list_all is_word_continue letters ≡ true → ends_prefix c ≡ true → begins (letters ++ (m ∷ [])) (w ++ c ∷ v) ≡ begins (letters ++ (m ∷ [])) (w ++ c ∷ u)
-mark-decided [] [] m c u v all mark = refl
-mark-decided [] (x ∷ w) m c u v all mark = refl
-mark-decided (l ∷ ls) [] m c u v all mark = grind (arith, common_steps, eqb-true, word-no_mark, and_parts)
-mark-decided (l ∷ ls) (x ∷ w) m c u v all mark = ap (λ (b : Bool). (x == l) && b) (mark-decided ls w m c u v (and_parts (is_word_continue l) (list_all is_word_continue ls) all).1 mark)
+-- a known prefix is decided by what ends it: letters, and then any character that ends a prefix
+prefix_end-decided : (letters w : List ℕ) (m c : ℕ) (u v : List ℕ) → list_all is_word_continue letters ≡ true → ends_prefix c ≡ true → begins (letters ++ (m ∷ [])) (w ++ c ∷ v) ≡ begins (letters ++ (m ∷ [])) (w ++ c ∷ u)
+prefix_end-decided [] [] m c u v all is_end = refl
+prefix_end-decided [] (x ∷ w) m c u v all is_end = refl
+prefix_end-decided (l ∷ ls) [] m c u v all is_end = grind (arith, common_steps, eqb-true, word-no_prefix_end, and_parts)
+prefix_end-decided (l ∷ ls) (x ∷ w) m c u v all is_end = ap (λ (b : Bool). (x == l) && b) (prefix_end-decided ls w m c u v (and_parts (is_word_continue l) (list_all is_word_continue ls) all).1 is_end)
 
 pub known-decided : (w : List ℕ) (c : ℕ) (u v : List ℕ) → ends_prefix c ≡ true → list_any (λ prefix. begins prefix (w ++ c ∷ v)) known_prefixes ≡ list_any (λ prefix. begins prefix (w ++ c ∷ u)) known_prefixes
 unfolding unicode_ident
-known-decided w c u v mark = rw (
-  mark-decided (codes "r") w 34 c u v refl mark,
-  mark-decided (codes "r") w 35 c u v refl mark,
-  mark-decided (codes "b") w 39 c u v refl mark,
-  mark-decided (codes "b") w 34 c u v refl mark,
-  mark-decided (codes "br") w 34 c u v refl mark,
-  mark-decided (codes "br") w 35 c u v refl mark,
-  mark-decided (codes "c") w 34 c u v refl mark,
-  mark-decided (codes "cr") w 34 c u v refl mark,
-  mark-decided (codes "cr") w 35 c u v refl mark,
+known-decided w c u v is_end = rw (
+  prefix_end-decided (codes "r") w 34 c u v refl is_end,
+  prefix_end-decided (codes "r") w 35 c u v refl is_end,
+  prefix_end-decided (codes "b") w 39 c u v refl is_end,
+  prefix_end-decided (codes "b") w 34 c u v refl is_end,
+  prefix_end-decided (codes "br") w 34 c u v refl is_end,
+  prefix_end-decided (codes "br") w 35 c u v refl is_end,
+  prefix_end-decided (codes "c") w 34 c u v refl is_end,
+  prefix_end-decided (codes "cr") w 34 c u v refl is_end,
+  prefix_end-decided (codes "cr") w 35 c u v refl is_end,
 ) refl
 
 -- by whether a prefix is the one that looks further
@@ -178,10 +178,10 @@ one-letter [] d e = absurd (true≢false (sym e))
 one-letter (c ∷ []) d e = ap (λ (x : ℕ). x ∷ []) (eqb-true c d (and_parts (c == d) true e).0)
 one-letter (c ∷ x ∷ w) d e = absurd (true≢false (sym (and_parts (c == d) false e).1))
 
-pub marked_word : (next other w : List ℕ) → bytes_eq w (codes "k") ≡ true → is_ident w ≡ true → NextIs ends_prefix other → take 2 other ≡ take 2 next → begins_prefixed (w ++ next) ≡ false → IsTokenBefore other UnknownPrefix w
-marked_word next other w is_k is go two free =
+pub unknown_k : (next other w : List ℕ) → bytes_eq w (codes "k") ≡ true → is_ident w ≡ true → NextIs ends_prefix other → take 2 other ≡ take 2 next → begins_prefixed (w ++ next) ≡ false → IsTokenBefore other UnknownPrefix w
+unknown_k next other w is_k is go two free =
     let k : w ≡ 107 ∷ [] = one-letter w 107 is_k in
-    the.unknown_prefix is go (ap (λ (xs : List ℕ). begins_prefixed (xs ++ other)) k ∙ (decided_same 2 2 marks_ident other next marks_ident-decided (omega arith) two ∙ (ap (λ (xs : List ℕ). begins_prefixed (xs ++ next)) (sym k) ∙ free)))
+    the.unknown_prefix is go (ap (λ (xs : List ℕ). begins_prefixed (xs ++ other)) k ∙ (decided_same 2 2 begins_hash_ident other next begins_hash_ident-decided (omega arith) two ∙ (ap (λ (xs : List ℕ). begins_prefixed (xs ++ next)) (sym k) ∙ free)))
 
-pub mark-decided_by : (w : List ℕ) → bytes_eq w (114 ∷ []) ≡ true → (next other : List ℕ) → take 2 other ≡ take 2 next → begins_ident_after (codes "r#") (w ++ next) ≡ false → begins_ident_after (codes "r#") (w ++ other) ≡ false
-mark-decided_by w is_r next other two free = grind (arith, common_steps, one-letter, decided_same, marks_ident-decided)
+pub raw_ident-decided_by : (w : List ℕ) → bytes_eq w (114 ∷ []) ≡ true → (next other : List ℕ) → take 2 other ≡ take 2 next → begins_ident_after (codes "r#") (w ++ next) ≡ false → begins_ident_after (codes "r#") (w ++ other) ≡ false
+raw_ident-decided_by w is_r next other two free = grind (arith, common_steps, one-letter, decided_same, begins_hash_ident-decided)

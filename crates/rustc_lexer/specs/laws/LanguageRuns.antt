@@ -61,7 +61,7 @@ word_start-no_space c e = false_from_ne_true (is_whitespace c) (λ s. either-way
 pub digit-small : (d : ℕ) → is_ascii_digit d ≡ true → d < 128
 digit-small d t = let le : d ≤ 57 = leb-true d 57 (and_parts (nat_le 48 d) (nat_le d 57) t).1 in omega arith
 
--- a digit is no white space and begins no word, and is no mark
+-- a digit is no white space, begins no word and ends no prefix
 pub digit-other : (d : ℕ) → is_ascii_digit d ≡ true → (is_whitespace d || (is_word_start d || ((d == 47) || ends_prefix d))) ≡ false
 unfolding unicode_ident is_emoji emoji_ranges
 digit-other d t = sym (ap (λ b. b && (is_whitespace d || (is_word_start d || ((d == 47) || ends_prefix d)))) t) ∙ agree_below_at (λ b. is_ascii_digit b && (is_whitespace b || (is_word_start b || ((b == 47) || ends_prefix b)))) (λ b. false) 128 d refl (digit-small d t)
@@ -69,16 +69,16 @@ digit-other d t = sym (ap (λ b. b && (is_whitespace d || (is_word_start d || ((
 pub word_start-no_digit : (c : ℕ) → is_word_start c ≡ true → is_ascii_digit c ≡ false
 word_start-no_digit c e = false_from_ne_true (is_ascii_digit c) (λ d. either-way (is_word_start c) e (or_parts (is_word_start c) _ (or_parts (is_whitespace c) _ (digit-other c d)).1).0)
 
--- marks are in no word
-mark-no_word : (c : ℕ) → ends_prefix c ≡ true → is_word_continue c ≡ false
+-- what ends a prefix is in no word
+prefix_end-no_word : (c : ℕ) → ends_prefix c ≡ true → is_word_continue c ≡ false
 unfolding unicode_ident is_emoji emoji_ranges
-mark-no_word c e = none-among is_word_continue (codes "#\"'") refl c e
+prefix_end-no_word c e = none-among is_word_continue (codes "#\"'") refl c e
 
-pub word-no_mark : (c : ℕ) → is_word_continue c ≡ true → ends_prefix c ≡ false
-word-no_mark c e = false_from_ne_true (ends_prefix c) (λ m. either-way (is_word_continue c) e (mark-no_word c m))
+pub word-no_prefix_end : (c : ℕ) → is_word_continue c ≡ true → ends_prefix c ≡ false
+word-no_prefix_end c e = false_from_ne_true (ends_prefix c) (λ m. either-way (is_word_continue c) e (prefix_end-no_word c m))
 
-pub mark-stops : (s : List ℕ) → NextIs ends_prefix s → NextIsNot is_word_continue s
-mark-stops s = apart ends_prefix is_word_continue s mark-no_word
+pub prefix_end-stops : (s : List ℕ) → NextIs ends_prefix s → NextIsNot is_word_continue s
+prefix_end-stops s = apart ends_prefix is_word_continue s prefix_end-no_word
 
 pub start-word_start : (c : ℕ) → is_id_start c ≡ true → is_word_start c ≡ true
 start-word_start c e = or_left (is_id_start c) (is_emoji c) e
@@ -128,17 +128,17 @@ pub chooses-hash : past_first 35 ≡ read_by Hash 35
 unfolding unicode_ident is_emoji emoji_ranges
 chooses-hash = chooses 35 Hash refl
 
-mark-no_word_start : (c : ℕ) → ends_prefix c ≡ true → is_word_start c ≡ false
+prefix_end-no_word_start : (c : ℕ) → ends_prefix c ≡ true → is_word_start c ≡ false
 unfolding unicode_ident is_emoji emoji_ranges
-mark-no_word_start c e = none-among is_word_start (codes "#\"'") refl c e
+prefix_end-no_word_start c e = none-among is_word_start (codes "#\"'") refl c e
 
-word_start-no_mark : (c : ℕ) → is_word_start c ≡ true → ends_prefix c ≡ false
-word_start-no_mark c e = false_from_ne_true (ends_prefix c) (λ m. either-way (is_word_start c) e (mark-no_word_start c m))
+word_start-no_prefix_end : (c : ℕ) → is_word_start c ≡ true → ends_prefix c ≡ false
+word_start-no_prefix_end c e = false_from_ne_true (ends_prefix c) (λ m. either-way (is_word_start c) e (prefix_end-no_word_start c m))
 
 pub chooses-emoji : (c : ℕ) → is_id_start c ≡ false → is_emoji c ≡ true → past_first c ≡ read_by Emoji c
 chooses-emoji c f e =
     let w : is_word_start c ≡ true = or_right (is_id_start c) (is_emoji c) e in
-    let m = or_parts (c == 35) _ (word_start-no_mark c w) in
+    let m = or_parts (c == 35) _ (word_start-no_prefix_end c w) in
     let n = or_parts (c == 34) _ m.1 in
     let o = or_parts (c == 39) _ n.1 in
     chooses c Emoji (rw (other_than is_word_start 47 c slash-no_start w, word_start-no_space c w, f, word_start-no_digit c w, o.0, n.0, e) refl)

@@ -189,26 +189,26 @@ has-line (c ∷ s) = by_newline (has-line s) (c == 10) refl
 
 -- ---- the answer
 
-pub mark-utf8 : IsUtf8 (35 ∷ 33 ∷ [])
+pub hash_bang-utf8 : IsUtf8 (35 ∷ 33 ∷ [])
 unfolding encode
-mark-utf8 = (35 ∷ 33 ∷ [], (refl, refl))
+hash_bang-utf8 = (35 ∷ 33 ∷ [], (refl, refl))
 
 tail-text : (text rest : List ℕ) → IsText text → text ≡ 35 ∷ 33 ∷ rest → IsText rest
 tail-text text rest is e = record {
-  utf8 = subst IsUtf8 (ap (drop 2) e) (IsUtf8-drop text 2 is.utf8 (IsCharBoundary-from_take text 2 is.utf8 (omega (arith, ap length e)) (subst IsUtf8 (sym (ap (take 2) e)) mark-utf8)));
+  utf8 = subst IsUtf8 (ap (drop 2) e) (IsUtf8-drop text 2 is.utf8 (IsCharBoundary-from_take text 2 is.utf8 (omega (arith, ap length e)) (subst IsUtf8 (sym (ap (take 2) e)) hash_bang-utf8)));
   fits = let f = is.fits in omega (arith, ap length e);
 }
 
-past-mark : (text rest : List ℕ) → text ≡ 35 ∷ 33 ∷ rest → read_shebang text ≡ (if is_attribute (ts rest) then None else Some (2 + line_len rest))
+past-hash_bang : (text rest : List ℕ) → text ≡ 35 ∷ 33 ∷ rest → read_shebang text ≡ (if is_attribute (ts rest) then None else Some (2 + line_len rest))
 unfolding read_shebang
-past-mark text rest e = ap read_shebang e
+past-hash_bang text rest e = ap read_shebang e
 
-pub no-mark : (text : List ℕ) → begins (codes "#!") text ≡ false → read_shebang text ≡ None
+pub no-hash_bang : (text : List ℕ) → begins (codes "#!") text ≡ false → read_shebang text ≡ None
 unfolding read_shebang
-no-mark text e = ap (λ (b : Bool). if b then shebang_past (drop 2 text) else None) e
+no-hash_bang text e = ap (λ (b : Bool). if b then shebang_past (drop 2 text) else None) e
 
 answer-read : {text : List ℕ} {r : Option ℕ} → IsText text → IsShebang text r → r ≡ read_shebang text
-answer-read {text} is (the.shebang w next e free line) = sym (past-mark text (w ++ next) e ∙ (by_attribute (is_attribute (ts (w ++ next))) refl ∙ ap (λ (k : ℕ). Some (2 + k)) (line-read line) ∙ ap Some (two (length w))))
+answer-read {text} is (the.shebang w next e free line) = sym (past-hash_bang text (w ++ next) e ∙ (by_attribute (is_attribute (ts (w ++ next))) refl ∙ ap (λ (k : ℕ). Some (2 + k)) (line-read line) ∙ ap Some (two (length w))))
   where
     two : (k : ℕ) → 2 + k ≡ suc (suc k)
     two k = omega arith
@@ -219,9 +219,9 @@ answer-read {text} is (the.shebang w next e free line) = sym (past-mark text (w 
 answer-read {text} is (the.none free) = by_either (begins (codes "#!") text)
     (λ e.
     let rest : List ℕ = drop 2 text in
-    let marked : text ≡ 35 ∷ 33 ∷ rest = front-is text e in
-    sym (past-mark text rest marked ∙ ap (λ (b : Bool). let r : Option ℕ = if b then None else Some (2 + line_len rest) in r) (attribute-read (free rest marked) rest (tail-text text rest is marked) refl)))
-    (λ e. sym (no-mark text e))
+    let begun : text ≡ 35 ∷ 33 ∷ rest = front-is text e in
+    sym (past-hash_bang text rest begun ∙ ap (λ (b : Bool). let r : Option ℕ = if b then None else Some (2 + line_len rest) in r) (attribute-read (free rest begun) rest (tail-text text rest is begun) refl)))
+    (λ e. sym (no-hash_bang text e))
 
 record HasShebang (text : List ℕ) : Type 0 where
   answer : Option ℕ

@@ -1,10 +1,10 @@
--- Means, by how it is read: block comments, from what follows the opening mark.
+-- Means, by how it is read: block comments, from what follows their `/*`.
 use Rattle.std.specs.Prelude.{ℕ, zero, suc, ◌&&◌, not, Bool, true, false, if◌then◌else◌, List, [], ◌∷◌, length, drop, codes, Option, Some, None}
 use Rattle.rustc_lexer.specs.{DocStyle, TokenKind, Outer, Inner, BlockComment}
 use Rattle.rustc_lexer.specs.means.Least.{more}
 use Rattle.rustc_lexer.specs.means.Scan.{begins}
 
--- whether a mark stands here that closes a comment, or one that opens another
+-- whether `*/` is here, which closes a comment, or `/*`, which opens another
 abbrev pub at_closing : List ℕ → Bool
 at_closing s = begins (codes "*/") s
 
@@ -20,9 +20,9 @@ followed_by (Some n) next = more n (next n)
 abbrev pub twice : (List ℕ → Option ℕ) → List ℕ → Option ℕ
 twice end s = followed_by (end s) (λ n. end (drop n s))
 
--- how many characters up to the end of the comment: at a closing mark 2; at an opening mark 2 and,
--- twice, up to an end: of the comment that it opens, and then of this one; elsewhere one character,
--- and what is left up to the end. The first number is no less than the text is long.
+-- how many characters up to the end of the comment: at `*/` 2; at `/*` 2 and, twice, up to an end:
+-- of the comment that it opens, and then of this one; elsewhere one character, and what is left up
+-- to the end. The first number is no less than the text is long.
 abbrev pub end_within : ℕ → List ℕ → Option ℕ
 end_within zero s = None
 end_within (suc fuel) [] = None

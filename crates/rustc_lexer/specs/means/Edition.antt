@@ -12,10 +12,10 @@ token kind len = record { kind = kind; len = len }
 
 -- whether the name after a quote is invalid as the name of a lifetime; the characters begin with
 -- the quote
-abbrev pub has_marked_name : List ℕ → Bool
-has_marked_name [] = false
-has_marked_name (quote ∷ []) = false
-has_marked_name (quote ∷ c ∷ s) = is_bad_name (c ∷ (take (run_len is_word_continue s) s))
+abbrev pub has_bad_name : List ℕ → Bool
+has_bad_name [] = false
+has_bad_name (quote ∷ []) = false
+has_bad_name (quote ∷ c ∷ s) = is_bad_name (c ∷ (take (run_len is_word_continue s) s))
 
 -- a token as an edition before 2024 has it. It reserves no guarded strings: a hash is a symbol,
 -- whatever follows it
@@ -28,7 +28,7 @@ before_2024 kind len = token kind len
 abbrev pub before_2021 : List ℕ → TokenKind → ℕ → Token
 before_2021 cs RawLifetime len = token (Lifetime false) 2
 before_2021 cs UnknownPrefix len = token Ident len
-before_2021 cs UnknownPrefixLifetime len = token (Lifetime (has_marked_name cs)) len
+before_2021 cs UnknownPrefixLifetime len = token (Lifetime (has_bad_name cs)) len
 before_2021 cs kind len = before_2024 kind len
 
 -- the first token of these characters, changed to what the edition of a year has instead

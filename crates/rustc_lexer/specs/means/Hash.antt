@@ -4,10 +4,10 @@ use Rattle.rustc_lexer.specs.{TokenKind, GuardedStrPrefix, Pound}
 use Rattle.rustc_lexer.specs.Classes.{is_among}
 use Rattle.rustc_lexer.specs.means.Scan.{after, gives, next_is}
 
--- a guarded string goes on after its first hash with a quote or a hash
-abbrev pub is_guarded_mark : ℕ → Bool
-is_guarded_mark c = is_among (codes "\"#") c
+-- a quote or a hash opens a guarded string, after its first hash
+abbrev pub opens_guarded : ℕ → Bool
+opens_guarded c = is_among (codes "\"#") c
 
 -- what follows a hash
 abbrev pub hash : List ℕ → TokenKind × ℕ
-hash s = if next_is is_guarded_mark s then after 1 (gives GuardedStrPrefix) s else gives Pound s
+hash s = if next_is opens_guarded s then after 1 (gives GuardedStrPrefix) s else gives Pound s

@@ -20,9 +20,10 @@ abbrev pub invalid_ident : List ℕ → TokenKind × ℕ
 invalid_ident s = run InvalidIdent is_word_continue s
 
 -- a hash and an identifier
-abbrev pub marks_ident : List ℕ → Bool
-marks_ident s = begins (codes "#") s && next_is is_id_start (drop 1 s)
+abbrev pub begins_hash_ident : List ℕ → Bool
+begins_hash_ident s = begins (codes "#") s && next_is is_id_start (drop 1 s)
 
--- what follows a letter that may mark an identifier: the marked one, or else what the letter begins
-abbrev pub marked : TokenKind → (List ℕ → TokenKind × ℕ) → List ℕ → TokenKind × ℕ
-marked kind other s = if marks_ident s then after 2 (run kind is_id_continue) s else other s
+-- what follows an `r` or a `k`: a hash and an identifier, or else what the letter begins
+abbrev pub hash_ident_or : TokenKind → (List ℕ → TokenKind × ℕ) → List ℕ → TokenKind × ℕ
+hash_ident_or kind other s =
+    if begins_hash_ident s then after 2 (run kind is_id_continue) s else other s

@@ -12,7 +12,7 @@ use Rattle.rustc_lexer.specs.Classes.{is_among, is_whitespace, is_id_start}
 use Rattle.rustc_lexer.specs.means.Comment.{slash}
 use Rattle.rustc_lexer.specs.Tables.{is_emoji}
 use Rattle.rustc_lexer.specs.means.Hash.{hash}
-use Rattle.rustc_lexer.specs.means.Ident.{ident_or_unknown_prefix, invalid_ident, marked}
+use Rattle.rustc_lexer.specs.means.Ident.{ident_or_unknown_prefix, invalid_ident, hash_ident_or}
 use Rattle.rustc_lexer.specs.means.Lifetime.{lifetime_or_char}
 use Rattle.rustc_lexer.specs.means.Literal.{literal}
 use Rattle.rustc_lexer.specs.means.Number.{number}
@@ -24,23 +24,23 @@ pub use Rattle.rustc_lexer.specs.Tables.{symbols, kind_among, symbol_kind}
 abbrev pub whitespace : List ℕ → TokenKind × ℕ
 whitespace s = run Whitespace is_whitespace s
 
--- a raw string goes on with hashes or a quote
-abbrev pub is_raw_mark : ℕ → Bool
-is_raw_mark c = is_among (codes "#\"") c
+-- hashes or a quote open a raw string, after its letters
+abbrev pub opens_raw : ℕ → Bool
+opens_raw c = is_among (codes "#\"") c
 
 -- what follows an `r`, and what follows a `k`
 abbrev pub raw_or_ident : List ℕ → TokenKind × ℕ
-raw_or_ident s = if next_is is_raw_mark s then raw_literal R s else ident_or_unknown_prefix s
+raw_or_ident s = if next_is opens_raw s then raw_literal R s else ident_or_unknown_prefix s
 
 abbrev pub letter_r : List ℕ → TokenKind × ℕ
-letter_r s = marked RawIdent raw_or_ident s
+letter_r s = hash_ident_or RawIdent raw_or_ident s
 
 abbrev pub letter_k : List ℕ → TokenKind × ℕ
-letter_k s = marked ForcedKeywordIdent ident_or_unknown_prefix s
+letter_k s = hash_ident_or ForcedKeywordIdent ident_or_unknown_prefix s
 
--- an `r`, and what a raw string goes on with
+-- an `r`, and what opens a raw string after it
 abbrev pub begins_raw : List ℕ → Bool
-begins_raw s = begins (codes "r") s && next_is is_raw_mark (drop 1 s)
+begins_raw s = begins (codes "r") s && next_is opens_raw (drop 1 s)
 
 abbrev pub raw_past_or_ident : RawPrefix → List ℕ → TokenKind × ℕ
 raw_past_or_ident prefix s =

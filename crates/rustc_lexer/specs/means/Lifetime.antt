@@ -5,7 +5,7 @@ use Rattle.std.specs.Str.{byte, encode_utf8_all}
 use Rattle.rustc_lexer.specs.{TokenKind, Char, Literal, Lifetime, RawLifetime, UnknownPrefixLifetime}
 use Rattle.rustc_lexer.specs.Classes.{is_id_continue, is_word_continue, is_bad_name}
 pub use Rattle.rustc_lexer.specs.Classes.{is_name_start}
-use Rattle.rustc_lexer.specs.means.Ident.{marks_ident}
+use Rattle.rustc_lexer.specs.means.Ident.{begins_hash_ident}
 use Rattle.rustc_lexer.specs.means.Literal.{literal}
 use Rattle.rustc_lexer.specs.means.Quoted.{char_body}
 use Rattle.rustc_lexer.specs.means.Scan.{after, and_then, begins, gives, run, run_as}
@@ -24,7 +24,7 @@ plain_lifetime c s = and_then (run_as (λ name rest. name) is_word_continue) (pa
 
 -- `r`, a hash and the start of an identifier begin a raw lifetime
 abbrev pub is_raw : ℕ → List ℕ → Bool
-is_raw c s = c == byte "r" && marks_ident s
+is_raw c s = c == byte "r" && begins_hash_ident s
 
 -- what follows the first character `c` of a name; `r`, a hash and the start of an identifier make a
 -- raw lifetime

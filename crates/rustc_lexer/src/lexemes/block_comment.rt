@@ -33,8 +33,8 @@ fn block_doc_style(body: &str) -> Option<DocStyle>
     if begins_with(body, b'!') {
         return Some(DocStyle::Inner);
     }
-    let past_mark = strip(body, b'*')?;
-    if begins_with(past_mark, b'*') || begins_with(past_mark, b'/') {
+    let past_star = strip(body, b'*')?;
+    if begins_with(past_star, b'*') || begins_with(past_star, b'/') {
         None
     } else {
         Some(DocStyle::Outer)
@@ -58,21 +58,21 @@ fn past_comment(body: &str) -> BodyEnd<'_>
             };
         };
         if c == '*' {
-            if let Some(past_mark) = strip(tail, b'/') {
+            if let Some(past_closing) = strip(tail, b'/') {
                 depth -= 1;
                 if depth == 0 {
                     return BodyEnd {
                         terminated: true,
-                        rest: past_mark,
+                        rest: past_closing,
                     };
                 }
-                rest = past_mark;
+                rest = past_closing;
             } else {
                 rest = tail;
             }
-        } else if let Some(past_mark) = strip(tail, b'*') {
+        } else if let Some(past_opening) = strip(tail, b'*') {
             depth += 1;
-            rest = past_mark;
+            rest = past_opening;
         } else {
             rest = tail;
         }

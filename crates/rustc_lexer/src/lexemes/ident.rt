@@ -42,8 +42,8 @@ pub(crate) fn invalid_ident(tail: &str) -> (TokenKind, &str)
 /// Returns the text after a hash and an identifier, or `None` if the text does not begin with these.
 #[inline(always)]
 pub(crate) fn eat_hash_ident(tail: &str) -> Option<&str>
-    ensures { MatchOption result (spec.marks_ident (chars tail.now) ≡ false)
-        (λ rest. (spec.marks_ident (chars tail.now) ≡ true)
+    ensures { MatchOption result (spec.begins_hash_ident (chars tail.now) ≡ false)
+        (λ rest. (spec.begins_hash_ident (chars tail.now) ≡ true)
         × (rest.now ≡ past (2 + run_len Classes.is_id_continue (drop 2 (chars tail.now)))
         tail.now)) }
 {

@@ -1,7 +1,7 @@
 //! The most common tokens, found by their bytes alone: identifiers, white space, hashes and symbols.
 ghost use Rattle.std.specs.Prelude.{◌≡◌, IsUtf8, MatchOption};
 ghost use Rattle.rustc_lexer.specs.Classes.{Fits};
-ghost use Rattle.rustc_lexer.specs.means.Hash.{is_guarded_mark};
+ghost use Rattle.rustc_lexer.specs.means.Hash.{opens_guarded};
 ghost use Rattle.rustc_lexer.specs.means.Quick.{BeginsWithNoHash, IsFirstBy};
 ghost use Rattle.rustc_lexer.specs.means.Scan;
 
@@ -67,7 +67,7 @@ pub(crate) fn quick_token(text: &[u8], reserves_guards: bool) -> Option<Token>
 /// Returns whether a quote or a hash is at the front.
 #[inline(always)]
 fn begins_guarded(bytes: &[u8]) -> bool
-    ensures { result ≡ Scan.next_is is_guarded_mark bytes.now }
+    ensures { result ≡ Scan.next_is opens_guarded bytes.now }
 {
     !bytes.is_empty() && matches!(bytes[0], b'"' | b'#')
 }

@@ -46,7 +46,7 @@ fn letter_r(tail: &str) -> (TokenKind, &str)
 /// Returns whether a raw string continues with the text after its prefix.
 #[inline(always)]
 fn begins_raw(rest: &str) -> bool
-    ensures { result ≡ next_is spec.is_raw_mark (chars rest.now) }
+    ensures { result ≡ next_is spec.opens_raw (chars rest.now) }
 {
     strip(rest, b'"').is_some() || strip(rest, b'#').is_some()
 }

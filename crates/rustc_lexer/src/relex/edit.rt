@@ -67,7 +67,7 @@ pub(crate) fn put_in_place(text: &mut String, start: usize, stop: usize, insert:
 }
 
 /// Lexes the new text from the end of the kept front until it meets the old tokens. Returns the tokens in between, and
-/// where they meet the old ones. It remembers boundaries among them as `marks`.
+/// where they meet the old ones. It remembers boundaries among them as `lexed_bounds`.
 pub(crate) fn relex<S: Stepper>(
     alloc: Global,
     stepper: &mut S,
@@ -75,7 +75,7 @@ pub(crate) fn relex<S: Stepper>(
     near: Bound,
     text: &str,
     change: Change,
-    marks: &mut Checkpoints,
+    lexed_bounds: &mut Checkpoints,
 ) -> Result<(Vec<Token>, Relexing), AllocError>
     requires fits { Fits text.now }
     requires change { IsChange text.now change }
@@ -92,13 +92,13 @@ pub(crate) fn relex<S: Stepper>(
         → IsBound (tokens_by (S.grammar stepper.old) before) near
         → IsLexed (S.grammar stepper.old) before change text.now r.0.items r.1) }
     ensures may_go_on { IfOk result (λ r. MayGoOn text.now (length old.now) r.1) }
-    ensures marks { IfOk result
+    ensures bounds { IfOk result
         (λ _. (before insert : List ℕ)
         → IsMadeOf (S.grammar stepper.old) before (map (λ (t : Token). t.len) old.now)
         change insert text.now
         → IsBound (tokens_by (S.grammar stepper.old) before) near
-        → AreBounds (tokens_by (S.grammar stepper.old) text.now) marks.old
-        → AreBounds (tokens_by (S.grammar stepper.old) text.now) marks.new) }
+        → AreBounds (tokens_by (S.grammar stepper.old) text.now) lexed_bounds.old
+        → AreBounds (tokens_by (S.grammar stepper.old) text.now) lexed_bounds.new) }
 
     // How many steps were taken, also if it fails.
     ensures count { IfOk result
@@ -126,7 +126,7 @@ pub(crate) fn relex<S: Stepper>(
     'left: while !at.is_over(text) {
         let count = at.block(stepper, text, old, change, &mut buffer);
         tokens.extend_from_slice(&buffer[..count])?;
-        marks.remember(end_of(at), text.len());
+        lexed_bounds.remember(end_of(at), text.len());
     }
     Ok((tokens, at))
 }
@@ -143,24 +143,24 @@ fn end_of(at: Relexing) -> Bound
 }
 
 /// Returns the checkpoints after an edit that was relexed up to `at`, in a text of `len` bytes. They have the kept front
-/// and, where many tokens were lexed, the marks among them.
+/// and, where many tokens were lexed, the boundaries among them.
 pub(crate) fn past_edit(
     checkpoints: &Checkpoints,
     at: Relexing,
-    marks: &Checkpoints,
+    lexed_bounds: &Checkpoints,
     len: usize,
 ) -> Checkpoints
     requires small { known at < 2 ^ 64 }
     requires movable { All (IsMovable at.back (end_of at)) checkpoints.now.bounds }
     ensures { (old new : List Token) → IsReplaced old new at.front at.back (end_of at)
-        → AreBounds old checkpoints.now → AreBounds new marks.now → AreBounds new result }
+        → AreBounds old checkpoints.now → AreBounds new lexed_bounds.now → AreBounds new result }
 {
     let mut moved = checkpoints.after(at.front, at.back, end_of(at));
     if at.lexed <= BUFFER_LEN {
         moved.remember(at.front, len);
         return moved;
     }
-    let mut all = moved.joined(marks, len);
+    let mut all = moved.joined(lexed_bounds, len);
     if at.front.number == 0 {
         return all;
     }

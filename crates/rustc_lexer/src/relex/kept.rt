@@ -104,7 +104,7 @@ pub(crate) fn put_in<S: Stepper, E: Extent>(
     let body = &made[now.body..];
     let old = &kept.tokens.as_slice()[old_count..];
     let left = old.len();
-    let mut marks = Checkpoints::new();
+    let mut lexed_bounds = Checkpoints::new();
     let (lexed, at) = relex(
         kept.alloc,
         &mut kept.stepper,
@@ -112,11 +112,11 @@ pub(crate) fn put_in<S: Stepper, E: Extent>(
         near,
         body,
         change,
-        &mut marks,
+        &mut lexed_bounds,
     )?;
     let new_head = new_head(stays, now);
     put_tokens(kept.alloc, &mut kept.tokens, old_count, new_head, at, lexed)?;
-    kept.checkpoints = past_edit(&kept.checkpoints, at, &marks, body.len());
+    kept.checkpoints = past_edit(&kept.checkpoints, at, &lexed_bounds, body.len());
     kept.head = now;
     Ok(counted(stays, old_count, now.count(), at.counts(left)))
 }

@@ -84,14 +84,14 @@ unescaped-is c s slash =
 unescaped-plain : (c : ℕ) → is_among (92 ∷ 13 ∷ 34 ∷ []) c ≡ false → unescaped c ≡ Plain c
 unescaped-plain c out = grind (arith, common_steps, or_parts)
 
-unescaped-marked : (c : ℕ) → is_among (34 ∷ []) c ≡ true → ((c == 92) ≡ false) × (unescaped c ≡ Fault EscapeOnlyChar)
-unescaped-marked c mark = grind (arith, common_steps, nat_tests)
+unescaped-special : (c : ℕ) → is_among (34 ∷ []) c ≡ true → ((c == 92) ≡ false) × (unescaped c ≡ Fault EscapeOnlyChar)
+unescaped-special c among = grind (arith, common_steps, nat_tests)
 
 abbrev ReadsDouble : List ℕ → Element → List ℕ → Type 0
-ReadsDouble = Reads (34 ∷ []) unescaped unescaped-plain unescaped-marked refl unescaped-is
+ReadsDouble = Reads (34 ∷ []) unescaped unescaped-plain unescaped-special refl unescaped-is
 
 double-reads : {next : List ℕ} {e : Element} {w : List ℕ} → IsElementBefore (34 ∷ []) next e w → ReadsDouble next e w
-double-reads = element-reads (34 ∷ []) unescaped unescaped-plain unescaped-marked refl unescaped-is
+double-reads = element-reads (34 ∷ []) unescaped unescaped-plain unescaped-special refl unescaped-is
 
 -- a backslash that no newline follows is an element
 past_backslash-one : (v next : List ℕ) (e : Element) → escape (v ++ next) ≡ (e, next) → (v ≡ 10 ∷ [] → ⊥) → past_backslash (v ++ next) ≡ one (e, next)
@@ -167,7 +167,7 @@ line-has from t rest =
 
 element-has : (from c : ℕ) (s : List ℕ) → (c ≡ 92 → (t : List ℕ) → s ≡ 10 ∷ t → ⊥) → ((at : ℕ) (left : List ℕ) → length left ≤ length s → HasItems false at left) → HasItems false from (c ∷ s)
 element-has from c s other rest =
-    let has = element-is (34 ∷ []) unescaped unescaped-plain unescaped-marked refl unescaped-is c s in
+    let has = element-is (34 ∷ []) unescaped unescaped-plain unescaped-special refl unescaped-is c s in
     let left : List ℕ = (if c == 92 then escape s else (unescaped c, s)).1 in
     let items = rest (from + bytes (c ∷ has.others)) left (omega (arith, ap length has.whole, length-append has.others left)) in
     subst (HasItems false from) (ap (λ xs. c ∷ xs) (sym has.whole))

@@ -158,7 +158,7 @@ escape-is (c ∷ s) =
 
 module _ (special : List ℕ) (unescaped : ℕ → Element)
     (plain : (c : ℕ) → is_among (92 ∷ 13 ∷ special) c ≡ false → unescaped c ≡ Plain c)
-    (marked : (c : ℕ) → is_among special c ≡ true → ((c == 92) ≡ false) × (unescaped c ≡ Fault EscapeOnlyChar))
+    (of_special : (c : ℕ) → is_among special c ≡ true → ((c == 92) ≡ false) × (unescaped c ≡ Fault EscapeOnlyChar))
     (bare : unescaped 13 ≡ Fault BareCarriageReturn)
     (sound : (c : ℕ) (s : List ℕ) → (c == 92) ≡ false → IsElementBefore special s (unescaped c) (c ∷ [])) where
   abbrev pub read_element : ℕ → List ℕ → Element × List ℕ
@@ -174,7 +174,7 @@ module _ (special : List ℕ) (unescaped : ℕ → Element)
   pub element-reads : {next : List ℕ} {e : Element} {w : List ℕ} → IsElementBefore special next e w → Reads next e w
   element-reads {next} (g.plain {c} out) = record { first = c; others = []; whole = refl; read = rw (or_parts (c == 92) _ out).0 (ap (λ x. (x, next)) (plain c out)) }
   element-reads {next} (g.escape {w = w} at) = record { first = 92; others = w; whole = refl; read = escape-reads at }
-  element-reads {next} (g.unescaped {c} mark) = let m = marked c mark in record { first = c; others = []; whole = refl; read = rw m.0 (ap (λ x. (x, next)) m.1) }
+  element-reads {next} (g.unescaped {c} among) = let m = of_special c among in record { first = c; others = []; whole = refl; read = rw m.0 (ap (λ x. (x, next)) m.1) }
   element-reads {next} g.bare = record { first = 13; others = []; whole = refl; read = ap (λ x. (x, next)) bare }
 
   -- and what is read there is in the grammar

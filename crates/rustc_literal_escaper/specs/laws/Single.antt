@@ -33,14 +33,14 @@ unescaped-is c s slash =
 unescaped-plain : (c : ℕ) → is_among (92 ∷ 13 ∷ special) c ≡ false → unescaped c ≡ Plain c
 unescaped-plain c out = grind (arith, common_steps, or_parts)
 
-unescaped-marked : (c : ℕ) → is_among special c ≡ true → ((c == 92) ≡ false) × (unescaped c ≡ Fault EscapeOnlyChar)
-unescaped-marked c mark = grind (arith, common_steps, nat_tests)
+unescaped-special : (c : ℕ) → is_among special c ≡ true → ((c == 92) ≡ false) × (unescaped c ≡ Fault EscapeOnlyChar)
+unescaped-special c among = grind (arith, common_steps, nat_tests)
 
 abbrev ReadsSingle : List ℕ → Element → List ℕ → Type 0
-ReadsSingle = Reads special unescaped unescaped-plain unescaped-marked refl unescaped-is
+ReadsSingle = Reads special unescaped unescaped-plain unescaped-special refl unescaped-is
 
 single-reads : {next : List ℕ} {e : Element} {w : List ℕ} → IsElementBefore special next e w → ReadsSingle next e w
-single-reads = element-reads special unescaped unescaped-plain unescaped-marked refl unescaped-is
+single-reads = element-reads special unescaped unescaped-plain unescaped-special refl unescaped-is
 
 module _ {U : Type 0} (meaning : Element → Result U EscapeError) where
   abbrev read : List ℕ → Result U Error
@@ -66,7 +66,7 @@ module _ {U : Type 0} (meaning : Element → Result U EscapeError) where
   pub single-some : (s : List ℕ) → (r : Result U Error) × IsSingle meaning s r
   single-some [] = (_, g.nothing)
   single-some (c ∷ s) =
-      let has = element-is special unescaped unescaped-plain unescaped-marked refl unescaped-is c s in
+      let has = element-is special unescaped unescaped-plain unescaped-special refl unescaped-is c s in
       subst (λ (xs : List ℕ). (r : Result U Error) × IsSingle meaning xs r) (ap (λ xs. c ∷ xs) (sym has.whole))
       (by_meaning (single c s).1 (single c s).0 (c ∷ has.others) (meaning (single c s).0) refl has.is)
     where

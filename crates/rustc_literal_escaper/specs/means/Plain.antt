@@ -13,8 +13,8 @@ is_fine c = nat_lt c 128 && not (c == 0)
 abbrev pub is_simple : Bool → ℕ → Bool
 is_simple raw c = nat_lt c 128 && (not (c == 0) && is_plain raw c)
 
-abbrev pub is_mark : Bool → ℕ → Bool
-is_mark raw c = not (is_simple raw c)
+abbrev pub is_stop : Bool → ℕ → Bool
+is_stop raw c = not (is_simple raw c)
 
 -- the items of plain ASCII characters, one byte each, the last of which ends at the offset `end`
 abbrev pub plain_items : ℕ → List ℕ → List Item

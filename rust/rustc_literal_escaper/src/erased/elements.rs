@@ -50,7 +50,7 @@ impl<'a> Elements<'a> {
     ///
     /// Returns `None` if nothing more is wrong.
     #[inline(always)]
-    pub(crate) fn next_fault(&mut self, mode: Mode) -> Option<(Range<usize>, EscapeError)> {
+    pub(crate) fn next_error(&mut self, mode: Mode) -> Option<(Range<usize>, EscapeError)> {
         if let Some((range, element)) = self.next_waiting() {
             if let Some(error) = element.error_in(mode) {
                 return Some((range, error));

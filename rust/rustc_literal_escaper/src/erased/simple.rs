@@ -100,7 +100,7 @@ fn simple_end(bytes: &[u8], raw: bool) -> usize {
     if bytes[0] == b'\\' {
         return 0;
     }
-    let found = escaped_marks(u8x32::from_slice(bytes));
+    let found = escaped_stops(u8x32::from_slice(bytes));
     if found == 0 {
         return simple_end_by_lanes(bytes, false);
     }
@@ -135,7 +135,7 @@ fn is_simple(byte: u8, raw: bool) -> bool {
 fn simple_end_by_lanes(bytes: &[u8], raw: bool) -> usize {
     let mut end = 0;
     while bytes.len() - end >= 32 {
-        let found = marks(u8x32::from_slice(&bytes[end..]), raw);
+        let found = stops(u8x32::from_slice(&bytes[end..]), raw);
         if found != 0 {
             return end + found.trailing_zeros() as usize;
         }
@@ -146,13 +146,13 @@ fn simple_end_by_lanes(bytes: &[u8], raw: bool) -> usize {
 
 /// Returns a mask. Bit k is set if lane k is not simple.
 #[inline(always)]
-fn marks(v: u8x32, raw: bool) -> u64 {
-    if raw { raw_marks(v) } else { escaped_marks(v) }
+fn stops(v: u8x32, raw: bool) -> u64 {
+    if raw { raw_stops(v) } else { escaped_stops(v) }
 }
 
 /// Returns a mask for a raw string. Bit k is set if lane k is U+0000, a carriage return or outside ASCII.
 #[inline(always)]
-fn raw_marks(v: u8x32) -> u64 {
+fn raw_stops(v: u8x32) -> u64 {
     let from_1 = v - u8x32::splat(1);
     (from_1.simd_ge(u8x32::splat(127)) | v.simd_eq(u8x32::splat(b'\r'))).to_bitmask()
 }
@@ -160,7 +160,7 @@ fn raw_marks(v: u8x32) -> u64 {
 /// Returns a mask for a string that may have escapes. Bit k is set if lane k is one of these, a backslash or a
 /// double quote.
 #[inline(always)]
-fn escaped_marks(v: u8x32) -> u64 {
+fn escaped_stops(v: u8x32) -> u64 {
     let from_1 = v - u8x32::splat(1);
     (from_1.simd_ge(u8x32::splat(127))
         | v.simd_eq(u8x32::splat(b'\r'))

@@ -64,19 +64,19 @@ fn read_other<M: Meaning>(src: &str) -> Result<M::Meant, EscapeError> {
     if is_plain(c) {
         return alone(M::of(Element::Plain(c)), tail);
     }
-    read_marked::<M>(c, tail)
+    read_element::<M>(c, tail)
 }
 
 /// Returns what the element that begins with the character `c` stands for, if no text is left after it.
 #[inline(never)]
-fn read_marked<M: Meaning>(c: char, tail: &str) -> Result<M::Meant, EscapeError> {
+fn read_element<M: Meaning>(c: char, tail: &str) -> Result<M::Meant, EscapeError> {
     if let Some(element) = whole_at(c, tail) {
         return M::of(element);
     }
     read_rest::<M>(c, tail)
 }
 
-/// Does what [`read_marked`] does, for the elements that few literals have.
+/// Does what [`read_element`] does, for the elements that few literals have.
 #[inline(never)]
 fn read_rest<M: Meaning>(c: char, tail: &str) -> Result<M::Meant, EscapeError> {
     let (element, left) = first(c, tail);

@@ -32,8 +32,8 @@ fn line_doc_style(body: &str) -> Option<DocStyle> {
     if begins_with(body, b'!') {
         return Some(DocStyle::Inner);
     }
-    let past_mark = strip(body, b'/')?;
-    if begins_with(past_mark, b'/') {
+    let past_slash = strip(body, b'/')?;
+    if begins_with(past_slash, b'/') {
         None
     } else {
         Some(DocStyle::Outer)

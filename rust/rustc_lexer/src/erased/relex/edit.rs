@@ -46,7 +46,7 @@ pub(crate) fn put_in_place(text: &mut String, start: usize, stop: usize, insert:
 }
 
 /// Lexes the new text from the end of the kept front until it meets the old tokens. Returns the tokens in between, and
-/// where they meet the old ones. It remembers boundaries among them as `marks`.
+/// where they meet the old ones. It remembers boundaries among them as `lexed_bounds`.
 pub(crate) fn relex<S: Stepper>(
     alloc: Global,
     stepper: &mut S,
@@ -54,7 +54,7 @@ pub(crate) fn relex<S: Stepper>(
     near: Bound,
     text: &str,
     change: Change,
-    marks: &mut Checkpoints,
+    lexed_bounds: &mut Checkpoints,
 ) -> Result<(Vec<Token>, Relexing), AllocError> {
     let mut tokens = Vec::new(alloc);
     let mut at = Relexing::begin(text, old, change, near);
@@ -69,7 +69,7 @@ pub(crate) fn relex<S: Stepper>(
     while !at.is_over(text) {
         let count = at.block(stepper, text, old, change, &mut buffer);
         tokens.extend_from_slice(&buffer[..count])?;
-        marks.remember(end_of(at), text.len());
+        lexed_bounds.remember(end_of(at), text.len());
     }
     Ok((tokens, at))
 }
@@ -83,11 +83,11 @@ fn end_of(at: Relexing) -> Bound {
 }
 
 /// Returns the checkpoints after an edit that was relexed up to `at`, in a text of `len` bytes. They have the kept front
-/// and, where many tokens were lexed, the marks among them.
+/// and, where many tokens were lexed, the boundaries among them.
 pub(crate) fn past_edit(
     checkpoints: &Checkpoints,
     at: Relexing,
-    marks: &Checkpoints,
+    lexed_bounds: &Checkpoints,
     len: usize,
 ) -> Checkpoints {
     let mut moved = checkpoints.after(at.front, at.back, end_of(at));
@@ -95,7 +95,7 @@ pub(crate) fn past_edit(
         moved.remember(at.front, len);
         return moved;
     }
-    let mut all = moved.joined(marks, len);
+    let mut all = moved.joined(lexed_bounds, len);
     if at.front.number == 0 {
         return all;
     }

@@ -33,7 +33,7 @@ impl Case {
     }
 }
 
-/// The texts of a table with their tokens, each with its mark.
+/// The texts of a table with their tokens, each with what it is for.
 fn texts<M: Copy>(entries: &[Entry<M>]) -> Vec<(String, Vec<(TokenKind, u32)>, M)> {
     let (mut texts, mut text, mut tokens, mut each) =
         (Vec::new(), String::new(), Vec::new(), Vec::new());
@@ -45,9 +45,9 @@ fn texts<M: Copy>(entries: &[Entry<M>]) -> Vec<(String, Vec<(TokenKind, u32)>, M
                 each.clear();
             }
             Entry::Token(token) => each.push(token),
-            Entry::Mark(mark) => {
+            Entry::End(purpose) => {
                 tokens.append(&mut each);
-                texts.push((mem::take(&mut text), mem::take(&mut tokens), mark));
+                texts.push((mem::take(&mut text), mem::take(&mut tokens), purpose));
             }
         }
     }

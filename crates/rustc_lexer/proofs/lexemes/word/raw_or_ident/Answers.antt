@@ -3,21 +3,21 @@ use Rattle.std.proofs.Common.{arith, rules}
 use Rattle.std.proofs.Common.{◌≡◌, ◌∙◌, ◌&&◌, Bool, true, List, ℕ, ap, sym, codes, drop}
 use Rattle.std.specs.Str.{chars, IsUtf8}
 use Rattle.rustc_lexer.specs.means.Ident.{ident_or_unknown_prefix}
-use Rattle.rustc_lexer.specs.means.Lexeme.{is_raw_mark, begins_raw}
+use Rattle.rustc_lexer.specs.means.Lexeme.{opens_raw, begins_raw}
 use Rattle.rustc_lexer.specs.means.Raw.{raw_literal}
 use Rattle.rustc_lexer.specs.means.Scan.{after, begins, next_is, past}
 use Rattle.rustc_lexer.specs.laws.Past.{chars-past}
 use Rattle.rustc_lexer.specs.laws.Scan.{scanned-after, scanned-yes, scanned-no}
 use Rattle.rustc_lexer.proofs.lexemes.word.raw_or_ident.Goals as goal
 
--- past the `r`, a mark makes a raw string
-raw-is : (tail rest : List ℕ) (b : Bool) → IsUtf8 tail → begins (codes "r") (chars tail) ≡ true → rest ≡ past 1 tail → b ≡ next_is is_raw_mark (chars rest) → begins_raw (chars tail) ≡ b
-raw-is tail rest b is r e f = ap (λ (x : Bool). x && next_is is_raw_mark (drop 1 (chars tail))) r ∙ (ap (next_is is_raw_mark) (sym (ap chars e ∙ chars-past 1 tail is)) ∙ sym f)
+-- past the `r`, a hash or a quote makes a raw string
+raw-is : (tail rest : List ℕ) (b : Bool) → IsUtf8 tail → begins (codes "r") (chars tail) ≡ true → rest ≡ past 1 tail → b ≡ next_is opens_raw (chars rest) → begins_raw (chars tail) ≡ b
+raw-is tail rest b is r e f = ap (λ (x : Bool). x && next_is opens_raw (drop 1 (chars tail))) r ∙ (ap (next_is opens_raw) (sym (ap chars e ∙ chars-past 1 tail is)) ∙ sym f)
 
 pub returns-then-begins_raw : goal.returns-then-begins_raw
 returns-then-begins_raw c =
-    let marked : begins_raw (chars c.args.tail.now) ≡ true = raw-is _ _ true c.utf8.tail c.in-Some.ensures.0 c.in-Some.ensures.1 c.if-begins_raw.ensures in
-    c.raw_literal.ensures ∙ sym (scanned-yes begins_raw (after 1 (raw_literal c.args.prefix)) ident_or_unknown_prefix _ marked ∙ scanned-after 1 (raw_literal c.args.prefix) _ _ c.utf8.tail c.in-Some.ensures.1)
+    let opens : begins_raw (chars c.args.tail.now) ≡ true = raw-is _ _ true c.utf8.tail c.in-Some.ensures.0 c.in-Some.ensures.1 c.if-begins_raw.ensures in
+    c.raw_literal.ensures ∙ sym (scanned-yes begins_raw (after 1 (raw_literal c.args.prefix)) ident_or_unknown_prefix _ opens ∙ scanned-after 1 (raw_literal c.args.prefix) _ _ c.utf8.tail c.in-Some.ensures.1)
 
 pub returns-else-begins_raw : goal.returns-else-begins_raw
 returns-else-begins_raw c = grind (arith, common_steps, rules, raw-is, scanned-no)

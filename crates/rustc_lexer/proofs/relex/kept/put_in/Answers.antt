@@ -71,7 +71,7 @@ returns g c =
         new_are law b c.new_head-new_head.ensures r ∙ ap₂ (document_by (head_by g.E.Extent.whole)) (sym c.relex.ensures.grammar) c.as_str-made.ensures.value,
         c.find_head-now.ensures.head ∙ ap (head_by g.E.Extent.whole) c.as_str-made.ensures.value,
         subst (λ (xs : List ℕ). IsCharBoundary xs c.find_head-now.result.body) c.as_str-made.ensures.value c.find_head-now.ensures.boundary,
-        subst (λ (ts : List Token). AreBounds ts c.past_edit-kept.result) (sym (new_behind law b c.new_head-new_head.ensures r)) (c.past_edit-kept.ensures _ _ moved.1 (subst (λ k. AreBounds (drop k c.args.kept.now.tokens.items) c.args.kept.now.checkpoints) (sym b.n_is) c.requires.of_text.4) (subst (λ (ts : List Token). AreBounds ts c.relex.new.marks) (sym (behind_are law b c.new_head-new_head.ensures r)) (c.in_ok-lexed.ensures.marks _ _ made near (c.new-marks.ensures _)))),
+        subst (λ (ts : List Token). AreBounds ts c.past_edit-kept.result) (sym (new_behind law b c.new_head-new_head.ensures r)) (c.past_edit-kept.ensures _ _ moved.1 (subst (λ k. AreBounds (drop k c.args.kept.now.tokens.items) c.args.kept.now.checkpoints) (sym b.n_is) c.requires.of_text.4) (subst (λ (ts : List Token). AreBounds ts c.relex.new.lexed_bounds) (sym (behind_are law b c.new_head-new_head.ensures r)) (c.in_ok-lexed.ensures.bounds _ _ made near (c.new-lexed_bounds.ensures _)))),
       );
       relexed = subst (λ (x : Relexed). IsRelexedByHead (head_by g.E.Extent.whole) (g.S.Stepper.grammar c.args.kept.now.stepper) (string_bytes c.args.kept.now.text) c.args.start c.args.stop c.args.insert.now x) (sym c.counted.ensures) (counted_relexed law b c.new_head-new_head.ensures r _ c.count.ensures size c.counts.ensures.counts (body_by_part _ _ _ _ _ _ exact.0));
       kept_tokens = record { all = subst (λ (x : Relexed). x.kept_front + x.lexed + x.kept_back ≡ length c.put_tokens.new.tokens.items) (sym c.counted.ensures) (counted_all law b c.new_head-new_head.ensures r _ c.count.ensures size c.counts.ensures.counts); front = subst (λ (x : Relexed). take x.kept_front c.put_tokens.new.tokens.items ≡ take x.kept_front c.args.kept.now.tokens.items) (sym c.counted.ensures) (counted_front law b c.new_head-new_head.ensures r _ c.count.ensures size c.counts.ensures.counts); back = subst (λ (x : Relexed). drop (x.kept_front + x.lexed) c.put_tokens.new.tokens.items ≡ drop (length c.args.kept.now.tokens.items - x.kept_back) c.args.kept.now.tokens.items) (sym c.counted.ensures) (counted_back law b c.new_head-new_head.ensures r _ c.count.ensures size c.counts.ensures.counts) };

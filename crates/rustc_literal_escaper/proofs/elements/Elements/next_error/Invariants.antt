@@ -1,6 +1,6 @@
 use Rattle.std.proofs.Common.{◌≡◌, length}
 use Rattle.rustc_literal_escaper.specs.Meaning.{errors_in}
-use Rattle.rustc_literal_escaper.proofs.elements.Elements.next_fault.Given as goal
+use Rattle.rustc_literal_escaper.proofs.elements.Elements.next_error.Given as goal
 
 abbrev pub invariant-elements : goal.invariant-elements
 invariant-elements l = errors_in l.mode l.self ≡ errors_in l.mode l.initial.self
