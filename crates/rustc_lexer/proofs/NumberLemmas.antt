@@ -82,19 +82,19 @@ module _ (base : Base) (text : List ℕ) (is : IsUtf8 text) where
     pick-exponent e f = fraction-no (rw e refl) ∙ (scanned-yes (next_is is_exponent_letter) (after 1 (float_exponent base)) (gives (Int base false)) text f ∙ scanned-after 1 (float_exponent base) text tail is at)
 
 -- a number, once its integer part is known
-module _ (first : ℕ) (text rest : List ℕ) (base : Base) (empty : Bool) (is : IsUtf8 text) (e : (part_of base empty, rest) ≡ scanned (integer_part first) text) where
-  by_integer_part : scanned (number_kind first) text ≡ scanned (tail (part_of base empty)) rest
+module _ (first : ℕ) (text rest : List ℕ) (part : IntegerPart) (is : IsUtf8 text) (e : (part, rest) ≡ scanned (integer_part first) text) where
+  by_integer_part : scanned (number_kind first) text ≡ scanned (tail part) rest
   unfolding number_kind
-  by_integer_part = scanned-and_then (integer_part first) tail text rest (part_of base empty) is e
+  by_integer_part = scanned-and_then (integer_part first) tail text rest part is e
 
-  pub pick-tail : empty ≡ false → scanned (number_kind first) text ≡ scanned (past_digits base) rest
-  pick-tail f = by_integer_part ∙ ap (λ b. scanned (tail (part_of base b)) rest) f
+  pub pick-tail : part.empty_int ≡ false → scanned (number_kind first) text ≡ scanned (past_digits part.base) rest
+  pick-tail f = by_integer_part ∙ ap (λ b. scanned (tail (part_of part.base b)) rest) f
 
-  pub pick-empty : empty ≡ true → scanned (number_kind first) text ≡ (Int base true, rest)
+  pub pick-empty : part.empty_int ≡ true → scanned (number_kind first) text ≡ (Int part.base true, rest)
   pick-empty f =
       let left : rest ≡ past (integer_part first (chars text)).1 text = ap (λ (r : IntegerPart × List ℕ). r.1) e in
       let utf8 : IsUtf8 rest = rw left (IsUtf8-past _ text is) in
-      by_integer_part ∙ (ap (λ b. scanned (tail (part_of base b)) rest) f ∙ scanned-gives _ rest utf8)
+      by_integer_part ∙ (ap (λ b. scanned (tail (part_of part.base b)) rest) f ∙ scanned-gives _ rest utf8)
 
 -- a run of digits and underscores is the underscores at its front, and what follows them
 module _ (is_digit : ℕ → Bool) (none : is_digit 95 ≡ false) where

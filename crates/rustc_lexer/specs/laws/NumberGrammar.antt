@@ -79,7 +79,7 @@ past_digits-is base s stops = by_test (λ (r : LiteralKind × ℕ). IsTailBefore
 
 -- with its first digit, where no digit of the base goes on
 abbrev Whole : List ℕ → IntegerPart × ℕ → Type 0
-Whole s r = IsWholePart r.0.base r.0.empty (48 ∷ take r.1 s) × (next_is (is_digit_of r.0.base) (drop r.1 s) ≡ false)
+Whole s r = IsWholePart r.0.base r.0.empty_int (48 ∷ take r.1 s) × (next_is (is_digit_of r.0.base) (drop r.1 s) ≡ false)
 
 -- past a run of digits and underscores is no digit
 run-stops : (is_digit : ℕ → Bool) (s : List ℕ) → next_is is_digit (drop (run_len (or_underscore is_digit) s) s) ≡ false
@@ -91,9 +91,9 @@ past_prefix-is : (letter : ℕ) (base : Base) → ((ds : List ℕ) → AreDigits
     → Whole s (after 1 (read_as (prefixed base) (digits (is_digit_of base))) s)
 past_prefix-is letter base w0 s w1 = grind (arith, common_steps, eqb-true, and_parts, take-one, run_all, drop-one, run-stops)
 
-integer_part-is : (first : ℕ) (s : List ℕ) → is_ascii_digit first ≡ true → IsWholePart (integer_part first s).0.base (integer_part first s).0.empty (first ∷ take (integer_part first s).1 s) × (next_is (is_digit_of (integer_part first s).0.base) (drop (integer_part first s).1 s) ≡ false)
+integer_part-is : (first : ℕ) (s : List ℕ) → is_ascii_digit first ≡ true → IsWholePart (integer_part first s).0.base (integer_part first s).0.empty_int (first ∷ take (integer_part first s).1 s) × (next_is (is_digit_of (integer_part first s).0.base) (drop (integer_part first s).1 s) ≡ false)
 integer_part-is first s digit =
-    by_test (λ (r : IntegerPart × ℕ). IsWholePart r.0.base r.0.empty (first ∷ take r.1 s) × (next_is (is_digit_of r.0.base) (drop r.1 s) ≡ false)) (first == byte "0") (part_past_zero s) (decimal s)
+    by_test (λ (r : IntegerPart × ℕ). IsWholePart r.0.base r.0.empty_int (first ∷ take r.1 s) × (next_is (is_digit_of r.0.base) (drop r.1 s) ≡ false)) (first == byte "0") (part_past_zero s) (decimal s)
     at_zero (λ t. (plain digit (run_all (or_underscore is_ascii_digit) s), run-stops is_ascii_digit s))
   where
     past_zero-is : Whole s (part_past_zero s)
@@ -102,8 +102,8 @@ integer_part-is first s digit =
         (λ t. by_test (Whole s) (begins (codes "o") s) (after 1 octal s) _ (past_prefix-is 111 Octal (λ ds. with_o) s)
         (λ t. by_test (Whole s) (begins (codes "x") s) (after 1 hexadecimal s) (decimal s) (past_prefix-is 120 Hexadecimal (λ ds. with_x) s) (λ t. (plain refl (run_all (or_underscore is_ascii_digit) s), run-stops is_ascii_digit s))))
 
-    at_zero : (first == byte "0") ≡ true → IsWholePart (part_past_zero s).0.base (part_past_zero s).0.empty (first ∷ take (part_past_zero s).1 s) × (next_is (is_digit_of (part_past_zero s).0.base) (drop (part_past_zero s).1 s) ≡ false)
-    at_zero t = (subst (λ (x : ℕ). IsWholePart (part_past_zero s).0.base (part_past_zero s).0.empty (x ∷ take (part_past_zero s).1 s)) (sym (eqb-true first 48 t)) past_zero-is.0, past_zero-is.1)
+    at_zero : (first == byte "0") ≡ true → IsWholePart (part_past_zero s).0.base (part_past_zero s).0.empty_int (first ∷ take (part_past_zero s).1 s) × (next_is (is_digit_of (part_past_zero s).0.base) (drop (part_past_zero s).1 s) ≡ false)
+    at_zero t = (subst (λ (x : ℕ). IsWholePart (part_past_zero s).0.base (part_past_zero s).0.empty_int (x ∷ take (part_past_zero s).1 s)) (sym (eqb-true first 48 t)) past_zero-is.0, past_zero-is.1)
 
 -- ---- a number
 
@@ -112,7 +112,7 @@ pub number-form : (first : ℕ) (s : List ℕ) → is_ascii_digit first ≡ true
 unfolding number_kind
 number-form first s digit =
     subst (λ (xs : List ℕ). HasNumberForm (drop (n + m) s) (tail f left).0 (first ∷ xs)) (sym (take-add n m s))
-    (subst (λ (next : List ℕ). HasNumberForm next (tail f left).0 (first ∷ take n s ++ take m left)) (drop-drop m n s) (by_empty f.empty (integer_part-is first s digit).0))
+    (subst (λ (next : List ℕ). HasNumberForm next (tail f left).0 (first ∷ take n s ++ take m left)) (drop-drop m n s) (by_empty f.empty_int (integer_part-is first s digit).0))
   where
     f : IntegerPart
     f = (integer_part first s).0

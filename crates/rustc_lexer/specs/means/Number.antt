@@ -3,6 +3,7 @@ use Rattle.std.specs.Prelude.{ℕ, ◌==◌, ◌&&◌, not, Bool, false, true, i
 use Rattle.std.specs.Char.{is_ascii_digit, is_ascii_hexdigit}
 use Rattle.std.specs.List.{list_any}
 use Rattle.std.specs.Str.{byte}
+pub use Rattle.rustc_lexer.specs.declared.lexemes.number.IntegerPart.{IntegerPart}
 use Rattle.rustc_lexer.specs.{Base, LiteralKind, TokenKind, Binary, Octal, Decimal, Hexadecimal, Int, Float}
 use Rattle.rustc_lexer.specs.means.Literal.{Body, literal}
 pub use Rattle.rustc_lexer.specs.NumberGrammar.{or_underscore, is_exponent_letter, is_sign, is_no_fraction}
@@ -16,12 +17,8 @@ abbrev pub digits : (ℕ → Bool) → List ℕ → Bool × ℕ
 digits is_digit s = run_as (λ ds rest. list_any is_digit ds) (or_underscore is_digit) s
 
 -- the integer part of a number: its base, and whether that has a prefix with no digit after it
-pub record IntegerPart : Type 0 where
-  pub base : Base
-  pub empty : Bool
-
 abbrev pub part_of : Base → Bool → IntegerPart
-part_of base empty = record { base = base; empty = empty }
+part_of base empty = record { base = base; empty_int = empty }
 
 -- an integer part with a prefix, by whether a digit follows that
 abbrev pub prefixed : Base → Bool → IntegerPart
@@ -93,7 +90,7 @@ past_digits base s =
 -- what follows the integer part of a number
 abbrev pub tail : IntegerPart → List ℕ → LiteralKind × ℕ
 tail integer_part s =
-    if integer_part.empty then gives (Int integer_part.base true) s else past_digits
+    if integer_part.empty_int then gives (Int integer_part.base true) s else past_digits
     integer_part.base s
 
 -- a number past its first digit, up to where a suffix may stand

@@ -34,46 +34,74 @@ pub(crate) fn number(first_digit: char, tail: &str) -> (TokenKind, &str)
 fn number_kind(first_digit: char, tail: &str) -> (LiteralKind, &str)
     ensures { (result.0, result.1.now) ≡ scanned (spec.number_kind first_digit) tail.now }
 {
-    let (base, empty_int, rest) = integer_part(first_digit, tail);
+    let (part, rest) = integer_part(first_digit, tail);
+    let IntegerPart { base, empty_int } = part;
     if empty_int {
         return (LiteralKind::Int { base, empty_int }, rest);
     }
     past_digits(base, rest)
 }
 
-/// Returns the base, whether the number has a prefix without a digit after it, and the text after its digits up to
-/// a point or an exponent.
+/// The digits of a number up to a point or an exponent, with the prefix before them.
+#[derive(Clone, Copy)]
+pub(crate) struct IntegerPart {
+    base: Base,
+    /// Whether there is a prefix without a digit after it.
+    empty_int: bool,
+}
+
+/// Returns the integer part of a number, and the text after it.
 #[inline(always)]
-fn integer_part(first_digit: char, tail: &str) -> (Base, bool, &str)
-    ensures { (spec.part_of result.0 result.1, result.2.now)
-        ≡ scanned (spec.integer_part first_digit) tail.now }
+fn integer_part(first_digit: char, tail: &str) -> (IntegerPart, &str)
+    ensures { (result.0, result.1.now) ≡ scanned (spec.integer_part first_digit) tail.now }
 {
     if first_digit == '0' {
         part_past_zero(tail)
     } else {
-        (Base::Decimal, false, eat_decimal(tail))
+        decimal(tail)
     }
 }
 
-/// Returns the base of a number whose first digit is 0, whether its prefix has no digit after it, and the text
-/// after its digits.
+/// Returns the integer part of a number whose first digit is 0, and the text after it.
 #[inline(always)]
-fn part_past_zero(tail: &str) -> (Base, bool, &str)
-    ensures { (spec.part_of result.0 result.1, result.2.now)
-        ≡ scanned spec.part_past_zero tail.now }
+fn part_past_zero(tail: &str) -> (IntegerPart, &str)
+    ensures { (result.0, result.1.now) ≡ scanned spec.part_past_zero tail.now }
 {
     if let Some(digits) = strip(tail, b'b') {
         let DigitRun { has_digit, rest } = eat_decimal_digits(digits);
-        (Base::Binary, !has_digit, rest)
+        (prefixed(Base::Binary, has_digit), rest)
     } else if let Some(digits) = strip(tail, b'o') {
         let DigitRun { has_digit, rest } = eat_decimal_digits(digits);
-        (Base::Octal, !has_digit, rest)
+        (prefixed(Base::Octal, has_digit), rest)
     } else if let Some(digits) = strip(tail, b'x') {
         let DigitRun { has_digit, rest } = eat_hexadecimal_digits(digits);
-        (Base::Hexadecimal, !has_digit, rest)
+        (prefixed(Base::Hexadecimal, has_digit), rest)
     } else {
-        (Base::Decimal, false, eat_decimal(tail))
+        decimal(tail)
     }
+}
+
+/// Returns the integer part with a prefix of this base, by whether a digit follows the prefix.
+#[inline(always)]
+fn prefixed(base: Base, has_digit: bool) -> IntegerPart
+    ensures { result ≡ spec.prefixed base has_digit }
+{
+    IntegerPart {
+        base,
+        empty_int: !has_digit,
+    }
+}
+
+/// Returns the integer part without a prefix, and the text after it.
+#[inline(always)]
+fn decimal(tail: &str) -> (IntegerPart, &str)
+    ensures { (result.0, result.1.now) ≡ scanned spec.decimal tail.now }
+{
+    let part = IntegerPart {
+        base: Base::Decimal,
+        empty_int: false,
+    };
+    (part, eat_decimal(tail))
 }
 
 /// Returns the kind of a number of this base, and the text after it. The text after its integer part makes it a number
