@@ -126,9 +126,9 @@ fn lex_ahead<S: Stepper>(
         ≤ S.count stepper.old
         + (relexed_of (S.grammar stepper.old) before change.start change.old_stop insert).lexed) }
 {
-    let mut marks = Checkpoints::new();
+    let mut lexed_bounds = Checkpoints::new();
     let old = &tokens.as_slice()[gap.rest..];
-    let (lexed, at) = relex(alloc, stepper, old, FIRST, text, change, &mut marks)?;
+    let (lexed, at) = relex(alloc, stepper, old, FIRST, text, change, &mut lexed_bounds)?;
     *gap = gap.advance(tokens, at.front.number);
     *gap = gap.put(alloc, tokens, at.back.number - at.front.number, lexed)?;
     Ok(at)

@@ -71,9 +71,9 @@ fn lex_ahead<S: Stepper>(
     text: &str,
     change: Change,
 ) -> Result<Relexing, AllocError> {
-    let mut marks = Checkpoints::new();
+    let mut lexed_bounds = Checkpoints::new();
     let old = &tokens.as_slice()[gap.rest..];
-    let (lexed, at) = relex(alloc, stepper, old, FIRST, text, change, &mut marks)?;
+    let (lexed, at) = relex(alloc, stepper, old, FIRST, text, change, &mut lexed_bounds)?;
     *gap = gap.advance(tokens, at.front.number);
     *gap = gap.put(alloc, tokens, at.back.number - at.front.number, lexed)?;
     Ok(at)
