@@ -7,11 +7,13 @@ ghost use Rattle.rustc_lexer.specs.Offsets.{IsBound};
 ghost use Rattle.rustc_lexer.specs.Tokens.{bound};
 
 use crate::relex::front::{Bound, FIRST};
-use crate::relex::lex::BUFFER_LEN;
 use crate::token::Token;
 
 /// How many token boundaries are remembered.
 const COUNT: usize = 64;
+
+/// How many tokens are at least between two boundaries that are remembered at once.
+pub(crate) const BETWEEN: usize = 128;
 
 /// Some boundaries of a list of tokens: one for each of `COUNT` equal shares of its text.
 #[derive(Clone, Copy)]
@@ -38,7 +40,7 @@ impl Checkpoints {
         let mut at = FIRST;
         'left: while at.number < tokens.len() {
             checkpoints.remember(at, len);
-            let number = (at.number + BUFFER_LEN).min(tokens.len());
+            let number = (at.number + BETWEEN).min(tokens.len());
             let end = end_from(at.offset as u32, &tokens[at.number..number]);
             at = Bound {
                 number,

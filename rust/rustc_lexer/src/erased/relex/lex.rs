@@ -3,13 +3,13 @@
 use crate::support::Vec;
 
 use crate::erased::entry::stepper::Stepper;
-use crate::erased::relex::checkpoints::Checkpoints;
+use crate::erased::relex::checkpoints::{BETWEEN, Checkpoints};
 use crate::erased::relex::front::Bound;
 use crate::erased::token::{Token, TokenKind};
 use crate::support::AllocError;
 
-/// How many tokens are lexed at once, and how many there are between two checkpoints.
-pub(crate) const BUFFER_LEN: usize = 128;
+/// How many tokens are lexed at once.
+const BUFFER_LEN: usize = BETWEEN;
 
 /// Lexes all tokens of a text, and appends them to a list. Returns checkpoints among them.
 pub(crate) fn lex_all<S: Stepper>(
