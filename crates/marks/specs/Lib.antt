@@ -6,6 +6,7 @@ pub mod Frontmatter
 pub mod FrontmatterEnd
 pub mod Keyword
 pub mod Literal
+pub mod LiteralMarks
 pub mod Mark
 pub mod Marked
 pub mod Part

@@ -1,5 +1,5 @@
 //! Writes literals: their escapes, and what is wrong in them.
-ghost use Rattle.std.specs.Prelude.{◌≡◌, ◌+◌, ◌≤◌, ◌<◌, length, IfSome, MatchResult, OnOk};
+ghost use Rattle.std.specs.Prelude.{◌≡◌, ◌+◌, ◌≤◌, ◌<◌, false, length, IfSome, MatchResult, OnOk};
 ghost use Rattle.std.specs.Fmt.{WritesInCalls};
 ghost use Rattle.std.specs.Str.{IsCharBoundary};
 ghost use Rattle.rustc_lexer.specs.Classes.{Fits};
@@ -7,6 +7,7 @@ ghost use Rattle.rustc_literal_escaper.specs.Answers.{items_of};
 ghost use Rattle.rustc_literal_escaper.specs.Meaning.{is_raw, is_single};
 ghost use Rattle.rustc_literal_escaper.specs.Items.{ArePlaced};
 ghost use Rattle.marks.specs.Literal as spec;
+ghost use Rattle.marks.specs.LiteralMarks.{IsMarked};
 ghost use Rattle.marks.specs.Marked.{literal_parts};
 ghost use Rattle.marks.specs.means.Literal as means;
 ghost use Rattle.marks.specs.Part.{with_marks};
@@ -61,6 +62,8 @@ pub fn inside(kind: TokenKind, text: &str) -> Option<(Mode, Range<usize>)>
     ensures value { result ≡ spec.contents kind text.now }
     ensures places { IfSome result (λ found. IsCharBoundary text.now found.1.start
         × IsCharBoundary text.now found.1.end × (found.1.start ≤ found.1.end)) }
+    ensures marks { IfSome result (λ found. is_single found.0 ≡ false
+        → IsMarked found.0 found.1.start found.1.end text.now) }
 {
     let mode = mode_of(kind)?;
     let (start, end) = between_quotes(mode, text)?;

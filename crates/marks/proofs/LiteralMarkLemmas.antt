@@ -1,0 +1,216 @@
+-- The stretches of a string are in order, and are wrong where the escaper reports errors.
+use Rattle.std.proofs.Common.{◌≡◌, ℕ, ◌+◌, ◌-◌, ◌<◌, ◌≤◌, ◌⊎◌, inl, inr, nat_lt, not, if◌then◌else◌, Bool, true, false, true≢false, List, [], ◌∷◌, ◌++◌, drop, length, slice_index_or, refl, sym, ap, ◌∙◌, subst, arith, append-nil, append_assoc, codes, length-drop, All, IsCharBoundary, IsUtf8, Option, Some, None}
+use Rattle.std.specs.Char.{is_whitespace}
+use Rattle.std.specs.List.{between, list_all, list_any}
+use Rattle.std.specs.declared.ops.Range.{Range}
+use Rattle.std.proofs.lemmas.Bool.{cases_lt, le-leb, le-ltb, ltb-false, ltb-true, lt-ltb}
+use Rattle.std.proofs.lemmas.Bool.Decides.{nat_tests}
+use Rattle.std.proofs.lemmas.List.{length-take-le}
+use Rattle.std.proofs.lemmas.List.Elements.{All-append, All-cons, All-head, All-nil, All-tail, All-weaker, Contains-append_right}
+use Rattle.std.proofs.lemmas.Grind.{common_steps}
+use Rattle.std.proofs.lemmas.Str.{IsUtf8-between}
+use Rattle.rustc_lexer.specs.laws.Choice.{by_test}
+use Rattle.rustc_literal_escaper.specs.Answers.{errors_of, items_of}
+use Rattle.rustc_literal_escaper.specs.Grammar as the
+use Rattle.rustc_literal_escaper.specs.Grammar.{AreItems, Error, Item, bytes, is_newline, item, lines_warning, space_warning}
+use Rattle.rustc_literal_escaper.specs.Items.{IsPlaced}
+use Rattle.rustc_literal_escaper.specs.Meaning.{error_of, errors_in, is_raw, is_single, put}
+use Rattle.rustc_literal_escaper.specs.laws.TheAnswers.{items-are}
+use Rattle.rustc_literal_escaper.specs.declared.element.Element.{Element}
+use Rattle.rustc_literal_escaper.specs.declared.element.Element.TheVariants.{Fault, Plain}
+use Rattle.rustc_literal_escaper.specs.declared.error.EscapeError.{EscapeError}
+use Rattle.rustc_literal_escaper.specs.declared.error.EscapeError.TheVariants.{MultipleSkippedLinesWarning, UnskippedWhitespaceWarning}
+use Rattle.rustc_literal_escaper.specs.declared.mode.Mode.{Mode}
+use Rattle.rustc_literal_escaper.specs.declared.mode.Mode.TheVariants.{Byte, Char}
+use Rattle.rustc_literal_escaper.proofs.PlacedLemmas.{are_placed}
+use Rattle.marks.specs.declared.literal.Look.{Look}
+use Rattle.marks.specs.declared.literal.Look.TheVariants.{Escape, Wrong}
+use Rattle.marks.specs.Answers.{stretches_in, string_stretches}
+use Rattle.marks.specs.Literal.{Stretch, is_plain, single_stretches, stretch}
+use Rattle.marks.specs.LiteralMarks.{AreInOrder, IsMarked, IsReported, is_escaped, is_in}
+use Rattle.marks.specs.means.Literal as means
+use Rattle.marks.specs.means.Literal.{element_look, gap, look_by, stretches_from}
+use Rattle.marks.proofs.LiteralLemmas.{string_found}
+
+fault-told : (mode : Mode) (error : EscapeError) → error_of mode (Fault error) ≡ Some error
+fault-told Char error = refl
+fault-told mode error = refl
+
+errors-are : (mode : Mode) (text : List ℕ) → is_single mode ≡ false → errors_of mode text ≡ errors_in mode (items_of (is_raw mode) text)
+errors-are Char text double = absurd (true≢false double)
+errors-are Byte text double = absurd (true≢false double)
+errors-are mode text double = refl
+
+module _ (mode : Mode) (begin close : ℕ) where
+  abbrev place : Item → ℕ
+  place i = begin + i.0.start
+
+  -- as `IsShown`, and an item that is not in a stretch that is wrong has no error
+  abbrev IsTold : List Stretch → Item → Type 0
+  IsTold ss i = (is_in ss (place i) ≡ true) ⊎ ((error_of mode i.1 ≡ None) × (is_escaped ss (place i) ≡ not (is_plain i.1)))
+
+  -- what is true of stretches from the offset `at` on and of these items, some of which may begin before it
+  record Marks (at : ℕ) (items : List Item) (ss : List Stretch) : Type 0 where
+    order : AreInOrder at ss close
+    wrong : All (IsReported begin (errors_in mode items)) ss
+    told : All (λ (i : Item). (place i < at) ⊎ IsTold ss i) items
+
+  -- ---- one more stretch, and one more item
+
+  lower : (at to : ℕ) (ss : List Stretch) → at ≤ to → AreInOrder to ss close → AreInOrder at ss close
+  lower at to [] le order = omega (arith, le, order)
+  lower at to (s ∷ ss) le order = (omega (arith, le, order.0), order.1, order.2)
+
+  not-yet : (at p : ℕ) (ss : List Stretch) → AreInOrder at ss close → p < at → is_escaped ss p ≡ false
+  not-yet at p [] order less = refl
+  not-yet at p (s ∷ ss) order less = grind (arith, common_steps, nat_tests, not-yet s.end p ss order.2 (omega (arith, less, order.0, order.1)))
+
+  past : (at to : ℕ) (look : Option Look) (ss : List Stretch) (i : Item) → at ≤ to → to ≤ place i → IsTold ss i → IsTold (stretch at to look ++ ss) i
+  past at to None ss i low high told = told
+  past at to (Some Escape) ss i low high told = rw (le-leb at (place i) (omega (arith, low, high)), le-ltb (place i) to high) told
+  past at to (Some (Wrong error)) ss i low high told = rw (le-leb at (place i) (omega (arith, low, high)), le-ltb (place i) to high) told
+
+  more : (at to : ℕ) (look : Option Look) (items : List Item) (ss : List Stretch) → at < to → All (λ (i : Item). (to ≤ place i) ⊎ IsTold (stretch at to look ++ ss) i) items
+      → All (IsReported begin (errors_in mode items)) (stretch at to look) → Marks to items ss → Marks at items (stretch at to look ++ ss)
+  more at to look items ss less each reported marks = record {
+    order = by_look look;
+    wrong = All-append (IsReported begin (errors_in mode items)) (stretch at to look) ss reported marks.wrong;
+    told = λ k d low. inr (elim (each k d low) [
+      | inl high ↦ elim (marks.told k d low) [ inl before ↦ absurd (omega (arith, high, before)) | inr told ↦ past at to look ss (slice_index_or items k d) (omega (arith, less)) high told ]
+      | inr told ↦ told
+    ]);
+  }
+    where
+      by_look : (look : Option Look) → AreInOrder at (stretch at to look ++ ss) close
+      by_look None = lower at to ss (omega (arith, less)) marks.order
+      by_look (Some look) = (omega arith, less, marks.order)
+
+  more-errors : (range : Range ℕ) (o : Option EscapeError) (errors : List Error) (ss : List Stretch) → All (IsReported begin errors) ss → All (IsReported begin (put range o errors)) ss
+  more-errors range None errors ss are = are
+  more-errors range (Some error) errors ss are =
+      All-weaker (IsReported begin errors) (IsReported begin ((range, error) ∷ errors)) (λ s is other looks. let r = is other looks in (r.0, r.1, r.2, Contains-append_right {X = Error} ((range, error) ∷ []) errors (r.0, other) r.3)) ss are
+
+  earlier : (at : ℕ) (i : Item) (items : List Item) (ss : List Stretch) → place i < at → Marks at items ss → Marks at (i ∷ items) ss
+  earlier at i items ss less marks = record {
+    order = marks.order;
+    wrong = more-errors i.0 (error_of mode i.1) (errors_in mode items) ss marks.wrong;
+    told = All-cons (λ (x : Item). (place x < at) ⊎ IsTold ss x) i items (inl less) marks.told;
+  }
+
+  -- an escape is not wrong
+  fine : (errors : List Error) (at to : ℕ) → All (IsReported begin errors) (stretch at to (Some Escape))
+  fine errors at to = All-cons (IsReported begin errors) (record { start = at; end = to; look = Escape }) [] (λ error looks. absurd (let no : Escape ≡ Wrong error = looks in cc)) (All-nil (IsReported begin errors))
+
+  skipped : (at to : ℕ) (items : List Item) (ss : List Stretch) → at ≤ to → All (λ (i : Item). to ≤ place i) items → Marks to items ss → Marks at items (gap at to ++ ss)
+  skipped at to items ss le after marks = by_test (λ (front : List Stretch). Marks at items (front ++ ss)) (nat_lt at to) (stretch at to (Some Escape)) []
+      (λ some. more at to (Some Escape) items ss (ltb-true at to some) (λ k d low. inl (after k d low)) (fine (errors_in mode items) at to) marks)
+      (λ none. let same : to ≡ at = omega (arith, le, ltb-false at to none) in subst (λ (n : ℕ). Marks n items ss) same marks)
+
+  -- ---- an item, and its stretch
+
+  -- no item begins before this offset
+  abbrev BeginFrom : ℕ → List Item → Type 0
+  BeginFrom from items = All (λ (x : Item). from ≤ x.0.start) items
+
+  wrong-here : (at to p : ℕ) (error : EscapeError) (ss : List Stretch) → at ≤ p → p < to → is_in (stretch at to (Some (Wrong error)) ++ ss) p ≡ true
+  wrong-here at to p error ss low high = rw (le-leb at p low, lt-ltb p to high) refl
+
+  module _ (range : Range ℕ) (items : List Item) (ss : List Stretch) (some : range.start < range.end) (low : BeginFrom range.start items) (marks : Marks (begin + range.end) items ss) where
+    abbrev at : ℕ
+    at = begin + range.start
+
+    abbrev to : ℕ
+    to = begin + range.end
+
+    add : (e : Element) (o : Option EscapeError) (look : Option Look) → error_of mode e ≡ o → All (λ (x : Item). (to ≤ place x) ⊎ IsTold (stretch at to look ++ ss) x) ((range, e) ∷ items)
+        → All (IsReported begin (put range o (errors_in mode items))) (stretch at to look) → Marks at ((range, e) ∷ items) (stretch at to look ++ ss)
+    add e o look is each reported = more at to look ((range, e) ∷ items) ss (omega (arith, some)) each (rw is reported) (earlier to (range, e) items ss (omega (arith, some)) marks)
+
+    -- an item without an error, before which no other item begins that ends after it
+    quiet : (e : Element) (look : Option Look) → error_of mode e ≡ None → BeginFrom range.end items → is_escaped (stretch at to look ++ ss) at ≡ not (is_plain e)
+        → All (IsReported begin (errors_in mode items)) (stretch at to look) → Marks at ((range, e) ∷ items) (stretch at to look ++ ss)
+    quiet e look is high here = add e None look is (All-cons (λ (x : Item). (to ≤ place x) ⊎ IsTold (stretch at to look ++ ss) x) (range, e) items (inr (inr (is, here))) (λ k d less. inl (omega (arith, high k d less))))
+
+    own : (e : Element) (o : Option EscapeError) → error_of mode e ≡ o → (o ≡ None → BeginFrom range.end items) → Marks at ((range, e) ∷ items) (stretch at to (look_by o e) ++ ss)
+    own e (Some error) is high =
+        let errors : List Error = (range, error) ∷ errors_in mode items in
+        add e (Some error) (Some (Wrong error)) is
+        (λ k d less.
+        let x : Item = slice_index_or ((range, e) ∷ items) k d in
+        let after : range.start ≤ x.0.start = All-cons (λ (x : Item). range.start ≤ x.0.start) (range, e) items (omega arith) low k d less in
+        elim (cases_lt (place x) to) [ inl inside ↦ inr (inl (wrong-here at to (place x) error ss (omega (arith, after)) inside)) | inr far ↦ inl far ])
+        (All-cons (IsReported begin errors) (record { start = at; end = to; look = Wrong error }) [] (λ other looks. (range, refl, refl, (0, omega arith, let w : Wrong error ≡ Wrong other = looks in cc))) (All-nil (IsReported begin errors)))
+    own (Plain c) None is high = quiet (Plain c) None is (high refl) (not-yet to at ss marks.order (omega (arith, some))) (All-nil (IsReported begin (errors_in mode items)))
+    own e None is high = quiet e (Some Escape) is (high refl) (rw (le-leb at at (omega arith), lt-ltb at to (omega (arith, some))) refl) (fine (errors_in mode items) at to)
+
+  -- ---- the items of a text
+
+  abbrev Fits : Item → Type 0
+  Fits i = (i.0.start < i.0.end) × (begin + i.0.end ≤ close)
+
+  -- the items from the offset `from` on have such stretches
+  record Claim (from : ℕ) (items : List Item) : Type 0 where
+    begins : BeginFrom from items
+    marks : (at : ℕ) → at ≤ close → All Fits items → Marks at items (stretches_from mode begin at close items)
+
+  one : (from : ℕ) (e : Element) (w : List ℕ) (items : List Item) → (error_of mode e ≡ None → BeginFrom (from + bytes w) items) → Claim from items → Claim from (item from e w ∷ items)
+  one from e w items high claim = record {
+    begins = All-cons (λ (x : Item). from ≤ x.0.start) (item from e w) items (omega arith) claim.begins;
+    marks = λ at le fit.
+        let i : Item = item from e w in
+        let fits = All-head Fits i items fit in
+        let rest = All-tail Fits i items fit in
+        by_test (Marks at (i ∷ items)) (nat_lt (place i) at) _ _
+        (λ told. earlier at i items _ (ltb-true (place i) at told) (claim.marks at le rest))
+        (λ fresh. skipped at (place i) (i ∷ items) _ (ltb-false (place i) at fresh)
+        (All-cons (λ (x : Item). place i ≤ place x) i items (omega arith) (λ k d low. omega (arith, claim.begins k d low)))
+        (own i.0 items _ fits.0 claim.begins (claim.marks (begin + i.0.end) fits.1 rest) e (error_of mode e) refl high));
+  }
+
+  warned : (b : Bool) (from : ℕ) (error : EscapeError) (w : List ℕ) (items : List Item) → Claim from items → Claim from ((if b then item from (Fault error) w ∷ [] else []) ++ items)
+  warned b from error w items claim = by_test (λ (front : List Item). Claim from (front ++ items)) b (item from (Fault error) w ∷ []) []
+      (λ _. one from (Fault error) w items (λ none. absurd (let no : Some error ≡ None = sym (fault-told mode error) ∙ none in cc)) claim) (λ _. claim)
+
+  warned-space : (from : ℕ) (space next : List ℕ) (items : List Item) → Claim from items → Claim from (space_warning from space next ++ items)
+  warned-space from space [] items claim = claim
+  warned-space from space (c ∷ next) items claim = warned (is_whitespace c) from UnskippedWhitespaceWarning (codes "\\\n" ++ space ++ c ∷ []) items claim
+
+  before : (from past : ℕ) (items : List Item) → from ≤ past → Claim past items → Claim from items
+  before from past items le claim = record { begins = λ k d low. omega (arith, le, claim.begins k d low); marks = claim.marks }
+
+  claims : {raw : Bool} {from : ℕ} {s : List ℕ} {items : List Item} → AreItems raw from s items → Claim from items
+  claims (the.nothing {raw} {from}) = record {
+    begins = All-nil (λ (x : Item). from ≤ x.0.start);
+    marks = λ at le fit. subst (Marks at []) (append-nil (gap at close)) (skipped at close [] [] le (All-nil (λ (x : Item). close ≤ place x))
+        (record { order = omega arith; wrong = All-nil (IsReported begin []); told = All-nil (λ (x : Item). (place x < close) ⊎ IsTold [] x) }));
+  }
+  claims (the.element {from} {element = e} {w} {items} is other are) = let rest = claims are in one from e w items (λ _. rest.begins) (before from _ items (omega arith) rest)
+  claims (the.raw_element {from} {c} {element = e} {items} is are) = let rest = claims are in one from e (c ∷ []) items (λ _. rest.begins) (before from _ items (omega arith) rest)
+  claims (the.line_end {from} {next} {items} space all stops are) =
+      let rest = warned-space from space next items (before from _ items (omega arith) (claims are)) in
+      subst (Claim from) (sym (append_assoc (lines_warning from space) (space_warning from space next) items))
+      (warned (list_any is_newline space) from MultipleSkippedLinesWarning (codes "\\\n" ++ space) (space_warning from space next ++ items) rest)
+
+all-in : (mode : Mode) (begin close : ℕ) (ss : List Stretch) (items : List Item) → All (IsTold mode begin close ss) items → list_all (λ (e : Error). is_in ss (begin + e.0.start)) (errors_in mode items) ≡ true
+all-in mode begin close ss [] told = refl
+all-in mode begin close ss (i ∷ items) told = grind (arith, common_steps, All-head (IsTold mode begin close ss) i items told, all-in mode begin close ss items (All-tail (IsTold mode begin close ss) i items told))
+
+pub strings_marked : (mode : Mode) (begin close : ℕ) (text : List ℕ) → IsUtf8 text → IsCharBoundary text begin → IsCharBoundary text close → begin ≤ close → is_single mode ≡ false → IsMarked mode begin close text
+strings_marked mode begin close text utf8 at_begin at_close le double =
+    let inside : List ℕ = between begin close text in
+    let items : List Item = items_of (is_raw mode) inside in
+    let is : IsUtf8 inside = IsUtf8-between text begin close utf8 le at_begin at_close in
+    let high = at_close.0 in
+    let size : length inside ≡ close - begin = length-take-le (close - begin) (drop begin text) (omega (arith, length-drop begin text, high)) in
+    let fit : All (Fits mode begin close) items = All-weaker (IsPlaced inside) (Fits mode begin close) (λ i placed. (placed.not_empty, let ends = placed.end.0 in omega (arith, ends, size, le))) items (are_placed inside is (is_raw mode)) in
+    let marks = (claims mode begin close (items-are (is_raw mode) inside is)).marks begin le fit in
+    let same : means.string_stretches mode begin close text ≡ stretches_in mode begin close text =
+    string_found mode text begin close utf8 le at_begin at_close ∙ ap (λ (b : Bool). if b then single_stretches mode begin close text else string_stretches mode begin close text) (sym double) in
+    let errors = errors-are mode inside double in
+    let told : All (IsTold mode begin close (means.string_stretches mode begin close text)) items = λ k d low. elim (marks.told k d low) [ inl early ↦ absurd (omega (arith, early)) | inr told ↦ told ] in
+    record {
+      order = rw (← same) marks.order;
+      wrong = rw (← same, errors) marks.wrong;
+      all = rw (← same, errors) (all-in mode begin close (means.string_stretches mode begin close text) items told);
+      shown = rw (← same) (λ k d low. elim (told k d low) [ inl wrong ↦ inl wrong | inr quiet ↦ inr quiet.1 ]);
+    }
