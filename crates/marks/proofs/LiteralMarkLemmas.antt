@@ -1,11 +1,10 @@
 -- The stretches of a string are in order, and are wrong where the escaper reports errors.
-use Rattle.std.proofs.Common.{◌≡◌, ℕ, ◌+◌, ◌-◌, ◌<◌, ◌≤◌, ◌⊎◌, inl, inr, nat_lt, not, if◌then◌else◌, Bool, true, false, true≢false, List, [], ◌∷◌, ◌++◌, drop, length, slice_index_or, refl, sym, ap, ◌∙◌, subst, arith, append-nil, append_assoc, codes, length-drop, All, IsCharBoundary, IsUtf8, Option, Some, None}
+use Rattle.std.proofs.Common.{◌≡◌, ℕ, ◌+◌, ◌<◌, ◌≤◌, ◌⊎◌, inl, inr, nat_lt, not, if◌then◌else◌, Bool, true, false, true≢false, List, [], ◌∷◌, ◌++◌, slice_index_or, refl, sym, ap, ◌∙◌, subst, arith, append-nil, append_assoc, codes, All, IsCharBoundary, IsUtf8, Option, Some, None}
 use Rattle.std.specs.Char.{is_whitespace}
 use Rattle.std.specs.List.{between, list_all, list_any}
 use Rattle.std.specs.declared.ops.Range.{Range}
-use Rattle.std.proofs.lemmas.Bool.{cases_lt, le-leb, le-ltb, ltb-false, ltb-true, lt-ltb}
+use Rattle.std.proofs.lemmas.Bool.{cases_lt, ltb-false, ltb-true}
 use Rattle.std.proofs.lemmas.Bool.Decides.{nat_tests}
-use Rattle.std.proofs.lemmas.List.{length-take-le}
 use Rattle.std.proofs.lemmas.List.Elements.{All-append, All-cons, All-head, All-nil, All-tail, All-weaker, Contains-append_right}
 use Rattle.std.proofs.lemmas.Grind.{common_steps}
 use Rattle.std.proofs.lemmas.Str.{IsUtf8-between}
@@ -30,7 +29,7 @@ use Rattle.marks.specs.Literal.{Stretch, is_plain, single_stretches, stretch}
 use Rattle.marks.specs.LiteralMarks.{AreInOrder, IsMarked, IsReported, is_escaped, is_in}
 use Rattle.marks.specs.means.Literal as means
 use Rattle.marks.specs.means.Literal.{element_look, gap, look_by, stretches_from}
-use Rattle.marks.proofs.LiteralLemmas.{string_found}
+use Rattle.marks.proofs.LiteralLemmas.{boundary_in, string_found}
 
 fault-told : (mode : Mode) (error : EscapeError) → error_of mode (Fault error) ≡ Some error
 fault-told Char error = refl
@@ -57,39 +56,38 @@ module _ (mode : Mode) (begin close : ℕ) where
 
   -- ---- one more stretch, and one more item
 
-  lower : (at to : ℕ) (ss : List Stretch) → at ≤ to → AreInOrder to ss close → AreInOrder at ss close
-  lower at to [] le order = omega (arith, le, order)
-  lower at to (s ∷ ss) le order = (omega (arith, le, order.0), order.1, order.2)
+  further : (at to : ℕ) (look : Option Look) (ss : List Stretch) → at < to → AreInOrder to ss close → AreInOrder at (stretch at to look ++ ss) close
+  further at to None [] less order = omega (arith, less, order)
+  further at to None (s ∷ ss) less order = (omega (arith, less, order.0), order.1, order.2)
+  further at to (Some look) ss less order = (omega arith, less, order)
 
+  -- no escape is before the first stretch
   not-yet : (at p : ℕ) (ss : List Stretch) → AreInOrder at ss close → p < at → is_escaped ss p ≡ false
   not-yet at p [] order less = refl
   not-yet at p (s ∷ ss) order less = grind (arith, common_steps, nat_tests, not-yet s.end p ss order.2 (omega (arith, less, order.0, order.1)))
 
+  -- what is told of an item past the stretch stays so
   past : (at to : ℕ) (look : Option Look) (ss : List Stretch) (i : Item) → at ≤ to → to ≤ place i → IsTold ss i → IsTold (stretch at to look ++ ss) i
   past at to None ss i low high told = told
-  past at to (Some Escape) ss i low high told = rw (le-leb at (place i) (omega (arith, low, high)), le-ltb (place i) to high) told
-  past at to (Some (Wrong error)) ss i low high told = rw (le-leb at (place i) (omega (arith, low, high)), le-ltb (place i) to high) told
+  past at to (Some look) ss i low high told = grind (arith, common_steps, nat_tests)
 
   more : (at to : ℕ) (look : Option Look) (items : List Item) (ss : List Stretch) → at < to → All (λ (i : Item). (to ≤ place i) ⊎ IsTold (stretch at to look ++ ss) i) items
       → All (IsReported begin (errors_in mode items)) (stretch at to look) → Marks to items ss → Marks at items (stretch at to look ++ ss)
   more at to look items ss less each reported marks = record {
-    order = by_look look;
+    order = further at to look ss less marks.order;
     wrong = All-append (IsReported begin (errors_in mode items)) (stretch at to look) ss reported marks.wrong;
     told = λ k d low. inr (elim (each k d low) [
       | inl high ↦ elim (marks.told k d low) [ inl before ↦ absurd (omega (arith, high, before)) | inr told ↦ past at to look ss (slice_index_or items k d) (omega (arith, less)) high told ]
       | inr told ↦ told
     ]);
   }
-    where
-      by_look : (look : Option Look) → AreInOrder at (stretch at to look ++ ss) close
-      by_look None = lower at to ss (omega (arith, less)) marks.order
-      by_look (Some look) = (omega arith, less, marks.order)
 
   more-errors : (range : Range ℕ) (o : Option EscapeError) (errors : List Error) (ss : List Stretch) → All (IsReported begin errors) ss → All (IsReported begin (put range o errors)) ss
   more-errors range None errors ss are = are
   more-errors range (Some error) errors ss are =
       All-weaker (IsReported begin errors) (IsReported begin ((range, error) ∷ errors)) (λ s is other looks. let r = is other looks in (r.0, r.1, r.2, Contains-append_right {X = Error} ((range, error) ∷ []) errors (r.0, other) r.3)) ss are
 
+  -- an item that begins before all stretches is told by an earlier one
   earlier : (at : ℕ) (i : Item) (items : List Item) (ss : List Stretch) → place i < at → Marks at items ss → Marks at (i ∷ items) ss
   earlier at i items ss less marks = record {
     order = marks.order;
@@ -112,9 +110,6 @@ module _ (mode : Mode) (begin close : ℕ) where
   abbrev BeginFrom : ℕ → List Item → Type 0
   BeginFrom from items = All (λ (x : Item). from ≤ x.0.start) items
 
-  wrong-here : (at to p : ℕ) (error : EscapeError) (ss : List Stretch) → at ≤ p → p < to → is_in (stretch at to (Some (Wrong error)) ++ ss) p ≡ true
-  wrong-here at to p error ss low high = rw (le-leb at p low, lt-ltb p to high) refl
-
   module _ (range : Range ℕ) (items : List Item) (ss : List Stretch) (some : range.start < range.end) (low : BeginFrom range.start items) (marks : Marks (begin + range.end) items ss) where
     abbrev at : ℕ
     at = begin + range.start
@@ -122,26 +117,23 @@ module _ (mode : Mode) (begin close : ℕ) where
     abbrev to : ℕ
     to = begin + range.end
 
-    add : (e : Element) (o : Option EscapeError) (look : Option Look) → error_of mode e ≡ o → All (λ (x : Item). (to ≤ place x) ⊎ IsTold (stretch at to look ++ ss) x) ((range, e) ∷ items)
-        → All (IsReported begin (put range o (errors_in mode items))) (stretch at to look) → Marks at ((range, e) ∷ items) (stretch at to look ++ ss)
-    add e o look is each reported = more at to look ((range, e) ∷ items) ss (omega (arith, some)) each (rw is reported) (earlier to (range, e) items ss (omega (arith, some)) marks)
-
-    -- an item without an error, before which no other item begins that ends after it
-    quiet : (e : Element) (look : Option Look) → error_of mode e ≡ None → BeginFrom range.end items → is_escaped (stretch at to look ++ ss) at ≡ not (is_plain e)
+    -- an item without an error
+    quiet : (e : Element) (look : Option Look) → error_of mode e ≡ None → is_escaped (stretch at to look ++ ss) at ≡ not (is_plain e) → BeginFrom range.end items
         → All (IsReported begin (errors_in mode items)) (stretch at to look) → Marks at ((range, e) ∷ items) (stretch at to look ++ ss)
-    quiet e look is high here = add e None look is (All-cons (λ (x : Item). (to ≤ place x) ⊎ IsTold (stretch at to look ++ ss) x) (range, e) items (inr (inr (is, here))) (λ k d less. inl (omega (arith, high k d less))))
+    quiet e look is here high reported = more at to look ((range, e) ∷ items) ss (omega (arith, some))
+        (All-cons (λ (x : Item). (to ≤ place x) ⊎ IsTold (stretch at to look ++ ss) x) (range, e) items (inr (inr (is, here))) (λ k d less. inl (omega (arith, high k d less)))) (rw is reported) (earlier to (range, e) items ss (omega (arith, some)) marks)
 
     own : (e : Element) (o : Option EscapeError) → error_of mode e ≡ o → (o ≡ None → BeginFrom range.end items) → Marks at ((range, e) ∷ items) (stretch at to (look_by o e) ++ ss)
     own e (Some error) is high =
         let errors : List Error = (range, error) ∷ errors_in mode items in
-        add e (Some error) (Some (Wrong error)) is
+        more at to (Some (Wrong error)) ((range, e) ∷ items) ss (omega (arith, some))
         (λ k d less.
         let x : Item = slice_index_or ((range, e) ∷ items) k d in
-        let after : range.start ≤ x.0.start = All-cons (λ (x : Item). range.start ≤ x.0.start) (range, e) items (omega arith) low k d less in
-        elim (cases_lt (place x) to) [ inl inside ↦ inr (inl (wrong-here at to (place x) error ss (omega (arith, after)) inside)) | inr far ↦ inl far ])
-        (All-cons (IsReported begin errors) (record { start = at; end = to; look = Wrong error }) [] (λ other looks. (range, refl, refl, (0, omega arith, let w : Wrong error ≡ Wrong other = looks in cc))) (All-nil (IsReported begin errors)))
-    own (Plain c) None is high = quiet (Plain c) None is (high refl) (not-yet to at ss marks.order (omega (arith, some))) (All-nil (IsReported begin (errors_in mode items)))
-    own e None is high = quiet e (Some Escape) is (high refl) (rw (le-leb at at (omega arith), lt-ltb at to (omega (arith, some))) refl) (fine (errors_in mode items) at to)
+        let after = All-cons (λ (x : Item). range.start ≤ x.0.start) (range, e) items (omega arith) low k d less in
+        elim (cases_lt (place x) to) [ inl inside ↦ inr (inl (grind (arith, common_steps, nat_tests))) | inr far ↦ inl far ])
+        (rw is (All-cons (IsReported begin errors) (record { start = at; end = to; look = Wrong error }) [] (λ other looks. (range, refl, refl, (0, omega arith, let w : Wrong error ≡ Wrong other = looks in cc))) (All-nil (IsReported begin errors)))) (earlier to (range, e) items ss (omega (arith, some)) marks)
+    own (Plain c) None is high = quiet (Plain c) None is (not-yet to at ss marks.order (omega (arith, some))) (high refl) (All-nil (IsReported begin (errors_in mode items)))
+    own e None is high = quiet e (Some Escape) is (grind (arith, common_steps, nat_tests)) (high refl) (fine (errors_in mode items) at to)
 
   -- ---- the items of a text
 
@@ -200,17 +192,14 @@ strings_marked mode begin close text utf8 at_begin at_close le double =
     let inside : List ℕ = between begin close text in
     let items : List Item = items_of (is_raw mode) inside in
     let is : IsUtf8 inside = IsUtf8-between text begin close utf8 le at_begin at_close in
-    let high = at_close.0 in
-    let size : length inside ≡ close - begin = length-take-le (close - begin) (drop begin text) (omega (arith, length-drop begin text, high)) in
-    let fit : All (Fits mode begin close) items = All-weaker (IsPlaced inside) (Fits mode begin close) (λ i placed. (placed.not_empty, let ends = placed.end.0 in omega (arith, ends, size, le))) items (are_placed inside is (is_raw mode)) in
+    let fit : All (Fits mode begin close) items = All-weaker (IsPlaced inside) (Fits mode begin close) (λ i placed. (placed.not_empty, (boundary_in text begin close i.0.end le at_begin at_close placed.end).0)) items (are_placed inside is (is_raw mode)) in
     let marks = (claims mode begin close (items-are (is_raw mode) inside is)).marks begin le fit in
     let same : means.string_stretches mode begin close text ≡ stretches_in mode begin close text =
     string_found mode text begin close utf8 le at_begin at_close ∙ ap (λ (b : Bool). if b then single_stretches mode begin close text else string_stretches mode begin close text) (sym double) in
-    let errors = errors-are mode inside double in
     let told : All (IsTold mode begin close (means.string_stretches mode begin close text)) items = λ k d low. elim (marks.told k d low) [ inl early ↦ absurd (omega (arith, early)) | inr told ↦ told ] in
     record {
       order = rw (← same) marks.order;
-      wrong = rw (← same, errors) marks.wrong;
-      all = rw (← same, errors) (all-in mode begin close (means.string_stretches mode begin close text) items told);
-      shown = rw (← same) (λ k d low. elim (told k d low) [ inl wrong ↦ inl wrong | inr quiet ↦ inr quiet.1 ]);
+      wrong = rw (← same, errors-are mode inside double) marks.wrong;
+      all = rw (← same, errors-are mode inside double) (all-in mode begin close (means.string_stretches mode begin close text) items told);
+      shown = rw (← same) (λ k d low. elim (told k d low) [ inl wrong ↦ inl wrong | inr other ↦ inr other.1 ]);
     }
