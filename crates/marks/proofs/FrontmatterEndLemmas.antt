@@ -1,15 +1,16 @@
 -- The error at the end of a frontmatter is the one that its lines say.
-use Rattle.std.proofs.Common.{◌≡◌, ℕ, zero, suc, ◌+◌, ◌-◌, ◌<◌, ◌≤◌, ◌==◌, nat_eq, nat_lt, not, ◌||◌, Bool, true, false, true≢false, if◌then◌else◌, List, [], ◌∷◌, ◌++◌, codes, length, take, drop, get_or, refl, sym, ap, ◌∙◌, subst, arith, append_assoc, append-nil, drop-cons, drop-drop, length-append, length-drop, take-append-drop, Option, Some, None, inl, inr}
+use Rattle.std.proofs.Common.{◌≡◌, ℕ, zero, suc, ◌+◌, ◌-◌, ◌<◌, ◌≤◌, ◌==◌, nat_eq, nat_lt, not, ◌||◌, Bool, true, false, true≢false, if◌then◌else◌, List, [], ◌∷◌, ◌++◌, codes, length, take, drop, get_or, refl, sym, ap, ◌∙◌, subst, arith, append_assoc, append-nil, drop-cons, drop-drop, length-append, take-append-drop, Option, Some, None, inl, inr}
 use Rattle.std.specs.Char.{encode_utf8}
 use Rattle.std.specs.List.{after_last, list_all, list_any, prefix_len, suffix_len}
 use Rattle.std.specs.Str.{encode_utf8_all, IsUtf8}
 use Rattle.std.proofs.Math.Seq.{drop-append_seam, get_or-append_seam}
-use Rattle.std.proofs.lemmas.Bool.{and_parts, cases_lt, eq-eqb, eqb-false, eqb-true, false_from_ne_true, ltb-false, ltb-true, ne_eqb, not-true, not_from_false, not_from_true, or_cases, or_parts, true_from_ne_false}
-use Rattle.std.proofs.lemmas.List.{drop_all, get_or-append-add, take_all}
+use Rattle.std.proofs.lemmas.Bool.{and_parts, eqb-false, eqb-true, false_from_ne_true, ltb-false, ltb-true, not-true, not_from_false, not_from_true, or_cases, or_parts}
+use Rattle.std.proofs.lemmas.List.{take_all}
 use Rattle.std.proofs.lemmas.List.Elements.{All-from_get_or}
 use Rattle.std.proofs.lemmas.List.Folds.{length-prefix_len, list_all-append, list_any-append, list_any_at, list_any_none}
 use Rattle.std.proofs.lemmas.List.Sums.{prefix_len-le-length, suffix_len_is}
 use Rattle.std.proofs.lemmas.Str.{char_from_byte, encode_ascii, encodes-append, encodes-chars, inside_one, length-encode, length-le-encodes, len_utf8_bounds}
+use Rattle.std.proofs.lemmas.Bool.Decides.{nat_tests}
 use Rattle.std.proofs.lemmas.Grind.{common_steps}
 use Rattle.rustc_lexer.specs.Classes.{AreAll, Chars, NextIsNot, begins, is_among, is_horizontal_whitespace, is_id_start, is_info, is_inline, is_whitespace, next_is}
 use Rattle.rustc_lexer.specs.FrontmatterGrammar as the
@@ -23,7 +24,7 @@ use Rattle.rustc_lexer.specs.means.Frontmatter.{is_dash}
 use Rattle.rustc_lexer.specs.means.Scan.{run_len}
 use Rattle.rustc_lexer.specs.laws.LanguageFrontmatter.{fence-length, run-fence}
 use Rattle.rustc_lexer.specs.laws.LanguageRuns as runs
-use Rattle.rustc_lexer.specs.laws.LanguageRuns.{start-word_start, word_start-no_space}
+use Rattle.rustc_lexer.specs.laws.LanguageRuns.{none-among, start-word_start, word_start-no_space}
 use Rattle.rustc_lexer.specs.laws.Reach.{run_all}
 use Rattle.rustc_lexer.proofs.PartLemmas.{continue_part}
 use Rattle.marks.specs.declared.fault.Fault.{Fault}
@@ -39,9 +40,7 @@ use Rattle.marks.specs.FrontmatterEnd.{EndsAfter, IsEndFault, IsOpen, IsToldBy, 
 module _ (p q : ℕ → Bool) (same : (c : ℕ) → p c ≡ q c) where
   run-is : (s : List ℕ) → run_len q s ≡ prefix_len p s
   run-is [] = refl
-  run-is (c ∷ s) = by_either (p c)
-      (λ e. let f : q c ≡ true = sym (same c) ∙ e in rw (e, f) (omega (arith, run-is s)))
-      (λ e. let f : q c ≡ false = sym (same c) ∙ e in rw (e, f) refl)
+  run-is (c ∷ s) = grind (arith, common_steps, same c, run-is s)
 
   run-all : (s : List ℕ) → AreAll q (take (prefix_len p s) s)
   run-all s = subst (λ n. AreAll q (take n s)) (run-is s) (run_all q s)
@@ -66,9 +65,7 @@ module _ (p : ℕ → Bool) (small : (c : ℕ) → p c ≡ true → c < 128) whe
 
   run-encode : (s : Chars) → prefix_len p (encode_utf8_all s) ≡ prefix_len p s
   run-encode [] = refl
-  run-encode (c ∷ s) = by_either (p c)
-      (λ e. rw (encode_ascii c (small c e), e) (ap (λ (k : ℕ). 1 + k) (run-encode s)))
-      (λ e. none-first (encode_utf8_all (c ∷ s)) (fails-first c s e) ∙ rw e refl)
+  run-encode (c ∷ s) = grind (arith, common_steps, encode_ascii c, small c, none-first (encode_utf8_all (c ∷ s)), fails-first c s, run-encode s)
 
   drop-encode : (s : Chars) → drop (prefix_len p s) (encode_utf8_all s) ≡ encode_utf8_all (drop (prefix_len p s) s)
   drop-encode [] = refl
@@ -78,14 +75,11 @@ module _ (p : ℕ → Bool) (small : (c : ℕ) → p c ≡ true → c < 128) whe
 
 -- ---- blanks and dashes
 
-turned : (c d : ℕ) → (d == c) ≡ (c == d)
-turned c d = by_either (d == c) (λ e. e ∙ sym (eq-eqb c d (sym (eqb-true d c e)))) (λ e. e ∙ sym (false_from_ne_true _ (λ f. true≢false (sym (eq-eqb d c (sym (eqb-true c d f))) ∙ e))))
-
 same-dash : (c : ℕ) → is_of (codes "-") c ≡ is_among (codes "-") c
-same-dash c = rw (turned c 45) refl
+same-dash c = grind (arith, nat_tests)
 
 same-blank : (c : ℕ) → is_of (codes "\t ") c ≡ is_horizontal_whitespace c
-same-blank c = rw (turned c 9, turned c 32) refl
+same-blank c = grind (arith, nat_tests)
 
 small-dash : (c : ℕ) → is_of (codes "-") c ≡ true → c < 128
 small-dash c e = grind (arith, common_steps, or_cases, eqb-true)
@@ -108,16 +102,13 @@ dashes-are s = subst (λ n. take n s ≡ fence n) (run-dashes s) (run-fence s)
 -- a line that begins with dashes begins with no blanks
 no-blanks : (s : Chars) → begins (fence 3) s ≡ true → blanks s ≡ 0
 no-blanks [] e = refl
-no-blanks (c ∷ s) e =
-    let dash = eqb-true c 45 (and_parts (c == 45) (begins (fence 2) s) e).0 in
-    let out : is_of (codes "\t ") c ≡ false = ap (is_of (codes "\t ")) dash in rw out refl
+no-blanks (c ∷ s) e = grind (arith, common_steps, nat_tests)
 
 -- dashes stand on one line
 begins-line : (n : ℕ) (line next : Chars) → NextIsNot is_inline next → begins (fence n) (line ++ next) ≡ true → begins (fence n) line ≡ true
 begins-line zero line next stop e = refl
 begins-line (suc n) [] [] stop e = e
-begins-line (suc n) [] (c ∷ next) stop e =
-    absurd (true≢false (sym (ap is_inline (eqb-true c 45 (and_parts (c == 45) (begins (fence n) next) e).0)) ∙ stop))
+begins-line (suc n) [] (c ∷ next) stop e = grind (arith, common_steps, nat_tests)
 begins-line (suc n) (c ∷ line) next stop e = let parts = and_parts (c == 45) (begins (fence n) (line ++ next)) e in rw (parts.0, begins-line n line next stop parts.1) refl
 
 -- ---- lines
@@ -130,7 +121,7 @@ inline-none : (s : Chars) → AreAll is_inline s → list_any is_newline s ≡ f
 inline-none s all = all-none is_inline (λ c e. not-true (is_newline c) e) s all
 
 blanks-none : (s : Chars) → AreAll is_horizontal_whitespace s → list_any is_newline s ≡ false
-blanks-none s all = all-none is_horizontal_whitespace (λ c e. false_from_ne_true (is_newline c) (λ f. true≢false (sym e ∙ ap is_horizontal_whitespace (eqb-true c 10 f)))) s all
+blanks-none s all = all-none is_horizontal_whitespace (λ c e. grind (arith, nat_tests)) s all
 
 all-drop : (p : ℕ → Bool) (k : ℕ) (s : Chars) → AreAll p s → AreAll p (drop k s)
 all-drop p k s all = (and_parts _ _ (sym (list_all-append p (take k s) (drop k s)) ∙ (ap (list_all p) (take-append-drop k s) ∙ all))).1
@@ -146,10 +137,8 @@ module _ (u line : List ℕ) (none : list_any is_newline line ≡ false) where
       let long : length xs ≡ length u + suc (length line) = length-append u (10 ∷ line) in
       let back : length u + 1 - 1 ≡ length u = omega arith in
       let past = λ (k : ℕ) (low : length u + 1 ≤ k) (less : k < length xs).
-      let j : ℕ = k - (length u + 1) in
-      let place : k ≡ length u + suc j = omega (arith, low) in
-      let here : get_or xs k 0 ≡ get_or line j 0 = ap (λ (i : ℕ). get_or xs i 0) place ∙ get_or-append-add u (10 ∷ line) (suc j) 0 in
-      false_from_ne_true (is_newline (get_or xs k 0)) (λ e. true≢false (sym (list_any_at is_newline line j 0 (omega (arith, low, less, long)) (ap is_newline (sym here) ∙ e)) ∙ none)) in
+      let at = list_any_at is_newline line (k - (length u + 1)) 0 in
+      let result : is_newline (get_or xs k 0) ≡ false = grind (arith, common_steps, nat_tests) in result in
       let size = suffix_len_is (λ x. not (is_newline x)) xs (length u + 1) 0 (omega (arith, long)) (λ k low less. not_from_false _ (past k low less))
       (λ some. not_from_true _ (ap is_newline (ap (λ (k : ℕ). get_or xs k 0) back ∙ get_or-append_seam u 10 line 0))) in
       let front : length xs - suffix_len (λ x. not (is_newline x)) xs ≡ length u + 1 = omega (arith, long, size) in
@@ -158,48 +147,34 @@ module _ (u line : List ℕ) (none : list_any is_newline line ≡ false) where
   end-line : end_fault (u ++ 10 ∷ line) ≡ closing_fault (dashes (u ++ 10 ∷ line)) line
   end-line = rw (has-line u line, last-line) refl
 
--- a text is one line, or has a last line
-data Lines (body : Chars) : Type 0 where
-  one : list_any is_newline body ≡ false → Lines body
-  more : (u line : Chars) → body ≡ u ++ 10 ∷ line → AreAll is_inline line → Lines body
+-- a text has a last line
+none-inline : (s : Chars) → list_any is_newline s ≡ false → AreAll is_inline s
+none-inline [] none = refl
+none-inline (c ∷ s) none = let parts = or_parts (is_newline c) (list_any is_newline s) none in rw parts.0 (none-inline s parts.1)
 
-lines : (body : Chars) → Lines body
-lines [] = one refl
-lines (c ∷ body) = elim (lines body) [
-  | more u line e all ↦ more (c ∷ u) line (ap (λ w. c ∷ w) e) all
-  | one none ↦ by_either (c == 10)
-      (λ e. more [] body (ap (λ (d : ℕ). d ∷ body) (eqb-true c 10 e)) (none-inline body none))
-      (λ e. one (rw (e, none) refl))
-]
-  where
-    none-inline : (s : Chars) → list_any is_newline s ≡ false → AreAll is_inline s
-    none-inline [] none = refl
-    none-inline (c ∷ s) none = let parts = or_parts (is_newline c) (list_any is_newline s) none in rw parts.0 (none-inline s parts.1)
+split : (s : Chars) → list_any is_newline s ≡ true → (u line : Chars) × (s ≡ u ++ 10 ∷ line) × AreAll is_inline line
+split [] some = absurd (true≢false (sym some))
+split (c ∷ s) some = by_either (list_any is_newline s)
+    (λ more. let rest = split s more in (c ∷ rest.0, rest.1, ap (λ w. c ∷ w) rest.2, rest.3))
+    (λ none. ([], s, ap (λ (d : ℕ). d ∷ s) (eqb-true c 10 (elim (or_cases (is_newline c) (list_any is_newline s) some) [ inl here ↦ here | inr more ↦ absurd (true≢false (sym more ∙ none)) ])), none-inline s none))
 
 one-encode : (s : Chars) → list_any is_newline s ≡ false → list_any is_newline (encode_utf8_all s) ≡ false
 one-encode [] none = refl
 one-encode (c ∷ s) none =
     let parts = or_parts (is_newline c) (list_any is_newline s) none in
-    let first : list_any is_newline (encode_utf8 c) ≡ false =
-    list_any_none is_newline (encode_utf8 c) (All-from_get_or (λ x. is_newline x ≡ false) (encode_utf8 c) 0 (λ k less. false_from_ne_true _ (λ e.
-    let ten : get_or (encode_utf8 c) k 0 ≡ 10 = eqb-true _ 10 e in
-    let same : c ≡ get_or (encode_utf8 c) k 0 = inside_one c [] (encode_utf8 c) k (sym (append-nil (encode_utf8 c))) less (omega (arith, ten)) in
-    true≢false (sym e ∙ (ap is_newline (sym same) ∙ parts.0))))) in
+    let first = list_any_none is_newline (encode_utf8 c) (All-from_get_or (λ x. is_newline x ≡ false) (encode_utf8 c) 0 (λ k less.
+    let out = parts.0 in
+    let same = inside_one c [] (encode_utf8 c) k (sym (append-nil (encode_utf8 c))) less in
+    grind (arith, nat_tests))) in
     list_any-append is_newline (encode_utf8 c) (encode_utf8_all s) ∙ rw (first, one-encode s parts.1) refl
 
 -- ---- the last line, in bytes
 
 all-encode : (s : Chars) → nat_eq (blanks s) (length (encode_utf8_all s)) ≡ nat_eq (blanks s) (length s)
-all-encode s =
-    let few = length-le-encodes (drop (blanks s) s) in
-    let cut = length-drop (blanks s) s in
-    let left : length (encode_utf8_all s) - blanks s ≡ length (encode_utf8_all (drop (blanks s) s)) = sym (length-drop (blanks s) (encode_utf8_all s)) ∙ ap length (drop-encode (is_of (codes "\t ")) small-blank s) in
-    by_either (nat_eq (blanks s) (length s))
-    (λ e.
-    let none : drop (blanks s) s ≡ [] = drop_all (blanks s) s (omega (arith, eqb-true (blanks s) (length s) e)) in
-    let zero_left : length (encode_utf8_all (drop (blanks s) s)) ≡ 0 = ap (λ (w : Chars). length (encode_utf8_all w)) none in
-    eq-eqb _ _ (omega (arith, left, zero_left, length-le-encodes s, prefix_len-le-length (is_of (codes "\t ")) s)) ∙ sym e)
-    (λ e. ne_eqb _ _ (λ f. eqb-false (blanks s) (length s) e (omega (arith, f, left, few, cut, prefix_len-le-length (is_of (codes "\t ")) s))) ∙ sym e)
+all-encode [] = refl
+all-encode (c ∷ s) = by_either (is_of (codes "\t ") c)
+    (λ e. let one : 1 + blanks s ≡ suc (blanks s) = omega arith in rw (encode_ascii c (small-blank c e), e, one) (let more = all-encode s in grind (arith, nat_tests)))
+    (λ e. rw e (let some = length-le-encodes (c ∷ s) in grind (arith, nat_tests)))
 
 closing-encode : (n : ℕ) (line : Chars) → closing_fault n (encode_utf8_all line) ≡ closing_fault n line
 closing-encode n line = simp (run-encode (is_of (codes "\t ")) small-blank, run-encode (is_of (codes "-")) small-dash, drop-encode (is_of (codes "\t ")) small-blank, drop-encode (is_of (codes "-")) small-dash, all-encode)
@@ -249,13 +224,12 @@ module _ (n : ℕ) (next u line : Chars) (inline : AreAll is_inline line) where
         by_test (IsEndFault n next body) (not (nat_eq d n)) _ _
         (λ other. subst (λ (l : Chars). IsEndFault n next (u ++ 10 ∷ l) (Some (FrontmatterDashes n d))) (sym shape) (other_dashes u tail d enough
         (λ le.
-        let differ = eqb-false d n (not-true (nat_eq d n) other) in
-        let few : d < n = elim (cases_lt d n) [ inl lt ↦ lt | inr ge ↦ absurd (differ (omega arith)) ] in
+        let few : d < n = grind (arith, nat_tests) in
         let none : begins (fence n) line ≡ false = false_from_ne_true _ (λ t. let many = begins-dashes n line t in let same : dashes line ≡ d = ap dashes (sym same_rest) in omega (arith, many, same, few)) in
         (few, subst (λ (l : Chars). NoLineBegins n ((u ++ 10 ∷ l) ++ next)) shape (first none)))
         stops plain))
         (λ same.
-        let is_n : d ≡ n = eqb-true d n (true_from_ne_false (nat_eq d n) (λ f. true≢false (sym (ap not f) ∙ same))) in
+        let is_n : d ≡ n = grind (arith, nat_tests) in
         let closes : line ≡ fence n ++ tail = shape ∙ ap (λ (k : ℕ). fence k ++ tail) is_n in
         by_test (IsEndFault n next body) (nat_eq (blanks tail) (length tail)) _ _
         (λ all.
@@ -265,7 +239,7 @@ module _ (n : ℕ) (next u line : Chars) (inline : AreAll is_inline line) where
         let k : ℕ = blanks tail in
         let c : ℕ = get_or tail k 0 in
         let w : Chars = drop (suc k) tail in
-        let inside : k < length tail = elim (cases_lt k (length tail)) [ inl lt ↦ lt | inr ge ↦ absurd (eqb-false k (length tail) more (omega (arith, ge, prefix_len-le-length (is_of (codes "\t ")) tail))) ] in
+        let inside : k < length tail = omega (arith, eqb-false k (length tail) more, prefix_len-le-length (is_of (codes "\t ")) tail) in
         let cut : drop k tail ≡ c ∷ w = drop-cons tail k 0 inside in
         let split : tail ≡ take k tail ++ (c ∷ w) = sym (take-append-drop k tail) ∙ ap (λ (v : Chars). take k tail ++ v) cut in
         subst (λ (l : Chars). IsEndFault n next (u ++ 10 ∷ l) (Some FrontmatterWords)) (sym (closes ∙ ap (λ (v : Chars). fence n ++ v) split))
@@ -300,10 +274,11 @@ found n {next} many (the.with_line pattern u line is all stop) =
     last u line all (λ e. absurd (true≢false (sym three ∙ e))) (λ e. absurd (true≢false (sym here ∙ e)))
 found n {next} many (the.other pattern none (the.with_line three u line is all stop)) =
     last u line all (λ e. absurd (true≢false (sym (begins-line 3 line next stop is.here) ∙ e))) (λ _. none)
-found n {next} {body} many (the.other pattern none (the.other three lone left)) = elim (lines body) [
-  | one e ↦ only lone e
-  | more u line e all ↦ subst (Found n next) (sym e) (last u line all (λ _. subst (λ (b : Chars). NoLineBegins 3 (b ++ next)) e lone) (λ _. subst (λ (b : Chars). NoLineBegins n (b ++ next)) e none))
-]
+found n {next} {body} many (the.other pattern none (the.other three lone left)) = by_either (list_any is_newline body)
+    (λ some.
+    let last_line = split body some in
+    subst (Found n next) (sym last_line.2) (last last_line.0 last_line.1 last_line.3 (λ _. subst (λ (b : Chars). NoLineBegins 3 (b ++ next)) last_line.2 lone) (λ _. subst (λ (b : Chars). NoLineBegins n (b ++ next)) last_line.2 none)))
+    (λ one. only lone one)
 
 -- ---- what stands before the body
 
@@ -321,13 +296,12 @@ label-none (the.blank {w} all stop start) = blanks-none w all
 label-none (the.named u c v w before start info info_stops after stop) =
     list_any-append is_newline u (c ∷ v ++ w) ∙ rw (blanks-none u before, start-none c start) (list_any-append is_newline v w ∙ rw (all-none is_info info-none v info, blanks-none w after) refl)
 
-fence-none : (n : ℕ) → list_any is_newline (fence n) ≡ false
-fence-none zero = refl
-fence-none (suc n) = fence-none n
-
 fence-all : (n : ℕ) → AreAll (is_among (codes "-")) (fence n)
 fence-all zero = refl
 fence-all (suc n) = fence-all n
+
+fence-none : (n : ℕ) → list_any is_newline (fence n) ≡ false
+fence-none n = all-none (is_among (codes "-")) (λ c e. none-among is_newline (codes "-") refl c e) (fence n) (fence-all n)
 
 -- ---- what is told
 
