@@ -1,11 +1,12 @@
 -- A kept text that is open where a token ends: what an edit behind that keeps of text and tokens.
-use Rattle.std.proofs.Common.{◌≡◌, ℕ, ◌+◌, ◌-◌, ◌<◌, ◌≤◌, ◌^◌, Bool, true, List, [], ◌++◌, length, map, take, drop, refl, sym, ap, ap₂, ◌∙◌, subst, arith, Ok, Err, length-append, length-take-le, length-drop, append_assoc, take-append-drop, take-take, drop-drop, drop_at, take_at, IsUtf8, IsCharBoundary}
+use Rattle.std.proofs.Common.{◌≡◌, ℕ, ◌+◌, ◌-◌, ◌<◌, ◌≤◌, ◌^◌, Bool, true, inl, inr, List, [], ◌++◌, length, map, take, drop, refl, sym, ap, ap₂, ◌∙◌, subst, arith, Ok, Err, length-append, length-take-le, length-drop, append_assoc, take-append-drop, take-take, drop-drop, drop_at, take_at, IsUtf8, IsCharBoundary}
 use Rattle.std.proofs.Math.Seq.{drop-append-add, drop-append_seam, take-append_seam, take-append-add}
 use Rattle.std.proofs.lemmas.List.{append_cancel_left, drop-append-le, drop_all, length-take, take-append-le}
 use Rattle.std.proofs.lemmas.Str.{IsCharBoundary-from_drop, IsUtf8-drop, IsUtf8-take}
 use Rattle.std.specs.String.{string_bytes, string_capacity, string_len}
 use Rattle.rustc_lexer.specs.declared.relex.ahead.Ahead.{Ahead}
 use Rattle.rustc_lexer.specs.declared.relex.checkpoints.Checkpoints.{Checkpoints}
+use Rattle.rustc_lexer.specs.declared.relex.front.Bound.{Bound}
 use Rattle.rustc_lexer.specs.declared.relex.gap.Gap.{Gap}
 use Rattle.rustc_lexer.specs.declared.relex.head.Head.{Head}
 use Rattle.rustc_lexer.specs.declared.relex.relexing.Change.{Change}
@@ -17,13 +18,15 @@ use Rattle.rustc_lexer.specs.Edits.{IsEdit, IsInside, IsRelexed, apply}
 use Rattle.rustc_lexer.specs.Kept.{AreKept, IsEdited, layout_in, tokens_in}
 use Rattle.rustc_lexer.specs.Locality.{IsGrammar, has_two}
 use Rattle.rustc_lexer.specs.Relexing.{IsChange, IsMadeOf}
+use Rattle.rustc_lexer.specs.Offsets.{IsBound}
 use Rattle.rustc_lexer.specs.Tokens.{bound, tokens_by}
 use Rattle.rustc_lexer.specs.Growing.{is_head_final}
 use Rattle.rustc_lexer.specs.means.Document.{AreKeptOf, document_by, head_by, HeadStays, IsCountedByHead, IsRelexedByHead, IsRelexedWith, counted, tokens_of_head}
-use Rattle.rustc_lexer.specs.means.Gap.{AreHeldOf, IsAhead, IsCut, IsHeadBy, IsTaken, before_gap, behind_gap, closed, held, open_text, past, plain}
+use Rattle.rustc_lexer.specs.means.Gap.{AreHeldOf, IsAhead, IsCut, IsGap, IsHeadBy, IsMoved, IsTaken, before_gap, behind_gap, closed, held, open_text, past, plain}
 use Rattle.rustc_lexer.specs.means.Relexing.{IsBodyRelexed, IsLexed, IsRenewed, relexed_of}
+use Rattle.std.proofs.lemmas.Bool.{cases_lt}
 use Rattle.rustc_lexer.proofs.BoundLemmas.{bound-last}
-use Rattle.rustc_lexer.proofs.CutLemmas.{apply-past, cut_new, cut_on, edit_rest, inside-past, new_is, relexed_past, rest_text}
+use Rattle.rustc_lexer.proofs.CutLemmas.{apply-past, cut_new, has_two_behind, cut_on, edit_rest, inside-past, new_is, relexed_past, rest_text}
 use Rattle.rustc_lexer.proofs.EditLemmas.{bound-same, edited, three_parts}
 use Rattle.rustc_lexer.proofs.GrowingHead.{head-stays}
 use Rattle.rustc_lexer.proofs.KeptEdits.{counted_in, relexed_in}
@@ -200,6 +203,13 @@ module _ {whole : Bool} {first : List ℕ → Token} {front rest : List ℕ} {to
   pub held_scratch : {text : List ℕ} {all : List Token} → text ≡ front ++ rest → all ≡ tokens ++ behind → all ≡ tokens_in whole first text
   held_scratch text_is all_is = all_is ∙ (h.all ∙ (tokens_are whole first (front ++ rest) h.is ∙ ap (tokens_in whole first) (sym text_is)))
 
+  -- the place may move on to a later boundary
+  pub cut_later : (m o : ℕ) → m ≤ length behind → o ≡ bound behind m → IsCut first (drop head.body (front ++ take o rest)) (drop o rest) (drop (length own) (tokens ++ take m behind))
+  cut_later m o few is =
+      let there : o ≡ bound (tokens_by first rest) m = is ∙ ap (λ ts. bound ts m) behind_are in
+      let bare_on : drop (length own) (tokens ++ take m behind) ≡ bare ++ take m (tokens_by first rest) = drop-append-le (length own) tokens (take m behind) h.own ∙ ap (λ ts. bare ++ take m ts) behind_are in
+      rw (part_of (take o rest), bare_on) (subst (λ n. IsCut first (part ++ take n rest) (drop n rest) (bare ++ take m (tokens_by first rest))) (sym there) (cut_on law part rest bare is_part h.cut m (omega (arith, few, ap length behind_are))))
+
   module _ (lexed : List Token) (at : Relexing) (l : IsLexed first rest change made lexed at) where
     abbrev now : List Token
     now = take at.front.number behind ++ (lexed ++ drop at.back.number behind)
@@ -369,6 +379,76 @@ module _ {whole : Bool} {first : List ℕ → Token} {text : List ℕ} {tokens :
   settled_now made is more its =
       let same : take ahead.settled made ≡ take ahead.settled (front ++ rest) = ap (take ahead.settled) (is ∙ made_is) ∙ front_stays (front ++ rest) ahead.settled (length front + start) (length front + stop) insert t.behind (let le = edit.inside.start_le_stop in let few = edit.inside.stop_inside in omega arith) in
       ap (λ xs. head_by whole (xs ++ more)) same ∙ a.settled more (subst (λ xs. IsText (xs ++ more)) same its)
+
+  -- the place moves on to what the edit keeps in front
+  module _ (now : List Token) (now_ahead : Ahead) (at : Bound) (front_is : string_bytes now_ahead.front ≡ front ++ take at.offset rest) (rest_is : drop now_ahead.from text ≡ drop at.offset rest) (before_is : before_gap now now_ahead.gap ≡ before_gap tokens ahead.gap ++ take at.number (behind_gap tokens ahead.gap)) (behind_is : behind_gap now now_ahead.gap ≡ drop at.number (behind_gap tokens ahead.gap)) (count : now_ahead.gap.count ≡ ahead.gap.count + at.number) (gap : IsGap now_ahead.gap now) (settled : now_ahead.settled ≡ ahead.settled)
+      (boundary : IsCharBoundary text now_ahead.from) (room : string_len now_ahead.front + length (drop now_ahead.from text) ≤ string_capacity now_ahead.front) (place : IsBound (behind_gap tokens ahead.gap) at) (order : at.offset ≤ start) (two : 0 < at.number → has_two rest at.offset start ≡ true) where
+    abbrev o : ℕ
+    o = at.offset
+
+    text_same : open_text text now_ahead ≡ open_text text ahead
+    text_same = ap₂ (λ xs ys. xs ++ ys) front_is rest_is ∙ (append_assoc front (take o rest) (drop o rest) ∙ ap (λ xs. front ++ xs) (take-append-drop o rest))
+
+    tokens_same : closed now now_ahead.gap ≡ closed tokens ahead.gap
+    tokens_same = ap₂ (λ xs ys. xs ++ ys) before_is behind_is ∙ (append_assoc (before_gap tokens ahead.gap) (take at.number (behind_gap tokens ahead.gap)) (drop at.number (behind_gap tokens ahead.gap)) ∙ ap (λ ts. before_gap tokens ahead.gap ++ ts) (take-append-drop at.number (behind_gap tokens ahead.gap)))
+
+    within : IsInside rest start stop
+    within = t.inside
+
+    short_enough : o ≤ length rest
+    short_enough = (let le = within.start_le_stop in let few = within.stop_inside in omega (arith, order))
+
+    front_len : length (string_bytes now_ahead.front) ≡ length front + o
+    front_len = omega (arith, ap (λ (xs : List ℕ). length xs) front_is, length-append front (take o rest), length-take-le o rest short_enough)
+
+    rest_len : length (drop now_ahead.from text) + o ≡ length rest
+    rest_len = omega (arith, ap (λ (xs : List ℕ). length xs) rest_is, length-drop o rest, short_enough)
+
+    boundary_past : (p : ℕ) → o ≤ p → p ≤ length rest → IsCharBoundary rest p → IsCharBoundary (drop now_ahead.from text) (p - o)
+    boundary_past p le few is =
+        let there : o + (p - o) ≡ p = omega arith in
+        let tail : drop (p - o) (drop o rest) ≡ drop p rest = drop-drop (p - o) o rest ∙ ap (λ n. drop n rest) there in
+        rw rest_is (IsCharBoundary-from_drop (drop o rest) (p - o) (omega (arith, length-drop o rest)) (subst IsUtf8 (sym tail) (IsUtf8-drop rest p (is_rest taking).utf8 is)))
+
+    pub approached : IsMoved whole first text tokens head ahead start stop insert o now now_ahead
+    approached =
+        let le = within.start_le_stop in
+        let few = within.stop_inside in
+        record {
+          start_past = order;
+          stop_past = omega arith;
+          front = front_len;
+          same_text = text_same;
+          same_tokens = tokens_same;
+          ahead_now = record {
+            is_open = record { boundary = boundary; gap = gap; room = room; kept = rw (text_same, tokens_same) a.is_open.kept };
+            own = (let own_is = a.own in omega (arith, count, own_is));
+            body = (let body_is = a.body in omega (arith, front_len, body_is));
+            cut = rw (front_is, rest_is, before_is) (cut_later taking at.number o place.0 place.1);
+            settled = rw (settled, text_same) a.settled;
+          };
+          taken_now = record {
+            inside = record {
+              start_le_stop = omega arith;
+              stop_inside = omega (arith, rest_len);
+              start_boundary = boundary_past start order (omega arith) within.start_boundary;
+              stop_boundary = boundary_past stop (omega arith) few within.stop_boundary;
+            };
+            short = (let short = t.short in omega (arith, front_len, rest_len, order, le, short));
+            two = λ some. two_now some;
+            behind = rw settled (let past = t.behind in omega (arith, front_len, order, past));
+          };
+        }
+      where
+        two_now : length (tokens_of_head head) < now_ahead.gap.count → has_two (drop now_ahead.from text) 0 (start - o) ≡ true
+        two_now some = elim (cases_lt 0 at.number) [
+          | inl more ↦ rw rest_is (sym (has_two_behind rest o start order) ∙ two more)
+          | inr none ↦
+              let zero_is : at.number ≡ 0 = omega arith in
+              let here : o ≡ 0 = place.1 ∙ ap (bound (behind_gap tokens ahead.gap)) zero_is in
+              let same : start - o ≡ start = omega (arith, here) in
+              rw (rest_is, same, here) (t.two (omega (arith, count, zero_is, some)))
+        ]
 
 -- ---- what an edit behind the place answers
 

@@ -22,6 +22,10 @@ use Rattle.rustc_lexer.proofs.ReadyLemmas.{cuts}
 pub bound-past : (ts us : List Token) (k : ℕ) → bound (ts ++ us) (length ts + k) ≡ bound ts (length ts) + bound us k
 bound-past ts us k = bound-shift (ts ++ us) (length ts) k ∙ ap₂ (λ m xs. m + bound xs k) (bound-append ts us) (drop-append_seam ts us)
 
+pub has_two_behind : (text : List ℕ) (from to : ℕ) → from ≤ to → has_two text from to ≡ has_two (drop from text) 0 (to - from)
+unfolding has_two
+has_two_behind text from to le = let all : to - from - 0 ≡ to - from = omega arith in rw all refl
+
 -- characters past the first text
 has_two-past : (front rest : List ℕ) (from to : ℕ) → has_two (front ++ rest) (length front + from) (length front + to) ≡ has_two rest from to
 unfolding has_two

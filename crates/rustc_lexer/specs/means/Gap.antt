@@ -81,6 +81,16 @@ pub record IsTaken (settled : ℕ) (front rest : List ℕ) (own : ℕ) (gap : Ga
   pub two : own < gap.count → has_two rest 0 start ≡ true
   pub behind : settled ≤ length front + start
 
+-- the place moves on by `by` bytes, and the edit can be made from there
+pub record IsMoved (whole : Bool) (first : List ℕ → Token) (text : List ℕ) (tokens : List Token) (head : Head) (ahead : Ahead) (start stop : ℕ) (insert : List ℕ) (by : ℕ) (now : List Token) (now_ahead : Ahead) : Type 0 where
+  pub start_past : by ≤ start
+  pub stop_past : by ≤ stop
+  pub front : length (string_bytes now_ahead.front) ≡ length (string_bytes ahead.front) + by
+  pub same_text : open_text text now_ahead ≡ open_text text ahead
+  pub same_tokens : closed now now_ahead.gap ≡ closed tokens ahead.gap
+  pub ahead_now : IsAhead whole first text now head now_ahead
+  pub taken_now : IsTaken now_ahead.settled (string_bytes now_ahead.front) (drop now_ahead.from text) (length (tokens_of_head head)) now_ahead.gap (start - by) (stop - by) insert
+
 -- the counts of an edit, with so many tokens in front
 abbrev pub past : ℕ → Relexed → Relexed
 past n r = record { kept_front = n + r.kept_front; lexed = r.lexed; kept_back = r.kept_back }

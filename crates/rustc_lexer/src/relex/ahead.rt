@@ -1,12 +1,13 @@
 //! Edits of a kept text from front to back. The text is open where one of its tokens ends, and what is in front of that
 //! is not moved again.
-ghost use Rattle.std.specs.Prelude.{◌≡◌, ◌+◌, ◌-◌, ◌^◌, ◌<◌, ◌≤◌, ◌++◌, IfErr, IfOk, IfSome, List, OnErr, OnOk, drop, length, map, take, true, ℕ};
+ghost use Rattle.std.specs.Prelude.{Bool, ◌≡◌, ◌+◌, ◌-◌, ◌^◌, ◌<◌, ◌≤◌, ◌++◌, IfErr, IfOk, IfSome, List, OnErr, OnOk, drop, length, map, take, true, ℕ};
 ghost use Rattle.std.specs.Str.{IsCharBoundary, IsUtf8};
 ghost use Rattle.std.specs.String.{string_bytes, string_capacity, string_len};
 ghost use Rattle.rustc_lexer.specs.{Token};
 ghost use Rattle.rustc_lexer.specs.Classes.{Fits};
 ghost use Rattle.rustc_lexer.specs.Edits.{IsInside, apply};
 ghost use Rattle.rustc_lexer.specs.Kept.{IsEdited};
+ghost use Rattle.rustc_lexer.specs.Locality.{IsGrammar};
 ghost use Rattle.rustc_lexer.specs.Relexing.{IsChange, IsMadeOf, MayGoOn};
 ghost use Rattle.rustc_lexer.specs.means.Document.{AreKeptOf, tokens_of_head};
 ghost use Rattle.rustc_lexer.specs.means.Gap as means;
@@ -15,7 +16,7 @@ ghost use Rattle.rustc_lexer.specs.means.Relexing.{relexed_of};
 use crate::entry::stepper::Stepper;
 use crate::relex::checkpoints::Checkpoints;
 use crate::relex::edit::{contains_range, relex};
-use crate::relex::front::{FIRST, two_stand};
+use crate::relex::front::{FIRST, kept_front, two_stand};
 use crate::relex::gap::Gap;
 use crate::relex::head::{Extent, Head};
 use crate::relex::kept::Kept;
@@ -255,6 +256,28 @@ impl Ahead {
         self.from += by;
     }
 
+    /// Moves on to the end of the tokens that an edit at `start` keeps in front. Returns by how many bytes.
+    fn approach(&mut self, tokens: &mut Vec<Token>, text: &str, start: usize) -> usize
+        requires boundary { IsCharBoundary text.now self.old.from }
+        requires start { IsCharBoundary (drop self.old.from text.now) start }
+        requires gap { means.IsGap self.old.gap tokens.old.items }
+        requires room { string_len self.old.front + length (drop self.old.from text.now)
+            ≤ string_capacity self.old.front }
+        ensures moved { (whole : Bool) (first : List ℕ → Token) (all : List ℕ) (head : Head)
+            (stop : ℕ) (insert : List ℕ) → text.now ≡ all → IsGrammar first → IsUtf8 insert
+            → means.IsAhead whole first all tokens.old.items head self.old
+            → means.IsTaken self.old.settled (string_bytes self.old.front)
+            (drop self.old.from all) (length (tokens_of_head head)) self.old.gap start stop insert
+            → means.IsMoved whole first all tokens.old.items head self.old start stop insert
+            result tokens.new.items self.new }
+    {
+        let rest = &text[self.from..];
+        let at = kept_front(rest, &tokens.as_slice()[self.gap.rest..], start, FIRST);
+        self.gap = self.gap.advance(tokens, at.number);
+        self.go_on(text, at.offset);
+        at.offset
+    }
+
     /// Takes back an edit of the text, which replaced `removed` by `len` bytes after the first `start`.
     #[tactic(auto, using(crate::proofs::AheadTextLemmas::ahead_steps, std::proofs::lemmas::Grind::common_steps))]
     fn take_back(&mut self, text: &str, start: usize, len: usize, removed: &str)
@@ -281,6 +304,35 @@ impl Ahead {
 /// Makes an edit by its [places](Ahead::places), and moves on to the end of what it keeps in front. `Err` means
 /// that an allocation failed. Then text and tokens are as before, and it takes no more edits.
 pub(crate) fn edit_ahead<S: Stepper, E: Extent>(
+    kept: &mut Kept<S, E>,
+    ahead: &mut Ahead,
+    start: usize,
+    stop: usize,
+    insert: &str,
+) -> Result<Relexed, AllocError>
+    requires ahead { means.IsAhead E.whole (S.grammar kept.old.stepper) (string_bytes kept.old.text)
+        kept.old.tokens.items kept.old.head ahead.old }
+    requires taken { means.IsTaken ahead.old.settled (string_bytes ahead.old.front)
+        (drop ahead.old.from (string_bytes kept.old.text)) (length (tokens_of_head kept.old.head))
+        ahead.old.gap start stop insert.now }
+    ensures edited { IsEdited S.grammar S.number S.count E.whole
+        (means.held (string_bytes kept.old.text) kept.old.tokens.items kept.old.stepper ahead.old)
+        (length (string_bytes ahead.old.front) + start) (length (string_bytes ahead.old.front) + stop)
+        insert.now result
+        (means.held (string_bytes kept.new.text) kept.new.tokens.items kept.new.stepper ahead.new) }
+    ensures head { kept.new.head ≡ kept.old.head }
+    ensures ahead { OnOk result (means.IsAhead E.whole (S.grammar kept.new.stepper)
+        (string_bytes kept.new.text) kept.new.tokens.items kept.new.head ahead.new) }
+    ensures is_open { OnErr result (means.IsOpen E.whole (S.grammar kept.new.stepper)
+        (string_bytes kept.new.text) kept.new.tokens.items kept.new.head ahead.new) }
+{
+    // The text between is then copied once, and what the edit replaces is short.
+    let by = ahead.approach(&mut kept.tokens, kept.text.as_str(), start);
+    edit_here(kept, ahead, start - by, stop - by, insert)
+}
+
+/// Makes an edit, as [`edit_ahead`] does, wherever the place is.
+fn edit_here<S: Stepper, E: Extent>(
     kept: &mut Kept<S, E>,
     ahead: &mut Ahead,
     start: usize,

@@ -6,7 +6,7 @@ use crate::support::{String, Vec};
 use crate::erased::entry::stepper::Stepper;
 use crate::erased::relex::checkpoints::Checkpoints;
 use crate::erased::relex::edit::{contains_range, relex};
-use crate::erased::relex::front::{FIRST, two_stand};
+use crate::erased::relex::front::{FIRST, kept_front, two_stand};
 use crate::erased::relex::gap::Gap;
 use crate::erased::relex::head::{Extent, Head};
 use crate::erased::relex::kept::Kept;
@@ -148,6 +148,15 @@ impl Ahead {
         self.from += by;
     }
 
+    /// Moves on to the end of the tokens that an edit at `start` keeps in front. Returns by how many bytes.
+    fn approach(&mut self, tokens: &mut Vec<Token>, text: &str, start: usize) -> usize {
+        let rest = &text[self.from..];
+        let at = kept_front(rest, &tokens.as_slice()[self.gap.rest..], start, FIRST);
+        self.gap = self.gap.advance(tokens, at.number);
+        self.go_on(text, at.offset);
+        at.offset
+    }
+
     /// Takes back an edit of the text, which replaced `removed` by `len` bytes after the first `start`.
     fn take_back(&mut self, text: &str, start: usize, len: usize, removed: &str) {
         push_within(&mut self.front, &text[self.from..self.from + start]);
@@ -159,6 +168,19 @@ impl Ahead {
 /// Makes an edit by its [places](Ahead::places), and moves on to the end of what it keeps in front. `Err` means
 /// that an allocation failed. Then text and tokens are as before, and it takes no more edits.
 pub(crate) fn edit_ahead<S: Stepper, E: Extent>(
+    kept: &mut Kept<S, E>,
+    ahead: &mut Ahead,
+    start: usize,
+    stop: usize,
+    insert: &str,
+) -> Result<Relexed, AllocError> {
+    // The text between is then copied once, and what the edit replaces is short.
+    let by = ahead.approach(&mut kept.tokens, kept.text.as_str(), start);
+    edit_here(kept, ahead, start - by, stop - by, insert)
+}
+
+/// Makes an edit, as [`edit_ahead`] does, wherever the place is.
+fn edit_here<S: Stepper, E: Extent>(
     kept: &mut Kept<S, E>,
     ahead: &mut Ahead,
     start: usize,
