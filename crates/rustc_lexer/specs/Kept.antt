@@ -1,6 +1,6 @@
 -- A text that is kept with its tokens: what its edits do, and its pieces.
 use Rattle.std.specs.Prelude.{ℕ, ◌+◌, ◌-◌, ◌<◌, ◌≤◌, ◌^◌, List, [], ◌∷◌, ◌++◌, length, take, drop, ◌≡◌, Option, Some, None, Bool, true, false, Result, Ok, Err, IfOk, IfErr, OnOk, OnErr}
-use Rattle.rustc_lexer.specs.declared.relex.{edit.Edit.Edit, edit_list.{EditStop.EditStop, Stopped.Stopped}, pieces.Piece.Piece, relexing.Relexed.Relexed}
+use Rattle.rustc_lexer.specs.declared.relex.{edit.Edit.Edit, edit_list.EditStop.EditStop, edit_list.Stopped.Stopped, pieces.Piece.Piece, relexing.Relexed.Relexed}
 use Rattle.rustc_lexer.specs.{Edition, Token}
 use Rattle.rustc_lexer.specs.Document.{document_tokens, document_tokens_by, shebang_len, whole_by}
 use Rattle.rustc_lexer.specs.Edits.{AreEdits, AreStepped, IsRelexed, IsRelexedList, IsStop, IsStopStepped, Layout, apply, apply_list, part_by, stop_at}

@@ -195,8 +195,8 @@ macro_rules! kept_text {
             /// # Panics
             ///
             /// Panics if `step` does, or if a token of it is empty, is longer than the text or ends inside a character. So
-            /// do edits: `text` then has the edit, and each call that needs the tokens panics. An edit that is refused needs
-            /// none.
+            /// do edits: `text` then has the edit, and each call that needs the tokens panics. In a list of 64 edits or more
+            /// `text` may then be another text. An edit that is refused needs none.
             ///
             /// # Errors
             ///

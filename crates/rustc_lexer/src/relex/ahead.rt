@@ -114,7 +114,8 @@ fn lex_ahead<S: Stepper>(
     ensures lexed { IfOk result
         (λ at. (before insert : List ℕ)
         → IsMadeOf (S.grammar stepper.old) before
-        (map (λ (t : Token). t.len) (means.behind_gap tokens.old.items gap.old)) change insert text.now
+        (map (λ (t : Token). t.len) (means.behind_gap tokens.old.items gap.old))
+        change insert text.now
         → means.IsLexedBehind (S.grammar stepper.old) before change text.now tokens.old.items
         gap.old tokens.new.items gap.new at
         × (S.count stepper.new ≡ S.count stepper.old + at.lexed)) }
@@ -122,7 +123,8 @@ fn lex_ahead<S: Stepper>(
     ensures few { IfErr result
         (λ _. (before insert : List ℕ)
         → IsMadeOf (S.grammar stepper.old) before
-        (map (λ (t : Token). t.len) (means.behind_gap tokens.old.items gap.old)) change insert text.now
+        (map (λ (t : Token). t.len) (means.behind_gap tokens.old.items gap.old))
+        change insert text.now
         → S.count stepper.new
         ≤ S.count stepper.old
         + (relexed_of (S.grammar stepper.old) before change.start change.old_stop insert).lexed) }
@@ -317,7 +319,8 @@ pub(crate) fn edit_ahead<S: Stepper, E: Extent>(
         ahead.old.gap start stop insert.now }
     ensures edited { IsEdited S.grammar S.number S.count E.whole
         (means.held (string_bytes kept.old.text) kept.old.tokens.items kept.old.stepper ahead.old)
-        (length (string_bytes ahead.old.front) + start) (length (string_bytes ahead.old.front) + stop)
+        (length (string_bytes ahead.old.front) + start)
+        (length (string_bytes ahead.old.front) + stop)
         insert.now result
         (means.held (string_bytes kept.new.text) kept.new.tokens.items kept.new.stepper ahead.new) }
     ensures head { kept.new.head ≡ kept.old.head }
@@ -346,7 +349,8 @@ fn edit_here<S: Stepper, E: Extent>(
         ahead.old.gap start stop insert.now }
     ensures edited { IsEdited S.grammar S.number S.count E.whole
         (means.held (string_bytes kept.old.text) kept.old.tokens.items kept.old.stepper ahead.old)
-        (length (string_bytes ahead.old.front) + start) (length (string_bytes ahead.old.front) + stop)
+        (length (string_bytes ahead.old.front) + start)
+        (length (string_bytes ahead.old.front) + stop)
         insert.now result
         (means.held (string_bytes kept.new.text) kept.new.tokens.items kept.new.stepper ahead.new) }
     ensures head { kept.new.head ≡ kept.old.head }
@@ -400,9 +404,10 @@ fn past(count: usize, counts: Relexed) -> Relexed
 
 /// Closes an open text: what is in front becomes its front. Its checkpoints are found anew.
 pub(crate) fn close<S: Stepper, E: Extent>(kept: &mut Kept<S, E>, ahead: Ahead)
-    requires is_open { means.IsOpen E.whole (S.grammar kept.old.stepper) (string_bytes kept.old.text)
-        kept.old.tokens.items kept.old.head ahead }
-    ensures text { string_bytes kept.new.text ≡ means.open_text (string_bytes kept.old.text) ahead }
+    requires is_open { means.IsOpen E.whole (S.grammar kept.old.stepper)
+        (string_bytes kept.old.text) kept.old.tokens.items kept.old.head ahead }
+    ensures text { string_bytes kept.new.text
+        ≡ means.open_text (string_bytes kept.old.text) ahead }
     ensures tokens { kept.new.tokens.items ≡ means.closed kept.old.tokens.items ahead.gap }
     ensures stepper { kept.new.stepper ≡ kept.old.stepper }
     ensures kept { AreKeptOf E.whole (S.grammar kept.new.stepper) (string_bytes kept.new.text)

@@ -24,7 +24,8 @@ impl Gap {
         ensures gap { means.IsGap result list.new.items }
         ensures count { result.count ≡ self.count + by }
         ensures before { means.before_gap list.new.items result
-            ≡ means.before_gap list.old.items self ++ take by (means.behind_gap list.old.items self) }
+            ≡ means.before_gap list.old.items self
+            ++ take by (means.behind_gap list.old.items self) }
         ensures behind { means.behind_gap list.new.items result
             ≡ drop by (means.behind_gap list.old.items self) }
     {
