@@ -246,23 +246,28 @@ fn what_a_list_keeps() {
     }
 }
 
-/// A long list, whose third edit is in front of the second and puts a frontmatter there.
+/// Long lists with an edit that puts a frontmatter in front: the third, before the second, and the second itself.
 #[test]
 fn a_long_list_that_makes_a_head() {
-    let text = "     a b c\n".repeat(20);
-    let mut edits = vec![edit(8, 8, "d"), edit(6, 6, "e"), edit(0, 0, "---\n---\n")];
-    edits.extend((0..70).map(|at| edit(40 + 2 * at, 40 + 2 * at, "f")));
-    let (mut lexed, mut made) = (LexedDocument::new(&*text), LexedDocument::new(&*text));
-    let (mut front, mut back) = (usize::MAX, usize::MAX);
-    for edit in &edits {
-        let relexed = made.edit(edit.start..edit.stop, edit.insert);
-        front = front.min(relexed.kept_front);
-        back = back.min(relexed.kept_back);
+    let before = [edit(8, 8, "d"), edit(6, 6, "e"), edit(0, 0, "---\n---\n")];
+    let itself = [edit(8, 8, "d"), edit(1, 1, "-"), edit(9, 9, "e")];
+    for (text, first) in [("     a b c\n", before), ("-- a b c d\n", itself)] {
+        let text = text.repeat(20);
+        let mut edits = first.to_vec();
+        edits.extend((0..70).map(|at| edit(40 + 2 * at, 40 + 2 * at, "f")));
+        let (mut lexed, mut made) = (LexedDocument::new(&*text), LexedDocument::new(&*text));
+        let (mut front, mut back) = (usize::MAX, usize::MAX);
+        for edit in &edits {
+            let relexed = made.edit(edit.start..edit.stop, edit.insert);
+            front = front.min(relexed.kept_front);
+            back = back.min(relexed.kept_back);
+        }
+        let relexed = lexed.edit_each(&edits).unwrap();
+        assert_eq!((relexed.kept_front, relexed.kept_back), (front, back));
+        assert_eq!((lexed.text(), lexed.tokens()), (made.text(), made.tokens()));
+        assert_eq!(lexed.tokens()[0].kind.name(), "Frontmatter");
+        check(&lexed, Edition::E2024, "a head in a long list");
     }
-    let relexed = lexed.edit_each(&edits).unwrap();
-    assert_eq!((relexed.kept_front, relexed.kept_back), (front, back));
-    assert_eq!((lexed.text(), lexed.tokens()), (made.text(), made.tokens()));
-    check(&lexed, Edition::E2024, "a head in a long list");
 }
 
 /// A grammar whose tokens are single characters, and its steps.

@@ -105,11 +105,22 @@ fn lists(text: &str, whole: f64, rounds: usize) {
             insert: "x",
         });
         let edits: Vec<Edit> = edits.collect();
-        let make = || LexedText::new(text);
-        let time = least(rounds, make, |kept| {
-            kept.edit_each(&edits).expect("the edits are accepted");
-        });
-        row(&format!("a list of {count} by `edit_each`"), time, whole);
+        macro_rules! list {
+            ($Kept:ident) => {{
+                let make = || $Kept::new(text);
+                let time = least(rounds, make, |kept| {
+                    kept.edit_each(&edits).expect("the edits are accepted");
+                });
+                let name = stringify!($Kept);
+                row(
+                    &format!("a list of {count} by `edit_each` of a `{name}`"),
+                    time,
+                    whole,
+                );
+            }};
+        }
+        list!(LexedText);
+        list!(LexedDocument);
     }
 }
 
