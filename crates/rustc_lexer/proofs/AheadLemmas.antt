@@ -21,7 +21,7 @@ use Rattle.rustc_lexer.specs.Relexing.{IsChange, IsMadeOf}
 use Rattle.rustc_lexer.specs.Offsets.{IsBound}
 use Rattle.rustc_lexer.specs.Tokens.{bound, tokens_by}
 use Rattle.rustc_lexer.specs.Growing.{is_head_final}
-use Rattle.rustc_lexer.specs.means.Document.{AreKeptOf, document_by, head_by, HeadStays, IsCountedByHead, IsRelexedByHead, IsRelexedWith, counted, tokens_of_head}
+use Rattle.rustc_lexer.specs.means.Document.{AreKeptOf, document_by, head_by, HeadStays, IsRelexedByHead, IsRelexedWith, counted, tokens_of_head}
 use Rattle.rustc_lexer.specs.means.Gap.{AreHeldOf, IsAhead, IsCut, IsGap, IsHeadBy, IsMoved, IsTaken, before_gap, behind_gap, closed, held, open_text, past, plain}
 use Rattle.rustc_lexer.specs.means.Relexing.{IsBodyRelexed, IsLexed, IsRenewed, relexed_of}
 use Rattle.std.proofs.lemmas.Bool.{cases_lt}
@@ -139,10 +139,10 @@ module _ {whole : Bool} {first : List ℕ → Token} {front rest : List ℕ} {to
   bare_two : 0 < length bare → has_two rest 0 start ≡ true
   bare_two some = k.two (omega (arith, bare_len))
 
-  pub edit_whole : IsEdit (front ++ rest) (n + start) (n + stop) insert
+  edit_whole : IsEdit (front ++ rest) (n + start) (n + stop) insert
   edit_whole = record { inside = inside-past front rest start stop inside; short = omega (arith, length-append front rest, k.short) }
 
-  pub made_whole : front ++ made ≡ apply (front ++ rest) (n + start) (n + stop) insert
+  made_whole : front ++ made ≡ apply (front ++ rest) (n + start) (n + stop) insert
   made_whole = sym (apply-past front rest start stop insert)
 
   edit_behind : IsEdit rest start stop insert
@@ -179,15 +179,12 @@ module _ {whole : Bool} {first : List ℕ → Token} {front rest : List ℕ} {to
     changed = λ none. absurd (none stays_so);
   }
 
-  pub by_count : (before lexed : ℕ) → IsCountedByHead (head_by whole) (front ++ rest) (n + start) (n + stop) insert before (before + lexed) lexed
-  by_count before lexed = record { kept = λ _. refl; changed = λ none. absurd (none stays_so) }
-
-  pub relexed_all : {r : Relexed} → IsBodyRelexed first rest start stop insert r → IsRelexed (layout_in whole first) (front ++ rest) (n + start) (n + stop) insert (past (length tokens) r)
+  relexed_all : {r : Relexed} → IsBodyRelexed first rest start stop insert r → IsRelexed (layout_in whole first) (front ++ rest) (n + start) (n + stop) insert (past (length tokens) r)
   relexed_all b = relexed_in law (front ++ rest) insert (n + start) (n + stop) h.is k.utf8 edit_whole whole (by_head b)
 
   pub counted_all : {r : Relexed} (before after : ℕ) → IsBodyRelexed first rest start stop insert r → after ≡ before + r.lexed
       → after + (length (layout_in whole first (apply (front ++ rest) (n + start) (n + stop) insert)).head - (past (length tokens) r).kept_front) ≡ before + r.lexed
-  counted_all {r} before after b e = rw e (counted_in law (front ++ rest) insert (n + start) (n + stop) h.is k.utf8 edit_whole whole (by_head b) (by_count before r.lexed))
+  counted_all {r} before after b e = rw e (counted_in law (front ++ rest) insert (n + start) (n + stop) h.is k.utf8 edit_whole whole (by_head b) (record { kept = λ _. refl; changed = λ none. absurd (none stays_so) }))
 
   -- an edit that is refused took no more steps than it would have
   pub few_all : (before after : ℕ) → after ≤ before + (relexed_of first rest start stop insert).lexed
@@ -204,7 +201,7 @@ module _ {whole : Bool} {first : List ℕ → Token} {front rest : List ℕ} {to
   held_scratch text_is all_is = all_is ∙ (h.all ∙ (tokens_are whole first (front ++ rest) h.is ∙ ap (tokens_in whole first) (sym text_is)))
 
   -- the place may move on to a later boundary
-  pub cut_later : (m o : ℕ) → m ≤ length behind → o ≡ bound behind m → IsCut first (drop head.body (front ++ take o rest)) (drop o rest) (drop (length own) (tokens ++ take m behind))
+  cut_later : (m o : ℕ) → m ≤ length behind → o ≡ bound behind m → IsCut first (drop head.body (front ++ take o rest)) (drop o rest) (drop (length own) (tokens ++ take m behind))
   cut_later m o few is =
       let there : o ≡ bound (tokens_by first rest) m = is ∙ ap (λ ts. bound ts m) behind_are in
       let bare_on : drop (length own) (tokens ++ take m behind) ≡ bare ++ take m (tokens_by first rest) = drop-append-le (length own) tokens (take m behind) h.own ∙ ap (λ ts. bare ++ take m ts) behind_are in
@@ -220,9 +217,6 @@ module _ {whole : Bool} {first : List ℕ → Token} {front rest : List ℕ} {to
     now_are : now ≡ tokens_by first made
     now_are = renewed_are law behind_are made_of renewed
 
-    front_in : at.front.number ≤ length (tokens_by first rest)
-    front_in = l.stands.front_bound.0
-
     made_bound : bound (tokens_by first made) at.front.number ≡ at.front.offset
     made_bound = sym (l.stands.front_bound.1 ∙ bound-same at.front.number (tokens_by first rest) (tokens_by first made) l.stands.front_same)
 
@@ -234,7 +228,7 @@ module _ {whole : Bool} {first : List ℕ → Token} {front rest : List ℕ} {to
     front_at = subst (IsCharBoundary made) made_bound (cuts law made is_made at.front.number made_few)
 
     -- the tokens are those of the changed text
-    pub tokens_now : (tokens ++ take at.front.number behind) ++ (lexed ++ drop at.back.number behind) ≡ document_by (head_by whole) first (front ++ made)
+    tokens_now : (tokens ++ take at.front.number behind) ++ (lexed ++ drop at.back.number behind) ≡ document_by (head_by whole) first (front ++ made)
     tokens_now = append_assoc tokens (take at.front.number behind) (lexed ++ drop at.back.number behind)
         ∙ (ap₂ (λ xs ys. xs ++ ys) split now_are ∙ (append_assoc own bare (tokens_by first made) ∙ (ap (λ ts. own ++ ts) (sym new_cut.tokens_are) ∙ sym (document_of made k.head_made))))
 
@@ -242,16 +236,16 @@ module _ {whole : Bool} {first : List ℕ → Token} {front rest : List ℕ} {to
     bare_now = drop-append-le (length own) tokens (take at.front.number behind) h.own ∙ ap (λ ts. bare ++ ts) (ap (take at.front.number) behind_are ∙ l.stands.front_same)
 
     -- and it may be cut behind the kept front
-    pub cut_now : IsCut first (drop head.body (front ++ take at.front.offset made)) (drop at.front.offset made) (drop (length own) (tokens ++ take at.front.number behind))
+    cut_now : IsCut first (drop head.body (front ++ take at.front.offset made)) (drop at.front.offset made) (drop (length own) (tokens ++ take at.front.number behind))
     cut_now =
         let on = cut_on law part made bare new_part new_cut at.front.number made_few in
         rw (part_of (take at.front.offset made), bare_now) (subst (λ o. IsCut first (part ++ take o made) (drop o made) (bare ++ take at.front.number (tokens_by first made))) made_bound on)
 
-    pub is_now : IsText (front ++ made)
+    is_now : IsText (front ++ made)
     is_now = subst IsText (sym made_whole) (edited (front ++ rest) (n + start) (n + stop) insert h.is k.utf8 edit_whole).text_is
 
     -- the changed text, behind which the place is now
-    pub open_now : AreHeldOf whole first ((front ++ take at.front.offset made) ++ drop at.front.offset made) ((tokens ++ take at.front.number behind) ++ (lexed ++ drop at.back.number behind)) head
+    open_now : AreHeldOf whole first ((front ++ take at.front.offset made) ++ drop at.front.offset made) ((tokens ++ take at.front.number behind) ++ (lexed ++ drop at.back.number behind)) head
     open_now =
         let one : (front ++ take at.front.offset made) ++ drop at.front.offset made ≡ front ++ made = append_assoc front (take at.front.offset made) (drop at.front.offset made) ∙ ap (λ xs. front ++ xs) (take-append-drop at.front.offset made) in
         rw one (
@@ -269,7 +263,7 @@ module _ {whole : Bool} {first : List ℕ → Token} {front rest : List ℕ} {to
       met_in : at.back.number ≤ length behind
       met_in = omega (arith, l.stands.back_bound.0, ap length behind_are)
 
-      pub kept_now : AreKept (tokens ++ behind) ((tokens ++ take at.front.number behind) ++ (lexed ++ drop at.back.number behind)) r
+      kept_now : AreKept (tokens ++ behind) ((tokens ++ take at.front.number behind) ++ (lexed ++ drop at.back.number behind)) r
       kept_now =
           let whole_now : (tokens ++ take at.front.number behind) ++ (lexed ++ drop at.back.number behind) ≡ tokens ++ now = append_assoc tokens (take at.front.number behind) (lexed ++ drop at.back.number behind) in
           let all = renewed_all law behind_are made_of renewed in

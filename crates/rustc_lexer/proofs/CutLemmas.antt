@@ -19,7 +19,7 @@ use Rattle.rustc_lexer.proofs.FrontLemmas.{bound-shift, kept_from}
 use Rattle.rustc_lexer.proofs.ReadyLemmas.{cuts}
 
 -- the bounds past the first tokens
-pub bound-past : (ts us : List Token) (k : ℕ) → bound (ts ++ us) (length ts + k) ≡ bound ts (length ts) + bound us k
+bound-past : (ts us : List Token) (k : ℕ) → bound (ts ++ us) (length ts + k) ≡ bound ts (length ts) + bound us k
 bound-past ts us k = bound-shift (ts ++ us) (length ts) k ∙ ap₂ (λ m xs. m + bound xs k) (bound-append ts us) (drop-append_seam ts us)
 
 pub has_two_behind : (text : List ℕ) (from to : ℕ) → from ≤ to → has_two text from to ≡ has_two (drop from text) 0 (to - from)
@@ -101,13 +101,13 @@ module _ {first : List ℕ → Token} (law : IsGrammar first) (front rest : List
     abbrev new_text : List ℕ
     new_text = front ++ new_rest
 
-    pub edit_past : IsEdit text (length front + start) (length front + stop) insert
+    edit_past : IsEdit text (length front + start) (length front + stop) insert
     edit_past = record { inside = inside-past front rest start stop inside; short = omega (arith, length-append front rest, short) }
 
     pub edit_rest : IsEdit rest start stop insert
     edit_rest = record { inside = inside; short = omega (arith, short) }
 
-    pub made_past : new_text ≡ apply text (length front + start) (length front + stop) insert
+    made_past : new_text ≡ apply text (length front + start) (length front + stop) insert
     made_past = sym (apply-past front rest start stop insert)
 
     ed : IsEdited text (length front + start) (length front + stop) insert new_text

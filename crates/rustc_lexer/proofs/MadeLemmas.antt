@@ -59,6 +59,10 @@ module _ {S : Type 0} {first : S → List ℕ → Token} {year steps : S → ℕ
           (least-more (layout_in whole) (first old.stepper) r (first mid.stepper) old.text mid.text edits at _ _ made.front made.back _ _ few m.text m.grammar front_is back_is kept.least i.relexed);
     }
 
+    pub more : {X : Type 0} {r : Relexed} {new : Held S} (next : Made) → AreKeptTo first whole old edits made mid → IsEdited {E = X} first year steps whole mid e.start e.stop e.insert.now (Ok r) new → next.count ≡ at + 1 → next.front ≡ min made.front r.kept_front → next.back ≡ min made.back r.kept_back
+        → AreMadeTo first year steps whole old edits next new × AreKeptTo first whole old edits next new
+    more next kept i count_is front_is back_is = (made_more next i count_is front_is back_is, kept_more next kept i count_is front_is back_is)
+
     -- an edit that is refused keeps the tokens
     pub kept_refused : {X : Type 0} {x : X} {new : Held S} → AreKeptTo first whole old edits made mid → IsEdited {E = X} first year steps whole mid e.start e.stop e.insert.now (Err x) new → AreKeptTo first whole old edits made new
     kept_refused {X} {x} {new} kept i = record { stay = subst (λ ts. StayAtEnds old.tokens ts made.front made.back) (sym i.same_tokens) kept.stay; least = kept.least }

@@ -3,23 +3,19 @@ use Rattle.rustc_lexer.proofs.relex.ahead.edit_ahead.Goals as goal
 
 pub overflow_sub-start : goal.overflow_sub-start
 overflow_sub-start g c =
-    let m = c.approach-by.ensures.moved g.E.Extent.whole (g.S.Stepper.grammar c.args.kept.now.stepper) (string_bytes c.args.kept.now.text) c.args.kept.now.head c.args.stop c.args.insert.now c.as_str.ensures.value (g.S.Stepper.law c.args.kept.now.stepper) c.utf8.insert c.requires.ahead c.requires.taken in
-    m.start_past
+    (c.approach-by.ensures.moved g.E.Extent.whole (g.S.Stepper.grammar c.args.kept.now.stepper) (string_bytes c.args.kept.now.text) c.args.kept.now.head c.args.stop c.args.insert.now c.as_str.ensures.value (g.S.Stepper.law c.args.kept.now.stepper) c.utf8.insert c.requires.ahead c.requires.taken).start_past
 
 pub overflow_sub-stop : goal.overflow_sub-stop
 overflow_sub-stop g c =
-    let m = c.approach-by.ensures.moved g.E.Extent.whole (g.S.Stepper.grammar c.args.kept.now.stepper) (string_bytes c.args.kept.now.text) c.args.kept.now.head c.args.stop c.args.insert.now c.as_str.ensures.value (g.S.Stepper.law c.args.kept.now.stepper) c.utf8.insert c.requires.ahead c.requires.taken in
-    m.stop_past
+    (c.approach-by.ensures.moved g.E.Extent.whole (g.S.Stepper.grammar c.args.kept.now.stepper) (string_bytes c.args.kept.now.text) c.args.kept.now.head c.args.stop c.args.insert.now c.as_str.ensures.value (g.S.Stepper.law c.args.kept.now.stepper) c.utf8.insert c.requires.ahead c.requires.taken).stop_past
 
 pub edit_here-requires-clause-ahead : goal.edit_here-requires-clause-ahead
 edit_here-requires-clause-ahead g c =
-    let m = c.approach-by.ensures.moved g.E.Extent.whole (g.S.Stepper.grammar c.args.kept.now.stepper) (string_bytes c.args.kept.now.text) c.args.kept.now.head c.args.stop c.args.insert.now c.as_str.ensures.value (g.S.Stepper.law c.args.kept.now.stepper) c.utf8.insert c.requires.ahead c.requires.taken in
-    m.ahead_now
+    (c.approach-by.ensures.moved g.E.Extent.whole (g.S.Stepper.grammar c.args.kept.now.stepper) (string_bytes c.args.kept.now.text) c.args.kept.now.head c.args.stop c.args.insert.now c.as_str.ensures.value (g.S.Stepper.law c.args.kept.now.stepper) c.utf8.insert c.requires.ahead c.requires.taken).ahead_now
 
 pub edit_here-requires-clause-taken : goal.edit_here-requires-clause-taken
 edit_here-requires-clause-taken g c =
-    let m = c.approach-by.ensures.moved g.E.Extent.whole (g.S.Stepper.grammar c.args.kept.now.stepper) (string_bytes c.args.kept.now.text) c.args.kept.now.head c.args.stop c.args.insert.now c.as_str.ensures.value (g.S.Stepper.law c.args.kept.now.stepper) c.utf8.insert c.requires.ahead c.requires.taken in
-    m.taken_now
+    (c.approach-by.ensures.moved g.E.Extent.whole (g.S.Stepper.grammar c.args.kept.now.stepper) (string_bytes c.args.kept.now.text) c.args.kept.now.head c.args.stop c.args.insert.now c.as_str.ensures.value (g.S.Stepper.law c.args.kept.now.stepper) c.utf8.insert c.requires.ahead c.requires.taken).taken_now
 
 pub returns-clause-edited : goal.returns-clause-edited
 returns-clause-edited g c =
