@@ -73,15 +73,6 @@ pub record IsTaking (whole : Bool) (first : List ℕ → Token) (front rest : Li
   pub head_made : head_by whole (front ++ apply rest start stop insert) ≡ head
 
 module _ {whole : Bool} {first : List ℕ → Token} {front rest : List ℕ} {tokens behind : List Token} {head : Head} {start stop : ℕ} {insert : List ℕ} (k : IsTaking whole first front rest tokens behind head start stop insert) where
-  law : IsGrammar first
-  law = k.law
-
-  h : IsHalved whole first front rest tokens behind head
-  h = k.halved
-
-  inside : IsInside rest start stop
-  inside = k.inside
-
   abbrev own : List Token
   own = tokens_of_head head
 
@@ -92,25 +83,25 @@ module _ {whole : Bool} {first : List ℕ → Token} {front rest : List ℕ} {to
   part = drop head.body front
 
   part_of : (more : List ℕ) → drop head.body (front ++ more) ≡ part ++ more
-  part_of more = drop-append-le head.body front more h.body
+  part_of more = drop-append-le head.body front more k.halved.body
 
   part_len : head.body + length part ≡ length front
-  part_len = omega (arith, length-drop head.body front, h.body)
+  part_len = omega (arith, length-drop head.body front, k.halved.body)
 
   head_now : head_by whole (front ++ rest) ≡ head
-  head_now = sym h.head_is
+  head_now = sym k.halved.head_is
 
   is_part : IsText (part ++ rest)
-  is_part = subst IsText (part_of rest) record { utf8 = IsUtf8-drop (front ++ rest) head.body h.is.utf8 h.boundary; fits = let f = h.is.fits in omega (arith, length-drop head.body (front ++ rest)) }
+  is_part = subst IsText (part_of rest) record { utf8 = IsUtf8-drop (front ++ rest) head.body k.halved.is.utf8 k.halved.boundary; fits = let f = k.halved.is.fits in omega (arith, length-drop head.body (front ++ rest)) }
 
   document_of : (more : List ℕ) → head_by whole (front ++ more) ≡ head → document_by (head_by whole) first (front ++ more) ≡ own ++ tokens_by first (part ++ more)
   document_of more same = ap (λ (o : Head). tokens_of_head o ++ tokens_by first (drop o.body (front ++ more))) same ∙ ap (λ xs. own ++ tokens_by first xs) (part_of more)
 
   all_are : tokens ++ behind ≡ own ++ (bare ++ tokens_by first rest)
-  all_are = h.all ∙ (document_of rest head_now ∙ ap (λ ts. own ++ ts) h.cut.tokens_are)
+  all_are = k.halved.all ∙ (document_of rest head_now ∙ ap (λ ts. own ++ ts) k.halved.cut.tokens_are)
 
   own_are : take (length own) tokens ≡ own
-  own_are = sym (take-append-le (length own) tokens behind h.own) ∙ (ap (take (length own)) all_are ∙ take-append_seam own (bare ++ tokens_by first rest))
+  own_are = sym (take-append-le (length own) tokens behind k.halved.own) ∙ (ap (take (length own)) all_are ∙ take-append_seam own (bare ++ tokens_by first rest))
 
   split : tokens ≡ own ++ bare
   split = sym (take-append-drop (length own) tokens) ∙ ap (λ ts. ts ++ bare) own_are
@@ -119,10 +110,10 @@ module _ {whole : Bool} {first : List ℕ → Token} {front rest : List ℕ} {to
   behind_are = append_cancel_left tokens behind (tokens_by first rest) (all_are ∙ (sym (append_assoc own bare (tokens_by first rest)) ∙ ap (λ ts. ts ++ tokens_by first rest) (sym split)))
 
   bare_len : length own + length bare ≡ length tokens
-  bare_len = omega (arith, length-drop (length own) tokens, h.own)
+  bare_len = omega (arith, length-drop (length own) tokens, k.halved.own)
 
   pub is_rest : IsText rest
-  is_rest = rest_text law part rest bare is_part h.cut
+  is_rest = rest_text k.law part rest bare is_part k.halved.cut
 
   abbrev n : ℕ
   n = length front
@@ -140,38 +131,38 @@ module _ {whole : Bool} {first : List ℕ → Token} {front rest : List ℕ} {to
   bare_two some = k.two (omega (arith, bare_len))
 
   edit_whole : IsEdit (front ++ rest) (n + start) (n + stop) insert
-  edit_whole = record { inside = inside-past front rest start stop inside; short = omega (arith, length-append front rest, k.short) }
+  edit_whole = record { inside = inside-past front rest start stop k.inside; short = omega (arith, length-append front rest, k.short) }
 
   made_whole : front ++ made ≡ apply (front ++ rest) (n + start) (n + stop) insert
   made_whole = sym (apply-past front rest start stop insert)
 
   edit_behind : IsEdit rest start stop insert
-  edit_behind = edit_rest law part rest bare is_part h.cut start stop insert k.utf8 inside shorter bare_two
+  edit_behind = edit_rest k.law part rest bare is_part k.halved.cut start stop insert k.utf8 k.inside shorter bare_two
 
   pub made_of : IsMadeOf first rest (map (λ (t : Token). t.len) behind) change insert made
   made_of = made_for rest is_rest start stop insert k.utf8 edit_behind behind made behind_are refl
 
   pub is_change : IsChange made change
-  is_change = made_change law rest _ insert made change made_of
+  is_change = made_change k.law rest _ insert made change made_of
 
   new_cut : IsCut first part made bare
-  new_cut = cut_new law part rest bare is_part h.cut start stop insert k.utf8 inside shorter bare_two
+  new_cut = cut_new k.law part rest bare is_part k.halved.cut start stop insert k.utf8 k.inside shorter bare_two
 
   new_part : IsText (part ++ made)
-  new_part = new_is law part rest bare is_part h.cut start stop insert k.utf8 inside shorter bare_two
+  new_part = new_is k.law part rest bare is_part k.halved.cut start stop insert k.utf8 k.inside shorter bare_two
 
   pub is_made : IsText made
-  is_made = rest_text law part made bare new_part new_cut
+  is_made = rest_text k.law part made bare new_part new_cut
 
   stays_so : HeadStays (head_by whole) (front ++ rest) (n + start) (n + stop) insert
-  stays_so = (head_now ∙ (sym k.head_made ∙ ap (head_by whole) made_whole), (let b = h.body in omega (arith, ap (λ (o : Head). o.body) head_now)))
+  stays_so = (head_now ∙ (sym k.head_made ∙ ap (head_by whole) made_whole), (let b = k.halved.body in omega (arith, ap (λ (o : Head). o.body) head_now)))
 
   -- what the edit keeps of the rest gives what it keeps of all
-  pub by_head : {r : Relexed} → IsBodyRelexed first rest start stop insert r → IsRelexedByHead (head_by whole) first (front ++ rest) (n + start) (n + stop) insert (past (length tokens) r)
+  by_head : {r : Relexed} → IsBodyRelexed first rest start stop insert r → IsRelexedByHead (head_by whole) first (front ++ rest) (n + start) (n + stop) insert (past (length tokens) r)
   unfolding IsRelexedWith
   by_head {r} b = record {
     kept = λ _.
-        let at : IsBodyRelexed first (part ++ rest) (length part + start) (length part + stop) insert (past (length bare) r) = relexed_past law part rest bare is_part h.cut start stop insert k.utf8 inside shorter bare_two b in
+        let at : IsBodyRelexed first (part ++ rest) (length part + start) (length part + stop) insert (past (length bare) r) = relexed_past k.law part rest bare is_part k.halved.cut start stop insert k.utf8 k.inside shorter bare_two b in
         let from : n + start - head.body ≡ length part + start = omega (arith, part_len) in
         let to : n + stop - head.body ≡ length part + stop = omega (arith, part_len) in
         let count : length tokens + r.kept_front ≡ length own + (length bare + r.kept_front) = omega (arith, bare_len) in
@@ -180,32 +171,32 @@ module _ {whole : Bool} {first : List ℕ → Token} {front rest : List ℕ} {to
   }
 
   relexed_all : {r : Relexed} → IsBodyRelexed first rest start stop insert r → IsRelexed (layout_in whole first) (front ++ rest) (n + start) (n + stop) insert (past (length tokens) r)
-  relexed_all b = relexed_in law (front ++ rest) insert (n + start) (n + stop) h.is k.utf8 edit_whole whole (by_head b)
+  relexed_all b = relexed_in k.law (front ++ rest) insert (n + start) (n + stop) k.halved.is k.utf8 edit_whole whole (by_head b)
 
-  pub counted_all : {r : Relexed} (before after : ℕ) → IsBodyRelexed first rest start stop insert r → after ≡ before + r.lexed
+  counted_all : {r : Relexed} (before after : ℕ) → IsBodyRelexed first rest start stop insert r → after ≡ before + r.lexed
       → after + (length (layout_in whole first (apply (front ++ rest) (n + start) (n + stop) insert)).head - (past (length tokens) r).kept_front) ≡ before + r.lexed
-  counted_all {r} before after b e = rw e (counted_in law (front ++ rest) insert (n + start) (n + stop) h.is k.utf8 edit_whole whole (by_head b) (record { kept = λ _. refl; changed = λ none. absurd (none stays_so) }))
+  counted_all {r} before after b e = rw e (counted_in k.law (front ++ rest) insert (n + start) (n + stop) k.halved.is k.utf8 edit_whole whole (by_head b) (record { kept = λ _. refl; changed = λ none. absurd (none stays_so) }))
 
   -- an edit that is refused took no more steps than it would have
-  pub few_all : (before after : ℕ) → after ≤ before + (relexed_of first rest start stop insert).lexed
+  few_all : (before after : ℕ) → after ≤ before + (relexed_of first rest start stop insert).lexed
       → (r : Relexed) × IsRelexed (layout_in whole first) (front ++ rest) (n + start) (n + stop) insert r
       × (after + (length (layout_in whole first (apply (front ++ rest) (n + start) (n + stop) insert)).head - r.kept_front) ≤ before + r.lexed)
   few_all before after few =
       let r : Relexed = relexed_of first rest start stop insert in
-      let b = relexed_is law rest is_rest start stop insert k.utf8 edit_behind in
+      let b = relexed_is k.law rest is_rest start stop insert k.utf8 edit_behind in
       let all = counted_all before (before + r.lexed) b refl in
       (past (length tokens) r, relexed_all b, omega (arith, all, few))
 
   -- a text that is as it was has the tokens that it had
-  pub held_scratch : {text : List ℕ} {all : List Token} → text ≡ front ++ rest → all ≡ tokens ++ behind → all ≡ tokens_in whole first text
-  held_scratch text_is all_is = all_is ∙ (h.all ∙ (tokens_are whole first (front ++ rest) h.is ∙ ap (tokens_in whole first) (sym text_is)))
+  held_scratch : {text : List ℕ} {all : List Token} → text ≡ front ++ rest → all ≡ tokens ++ behind → all ≡ tokens_in whole first text
+  held_scratch text_is all_is = all_is ∙ (k.halved.all ∙ (tokens_are whole first (front ++ rest) k.halved.is ∙ ap (tokens_in whole first) (sym text_is)))
 
   -- the place may move on to a later boundary
   cut_later : (m o : ℕ) → m ≤ length behind → o ≡ bound behind m → IsCut first (drop head.body (front ++ take o rest)) (drop o rest) (drop (length own) (tokens ++ take m behind))
   cut_later m o few is =
       let there : o ≡ bound (tokens_by first rest) m = is ∙ ap (λ ts. bound ts m) behind_are in
-      let bare_on : drop (length own) (tokens ++ take m behind) ≡ bare ++ take m (tokens_by first rest) = drop-append-le (length own) tokens (take m behind) h.own ∙ ap (λ ts. bare ++ take m ts) behind_are in
-      rw (part_of (take o rest), bare_on) (subst (λ n. IsCut first (part ++ take n rest) (drop n rest) (bare ++ take m (tokens_by first rest))) (sym there) (cut_on law part rest bare is_part h.cut m (omega (arith, few, ap length behind_are))))
+      let bare_on : drop (length own) (tokens ++ take m behind) ≡ bare ++ take m (tokens_by first rest) = drop-append-le (length own) tokens (take m behind) k.halved.own ∙ ap (λ ts. bare ++ take m ts) behind_are in
+      rw (part_of (take o rest), bare_on) (subst (λ n. IsCut first (part ++ take n rest) (drop n rest) (bare ++ take m (tokens_by first rest))) (sym there) (cut_on k.law part rest bare is_part k.halved.cut m (omega (arith, few, ap length behind_are))))
 
   module _ (lexed : List Token) (at : Relexing) (l : IsLexed first rest change made lexed at) where
     abbrev now : List Token
@@ -215,7 +206,7 @@ module _ {whole : Bool} {first : List ℕ → Token} {front rest : List ℕ} {to
     renewed = record { lexed = lexed; lexed_is = l; now_is = refl }
 
     now_are : now ≡ tokens_by first made
-    now_are = renewed_are law behind_are made_of renewed
+    now_are = renewed_are k.law behind_are made_of renewed
 
     made_bound : bound (tokens_by first made) at.front.number ≡ at.front.offset
     made_bound = sym (l.stands.front_bound.1 ∙ bound-same at.front.number (tokens_by first rest) (tokens_by first made) l.stands.front_same)
@@ -225,7 +216,7 @@ module _ {whole : Bool} {first : List ℕ → Token} {front rest : List ℕ} {to
 
     -- the kept front ends between characters
     pub front_at : IsCharBoundary made at.front.offset
-    front_at = subst (IsCharBoundary made) made_bound (cuts law made is_made at.front.number made_few)
+    front_at = subst (IsCharBoundary made) made_bound (cuts k.law made is_made at.front.number made_few)
 
     -- the tokens are those of the changed text
     tokens_now : (tokens ++ take at.front.number behind) ++ (lexed ++ drop at.back.number behind) ≡ document_by (head_by whole) first (front ++ made)
@@ -233,16 +224,16 @@ module _ {whole : Bool} {first : List ℕ → Token} {front rest : List ℕ} {to
         ∙ (ap₂ (λ xs ys. xs ++ ys) split now_are ∙ (append_assoc own bare (tokens_by first made) ∙ (ap (λ ts. own ++ ts) (sym new_cut.tokens_are) ∙ sym (document_of made k.head_made))))
 
     bare_now : drop (length own) (tokens ++ take at.front.number behind) ≡ bare ++ take at.front.number (tokens_by first made)
-    bare_now = drop-append-le (length own) tokens (take at.front.number behind) h.own ∙ ap (λ ts. bare ++ ts) (ap (take at.front.number) behind_are ∙ l.stands.front_same)
+    bare_now = drop-append-le (length own) tokens (take at.front.number behind) k.halved.own ∙ ap (λ ts. bare ++ ts) (ap (take at.front.number) behind_are ∙ l.stands.front_same)
 
     -- and it may be cut behind the kept front
     cut_now : IsCut first (drop head.body (front ++ take at.front.offset made)) (drop at.front.offset made) (drop (length own) (tokens ++ take at.front.number behind))
     cut_now =
-        let on = cut_on law part made bare new_part new_cut at.front.number made_few in
+        let on = cut_on k.law part made bare new_part new_cut at.front.number made_few in
         rw (part_of (take at.front.offset made), bare_now) (subst (λ o. IsCut first (part ++ take o made) (drop o made) (bare ++ take at.front.number (tokens_by first made))) made_bound on)
 
     is_now : IsText (front ++ made)
-    is_now = subst IsText (sym made_whole) (edited (front ++ rest) (n + start) (n + stop) insert h.is k.utf8 edit_whole).text_is
+    is_now = subst IsText (sym made_whole) (edited (front ++ rest) (n + start) (n + stop) insert k.halved.is k.utf8 edit_whole).text_is
 
     -- the changed text, behind which the place is now
     open_now : AreHeldOf whole first ((front ++ take at.front.offset made) ++ drop at.front.offset made) ((tokens ++ take at.front.number behind) ++ (lexed ++ drop at.back.number behind)) head
@@ -252,7 +243,7 @@ module _ {whole : Bool} {first : List ℕ → Token} {front rest : List ℕ} {to
           is_now,
           tokens_now,
           sym k.head_made,
-          IsCharBoundary-from_drop (front ++ made) head.body (omega (arith, h.body, length-append front made)) (rw (part_of made) new_part.utf8),
+          IsCharBoundary-from_drop (front ++ made) head.body (omega (arith, k.halved.body, length-append front made)) (rw (part_of made) new_part.utf8),
         )
 
     -- the counts
@@ -266,13 +257,13 @@ module _ {whole : Bool} {first : List ℕ → Token} {front rest : List ℕ} {to
       kept_now : AreKept (tokens ++ behind) ((tokens ++ take at.front.number behind) ++ (lexed ++ drop at.back.number behind)) r
       kept_now =
           let whole_now : (tokens ++ take at.front.number behind) ++ (lexed ++ drop at.back.number behind) ≡ tokens ++ now = append_assoc tokens (take at.front.number behind) (lexed ++ drop at.back.number behind) in
-          let all = renewed_all law behind_are made_of renewed in
+          let all = renewed_all k.law behind_are made_of renewed in
           let from : length (tokens ++ behind) - (c - at.back.number) ≡ length tokens + at.back.number = omega (arith, length-append tokens behind, met_in, c_is) in
           let far : length tokens + at.front.number + at.lexed ≡ length tokens + (at.front.number + at.lexed) = omega arith in
           rw whole_now record {
             all = omega (arith, all, c_is, length-append tokens now);
-            front = take-append-add tokens now at.front.number ∙ (ap (λ ts. tokens ++ ts) (renewed_front law behind_are made_of renewed) ∙ sym (take-append-add tokens behind at.front.number));
-            back = ap (λ k. drop k (tokens ++ now)) far ∙ (drop-append-add tokens now (at.front.number + at.lexed) ∙ (renewed_back law behind_are made_of renewed ∙ (sym (drop-append-add tokens behind at.back.number) ∙ ap (λ k. drop k (tokens ++ behind)) (sym from))));
+            front = take-append-add tokens now at.front.number ∙ (ap (λ ts. tokens ++ ts) (renewed_front k.law behind_are made_of renewed) ∙ sym (take-append-add tokens behind at.front.number));
+            back = ap (λ k. drop k (tokens ++ now)) far ∙ (drop-append-add tokens now (at.front.number + at.lexed) ∙ (renewed_back k.law behind_are made_of renewed ∙ (sym (drop-append-add tokens behind at.back.number) ∙ ap (λ k. drop k (tokens ++ behind)) (sym from))));
           }
 
 -- ---- a text is opened where its body begins
@@ -386,11 +377,8 @@ module _ {whole : Bool} {first : List ℕ → Token} {text : List ℕ} {tokens :
     tokens_same : closed now now_ahead.gap ≡ closed tokens ahead.gap
     tokens_same = ap₂ (λ xs ys. xs ++ ys) before_is behind_is ∙ (append_assoc (before_gap tokens ahead.gap) (take at.number (behind_gap tokens ahead.gap)) (drop at.number (behind_gap tokens ahead.gap)) ∙ ap (λ ts. before_gap tokens ahead.gap ++ ts) (take-append-drop at.number (behind_gap tokens ahead.gap)))
 
-    within : IsInside rest start stop
-    within = t.inside
-
     short_enough : o ≤ length rest
-    short_enough = (let le = within.start_le_stop in let few = within.stop_inside in omega (arith, order))
+    short_enough = (let le = t.inside.start_le_stop in let few = t.inside.stop_inside in omega (arith, order))
 
     front_len : length (string_bytes now_ahead.front) ≡ length front + o
     front_len = omega (arith, ap (λ (xs : List ℕ). length xs) front_is, length-append front (take o rest), length-take-le o rest short_enough)
@@ -406,8 +394,8 @@ module _ {whole : Bool} {first : List ℕ → Token} {text : List ℕ} {tokens :
 
     pub approached : IsMoved whole first text tokens head ahead start stop insert o now now_ahead
     approached =
-        let le = within.start_le_stop in
-        let few = within.stop_inside in
+        let le = t.inside.start_le_stop in
+        let few = t.inside.stop_inside in
         record {
           start_past = order;
           stop_past = omega arith;
@@ -425,8 +413,8 @@ module _ {whole : Bool} {first : List ℕ → Token} {text : List ℕ} {tokens :
             inside = record {
               start_le_stop = omega arith;
               stop_inside = omega (arith, rest_len);
-              start_boundary = boundary_past start order (omega arith) within.start_boundary;
-              stop_boundary = boundary_past stop (omega arith) few within.stop_boundary;
+              start_boundary = boundary_past start order (omega arith) t.inside.start_boundary;
+              stop_boundary = boundary_past stop (omega arith) few t.inside.stop_boundary;
             };
             short = (let short = t.short in omega (arith, front_len, rest_len, order, le, short));
             two = λ some. two_now some;

@@ -119,9 +119,8 @@ take_back-requires-clause-room g c =
 
 pub returns : goal.returns
 returns g c =
-    let law = g.S.Stepper.law c.args.kept.now.stepper in
     let ins : List ℕ = c.args.insert.now in
-    let k = taking law c.requires.ahead c.requires.taken c.utf8.insert in
+    let k = taking (g.S.Stepper.law c.args.kept.now.stepper) c.requires.ahead c.requires.taken c.utf8.insert in
     let front : List ℕ = string_bytes c.args.ahead.now.front in
     let rest : List ℕ = drop c.args.ahead.now.from (string_bytes c.args.kept.now.text) in
     let made : List ℕ = apply rest c.args.start c.args.stop ins in

@@ -1,11 +1,10 @@
-use Rattle.std.proofs.Common.{◌+◌, ◌≤◌, ◌∙◌, List, ℕ, ap, sym, subst, length, take, drop, get_or, string_bytes, Ok, rules}
+use Rattle.std.proofs.Common.{◌+◌, ◌≤◌, ◌∙◌, List, ℕ, ap, sym, subst, length, take, drop, string_bytes, Ok, rules}
 use Rattle.std.specs.String.{string_capacity, string_len}
 use Rattle.rustc_lexer.specs.Kept.{Held}
 use Rattle.rustc_lexer.specs.means.Document.{tokens_of_head}
 use Rattle.rustc_lexer.specs.means.EditList.{GoOn}
-use Rattle.rustc_lexer.specs.means.Gap.{IsTaken, plain}
+use Rattle.rustc_lexer.specs.means.Gap.{plain}
 use Rattle.rustc_lexer.proofs.AheadLemmas.{begun, opened, taken_edit}
-use Rattle.rustc_lexer.proofs.EditListLemmas.{none}
 use Rattle.rustc_lexer.proofs.MadeLemmas.{on_more, on_none, on_refused}
 use Rattle.rustc_lexer.proofs.relex.in_order.edit_in_order.Goals as goal
 
@@ -27,20 +26,14 @@ list-init g c =
 
 pub list-preserved : goal.list-preserved
 list-preserved g c =
-    let inv = c.list.invariant in
-    let front : List ℕ = string_bytes c.list.ahead.front in
-    let ins : List ℕ = (get_or c.args.edits.now c.list.made.count none).insert.now in
-    let taken = subst (λ (xs : List ℕ). IsTaken c.list.ahead.settled front (drop c.list.ahead.from xs) c.count-own.result c.list.ahead.gap c.in-Some.start c.in-Some.stop ins) c.as_str-text.ensures.value c.in-Some.ensures.taken in
+    let taken = rw c.as_str-text.ensures.value at c.in-Some.ensures.taken in
     record {
       ahead = c.in-Ok-edit_ahead.ensures.ahead;
-      own = inv.own ∙ ap (λ h. length (tokens_of_head h)) (sym c.in-Ok-edit_ahead.ensures.head);
-      made = on_more inv.made c.list-test.true c.in-Some.ensures.start c.in-Some.ensures.stop (taken_edit taken) c.more.result c.in-Ok-edit_ahead.ensures.edited c.more.ensures.count c.more.ensures.front c.more.ensures.back;
+      own = c.list.invariant.own ∙ ap (λ h. length (tokens_of_head h)) (sym c.in-Ok-edit_ahead.ensures.head);
+      made = on_more c.list.invariant.made c.list-test.true c.in-Some.ensures.start c.in-Some.ensures.stop (taken_edit taken) c.more.result c.in-Ok-edit_ahead.ensures.edited c.more.ensures.count c.more.ensures.front c.more.ensures.back;
     }
 
 pub returns-in-Err-clause-made : goal.returns-in-Err-clause-made
 returns-in-Err-clause-made g c =
-    let inv = c.list.invariant in
-    let front : List ℕ = string_bytes c.list.ahead.front in
-    let ins : List ℕ = (get_or c.args.edits.now c.list.made.count none).insert.now in
-    let taken = subst (λ (xs : List ℕ). IsTaken c.list.ahead.settled front (drop c.list.ahead.from xs) c.count-own.result c.list.ahead.gap c.in-Some.start c.in-Some.stop ins) c.as_str-text.ensures.value c.in-Some.ensures.taken in
-    rw (c.close.ensures.text, c.close.ensures.tokens, c.close.ensures.stepper) (on_refused inv.made c.list-test.true c.in-Some.ensures.start c.in-Some.ensures.stop (taken_edit taken) c.in-Err.ensures.edited)
+    let taken = rw c.as_str-text.ensures.value at c.in-Some.ensures.taken in
+    rw (c.close.ensures.text, c.close.ensures.tokens, c.close.ensures.stepper) (on_refused c.list.invariant.made c.list-test.true c.in-Some.ensures.start c.in-Some.ensures.stop (taken_edit taken) c.in-Err.ensures.edited)
