@@ -9,13 +9,11 @@ use Rattle.rustc_lexer.proofs.relex.ahead.lex_ahead.Goals as goal
 pub put-requires-clause-inside : goal.put-requires-clause-inside
 put-requires-clause-inside g c =
     let n : ℕ = c.args.gap.now.rest in
-    let old : List Token = c.args.tokens.now.items in
-    let read : List Token = c.as_slice.result.now in
-    let f : ℕ = c.in_ok-lexed.at.front.number in
-    let size = ap (λ (ts : List Token). length ts) (take_rest read n ∙ ap (drop n) c.as_slice.ensures.value) in
+    let old : List Token = drop n c.args.tokens.now.items in
+    let size = ap (λ (ts : List Token). length ts) (take_rest c.as_slice.result.now n ∙ ap (drop n) c.as_slice.ensures.value) in
     let may = c.in_ok-lexed.ensures.may_go_on in
     let behind = ap (λ (ts : List Token). length ts) c.advance.ensures.behind in
-    omega (arith, c.advance.ensures.gap.1, behind, size, may.number, may.order, length-drop c.advance.result.rest c.advance.new.list.items, length-drop f (drop n old), length-drop n old)
+    omega (arith, c.advance.ensures.gap.1, behind, size, may.number, may.order, length-drop c.advance.result.rest c.advance.new.list.items, length-drop c.in_ok-lexed.at.front.number old, length-drop n c.args.tokens.now.items)
 
 pub returns-in_err-gap-clause-few : goal.returns-in_err-gap-clause-few
 returns-in_err-gap-clause-few g c =
@@ -32,8 +30,7 @@ returns-clause-lexed g c = λ before insert is.
     let f : ℕ = c.in_ok-lexed.at.front.number in
     let b : ℕ = c.in_ok-lexed.at.back.number in
     let old : List Token = drop c.args.gap.now.rest c.args.tokens.now.items in
-    let order = c.in_ok-lexed.ensures.may_go_on.order in
-    let there : f + (b - f) ≡ b = omega (arith, order) in (
+    let there : f + (b - f) ≡ b = omega (arith, c.in_ok-lexed.ensures.may_go_on.order) in (
       record {
         lexed = c.in_ok-lexed.lexed.items;
         lexed_is = l;

@@ -1,5 +1,4 @@
-use Rattle.std.proofs.Common.{◌+◌, ◌≤◌, ◌∙◌, List, ℕ, ap, sym, subst, length, take, drop, string_bytes, Ok, rules}
-use Rattle.std.specs.String.{string_capacity, string_len}
+use Rattle.std.proofs.Common.{◌∙◌, List, ℕ, ap, sym, subst, length, string_bytes, Ok, rules}
 use Rattle.rustc_lexer.specs.Kept.{Held}
 use Rattle.rustc_lexer.specs.means.Document.{tokens_of_head}
 use Rattle.rustc_lexer.specs.means.EditList.{GoOn}
@@ -15,8 +14,8 @@ list-init g c =
     let head = c.args.kept.now.head in
     let whole = g.E.Extent.whole in
     let first = g.S.Stepper.grammar c.args.kept.now.stepper in
-    let front = c.in-Ok.ensures.front ∙ ap (λ (xs : List ℕ). take head.body xs) c.as_str-2.ensures.value in
-    let room = subst (λ (xs : List ℕ). string_len c.in-Ok.opened.front + length (drop c.in-Ok.opened.from xs) ≤ string_capacity c.in-Ok.opened.front) c.as_str-2.ensures.value c.in-Ok.ensures.room in
+    let front = rw c.as_str-2.ensures.value at c.in-Ok.ensures.front in
+    let room = rw c.as_str-2.ensures.value at c.in-Ok.ensures.room in
     let same = begun whole first text toks head c.in-Ok.opened front c.in-Ok.ensures.from c.in-Ok.ensures.count c.in-Ok.ensures.rest c.args.kept.now.stepper in
     record {
       ahead = opened whole first text toks head c.in-Ok.opened front c.in-Ok.ensures.from c.in-Ok.ensures.count c.in-Ok.ensures.rest c.args.kept.now.checkpoints c.requires.kept (search rules) room;
