@@ -183,6 +183,7 @@ impl Ahead {
         ensures taken { IfSome result (λ at. means.IsTaken self.now.settled
             (string_bytes self.now.front) (drop self.now.from text.now) own self.now.gap
             at.0 at.1 insert.now) }
+        ensures utf8 { IsUtf8 insert.now }
     {
         let front = self.front.as_str();
         if start < front.len().max(self.settled) || stop < front.len() {
@@ -258,8 +259,9 @@ impl Ahead {
         self.from += by;
     }
 
-    /// Moves on to the end of the tokens that an edit at `start` keeps in front. Returns by how many bytes.
-    fn approach(&mut self, tokens: &mut Vec<Token>, text: &str, start: usize) -> usize
+    /// Moves on to the end of the tokens that an edit at `start` keeps in front. Returns by how many bytes. What the edit
+    /// replaces is then short, and the text between is copied once.
+    pub(crate) fn approach(&mut self, tokens: &mut Vec<Token>, text: &str, start: usize) -> usize
         requires boundary { IsCharBoundary text.now self.old.from }
         requires start { IsCharBoundary (drop self.old.from text.now) start }
         requires gap { means.IsGap self.old.gap tokens.old.items }
@@ -306,36 +308,6 @@ impl Ahead {
 /// Makes an edit by its [places](Ahead::places), and moves on to the end of what it keeps in front. `Err` means
 /// that an allocation failed. Then text and tokens are as before, and it takes no more edits.
 pub(crate) fn edit_ahead<S: Stepper, E: Extent>(
-    kept: &mut Kept<S, E>,
-    ahead: &mut Ahead,
-    start: usize,
-    stop: usize,
-    insert: &str,
-) -> Result<Relexed, AllocError>
-    requires ahead { means.IsAhead E.whole (S.grammar kept.old.stepper) (string_bytes kept.old.text)
-        kept.old.tokens.items kept.old.head ahead.old }
-    requires taken { means.IsTaken ahead.old.settled (string_bytes ahead.old.front)
-        (drop ahead.old.from (string_bytes kept.old.text)) (length (tokens_of_head kept.old.head))
-        ahead.old.gap start stop insert.now }
-    ensures edited { IsEdited S.grammar S.number S.count E.whole
-        (means.held (string_bytes kept.old.text) kept.old.tokens.items kept.old.stepper ahead.old)
-        (length (string_bytes ahead.old.front) + start)
-        (length (string_bytes ahead.old.front) + stop)
-        insert.now result
-        (means.held (string_bytes kept.new.text) kept.new.tokens.items kept.new.stepper ahead.new) }
-    ensures head { kept.new.head ≡ kept.old.head }
-    ensures ahead { OnOk result (means.IsAhead E.whole (S.grammar kept.new.stepper)
-        (string_bytes kept.new.text) kept.new.tokens.items kept.new.head ahead.new) }
-    ensures is_open { OnErr result (means.IsOpen E.whole (S.grammar kept.new.stepper)
-        (string_bytes kept.new.text) kept.new.tokens.items kept.new.head ahead.new) }
-{
-    // The text between is then copied once, and what the edit replaces is short.
-    let by = ahead.approach(&mut kept.tokens, kept.text.as_str(), start);
-    edit_here(kept, ahead, start - by, stop - by, insert)
-}
-
-/// Makes an edit, as [`edit_ahead`] does, wherever the place is.
-fn edit_here<S: Stepper, E: Extent>(
     kept: &mut Kept<S, E>,
     ahead: &mut Ahead,
     start: usize,

@@ -93,7 +93,8 @@ pub(crate) fn edit_in_order<S: Stepper, E: Extent>(
         let Some((start, stop)) = at else {
             break;
         };
-        match edit_ahead(kept, &mut ahead, start, stop, edit.insert) {
+        let by = ahead.approach(&mut kept.tokens, text, start);
+        match edit_ahead(kept, &mut ahead, start - by, stop - by, edit.insert) {
             Ok(counts) => *made = made.more(counts),
             Err(_) => {
                 close(kept, ahead);

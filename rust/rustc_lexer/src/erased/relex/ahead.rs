@@ -148,8 +148,9 @@ impl Ahead {
         self.from += by;
     }
 
-    /// Moves on to the end of the tokens that an edit at `start` keeps in front. Returns by how many bytes.
-    fn approach(&mut self, tokens: &mut Vec<Token>, text: &str, start: usize) -> usize {
+    /// Moves on to the end of the tokens that an edit at `start` keeps in front. Returns by how many bytes. What the edit
+    /// replaces is then short, and the text between is copied once.
+    pub(crate) fn approach(&mut self, tokens: &mut Vec<Token>, text: &str, start: usize) -> usize {
         let rest = &text[self.from..];
         let at = kept_front(rest, &tokens.as_slice()[self.gap.rest..], start, FIRST);
         self.gap = self.gap.advance(tokens, at.number);
@@ -168,19 +169,6 @@ impl Ahead {
 /// Makes an edit by its [places](Ahead::places), and moves on to the end of what it keeps in front. `Err` means
 /// that an allocation failed. Then text and tokens are as before, and it takes no more edits.
 pub(crate) fn edit_ahead<S: Stepper, E: Extent>(
-    kept: &mut Kept<S, E>,
-    ahead: &mut Ahead,
-    start: usize,
-    stop: usize,
-    insert: &str,
-) -> Result<Relexed, AllocError> {
-    // The text between is then copied once, and what the edit replaces is short.
-    let by = ahead.approach(&mut kept.tokens, kept.text.as_str(), start);
-    edit_here(kept, ahead, start - by, stop - by, insert)
-}
-
-/// Makes an edit, as [`edit_ahead`] does, wherever the place is.
-fn edit_here<S: Stepper, E: Extent>(
     kept: &mut Kept<S, E>,
     ahead: &mut Ahead,
     start: usize,
