@@ -460,6 +460,59 @@ static void check_marks(void) {
     }
 }
 
+/* If several statuses apply, the first of these is returned. tests/numbers compares them with the header's sentence. */
+static const uint32_t order[] = {
+    RUSTC_LEXER_TOO_LONG,     RUSTC_LEXER_NOT_UTF8,    RUSTC_LEXER_BAD_PLACE,
+    RUSTC_LEXER_NOT_RAW,      RUSTC_LEXER_BAD_MODE,    RUSTC_LEXER_BAD_EDITION,
+    RUSTC_LEXER_BAD_EDIT,     RUSTC_LEXER_BAD_STYLE,   RUSTC_LEXER_SMALL_BUFFER,
+};
+
+static bool is_before(uint32_t one, uint32_t other) {
+    size_t at = 0;
+    while (order[at] != one && order[at] != other)
+        at++;
+    return order[at] == one;
+}
+
+/* Each call where two statuses apply, of which it returned this one. */
+static void check_order(void) {
+    const uint8_t *bad = (const uint8_t *)"\xff", *good = (const uint8_t *)"a";
+    struct rustc_lexer_place past = {9, 0};
+    struct rustc_lexer_raw_str_error error;
+    struct rustc_lexer_edit edit = {5, 4, 3}, made;
+    struct rustc_lexer_relexing begin = {0};
+    struct rustc_lexer_head head = {0};
+    uint8_t bytes[8];
+    size_t count;
+    uint32_t is;
+    const uint32_t rows[][3] = {
+        {rustc_lexer_tokens(bad, 1, &past, buffer, 1, &count), RUSTC_LEXER_NOT_UTF8, RUSTC_LEXER_BAD_PLACE},
+        {rustc_lexer_tokens_in(bad, 1, 0, &(struct rustc_lexer_place){0, 0}, buffer, 1, &count), RUSTC_LEXER_NOT_UTF8,
+         RUSTC_LEXER_BAD_EDITION},
+        {rustc_lexer_tokens_in(good, 1, 0, &past, buffer, 1, &count), RUSTC_LEXER_BAD_PLACE, RUSTC_LEXER_BAD_EDITION},
+        {rustc_lexer_is_seam(bad, 1, 9, 2024, &is), RUSTC_LEXER_NOT_UTF8, RUSTC_LEXER_BAD_PLACE},
+        {rustc_lexer_is_seam(bad, 1, 0, 0, &is), RUSTC_LEXER_NOT_UTF8, RUSTC_LEXER_BAD_EDITION},
+        {rustc_lexer_is_seam(good, 1, 9, 0, &is), RUSTC_LEXER_BAD_PLACE, RUSTC_LEXER_BAD_EDITION},
+        {rustc_lexer_validate_raw_str(bad, 1, 1, &error), RUSTC_LEXER_NOT_UTF8, RUSTC_LEXER_NOT_RAW},
+        {rustc_lexer_unescape(bad, 1, 11, 0, NULL, 0, &count), RUSTC_LEXER_NOT_UTF8, RUSTC_LEXER_BAD_MODE},
+        {rustc_lexer_literal_errors(bad, 1, 11, 0, NULL, 0, &count), RUSTC_LEXER_NOT_UTF8, RUSTC_LEXER_BAD_MODE},
+        {rustc_lexer_relex(bad, 1, NULL, 0, &edit, 2024, &begin, buffer, 1, &count), RUSTC_LEXER_NOT_UTF8,
+         RUSTC_LEXER_BAD_EDIT},
+        {rustc_lexer_relex(bad, 1, NULL, 0, &(struct rustc_lexer_edit){0, 0, 1}, 0, &begin, buffer, 1, &count),
+         RUSTC_LEXER_NOT_UTF8, RUSTC_LEXER_BAD_EDITION},
+        {rustc_lexer_relex(good, 1, NULL, 0, &edit, 0, &begin, buffer, 1, &count), RUSTC_LEXER_BAD_EDITION,
+         RUSTC_LEXER_BAD_EDIT},
+        {rustc_lexer_body_edit(bad, 1, &edit, &head, &made, &is), RUSTC_LEXER_NOT_UTF8, RUSTC_LEXER_BAD_EDIT},
+        {rustc_lexer_marks(bad, 1, 1, 0, 1, NULL, 0, &count), RUSTC_LEXER_NOT_UTF8, RUSTC_LEXER_BAD_EDITION},
+        {rustc_lexer_marks(bad, 1, 0, 2024, 1, NULL, 0, &count), RUSTC_LEXER_NOT_UTF8, RUSTC_LEXER_BAD_STYLE},
+        {rustc_lexer_marks(good, 1, 0, 0, 1, bytes, 8, &count), RUSTC_LEXER_BAD_EDITION, RUSTC_LEXER_BAD_STYLE},
+        {rustc_lexer_marks(good, 1, 1, 0, 1, NULL, 0, &count), RUSTC_LEXER_BAD_EDITION, RUSTC_LEXER_SMALL_BUFFER},
+        {rustc_lexer_marks(good, 1, 0, 2024, 1, NULL, 0, &count), RUSTC_LEXER_BAD_STYLE, RUSTC_LEXER_SMALL_BUFFER},
+    };
+    for (size_t i = 0; i < sizeof rows / sizeof rows[0]; i++)
+        CHECK(rows[i][0] == rows[i][is_before(rows[i][1], rows[i][2]) ? 1 : 2]);
+}
+
 /* So many items cross at once: what is cut would say that no more come, or that a buffer is too small. */
 #define MANY 70000
 
@@ -595,6 +648,7 @@ int main(void) {
     check_errors(rustc_lexer_literal_errors);
     check_errors(rustc_lexer_literal_errors_unchecked);
     check_bad_texts();
+    check_order();
     check_null();
     check_records();
     check_editions();

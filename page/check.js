@@ -25,7 +25,7 @@ function expect(holds, words) {
 }
 
 // What the field holds, as the lexer has it: half of a pair is no character, and is read as U+FFFD.
-const wanted = () => text.value.toWellFormed();
+const wanted = () => textOf(new TextEncoder().encode(text.value));
 const bytesOf = (words) => new TextEncoder().encode(words).length;
 const linesOf = (number) => ask('listing', number).split('\n').slice(0, -1);
 // The number of the edition, as its button is seen.

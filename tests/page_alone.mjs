@@ -99,12 +99,12 @@ same(textsOf('#differences tbody'), [['2:1', 'q', 'Ident q\nPound #', 'UnknownPr
 // is out of sight
 const first = { ...plainToken, number: 0, start: 0, place: '1:1', text: 'y', kind: 'Ident' };
 const plain = { runs: [['', 'z']], said: [] };
-answers.show = { lines: [plain, plain], count: 6, begin: 0, tokens: [token], at: 0, elsewhere: [first], place: '1:1' };
+answers.show = { lines: [plain, plain, plain], count: 6, begin: 0, tokens: [token], at: 0, elsewhere: [first], place: '1:1' };
 answers.editions = { counts: [6, 5], differ: 1, places: answers.editions.places };
 part('text').scrollLeft = 7;
 changed(9, null, 0, 30);
 same(calls[1], ['show', 1, 3, 0, 1]);
-same(part('lines').children.map((line) => [line.words['data-line'], line.textContent]), [['2', 'z'], ['3', 'z']]);
+same(part('lines').children.map((line) => [line.words['data-line'], line.textContent]), [['2', 'z'], ['3', 'z'], ['4', 'z']]);
 same(part('lines').style.transform, 'translate(-7px, -10px)');
 same(part('place').textContent, 'Caret at 1:1. Ident at 1:1, 1 byte');
 same([part('wrong').textContent, part('kept').textContent], ['', 'All was lexed: 6 tokens, 9 bytes, 7 lines.']);
@@ -113,12 +113,12 @@ same(part('#tokens tbody').children.map((row) => row.words), [{}]);
 delays.at(-1)[0]();
 same(part('differ').textContent, 'Tokens: 6 in 2015, 5 in 2024. They differ in 1 place.');
 
-// a third has fewer lines and no token, and what is the same keeps its element
+// a third has fewer lines and no token; what is the same keeps its element, and a line with other words is drawn anew
 const [kept] = part('lines').children;
-answers.show = { lines: [plain], count: 0, begin: 0, tokens: [], at: 0, elsewhere: [], place: '1:1' };
+answers.show = { lines: [plain, { runs: [['', 'w']], said: [] }], count: 0, begin: 0, tokens: [], at: 0, elsewhere: [], place: '1:1' };
 answers.editions = { counts: [6, 6], differ: 0, places: [] };
 changed(9, [0, 0, 0], 0, 30);
-same(part('lines').children.map((line) => line === kept), [true]);
+same(part('lines').children.map((line) => [line === kept, line.words['data-line'], line.textContent]), [[true, '2', 'z'], [false, '3', 'w']]);
 same([part('place').textContent, textsOf('#tokens tbody')], ['Caret at 1:1. ', []]);
 same([part('kept').textContent, barOf()], ['All was lexed: 0 tokens, 9 bytes, 7 lines.', ['', 0, 0, 0]]);
 delays.at(-1)[0]();

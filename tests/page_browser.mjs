@@ -382,7 +382,7 @@ const tasks = {
           const insert = pieces[random(pieces.length)];
           if (edit) {
             await value(`type(${start}, ${stop}, ${JSON.stringify(insert)})`);
-            text = (text.slice(0, start) + insert + text.slice(stop)).toWellFormed();
+            text = Buffer.from(text.slice(0, start) + insert + text.slice(stop)).toString();
           }
           const listed = execFileSync(lexdump, ['--edition', String(year)], { input: text, maxBuffer: 1 << 28 }).toString();
           const shown = await value('({ all: ask("listing", edition()), kept: ask("as_lexed_anew") })');

@@ -289,6 +289,13 @@ fn calls_of_the_page() {
     answered(crate::change(4, false, NEWEST));
     let listed = answered(crate::listing(NEWEST));
     assert_eq!(listed, "0 3 Unknown\n3 1 Ident\n");
+    // Each line is shown, however many are asked for.
+    let long = "a\n".repeat(150);
+    // SAFETY: the room has so many bytes.
+    unsafe { crate::room(long.len()).copy_from(long.as_ptr(), long.len()) };
+    answered(crate::change(long.len(), false, NEWEST));
+    let shown = answered(crate::show(0, 150, 0, NEWEST));
+    assert_eq!(shown.matches(r#""runs":"#).count(), 150);
     // Each call that takes an edition answers of that.
     for (edition, count) in [3, 3, 1, 1].into_iter().enumerate() {
         // SAFETY: the room has four bytes.

@@ -1,11 +1,9 @@
 //! Each caller of `examples` on texts made by hand.
-use examples::arriving::{Arriving, lex_pieces};
 use examples::comments::skip_comments;
 use examples::raw_strings::{RawFault, raw_faults};
 use examples::repaint::{edit_shown, repaint};
-use examples::same::is_same;
 use examples::slices::find_word;
-use rustc_lexer::{LexedText, LiteralKind, RawStrError, Relexed, Token, TokenKind, fits};
+use rustc_lexer::{LexedText, RawStrError, Relexed, fits};
 
 /// Texts, words, and where those come in them.
 static WORDS: &[(&str, &str, Option<usize>)] = &[
@@ -51,45 +49,6 @@ fn refused_raw_strings(rt: HostRuntime) {
 }
 
 #[test]
-fn pieces_that_arrive(rt: HostRuntime) {
-    let token = |kind, len| Token { kind, len };
-    let mut arriving = Arriving::new(rt.alloc());
-    let first = arriving.take("le").expect(&rt, "memory");
-    assert!(rt; first.is_empty() && arriving.rest().len() == 2);
-    let second = arriving.take("t x").expect(&rt, "memory");
-    let is_second = second.as_slice() == [token(TokenKind::Ident, 3)].as_slice();
-    assert!(rt; is_second && arriving.rest() == " x");
-}
-
-#[test]
-fn pieces_of_a_whole(rt: HostRuntime) {
-    // Cut inside a comment, an identifier and a raw string.
-    let pieces = ["/* on", "e */le", "t s = r#\"a", "", "\"é\"#;"];
-    let token = |kind, len| Token { kind, len };
-    let comment = TokenKind::BlockComment {
-        doc_style: None,
-        terminated: true,
-    };
-    let string = TokenKind::Literal {
-        kind: LiteralKind::RawStr { n_hashes: Some(1) },
-        suffix_start: 9,
-    };
-    let want = [
-        token(comment, 9),
-        token(TokenKind::Ident, 3),
-        token(TokenKind::Whitespace, 1),
-        token(TokenKind::Ident, 1),
-        token(TokenKind::Whitespace, 1),
-        token(TokenKind::Eq, 1),
-        token(TokenKind::Whitespace, 1),
-        token(string, 9),
-        token(TokenKind::Semi, 1),
-    ];
-    let found = lex_pieces(rt.alloc(), &pieces).expect(&rt, "memory");
-    assert!(rt; found.as_slice() == want.as_slice());
-}
-
-#[test]
 fn paint_after_an_edit(rt: HostRuntime) {
     let text = "let ab = cd + ef;";
     let insert = "/**/1";
@@ -105,13 +64,4 @@ fn paint_after_an_edit(rt: HostRuntime) {
     let mut written = String::new(rt.alloc());
     let is_done = relexed == want && repaint(&lexed, relexed, &mut written).is_ok();
     assert!(rt; is_done && written.as_str() == "cd \x1b[2m/**/\x1b[0m\x1b[32m1\x1b[0m");
-}
-
-#[test]
-fn same_tokens(rt: HostRuntime) {
-    let token = |len| Token {
-        kind: TokenKind::Ident,
-        len,
-    };
-    assert!(rt; is_same(token(1), token(1)) && !is_same(token(1), token(2)));
 }

@@ -1,4 +1,3 @@
-pub mod ArrivingLemmas
 pub mod JoiningLemmas
 pub mod PieceLemmas
 pub mod RepaintLemmas

@@ -1,10 +1,8 @@
 //! Proved callers of `rustc_lexer`: the documents and that crate's examples quote them.
 #![tactic(auto)]
 
-pub mod arriving;
 pub mod comments;
 pub mod joining;
 pub mod raw_strings;
 pub mod repaint;
-pub mod same;
 pub mod slices;

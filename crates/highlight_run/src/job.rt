@@ -1,6 +1,6 @@
 //! What a run has to do, as its arguments say.
-ghost use Rattle.std.specs.Prelude.{◌≡◌, None, map, string_bytes};
-ghost use Rattle.highlight_run.specs.Job.{in_edition, is_help, job_of, options_of, page, style_of, when_of, with_colours, with_value};
+ghost use Rattle.std.specs.Prelude.{◌≡◌, None, map, string_bytes, IfErr, IfOk, Ok, Err};
+ghost use Rattle.highlight_run.specs.Job.{in_edition, job_alone, job_of, options_of, page, style_of, when_of, with_colours, with_value, with_word};
 
 use marks::Style;
 use rustc_lexer::Edition;
@@ -14,6 +14,8 @@ pub enum Job {
     Show { style: Style, edition: Edition },
     /// Print the usage.
     Help,
+    /// Print the version.
+    Version,
 }
 
 /// When to write colours.
@@ -40,52 +42,97 @@ const NO_OPTIONS: Options = Options {
     color: None,
 };
 
-/// Returns the job that the arguments after the program's name ask for, or `None` if they are not
-/// valid. Without `--edition` the edition is the newest one. `colours` says whether to write
-/// colours if no argument says so.
-pub fn read_job(words: &[String], colours: bool) -> Option<Job>
-    ensures { result ≡ job_of (map string_bytes words.now) colours }
+/// Returns the job that the arguments after the program's name ask for. Without `--edition` the
+/// edition is the newest one. `colours` says whether to write colours if no argument says so.
+///
+/// # Errors
+///
+/// The word that is refused: it is no option, no value of the option before it, an option that was
+/// given already, or one without its value.
+pub fn read_job(words: &[String], colours: bool) -> Result<Job, &str>
+    ensures taken { IfOk result (λ job. job_of (map string_bytes words.now) colours ≡ Ok job) }
+    ensures refused { IfErr result
+        (λ word. job_of (map string_bytes words.now) colours ≡ Err word.now) }
 {
-    if is_help(words) {
-        return Some(Job::Help);
+    if let Some(job) = read_alone(words) {
+        return Ok(job);
     }
     let options = read_options(NO_OPTIONS, words)?;
-    Some(Job::Show {
+    Ok(Job::Show {
         style: style_of(options, colours),
         edition: options.edition.unwrap_or(Edition::NEWEST),
     })
 }
 
-/// Returns whether the only argument is `--help`.
-fn is_help(words: &[String]) -> bool
-    ensures { result ≡ is_help (map string_bytes words.now) }
+/// Returns the job that the only argument asks for, if it is one that stands alone.
+fn read_alone(words: &[String]) -> Option<Job>
+    ensures { result ≡ job_alone (map string_bytes words.now) }
 {
-    matches!(words, [word] if word.as_str() == "--help")
+    let [word] = words else {
+        return None;
+    };
+    let word = word.as_str();
+    if word == "--help" || word == "-h" {
+        Some(Job::Help)
+    } else if word == "--version" || word == "-V" {
+        Some(Job::Version)
+    } else {
+        None
+    }
 }
 
 /// Adds the options of the arguments to `options`, in any order, each at most once. So it calls
 /// itself at most three times.
-fn read_options(options: Options, words: &[String]) -> Option<Options>
-    ensures { result ≡ options_of options None (map string_bytes words.now) }
+fn read_options(options: Options, words: &[String]) -> Result<Options, &str>
+    ensures taken { IfOk result
+        (λ all. options_of options None (map string_bytes words.now) ≡ Ok all) }
+    ensures refused { IfErr result
+        (λ word. options_of options None (map string_bytes words.now) ≡ Err word.now) }
 {
-    match words {
-        [] => Some(options),
-        [word, rest @ ..] if word.as_str() == "--html" => read_options(page(options)?, rest),
-        [name, value, rest @ ..] => {
-            read_options(with_value(options, name.as_str(), value.as_str())?, rest)
-        }
-        _ => None,
+    let [word, rest @ ..] = words else {
+        return Ok(options);
+    };
+    let word = word.as_str();
+    if let Some(added) = with_word(options, word) {
+        return read_options(added.ok_or(word)?, rest);
+    }
+    let [value, rest @ ..] = rest else {
+        return Err(word);
+    };
+    read_options(with_value(options, word, value.as_str())?, rest)
+}
+
+/// Adds the option that one word writes. Returns `None` if its value is another word, and
+/// `Some(None)` if the option is there already.
+fn with_word(options: Options, word: &str) -> Option<Option<Options>>
+    ensures { result ≡ with_word options word.now }
+{
+    if word == "--html" {
+        Some(page(options))
+    } else if word == "--color=auto" {
+        Some(with_colours(options, When::Auto))
+    } else if word == "--color=always" {
+        Some(with_colours(options, When::Always))
+    } else if word == "--color=never" {
+        Some(with_colours(options, When::Never))
+    } else {
+        None
     }
 }
 
-/// Adds the option that a name and a value write.
-fn with_value(options: Options, name: &str, value: &str) -> Option<Options>
-    ensures { result ≡ with_value options name.now value.now }
+/// Adds the option that a name and a value write. An error is the one that is refused.
+fn with_value<'a>(options: Options, name: &'a str, value: &'a str) -> Result<Options, &'a str>
+    ensures taken { IfOk result (λ all. with_value options name.now value.now ≡ Ok all) }
+    ensures refused { IfErr result
+        (λ word. with_value options name.now value.now ≡ Err word.now) }
 {
     match name {
-        "--edition" => in_edition(options, Edition::from_str(value).ok()?),
-        "--color" => with_colours(options, read_when(value)?),
-        _ => None,
+        "--edition" => {
+            let edition = Edition::from_str(value).ok().ok_or(value)?;
+            in_edition(options, edition).ok_or(name)
+        }
+        "--color" => with_colours(options, read_when(value).ok_or(value)?).ok_or(name),
+        _ => Err(name),
     }
 }
 

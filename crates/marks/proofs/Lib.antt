@@ -2,6 +2,7 @@ pub mod CallLemmas
 pub mod EscapeLemmas
 pub mod FrontmatterEndLemmas
 pub mod FrontmatterLemmas
+pub mod KeywordLemmas
 pub mod LiteralLemmas
 pub mod LiteralMarkLemmas
 pub mod MarkedLemmas

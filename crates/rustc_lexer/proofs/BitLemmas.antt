@@ -68,10 +68,7 @@ bit-above x i small far = ap (λ n. n == 1) (bit_at_above x 64 i small far)
 
 -- the bits below n
 pub bit-below : (n k : ℕ) → n ≤ 64 → k < 64 → bit ((2 ^ 64 - 1) / 2 ^ (64 - n)) k ≡ nat_lt k n
-bit-below n k few l = bit-shr (2 ^ 64 - 1) (64 - n) k ∙ elim (cases_lt k n) [
-  | inl less ↦ ones (64 - n + k) (omega arith) ∙ sym (lt-ltb k n less)
-  | inr more ↦ bit-above (2 ^ 64 - 1) (64 - n + k) (omega arith) (omega arith) ∙ sym (le-ltb k n more)
-]
+bit-below n k few l = grind (arith, common_steps, bit-shr, cases_lt, ones, lt-ltb, bit-above, le-ltb)
 
 pub bit-mask_l : (ms : List Bool) (i : ℕ) → bit (mask_l ms) i ≡ get_or ms i false
 unfolding bit

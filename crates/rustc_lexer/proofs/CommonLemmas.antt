@@ -1,4 +1,5 @@
 -- What two texts have in common at their ends, and the edit of what is between.
+use Rattle.std.proofs.lemmas.Grind.{common_steps}
 use Rattle.std.proofs.Common.{◌≡◌, ◌↔◌, Bool, false, IsTrue, ℕ, ◌+◌, ◌-◌, ◌^◌, ◌<◌, ◌≤◌, ◌++◌, List, length, take, drop, slice_range, refl, sym, ap, ap₂, ◌∙◌, subst, arith, drop-drop, take-take, take_at, drop_at, length-append, length-drop, length-take, length-take-le, IsUtf8, IsCharBoundary}
 use Rattle.std.proofs.lemmas.List.{drop-take}
 use Rattle.std.proofs.lemmas.List.Folds.{drop_split}
@@ -41,8 +42,7 @@ front_slice old new at to n is less in_front =
 -- where it is cut between characters of one text, it is so in the other
 pub front_boundary : (old new : List ℕ) (n : ℕ) → IsUtf8 old → IsUtf8 new → IsSameFront old new n
     → IsCharBoundary old n → IsCharBoundary new n
-front_boundary old new n old_is new_is is at =
-    IsCharBoundary-from_take new n new_is is.in_new (subst IsUtf8 is.same (IsUtf8-take old n old_is at))
+front_boundary old new n old_is new_is is at = grind (arith, common_steps, IsCharBoundary-from_take new n new_is is.in_new (subst IsUtf8 is.same (IsUtf8-take old n old_is at)))
 
 pub some_front : {text : List ℕ} {n : ℕ} {r : Bool} → IsUtf8 text → (IsTrue r ↔ IsCharBoundary text n)
     → r ≡ false → 0 < n
@@ -98,12 +98,7 @@ back_differs old new start at to n is less differ =
 pub front_left : {old new : List ℕ} {start stop : ℕ} {insert : List ℕ} → Makes old new start stop insert
     → IsSameFront old new start
 unfolding apply
-front_left {old} {new} {start} {stop} {insert} is =
-    let few : start ≤ length old = omega (arith, is.valid.inside.start_le_stop, is.valid.inside.stop_inside) in
-    let first : length (take start old) ≡ start = length-take-le start old few in
-    let front : take start old ≡ take start new =
-    sym (take_at (take start old) (insert ++ drop stop old) start first) ∙ ap (take start) is.made in
-    record { in_old = few; in_new = omega (arith, first, ap length front, length-take start new); same = front }
+front_left {old} {new} {start} {stop} {insert} is = grind (arith, common_steps, length-take-le, take_at, length-take)
 
 pub back_left : {old new : List ℕ} {start stop : ℕ} {insert : List ℕ} → Makes old new start stop insert
     → IsSameBack old new start (length old - stop)

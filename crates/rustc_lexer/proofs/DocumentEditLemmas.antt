@@ -1,7 +1,6 @@
 -- An edit of a document: what is put in place of its old tokens.
 use Rattle.std.proofs.Common.{◌≡◌, ℕ, ◌+◌, ◌-◌, ◌<◌, ◌≤◌, ◌^◌, Bool, true, false, List, [], ◌∷◌, ◌++◌, length, map, take, drop, refl, sym, ap, ap₂, ◌∙◌, subst, arith, length-drop, length-append, drop-drop, take-add, IsUtf8, IsCharBoundary, IsTrue, ◌↔◌, Option, Result, OnErr}
 use Rattle.std.specs.List.{All, Contains}
-use Rattle.std.proofs.lemmas.Bool.{cases_lt, false_from_ne_true}
 use Rattle.std.proofs.lemmas.List.{take_rest}
 use Rattle.std.proofs.lemmas.List.Elements.{All-contains}
 use Rattle.std.proofs.Math.Seq.{drop-append_seam, drop-append-add, take-append_seam, take-append-add}
@@ -14,22 +13,18 @@ use Rattle.rustc_lexer.specs.declared.relex.relexing.Relexed.{Relexed}
 use Rattle.rustc_lexer.specs.declared.relex.relexing.Relexing.{Relexing}
 use Rattle.rustc_lexer.specs.{Token}
 use Rattle.rustc_lexer.specs.Classes.{IsText}
-use Rattle.rustc_lexer.specs.means.Document.{body_change, body_insert, counted, document_by, head_put, head_unless, HeadStays, IsCountedByHead, IsRelexedAs, IsRelexedByHead, IsRelexedWith, IsRenewedBehind, tokens_of_head}
+use Rattle.rustc_lexer.specs.means.Document.{body_change, edit_change, body_insert, counted, document_by, head_by, head_put, head_unless, IsPut, IsRenewedBehind, tokens_of_head}
 use Rattle.rustc_lexer.specs.Edits.{apply, IsEdit}
 use Rattle.rustc_lexer.specs.Offsets.{IsBound}
 use Rattle.rustc_lexer.specs.Relexing.{IsMadeOf}
 use Rattle.rustc_lexer.specs.Locality.{IsGrammar}
 use Rattle.rustc_lexer.specs.Tokens.{tokens_by}
 use Rattle.rustc_lexer.specs.means.Checkpoints.{AreBounds, IsMovable, IsReplaced, end_of}
-use Rattle.rustc_lexer.specs.means.Relexing.{IsBodyRelexed, IsLexed, IsRenewed, kept_front, relexed_of}
+use Rattle.rustc_lexer.specs.means.Relexing.{IsBodyRelexed, IsLexed, IsRenewed, kept_front}
 use Rattle.rustc_lexer.proofs.BoundLemmas.{tokens_le_bytes}
 use Rattle.rustc_lexer.proofs.DocumentLemmas.{made_body}
 use Rattle.rustc_lexer.proofs.EditLemmas.{has_two-late, kept_front_from, kept_front_by}
-use Rattle.rustc_lexer.proofs.RelexedLemmas.{relexed_found}
 use Rattle.rustc_lexer.proofs.RenewedLemmas.{renewed_all, renewed_are, renewed_back, renewed_bounds, renewed_front}
-
-abbrev pub edit_change : ℕ → ℕ → List ℕ → Change
-edit_change start stop insert = record { start = start; old_stop = stop; new_stop = start + length insert }
 
 -- what is known of an edit of a document, whose old head has n tokens
 pub record IsBodyEdit (heads : List ℕ → Head) (first : List ℕ → Token) (text made insert : List ℕ) (start stop : ℕ) (old now : Head) (kept : Bool) (n : ℕ) (tokens : List Token) (body : List ℕ) (change : Change) : Type 0 where
@@ -45,12 +40,11 @@ pub record IsBodyEdit (heads : List ℕ → Head) (first : List ℕ → Token) (
   pub inside : n ≤ length tokens
   pub made_of : IsMadeOf first (drop old.body text) (map (λ (t : Token). t.len) (drop n tokens)) change (body_insert kept change insert body) body
 
-pub body_edit : (heads : List ℕ → Head) {first : List ℕ → Token} (law : IsGrammar first) {text made insert put reserved : List ℕ} {start stop : ℕ} {old now : Head} {kept : Bool} {n : ℕ} {tokens : List Token} {body : List ℕ} {change : Change}
-    → IsText text → IsUtf8 insert → IsEdit text start stop insert → made ≡ put → put ≡ apply reserved start stop insert → reserved ≡ text → old ≡ heads text → IsCharBoundary text old.body → now ≡ heads made → IsCharBoundary made now.body
+pub body_edit : (heads : List ℕ → Head) {first : List ℕ → Token} (law : IsGrammar first) {text made insert : List ℕ} {start stop : ℕ} {old now : Head} {kept : Bool} {n : ℕ} {tokens : List Token} {body : List ℕ} {change : Change}
+    → IsText text → IsUtf8 insert → IsEdit text start stop insert → made ≡ apply text start stop insert → old ≡ heads text → IsCharBoundary text old.body → now ≡ heads made → IsCharBoundary made now.body
     → IsTrue kept ↔ ((old ≡ now) × (old.body ≤ start)) → n ≡ length (tokens_of_head old) → tokens ≡ document_by heads first text → body ≡ drop now.body made → change ≡ body_change kept old.body now.body (edit_change start stop insert)
     → IsBodyEdit heads first text made insert start stop old now kept n tokens body change
-body_edit heads {first} law {text} {made} {insert} {put} {reserved} {start} {stop} {old} {now} {kept} {n} {tokens} {body} {change} is its edit as_str put_in reserve old_is old_at now_is now_at decided n_is scratch body_is change_is =
-    let e : made ≡ apply text start stop insert = as_str ∙ (put_in ∙ ap (λ (bytes : List ℕ). apply bytes start stop insert) reserve) in
+body_edit heads {first} law {text} {made} {insert} {start} {stop} {old} {now} {kept} {n} {tokens} {body} {change} is its edit e old_is old_at now_is now_at decided n_is scratch body_is change_is =
     let all : tokens ≡ tokens_of_head old ++ tokens_by first (drop old.body text) = scratch ∙ ap (λ (h : Head). tokens_of_head h ++ tokens_by first (drop h.body text)) (sym old_is) in
     let behind : drop n tokens ≡ tokens_by first (drop old.body text) = ap₂ drop n_is all ∙ drop-append_seam (tokens_of_head old) (tokens_by first (drop old.body text)) in
     record {
@@ -66,6 +60,12 @@ body_edit heads {first} law {text} {made} {insert} {put} {reserved} {start} {sto
       inside = omega (arith, n_is, ap length all, length-append (tokens_of_head old) (tokens_by first (drop old.body text)));
       made_of = rw change_is (made_body law text insert made start stop is its edit e old.body now.body old_at now_at (drop n tokens) behind body body_is kept (λ t. (ap (λ (h : Head). h.body) (decided.0 t).0, (decided.0 t).1)));
     }
+
+pub body_put : (whole : Bool) {first : List ℕ → Token} (law : IsGrammar first) {before insert bytes made : List ℕ} {edit : Change} {old now : Head} {checkpoints : Checkpoints} {kept : Bool} {n : ℕ} {tokens : List Token} {body : List ℕ} {change : Change}
+    → IsPut whole first before insert edit bytes tokens old checkpoints → made ≡ bytes → now ≡ head_by whole made → IsCharBoundary made now.body → IsTrue kept ↔ ((old ≡ now) × (old.body ≤ edit.start)) → n ≡ length (tokens_of_head old) → body ≡ drop now.body made → change ≡ body_change kept old.body now.body edit
+    → IsBodyEdit (head_by whole) first before made insert edit.start edit.old_stop old now kept n tokens body change
+body_put whole law {old = old} {now = now} {kept = kept} p made_is now_is now_at decided n_is body_is change_is =
+    body_edit (head_by whole) law p.kept.0 p.utf8 p.valid (made_is ∙ p.made_is) p.kept.2 p.kept.3 now_is now_at decided n_is p.kept.1 body_is (change_is ∙ ap (body_change kept old.body now.body) p.offsets)
 
 -- the lengths are those of the tokens that are read
 pub made_read : {first : List ℕ → Token} {text : List ℕ} (tokens read : List Token) (n : ℕ) {change : Change} {insert body : List ℕ} → read ≡ tokens → IsMadeOf first text (map (λ (t : Token). t.len) (drop n tokens)) change insert body → IsMadeOf first text (map (λ (t : Token). t.len) (take (length read - n) (drop n read))) change insert body
@@ -86,33 +86,6 @@ kept_none text ts = kept_front_by text 0 0 ts ∙ none_from text 0 ts
 
 pub relexed-front : {first : List ℕ → Token} {text : List ℕ} {stop : ℕ} {insert : List ℕ} {r : Relexed} → IsBodyRelexed first text 0 stop insert r → r.kept_front ≡ 0
 relexed-front {first} {text} is = is.front ∙ kept_none text (tokens_by first text)
-
--- whether the head stays
-module _ {heads : List ℕ → Head} {first : List ℕ → Token} {text made insert : List ℕ} {start stop : ℕ} {old now : Head} {kept : Bool} {n : ℕ} {tokens : List Token} {body : List ℕ} {change : Change} (b : IsBodyEdit heads first text made insert start stop old now kept n tokens body change) where
-  stays : kept ≡ true → HeadStays heads text start stop insert
-  stays e = (sym b.old_is ∙ ((b.decided.0 e).0 ∙ (b.now_is ∙ ap heads b.made_is)), (let p = (b.decided.0 e).1 in omega (arith, p, ap (λ (h : Head). h.body) b.old_is)))
-
-  keeps : HeadStays heads text start stop insert → kept ≡ true
-  keeps k = b.decided.1 (b.old_is ∙ (k.0 ∙ (ap heads (sym b.made_is) ∙ sym b.now_is)), (let e = k.1 in omega (arith, e, ap (λ (h : Head). h.body) b.old_is)))
-
-  changes : (HeadStays heads text start stop insert → ⊥) → kept ≡ false
-  changes none = false_from_ne_true kept (λ e. none (stays e))
-
-  -- the counts of the body's edit, which is known by equations, and those of the texts alone
-  abbrev pub IsRelexedAt : Change → List ℕ → Relexed → Type 0
-  IsRelexedAt ch bytes r = (x : Relexed) × IsBodyRelexed first (drop old.body text) ch.start ch.old_stop (body_insert kept ch insert bytes) x
-      × (r ≡ counted kept (length (tokens_of_head old)) (length (tokens_of_head now)) x)
-
-  abbrev As : Head → Head → List ℕ → Relexed → Type 0
-  As o w mk r = IsRelexedAs first text start stop insert kept o w mk r
-
-  pub to_texts : (r : Relexed) → IsRelexedAt change body r → IsRelexedWith heads kept first text start stop insert r
-  unfolding IsRelexedWith
-  to_texts r x = grind (arith, common_steps)
-
-  pub of_texts : (r : Relexed) → IsRelexedWith heads kept first text start stop insert r → IsRelexedAt change body r
-  unfolding IsRelexedWith
-  of_texts r x = grind (arith, common_steps)
 
 pub near_behind : (tokens : List Token) {all : List Token} {near : Bound} {n m : ℕ} (checkpoints : Checkpoints) → n ≡ m → drop n tokens ≡ all → AreBounds (drop m tokens) checkpoints → Contains checkpoints.bounds near → IsBound all near
 near_behind tokens {all} {near} {n} {m} checkpoints same e are is = grind (arith, common_steps, All-contains)
@@ -187,46 +160,8 @@ module _ {heads : List ℕ → Head} {first : List ℕ → Token} (law : IsGramm
     pub counted_back : drop ((counted kept n m counts).kept_front + (counted kept n m counts).lexed) new ≡ drop (length tokens - (counted kept n m counts).kept_back) tokens
     counted_back = grind (arith, common_steps, back_with, same_count)
 
-    module _ (exact : IsBodyRelexed first (drop old.body text) change.start change.old_stop put counts) where
-      by_texts : IsRelexedWith heads kept first text start stop insert (counted kept n m counts)
-      by_texts = to_texts b (counted kept n m counts) (counts, exact, ap₂ (λ i j. counted kept i j counts) b.n_is m_is)
-
-      pub counted_relexed : IsRelexedByHead heads first text start stop insert (counted kept n m counts)
-      counted_relexed = record {
-        kept = λ k. subst (λ (t : Bool). IsRelexedWith heads t first text start stop insert (counted kept n m counts)) (keeps b k) by_texts;
-        changed = λ none. subst (λ (t : Bool). IsRelexedWith heads t first text start stop insert (counted kept n m counts)) (changes b none) by_texts;
-      }
-
-    pub counted_steps : (before after : ℕ) → after ≡ before + at.lexed → IsCountedByHead heads text start stop insert before after (counted kept n m counts).lexed
-    counted_steps before after e = grind (arith, common_steps, keeps, changes)
-
     pub counted_few : IsText text → counts.kept_front < 2 ^ 33
     counted_few is = grind (arith, common_steps, counts_are, tokens_le_bytes, b.made_of.edit_of.is_text.fits)
-
--- ---- an edit that is refused
-
-module _ {heads : List ℕ → Head} {first : List ℕ → Token} (law : IsGrammar first) {text made insert : List ℕ} {start stop : ℕ} {old now : Head} {kept : Bool} {n : ℕ} {tokens : List Token} {body : List ℕ} {change : Change} (b : IsBodyEdit heads first text made insert start stop old now kept n tokens body change) where
-  abbrev of_body : Relexed
-  of_body = relexed_of first (drop old.body text) change.start change.old_stop (body_insert kept change insert body)
-
-  -- there are no other counts
-  same_counts : (r : Relexed) → IsRelexedWith heads kept first text start stop insert r → r ≡ counted kept (length (tokens_of_head old)) (length (tokens_of_head now)) of_body
-  same_counts r is =
-      let x = of_texts b r is in
-      let only : x.0 ≡ of_body = relexed_found law (drop old.body text) b.made_of.edit_of.is_text change.start change.old_stop (body_insert kept change insert body) b.made_of.edit_of.inserted b.made_of.edit_of.is_edit x.0 x.1 in
-      x.2 ∙ ap (counted kept (length (tokens_of_head old)) (length (tokens_of_head now))) only
-
-  -- it takes no more steps than it would have
-  pub few_body : (r : Relexed) (before most : ℕ) → IsRelexedByHead heads first text start stop insert r → IsCountedByHead heads text start stop insert before most r.lexed → before + of_body.lexed ≤ most
-  few_body r before most is steps = grind (arith, common_steps, same_counts, stays, keeps)
-
--- the count of steps does not fall
-anew-lexed : (heads : List ℕ → Head) (first : List ℕ → Token) (text : List ℕ) (start stop : ℕ) (insert : List ℕ) (r : Relexed) → IsRelexedWith heads false first text start stop insert r → length (tokens_of_head (heads (apply text start stop insert))) ≤ r.lexed
-unfolding IsRelexedWith
-anew-lexed heads first text start stop insert r is = let e = ap (λ (x : Relexed). x.lexed) is.2 in omega (arith, e)
-
-pub steps_rise : (heads : List ℕ → Head) (first : List ℕ → Token) (text : List ℕ) (start stop : ℕ) (insert : List ℕ) (before : ℕ) (r : Relexed) (most : ℕ) → IsRelexedByHead heads first text start stop insert r → IsCountedByHead heads text start stop insert before most r.lexed → before ≤ most
-steps_rise heads first text start stop insert before r most is steps = grind (arith, common_steps, cases_lt, anew-lexed)
 
 pub OnErr-always : {T E : Type 0} {P : Type 0} (r : Result T E) → P → OnErr r P
 OnErr-always r w1 = grind (arith, common_steps)

@@ -1,5 +1,5 @@
 -- What an edit of a document keeps, by the tokens of the grammar.
-use Rattle.std.proofs.Common.{◌++◌, ◌≡◌, ℕ, ◌+◌, Bool, true, false, List, length, take, drop, refl, sym, subst, ap, ap₂, ◌∙◌, arith, chars, length-take-le, Option, None, Some, IsCharBoundary}
+use Rattle.std.proofs.Common.{◌++◌, ◌≡◌, ℕ, ◌+◌, Bool, true, false, List, length, take, drop, refl, sym, ap, ap₂, ◌∙◌, arith, chars, length-take-le, Option, None, Some, IsCharBoundary}
 use Rattle.std.proofs.Math.Seq.{take-append_seam}
 use Rattle.std.proofs.lemmas.Grind.{common_steps}
 use Rattle.rustc_lexer.specs.{Token}
@@ -8,7 +8,7 @@ use Rattle.rustc_lexer.specs.declared.relex.relexing.Change.{Change}
 use Rattle.rustc_lexer.specs.declared.relex.relexing.Relexed.{Relexed}
 use Rattle.rustc_lexer.specs.Classes.{IsText}
 use Rattle.rustc_lexer.specs.Document.{body_start, document_tokens_by, head_tokens, shebang_len, whole_by}
-use Rattle.rustc_lexer.specs.means.Document.{body_change, body_insert, counted, document_by, front_tokens, head_of, HeadStays, IsRelexedWith, tokens_of_head}
+use Rattle.rustc_lexer.specs.means.Document.{body_change, body_insert, counted, document_by, front_tokens, head_of, HeadStays, tokens_of_head}
 use Rattle.rustc_lexer.specs.Edits.{apply, body_in, KeepsHead}
 use Rattle.rustc_lexer.specs.LanguageText.{newest}
 use Rattle.rustc_lexer.specs.Tokens.{bound, tokens_by}
@@ -95,14 +95,6 @@ module _ (first : List ℕ → Token) (text insert : List ℕ) (start stop : ℕ
       (x : Relexed) × IsBodyRelexed first (drop from text) change.start change.old_stop (body_insert kept change insert (drop to made)) x
       × (r ≡ counted kept (length old) (length now) x)
 
-  pub by_page : (kept : Bool) (r : Relexed) → IsRelexedWith head_of kept first text start stop insert r → At kept (body_start text) (body_start made) (head_tokens text) (head_tokens made) r
-  unfolding IsRelexedWith
-  by_page kept r x = grind (arith, common_steps, end_is, front_is)
-
-  pub by_head : (kept : Bool) (r : Relexed) → At kept (body_start text) (body_start made) (head_tokens text) (head_tokens made) r → IsRelexedWith head_of kept first text start stop insert r
-  unfolding IsRelexedWith
-  by_head kept r x =
-      let three : At kept (body_start text) (body_start made) (head_tokens text) (tokens_of_head (head_of made)) r = subst (λ ts. At kept (body_start text) (body_start made) (head_tokens text) ts r) (sym (front_is made its)) x in
-      let two : At kept (body_start text) (body_start made) (tokens_of_head (head_of text)) (tokens_of_head (head_of made)) r = subst (λ ts. At kept (body_start text) (body_start made) ts (tokens_of_head (head_of made)) r) (sym (front_is text is)) three in
-      let one : At kept (body_start text) (head_of made).body (tokens_of_head (head_of text)) (tokens_of_head (head_of made)) r = subst (λ to. At kept (body_start text) to (tokens_of_head (head_of text)) (tokens_of_head (head_of made)) r) (sym (end_is made its)) two in
-      subst (λ from. At kept from (head_of made).body (tokens_of_head (head_of text)) (tokens_of_head (head_of made)) r) (sym (end_is text is)) one
+  -- the parts may be told otherwise
+  pub at_same : (kept : Bool) (r : Relexed) {from to from2 to2 : ℕ} {old now old2 now2 : List Token} → from ≡ from2 → to ≡ to2 → old ≡ old2 → now ≡ now2 → At kept from to old now r → At kept from2 to2 old2 now2 r
+  at_same kept r p q s t x = rw (sym p, sym q, sym s, sym t) x

@@ -39,14 +39,7 @@ module _ (text : List ℕ) (n a b edges : ℕ) (few : n ≤ 64) (inside : n ≤ 
     (of_words : (k : ℕ) → k < n → bit a k ≡ not (is_continue_byte (get_or text k 0))) (of_spaces : (k : ℕ) → k < n → bit b k ≡ not (is_space_byte (get_or text k 0)))
     (first : bit edges 0 ≡ false) (later : (k : ℕ) → suc k < 64 → bit edges (suc k) ≡ not ((bit (flip a) k && bit (flip a) (suc k)) || (bit (flip b) k && bit (flip b) (suc k)))) where
   is_at : (k : ℕ) → k < n → bit edges k ≡ is_end text k
-  is_at zero l = first
-  is_at (suc k) l = later k (omega arith) ∙ ap not (ap₂ (λ a b. a || b) (both is_continue_byte a small of_words) (both is_space_byte b small_too of_spaces))
-    where
-      both : (p : ℕ → Bool) (mask : ℕ) → mask < 2 ^ 64 → ((k : ℕ) → k < n → bit mask k ≡ not (p (get_or text k 0))) → (bit (flip mask) k && bit (flip mask) (suc k)) ≡ (p (get_or text k 0) && p (get_or text (suc k) 0))
-      both p mask fits of = ap₂ (λ a b. a && b) (at k (omega arith)) (at (suc k) l)
-        where
-          at : (j : ℕ) → j < n → bit (flip mask) j ≡ p (get_or text j 0)
-          at j less = bit-flip mask j fits (omega arith) ∙ (ap not (of j less) ∙ not-not (p (get_or text j 0)))
+  is_at k w1 = grind (arith, common_steps, bit-flip, not-not)
 
   abbrev kept : ℕ
   kept = bit_and edges ((2 ^ 64 - 1) / 2 ^ (64 - n))
@@ -103,11 +96,7 @@ module _ (p other : ℕ → Bool) (parted : (b : ℕ) → (p b && other b) ≡ f
     (end : ((p (get_or text n 0) && p (get_or text (suc n) 0)) || (other (get_or text n 0) && other (get_or text (suc n) 0))) ≡ false) (first : p (get_or text 0 0) ≡ true) where
   in_run : (k : ℕ) → k ≤ n → p (get_or text k 0) ≡ true
   in_run zero l = first
-  in_run (suc k) l = by_cases (in_run k (omega arith)) (or_cases _ _ (on k (omega arith)))
-    where
-      by_cases : p (get_or text k 0) ≡ true → ((p (get_or text k 0) && p (get_or text (suc k) 0)) ≡ true) ⊎ ((other (get_or text k 0) && other (get_or text (suc k) 0)) ≡ true) → p (get_or text (suc k) 0) ≡ true
-      by_cases before (inl same) = (and_parts _ _ same).1
-      by_cases before (inr different) = absurd (true≢false (sym (and_from _ _ before (and_parts (other (get_or text k 0)) _ different).0) ∙ parted (get_or text k 0)))
+  in_run (suc k) l = grind (arith, common_steps, or_cases, and_parts, and_from, in_run k (omega arith))
 
   past_run : p (get_or text (suc n) 0) ≡ false
   past_run = grind (arith, common_steps, and_cases, or_parts, in_run)

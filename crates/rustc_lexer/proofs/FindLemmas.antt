@@ -85,10 +85,7 @@ begins_small stop text small is = sym (begins-byte stop (chars text)) ∙ next_b
 
 -- two characters in front, one after the other
 pub begins_two : (a b : ℕ) (text tail : List ℕ) → IsUtf8 text → tail ≡ past 1 text → begins (a ∷ b ∷ []) (chars text) ≡ (begins (a ∷ []) (chars text) && begins (b ∷ []) (chars tail))
-begins_two a b text tail is at = by_chars (chars text) ∙ ap (λ s. begins (a ∷ []) (chars text) && begins (b ∷ []) s) (sym (ap chars at ∙ chars-past 1 text is))
-  where
-    by_chars : (s : List ℕ) → begins (a ∷ b ∷ []) s ≡ (begins (a ∷ []) s && begins (b ∷ []) (drop 1 s))
-    by_chars w0 = grind (arith, common_steps)
+begins_two a b text tail is at = grind (arith, common_steps, by_chars, chars-past)
 
 pub byte2_small : (one two b : ℕ) → one < 128 → two < 128 → is_byte2 one two b ≡ true → b < 128
 byte2_small one two b l m e = elim (or_cases (b == one) (b == two) e) [ inl f ↦ omega (arith, eqb-true b one f) | inr f ↦ omega (arith, eqb-true b two f) ]

@@ -12,6 +12,7 @@ use Rattle.rustc_lexer.specs.Joined.{IsJoined, IsSeparated, MayTouch, AreInsepar
 use Rattle.rustc_lexer.specs.Locality.{has_two, IsGrammar}
 use Rattle.rustc_lexer.specs.Partition.{bound, tokens_by}
 use Rattle.rustc_lexer.specs.laws.Cuts.{IsCutAt, at_bound, tokens-nil, tokens_local}
+use Rattle.rustc_lexer.specs.means.Joined.{IsSure}
 use Rattle.rustc_lexer.proofs.BoundLemmas.{bound_mono, bound-last, rises}
 use Rattle.rustc_lexer.proofs.DocumentHead.{bound-append}
 use Rattle.rustc_lexer.proofs.EditLemmas.{bound-same, has_two-agree}
@@ -31,13 +32,6 @@ pub drop-front : (n : ℕ) (xs ys : List ℕ) → n ≤ length xs → drop n (xs
 drop-front zero xs ys few = refl
 drop-front (suc n) [] ys few = absurd (omega arith)
 drop-front (suc n) (x ∷ xs) ys few = drop-front n xs ys (omega arith)
-
--- the offset is a bound of the text that two characters follow, or 0
-pub record IsSure (first : List ℕ → Token) (text : List ℕ) (offset : ℕ) : Type 0 where
-  pub number : ℕ
-  pub few : number ≤ length (tokens_by first text)
-  pub offset_is : bound (tokens_by first text) number ≡ offset
-  pub two : 0 < offset → has_two text offset (length text) ≡ true
 
 -- the tokens up to a sure bound, and those of what is left, alone and with more text
 pub record IsSplit (first : List ℕ → Token) (left more : List ℕ) (from : ℕ) : Type 0 where

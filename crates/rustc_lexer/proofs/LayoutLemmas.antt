@@ -1,5 +1,5 @@
 -- What an edit keeps, by all tokens of a text and by those of its body, and that there is one answer.
-use Rattle.std.proofs.Common.{◌≡◌, ◌⊎◌, inl, inr, ℕ, suc, ◌+◌, ◌-◌, ◌<◌, ◌≤◌, Bool, true, false, true≢false, List, [], ◌∷◌, ◌++◌, length, drop, get_or, refl, sym, ap, ap₂, ◌∙◌, arith, length-append}
+use Rattle.std.proofs.Common.{◌≡◌, ◌⊎◌, inl, inr, ℕ, suc, ◌+◌, ◌-◌, ◌<◌, ◌≤◌, List, [], ◌∷◌, ◌++◌, length, refl, sym, ap, ◌∙◌, arith, length-append}
 use Rattle.std.proofs.Math.Seq.{drop-append_seam}
 use Rattle.std.proofs.lemmas.Bool.{cases_lt, eqb-false, eqb-true}
 use Rattle.std.proofs.lemmas.Grind.{common_steps}
@@ -7,7 +7,7 @@ use Rattle.rustc_lexer.specs.{Token}
 use Rattle.rustc_lexer.specs.declared.relex.relexing.Relexed.{Relexed}
 use Rattle.rustc_lexer.specs.Edits.{apply, body_in, IsMeeting, IsRelexed, KeepsHead, Layout, part_by, offset_in}
 use Rattle.rustc_lexer.specs.Tokens.{bound}
-use Rattle.rustc_lexer.specs.laws.Same.{is_same, same_token, token_same}
+use Rattle.rustc_lexer.specs.laws.Same.{same_token, token_same}
 use Rattle.rustc_lexer.specs.means.Relexing.{IsBodyMeeting, IsBodyRelexed}
 use Rattle.rustc_lexer.proofs.BoundLemmas.{bound_mono}
 use Rattle.rustc_lexer.proofs.FrontLemmas.{bound-shift}
@@ -86,12 +86,7 @@ tokens : (xs ys : List Token) → Decided (xs ≡ ys)
 tokens [] [] = inl refl
 tokens [] (y ∷ ys) = inr (λ e. omega (arith, ap (λ (ts : List Token). length ts) e))
 tokens (x ∷ xs) [] = inr (λ e. omega (arith, ap (λ (ts : List Token). length ts) e))
-tokens (x ∷ xs) (y ∷ ys) = by_first (is_same x y) refl (tokens xs ys)
-  where
-    by_first : (t : Bool) → is_same x y ≡ t → Decided (xs ≡ ys) → Decided ((x ∷ xs) ≡ (y ∷ ys))
-    by_first true e (inl same) = inl (ap₂ (λ (t : Token) (ts : List Token). t ∷ ts) (same_token x y e) same)
-    by_first true e (inr none) = inr (λ all. none (ap (λ (ts : List Token). drop 1 ts) all))
-    by_first false e rest = inr (λ all. true≢false (sym (token_same x y (ap (λ (ts : List Token). get_or ts 0 x) all)) ∙ e))
+tokens (x ∷ xs) (y ∷ ys) = grind (arith, common_steps, same_token, all, token_same, tokens xs ys)
 
 pub keeps_head : (old new : Layout) (start : ℕ) → Decided (KeepsHead old new start)
 keeps_head old new start = all (at_most (body_in old) start) (numbers old.start new.start) (tokens old.head new.head)

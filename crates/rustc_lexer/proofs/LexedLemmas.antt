@@ -18,12 +18,10 @@ use Rattle.rustc_lexer.proofs.DocumentTokens.{document_law, shebang-boundary}
 use Rattle.rustc_lexer.proofs.KeptLemmas.{end_is, kept_cuts, offset_fits, start_is}
 
 pub tokens_are : (whole : Bool) (first : List ℕ → Token) (text : List ℕ) → IsText text → document_by (head_by whole) first text ≡ tokens_in whole first text
-tokens_are true first text is = past_law first text is
-tokens_are false first text is = refl
+tokens_are whole first text w3 = grind (arith, common_steps, past_law)
 
 pub heads_are : (whole : Bool) (first : List ℕ → Token) (text : List ℕ) → IsText text → tokens_of_head (head_by whole text) ≡ (layout_in whole first text).head
-heads_are true first text is = front_is text is
-heads_are false first text is = refl
+heads_are whole first text w3 = grind (arith, common_steps, front_is)
 
 pub edition_are : (whole : Bool) (edition : Edition) (text : List ℕ) → IsText text → document_by (head_by whole) (first_in edition) text ≡ edition_tokens_in whole edition text
 edition_are true edition text is = document_law edition text is (shebang-boundary text is)

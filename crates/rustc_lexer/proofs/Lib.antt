@@ -1,7 +1,6 @@
 pub mod AdvanceLemmas
-pub mod AheadLemmas
-pub mod AheadTextLemmas
 pub mod ApartLemmas
+pub mod AtOnceLemmas
 pub mod BitLemmas
 pub mod BlockCommentDepth
 pub mod BlockCommentLoop
@@ -21,19 +20,12 @@ pub mod EditLemmas
 pub mod EditListLemmas
 pub mod EditionLemmas
 pub mod EmojiLemmas
-pub mod EndingLemmas
 pub mod EndsLemmas
 pub mod FamilyLemmas
 pub mod FillLemmas
-pub mod FinalHeadLemmas
 pub mod FindLemmas
 pub mod FrontLemmas
 pub mod FrontmatterLemmas
-pub mod GapLemmas
-pub mod GoesOnLemmas
-pub mod GrowingFront
-pub mod GrowingHead
-pub mod GrowingTokens
 pub mod GuardedLemmas
 pub mod HeadLemmas
 pub mod HashLemmas
@@ -45,7 +37,6 @@ pub mod KernelLemmas
 pub mod KindLemmas
 pub mod CheckpointLemmas
 pub mod CommonLemmas
-pub mod CutLemmas
 pub mod LaneLemmas
 pub mod LayoutLemmas
 pub mod LengthLemmas
@@ -58,7 +49,7 @@ pub mod ManyLemmas
 pub mod MeetingLemmas
 pub mod NumberLemmas
 pub mod OffsetLemmas
-pub mod PartEdits
+pub mod PairLemmas
 pub mod PartLemmas
 pub mod PieceLemmas
 pub mod PlaceLemmas
@@ -81,6 +72,7 @@ pub mod ShebangLemmas
 pub mod ShortCharLemmas
 pub mod SpaceLemmas
 pub mod StopLemmas
+pub mod SureLemmas
 pub mod TallyWalk
 pub mod TextLemmas
 pub mod TokensLemmas

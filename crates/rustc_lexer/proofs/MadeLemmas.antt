@@ -1,14 +1,15 @@
 -- How far a list of edits was made: one edit more, and one that is refused.
+use Rattle.std.proofs.lemmas.Grind.{common_steps}
 use Rattle.std.proofs.Common.{◌≡◌, ℕ, ◌+◌, ◌-◌, ◌<◌, Bool, List, length, take, drop, get_or, min, refl, sym, ap, ◌∙◌, subst, arith, Ok, Err}
 use Rattle.rustc_lexer.specs.{Token}
 use Rattle.rustc_lexer.specs.declared.relex.edit.Edit.{Edit}
 use Rattle.rustc_lexer.specs.declared.relex.edit_list.EditStop.{EditStop}
 use Rattle.rustc_lexer.specs.declared.relex.edit_list.EditStop.TheVariants.{Memory}
-use Rattle.rustc_lexer.specs.declared.relex.in_order.Made.{Made}
+use Rattle.rustc_lexer.specs.declared.relex.lexed.edits.Made.{Made}
 use Rattle.rustc_lexer.specs.declared.relex.relexing.Relexed.{Relexed}
-use Rattle.rustc_lexer.specs.Edits.{AreEdits, AreLeast, AreStepped, apply_list, IsEdit, IsRefusedOn, IsStopStepped, stop_at}
+use Rattle.rustc_lexer.specs.Edits.{AreLeast, IsEdit, IsRefusedOn, IsStopStepped, stop_at}
 use Rattle.rustc_lexer.specs.Kept.{AreKeptThrough, AreMade, Held, IsEdited, layout_in, tokens_in}
-use Rattle.rustc_lexer.specs.means.EditList.{AreKeptTo, AreMadeTo, GoOn, StayAtEnds}
+use Rattle.rustc_lexer.specs.means.EditList.{AreKeptTo, AreMadeTo, StayAtEnds}
 use Rattle.rustc_lexer.proofs.EditListLemmas.{counts_back, counts_stay, edits-more, least-more, none, stay-more, stepped-more, stop-stepped, stop_of, text-more}
 
 module _ {S : Type 0} {first : S → List ℕ → Token} {year steps : S → ℕ} {whole : Bool} {old mid : Held S} {edits : List Edit} {made : Made} (m : AreMadeTo first year steps whole old edits made mid) where
@@ -16,20 +17,7 @@ module _ {S : Type 0} {first : S → List ℕ → Token} {year steps : S → ℕ
   pub made_stop : (s : EditStop) {T : Type 0} {new : Held S} → stop_at s ≡ made.count → made.count < length edits → IsRefusedOn s new.text (get_or edits made.count none) → new.text ≡ mid.text → new.tokens ≡ tokens_in whole (first old.stepper) new.text
       → first new.stepper ≡ first old.stepper → year new.stepper ≡ year old.stepper → IsStopStepped s (layout_in whole (first old.stepper)) old.text edits (steps old.stepper) (steps new.stepper)
       → AreMade {T = T} first year steps whole old edits (Err s) new
-  made_stop s {T} {new} at few refused same scratch grammar number counted =
-      let here : stop_at s < length edits = omega (arith, at, few) in
-      record {
-        accepted = tt;
-        text = tt;
-        from_scratch = scratch;
-        grammar = grammar;
-        number = number;
-        count = tt;
-        stop = stop_of new.text edits s here (subst (λ n. IsRefusedOn s new.text (get_or edits n none)) (sym at) refused);
-        stop_accepted = rw at m.accepted;
-        stop_text = rw at (same ∙ m.text);
-        stop_count = counted;
-      }
+  made_stop s {T} {new} at few refused same scratch grammar number counted = grind (arith, common_steps, stop_of)
 
   module _ (few : made.count < length edits) (is : IsEdit mid.text (get_or edits made.count none).start (get_or edits made.count none).stop (get_or edits made.count none).insert.now) where
     abbrev at : ℕ
@@ -40,16 +28,7 @@ module _ {S : Type 0} {first : S → List ℕ → Token} {year steps : S → ℕ
 
     pub made_more : {X : Type 0} {r : Relexed} {new : Held S} (next : Made) → IsEdited {E = X} first year steps whole mid e.start e.stop e.insert.now (Ok r) new → next.count ≡ at + 1 → next.front ≡ min made.front r.kept_front → next.back ≡ min made.back r.kept_back
         → AreMadeTo first year steps whole old edits next new
-    made_more {X} {r} {new} next i count_is front_is back_is = record {
-      few = omega (arith, few, count_is);
-      accepted = subst (λ k. AreEdits old.text (take k edits)) (sym count_is) (edits-more old.text mid.text edits at few m.text m.accepted is);
-      text = subst (λ k. new.text ≡ apply_list old.text (take k edits)) (sym count_is) (text-more old.text mid.text new.text edits at few m.text i.text);
-      from_scratch = i.from_scratch ∙ ap (λ (f : List ℕ → Token). tokens_in whole f new.text) m.grammar;
-      grammar = i.grammar ∙ m.grammar;
-      number = i.number ∙ m.number;
-      count = subst (λ k. AreStepped (layout_in whole (first old.stepper)) old.text (take k edits) (steps old.stepper) (steps new.stepper)) (sym count_is)
-          (stepped-more (layout_in whole) (first old.stepper) (first mid.stepper) old.text mid.text edits at _ _ _ few m.text m.grammar m.count (r, i.relexed, subst (λ (xs : List ℕ). steps new.stepper + (length (layout_in whole (first mid.stepper) xs).head - r.kept_front) ≡ steps mid.stepper + r.lexed) i.text i.count));
-    }
+    made_more {X} {r} {new} next i count_is front_is back_is = grind (arith, common_steps, edits-more, text-more, stepped-more)
 
     pub kept_more : {X : Type 0} {r : Relexed} {new : Held S} (next : Made) → AreKeptTo first whole old edits made mid → IsEdited {E = X} first year steps whole mid e.start e.stop e.insert.now (Ok r) new → next.count ≡ at + 1 → next.front ≡ min made.front r.kept_front → next.back ≡ min made.back r.kept_back
         → AreKeptTo first whole old edits next new
@@ -58,10 +37,6 @@ module _ {S : Type 0} {first : S → List ℕ → Token} {year steps : S → ℕ
       least = subst (λ k. AreLeast (layout_in whole (first old.stepper)) old.text (take k edits) (length old.tokens) (length old.tokens) next.front next.back) (sym count_is)
           (least-more (layout_in whole) (first old.stepper) r (first mid.stepper) old.text mid.text edits at _ _ made.front made.back _ _ few m.text m.grammar front_is back_is kept.least i.relexed);
     }
-
-    pub more : {X : Type 0} {r : Relexed} {new : Held S} (next : Made) → AreKeptTo first whole old edits made mid → IsEdited {E = X} first year steps whole mid e.start e.stop e.insert.now (Ok r) new → next.count ≡ at + 1 → next.front ≡ min made.front r.kept_front → next.back ≡ min made.back r.kept_back
-        → AreMadeTo first year steps whole old edits next new × AreKeptTo first whole old edits next new
-    more next kept i count_is front_is back_is = (made_more next i count_is front_is back_is, kept_more next kept i count_is front_is back_is)
 
     -- an edit that is refused keeps the tokens
     pub kept_refused : {X : Type 0} {x : X} {new : Held S} → AreKeptTo first whole old edits made mid → IsEdited {E = X} first year steps whole mid e.start e.stop e.insert.now (Err x) new → AreKeptTo first whole old edits made new
@@ -76,60 +51,10 @@ module _ {S : Type 0} {first : S → List ℕ → Token} {year steps : S → ℕ
 -- none is made yet
 pub made_none : {S : Type 0} {first : S → List ℕ → Token} {year steps : S → ℕ} {whole : Bool} {old : Held S} (edits : List Edit) (n : ℕ) → old.tokens ≡ tokens_in whole (first old.stepper) old.text
     → AreMadeTo first year steps whole old edits (record { count = 0; front = n; back = n }) old
-made_none {S} {first} {year} {steps} {whole} {old} edits n scratch = record {
-  few = omega arith;
-  accepted = tt;
-  text = refl;
-  from_scratch = scratch;
-  grammar = refl;
-  number = refl;
-  count = refl;
-}
+made_none {S} {first} {year} {steps} {whole} {old} edits n scratch = grind (arith, common_steps)
 
 pub kept_none : {S : Type 0} {first : S → List ℕ → Token} {whole : Bool} {old : Held S} (edits : List Edit) (n : ℕ) → n ≡ length old.tokens → AreKeptTo first whole old edits (record { count = 0; front = n; back = n }) old
-kept_none edits n all = record {
-  stay = record { front_inside = omega (arith, all); front_within = omega (arith, all); same_front = refl; back_inside = omega (arith, all); back_within = omega (arith, all); same_back = refl };
-  least = (all, all);
-}
-
--- ---- the edits of a list that are made in one pass
-
--- none more is made
-pub on_none : {S T : Type 0} {first : S → List ℕ → Token} {year steps : S → ℕ} {whole : Bool} {edits : List Edit} {made : Made} {mid : Held S} {x : T} → GoOn first year steps whole edits made mid (Ok x) made mid
-on_none = record { more = omega arith; made_to = λ old m. m; stop = tt; stopped = tt; kept_to = λ old m kept. kept }
-
-module _ {S T : Type 0} {first : S → List ℕ → Token} {year steps : S → ℕ} {whole : Bool} {edits : List Edit} {made0 made : Made} {mid0 mid : Held S} {x : T} (on : GoOn first year steps whole edits made0 mid0 (Ok x) made mid)
-    (few : made.count < length edits) {start stop : ℕ} (start_is : (get_or edits made.count none).start ≡ start) (stop_is : (get_or edits made.count none).stop ≡ stop) (is : IsEdit mid.text start stop (get_or edits made.count none).insert.now) where
-  abbrev one : Edit
-  one = get_or edits made.count none
-
-  is_one : IsEdit mid.text one.start one.stop one.insert.now
-  is_one = rw (start_is, stop_is) is
-
-  -- one more
-  pub on_more : {X : Type 0} {r : Relexed} {new : Held S} (next : Made) → IsEdited {E = X} first year steps whole mid start stop one.insert.now (Ok r) new → next.count ≡ made.count + 1 → next.front ≡ min made.front r.kept_front → next.back ≡ min made.back r.kept_back
-      → GoOn first year steps whole edits made0 mid0 (Ok x) next new
-  on_more {X} {r} {new} next i count front back =
-      let edited : IsEdited {E = X} first year steps whole mid one.start one.stop one.insert.now (Ok r) new = rw (start_is, stop_is) i in
-      record {
-        more = omega (arith, on.more, count);
-        made_to = λ old m. made_more (on.made_to old m) few is_one next edited count front back;
-        stop = tt;
-        stopped = tt;
-        kept_to = λ old m kept. kept_more (on.made_to old m) few is_one next (on.kept_to old m kept) edited count front back;
-      }
-
-  -- one that is refused
-  pub on_refused : {X : Type 0} {e : X} {new : Held S} → IsEdited {E = X} first year steps whole mid start stop one.insert.now (Err e) new → GoOn {T = T} first year steps whole edits made0 mid0 (Err (Memory made.count)) made new
-  on_refused {X} {e} {new} i =
-      let edited : IsEdited {E = X} first year steps whole mid one.start one.stop one.insert.now (Err e) new = rw (start_is, stop_is) i in
-      record {
-        more = on.more;
-        made_to = tt;
-        stop = refl;
-        stopped = λ old m. made_refused (on.made_to old m) few is_one edited;
-        kept_to = λ old m kept. kept_refused (on.made_to old m) few is_one (on.kept_to old m kept) edited;
-      }
+kept_none edits n all = grind (arith, common_steps)
 
 -- ---- what all edits of a list kept
 

@@ -1,4 +1,5 @@
 -- Relexing by many tokens at once, up to where the old ones may be met.
+use Rattle.std.proofs.lemmas.Grind.{common_steps}
 use Rattle.std.proofs.Common.{◌≡◌, ℕ, ◌+◌, ◌-◌, ◌<◌, ◌≤◌, Bool, true, false, true≢false, List, ◌++◌, length, take, drop, inl, inr, sym, ap, ◌∙◌, subst, arith, length-drop, drop-drop, append_assoc, eq-or-lt_of_le, IsCharBoundary, IsUtf8, suc, max}
 use Rattle.std.proofs.lemmas.Bool.{cases_lt}
 use Rattle.std.proofs.lemmas.List.{take-append-drop}
@@ -131,7 +132,4 @@ more_lexed new left items block at past count front lexed so left_is block_is =
 
 -- a buffer with room has some token of a text before an offset
 pub some_filled : {X : Type 0} (form : Token → X) (end : ℕ) (tokens : List Token) (buffer filled : List X) (count : ℕ) → IsFilledTo form end tokens buffer filled count → 0 < length buffer → 0 < end → 0 < count
-some_filled form end tokens buffer filled count is room some = elim (cases_lt 0 count) [
-  | inl more ↦ more
-  | inr none ↦ (let e : count ≡ 0 = omega (arith, none) in absurd (omega (arith, is.all (omega (arith, e, room)), ap (bound tokens) e, some)))
-]
+some_filled form end tokens buffer filled count is room some = grind (arith, common_steps, cases_lt)

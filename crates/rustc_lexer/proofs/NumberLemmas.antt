@@ -41,8 +41,7 @@ module _ (text tail : List ℕ) (is : IsUtf8 text) (at : tail ≡ past 1 text) w
 
   pub pick-hexadecimal : begins (98 ∷ []) (chars text) ≡ false → begins (111 ∷ []) (chars text) ≡ false → begins (120 ∷ []) (chars text) ≡ true → scanned part_past_zero text ≡ scanned hexadecimal tail
   pick-hexadecimal e f g =
-      scanned-no (begins (codes "b")) (after 1 binary) not_binary text e
-      ∙ (scanned-no (begins (codes "o")) (after 1 octal) not_octal text f ∙ (scanned-yes (begins (codes "x")) (after 1 hexadecimal) decimal text g ∙ scanned-after 1 hexadecimal text tail is at))
+      grind (arith, common_steps, scanned-no (begins (codes "b")) (after 1 binary) not_binary text e, scanned-no (begins (codes "o")) (after 1 octal) not_octal text f, scanned-yes (begins (codes "x")) (after 1 hexadecimal) decimal text g, scanned-after 1 hexadecimal text tail is at)
 
 -- U+0000, which the code sees at the end, goes with a fraction
 pub is_no_fraction-zero : is_no_fraction 0 ≡ false

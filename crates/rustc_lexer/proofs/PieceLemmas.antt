@@ -94,9 +94,7 @@ piece_at text token start long = record { start = start; token = token; text = t
 
 pieces-last : (text : List ℕ) (start : ℕ) (ts : List Token) (t : Token) → pieces_from text start (ts ++ t ∷ []) ≡ pieces_from text start ts ++ piece_at text t (start + bound ts (length ts)) t.len ∷ []
 pieces-last text start [] t = let e : start ≡ start + 0 = omega arith in ap (λ p. piece_at text t p t.len ∷ []) e
-pieces-last text start (u ∷ ts) t =
-    let e : start + u.len + bound ts (length ts) ≡ start + (u.len + bound ts (length ts)) = omega arith in
-    ap (λ ps. piece_at text u start u.len ∷ ps) (pieces-last text (start + u.len) ts t ∙ ap (λ p. pieces_from text (start + u.len) ts ++ piece_at text t p t.len ∷ []) e)
+pieces-last text start (u ∷ ts) t = grind (arith, common_steps, pieces-last text (start + u.len) ts t)
 
 pub last_piece : (text : List ℕ) (start end : ℕ) (all tokens : List Token) (t : Token) → all ≡ tokens ++ t ∷ [] → AreCut text start end all → pieces_from text start all ≡ pieces_from text start tokens ++ piece_at text t (end - t.len) (end - (end - t.len)) ∷ []
 last_piece text start end all tokens t e are =
@@ -115,11 +113,7 @@ piece_is (Some piece) text first offset tokens at rest is yields =
     (at, is, sym (take-take 1 n left (omega (arith, is.number))) ∙ ap (take 1) begin)
 
 pub piece_some : (piece : Option Piece) (text : List ℕ) (first offset : ℕ) (tokens : List Token) (at : Bound) (rest : List Placed) → ContainsByte first tokens offset at → YieldsPiece (pieces_from text at.offset (take (length tokens - at.number) (drop at.number tokens))) piece rest → IsSome piece
-piece_some (Some piece) text first offset tokens at rest is yields = refl
-piece_some None text first offset tokens at rest is yields =
-    let left : List Token = drop at.number tokens in
-    let long = length-take-le (length tokens - at.number) left (omega (arith, length-drop at.number tokens)) in
-    absurd (omega (arith, is.number, long, length-pieces text at.offset (take (length tokens - at.number) left), ap (λ (ps : List Placed). length ps) yields.0))
+piece_some piece text first offset tokens at rest w7 w8 = grind (arith, common_steps, length-take-le, length-drop, length-pieces)
 
 -- ---- where a token begins, from a bound before it on
 

@@ -3,16 +3,14 @@ use Rattle.std.proofs.Common.{◌≡◌, ℕ, zero, suc, ◌+◌, ◌-◌, ◌<�
 use Rattle.std.proofs.lemmas.Bool.{and_parts, cases_Bool}
 use Rattle.std.specs.List.{count_by}
 use Rattle.std.proofs.lemmas.Grind.{common_steps}
-use Rattle.rustc_lexer.specs.declared.relex.relexing.Relexed.{Relexed}
 use Rattle.rustc_lexer.specs.{Token}
 use Rattle.rustc_lexer.specs.Classes.{IsText}
-use Rattle.rustc_lexer.specs.Edits.{IsEdit, apply, ends_from, part_by}
+use Rattle.rustc_lexer.specs.Edits.{IsEdit, apply, ends_from}
 use Rattle.rustc_lexer.specs.Locality.{IsGrammar, has_two}
 use Rattle.rustc_lexer.specs.Tokens.{bound, tokens_by}
 use Rattle.rustc_lexer.specs.means.Relexing.{IsBodyMeeting, IsBodyRelexed, kept_front, least_from, meet, meets_at, relexed_of}
 use Rattle.rustc_lexer.proofs.BoundLemmas.{bound-last, ends_past-at, is_bound, is_bound-elim, is_bound-intro, least_from_ge, rises}
 use Rattle.rustc_lexer.proofs.EditLemmas.{IsEdited, edited, front-none, kept_front_by, kept_front_from, kept_same, start_inside}
-use Rattle.rustc_lexer.proofs.LayoutLemmas.{one_relexed, part_by_body}
 use Rattle.rustc_lexer.proofs.ReadyLemmas.{cuts}
 
 -- ---- the search for the first number that passes
@@ -144,11 +142,3 @@ module _ {first : List ℕ → Token} (law : IsGrammar first) (text : List ℕ) 
         meeting = subst (λ n. IsBodyMeeting old new stop new_stop n (count_by (ltb (bound new j - new_stop + stop)) (ends_from 0 old))) (sym here) meets;
         none_before = λ number back le less m. true≢false (sym (meeting-passes old new stop new_stop number m) ∙ least_from-none test (length new - kept) kept number le (omega arith));
       }
-
-  -- there is one answer
-  pub relexed_only : (r r' : Relexed) → IsBodyRelexed first text start stop insert r → IsBodyRelexed first text start stop insert r' → r ≡ r'
-  relexed_only r r' a b = one_relexed (part_by first) text start stop insert (rises law text is) r r' (part_by_body first text start stop insert r a) (part_by_body first text start stop insert r' b)
-
-  -- so it is what the search finds
-  pub relexed_found : (r : Relexed) → IsBodyRelexed first text start stop insert r → r ≡ relexed_of first text start stop insert
-  relexed_found r a = relexed_only r (relexed_of first text start stop insert) a relexed_is

@@ -1,4 +1,5 @@
 -- A byte and what follows it, looked for at the places of that byte.
+use Rattle.std.proofs.lemmas.Grind.{common_steps}
 use Rattle.std.proofs.Common.{◌≡◌, ℕ, zero, suc, ◌+◌, ◌-◌, ◌<◌, ◌≤◌, ◌==◌, Bool, true, false, List, [], ◌∷◌, ◌++◌, length, drop, get_or, refl, sym, ap, ◌∙◌, arith, Option, Some, None, length-drop, drop-drop}
 use Rattle.std.proofs.Math.Seq.{drop-cons, drop-length}
 use Rattle.std.proofs.lemmas.Bool.{eq-eqb, eqb-true, false_from_ne_true}
@@ -19,14 +20,13 @@ begins-front : (pattern rest : List ℕ) → begins pattern (pattern ++ rest) �
 begins-front [] rest = refl
 begins-front (c ∷ cs) rest = rw (eq-eqb c c refl, begins-front cs rest) refl
 
-starts-begins : (tail pattern : List ℕ) (answer : Bool) → answer ≡ starts_with (λ x y. x == y) tail pattern → answer ≡ begins pattern tail
+pub starts-begins : (tail pattern : List ℕ) (answer : Bool) → answer ≡ starts_with (λ x y. x == y) tail pattern → answer ≡ begins pattern tail
 starts-begins tail pattern answer is = by_either (begins pattern tail)
     (λ e. (starts_is Decides-eqb tail pattern answer is).1 _ (begins-whole pattern tail e) ∙ sym e)
     (λ e. false_from_ne_true answer (λ t. either-way (begins pattern tail) (ap (begins pattern) ((starts_is Decides-eqb tail pattern answer is).0 t) ∙ begins-front pattern _) e) ∙ sym e)
 
 more-one : (k : ℕ) (o : Option ℕ) → more k (one_more o) ≡ more (k + 1) o
-more-one k None = refl
-more-one k (Some n) = ap Some (omega arith)
+more-one k o = grind (arith, common_steps)
 
 -- the pattern stands nowhere below `from`
 pub record IsPast (pattern rest : List ℕ) (from : ℕ) : Type 0 where
@@ -45,27 +45,40 @@ module _ (d : ℕ) (ds : List ℕ) where
       (λ e. absurd (none 0 (omega arith) e))
       (λ e. offset-on (begins (d ∷ ds)) c s (rw e refl) ∙ (ap one_more (over s k (omega arith) (λ j l. none (suc j) (omega arith))) ∙ one_more-more k (first (d ∷ ds) (drop k s))))
 
+  -- past what is skipped, the first place of the byte
+  module _ (rest cut : List ℕ) (start : ℕ) (skipped : first (d ∷ ds) rest ≡ more start (first (d ∷ ds) (drop start rest))) (e : cut ≡ drop start rest) where
+    pub start_none : IsFirstByte (is_byte d) cut None → first (d ∷ ds) rest ≡ None
+    start_none none =
+        skipped ∙ (ap (λ (s : List ℕ). more start (first (d ∷ ds) s)) (sym e) ∙ ap (more start) (over cut (length cut) (omega arith) (λ j l. none j (omega arith) l) ∙ ap (λ (s : List ℕ). more (length cut) (first (d ∷ ds) s)) (drop-length cut)))
+
+    pub start_some : start ≤ length rest → (step : ℕ) → IsFirstByte (is_byte d) cut (Some step)
+        → (start + step < length rest) × (get_or rest (start + step) 0 ≡ d) × (first (d ∷ ds) rest ≡ more (start + step) (first (d ∷ ds) (drop (start + step) rest)))
+    start_some inside step here =
+        let h = here.0.high in (
+          omega (arith, ap length e, length-drop start rest),
+          sym (get_or-drop start rest step 0) ∙ (ap (λ (s : List ℕ). get_or s step 0) (sym e) ∙ eqb-true (get_or cut step 0) d here.1),
+          skipped
+              ∙ (ap (λ (s : List ℕ). more start (first (d ∷ ds) s)) (sym e) ∙ (ap (more start) (over cut step (omega arith) (λ j l. here.0.before j (omega arith) l))
+              ∙ (more-more start step (first (d ∷ ds) (drop step cut)) ∙ ap (λ (s : List ℕ). more (start + step) (first (d ∷ ds) s)) (ap (drop step) e ∙ drop-drop step start rest)))),
+        )
+
   module _ (rest cut : List ℕ) (from : ℕ) (at : IsPast (d ∷ ds) rest from) (e : cut ≡ drop from rest) where
     cut_left : first (d ∷ ds) rest ≡ more from (first (d ∷ ds) cut)
     cut_left = at.left ∙ ap (λ (s : List ℕ). more from (first (d ∷ ds) s)) (sym e)
 
-    pub past_end : IsFirstByte (is_byte d) cut None → None ≡ first (d ∷ ds) rest
-    past_end none = sym (cut_left ∙ ap (more from) (over cut (length cut) (omega arith) (λ j l. none j (omega arith) l) ∙ ap (λ (s : List ℕ). more (length cut) (first (d ∷ ds) s)) (drop-length cut)))
+    pub past_end : first (d ∷ ds) cut ≡ None → None ≡ first (d ∷ ds) rest
+    past_end none = sym (cut_left ∙ ap (more from) none)
 
     -- that byte stands `step` bytes on, and then `tail`
-    module _ (step : ℕ) (here : IsFirstByte (is_byte d) cut (Some step)) (tail : List ℕ) (behind : tail ≡ drop (from + step + 1) rest) where
+    module _ (step : ℕ) (here : (step < length cut) × (get_or cut step 0 ≡ d) × (first (d ∷ ds) cut ≡ more step (first (d ∷ ds) (drop step cut)))) (tail : List ℕ) (behind : tail ≡ drop (from + step + 1) rest) where
       inside : from + step < length rest
-      inside = let h = here.0.high in let i = at.inside in omega (arith, ap length e, length-drop from rest)
+      inside = let h = here.0 in let i = at.inside in omega (arith, ap length e, length-drop from rest)
 
       at_byte : drop step cut ≡ d ∷ tail
-      at_byte =
-          let byte : get_or rest (from + step) 0 ≡ d = sym (get_or-drop from rest step 0) ∙ (ap (λ (s : List ℕ). get_or s step 0) (sym e) ∙ eqb-true (get_or cut step 0) d here.1) in
-          let more_is : drop (suc (from + step)) rest ≡ tail = ap (λ (k : ℕ). drop k rest) (let same : suc (from + step) ≡ from + step + 1 = omega arith in same) ∙ sym behind in
-          ap (drop step) e ∙ (drop-drop step from rest ∙ (drop-cons rest (from + step) 0 inside ∙ (ap (λ (x : ℕ). x ∷ drop (suc (from + step)) rest) byte ∙ ap (λ (s : List ℕ). d ∷ s) more_is)))
+      at_byte = grind (arith, common_steps, get_or-drop, drop-drop, drop-cons, inside)
 
       so_far : first (d ∷ ds) rest ≡ more (from + step) (first (d ∷ ds) (d ∷ tail))
-      so_far =
-          cut_left ∙ (ap (more from) (over cut step (let h = here.0.high in omega arith) (λ j l. here.0.before j (omega arith) l) ∙ ap (λ (s : List ℕ). more step (first (d ∷ ds) s)) at_byte) ∙ more-more from step (first (d ∷ ds) (d ∷ tail)))
+      so_far = cut_left ∙ (ap (more from) (here.2 ∙ ap (λ (s : List ℕ). more step (first (d ∷ ds) s)) at_byte) ∙ more-more from step (first (d ∷ ds) (d ∷ tail)))
 
       module _ (answer : Bool) (is : answer ≡ starts_with (λ x y. x == y) tail ds) where
         stands : begins (d ∷ ds) (d ∷ tail) ≡ answer

@@ -1,5 +1,5 @@
 -- An edit of a whole document: the counts of its body give its own, and there are some.
-use Rattle.std.proofs.Common.{◌≡◌, inl, inr, ℕ, max, ◌+◌, ◌-◌, ◌<◌, ◌≤◌, Bool, true, false, true≢false, List, [], ◌∷◌, length, map, drop, refl, sym, ap, ap₂, ◌∙◌, subst, arith, drop-drop, IsCharBoundary, IsUtf8}
+use Rattle.std.proofs.Common.{◌≡◌, ℕ, max, ◌+◌, ◌-◌, ◌<◌, ◌≤◌, Bool, true, false, true≢false, List, [], ◌∷◌, length, map, drop, refl, sym, ap, ap₂, ◌∙◌, subst, arith, drop-drop, IsCharBoundary, IsUtf8}
 use Rattle.std.proofs.Math.Nat.{le-max_left, le-max_right, max-le}
 use Rattle.std.specs.List.{count_by}
 use Rattle.std.proofs.lemmas.Grind.{common_steps}
@@ -11,14 +11,13 @@ use Rattle.rustc_lexer.specs.Edits.{apply, body_in, ends_from, IsEdit, IsMeeting
 use Rattle.rustc_lexer.specs.Locality.{has_two, IsGrammar}
 use Rattle.rustc_lexer.specs.Relexing.{IsMadeOf}
 use Rattle.rustc_lexer.specs.Tokens.{bound, tokens_by}
-use Rattle.rustc_lexer.specs.means.Document.{body_change, body_insert, counted, head_of, HeadStays, IsCountedByHead, IsRelexedByHead}
-use Rattle.rustc_lexer.specs.means.Relexing.{IsBodyMeeting, IsBodyRelexed, kept_front, relexed_of}
+use Rattle.rustc_lexer.specs.means.Document.{body_change, body_insert}
+use Rattle.rustc_lexer.specs.means.Relexing.{IsBodyMeeting, IsBodyRelexed, kept_front}
 use Rattle.rustc_lexer.proofs.DocumentEditLemmas.{relexed-front}
 use Rattle.rustc_lexer.proofs.DocumentLemmas.{made_body}
-use Rattle.rustc_lexer.proofs.DocumentPage.{ahead, At, body_at, body_by, by_head, by_page, end_is, from_page, front_is, to_page}
+use Rattle.rustc_lexer.proofs.DocumentPage.{ahead, At, body_at, body_by, end_is}
 use Rattle.rustc_lexer.proofs.EditLemmas.{edited, kept_front_by, kept_front_from}
-use Rattle.rustc_lexer.proofs.LayoutLemmas.{keeps_head, meets, meets_behind, Decided}
-use Rattle.rustc_lexer.proofs.RelexedLemmas.{relexed_is}
+use Rattle.rustc_lexer.proofs.LayoutLemmas.{meets, meets_behind}
 
 -- ---- the front, by offsets of the text and of what follows an offset
 
@@ -142,60 +141,3 @@ module _ {first : List ℕ → Token} (law : IsGrammar first) (text insert : Lis
         meeting = meeting false here r x is_body (omega (arith, front, lexed)) (ap (λ (c : Relexed). c.kept_back) counts);
         none_before = λ number back near less m. none_before false here r x is_body (omega (arith, front, lexed)) (ap (λ (c : Relexed). c.kept_back) counts) number back (λ head. omega (arith, none)) less m;
       }
-
-  pub relexed_whole : {r : Relexed} → IsRelexedByHead head_of first text start stop insert r → IsRelexed (whole_by first) text start stop insert r
-  relexed_whole {r} by = by_case (keeps_head old new start)
-    where
-      by_case : Decided (KeepsHead old new start) → IsRelexed (whole_by first) text start stop insert r
-      by_case (inl k) = relexed_as true (λ e. k) (λ e. absurd (true≢false e)) r (by_page first text insert start stop is made_is true r (by.kept (from_page first text insert start stop is made_is k)))
-      by_case (inr none) = relexed_as false (λ e. absurd (true≢false (sym e))) (λ e. none) r (by_page first text insert start stop is made_is false r (by.changed (λ s. none (to_page first text insert start stop is made_is s))))
-
-  -- the tokens of a new head take no step
-  pub counted_whole : {before after : ℕ} {r : Relexed} → IsRelexedByHead head_of first text start stop insert r → IsCountedByHead head_of text start stop insert before after r.lexed → after + (length new.head - r.kept_front) ≡ before + r.lexed
-  counted_whole {before} {after} {r} by steps = by_case (keeps_head old new start)
-    where
-      by_case : Decided (KeepsHead old new start) → after + (length new.head - r.kept_front) ≡ before + r.lexed
-      by_case (inl k) =
-          let stays = from_page first text insert start stop is made_is k in
-          let x = by_page first text insert start stop is made_is true r (by.kept stays) in
-          omega (arith, steps.kept stays, ap (λ (c : Relexed). c.kept_front) x.2, ap (λ (ts : List Token). length ts) k.2)
-      by_case (inr none) =
-          let gone : HeadStays head_of text start stop insert → ⊥ = λ s. none (to_page first text insert start stop is made_is s) in
-          let x = by_page first text insert start stop is made_is false r (by.changed gone) in
-          omega (arith, steps.changed gone, ap (λ (c : Relexed). c.kept_front) x.2, relexed-front x.1, ap (λ (ts : List Token). length ts) (front_is made made_is))
-
-  -- there are counts, and so many steps
-  abbrev of_body : Bool → Relexed
-  of_body kept = relexed_of first (drop from text) (change kept).start (change kept).old_stop (put kept)
-
-  abbrev of_all : Bool → Relexed
-  of_all kept = counted kept (length (head_tokens text)) (length (head_tokens made)) (of_body kept)
-
-  counts_are : (kept : Bool) → Ahead kept → At first text insert start stop is made_is kept from to (head_tokens text) (head_tokens made) (of_all kept)
-  counts_are kept same = grind (arith, common_steps, relexed_is, (body_made kept same).edit_of)
-
-  pub some_steps : (before : ℕ) → (r : Relexed) × (after : ℕ) × IsRelexedByHead head_of first text start stop insert r × IsCountedByHead head_of text start stop insert before after r.lexed
-  some_steps before = by_case (keeps_head old new start)
-    where
-      by_case : Decided (KeepsHead old new start) → (r : Relexed) × (after : ℕ) × IsRelexedByHead head_of first text start stop insert r × IsCountedByHead head_of text start stop insert before after r.lexed
-      by_case (inl k) =
-          let stays = from_page first text insert start stop is made_is k in
-          let ends : from ≡ to = same_end k in (
-            of_all true,
-            before + (of_all true).lexed,
-            record {
-              kept = λ s. by_head first text insert start stop is made_is true (of_all true) (counts_are true (λ e. (ends, omega (arith, body_at first text, k.0))));
-              changed = λ none. absurd (none stays);
-            },
-            record { kept = λ s. refl; changed = λ none. absurd (none stays) },
-          )
-      by_case (inr none) =
-          let gone : HeadStays head_of text start stop insert → ⊥ = λ s. none (to_page first text insert start stop is made_is s) in (
-            of_all false,
-            before + (of_body false).lexed,
-            record {
-              kept = λ s. absurd (gone s);
-              changed = λ not. by_head first text insert start stop is made_is false (of_all false) (counts_are false (λ e. absurd (true≢false (sym e))));
-            },
-            record { kept = λ s. absurd (gone s); changed = λ not. omega (arith, ap (λ (ts : List Token). length ts) (front_is made made_is)) },
-          )

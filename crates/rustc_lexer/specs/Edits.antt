@@ -93,6 +93,10 @@ count_after r = r.kept_front + r.lexed + r.kept_back
 abbrev pub all_stay : ℕ → Relexed
 all_stay n = record { kept_front = n; lexed = 0; kept_back = 0 }
 
+-- the counts where all of so many tokens are new
+abbrev pub none_stays : ℕ → Relexed
+none_stays n = record { kept_front = 0; lexed = n; kept_back = 0 }
+
 -- ---- another text
 
 -- the edit is valid for the old text, and makes the new one of it
@@ -181,3 +185,44 @@ IsStopStepped (Memory at) layout text edits before after =
     × AreStepped layout text (take (at + 1) edits) before most × (after ≤ most)
 IsStopStepped s layout text edits before after =
     AreStepped layout text (take (stop_at s) edits) before after
+
+-- ---- edits that are made at once, all in offsets of the same text
+
+-- each has a range inside the text, between characters, and begins where the one before it ends, or
+-- later; the first at `from`, or later
+abbrev pub AreInOrder : List ℕ → ℕ → List Edit → Type 0
+AreInOrder text from [] = Unit {0}
+AreInOrder text from (e ∷ es) =
+    (from ≤ e.start) × IsInside text e.start e.stop × AreInOrder text e.stop es
+
+-- where the first of them begins, and where the last one ends
+abbrev pub start_of_first : List Edit → ℕ
+start_of_first [] = 0
+start_of_first (e ∷ es) = e.start
+
+abbrev pub stop_of_last : ℕ → List Edit → ℕ
+stop_of_last from [] = from
+stop_of_last from (e ∷ es) = stop_of_last e.stop es
+
+-- what becomes of the text from `from` up to there: the parts between the edits, and what they
+-- insert, in order
+abbrev pub with_all : List ℕ → ℕ → List Edit → List ℕ
+with_all text from [] = []
+with_all text from (e ∷ es) =
+    take (e.start - from) (drop from text) ++ (e.insert.now ++ with_all text e.stop es)
+
+-- they can be made at once: they are in order, and the one edit that they are is valid
+abbrev pub AreAtOnce : List ℕ → List Edit → Type 0
+AreAtOnce text edits =
+    AreInOrder text 0 edits × IsEdit text (start_of_first edits) (stop_of_last 0 edits)
+    (with_all text (start_of_first edits) edits)
+
+-- why none of them is made: the first that is not in order; or else the last, since the text would
+-- be too long, or an allocation failed
+abbrev pub IsStopAtOnce : EditStop → List ℕ → List Edit → Type 0
+IsStopAtOnce (Range at) text edits =
+    (at < length edits) × AreInOrder text 0 (take at edits)
+    × (AreInOrder text 0 (take (at + 1) edits) → ⊥)
+IsStopAtOnce (TooLong at) text edits =
+    (at + 1 ≡ length edits) × AreInOrder text 0 edits × (AreAtOnce text edits → ⊥)
+IsStopAtOnce (Memory at) text edits = (at + 1 ≡ length edits) × AreAtOnce text edits

@@ -7,7 +7,6 @@ pub mod Document
 pub mod Edits
 pub mod FrontmatterGrammar
 pub mod GrammarLaws
-pub mod Growing
 pub mod Joined
 pub mod Kept
 pub mod Kinds

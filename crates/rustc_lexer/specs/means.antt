@@ -8,7 +8,6 @@ pub mod Edition
 pub mod Emoji
 pub mod Ends
 pub mod Frontmatter
-pub mod Gap
 pub mod Guarded
 pub mod Hash
 pub mod Ident

@@ -20,9 +20,10 @@ mod guarded;
 /// Its state is the text that is left, the number of bytes taken since the last token, and whether a frontmatter
 /// may come in front. The bytes taken since the last token are pending: they are part of the next token.
 ///
-/// A loop takes tokens until it has the one that it looks for. Here that is the first one that is not a comment:
+/// A loop takes tokens until it has the one that it looks for.
 ///
 /// ```ignore
+/// // It looks for the first one that is not a comment.
 /// let mut cursor = Cursor::new(text, FrontmatterAllowed::No);
 /// loop {
 ///     let rest = cursor.as_str();

@@ -20,7 +20,18 @@ use std::error::Error;
 use std::fmt;
 use std::str::FromStr;
 
-/// An edition of Rust. Editions are ordered by their years.
+/// An edition of Rust: the version of the language that a text is written in. Editions are ordered by their years.
+///
+/// They differ in a few tokens, like `#"` and `'a#`. One difference is left to a compiler: in each edition `c"`, `cr"`,
+/// `cr#` and `k#` begin one token, where a compiler reads an identifier before 2021.
+///
+/// ```
+/// use rustc_lexer::Edition;
+///
+/// assert_eq!("2021".parse(), Ok(Edition::E2021));
+/// assert_eq!(Edition::try_from(2018), Ok(Edition::E2018));
+/// assert_eq!(Edition::ALL[0].year(), 2015);
+/// ```
 #[derive(Clone, Copy, Debug, PartialEq, Eq, PartialOrd, Ord)]
 pub enum Edition {
     /// Rust 2015.

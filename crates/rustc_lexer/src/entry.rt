@@ -32,9 +32,10 @@ pub use stepper::{Stepper, Steps};
 /// `FrontmatterAllowed::No`, the text from the end of any token has the remaining tokens, so a slice of a document
 /// that begins there can be lexed by itself.
 ///
-/// A loop can slice the text by these lengths. Here it looks for a word among the identifiers and keywords:
+/// A loop can slice the text by these lengths.
 ///
 /// ```ignore
+/// // It looks for a word among the identifiers and keywords.
 /// let mut start = 0;
 /// for token in tokenize(text, FrontmatterAllowed::No) {
 ///     let end = start + token.len as usize;

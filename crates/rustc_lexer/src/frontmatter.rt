@@ -1,18 +1,21 @@
 //! Frontmatter: a block between two fences of dashes, which may come before the first token.
-ghost use Rattle.std.specs.Prelude.{◌≡◌, ℕ, ◌+◌, ◌-◌, ◌≤◌, ◌<◌, ◌==◌, ◌&&◌, true, false, length, nat_lt, slice_index, take, drop, codes, MatchOption, IfSome, ◌∷◌};
+ghost use Rattle.std.specs.Prelude.{◌≡◌, ℕ, ◌+◌, ◌-◌, ◌≤◌, ◌<◌, ◌==◌, ◌&&◌, true, false, length, nat_lt, slice_index, take, drop, codes, MatchOption, IfSome, None, ◌∷◌};
 ghost use Rattle.std.specs.Str.{chars, IsCharBoundary};
 ghost use Rattle.memchr.specs.Find.{IsFirstByte, is_byte};
+ghost use Rattle.rustc_lexer.specs.{Edition};
 ghost use Rattle.rustc_lexer.specs.Classes;
 ghost use Rattle.rustc_lexer.specs.Classes.{Fits, begins, is_among, next_is};
 ghost use Rattle.rustc_lexer.specs.FrontmatterGrammar.{fence};
 ghost use Rattle.rustc_lexer.specs.LanguageText.{document, mode_in};
+ghost use Rattle.rustc_lexer.specs.means.Edition.{first_token_in};
 ghost use Rattle.rustc_lexer.specs.means.Frontmatter as spec;
+ghost use Rattle.rustc_lexer.specs.means.Least as least;
 ghost use Rattle.rustc_lexer.specs.means.Scan.{past, run_len};
 ghost use Rattle.rustc_lexer.specs.means.Taking as state;
 
 use crate::classes::{is_horizontal_whitespace, is_id_continue, is_id_start, is_whitespace};
 use crate::edition::{Edition, token_in};
-use crate::kernels::{ByteClass, Space};
+use crate::kernels::skip_apart;
 use crate::scan::{eat_while, eat_whitespace, next_is, split_first};
 use crate::token::{FrontmatterAllowed, Token, TokenKind};
 use memchr::memchr;
@@ -31,44 +34,36 @@ pub(crate) fn token_at(text: &str, allowed: FrontmatterAllowed, edition: Edition
     match allowed {
         FrontmatterAllowed::No => token_in(text, edition),
         FrontmatterAllowed::Yes => {
-            if may_open(text) {
-                frontmatter_or_token(text, edition)
+            let token = token_in(text, edition);
+            if may_open(text, token) {
+                frontmatter(text).unwrap_or(token)
             } else {
-                token_in(text, edition)
+                token
             }
         }
     }
 }
 
-/// Returns whether a frontmatter may be at the front of the text, as its first byte determines.
+/// Returns whether a frontmatter may be at the front of the text, as the token determines that is there otherwise: white
+/// space before three dashes, or the first of them.
 #[inline(always)]
-#[tactic(auto, using(crate::proofs::FrontmatterLemmas::opens_not, std::proofs::lemmas::Grind::common_steps))]
-fn may_open(text: &str) -> bool
-    ensures { result ≡ false → spec.opens (chars text.now) ≡ false }
+fn may_open(text: &str, token: Token) -> bool
+    requires { token.len ≤ length text.now }
+    ensures { (edition : Edition) → token ≡ first_token_in edition text.now → result ≡ false
+        → spec.opens (chars text.now) ≡ false }
 {
-    match text.as_bytes().first() {
-        Some(byte) => *byte == b'-' || *byte >= 128 || Space::has(*byte),
-        None => false,
-    }
-}
-
-/// Returns the first token of a text in an edition, where a frontmatter is allowed. The text is not empty.
-#[inline(never)]
-fn frontmatter_or_token(text: &str, edition: Edition) -> Token
-    requires not_empty { 0 < length text.now }
-    requires fits { Fits text.now }
-    ensures token { result ≡ state.token_at (document edition) text.now }
-    ensures boundary { IsCharBoundary text.now result.len }
-{
-    match frontmatter(text) {
-        Some(token) => token,
-        None => token_in(text, edition),
-    }
+    let start = match token.kind {
+        TokenKind::Whitespace => token.len as usize,
+        TokenKind::Minus => 0,
+        _ => return false,
+    };
+    text.as_bytes()[start..].starts_with(b"---")
 }
 
 /// Returns the frontmatter at the front of the text, or `None` if none opens there.
 ///
 /// White space before its dashes is part of it, unless the last character of that white space is a newline.
+#[inline(never)]
 pub(crate) fn frontmatter(text: &str) -> Option<Token>
     requires fits { Fits text.now }
     ensures { MatchOption result (spec.opens (chars text.now) ≡ false)
@@ -207,7 +202,7 @@ fn find_pattern(rest: &[u8], first: u8, more: &[u8]) -> Option<usize>
     ensures inside { IfSome result (λ offset. offset + 1 + length more.now ≤ length rest.now) }
 {
     let mut from = 0;
-    'places: while let Some(step) = find_byte(first, &rest[from..]) {
+    'places: while let Some(step) = find_start(first, more, &rest[from..]) {
         let past = from + step + 1;
         if rest[past..].starts_with(more) {
             return Some(past - 1);
@@ -217,7 +212,33 @@ fn find_pattern(rest: &[u8], first: u8, more: &[u8]) -> Option<usize>
     None
 }
 
-/// Returns the first place of a byte. In a row of empty lines it is the next byte, and no search begins.
+/// Returns a place of the pattern's first byte up to which the pattern stands nowhere, or `None` if it stands nowhere.
+fn find_start(first: u8, more: &[u8], rest: &[u8]) -> Option<usize>
+    ensures { MatchOption result (spec.first (first ∷ more.now) rest.now ≡ None)
+        (λ place. (place < length rest.now) × (slice_index rest.now place ≡ first)
+        × (spec.first (first ∷ more.now) rest.now
+        ≡ least.more place (spec.first (first ∷ more.now) (drop place rest.now)))) }
+{
+    let start = skip_front(first, more, rest);
+    match find_byte(first, &rest[start..]) {
+        Some(step) => Some(start + step),
+        None => None,
+    }
+}
+
+/// Returns a number of bytes at the front in which the pattern begins nowhere, as its first two bytes tell.
+fn skip_front(first: u8, more: &[u8], rest: &[u8]) -> usize
+    ensures left { spec.first (first ∷ more.now) rest.now
+        ≡ least.more result (spec.first (first ∷ more.now) (drop result rest.now)) }
+    ensures inside { result ≤ length rest.now }
+{
+    match more.first() {
+        Some(second) => skip_apart(first, *second, rest),
+        None => 0,
+    }
+}
+
+/// Returns the first place of a byte. Mostly it is the next byte, and no search begins.
 #[inline]
 fn find_byte(byte: u8, rest: &[u8]) -> Option<usize>
     ensures { IsFirstByte (is_byte byte) rest.now result }

@@ -1,6 +1,6 @@
 //! Searches over bytes that look at 16 or 64 bytes at a time: where a run ends, and where a byte is.
 ghost use Rattle.memchr.specs.Find.{IsFirstByte, is_byte, is_byte2};
-ghost use Rattle.std.specs.Prelude.{◌≡◌, ◌≤◌, ◌<◌, ◌&&◌, ◌||◌, ◌==◌, ℕ, suc, Bool, true, false, drop, length, map, not, slice_index, take};
+ghost use Rattle.std.specs.Prelude.{◌≡◌, ◌^◌, ◌≤◌, ◌<◌, ◌&&◌, ◌||◌, ◌==◌, ℕ, suc, Bool, true, false, drop, length, map, not, slice_index, take};
 ghost use Rattle.std.specs.List.{prefix_len};
 ghost use Rattle.std.specs.Simd.Lanes.{mask_l};
 ghost use Rattle.std.proofs.Common.{arith};
@@ -239,6 +239,37 @@ pub(crate) fn find_either(one: u8, two: u8, bytes: &[u8]) -> Option<usize>
         }
     }
     memchr2(one, two, bytes)
+}
+
+/// Returns a mask of the first 16 bytes. Bit k is set if byte k is the one that is looked for.
+#[inline(always)]
+fn places(byte: u8, bytes: &[u8]) -> u64
+    requires { 16 ≤ length bytes.now }
+    ensures few { result < 2 ^ 16 }
+    ensures at { (k : ℕ) → k < 16 → bit result k ≡ is_byte byte (slice_index bytes.now k) }
+{
+    u8x16::from_slice(bytes)
+        .simd_eq(u8x16::splat(byte))
+        .to_bitmask()
+}
+
+/// Returns a number of bytes at the front among which the two do not stand together. It looks at 16 places at a time, and
+/// stops at such a pair, or where fewer are left.
+pub(crate) fn skip_apart(one: u8, two: u8, bytes: &[u8]) -> usize
+    ensures apart { (k : ℕ) → k < result
+        → (is_byte one (slice_index bytes.now k) && is_byte two (slice_index bytes.now (suc k)))
+        ≡ false }
+    ensures inside { result ≤ length bytes.now }
+{
+    let mut end = 0;
+    'looks: while bytes.len() - end > 16 {
+        let pairs = places(one, &bytes[end..]) & places(two, &bytes[end + 1..]);
+        if pairs != 0 {
+            return end + pairs.trailing_zeros() as usize;
+        }
+        end += 16;
+    }
+    end
 }
 
 /// Returns whether a word that ends at `end` is an identifier, as the byte after it determines.

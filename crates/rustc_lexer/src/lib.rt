@@ -13,7 +13,8 @@ mod frontmatter;
 mod kernels;
 mod lexemes;
 mod raw_check;
-mod relex;
+// What is by hand in plain Rust names `relex::head`.
+pub(crate) mod relex;
 mod scan;
 mod shebang;
 mod token;

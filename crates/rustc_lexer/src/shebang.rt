@@ -61,7 +61,7 @@ fn is_attribute(tail: &str) -> bool
 }
 
 /// Returns whether a token of this kind may come between `#!` and the bracket of an attribute.
-pub(crate) fn is_passed(kind: TokenKind) -> bool
+fn is_passed(kind: TokenKind) -> bool
     ensures { result ≡ spec.is_passed kind }
 {
     match kind {

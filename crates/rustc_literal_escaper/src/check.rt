@@ -27,6 +27,14 @@ use std::ops::Range;
 ///
 /// `src` is the text between the quotes, and `mode` is the kind of the literal. The calls come in the order of the
 /// text. Between single quotes there is at most one, and its place begins at 0.
+///
+/// ```
+/// use rustc_literal_escaper::{EscapeError, Mode, check_for_errors};
+///
+/// let mut faults = Vec::new();
+/// check_for_errors(r"a\q", Mode::Str, |range, error| faults.push((range, error)));
+/// assert_eq!(faults, [(1..3, EscapeError::InvalidEscape)]);
+/// ```
 #[inline]
 pub fn check_for_errors<F: FnMut(Range<usize>, EscapeError)>(
     src: &str,

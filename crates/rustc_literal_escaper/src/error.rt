@@ -7,6 +7,14 @@ use std::error::Error;
 use std::fmt;
 
 /// An error in a literal, or a warning about it. Its `Display` writes a sentence about it.
+///
+/// ```
+/// use rustc_literal_escaper::EscapeError;
+///
+/// let error = EscapeError::LoneSlash;
+/// assert!(error.is_fatal() && !EscapeError::UnskippedWhitespaceWarning.is_fatal());
+/// assert_eq!(error.to_string(), "nothing follows this backslash, which begins an escape");
+/// ```
 #[derive(Clone, Copy, Debug, PartialEq, Eq)]
 pub enum EscapeError {
     /// A character or byte literal with nothing in it: `''`.

@@ -15,7 +15,7 @@ use std::ops::Range;
 /// An iterator over the errors and warnings of a literal, each with its place in bytes.
 ///
 /// It returns the items with which [`check_for_errors`](crate::check_for_errors) calls its callback, in the same
-/// order:
+/// order.
 ///
 /// ```ignore
 /// for (place, error) in Faults::new(r"a\q", Mode::Str) {

@@ -2,7 +2,14 @@
 ghost use Rattle.std.specs.Prelude.{◌≡◌, not};
 ghost use Rattle.rustc_literal_escaper.specs.Meaning.{is_single, prefix_of};
 
-/// The kind of a literal.
+/// The kind of a literal, by its quotes and its prefix. It says how the text between the quotes is read.
+///
+/// ```
+/// use rustc_literal_escaper::Mode;
+///
+/// assert_eq!(Mode::RawByteStr.prefix_noraw(), "b");
+/// assert!(Mode::CStr.in_double_quotes() && !Mode::Byte.in_double_quotes());
+/// ```
 ///
 /// Rust Reference, [Literals](https://doc.rust-lang.org/reference/tokens.html#literals).
 #[derive(Clone, Copy, Debug, PartialEq, Eq)]

@@ -10,8 +10,9 @@ use rattle_std::process::ExitCode;
 fn main() -> ExitCode {
     let rt = rattle_std::rt::start();
     let start = Start {
-        args: env::args(&rt).ok(),
+        args: env::args(&rt).map_err(|error| error.kind()),
         no_color: env::var(&rt, "NO_COLOR"),
+        term: env::var(&rt, "TERM"),
         is_terminal: rt.stdout().is_terminal(),
     };
     let mut input = Watched::new(rt.stdin());

@@ -14,6 +14,8 @@ pub enum Job {
     Show { style: Style, edition: Edition },
     /// Print the usage.
     Help,
+    /// Print the version.
+    Version,
 }
 
 /// When to write colours.
@@ -40,44 +42,80 @@ const NO_OPTIONS: Options = Options {
     color: None,
 };
 
-/// Returns the job that the arguments after the program's name ask for, or `None` if they are not
-/// valid. Without `--edition` the edition is the newest one. `colours` says whether to write
-/// colours if no argument says so.
-pub fn read_job(words: &[String], colours: bool) -> Option<Job> {
-    if is_help(words) {
-        return Some(Job::Help);
+/// Returns the job that the arguments after the program's name ask for. Without `--edition` the
+/// edition is the newest one. `colours` says whether to write colours if no argument says so.
+///
+/// # Errors
+///
+/// The word that is refused: it is no option, no value of the option before it, an option that was
+/// given already, or one without its value.
+pub fn read_job(words: &[String], colours: bool) -> Result<Job, &str> {
+    if let Some(job) = read_alone(words) {
+        return Ok(job);
     }
     let options = read_options(NO_OPTIONS, words)?;
-    Some(Job::Show {
+    Ok(Job::Show {
         style: style_of(options, colours),
         edition: options.edition.unwrap_or(Edition::NEWEST),
     })
 }
 
-/// Returns whether the only argument is `--help`.
-fn is_help(words: &[String]) -> bool {
-    matches!(words, [word] if word.as_str() == "--help")
+/// Returns the job that the only argument asks for, if it is one that stands alone.
+fn read_alone(words: &[String]) -> Option<Job> {
+    let [word] = words else {
+        return None;
+    };
+    let word = word.as_str();
+    if word == "--help" || word == "-h" {
+        Some(Job::Help)
+    } else if word == "--version" || word == "-V" {
+        Some(Job::Version)
+    } else {
+        None
+    }
 }
 
 /// Adds the options of the arguments to `options`, in any order, each at most once. So it calls
 /// itself at most three times.
-fn read_options(options: Options, words: &[String]) -> Option<Options> {
-    match words {
-        [] => Some(options),
-        [word, rest @ ..] if word.as_str() == "--html" => read_options(page(options)?, rest),
-        [name, value, rest @ ..] => {
-            read_options(with_value(options, name.as_str(), value.as_str())?, rest)
-        }
-        _ => None,
+fn read_options(options: Options, words: &[String]) -> Result<Options, &str> {
+    let [word, rest @ ..] = words else {
+        return Ok(options);
+    };
+    let word = word.as_str();
+    if let Some(added) = with_word(options, word) {
+        return read_options(added.ok_or(word)?, rest);
+    }
+    let [value, rest @ ..] = rest else {
+        return Err(word);
+    };
+    read_options(with_value(options, word, value.as_str())?, rest)
+}
+
+/// Adds the option that one word writes. Returns `None` if its value is another word, and
+/// `Some(None)` if the option is there already.
+fn with_word(options: Options, word: &str) -> Option<Option<Options>> {
+    if word == "--html" {
+        Some(page(options))
+    } else if word == "--color=auto" {
+        Some(with_colours(options, When::Auto))
+    } else if word == "--color=always" {
+        Some(with_colours(options, When::Always))
+    } else if word == "--color=never" {
+        Some(with_colours(options, When::Never))
+    } else {
+        None
     }
 }
 
-/// Adds the option that a name and a value write.
-fn with_value(options: Options, name: &str, value: &str) -> Option<Options> {
+/// Adds the option that a name and a value write. An error is the one that is refused.
+fn with_value<'a>(options: Options, name: &'a str, value: &'a str) -> Result<Options, &'a str> {
     match name {
-        "--edition" => in_edition(options, Edition::from_str(value).ok()?),
-        "--color" => with_colours(options, read_when(value)?),
-        _ => None,
+        "--edition" => {
+            let edition = Edition::from_str(value).ok().ok_or(value)?;
+            in_edition(options, edition).ok_or(name)
+        }
+        "--color" => with_colours(options, read_when(value).ok_or(value)?).ok_or(name),
+        _ => Err(name),
     }
 }
 

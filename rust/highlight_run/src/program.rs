@@ -4,29 +4,36 @@ use rattle_std::prelude::String;
 
 use crate::job::{Job, read_job};
 use crate::run::run;
-use ends::{Fault, Watched, given_words, put, report};
+use ends::{Fault, Watched, past_name, put, report};
 use rattle_std::alloc::Global;
 use rattle_std::env::{Args, VarError};
-use rattle_std::io::{Read, Write};
+use rattle_std::io::{ErrorKind, Read, Write};
 
 /// The usage.
 const HELP: &str = "highlight < FILE           writes a Rust source in the colours of a terminal
 highlight --html < FILE    writes it as a page
-highlight --help           writes these lines
+highlight --help, -h       writes these lines
+highlight --version, -V    writes the version
 With --edition YEAR the source is read as Rust of 2015, 2018, 2021 or 2024.
 With --color always there are colours, with --color never there are none, and with --color auto there are colours
-where the output is a terminal and NO_COLOR is not set, or empty. That is so too where --color is not given.
+where the output is a terminal, NO_COLOR is not set, or empty, and TERM is not dumb. That is so too where --color is
+not given. --color=never and its like are taken, too.
 Options stand in any order, each once. A page has its own colours, whatever --color says.
 A token with a fault is underlined in its first line, with a sentence behind it that says what is wrong.
 ";
 
+/// The version, which is that of the package for Cargo.
+const VERSION: &str = "highlight 0.1.0\n";
+
 /// What the system gives to a process.
 pub struct Start {
-    /// The arguments, of which the first is the program's name, or `None` if the system did not
-    /// give them.
-    pub args: Option<Args>,
+    /// The arguments, of which the first is the program's name, or why the system did not give
+    /// them: `ErrorKind::InvalidData` if one is not UTF-8.
+    pub args: Result<Args, ErrorKind>,
     /// The value of `NO_COLOR`.
     pub no_color: Result<String, VarError>,
+    /// The value of `TERM`.
+    pub term: Result<String, VarError>,
     /// Whether the output is a terminal.
     pub is_terminal: bool,
 }
@@ -40,39 +47,85 @@ pub fn program<R: Read, W: Write, E: Write>(
     output: &mut Watched<W>,
     errors: &mut Watched<E>,
 ) -> u8 {
-    let outcome = show(alloc, start, input, output);
+    let mut refusal = String::new(alloc);
+    let outcome = show(alloc, start, input, output, &mut refusal);
     report(
         "highlight: ",
-        "unknown words; --help tells what it takes",
+        refusal.as_str(),
         &outcome,
         output.closed(),
         errors,
     )
 }
 
-/// Reads the arguments and does what they ask for.
+/// Reads the arguments and does what they ask for. If they are refused, `refusal` says why.
 fn show<R: Read, W: Write>(
     alloc: Global,
     start: Start,
     input: &mut Watched<R>,
     output: &mut Watched<W>,
+    refusal: &mut String,
 ) -> Result<(), Fault> {
-    let words = given_words(alloc, start.args)?;
-    let colours = wants_colours(&start.no_color, start.is_terminal).ok_or(Fault::Memory)?;
+    let Start {
+        args,
+        no_color,
+        term,
+        is_terminal,
+    } = start;
+    let colours = wants_colours(&no_color, &term, is_terminal).ok_or(Fault::Memory)?;
+    let words = match args {
+        Ok(args) => past_name(alloc, args)?,
+        Err(ErrorKind::InvalidData) => {
+            refusal.push_str("an argument is not UTF-8")?;
+            return Err(Fault::Arguments);
+        }
+        Err(_) => return Err(Fault::Memory),
+    };
     match read_job(words.as_slice(), colours) {
-        Some(Job::Show { style, edition }) => run(alloc, style, edition, input, output),
-        Some(Job::Help) => put(output, HELP),
-        None => Err(Fault::Arguments),
+        Ok(Job::Show { style, edition }) => run(alloc, style, edition, input, output),
+        Ok(Job::Help) => put(output, HELP),
+        Ok(Job::Version) => put(output, VERSION),
+        Err(word) => {
+            refusal.push_str("cannot take '")?;
+            refusal.push_str(word)?;
+            refusal.push_str(TAKEN)?;
+            Err(Fault::Arguments)
+        }
     }
 }
 
-/// Returns whether to write colours if no argument says so, by the value of `NO_COLOR`. `None`
-/// means that memory for that value was refused.
-fn wants_colours(no_color: &Result<String, VarError>, is_terminal: bool) -> Option<bool> {
+/// What is said behind a word that is refused.
+const TAKEN: &str = "'; it takes a source on standard input, --html, --edition 2015, 2018, 2021 or 2024, \
+    --color auto, always or never, --help, --version";
+
+/// Returns whether to write colours if no argument says so, by the values of `NO_COLOR` and `TERM`.
+/// `None` means that memory for a value was refused.
+fn wants_colours(
+    no_color: &Result<String, VarError>,
+    term: &Result<String, VarError>,
+    is_terminal: bool,
+) -> Option<bool> {
+    let is_dumb = is_dumb(term)?;
+    Some(is_unset(no_color)? && !is_dumb && is_terminal)
+}
+
+/// Returns whether `NO_COLOR` has no value, or an empty one. `None` means that memory for it was
+/// refused.
+fn is_unset(no_color: &Result<String, VarError>) -> Option<bool> {
     match no_color {
-        Ok(value) => Some(value.as_str().is_empty() && is_terminal),
-        Err(VarError::NotPresent) => Some(is_terminal),
+        Ok(value) => Some(value.as_str().is_empty()),
+        Err(VarError::NotPresent) => Some(true),
         Err(VarError::NotUnicode) => Some(false),
+        Err(VarError::OutOfMemory) => None,
+    }
+}
+
+/// Returns whether `TERM` names a terminal without colours. `None` means that memory for it was
+/// refused.
+fn is_dumb(term: &Result<String, VarError>) -> Option<bool> {
+    match term {
+        Ok(value) => Some(value.as_str() == "dumb"),
+        Err(VarError::NotPresent | VarError::NotUnicode) => Some(false),
         Err(VarError::OutOfMemory) => None,
     }
 }

@@ -10,12 +10,13 @@ use highlight_run::{Job, read_job};
 use marks::Style::{self, Colours, Html, NoColours};
 use rattle_std::alloc::Global;
 use rattle_std::env::VarError::{self, NotPresent, NotUnicode, OutOfMemory};
+use rattle_std::io::ErrorKind;
 use rattle_std::prelude::String;
 use rustc_lexer::Edition::{self, E2015, E2018, E2021, E2024};
 
 /// Arguments with bars between them, whether the output is a terminal that takes colours, and the style and the edition
 /// that they ask for.
-const SHOWN: [(&str, bool, Style, Edition); 18] = [
+const SHOWN: [(&str, bool, Style, Edition); 22] = [
     ("", true, Colours, E2024),
     ("", false, NoColours, E2024),
     ("--html", false, Html, E2024),
@@ -34,39 +35,74 @@ const SHOWN: [(&str, bool, Style, Edition); 18] = [
     ("--edition|2021|--html", true, Html, E2021),
     ("--html|--edition|2024", false, Html, E2024),
     ("--html|--color|never|--edition|2015", true, Html, E2015),
+    ("--color=always", false, Colours, E2024),
+    ("--color=never|--edition|2018", true, NoColours, E2018),
+    ("--edition|2021|--color=auto", true, Colours, E2021),
+    ("--html|--color=always", true, Html, E2024),
 ];
 
-/// Arguments that are not valid.
-#[rustfmt::skip]
-const NOTHING: [&str; 15] = [
-    "html", "--html|--html", "--html|--help", "--help|--html", "--color", "--color|Always",
-    "--color|--html", "--color=always", "--color|auto|--color|auto", "--edition", "--edition|2020",
-    "--edition|2018 ", "--edition|--html|2018", "--edition|2018|--edition|2018",
-    "--edition|2018|--help",
+/// Arguments that are refused, and the one that is named.
+const REFUSED: [(&str, &str); 22] = [
+    ("html", "html"),
+    ("x|--html", "x"),
+    ("--html|--html", "--html"),
+    ("--html|--help", "--help"),
+    ("--help|--html", "--help"),
+    ("-h|-h", "-h"),
+    ("--color", "--color"),
+    ("--color|Always", "Always"),
+    ("--color=Always", "--color=Always"),
+    ("--color=", "--color="),
+    ("--color|--html", "--html"),
+    ("--color|auto|--color|auto", "--color"),
+    ("--color=auto|--color|never", "--color"),
+    ("--color|auto|--color=never", "--color=never"),
+    ("--edition", "--edition"),
+    ("--edition|2027", "2027"),
+    ("--edition|2018 ", "2018 "),
+    ("--edition=2018", "--edition=2018"),
+    ("--edition|--html|2018", "--html"),
+    ("--edition|2018|--edition|2018", "--edition"),
+    ("--edition|2018|--version", "--version"),
+    ("--html=yes", "--html=yes"),
 ];
 
-/// Each form of arguments is read as its job, and others as none.
+/// Each form of arguments is read as its job; of others one is named.
 #[test]
 fn jobs() {
     for (line, colours, style, edition) in SHOWN {
         let job = Job::Show { style, edition };
-        assert_eq!(read_job(&words_of(line), colours), Some(job), "{line}");
+        assert_eq!(read_job(&words_of(line), colours), Ok(job), "{line}");
     }
-    assert_eq!(read_job(&words_of("--help"), true), Some(Job::Help));
-    for line in NOTHING {
-        assert_eq!(read_job(&words_of(line), true), None, "{line}");
+    for (line, job) in [
+        ("--help", Job::Help),
+        ("-h", Job::Help),
+        ("--version", Job::Version),
+        ("-V", Job::Version),
+    ] {
+        assert_eq!(read_job(&words_of(line), true), Ok(job), "{line}");
+    }
+    for (line, word) in REFUSED {
+        assert_eq!(read_job(&words_of(line), true), Err(word), "{line}");
     }
 }
 
-/// What a process is given: its arguments, if there are any, `NO_COLOR`, and whether the output is a terminal.
-type Process = (Option<&'static str>, Result<&'static str, VarError>, bool);
+/// What a process is given: its arguments, or why it has none, `NO_COLOR`, `TERM`, and whether the output is a
+/// terminal.
+type Process = (
+    Result<&'static str, ErrorKind>,
+    Result<&'static str, VarError>,
+    Result<&'static str, VarError>,
+    bool,
+);
 
 /// The status of a program with this input, what it writes, and what it says.
 fn came_to(process: Process, input: &[u8]) -> (u8, Vec<u8>, Vec<u8>) {
-    let (args, no_color, is_terminal) = process;
+    let (args, no_color, term, is_terminal) = process;
     let start = Start {
         args: args.map(|line| words_of(line).into_iter()),
         no_color: no_color.map(|text| String::from(text.to_string())),
+        term: term.map(|text| String::from(text.to_string())),
         is_terminal,
     };
     let (mut output, mut errors) = (WHOLE.writer(), WHOLE.writer());
@@ -76,15 +112,21 @@ fn came_to(process: Process, input: &[u8]) -> (u8, Vec<u8>, Vec<u8>) {
 }
 
 /// When `fn` is written in colours, and when as it is.
-const COLOURED: [(Process, bool); 8] = [
-    ((Some("highlight"), Err(NotPresent), true), true),
-    ((Some("highlight"), Err(NotPresent), false), false),
-    ((Some("highlight"), Ok(""), true), true),
-    ((Some("highlight"), Ok(""), false), false),
-    ((Some("highlight"), Ok("0"), true), false),
-    ((Some("highlight"), Err(NotUnicode), true), false),
-    ((Some(""), Err(NotPresent), true), true),
-    ((Some("highlight|--color|always"), Ok("1"), false), true),
+#[rustfmt::skip]
+const COLOURED: [(Process, bool); 13] = [
+    ((Ok("highlight"), Err(NotPresent), Ok("xterm"), true), true),
+    ((Ok("highlight"), Err(NotPresent), Ok("xterm"), false), false),
+    ((Ok("highlight"), Ok(""), Err(NotPresent), true), true),
+    ((Ok("highlight"), Ok(""), Err(NotPresent), false), false),
+    ((Ok("highlight"), Ok("0"), Ok("xterm"), true), false),
+    ((Ok("highlight"), Err(NotUnicode), Ok("xterm"), true), false),
+    ((Ok(""), Err(NotPresent), Ok(""), true), true),
+    ((Ok("highlight|--color|always"), Ok("1"), Ok("dumb"), false), true),
+    ((Ok("highlight"), Err(NotPresent), Ok("dumb"), true), false),
+    ((Ok("highlight|--color=auto"), Err(NotPresent), Ok("dumb"), true), false),
+    ((Ok("highlight"), Err(NotPresent), Ok("dumber"), true), true),
+    ((Ok("highlight"), Err(NotPresent), Err(NotUnicode), true), true),
+    ((Ok("highlight|--color|always"), Err(NotPresent), Ok("xterm"), true), true),
 ];
 
 /// A keyword has its colour where there are colours.
@@ -97,12 +139,19 @@ fn colours() {
     }
 }
 
-/// The usage is written for `--help`, and no input is looked at.
+/// The usage is written for `--help`, and the package's version for `--version`; no input is looked at.
 #[test]
-fn help() {
-    let asked = (Some("highlight|--help"), Err(NotPresent), true);
-    let (status, usage, errors) = came_to(asked, b"\xff");
-    assert!(status == 0 && usage.starts_with(b"highlight < FILE ") && errors.is_empty());
+fn help_and_version() {
+    for word in ["highlight|--help", "highlight|-h"] {
+        let asked = (Ok(word), Err(NotPresent), Err(NotPresent), true);
+        let (status, usage, errors) = came_to(asked, b"\xff");
+        assert!(status == 0 && usage.starts_with(b"highlight < FILE ") && errors.is_empty());
+    }
+    let version = concat!("highlight ", env!("CARGO_PKG_VERSION"), "\n");
+    for word in ["highlight|--version", "highlight|-V"] {
+        let asked = (Ok(word), Err(NotPresent), Err(NotPresent), true);
+        assert_eq!(came_to(asked, b"\xff"), (0, version.into(), vec![]));
+    }
 }
 
 /// A run writes the text in its style and edition, for a page with what stands around it.
@@ -120,20 +169,29 @@ fn runs() {
     assert!(page.starts_with("<!DOCTYPE html>\n") && page.ends_with(end));
 }
 
-/// A process and its input, and the status and the message.
+/// What is said behind a word that is refused.
+const TAKEN: &str = "it takes a source on standard input, --html, --edition 2015, 2018, 2021 or 2024, \
+    --color auto, always or never, --help, --version";
+
+/// A process and its input, and the status and the message; what is taken follows where it ends in `; `.
 #[rustfmt::skip]
-const STOPPED: [(Process, &[u8], u8, &str); 4] = [
-    ((Some("highlight|x"), Err(NotPresent), true), b"fn", 2, "unknown words; --help tells what it takes"),
-    ((Some("highlight"), Err(NotPresent), true), b"\xff", 3, "input is not UTF-8"),
-    ((Some("highlight"), Err(OutOfMemory), true), b"fn", 6, "no memory"),
-    ((None, Err(NotPresent), true), b"fn", 6, "no memory"),
+const STOPPED: [(Process, &[u8], u8, &str); 8] = [
+    ((Ok("highlight"), Err(NotPresent), Err(NotPresent), true), b"\xff", 3, "input is not UTF-8"),
+    ((Ok("highlight"), Err(OutOfMemory), Err(NotPresent), true), b"fn", 6, "no memory"),
+    ((Ok("highlight"), Err(NotPresent), Err(OutOfMemory), true), b"fn", 6, "no memory"),
+    ((Err(ErrorKind::OutOfMemory), Err(NotPresent), Err(NotPresent), true), b"fn", 6, "no memory"),
+    ((Err(ErrorKind::InvalidData), Err(NotPresent), Err(NotPresent), true), b"fn", 2, "an argument is not UTF-8"),
+    ((Ok("highlight|x"), Err(NotPresent), Err(NotPresent), true), b"fn", 2, "cannot take 'x'; "),
+    ((Ok("highlight|--edition|2027"), Err(NotPresent), Err(NotPresent), true), b"fn", 2, "cannot take '2027'; "),
+    ((Ok("highlight|"), Err(NotPresent), Err(NotPresent), true), b"fn", 2, "cannot take ''; "),
 ];
 
 /// A program that stops writes a line with its message alone.
 #[test]
 fn stops() {
     for (process, input, status, message) in STOPPED {
-        let line = format!("highlight: {message}\n");
+        let taken = if message.ends_with("; ") { TAKEN } else { "" };
+        let line = format!("highlight: {message}{taken}\n");
         let wanted = (status, vec![], line.into());
         assert_eq!(came_to(process, input), wanted, "{message}");
     }
@@ -145,8 +203,9 @@ fn program_over_failing_ends() {
     Program {
         run: &|input, output, errors| {
             let start = Start {
-                args: Some(words_of("").into_iter()),
+                args: Ok(words_of("").into_iter()),
                 no_color: Err(NotPresent),
+                term: Err(NotPresent),
                 is_terminal: true,
             };
             program(Global, start, input, output, errors)

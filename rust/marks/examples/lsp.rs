@@ -1,5 +1,5 @@
 //! Keeps a document as a language server does: takes changes by positions in UTF-16, and answers with semantic tokens,
-//! all of them, what changed since the last answer, or those in view. `cargo run -p marks --example lsp -- FILE` prints
+//! all of them, what changed since the last answer, or those in view. `cargo run -p verified-marks --example lsp -- FILE` prints
 //! all, and what each line of standard input changes: LINE CHARACTER LINE CHARACTER TEXT.
 
 use marks::{Class, Edition, Keyword, class_of, keyword_in};

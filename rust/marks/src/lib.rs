@@ -36,59 +36,15 @@
 #[doc(hidden)]
 pub mod erased;
 
-/// What a token is to a reader, as `highlight` shows it by a colour.
-///
-/// ```
-/// use marks::{Class, class_of};
-/// use rustc_lexer::TokenKind;
-///
-/// assert_eq!(class_of(TokenKind::Ident, "while"), Class::Keyword);
-/// assert_eq!(class_of(TokenKind::Ident, "Vec"), Class::TypeName);
-/// assert_eq!(class_of(TokenKind::RawIdent, "r#while"), Class::Plain);
-/// ```
-///
 #[doc(inline)]
-pub use erased::class_of;
-/// Finds where the contents of a literal are, and how to read them.
-///
-/// ```
-/// use marks::inside;
-/// use rustc_lexer::{FrontmatterAllowed, tokenize};
-/// use rustc_literal_escaper::{Mode, check_for_errors};
-///
-/// let text = r#"b"a\q"suffix"#;
-/// let token = tokenize(text, FrontmatterAllowed::No).next().unwrap();
-/// let (mode, range) = inside(token.kind, text).unwrap();
-/// assert_eq!((mode, range.clone()), (Mode::ByteStr, 2..5));
-///
-/// check_for_errors(&text[range.clone()], mode, |wrong, _| {
-///     assert_eq!(&text[range.start + wrong.start..range.start + wrong.end], r"\q");
-/// });
-/// ```
-///
-#[doc(inline)]
-pub use erased::inside;
-/// Whether a word is a keyword, and of which sort.
-///
-/// ```
-/// use marks::{Edition, Keyword, keyword_in};
-///
-/// assert_eq!(keyword_in("async", Edition::E2015), None);
-/// assert_eq!(keyword_in("async", Edition::E2018), Some(Keyword::Strict));
-/// assert_eq!(keyword_in("gen", Edition::E2024), Some(Keyword::Reserved));
-/// assert_eq!(keyword_in("union", Edition::E2024), Some(Keyword::Weak));
-/// ```
-///
-#[doc(inline)]
-pub use erased::keyword_in;
-#[doc(inline)]
-pub use erased::{Class, Fault, Keyword, Style};
+pub use erased::{Class, Fault, Keyword, Style, class_of, inside, keyword_in};
 pub use rustc_lexer::Edition;
 
 use core::fmt;
 use rustc_lexer::TokenKind;
 
 /// Returns the text. Panics if it is too long.
+#[track_caller]
 fn fitting(text: &str) -> &str {
     assert!(
         rustc_lexer::fits(text),
@@ -119,6 +75,7 @@ fn fitting(text: &str) -> &str {
 ///
 /// Panics if the text has more than `u32::MAX` bytes.
 #[must_use]
+#[track_caller]
 pub fn fault_of(kind: TokenKind, text: &str) -> Option<Fault> {
     erased::fault_of(kind, fitting(text))
 }
@@ -145,6 +102,7 @@ pub fn fault_of(kind: TokenKind, text: &str) -> Option<Fault> {
 ///
 /// An error comes from the output, which then has a beginning of what was to be written.
 #[doc(alias = "highlight")]
+#[track_caller]
 pub fn write_marked<W: fmt::Write>(
     style: Style,
     edition: Edition,
@@ -178,6 +136,7 @@ pub fn write_marked<W: fmt::Write>(
 ///
 /// An error comes from the output, which then has a beginning of what was to be written.
 #[doc(alias = "highlight")]
+#[track_caller]
 pub fn write_first_tokens<W: fmt::Write>(
     style: Style,
     edition: Edition,

@@ -146,7 +146,15 @@ impl String {
     /// Replaces the bytes of the range by a text.
     pub fn replace_range(&mut self, range: Range<usize>, with: &str) -> Result<(), AllocError> {
         self.0.try_reserve(with.len().saturating_sub(range.len()))?;
-        self.0.replace_range(range, with);
+        // `replace_range` of `std` puts a text in byte by byte. A byte takes as long as moving some 32 that follow.
+        let behind = self.0.len().saturating_sub(range.end);
+        if range.is_empty() || with.len() > behind / 32 {
+            let start = range.start;
+            drop(self.0.drain(range));
+            self.0.insert_str(start, with);
+        } else {
+            self.0.replace_range(range, with);
+        }
         Ok(())
     }
 }

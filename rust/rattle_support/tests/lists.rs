@@ -14,7 +14,7 @@ fn text(text: &str) -> String {
 type OnText = fn(&mut String) -> Result<(), AllocError>;
 
 /// Calls on `aéb`, and what each makes of it where memory is given.
-const ON_TEXTS: [(OnText, &str); 8] = [
+const ON_TEXTS: [(OnText, &str); 9] = [
     (|text| text.push('é'), "aébé"),
     (|text| text.push_str("a longer text"), "aéba longer text"),
     (
@@ -26,6 +26,8 @@ const ON_TEXTS: [(OnText, &str); 8] = [
         "a longer textb",
     ),
     (|text| text.replace_range(4..4, "12345678"), "aéb12345678"),
+    // more by one byte
+    (|text| text.replace_range(0..3, "abcd"), "abcdb"),
     (|text| text.reserve(1000), "aéb"),
     (|text| text.push_str(""), "aéb"),
     (|text| text.replace_range(1..3, ""), "ab"),
@@ -39,7 +41,7 @@ fn texts() {
         assert_eq!(held.as_str(), wanted, "call {number}");
         // The room is full, so each that appends has to ask for more.
         let mut held = text("aéb");
-        let takes_none = number >= 6;
+        let takes_none = number >= 7;
         let answer = given(0, || call(&mut held));
         assert_eq!(answer.is_ok(), takes_none, "call {number}");
         let stays = if takes_none { wanted } else { "aéb" };
@@ -139,6 +141,8 @@ fn room_for_a_part() {
 fn an_error_says_so() {
     let error: std::boxed::Box<dyn std::error::Error + Send + Sync> = AllocError.into();
     assert_eq!(error.to_string(), "memory allocation failed");
+    // A width changes nothing, as of each error here.
+    assert_eq!(std::format!("{AllocError:>26}"), "memory allocation failed");
 }
 
 /// What room was made for takes no memory, however much stood there before.
@@ -168,6 +172,25 @@ fn room_that_grows() {
         let (mut text, mut list) = (String::new(Global), Vec::new(Global));
         let asked = requests(|| (0..1000).all(|_| call(&mut text, &mut list).is_ok()));
         assert!(asked < 20, "call {number}: {asked} requests");
+    }
+}
+
+/// In front of a long text, a short one and a long one take the place of others, or of none.
+#[test]
+fn replaced() {
+    let e = |count| "é".repeat(count);
+    let calls = [
+        (2..4, "ab", std::format!("éab{}", e(98))),
+        (2..4, "a", std::format!("éa{}", e(98))),
+        (2..2, "a", std::format!("éa{}", e(99))),
+        (2..6, "", e(98)),
+        (2..8, "ten bytes.", std::format!("éten bytes.{}", e(96))),
+        (198..200, "ab", std::format!("{}ab", e(99))),
+    ];
+    for (range, with, wanted) in calls {
+        let mut held = text(&e(100));
+        assert_eq!(held.replace_range(range.clone(), with), Ok(()));
+        assert_eq!(held.as_str(), wanted, "{range:?} {with}");
     }
 }
 

@@ -13,7 +13,7 @@ use crate::erased;
 /// assert!(is_whitespace('\n') && is_whitespace('\u{2028}'));
 /// assert!(!is_whitespace('\u{a0}'));
 /// ```
-#[inline]
+#[cfg_attr(not(debug_assertions), inline)]
 #[must_use]
 pub fn is_whitespace(c: char) -> bool {
     erased::is_whitespace(c)
@@ -29,7 +29,7 @@ pub fn is_whitespace(c: char) -> bool {
 ///
 /// assert!(is_horizontal_whitespace('\t') && !is_horizontal_whitespace('\n'));
 /// ```
-#[inline]
+#[cfg_attr(not(debug_assertions), inline)]
 #[must_use]
 pub fn is_horizontal_whitespace(c: char) -> bool {
     erased::is_horizontal_whitespace(c)
@@ -45,7 +45,7 @@ pub fn is_horizontal_whitespace(c: char) -> bool {
 ///
 /// assert!(is_id_start('_') && is_id_start('é') && !is_id_start('1'));
 /// ```
-#[inline]
+#[cfg_attr(not(debug_assertions), inline)]
 #[must_use]
 pub fn is_id_start(c: char) -> bool {
     erased::is_id_start(c)
@@ -61,7 +61,7 @@ pub fn is_id_start(c: char) -> bool {
 ///
 /// assert!(is_id_continue('1') && !is_id_continue('-'));
 /// ```
-#[inline]
+#[cfg_attr(not(debug_assertions), inline)]
 #[must_use]
 pub fn is_id_continue(c: char) -> bool {
     erased::is_id_continue(c)
@@ -77,7 +77,7 @@ pub fn is_id_continue(c: char) -> bool {
 ///
 /// assert!(is_ident("a1") && is_ident("fn") && !is_ident("1a") && !is_ident(""));
 /// ```
-#[inline]
+#[cfg_attr(not(debug_assertions), inline)]
 #[must_use]
 pub fn is_ident(string: &str) -> bool {
     erased::is_ident(string)
@@ -89,7 +89,7 @@ pub fn is_ident(string: &str) -> bool {
 /// ```
 /// assert!(rustc_lexer::fits("fn main() {}"));
 /// ```
-#[inline]
+#[cfg_attr(not(debug_assertions), inline)]
 #[must_use]
 pub fn fits(text: &str) -> bool {
     erased::fits(text)
@@ -103,7 +103,7 @@ pub fn fits(text: &str) -> bool {
 ///
 /// assert!(starts_raw("br\"a\"", 2) && !starts_raw("br\"a\"", 1));
 /// ```
-#[inline]
+#[cfg_attr(not(debug_assertions), inline)]
 #[must_use]
 pub fn starts_raw(input: &str, prefix_len: u32) -> bool {
     erased::starts_raw(input, prefix_len)

@@ -27,8 +27,9 @@ impl<'a> Cursor<'a> {
     /// # Panics
     ///
     /// Panics if the text has more than `u32::MAX` bytes.
-    #[inline]
+    #[cfg_attr(not(debug_assertions), inline)]
     #[must_use]
+    #[track_caller]
     pub fn new(input: &'a str, frontmatter_allowed: FrontmatterAllowed) -> Cursor<'a> {
         Cursor(erased::Cursor::new(fitting(input), frontmatter_allowed))
     }
@@ -42,7 +43,7 @@ impl<'a> Cursor<'a> {
     /// cursor.advance_token();
     /// assert_eq!(cursor.as_str(), " x");
     /// ```
-    #[inline]
+    #[cfg_attr(not(debug_assertions), inline)]
     #[must_use]
     pub fn as_str(&self) -> &'a str {
         self.0.as_str()
@@ -55,7 +56,7 @@ impl<'a> Cursor<'a> {
     ///
     /// assert_eq!(Cursor::new("é", FrontmatterAllowed::No).first(), 'é');
     /// ```
-    #[inline]
+    #[cfg_attr(not(debug_assertions), inline)]
     #[must_use]
     pub fn first(&self) -> char {
         self.0.first()
@@ -68,7 +69,7 @@ impl<'a> Cursor<'a> {
     ///
     /// assert_eq!(Cursor::new("abc", FrontmatterAllowed::No).third(), 'c');
     /// ```
-    #[inline]
+    #[cfg_attr(not(debug_assertions), inline)]
     #[must_use]
     pub fn third(&self) -> char {
         self.0.third()
@@ -84,7 +85,7 @@ impl<'a> Cursor<'a> {
     /// assert_eq!(cursor.advance_token().kind, TokenKind::Ident);
     /// assert_eq!(cursor.advance_token().kind, TokenKind::Eof);
     /// ```
-    #[inline]
+    #[cfg_attr(not(debug_assertions), inline)]
     pub fn advance_token(&mut self) -> Token {
         self.0.advance_token()
     }
@@ -101,7 +102,7 @@ impl<'a> Cursor<'a> {
     /// assert_eq!(cursor.guarded_double_quoted_string(), None);
     /// assert_eq!(cursor.advance_token().len, 3);
     /// ```
-    #[inline]
+    #[cfg_attr(not(debug_assertions), inline)]
     pub fn guarded_double_quoted_string(&mut self) -> Option<GuardedStr> {
         self.0.guarded_double_quoted_string()
     }

@@ -42,6 +42,15 @@ impl From<AllocError> for EditError {
     }
 }
 
+/// Returns what a call made, or panics at the line of the caller. A closure would panic at its own.
+#[track_caller]
+pub(crate) fn made<T>(result: Result<T, impl fmt::Display>) -> T {
+    match result {
+        Ok(made) => made,
+        Err(error) => panic!("{error}"),
+    }
+}
+
 /// Returns the text, or an error if it is too long.
 pub(crate) fn try_fitting(text: &str) -> Result<&str, EditError> {
     if crate::fits(text) {

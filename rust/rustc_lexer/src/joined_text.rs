@@ -1,6 +1,7 @@
 //! A text that is made of pieces whose tokens stay.
 
 use crate::Edition;
+use crate::edit_error::made;
 use crate::erased::{self, JoinError};
 use crate::support::Global;
 use alloc::string::String;
@@ -72,9 +73,9 @@ impl JoinedText {
     /// # Panics
     ///
     /// Panics where [`try_push`](JoinedText::try_push) returns an error.
+    #[track_caller]
     pub fn push(&mut self, piece: impl AsRef<str>) {
-        self.try_push(piece)
-            .unwrap_or_else(|error| panic!("{error}"));
+        made(self.try_push(piece));
     }
 
     /// Does what [`push`](JoinedText::push) does, or returns why the piece was refused. Then nothing has changed.
@@ -128,8 +129,11 @@ impl<P: AsRef<str>> Extend<P> for JoinedText {
     /// # Panics
     ///
     /// Panics if one of them is refused. Those before it are in the text then.
+    #[track_caller]
     fn extend<I: IntoIterator<Item = P>>(&mut self, pieces: I) {
-        pieces.into_iter().for_each(|piece| self.push(piece));
+        for piece in pieces {
+            self.push(piece);
+        }
     }
 }
 
@@ -139,6 +143,7 @@ impl<P: AsRef<str>> FromIterator<P> for JoinedText {
     /// # Panics
     ///
     /// Panics if one of them is refused.
+    #[track_caller]
     fn from_iter<I: IntoIterator<Item = P>>(pieces: I) -> JoinedText {
         let mut text = JoinedText::new();
         text.extend(pieces);

@@ -1,7 +1,7 @@
 //! Texts that are kept with their tokens under edits: a part of a file, and a whole one.
 
 use crate::checked::Checked;
-use crate::edit_error::{EditError, check_accepted, try_fitting};
+use crate::edit_error::{EditError, check_accepted, made, try_fitting};
 use crate::erased::{self, Edit, EditStop, Stopped};
 use crate::support::{AllocError, Global};
 use crate::{Bound, Edition, Piece, Pieces, Relexed, Stepper, Steps, Token};
@@ -25,6 +25,7 @@ fn range_in(range: &impl RangeBounds<usize>, len: usize) -> Range<usize> {
 }
 
 /// Returns the numbers of tokens. Panics if there are no such tokens.
+#[track_caller]
 fn checked_range(numbers: &impl RangeBounds<usize>, tokens: &[Token]) -> Range<usize> {
     let numbers = range_in(numbers, tokens.len());
     assert!(
@@ -35,614 +36,722 @@ fn checked_range(numbers: &impl RangeBounds<usize>, tokens: &[Token]) -> Range<u
     numbers
 }
 
-/// Writes a kept text over the erased type of its name, with the calls that both have.
-macro_rules! kept_text {
-    ($(#[$about:meta])* $Kept:ident) => {
-        $(#[$about])*
-        #[derive(Clone)]
-        pub struct $Kept<S: Stepper = Steps> {
-            kept: erased::$Kept<S>,
-            /// Whether an edit has begun and not ended. Past it that means that a step panicked.
-            in_edit: bool,
-        }
-
-        impl $Kept {
-            /// Returns the text with its tokens in the newest edition.
-            ///
-            /// ```
-            #[doc = concat!("use rustc_lexer::", stringify!($Kept), ";")]
-            ///
-            #[doc = concat!("assert_eq!(", stringify!($Kept), "::new(\"let x;\").tokens().len(), 4);")]
-            /// ```
-            ///
-            /// # Panics
-            ///
-            /// Panics if the text has more than `u32::MAX` bytes, or if an allocation fails.
-            #[must_use]
-            pub fn new(text: impl AsRef<str>) -> $Kept {
-                $Kept::new_in(text, Edition::NEWEST)
-            }
-
-            /// Returns the text with its tokens in an edition.
-            ///
-            /// ```
-            #[doc = concat!("use rustc_lexer::{Edition, ", stringify!($Kept), "};")]
-            ///
-            #[doc = concat!("assert_eq!(", stringify!($Kept), "::new_in(\"'r#a\", Edition::E2018).tokens().len(), 3);")]
-            /// ```
-            ///
-            /// # Panics
-            ///
-            /// Panics if the text has more than `u32::MAX` bytes, or if an allocation fails.
-            #[must_use]
-            pub fn new_in(text: impl AsRef<str>, edition: Edition) -> $Kept {
-                $Kept::try_new_in(text, edition).unwrap_or_else(|error| panic!("{error}"))
-            }
-
-            /// Returns the text with its tokens in an edition.
-            ///
-            /// ```
-            #[doc = concat!("use rustc_lexer::{Edition, ", stringify!($Kept), "};")]
-            ///
-            #[doc = concat!("let lexed = ", stringify!($Kept), "::try_new_in(\"let x;\", Edition::E2021)?;")]
-            /// assert_eq!(lexed.tokens().len(), 4);
-            /// # Ok::<(), rustc_lexer::EditError>(())
-            /// ```
-            ///
-            /// # Errors
-            ///
-            /// `TooLong` if the text has more than `u32::MAX` bytes, `Memory` if an allocation failed.
-            pub fn try_new_in(text: impl AsRef<str>, edition: Edition) -> Result<$Kept, EditError> {
-                let text = try_fitting(text.as_ref())?;
-                Ok($Kept::of(erased::$Kept::new_in(Global, text, edition)?))
-            }
-
-            /// Returns the text, of which it copies nothing, with its tokens in an edition.
-            ///
-            /// ```
-            #[doc = concat!("use rustc_lexer::{Edition, ", stringify!($Kept), "};")]
-            ///
-            /// let text = String::from("let x;");
-            #[doc = concat!("let lexed = ", stringify!($Kept), "::try_from_string_in(text, Edition::E2021)?;")]
-            /// assert_eq!(lexed.tokens().len(), 4);
-            /// # Ok::<(), rustc_lexer::EditError>(())
-            /// ```
-            ///
-            /// # Errors
-            ///
-            /// `TooLong` if the text has more than `u32::MAX` bytes, `Memory` if an allocation failed. The text is dropped.
-            pub fn try_from_string_in(text: String, edition: Edition) -> Result<$Kept, EditError> {
-                try_fitting(&text)?;
-                let steps = Steps::new_in(edition);
-                Ok($Kept::of(erased::$Kept::with_string(Global, text.into(), steps)?))
-            }
-
-            /// Returns the edition of the tokens. Edits keep it.
-            ///
-            /// ```
-            #[doc = concat!("use rustc_lexer::{Edition, ", stringify!($Kept), "};")]
-            ///
-            #[doc = concat!("assert_eq!(", stringify!($Kept), "::new(\"\").edition(), Edition::NEWEST);")]
-            /// ```
-            #[must_use]
-            pub fn edition(&self) -> Edition {
-                self.kept.edition()
-            }
-
-            /// Lexes the text again, in another edition. It copies no text.
-            ///
-            /// ```
-            #[doc = concat!("use rustc_lexer::{Edition, ", stringify!($Kept), "};")]
-            ///
-            #[doc = concat!("let mut lexed = ", stringify!($Kept), "::new(\"'r#a\");")]
-            /// lexed.set_edition(Edition::E2015);
-            /// assert_eq!(lexed.tokens().len(), 3);
-            /// ```
-            ///
-            /// # Panics
-            ///
-            /// Panics if an allocation fails. Nothing changes then.
-            pub fn set_edition(&mut self, edition: Edition) {
-                self.try_set_edition(edition)
-                    .unwrap_or_else(|error| panic!("{error}"));
-            }
-
-            /// Lexes the text again, in another edition.
-            ///
-            /// ```
-            #[doc = concat!("use rustc_lexer::{Edition, ", stringify!($Kept), "};")]
-            ///
-            #[doc = concat!("let mut lexed = ", stringify!($Kept), "::new(\"'r#a\");")]
-            /// lexed.try_set_edition(Edition::E2018)?;
-            /// assert_eq!(lexed.tokens().len(), 3);
-            /// # Ok::<(), rustc_lexer::AllocError>(())
-            /// ```
-            ///
-            /// # Errors
-            ///
-            /// If an allocation fails. Nothing changes then.
-            pub fn try_set_edition(&mut self, edition: Edition) -> Result<(), AllocError> {
-                self.kept.set_edition(edition)
-            }
-
-            /// Returns the stepper that the tokens came from.
-            ///
-            /// ```
-            #[doc = concat!("use rustc_lexer::{", stringify!($Kept), ", Stepper};")]
-            ///
-            #[doc = concat!("let mut steps = ", stringify!($Kept), "::new(\"a b\").stepper().clone();")]
-            /// assert_eq!(steps.step("let x").len, 3);
-            /// ```
-            #[must_use]
-            pub fn stepper(&self) -> &Steps {
-                self.kept.stepper()
-            }
-        }
-
-        impl<S: Stepper> $Kept<Checked<S>> {
-            /// Returns the text with its tokens by a stepper of your own. The head of a whole file is not lexed by it.
-            ///
-            /// ```
-            #[doc = concat!("use rustc_lexer::{", stringify!($Kept), ", Steps};")]
-            ///
-            #[doc = concat!("let lexed = ", stringify!($Kept), "::try_with(\"let x;\", Steps::new()).unwrap();")]
-            /// assert_eq!(lexed.tokens().len(), 4);
-            /// ```
-            ///
-            /// The tokens are taken by `step`, and where each ends is tested. For [`Steps`] itself `try_new_in` is twice as
-            /// fast.
-            ///
-            /// # Panics
-            ///
-            /// Panics if `step` does, or if a token of it is empty, is longer than the text or ends inside a character. So
-            /// do edits: `text` then has the edit, and each call that needs the tokens panics. In a list of 64 edits or more
-            /// `text` may then be another text. An edit that is refused needs none.
-            ///
-            /// # Errors
-            ///
-            /// `TooLong` if the text has more than `u32::MAX` bytes, `Memory` if an allocation failed.
-            pub fn try_with(text: impl AsRef<str>, stepper: S) -> Result<Self, EditError> {
-                let text = try_fitting(text.as_ref())?;
-                Ok($Kept::of(erased::$Kept::with(Global, text, Checked(stepper))?))
-            }
-
-            /// Returns the stepper that the tokens came from.
-            ///
-            /// ```
-            #[doc = concat!("use rustc_lexer::{", stringify!($Kept), ", Stepper, Steps};")]
-            ///
-            #[doc = concat!("let lexed = ", stringify!($Kept), "::try_with(\"a b\", Steps::new()).unwrap();")]
-            /// let mut steps = lexed.stepper().clone();
-            /// assert_eq!(steps.step("let x").len, 3);
-            /// ```
-            #[must_use]
-            pub fn stepper(&self) -> &S {
-                &self.kept.stepper().0
-            }
-        }
-
-        impl<S: Stepper> $Kept<S> {
-            fn of(kept: erased::$Kept<S>) -> $Kept<S> {
-                $Kept {
-                    kept,
-                    in_edit: false,
-                }
-            }
-
-            /// Returns what is kept. Panics if a step of an edit panicked: then the tokens are not those of the text.
-            fn whole(&self) -> &erased::$Kept<S> {
-                assert!(
-                    !self.in_edit,
-                    "a panic in `Stepper::step` left this text without tokens"
-                );
-                &self.kept
-            }
-
-            /// Makes edits. If a step panics on the way, the text is left without tokens.
-            fn change<T>(&mut self, edits: impl FnOnce(&mut erased::$Kept<S>) -> T) -> T {
-                self.whole();
-                self.in_edit = true;
-                let answer = edits(&mut self.kept);
-                self.in_edit = false;
-                answer
-            }
-
-            /// Returns the text.
-            ///
-            /// ```
-            #[doc = concat!("use rustc_lexer::", stringify!($Kept), ";")]
-            ///
-            #[doc = concat!("assert_eq!(", stringify!($Kept), "::new(\"#!/bin/sh\\n\").text(), \"#!/bin/sh\\n\");")]
-            /// ```
-            #[must_use]
-            pub fn text(&self) -> &str {
-                self.kept.text()
-            }
-
-            /// Returns its tokens, in order.
-            ///
-            /// ```
-            #[doc = concat!("use rustc_lexer::{", stringify!($Kept), ", TokenKind};")]
-            ///
-            #[doc = concat!("let lexed = ", stringify!($Kept), "::new(\"a + b\");")]
-            /// assert_eq!(lexed.tokens()[2].kind, TokenKind::Plus);
-            /// ```
-            #[must_use]
-            pub fn tokens(&self) -> &[Token] {
-                self.whole().tokens()
-            }
-
-            /// Returns the text, and drops its tokens. It copies nothing.
-            ///
-            /// ```
-            #[doc = concat!("use rustc_lexer::", stringify!($Kept), ";")]
-            ///
-            #[doc = concat!("let mut lexed = ", stringify!($Kept), "::new(\"let x;\");")]
-            /// lexed.edit(4..5, "y");
-            /// assert_eq!(lexed.into_string(), "let y;");
-            /// ```
-            #[must_use]
-            pub fn into_string(self) -> String {
-                self.kept.into_string().into()
-            }
-
-            /// Returns the tokens with their offsets and their texts, in order. They can be taken from either end.
-            ///
-            /// ```
-            #[doc = concat!("use rustc_lexer::", stringify!($Kept), ";")]
-            ///
-            #[doc = concat!("let lexed = ", stringify!($Kept), "::new(\"a + b\");")]
-            /// assert_eq!(lexed.pieces().nth(2).map(|piece| (piece.start, piece.text)), Some((2, "+")));
-            /// assert_eq!(lexed.pieces().next_back().map(|piece| (piece.start, piece.text)), Some((4, "b")));
-            /// ```
-            pub fn pieces(&self) -> Pieces<'_> {
-                self.whole().pieces()
-            }
-
-            /// Returns the pieces of some tokens, by their numbers. After an edit, repaint those of `relexed.range()`.
-            ///
-            /// ```
-            #[doc = concat!("use rustc_lexer::", stringify!($Kept), ";")]
-            ///
-            #[doc = concat!("let mut lexed = ", stringify!($Kept), "::new(\"a + b + c + d\");")]
-            /// let relexed = lexed.edit(8..8, "x");
-            /// let painted: Vec<&str> = lexed.pieces_of(relexed.range()).map(|piece| piece.text).collect();
-            /// assert_eq!(painted, ["+", " ", "xc"]);
-            /// ```
-            ///
-            /// # Panics
-            ///
-            /// Panics if there are no such tokens.
-            pub fn pieces_of(&self, numbers: impl RangeBounds<usize>) -> Pieces<'_> {
-                let numbers = checked_range(&numbers, self.tokens());
-                self.whole().pieces_of(numbers.start, numbers.end)
-            }
-
-            /// Returns the token that contains the byte at `offset`: its number, and where it begins. `None` at and past the
-            /// end of the text, and in a shebang line, which is no token.
-            ///
-            /// It reads few of the tokens, most of all near the last edit.
-            ///
-            /// ```
-            #[doc = concat!("use rustc_lexer::{Bound, ", stringify!($Kept), "};")]
-            ///
-            #[doc = concat!("let lexed = ", stringify!($Kept), "::new(\"let abc;\");")]
-            /// assert_eq!(lexed.token_at(6), Some(Bound { number: 2, offset: 4 }));
-            /// assert_eq!(lexed.token_at(8), None);
-            /// ```
-            #[must_use]
-            pub fn token_at(&self, offset: usize) -> Option<Bound> {
-                self.whole().token_at(offset)
-            }
-
-            /// Returns the piece that contains the byte at `offset`, like that under a caret. `None` at and past the end of the
-            /// text, and in a shebang line.
-            ///
-            /// ```
-            #[doc = concat!("use rustc_lexer::", stringify!($Kept), ";")]
-            ///
-            #[doc = concat!("let lexed = ", stringify!($Kept), "::new(\"let abc;\");")]
-            /// assert_eq!(lexed.piece_at(6).map(|piece| (piece.start, piece.text)), Some((4, "abc")));
-            /// assert_eq!(lexed.piece_at(8), None);
-            /// ```
-            #[doc(alias("caret", "cursor", "offset"))]
-            #[must_use]
-            pub fn piece_at(&self, offset: usize) -> Option<Piece<'_>> {
-                self.whole().piece_at(offset)
-            }
-
-            /// Returns the pieces of the tokens that contain a byte of the range, like those of the lines in view. The
-            /// range may end anywhere, also past the text. An empty range has no piece.
-            ///
-            /// ```
-            #[doc = concat!("use rustc_lexer::", stringify!($Kept), ";")]
-            ///
-            #[doc = concat!("let lexed = ", stringify!($Kept), "::new(\"let abc = 1;\");")]
-            /// let seen: Vec<&str> = lexed.pieces_in(5..9).map(|piece| piece.text).collect();
-            /// assert_eq!(seen, ["abc", " ", "="]);
-            /// ```
-            ///
-            /// Backwards from a caret:
-            ///
-            /// ```
-            #[doc = concat!("use rustc_lexer::", stringify!($Kept), ";")]
-            ///
-            #[doc = concat!("let lexed = ", stringify!($Kept), "::new(\"f(a, b\");")]
-            /// let opens = lexed.pieces_in(..6).rev().find(|piece| piece.text == "(");
-            /// assert_eq!(opens.map(|piece| piece.start), Some(1));
-            /// ```
-            pub fn pieces_in(&self, range: impl RangeBounds<usize>) -> Pieces<'_> {
-                let range = range_in(&range, self.text().len());
-                self.whole().pieces_in(range.start, range.end)
-            }
-
-            /// Returns whether the range is in bounds and on char boundaries, and the new text has at most `u32::MAX`
-            /// bytes.
-            ///
-            /// ```
-            #[doc = concat!("use rustc_lexer::", stringify!($Kept), ";")]
-            ///
-            #[doc = concat!("let lexed = ", stringify!($Kept), "::new(\"é\");")]
-            /// assert!(lexed.accepts(0..2, "e") && !lexed.accepts(1..2, "e"));
-            /// ```
-            #[must_use]
-            pub fn accepts(&self, range: impl RangeBounds<usize>, insert: &str) -> bool {
-                let range = range_in(&range, self.text().len());
-                self.kept.accepts(range.start, range.end, insert)
-            }
-
-            /// Replaces the bytes of the range by `insert`.
-            ///
-            /// ```
-            #[doc = concat!("use rustc_lexer::", stringify!($Kept), ";")]
-            ///
-            #[doc = concat!("let mut lexed = ", stringify!($Kept), "::new(\"let x = 1;\");")]
-            /// lexed.edit(8..9, "\"one\"");
-            /// assert_eq!((lexed.text(), lexed.tokens().len()), ("let x = \"one\";", 8));
-            /// ```
-            ///
-            /// # Panics
-            ///
-            /// Panics if `try_edit` returns an error. Text and tokens are then as they were.
-            pub fn edit(&mut self, range: impl RangeBounds<usize>, insert: &str) -> Relexed {
-                let range = range_in(&range, self.text().len());
-                self.try_edit(range.clone(), insert)
-                    .unwrap_or_else(|error| panic!("the edit of {range:?}: {error}"))
-            }
-
-            /// Replaces the bytes of the range by `insert`.
-            ///
-            /// ```
-            #[doc = concat!("use rustc_lexer::{EditError, ", stringify!($Kept), "};")]
-            ///
-            #[doc = concat!("let mut lexed = ", stringify!($Kept), "::new(\"let é;\");")]
-            /// assert_eq!(lexed.try_edit(4..5, "e"), Err(EditError::Range));
-            /// assert_eq!(lexed.try_edit(4..6, "e").map(|relexed| relexed.lexed), Ok(3));
-            /// assert_eq!(lexed.text(), "let e;");
-            /// ```
-            ///
-            /// # Errors
-            ///
-            /// `Range` if the range is out of bounds or not on char boundaries, `TooLong` if the new text has more than
-            /// `u32::MAX` bytes, `Memory` if an allocation failed. Text and tokens are then as they were.
-            pub fn try_edit(
-                &mut self,
-                range: impl RangeBounds<usize>,
-                insert: &str,
-            ) -> Result<Relexed, EditError> {
-                let range = range_in(&range, self.text().len());
-                check_accepted(|insert| self.accepts(range.clone(), insert), insert)?;
-                Ok(self.change(|kept| kept.edit(range.start, range.end, insert))?)
-            }
-
-            /// Makes the edits in order, each on the text that those before it leave.
-            ///
-            /// ```
-            #[doc = concat!("use rustc_lexer::{Edit, EditStop, ", stringify!($Kept), "};")]
-            ///
-            #[doc = concat!("let mut lexed = ", stringify!($Kept), "::new(\"a\");")]
-            /// let edits = [Edit { start: 1, stop: 1, insert: "+b" }, Edit { start: 9, stop: 9, insert: "" }];
-            /// assert_eq!(lexed.edit_all(&edits), Err(EditStop::Range { at: 1 }));
-            /// assert_eq!(lexed.text(), "a+b");
-            /// ```
-            ///
-            /// # Errors
-            ///
-            /// Which edit is the first that is refused, and why. Those before it are made.
-            pub fn edit_all(&mut self, edits: &[Edit<'_>]) -> Result<(), EditStop> {
-                self.change(|kept| kept.edit_all(edits))
-            }
-
-            /// Makes the edits as `edit_all` does, and returns which tokens all of them kept: what to repaint is between.
-            ///
-            /// A list of 64 edits or more, of which each begins behind the one before it, moves text and tokens once.
-            ///
-            /// ```
-            #[doc = concat!("use rustc_lexer::{Edit, ", stringify!($Kept), ", Relexed};")]
-            ///
-            #[doc = concat!("let mut lexed = ", stringify!($Kept), "::new(\"a b c d e f g\");")]
-            /// let edits = [Edit { start: 8, stop: 9, insert: "+" }, Edit { start: 4, stop: 5, insert: "-" }];
-            /// let relexed = lexed.edit_each(&edits)?;
-            /// assert_eq!(relexed, Relexed { kept_front: 2, lexed: 7, kept_back: 4 });
-            /// assert_eq!(lexed.text(), "a b - d + f g");
-            /// # Ok::<(), rustc_lexer::Stopped>(())
-            /// ```
-            ///
-            /// # Errors
-            ///
-            /// Which edit is the first that is refused, why, and which tokens the edits before it kept. Those are made.
-            pub fn edit_each(&mut self, edits: &[Edit<'_>]) -> Result<Relexed, Stopped> {
-                self.change(|kept| kept.edit_each(edits))
-            }
-
-            /// Makes the text another one, like one that a formatter wrote, by one edit of what differs: between the
-            /// longest front that both texts have, and the longest back that they have behind that.
-            ///
-            /// Returns the counts of that edit. If the text is the same already, all tokens are kept in front.
-            ///
-            /// ```
-            #[doc = concat!("use rustc_lexer::{", stringify!($Kept), ", Relexed};")]
-            ///
-            #[doc = concat!("let mut lexed = ", stringify!($Kept), "::new(\"let x=1;let y = 2;\");")]
-            /// let relexed = lexed.set_text("let x = 1;let y = 2;");
-            /// assert_eq!(relexed, Relexed { kept_front: 1, lexed: 5, kept_back: 10 });
-            /// assert_eq!(lexed.text(), "let x = 1;let y = 2;");
-            /// ```
-            ///
-            /// # Panics
-            ///
-            /// Panics if `try_set_text` returns an error. Text and tokens are then as they were.
-            pub fn set_text(&mut self, text: impl AsRef<str>) -> Relexed {
-                self.try_set_text(text)
-                    .unwrap_or_else(|error| panic!("{error}"))
-            }
-
-            /// Makes the text another one by one edit, as `set_text` does.
-            ///
-            /// ```
-            #[doc = concat!("use rustc_lexer::", stringify!($Kept), ";")]
-            ///
-            #[doc = concat!("let mut lexed = ", stringify!($Kept), "::new(\"let x;\");")]
-            /// assert_eq!(lexed.try_set_text("let x;")?.lexed, 0);
-            /// # Ok::<(), rustc_lexer::EditError>(())
-            /// ```
-            ///
-            /// # Errors
-            ///
-            /// `TooLong` if the new text has more than `u32::MAX` bytes, `Memory` if an allocation failed. Text and tokens
-            /// are then as they were.
-            pub fn try_set_text(&mut self, text: impl AsRef<str>) -> Result<Relexed, EditError> {
-                let text = try_fitting(text.as_ref())?;
-                Ok(self.change(|kept| kept.set_text(text))?)
-            }
-
-            /// Gives back the memory that edits have left unused, by copying what is kept. If an allocation fails, the
-            /// unused memory stays. Text, tokens and stepper do not change.
-            ///
-            /// ```
-            #[doc = concat!("use rustc_lexer::", stringify!($Kept), ";")]
-            ///
-            #[doc = concat!("let mut lexed = ", stringify!($Kept), "::new(\"a \".repeat(1000));")]
-            /// lexed.edit(0..0, "\"");
-            /// lexed.shrink_to_fit();
-            /// assert_eq!(lexed.tokens().len(), 1);
-            /// ```
-            pub fn shrink_to_fit(&mut self) {
-                self.kept.shrink_to_fit();
-            }
-        }
-
-        impl<S: Stepper> fmt::Debug for $Kept<S> {
-            fn fmt(&self, f: &mut fmt::Formatter<'_>) -> fmt::Result {
-                let mut shown = f.debug_struct(stringify!($Kept));
-                shown.field("text", &self.text());
-                if !self.in_edit {
-                    shown.field("tokens", &self.tokens());
-                }
-                shown.finish_non_exhaustive()
-            }
-        }
-
-        /// Two are equal if their texts, their tokens and their steppers are; two [`Steps`] are, if their editions are.
-        /// Where the texts are equal, it needs the tokens.
-        ///
-        /// ```
-        #[doc = concat!("use rustc_lexer::{Edition, ", stringify!($Kept), "};")]
-        ///
-        #[doc = concat!("let mut lexed = ", stringify!($Kept), "::new(\"a\");")]
-        #[doc = concat!("assert_ne!(lexed, ", stringify!($Kept), "::new_in(\"a\", Edition::E2015));")]
-        /// lexed.edit(1..1, "b");
-        #[doc = concat!("assert_eq!(lexed, ", stringify!($Kept), "::new(\"ab\"));")]
-        /// ```
-        impl<S: Stepper + PartialEq> PartialEq for $Kept<S> {
-            fn eq(&self, other: &$Kept<S>) -> bool {
-                self.text() == other.text()
-                    && self.tokens() == other.tokens()
-                    && self.kept.stepper() == other.kept.stepper()
-            }
-        }
-
-        impl<S: Stepper + Eq> Eq for $Kept<S> {}
-
-        /// Keeps the text, of which it copies nothing, with its tokens in the newest edition.
-        ///
-        /// ```
-        #[doc = concat!("use rustc_lexer::", stringify!($Kept), ";")]
-        ///
-        #[doc = concat!("let mut lexed = ", stringify!($Kept), "::from(String::from(\"let x;\"));")]
-        /// lexed.edit(4..5, "y");
-        /// assert_eq!(lexed.into_string(), "let y;");
-        /// ```
-        ///
-        /// # Panics
-        ///
-        /// Panics if the text has more than `u32::MAX` bytes, or if an allocation fails.
-        impl From<String> for $Kept {
-            fn from(text: String) -> $Kept {
-                $Kept::try_from_string_in(text, Edition::NEWEST)
-                    .unwrap_or_else(|error| panic!("{error}"))
-            }
-        }
-
-        /// That of the empty text.
-        impl Default for $Kept {
-            fn default() -> $Kept {
-                $Kept::new("")
-            }
-        }
-    };
+/// A text and its tokens, under edits: a [`LexedText`] or a [`LexedDocument`], by `E`. [`Steps`] lexes it, or a stepper
+/// of your own.
+///
+/// ```
+/// use rustc_lexer::{Extent, Lexed, LexedDocument, LexedText};
+///
+/// fn count<E: Extent>(lexed: &Lexed<E>) -> usize {
+///     lexed.tokens().len()
+/// }
+///
+/// // Of a file the first line is a shebang line, which is no token.
+/// assert_eq!(count(&LexedText::new("#!a\nb")), 5);
+/// assert_eq!(count(&LexedDocument::new("#!a\nb")), 2);
+/// ```
+///
+/// Each call that panics if a text is too long, a range is bad or an allocation fails has a twin that returns an error
+/// instead, like [`try_edit`](Lexed::try_edit).
+pub struct Lexed<E: Extent, S: Stepper = Steps> {
+    kept: erased::Lexed<S, E::Proved>,
+    /// Whether an edit has begun and not ended. Past it that means that a step panicked.
+    in_edit: bool,
 }
 
-kept_text! {
-    /// A text and its tokens, which are always those of lexing the text from scratch, as a part of a file. For a whole
-    /// file, with a shebang line and a frontmatter, use [`LexedDocument`](crate::LexedDocument).
-    ///
-    /// An edit lexes again only the tokens near it, and keeps all others.
+/// A text and its tokens, which are always those of lexing the text from scratch, as a part of a file. For a whole
+/// file, with a shebang line and a frontmatter, use [`LexedDocument`](crate::LexedDocument).
+///
+/// An edit lexes again only the tokens near it, and keeps all others.
+///
+/// ```
+/// use rustc_lexer::LexedText;
+///
+/// let mut lexed = LexedText::new("let ab = cd + ef;");
+/// let relexed = lexed.edit(12..13, "- 1 -");
+/// assert_eq!(lexed.text(), "let ab = cd - 1 - ef;");
+/// assert_eq!((relexed.kept_front, relexed.lexed, relexed.kept_back), (6, 7, 3));
+/// ```
+pub type LexedText<S = Steps> = Lexed<Text, S>;
+
+/// A whole file and its tokens, which are always those of [`tokenize_document`](crate::tokenize_document): they begin
+/// after a shebang line, and a frontmatter is one token.
+///
+/// It has the calls of a [`LexedText`](crate::LexedText), which is for a part of a file. An edit after the head, which
+/// is the shebang line and the frontmatter, keeps of the tokens there what it would keep of them alone, unless it
+/// changes the head.
+///
+/// ```
+/// use rustc_lexer::{LexedDocument, TokenKind};
+///
+/// let mut lexed = LexedDocument::new("#!/bin/sh\n---\n[package]\n---\nfn main() {}");
+/// assert!(matches!(lexed.tokens()[1].kind, TokenKind::Frontmatter { .. }));
+///
+/// // Without the second fence all that follows the first is the frontmatter, and with it again it is code.
+/// lexed.edit(24..27, "");
+/// assert_eq!(lexed.tokens().len(), 2);
+/// lexed.edit(24..24, "---");
+/// assert_eq!(lexed.pieces().nth(3).map(|piece| (piece.start, piece.text)), Some((28, "fn")));
+/// ```
+///
+/// The first of its pieces begins at [`shebang_len`](LexedDocument::shebang_len). A shebang line is not a piece: if an
+/// edit changes it, `kept_front` is 0, and the text before the first piece is to be repainted too.
+pub type LexedDocument<S = Steps> = Lexed<Document, S>;
+
+/// How much of a file a text is: [`Text`] or [`Document`], and nothing else.
+pub trait Extent: sealed::Sealed {}
+
+/// A part of a file: the extent of a [`LexedText`].
+pub enum Text {}
+
+/// A whole file: the extent of a [`LexedDocument`].
+pub enum Document {}
+
+impl Extent for Text {}
+impl Extent for Document {}
+
+mod sealed {
+    use crate::edit_error::{EditError, try_fitting};
+    use crate::erased::relex::head::{self, Part, Whole};
+    use crate::erased::{Edition, Lexed, Steps};
+    use crate::support::Global;
+
+    pub trait Sealed {
+        /// What the proved source calls it.
+        type Proved: head::Extent;
+        /// The name of its kept text.
+        const NAME: &'static str;
+
+        /// Lexes a text. Nothing in it is generic, so it is compiled with this crate.
+        fn lex(text: &str, edition: Edition) -> Result<Lexed<Steps, Self::Proved>, EditError>;
+    }
+
+    impl Sealed for super::Text {
+        type Proved = Part;
+        const NAME: &'static str = "LexedText";
+
+        #[cfg_attr(not(debug_assertions), inline)]
+        fn lex(text: &str, edition: Edition) -> Result<Lexed<Steps, Part>, EditError> {
+            Ok(Lexed::new_in(Global, try_fitting(text)?, edition)?)
+        }
+    }
+
+    impl Sealed for super::Document {
+        type Proved = Whole;
+        const NAME: &'static str = "LexedDocument";
+
+        #[cfg_attr(not(debug_assertions), inline)]
+        fn lex(text: &str, edition: Edition) -> Result<Lexed<Steps, Whole>, EditError> {
+            Ok(Lexed::new_in(Global, try_fitting(text)?, edition)?)
+        }
+    }
+}
+
+impl<E: Extent> Lexed<E> {
+    /// Returns the text with its tokens in the newest edition.
     ///
     /// ```
     /// use rustc_lexer::LexedText;
     ///
-    /// let mut lexed = LexedText::new("let ab = cd + ef;");
-    /// let relexed = lexed.edit(12..13, "- 1 -");
-    /// assert_eq!(lexed.text(), "let ab = cd - 1 - ef;");
-    /// assert_eq!((relexed.kept_front, relexed.lexed, relexed.kept_back), (6, 7, 3));
+    /// assert_eq!(LexedText::new("let x;").tokens().len(), 4);
     /// ```
     ///
-    /// Each call that panics if a text is too long, a range is bad or an allocation fails has a twin that returns an error
-    /// instead, like [`try_edit`](LexedText::try_edit).
-    LexedText
+    /// # Panics
+    ///
+    /// Panics if the text has more than `u32::MAX` bytes, or if an allocation fails.
+    #[must_use]
+    #[track_caller]
+    pub fn new(text: impl AsRef<str>) -> Self {
+        Self::new_in(text, Edition::NEWEST)
+    }
+
+    /// Returns the text with its tokens in an edition.
+    ///
+    /// ```
+    /// use rustc_lexer::{Edition, LexedText};
+    ///
+    /// assert_eq!(LexedText::new_in("'r#a", Edition::E2018).tokens().len(), 3);
+    /// ```
+    ///
+    /// # Panics
+    ///
+    /// Panics if the text has more than `u32::MAX` bytes, or if an allocation fails.
+    #[must_use]
+    #[track_caller]
+    pub fn new_in(text: impl AsRef<str>, edition: Edition) -> Self {
+        made(Self::try_new_in(text, edition))
+    }
+
+    /// Returns the text with its tokens in an edition.
+    ///
+    /// ```
+    /// use rustc_lexer::{Edition, LexedText};
+    ///
+    /// let lexed = LexedText::try_new_in("let x;", Edition::E2021)?;
+    /// assert_eq!(lexed.tokens().len(), 4);
+    /// # Ok::<(), rustc_lexer::EditError>(())
+    /// ```
+    ///
+    /// # Errors
+    ///
+    /// `TooLong` if the text has more than `u32::MAX` bytes, `Memory` if an allocation failed.
+    pub fn try_new_in(text: impl AsRef<str>, edition: Edition) -> Result<Self, EditError> {
+        Ok(Lexed::of(E::lex(text.as_ref(), edition)?))
+    }
+
+    /// Returns the text, of which it copies nothing, with its tokens in an edition.
+    ///
+    /// ```
+    /// use rustc_lexer::{Edition, LexedText};
+    ///
+    /// let text = String::from("let x;");
+    /// let lexed = LexedText::try_from_string_in(text, Edition::E2021)?;
+    /// assert_eq!(lexed.tokens().len(), 4);
+    /// # Ok::<(), rustc_lexer::EditError>(())
+    /// ```
+    ///
+    /// # Errors
+    ///
+    /// `TooLong` if the text has more than `u32::MAX` bytes, `Memory` if an allocation failed. The text is dropped.
+    pub fn try_from_string_in(text: String, edition: Edition) -> Result<Self, EditError> {
+        try_fitting(&text)?;
+        let steps = Steps::new_in(edition);
+        Ok(Lexed::of(erased::Lexed::with_string(
+            Global,
+            text.into(),
+            steps,
+        )?))
+    }
+
+    /// Returns the edition of the tokens. Edits keep it.
+    ///
+    /// ```
+    /// use rustc_lexer::{Edition, LexedText};
+    ///
+    /// assert_eq!(LexedText::new("").edition(), Edition::NEWEST);
+    /// ```
+    #[must_use]
+    pub fn edition(&self) -> Edition {
+        self.kept.edition()
+    }
+
+    /// Lexes the text again, in another edition. It copies no text.
+    ///
+    /// ```
+    /// use rustc_lexer::{Edition, LexedText};
+    ///
+    /// let mut lexed = LexedText::new("'r#a");
+    /// lexed.set_edition(Edition::E2015);
+    /// assert_eq!(lexed.tokens().len(), 3);
+    /// ```
+    ///
+    /// # Panics
+    ///
+    /// Panics if an allocation fails. Nothing changes then.
+    pub fn set_edition(&mut self, edition: Edition) {
+        made(self.try_set_edition(edition));
+    }
+
+    /// Lexes the text again, in another edition.
+    ///
+    /// ```
+    /// use rustc_lexer::{Edition, LexedText};
+    ///
+    /// let mut lexed = LexedText::new("'r#a");
+    /// lexed.try_set_edition(Edition::E2018)?;
+    /// assert_eq!(lexed.tokens().len(), 3);
+    /// # Ok::<(), rustc_lexer::AllocError>(())
+    /// ```
+    ///
+    /// # Errors
+    ///
+    /// If an allocation fails. Nothing changes then.
+    pub fn try_set_edition(&mut self, edition: Edition) -> Result<(), AllocError> {
+        self.kept.set_edition(edition)
+    }
+
+    /// Returns the stepper that the tokens came from.
+    ///
+    /// ```
+    /// use rustc_lexer::{LexedText, Stepper};
+    ///
+    /// let mut steps = LexedText::new("a b").stepper().clone();
+    /// assert_eq!(steps.step("let x").len, 3);
+    /// ```
+    #[must_use]
+    pub fn stepper(&self) -> &Steps {
+        self.kept.stepper()
+    }
 }
 
-kept_text! {
-    /// A whole file and its tokens, which are always those of [`tokenize_document`](crate::tokenize_document): they begin
-    /// after a shebang line, and a frontmatter is one token.
-    ///
-    /// It has the calls of a [`LexedText`](crate::LexedText), which is for a part of a file. An edit after the head, which
-    /// is the shebang line and the frontmatter, keeps of the tokens there what it would keep of them alone, unless it changes
-    /// the head.
+impl<S: Stepper, E: Extent> Lexed<E, Checked<S>> {
+    /// Returns the text with its tokens by a stepper of your own. The head of a whole file is not lexed by it.
     ///
     /// ```
-    /// use rustc_lexer::{LexedDocument, TokenKind};
+    /// use rustc_lexer::{LexedText, Steps};
     ///
-    /// let mut lexed = LexedDocument::new("#!/bin/sh\n---\n[package]\n---\nfn main() {}");
-    /// assert!(matches!(lexed.tokens()[1].kind, TokenKind::Frontmatter { .. }));
-    ///
-    /// // Without the second fence all that follows the first is the frontmatter, and with it again it is code.
-    /// lexed.edit(24..27, "");
-    /// assert_eq!(lexed.tokens().len(), 2);
-    /// lexed.edit(24..24, "---");
-    /// assert_eq!(lexed.pieces().nth(3).map(|piece| (piece.start, piece.text)), Some((28, "fn")));
+    /// let lexed = LexedText::try_with("let x;", Steps::new()).unwrap();
+    /// assert_eq!(lexed.tokens().len(), 4);
     /// ```
     ///
-    /// The first of its pieces begins at [`shebang_len`](LexedDocument::shebang_len). A shebang line is not a piece: if an edit
-    /// changes it, `kept_front` is 0, and the text before the first piece is to be repainted too.
+    /// The tokens are taken by `step`, and where each ends is tested. For [`Steps`] itself `try_new_in` is twice as
+    /// fast.
     ///
-    /// Each call that panics if a text is too long, a range is bad or an allocation fails has a twin that returns an error
-    /// instead, like [`try_edit`](LexedDocument::try_edit).
-    LexedDocument
+    /// # Panics
+    ///
+    /// Panics if `step` does, or if a token of it is empty, is longer than the text or ends inside a character. So
+    /// do edits: `text` then has the edit, and each call that needs the tokens panics. An edit that is refused needs
+    /// none.
+    ///
+    /// # Errors
+    ///
+    /// `TooLong` if the text has more than `u32::MAX` bytes, `Memory` if an allocation failed.
+    pub fn try_with(text: impl AsRef<str>, stepper: S) -> Result<Self, EditError> {
+        let text = try_fitting(text.as_ref())?;
+        Ok(Lexed::of(erased::Lexed::with(
+            Global,
+            text,
+            Checked(stepper),
+        )?))
+    }
+
+    /// Returns the stepper that the tokens came from.
+    ///
+    /// ```
+    /// use rustc_lexer::{LexedText, Stepper, Steps};
+    ///
+    /// let lexed = LexedText::try_with("a b", Steps::new()).unwrap();
+    /// let mut steps = lexed.stepper().clone();
+    /// assert_eq!(steps.step("let x").len, 3);
+    /// ```
+    #[must_use]
+    pub fn stepper(&self) -> &S {
+        &self.kept.stepper().0
+    }
 }
 
-impl<S: Stepper> LexedText<S> {
+impl<S: Stepper, E: Extent> Lexed<E, S> {
+    fn of(kept: erased::Lexed<S, E::Proved>) -> Self {
+        Lexed {
+            kept,
+            in_edit: false,
+        }
+    }
+
+    /// Returns what is kept. Panics if a step of an edit panicked: then the tokens are not those of the text.
+    #[track_caller]
+    fn whole(&self) -> &erased::Lexed<S, E::Proved> {
+        assert!(
+            !self.in_edit,
+            "a panic in `Stepper::step` left this text without tokens"
+        );
+        &self.kept
+    }
+
+    /// Makes edits. If a step panics on the way, the text is left without tokens.
+    #[track_caller]
+    fn change<T>(&mut self, edits: impl FnOnce(&mut erased::Lexed<S, E::Proved>) -> T) -> T {
+        self.whole();
+        self.in_edit = true;
+        let answer = edits(&mut self.kept);
+        self.in_edit = false;
+        answer
+    }
+
+    /// Returns the text.
+    ///
+    /// ```
+    /// use rustc_lexer::LexedText;
+    ///
+    /// assert_eq!(LexedText::new("#!/bin/sh\n").text(), "#!/bin/sh\n");
+    /// ```
+    #[must_use]
+    pub fn text(&self) -> &str {
+        self.kept.text()
+    }
+
+    /// Returns its tokens, in order.
+    ///
+    /// ```
+    /// use rustc_lexer::{LexedText, TokenKind};
+    ///
+    /// let lexed = LexedText::new("a + b");
+    /// assert_eq!(lexed.tokens()[2].kind, TokenKind::Plus);
+    /// ```
+    #[must_use]
+    #[track_caller]
+    pub fn tokens(&self) -> &[Token] {
+        self.whole().tokens()
+    }
+
+    /// Returns the text, and drops its tokens. It copies nothing.
+    ///
+    /// ```
+    /// use rustc_lexer::LexedText;
+    ///
+    /// let mut lexed = LexedText::new("let x;");
+    /// lexed.edit(4..5, "y");
+    /// assert_eq!(lexed.into_string(), "let y;");
+    /// ```
+    #[must_use]
+    pub fn into_string(self) -> String {
+        self.kept.into_string().into()
+    }
+
+    /// Returns the tokens with their offsets and their texts, in order. They can be taken from either end.
+    ///
+    /// ```
+    /// use rustc_lexer::LexedText;
+    ///
+    /// let lexed = LexedText::new("a + b");
+    /// assert_eq!(lexed.pieces().nth(2).map(|piece| (piece.start, piece.text)), Some((2, "+")));
+    /// assert_eq!(lexed.pieces().next_back().map(|piece| (piece.start, piece.text)), Some((4, "b")));
+    /// ```
+    #[track_caller]
+    pub fn pieces(&self) -> Pieces<'_> {
+        self.whole().pieces()
+    }
+
+    /// Returns the pieces of some tokens, by their numbers. After an edit, repaint those of `relexed.range()`.
+    ///
+    /// ```
+    /// use rustc_lexer::LexedText;
+    ///
+    /// let mut lexed = LexedText::new("a + b + c + d");
+    /// let relexed = lexed.edit(8..8, "x");
+    /// let painted: Vec<&str> = lexed.pieces_of(relexed.range()).map(|piece| piece.text).collect();
+    /// assert_eq!(painted, ["+", " ", "xc"]);
+    /// ```
+    ///
+    /// # Panics
+    ///
+    /// Panics if there are no such tokens.
+    #[track_caller]
+    pub fn pieces_of(&self, numbers: impl RangeBounds<usize>) -> Pieces<'_> {
+        let numbers = checked_range(&numbers, self.tokens());
+        self.whole().pieces_of(numbers.start, numbers.end)
+    }
+
+    /// Returns the token that contains the byte at `offset`: its number, and where it begins. `None` at and past the
+    /// end of the text, and in a shebang line, which is no token.
+    ///
+    /// It reads few of the tokens, most of all near the last edit.
+    ///
+    /// ```
+    /// use rustc_lexer::{Bound, LexedText};
+    ///
+    /// let lexed = LexedText::new("let abc;");
+    /// assert_eq!(lexed.token_at(6), Some(Bound { number: 2, offset: 4 }));
+    /// assert_eq!(lexed.token_at(8), None);
+    /// ```
+    #[must_use]
+    #[track_caller]
+    pub fn token_at(&self, offset: usize) -> Option<Bound> {
+        self.whole().token_at(offset)
+    }
+
+    /// Returns the piece that contains the byte at `offset`, like that under a caret. `None` at and past the end of the
+    /// text, and in a shebang line.
+    ///
+    /// ```
+    /// use rustc_lexer::LexedText;
+    ///
+    /// let lexed = LexedText::new("let abc;");
+    /// assert_eq!(lexed.piece_at(6).map(|piece| (piece.start, piece.text)), Some((4, "abc")));
+    /// assert_eq!(lexed.piece_at(8), None);
+    /// ```
+    #[doc(alias("caret", "cursor", "offset"))]
+    #[must_use]
+    #[track_caller]
+    pub fn piece_at(&self, offset: usize) -> Option<Piece<'_>> {
+        self.whole().piece_at(offset)
+    }
+
+    /// Returns the pieces of the tokens that contain a byte of the range, like those of the lines in view. The
+    /// range may end anywhere, also past the text. An empty range has no piece.
+    ///
+    /// ```
+    /// use rustc_lexer::LexedText;
+    ///
+    /// let lexed = LexedText::new("let abc = 1;");
+    /// let seen: Vec<&str> = lexed.pieces_in(5..9).map(|piece| piece.text).collect();
+    /// assert_eq!(seen, ["abc", " ", "="]);
+    /// ```
+    ///
+    /// Backwards from a caret:
+    ///
+    /// ```
+    /// use rustc_lexer::LexedText;
+    ///
+    /// let lexed = LexedText::new("f(a, b");
+    /// let opens = lexed.pieces_in(..6).rev().find(|piece| piece.text == "(");
+    /// assert_eq!(opens.map(|piece| piece.start), Some(1));
+    /// ```
+    #[track_caller]
+    pub fn pieces_in(&self, range: impl RangeBounds<usize>) -> Pieces<'_> {
+        let range = range_in(&range, self.text().len());
+        self.whole().pieces_in(range.start, range.end)
+    }
+
+    /// Returns whether the range is in bounds and on char boundaries, and the new text has at most `u32::MAX`
+    /// bytes.
+    ///
+    /// ```
+    /// use rustc_lexer::LexedText;
+    ///
+    /// let lexed = LexedText::new("é");
+    /// assert!(lexed.accepts(0..2, "e") && !lexed.accepts(1..2, "e"));
+    /// ```
+    #[must_use]
+    pub fn accepts(&self, range: impl RangeBounds<usize>, insert: &str) -> bool {
+        let range = range_in(&range, self.text().len());
+        self.kept.accepts(range.start, range.end, insert)
+    }
+
+    /// Replaces the bytes of the range by `insert`.
+    ///
+    /// ```
+    /// use rustc_lexer::LexedText;
+    ///
+    /// let mut lexed = LexedText::new("let x = 1;");
+    /// lexed.edit(8..9, "\"one\"");
+    /// assert_eq!((lexed.text(), lexed.tokens().len()), ("let x = \"one\";", 8));
+    /// ```
+    ///
+    /// # Panics
+    ///
+    /// Panics if `try_edit` returns an error. Text and tokens are then as they were.
+    #[track_caller]
+    pub fn edit(&mut self, range: impl RangeBounds<usize>, insert: &str) -> Relexed {
+        let range = range_in(&range, self.text().len());
+        match self.try_edit(range.clone(), insert) {
+            Ok(relexed) => relexed,
+            Err(error) => panic!("the edit of {range:?}: {error}"),
+        }
+    }
+
+    /// Replaces the bytes of the range by `insert`.
+    ///
+    /// ```
+    /// use rustc_lexer::{EditError, LexedText};
+    ///
+    /// let mut lexed = LexedText::new("let é;");
+    /// assert_eq!(lexed.try_edit(4..5, "e"), Err(EditError::Range));
+    /// assert_eq!(lexed.try_edit(4..6, "e").map(|relexed| relexed.lexed), Ok(3));
+    /// assert_eq!(lexed.text(), "let e;");
+    /// ```
+    ///
+    /// # Errors
+    ///
+    /// `Range` if the range is out of bounds or not on char boundaries, `TooLong` if the new text has more than
+    /// `u32::MAX` bytes, `Memory` if an allocation failed. Text and tokens are then as they were.
+    #[track_caller]
+    pub fn try_edit(
+        &mut self,
+        range: impl RangeBounds<usize>,
+        insert: &str,
+    ) -> Result<Relexed, EditError> {
+        let range = range_in(&range, self.text().len());
+        check_accepted(|insert| self.accepts(range.clone(), insert), insert)?;
+        Ok(self.change(|kept| kept.edit(range.start, range.end, insert))?)
+    }
+
+    /// Makes the edits in order, each on the text that those before it leave.
+    ///
+    /// ```
+    /// use rustc_lexer::{Edit, EditStop, LexedText};
+    ///
+    /// let mut lexed = LexedText::new("a");
+    /// let edits = [Edit { start: 1, stop: 1, insert: "+b" }, Edit { start: 9, stop: 9, insert: "" }];
+    /// assert_eq!(lexed.edit_all(&edits), Err(EditStop::Range { at: 1 }));
+    /// assert_eq!(lexed.text(), "a+b");
+    /// ```
+    ///
+    /// # Errors
+    ///
+    /// Which edit is the first that is refused, and why. Those before it are made.
+    #[track_caller]
+    pub fn edit_all(&mut self, edits: &[Edit<'_>]) -> Result<(), EditStop> {
+        self.change(|kept| kept.edit_all(edits))
+    }
+
+    /// Makes the edits as `edit_all` does, and returns which tokens all of them kept: what to repaint is between.
+    ///
+    /// ```
+    /// use rustc_lexer::{Edit, LexedText, Relexed};
+    ///
+    /// let mut lexed = LexedText::new("a b c d e f g");
+    /// let edits = [Edit { start: 8, stop: 9, insert: "+" }, Edit { start: 4, stop: 5, insert: "-" }];
+    /// let relexed = lexed.edit_each(&edits)?;
+    /// assert_eq!(relexed, Relexed { kept_front: 2, lexed: 7, kept_back: 4 });
+    /// assert_eq!(lexed.text(), "a b - d + f g");
+    /// # Ok::<(), rustc_lexer::Stopped>(())
+    /// ```
+    ///
+    /// # Errors
+    ///
+    /// Which edit is the first that is refused, why, and which tokens the edits before it kept. Those are made.
+    #[track_caller]
+    pub fn edit_each(&mut self, edits: &[Edit<'_>]) -> Result<Relexed, Stopped> {
+        self.change(|kept| kept.edit_each(edits))
+    }
+
+    /// Makes the edits at once, like those of a rename or of several carets. All have offsets of the present text, are
+    /// in order and do not overlap, but may touch.
+    ///
+    /// It is one edit, from where the first begins to where the last ends, and returns its counts. An empty list keeps
+    /// all tokens in front.
+    ///
+    /// ```
+    /// use rustc_lexer::{Edit, EditStop, LexedText, Relexed};
+    ///
+    /// let mut lexed = LexedText::new("a b c b d");
+    /// let edits = [Edit { start: 2, stop: 3, insert: "new" }, Edit { start: 6, stop: 7, insert: "new" }];
+    /// let relexed = lexed.edit_at_once(&edits)?;
+    /// assert_eq!(relexed, Relexed { kept_front: 0, lexed: 7, kept_back: 2 });
+    /// assert_eq!(lexed.text(), "a new c new d");
+    /// assert_eq!(lexed.edit_at_once(&[edits[1], edits[0]]), Err(EditStop::Range { at: 1 }));
+    /// # Ok::<(), EditStop>(())
+    /// ```
+    ///
+    /// # Errors
+    ///
+    /// `Range` says which is the first edit that is out of bounds or not on char boundaries, or begins before the one
+    /// in front of it ends. `TooLong` and `Memory` name the last. Text and tokens are then as they were.
+    #[track_caller]
+    pub fn edit_at_once(&mut self, edits: &[Edit<'_>]) -> Result<Relexed, EditStop> {
+        self.change(|kept| kept.edit_at_once(edits))
+    }
+
+    /// Makes the text another one, like one that a formatter wrote, by one edit of what differs: between the
+    /// longest front that both texts have, and the longest back that they have behind that.
+    ///
+    /// Returns the counts of that edit. If the text is the same already, all tokens are kept in front.
+    ///
+    /// ```
+    /// use rustc_lexer::{LexedText, Relexed};
+    ///
+    /// let mut lexed = LexedText::new("let x=1;let y = 2;");
+    /// let relexed = lexed.set_text("let x = 1;let y = 2;");
+    /// assert_eq!(relexed, Relexed { kept_front: 1, lexed: 5, kept_back: 10 });
+    /// assert_eq!(lexed.text(), "let x = 1;let y = 2;");
+    /// ```
+    ///
+    /// # Panics
+    ///
+    /// Panics if `try_set_text` returns an error. Text and tokens are then as they were.
+    #[track_caller]
+    pub fn set_text(&mut self, text: impl AsRef<str>) -> Relexed {
+        made(self.try_set_text(text))
+    }
+
+    /// Makes the text another one by one edit, as `set_text` does.
+    ///
+    /// ```
+    /// use rustc_lexer::LexedText;
+    ///
+    /// let mut lexed = LexedText::new("let x;");
+    /// assert_eq!(lexed.try_set_text("let x;")?.lexed, 0);
+    /// # Ok::<(), rustc_lexer::EditError>(())
+    /// ```
+    ///
+    /// # Errors
+    ///
+    /// `TooLong` if the new text has more than `u32::MAX` bytes, `Memory` if an allocation failed. Text and tokens
+    /// are then as they were.
+    #[track_caller]
+    pub fn try_set_text(&mut self, text: impl AsRef<str>) -> Result<Relexed, EditError> {
+        let text = try_fitting(text.as_ref())?;
+        Ok(self.change(|kept| kept.set_text(text))?)
+    }
+
+    /// Gives back the memory that edits have left unused, by copying what is kept. If an allocation fails, the
+    /// unused memory stays. Text, tokens and stepper do not change.
+    ///
+    /// ```
+    /// use rustc_lexer::LexedText;
+    ///
+    /// let mut lexed = LexedText::new("a ".repeat(1000));
+    /// lexed.edit(0..0, "\"");
+    /// lexed.shrink_to_fit();
+    /// assert_eq!(lexed.tokens().len(), 1);
+    /// ```
+    pub fn shrink_to_fit(&mut self) {
+        self.kept.shrink_to_fit();
+    }
+}
+
+// Derived it would want `E::Proved: Clone`, which no caller can name.
+impl<S: Stepper + Clone, E: Extent> Clone for Lexed<E, S> {
+    fn clone(&self) -> Self {
+        Lexed {
+            kept: self.kept.clone(),
+            in_edit: self.in_edit,
+        }
+    }
+}
+
+impl<S: Stepper, E: Extent> fmt::Debug for Lexed<E, S> {
+    fn fmt(&self, f: &mut fmt::Formatter<'_>) -> fmt::Result {
+        let mut shown = f.debug_struct(E::NAME);
+        shown.field("text", &self.text());
+        if !self.in_edit {
+            shown.field("tokens", &self.tokens());
+        }
+        shown.finish_non_exhaustive()
+    }
+}
+
+/// Two are equal if their texts, their tokens and their steppers are; two [`Steps`] are, if their editions are.
+/// Where the texts are equal, it needs the tokens.
+///
+/// ```
+/// use rustc_lexer::{Edition, LexedText};
+///
+/// let mut lexed = LexedText::new("a");
+/// assert_ne!(lexed, LexedText::new_in("a", Edition::E2015));
+/// lexed.edit(1..1, "b");
+/// assert_eq!(lexed, LexedText::new("ab"));
+/// ```
+impl<S: Stepper + PartialEq, E: Extent> PartialEq for Lexed<E, S> {
+    #[track_caller]
+    fn eq(&self, other: &Self) -> bool {
+        self.text() == other.text()
+            && self.tokens() == other.tokens()
+            && self.kept.stepper() == other.kept.stepper()
+    }
+}
+
+impl<S: Stepper + Eq, E: Extent> Eq for Lexed<E, S> {}
+
+/// Keeps the text, of which it copies nothing, with its tokens in the newest edition.
+///
+/// ```
+/// use rustc_lexer::LexedText;
+///
+/// let mut lexed = LexedText::from(String::from("let x;"));
+/// lexed.edit(4..5, "y");
+/// assert_eq!(lexed.into_string(), "let y;");
+/// ```
+///
+/// # Panics
+///
+/// Panics if the text has more than `u32::MAX` bytes, or if an allocation fails.
+impl<E: Extent> From<String> for Lexed<E> {
+    #[track_caller]
+    fn from(text: String) -> Self {
+        made(Self::try_from_string_in(text, Edition::NEWEST))
+    }
+}
+
+/// That of the empty text.
+impl<E: Extent> Default for Lexed<E> {
+    fn default() -> Self {
+        Self::new("")
+    }
+}
+
+impl<S: Stepper> Lexed<Text, S> {
     /// Returns where the last token ends that at least two characters follow, in bytes, or 0 if there is none. Whatever is
     /// appended to the text, its tokens up to there stay.
     ///
@@ -657,12 +766,13 @@ impl<S: Stepper> LexedText<S> {
     /// assert_eq!(lexed.settled(), 12);
     /// ```
     #[must_use]
+    #[track_caller]
     pub fn settled(&self) -> usize {
         self.whole().settled()
     }
 }
 
-impl<S: Stepper> LexedDocument<S> {
+impl<S: Stepper> Lexed<Document, S> {
     /// Returns the length of the shebang line, or 0. The first token begins there.
     ///
     /// ```
@@ -672,6 +782,7 @@ impl<S: Stepper> LexedDocument<S> {
     /// assert_eq!(LexedDocument::new("#![no_std]").shebang_len(), 0);
     /// ```
     #[must_use]
+    #[track_caller]
     pub fn shebang_len(&self) -> usize {
         self.whole().shebang_len()
     }
@@ -685,30 +796,9 @@ impl<S: Stepper> LexedDocument<S> {
     /// assert_eq!((body.number, body.offset), (2, 17));
     /// ```
     #[must_use]
+    #[track_caller]
     pub fn body(&self) -> Bound {
         self.whole().body()
-    }
-
-    /// Returns where the last token ends that at least two characters follow, in bytes, or the length of the shebang line
-    /// if there is none. Whatever is appended to the text, its tokens up to there stay.
-    ///
-    /// It is 0 as long as the head may change: after `#!`, until the line has ended, and a token that is neither white
-    /// space nor a plain comment tells whether it is a shebang line; while white space or fewer than three dashes may
-    /// become a frontmatter; and in a frontmatter, until a line of as many dashes as the first has ended.
-    ///
-    /// It lexes nothing past the head, and reads only the last tokens.
-    ///
-    /// ```
-    /// use rustc_lexer::LexedDocument;
-    ///
-    /// let mut lexed = LexedDocument::new("---\nedition = 2024\n---");
-    /// assert_eq!(lexed.settled(), 0);
-    /// lexed.edit(22.., "\n\nfn main");
-    /// assert_eq!(lexed.settled(), 27);
-    /// ```
-    #[must_use]
-    pub fn settled(&self) -> usize {
-        self.whole().settled()
     }
 }
 

@@ -19,6 +19,7 @@
 //! | many tokens at once | [`Tokens::fill`], `Tokens::into_vec` |
 //! | to take those of [`tokenize`] one by one, and look ahead | [`Cursor`] |
 //! | the tokens of a file while it is edited | [`LexedDocument`], or [`LexedText`] for a part of a file |
+//! | several edits at once, like those of a rename | [`LexedText::edit_at_once`] |
 //! | the same on lists of your own | the module [`lists`] |
 //! | the final tokens of a text that is still arriving | [`LexedText::settled`]; [`settled_in`] lexes it all |
 //! | to write tokens so that lexing gives them back | [`JoinedText`] |
@@ -32,14 +33,12 @@
 //! of [`LexedDocument`] test what the contracts require of a caller, and where the tokens of a [`Stepper`] end.
 //! The module [`lists`] tests nothing: lists or a head that are not those of the old text give wrong tokens or a panic.
 //! The repository's `docs/ERASED.md` says what is claimed and what is trusted.
-//!
-//! # A program that keeps the tokens of a file
-//!
-#![cfg_attr(feature = "alloc", doc = "```no_run")]
-#![cfg_attr(not(feature = "alloc"), doc = "```ignore")]
-#![doc = include_str!("../examples/typing.rs")]
-//! ```
-
+#![cfg_attr(
+    feature = "alloc",
+    doc = "\n# A program that keeps the tokens of a file\n\n```no_run"
+)]
+#![cfg_attr(feature = "alloc", doc = include_str!("../examples/typing.rs"))]
+#![cfg_attr(feature = "alloc", doc = "```")]
 #![no_std]
 #![cfg_attr(docsrs, feature(doc_cfg))]
 #![deny(missing_docs)]
@@ -63,7 +62,7 @@ mod edit_error;
 /// change with the source. All other callers use the calls at the crate's root.
 // Contracts alone use some imports of the source, and Clippy would write some of it otherwise.
 #[allow(unused_imports, dead_code)]
-#[allow(clippy::collapsible_if)]
+#[allow(clippy::collapsible_if, clippy::manual_map)]
 #[allow(clippy::len_without_is_empty, clippy::new_without_default)]
 #[allow(clippy::too_many_arguments)]
 #[doc(hidden)]
@@ -89,96 +88,19 @@ pub use edit_error::EditError;
 #[doc(alias("offset", "position"))]
 #[doc(inline)]
 pub use erased::Bound;
-/// The version of the language that a text is written in, by the year that names it.
-///
-/// The editions differ in a few tokens, like `#"` and `'a#`. One difference is left to a compiler: in each edition `c"`,
-/// `cr"`, `cr#` and `k#` begin one token, where a compiler reads an identifier before 2021.
-///
-/// ```
-/// use rustc_lexer::Edition;
-///
-/// assert_eq!("2021".parse(), Ok(Edition::E2021));
-/// assert_eq!(Edition::try_from(2018), Ok(Edition::E2018));
-/// assert_eq!(Edition::ALL[0].year(), 2015);
-/// ```
-#[doc(inline)]
-pub use erased::Edition;
 #[cfg(feature = "alloc")]
 #[doc(inline)]
 pub use erased::JoinError;
-/// Which literal a token is: a number, a character, a byte or a string, and whether it is whole.
-///
-/// ```
-/// use rustc_lexer::LiteralKind;
-///
-/// let kind = LiteralKind::Str { terminated: true };
-/// assert_eq!(kind.name(), "Str");
-/// assert_eq!(kind.number(), 5);
-/// ```
-#[doc(inline)]
-pub use erased::LiteralKind;
 #[doc(alias("offset", "range", "span"))]
 #[doc(inline)]
 pub use erased::Piece;
-/// What [`Tokens::fill`] writes of a token into a buffer.
-///
-/// Here it is the kind alone:
-///
-/// ```
-/// use rustc_lexer::{FrontmatterAllowed, Record, Token, TokenKind, tokenize};
-///
-/// #[derive(Clone, Copy, Debug, PartialEq)]
-/// struct Kind(TokenKind);
-///
-/// impl Record for Kind {
-///     fn of(token: Token) -> Kind {
-///         Kind(token.kind)
-///     }
-/// }
-///
-/// let mut kinds = [Kind(TokenKind::Eof); 4];
-/// assert_eq!(tokenize("a+b", FrontmatterAllowed::No).fill(&mut kinds), 3);
-/// assert_eq!(kinds[1], Kind(TokenKind::Plus));
-/// ```
-#[doc(inline)]
-pub use erased::Record;
-#[doc(inline)]
-pub use erased::Relexed;
-/// A lexer of your own, which gives the first token of a text.
-///
-/// `try_with` of a [`LexedText`] takes one. It calls `step` alone, and tests where each token ends. The module [`lists`]
-/// tests nothing: there tokens of no length never come to an end. By this one each character is a token:
-///
-/// ```
-/// use rustc_lexer::{Stepper, Token, TokenKind};
-///
-/// struct Characters;
-///
-/// impl Stepper for Characters {
-///     fn step(&mut self, rest: &str) -> Token {
-///         let len = rest.chars().next().map_or(0, char::len_utf8) as u32;
-///         Token { kind: TokenKind::Unknown, len }
-///     }
-/// }
-///
-/// assert_eq!(Characters.step("é+").len, 2);
-/// ```
-#[doc(inline)]
-pub use erased::Stepper;
-/// What a token is: white space, a comment, a word, a literal, a lifetime or a symbol. Words are not told from keywords.
-///
-/// ```
-/// use rustc_lexer::TokenKind;
-///
-/// assert_eq!(TokenKind::Plus.name(), "Plus");
-/// assert_eq!(TokenKind::Plus.number(), 37);
-/// ```
 #[doc(alias("highlight", "keyword"))]
 #[doc(inline)]
 pub use erased::TokenKind;
 #[doc(inline)]
 pub use erased::{
-    Base, DocStyle, FrontmatterAllowed, GuardedStr, RawStrError, Steps, Token, UnknownEdition,
+    Base, DocStyle, Edition, FrontmatterAllowed, GuardedStr, LiteralKind, RawStrError, Record,
+    Relexed, Stepper, Steps, Token, UnknownEdition,
 };
 #[cfg(feature = "alloc")]
 #[doc(inline)]
@@ -186,8 +108,10 @@ pub use erased::{Edit, EditStop, Pieces, Stopped};
 #[cfg(feature = "alloc")]
 pub use joined_text::JoinedText;
 #[cfg(feature = "alloc")]
+pub use kept::{Document, Extent, Text};
+#[cfg(feature = "alloc")]
 #[doc(alias("edit", "incremental", "relex", "reparse"))]
-pub use kept::{LexedDocument, LexedText};
+pub use kept::{Lexed, LexedDocument, LexedText};
 // What links in the texts name: some are elsewhere, and some are hidden where there is no memory.
 #[cfg(all(doc, not(feature = "alloc")))]
 use erased::{JoinedText, LexedDocument, LexedText, Pieces};
@@ -206,8 +130,12 @@ pub use tokens::{EditionTokens, Tokens, tokenize, tokenize_as, tokenize_document
 #[doc(inline)]
 pub use unicode_ident::UNICODE_VERSION;
 
+// The calls of this crate are `inline` in a release alone: a program that optimizes only its dependencies would compile
+// such a call itself, without optimization.
+
 /// Returns the text. Panics if it is too long.
-#[inline(always)]
+#[cfg_attr(not(debug_assertions), inline(always))]
+#[track_caller]
 fn fitting(text: &str) -> &str {
     assert!(fits(text), "the text has more than u32::MAX bytes");
     text
@@ -226,6 +154,7 @@ fn fitting(text: &str) -> &str {
 ///
 /// Panics if the text has more than `u32::MAX` bytes.
 #[must_use]
+#[track_caller]
 pub fn strip_shebang(input: &str) -> Option<usize> {
     erased::strip_shebang(fitting(input))
 }
@@ -248,6 +177,7 @@ pub fn strip_shebang(input: &str) -> Option<usize> {
 /// # Errors
 ///
 /// Returns what is wrong: what stands where its quote should, how many hashes are missing, or that they are too many.
+#[track_caller]
 pub fn validate_raw_str(input: &str, prefix_len: u32) -> Result<(), RawStrError> {
     let text = fitting(input);
     assert!(
@@ -272,6 +202,7 @@ pub fn validate_raw_str(input: &str, prefix_len: u32) -> Result<(), RawStrError>
 ///
 /// Panics if the text has more than `u32::MAX` bytes, or if `at` is not on a char boundary.
 #[must_use]
+#[track_caller]
 pub fn is_seam(text: &str, at: usize, edition: Edition) -> bool {
     let text = fitting(text);
     assert!(text.is_char_boundary(at), "`at` is not on a char boundary");
@@ -294,6 +225,7 @@ pub fn is_seam(text: &str, at: usize, edition: Edition) -> bool {
 ///
 /// Panics if the text has more than `u32::MAX` bytes.
 #[must_use]
+#[track_caller]
 pub fn settled(input: &str) -> usize {
     erased::settled(fitting(input))
 }
@@ -311,6 +243,7 @@ pub fn settled(input: &str) -> usize {
 ///
 /// Panics if the text has more than `u32::MAX` bytes.
 #[must_use]
+#[track_caller]
 pub fn settled_in(text: &str, edition: Edition) -> usize {
     erased::settled_in(fitting(text), edition)
 }

@@ -47,47 +47,8 @@
 //! assert_eq!(file.text, "#!a\n---\n---\nlet b;");
 //! ```
 
-/// Where the code of a whole file begins, and which tokens come before it.
-///
-/// ```
-/// use rustc_lexer::lists::{Change, Head};
-///
-/// let (old, new) = ("#!/bin/sh\nlet a;", "#!/bin/sh\nlet ab;");
-/// // A `b` was inserted at 15.
-/// let change = Change { start: 15, old_stop: 15, new_stop: 16 };
-/// let (head, now) = (Head::find(old), Head::find(new));
-/// let body = head.change_to(now, change);
-/// assert!(body.keeps_head);
-/// assert_eq!(&new[now.body..], "\nlet ab;");
-/// assert_eq!(body.change, Change { start: 6, old_stop: 6, new_stop: 7 });
-/// ```
-#[doc(inline)]
-pub use crate::erased::Head;
-/// An edit of a text whose tokens are in a list of your own, lexed token by token.
-///
-/// ```
-/// use rustc_lexer::lists::{Change, Relexing};
-/// use rustc_lexer::{Bound, FrontmatterAllowed, Steps, Token, tokenize};
-///
-/// let (old, new) = ("let ab = cd;", "let abc = cd;");
-/// let mut tokens: Vec<Token> = tokenize(old, FrontmatterAllowed::No).collect();
-/// // A `c` was inserted at 6.
-/// let change = Change { start: 6, old_stop: 6, new_stop: 7 };
-///
-/// let mut steps = Steps::new();
-/// let mut relexing = Relexing::begin(new, &tokens, change, Bound::default());
-/// let mut lexed = Vec::new();
-/// while let Some(token) = relexing.next(&mut steps, new, &tokens, change) {
-///     lexed.push(token);
-/// }
-/// let counts = relexing.counts(tokens.len());
-/// let back = tokens.len() - counts.kept_back;
-/// tokens.splice(counts.kept_front..back, lexed);
-/// assert!(tokenize(new, FrontmatterAllowed::No).eq(tokens));
-/// assert_eq!((counts.kept_front, counts.lexed, counts.kept_back), (2, 1, 5));
-/// ```
 #[doc(alias("incremental", "relex", "reparse"))]
 #[doc(inline)]
 pub use crate::erased::Relexing;
 #[doc(inline)]
-pub use crate::erased::{BodyChange, Change, Measured};
+pub use crate::erased::{BodyChange, Change, Head, Measured};

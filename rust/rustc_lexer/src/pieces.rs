@@ -18,7 +18,7 @@ pub struct TokenPieces<'a> {
 impl<'a> Iterator for TokenPieces<'a> {
     type Item = Piece<'a>;
 
-    #[inline]
+    #[cfg_attr(not(debug_assertions), inline)]
     fn next(&mut self) -> Option<Piece<'a>> {
         let token = self.tokens.next()?;
         let start = (self.tokens.len - self.rest.len()) as u32;
@@ -27,7 +27,7 @@ impl<'a> Iterator for TokenPieces<'a> {
         Some(Piece { start, token, text })
     }
 
-    #[inline]
+    #[cfg_attr(not(debug_assertions), inline)]
     fn size_hint(&self) -> (usize, Option<usize>) {
         self.tokens.size_hint()
     }
@@ -67,7 +67,7 @@ impl Piece<'_> {
     /// assert_eq!(&text[piece.range()], piece.text);
     /// ```
     #[doc(alias("end", "offset", "span"))]
-    #[inline]
+    #[cfg_attr(not(debug_assertions), inline)]
     #[must_use]
     pub fn range(&self) -> Range<usize> {
         let start = self.start as usize;

@@ -21,7 +21,8 @@ use core::iter::FusedIterator;
 /// # Panics
 ///
 /// Panics if the text has more than `u32::MAX` bytes.
-#[inline]
+#[cfg_attr(not(debug_assertions), inline)]
+#[track_caller]
 pub fn tokenize(input: &str, frontmatter_allowed: FrontmatterAllowed) -> Tokens<'_> {
     tokenize_as(input, frontmatter_allowed, Edition::NEWEST)
 }
@@ -46,7 +47,7 @@ impl<'a> Tokens<'a> {
     /// tokens.next();
     /// assert_eq!(tokens.as_str(), " x");
     /// ```
-    #[inline]
+    #[cfg_attr(not(debug_assertions), inline)]
     #[must_use]
     pub fn as_str(&self) -> &'a str {
         self.left.as_str()
@@ -64,7 +65,7 @@ impl<'a> Tokens<'a> {
     /// assert_eq!(tokens.offset(), 10);
     /// ```
     #[doc(alias("position", "start"))]
-    #[inline]
+    #[cfg_attr(not(debug_assertions), inline)]
     #[must_use]
     pub fn offset(&self) -> usize {
         self.len - self.as_str().len()
@@ -79,7 +80,7 @@ impl<'a> Tokens<'a> {
     /// assert!(pieces.map(|piece| (piece.start, piece.text)).eq([(9, "\n"), (10, "fn")]));
     /// ```
     #[doc(alias("offset", "span", "spanned"))]
-    #[inline]
+    #[cfg_attr(not(debug_assertions), inline)]
     pub fn pieces(self) -> TokenPieces<'a> {
         TokenPieces {
             rest: self.as_str(),
@@ -98,7 +99,7 @@ impl<'a> Tokens<'a> {
     /// tokens.next();
     /// assert_eq!(tokens.frontmatter_allowed(), FrontmatterAllowed::No);
     /// ```
-    #[inline]
+    #[cfg_attr(not(debug_assertions), inline)]
     #[must_use]
     pub fn frontmatter_allowed(&self) -> FrontmatterAllowed {
         self.left.frontmatter_allowed()
@@ -123,8 +124,18 @@ impl<'a> Tokens<'a> {
     /// }
     /// assert_eq!(spaces, 3);
     /// ```
-    #[inline]
+    #[cfg_attr(not(debug_assertions), inline)]
     pub fn fill<R: Record>(&mut self, buffer: &mut [R]) -> usize {
+        if cfg!(debug_assertions) {
+            // What is generic is compiled with the program, and `next` with this crate.
+            for (count, record) in buffer.iter_mut().enumerate() {
+                let Some(token) = self.next() else {
+                    return count;
+                };
+                *record = R::of(token);
+            }
+            return buffer.len();
+        }
         self.left.fill(buffer)
     }
 
@@ -157,12 +168,12 @@ impl<'a> Tokens<'a> {
 impl Iterator for Tokens<'_> {
     type Item = Token;
 
-    #[inline(always)]
+    #[cfg_attr(not(debug_assertions), inline(always))]
     fn next(&mut self) -> Option<Token> {
         self.left.next()
     }
 
-    #[inline]
+    #[cfg_attr(not(debug_assertions), inline)]
     fn size_hint(&self) -> (usize, Option<usize>) {
         token_count_bounds(self.as_str())
     }
@@ -191,7 +202,8 @@ impl fmt::Debug for Tokens<'_> {
 /// # Panics
 ///
 /// Panics if the text has more than `u32::MAX` bytes.
-#[inline]
+#[cfg_attr(not(debug_assertions), inline)]
+#[track_caller]
 pub fn tokenize_in(text: &str, edition: Edition) -> EditionTokens<'_> {
     tokenize_as(text, FrontmatterAllowed::No, edition)
 }
@@ -212,7 +224,8 @@ pub type EditionTokens<'a> = Tokens<'a>;
 /// # Panics
 ///
 /// Panics if the text has more than `u32::MAX` bytes.
-#[inline]
+#[cfg_attr(not(debug_assertions), inline)]
+#[track_caller]
 pub fn tokenize_as(
     text: &str,
     frontmatter_allowed: FrontmatterAllowed,
@@ -241,7 +254,8 @@ pub fn tokenize_as(
 /// # Panics
 ///
 /// Panics if the text has more than `u32::MAX` bytes.
-#[inline]
+#[cfg_attr(not(debug_assertions), inline)]
+#[track_caller]
 pub fn tokenize_document(text: &str, edition: Edition) -> Tokens<'_> {
     let left = erased::tokenize_document(fitting(text), edition);
     let len = text.len();

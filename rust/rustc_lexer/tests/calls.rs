@@ -267,6 +267,11 @@ fn each_way_to_take_tokens_gives_the_same() {
             tokens.for_each(|token| folded.push(token));
             assert_eq!(folded, all);
             let mut tokens = tokenize(text, FrontmatterAllowed::No);
+            let _ = tokens.by_ref().take(taken).count();
+            let last = tokens.clone().pieces().last().map(|piece| piece.token);
+            let wanted = all[taken.min(all.len())..].last().copied();
+            assert_eq!((tokens.last(), last), (wanted, wanted), "of {text:?}");
+            let mut tokens = tokenize(text, FrontmatterAllowed::No);
             let front = all.iter().copied().take(taken);
             assert!(tokens.by_ref().take(taken).eq(front));
             assert_eq!(tokens.count(), all.len().saturating_sub(taken));
@@ -695,6 +700,16 @@ fn traits_that_are_taken_for_granted() {
         has_two_ends::<rustc_lexer::Pieces<'_>>();
         crosses_threads::<(rustc_lexer::LexedText, rustc_lexer::LexedDocument)>();
         crosses_threads::<rustc_lexer::Pieces<'_>>();
+        fn is_held<T: Clone + Eq + std::fmt::Debug + Default>() {}
+        is_held::<(rustc_lexer::LexedText, rustc_lexer::LexedDocument)>();
+        fn is_wrapped<T: Clone + Eq + std::hash::Hash + std::fmt::Debug>() {}
+        is_wrapped::<rustc_lexer::Checked<u8>>();
+        fn is_joined<
+            T: Clone + Default + std::fmt::Debug + FromIterator<String> + Extend<String>,
+        >() {
+        }
+        is_joined::<rustc_lexer::JoinedText>();
+        crosses_threads::<rustc_lexer::JoinedText>();
     }
 }
 

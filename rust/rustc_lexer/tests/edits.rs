@@ -21,6 +21,9 @@ const BITS: &[&str] = &[
     "let x = 1;", "fn f() {}\n", "'a", "\u{200d}",
 ];
 
+/// More edits than any number of 16 bits counts.
+const MANY: usize = 70_000;
+
 impl Random {
     /// A range between characters, mostly short.
     fn range(&mut self, text: &str) -> Range<usize> {
@@ -318,14 +321,15 @@ fn a_list_of_edits() {
     assert_eq!(lexed.edit_all(&[]), Ok(()));
     assert_eq!(lexed.text(), "cd efz");
     // Each of many is made.
-    let edits: Vec<_> = (0..20_000).map(|at| edit(at, at, ";")).collect();
+    let edits: Vec<_> = (0..MANY).map(|at| edit(at, at, ";")).collect();
     let (mut text, mut document) = (LexedText::new(""), LexedDocument::new(""));
     assert_eq!(text.edit_all(&edits), Ok(()));
-    assert_eq!(document.edit_each(&edits), Ok(counts(0, 20_000, 0)));
-    assert_eq!(
-        (text.tokens().len(), document.tokens().len()),
-        (20_000, 20_000)
-    );
+    assert_eq!(document.edit_each(&edits), Ok(counts(0, MANY, 0)));
+    assert_eq!((text.tokens().len(), document.tokens().len()), (MANY, MANY));
+    // At once all are of the text that is there.
+    let edits = vec![edit(0, 0, ";"); MANY];
+    assert_eq!(text.edit_at_once(&edits), Ok(counts(0, MANY, MANY)));
+    assert_eq!(text.tokens().len(), 2 * MANY);
 }
 
 /// What all edits of a list keep, worked by hand. The tokens have one byte each.
@@ -426,6 +430,7 @@ fn random_other_texts() {
 #[test]
 fn what_two_lists_keep() {
     let none = counts(13, 0, 0);
+    assert_eq!(Relexed::all(13), none);
     let (one, other) = (edit(8, 9, "+"), edit(4, 5, "-"));
     for (first, second, kept) in [
         (&[][..], &[][..], none),
@@ -469,6 +474,7 @@ fn random_lists_of_edits() {
                 let (mut made, old) = (lexed.clone(), lexed.tokens().to_vec());
                 let (mut front, mut back) = (old.len(), old.len());
                 let mut kept = counts(old.len(), 0, 0);
+                let mut unpainted = Relexed::none(old.len());
                 let (mut ranges, mut inserts) = (vec![], vec![]);
                 for _ in 0..1 + random.below(4) {
                     let (range, insert) = (random.range(made.text()), random.text(3));
@@ -477,6 +483,7 @@ fn random_lists_of_edits() {
                     back = back.min(relexed.kept_back);
                     kept = kept.then(relexed, old.len());
                     kept = kept.then(made.edit_each(&[]).unwrap(), old.len());
+                    unpainted = unpainted.then(relexed, 0);
                     ranges.push(range);
                     inserts.push(insert);
                 }
@@ -488,6 +495,7 @@ fn random_lists_of_edits() {
                 assert_eq!((lexed.text(), new), (made.text(), made.tokens()));
                 assert_eq!((relexed.kept_front, relexed.kept_back), (front, back));
                 assert_eq!(kept, relexed, "{text:?}: {edits:?}");
+                assert_eq!(unpainted, counts(0, new.len(), 0));
                 assert_eq!(front + relexed.lexed + back, new.len());
                 assert!(front + back <= old.len(), "{text:?}: {edits:?}");
                 assert_eq!(new[..front], old[..front], "{text:?}: {edits:?}");
@@ -559,8 +567,7 @@ fn a_long_list_that_goes_back() {
     check(&lexed, "a list that goes back");
 }
 
-/// Of a long list in order, the edits before one that is out of the text are made in one pass, and it is told what
-/// they kept.
+/// Of a long list the edits before one that is out of the text are made, and it is told what they kept.
 #[test]
 fn a_long_list_that_stops() {
     macro_rules! stops {
@@ -643,8 +650,10 @@ fn clones_and_defaults() {
     assert_eq!((empty.text(), empty.tokens().len()), ("", 0));
     assert_eq!(empty.edition(), Edition::E2024);
     assert_eq!(LexedDocument::default().edition(), Edition::E2024);
-    let by_default = LexedText::try_with("'r#a", Steps::default()).unwrap();
+    // Two tokens in each older edition.
+    let by_default = LexedText::try_with("##", Steps::default()).unwrap();
     assert_eq!(by_default.tokens().len(), 1);
+    assert_eq!(Steps::default(), Steps::new_in(Edition::E2024));
 }
 
 /// Two are equal if text and edition are, however they were made. The text is given back as edits left it.
@@ -707,6 +716,10 @@ fn ranges() {
             }
             let mut lexed = $Kept::new("a b c");
             assert!(lexed.accepts(4..=4, "") && !lexed.accepts(5..=5, ""));
+            assert!(lexed.accepts(3.., "x") && lexed.accepts(..3, "x") && lexed.accepts(.., "x"));
+            assert!(
+                lexed.accepts(5.., "x") && !lexed.accepts(6.., "x") && !lexed.accepts(..6, "x")
+            );
             for past in [Included(usize::MAX), Excluded(usize::MAX)] {
                 assert_eq!(lexed.try_edit((Unbounded, past), ""), Err(EditError::Range));
                 assert_eq!(lexed.try_edit((past, Unbounded), ""), Err(EditError::Range));
@@ -746,6 +759,19 @@ fn texts_that_are_handed_over() {
     }
     let lexed = LexedDocument::try_with(text(), Steps::new()).unwrap();
     assert_eq!(lexed.tokens().len(), 5);
+    // `'r#a` is one token from 2021 on, and `##` from 2024 on.
+    for (&edition, count) in Edition::ALL.iter().zip([6, 6, 4, 3]) {
+        let text = || String::from("'r#a ##");
+        let part = LexedText::try_from_string_in(text(), edition).unwrap();
+        let document = LexedDocument::try_from_string_in(text(), edition).unwrap();
+        assert_eq!((part.edition(), document.edition()), (edition, edition));
+        assert_eq!(
+            (part.tokens().len(), document.tokens().len()),
+            (count, count)
+        );
+    }
+    assert_eq!(LexedText::from(text()).edition(), Edition::E2024);
+    assert_eq!(LexedDocument::from(text()).edition(), Edition::E2024);
 }
 
 #[test]
@@ -801,4 +827,94 @@ fn marks_at_the_ends_of_a_text() {
     }
     keeps_them!(LexedText);
     keeps_them!(LexedDocument);
+}
+
+/// Edits at once, all in offsets of the old text: as the text made by hand, as one edit, and as `edit_each` from the back.
+#[test]
+fn random_edits_at_once() {
+    macro_rules! lists {
+        ($Kept:ident) => {
+            let mut random = Random(5, BITS);
+            for round in 0..3000 {
+                let old = random.text(80);
+                let edition = Edition::ALL[round % Edition::ALL.len()];
+                let mut lexed = $Kept::new_in(&old, edition);
+                let (mut ranges, mut inserts, mut from) = (vec![], vec![], 0);
+                for _ in 0..random.below(8) {
+                    let range = random.range_in(&old[from..], 9, 6);
+                    ranges.push(from + range.start..from + range.end);
+                    inserts.push(random.text(3));
+                    from += range.end;
+                }
+                let pairs = ranges.iter().zip(&inserts);
+                let edits = pairs.map(|(range, insert)| edit(range.start, range.end, insert));
+                let edits: Vec<_> = edits.collect();
+                let mut each = lexed.clone();
+                for edit in edits.iter().rev() {
+                    each.edit(edit.start..edit.stop, edit.insert);
+                }
+                let mut one = lexed.clone();
+                let relexed = lexed.edit_at_once(&edits).unwrap();
+                assert_eq!((lexed.text(), lexed.tokens()), (each.text(), each.tokens()));
+                let (Some(first), Some(last)) = (edits.first(), edits.last()) else {
+                    assert_eq!(
+                        (lexed.text(), relexed),
+                        (&old[..], counts(one.tokens().len(), 0, 0))
+                    );
+                    continue;
+                };
+                let (mut text, mut at) = (String::new(), 0);
+                for edit in &edits {
+                    text += &old[at..edit.start];
+                    text += edit.insert;
+                    at = edit.stop;
+                }
+                let insert = text[first.start..].to_owned();
+                text += &old[at..];
+                assert_eq!(lexed.text(), text, "{edits:?}");
+                assert_eq!(
+                    one.edit(first.start..last.stop, &insert),
+                    relexed,
+                    "{edits:?}"
+                );
+                assert_eq!(one.tokens(), lexed.tokens(), "{edits:?}");
+            }
+        };
+    }
+    lists!(LexedText);
+    lists!(LexedDocument);
+}
+
+/// Edits at once that are refused, and change nothing: the first that is not in order is named.
+#[test]
+fn edits_at_once_that_are_refused() {
+    for (edits, at) in [
+        (&[edit(0, 8, "")][..], 0),
+        (&[edit(2, 3, "")], 0),
+        (&[edit(1, 0, "")], 0),
+        (&[edit(0, 1, "b"), edit(0, 1, "b")], 1),
+        (&[edit(3, 4, "b"), edit(0, 1, "b"), edit(9, 9, "")], 1),
+        (&[edit(0, 1, "b"), edit(1, 1, "b"), edit(3, 2, "")], 2),
+    ] {
+        let (mut text, mut document) = (
+            LexedText::new("a\u{e9} b c"),
+            LexedDocument::new("a\u{e9} b c"),
+        );
+        assert_eq!(
+            text.edit_at_once(edits),
+            Err(EditStop::Range { at }),
+            "{edits:?}"
+        );
+        assert_eq!(document.edit_at_once(edits), Err(EditStop::Range { at }));
+        assert_eq!(
+            (text.text(), document.text()),
+            ("a\u{e9} b c", "a\u{e9} b c")
+        );
+        check(&text, "edits that are refused");
+    }
+    let mut text = LexedText::new("ab");
+    // They may touch.
+    let edits = [edit(1, 1, "c"), edit(1, 2, "d"), edit(2, 2, "e")];
+    assert_eq!(text.edit_at_once(&edits), Ok(counts(0, 1, 0)));
+    assert_eq!(text.text(), "acde");
 }

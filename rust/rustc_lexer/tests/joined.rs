@@ -16,7 +16,10 @@ type Row = (&'static [&'static str], [Result<&'static str, usize>; 4]);
 
 const ROWS: &[Row] = &[
     (&["fn", "main", "(", ")", "{", "}"], [Ok("fn main(){}"); 4]),
+    (&[], [Ok(""); 4]),
+    (&["", "a", "", "+", ""], [Ok("a+"); 4]),
     (&["a", " ", "b"], [Ok("a b"); 4]),
+    (&["a", " ", "+", "\n"], [Ok("a +\n"); 4]),
     (&["a", " ", " "], [Err(2); 4]),
     (&["// a", "b"], [Ok("// a\nb"); 4]),
     (&["// a", "\n", "b"], [Ok("// a\nb"); 4]),
@@ -44,6 +47,15 @@ const ROWS: &[Row] = &[
         &["k", "#", "a"],
         [Ok("k# a"), Ok("k# a"), Ok("k #a"), Ok("k #a")],
     ),
+    (
+        &["r", "#", "\"s\""],
+        [
+            Ok("r #\"s\""),
+            Ok("r #\"s\""),
+            Ok("r #\"s\""),
+            Ok("r # \"s\""),
+        ],
+    ),
     (&["'", "/", "'a'"], [Ok("'/ 'a'"); 4]),
     // open tokens
     (&["\"a", "b"], [Err(1); 4]),
@@ -62,7 +74,53 @@ fn rows() {
                 "{pieces:?} {edition:?}"
             );
         }
+        // What collects reads the pieces in the newest edition.
+        if let [.., Ok(made)] = made {
+            let collected: JoinedText = pieces.iter().collect();
+            assert_eq!(collected.as_str(), *made, "{pieces:?}");
+        }
     }
+}
+
+/// Each way to make a text has an edition, which decides, which is told, and which is shown.
+#[test]
+fn editions() {
+    let pieces = ["#", "\"a\""];
+    let of_each = Edition::ALL.iter().map(|&edition| {
+        let mut text = JoinedText::new_in(edition);
+        text.extend(pieces);
+        (text, edition)
+    });
+    let mut by_default = JoinedText::default();
+    by_default.extend(pieces);
+    let mut new = JoinedText::new();
+    new.extend(pieces);
+    let newest = [by_default, new, pieces.into_iter().collect()];
+    for (text, edition) in of_each.chain(newest.map(|text| (text, Edition::E2024))) {
+        let wanted = if edition == Edition::E2024 {
+            "# \"a\""
+        } else {
+            "#\"a\""
+        };
+        assert_eq!((text.as_str(), text.edition()), (wanted, edition));
+        let shown = format!("JoinedText {{ text: {wanted:?}, edition: {edition:?} }}");
+        assert_eq!(format!("{text:?}"), shown);
+        let held = text.as_str().as_ptr();
+        let given_back = text.into_string();
+        assert_eq!((given_back.as_str(), given_back.as_ptr()), (wanted, held));
+    }
+}
+
+/// A place that is none, inside a character and past the end, of calls that take one.
+#[test]
+fn places_that_panic() {
+    for at in [1, 2, 4, 5, usize::MAX] {
+        let call = || is_seam("\u{20ac}", at, Edition::E2024);
+        let said = std::panic::catch_unwind(call).expect_err("it panics");
+        let said = said.downcast_ref::<&str>().copied();
+        assert_eq!(said, Some("`at` is not on a char boundary"), "{at}");
+    }
+    assert!(is_seam("\u{20ac}", 3, Edition::E2024));
 }
 
 #[test]

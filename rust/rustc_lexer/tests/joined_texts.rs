@@ -1,5 +1,5 @@
 //! Joined texts beside what they are by definition: the whole text is lexed anew for each separator. The tests here take a
-//! few of the pairs and lists; `cargo test --release -p rustc_lexer --test joined_texts -- --ignored` takes all of them, in
+//! few of the pairs and lists; `cargo test --release -p verified-rustc-lexer --test joined_texts -- --ignored` takes all of them, in
 //! a minute.
 
 #[allow(dead_code, reason = "the texts here are made of their own pieces")]
@@ -59,10 +59,10 @@ fn by_definition(text: &str, piece: &str, edition: Edition) -> Option<String> {
     })
 }
 
-/// Appends the piece, and compares what came of it.
-fn push(text: &mut JoinedText, piece: &str) {
+/// Appends the piece to a text of the edition, and compares what came of it.
+fn push(text: &mut JoinedText, piece: &str, edition: Edition) {
     let before = String::from(text.as_str());
-    let wanted = by_definition(&before, piece, text.edition());
+    let wanted = by_definition(&before, piece, edition);
     let pushed = text.try_push(piece);
     let error = wanted.is_none().then_some(JoinError::Inseparable);
     assert_eq!(pushed.err(), error, "{before:?} {piece:?}");
@@ -77,7 +77,7 @@ fn pairs(every: usize) {
         for number in (0..texts.len() * texts.len()).step_by(every) {
             let mut text = JoinedText::new_in(edition);
             text.push(&texts[number / texts.len()]);
-            push(&mut text, &texts[number % texts.len()]);
+            push(&mut text, &texts[number % texts.len()], edition);
         }
     };
     thread::scope(|scope| {
@@ -98,7 +98,7 @@ fn lists(count: usize, seed: u64) {
                 let piece = (0..1 + random.below(3) / 2 * random.below(4))
                     .map(|_| texts[random.below(texts.len())].as_str())
                     .collect::<String>();
-                push(&mut text, &piece);
+                push(&mut text, &piece, edition);
             }
             if text.as_str().len() < 40 {
                 seams(text.as_str(), edition);

@@ -186,7 +186,7 @@ fn lists_of_edits() {
     lists!(LexedDocument, tokenize_document, texts, edits);
 }
 
-/// The same of a list that is made in one pass.
+/// The same of a long list.
 #[test]
 fn a_long_list_of_edits() {
     let edits: Vec<_> = (0..70).map(|at| edit(3 * at, 3 * at + 1, "b+")).collect();
@@ -210,6 +210,36 @@ fn a_long_list_of_edits() {
     }
     stops.dedup();
     assert!(stops.iter().copied().eq(0..70), "{stops:?}");
+}
+
+/// Edits at once are all made or none, and the last is named.
+#[test]
+fn edits_at_once() {
+    let (texts, edits) = (["ab cd", "xab + d"], [edit(0, 0, "x"), edit(2, 4, " + ")]);
+    in_turn(
+        || LexedText::new(texts[0]),
+        |lexed| lexed.edit_at_once(&edits),
+        |lexed, answer| {
+            let made = answer.is_ok();
+            assert!(made || answer == Err(EditStop::Memory { at: 1 }));
+            let text = texts[usize::from(made)];
+            assert_held!(lexed, text, tokenize_in(text, Edition::E2024));
+        },
+    );
+}
+
+/// Edits at once that would make the text too long, by what they insert or with the text behind them, ask for nothing.
+#[test]
+fn edits_at_once_of_a_long_text() {
+    let insert = "a".repeat(1 << 20);
+    let mut edits = vec![edit(0, 0, &insert); 4096];
+    for last in [&insert[..], &insert[1..]] {
+        edits[4095].insert = last;
+        let mut lexed = LexedText::new("ab");
+        let answer = given(0, || lexed.edit_at_once(&edits));
+        assert_eq!(answer, Err(EditStop::TooLong { at: 4095 }));
+        assert_held!(lexed, "ab", tokenize_in("ab", Edition::E2024));
+    }
 }
 
 /// An edit that cuts a character is refused for that, with no request.
@@ -267,20 +297,20 @@ fn an_edition_copies_no_text() {
     assert!(greatest_request(|| LexedText::new(&text)) >= text.len());
 }
 
-/// A `String` is kept as it is, and given back: memory is taken for tokens alone.
+/// A `String` is kept as it is, with the room that it has, and given back: memory is taken for tokens alone.
 #[test]
 fn a_string_is_not_copied() {
     let text = format!("/*{}*/", "a".repeat(1_000_000));
     macro_rules! strings {
         ($Kept:ident, $string:expr) => {
             let (string, mut kept) = ($string, None);
-            let at = string.as_ptr();
+            let (at, room) = (string.as_ptr(), string.capacity());
             let greatest = greatest_request(|| kept = Some($Kept::from(string)));
             assert!(greatest < text.len() / 10, "{greatest} bytes");
             let kept = kept.unwrap();
             assert_eq!(kept, $Kept::new(&text));
             let given_back = kept.into_string();
-            assert_eq!(given_back.as_ptr(), at);
+            assert_eq!((given_back.as_ptr(), given_back.capacity()), (at, room));
             let string = $string;
             let refused = given(0, || {
                 $Kept::try_from_string_in(string, Edition::E2024).map(drop)
@@ -288,8 +318,15 @@ fn a_string_is_not_copied() {
             assert_eq!(refused, Err(EditError::Memory));
         };
     }
+    let with_room = || {
+        let mut string = text.clone();
+        string.reserve(1000);
+        string
+    };
     strings!(LexedText, text.clone());
     strings!(LexedDocument, text.clone());
+    strings!(LexedText, with_room());
+    strings!(LexedDocument, with_room());
 }
 
 /// A text of `u32::MAX` bytes is not too long: what it lacks is memory.

@@ -51,24 +51,32 @@ fn broken(len: u32, left: usize) -> String {
     )
 }
 
+/// What is said by calls that need the tokens, once a step panicked.
+const LEFT: &str = "a panic in `Stepper::step` left this text without tokens";
+
 /// The text has the edit in which a step panicked, and no tokens.
 macro_rules! has_no_tokens {
     ($lexed:expr, $text:expr) => {
         let mut lexed = $lexed;
         let mut second = lexed.clone();
-        let left = "a panic in `Stepper::step` left this text without tokens";
-        assert_eq!(said(|| lexed.tokens().len()), left);
-        assert_eq!(said(|| lexed.pieces().len()), left);
-        assert_eq!(said(|| lexed.pieces_of(0..0).len()), left);
-        assert_eq!(said(|| lexed.pieces_in(0..1).len()), left);
-        assert_eq!(said(|| lexed.token_at(0)), left);
-        assert_eq!(said(|| lexed.edit(0..0, "")), left);
-        assert_eq!(said(|| lexed.try_edit(0..0, "")), left);
+        assert_eq!(said(|| lexed.tokens().len()), LEFT);
+        assert_eq!(said(|| lexed.pieces().len()), LEFT);
+        assert_eq!(said(|| lexed.pieces_of(0..0).len()), LEFT);
+        assert_eq!(said(|| lexed.pieces_in(0..1).len()), LEFT);
+        assert_eq!(said(|| lexed.token_at(0)), LEFT);
+        assert_eq!(said(|| lexed.piece_at(0).is_some()), LEFT);
+        assert_eq!(said(|| lexed.edit(0..0, "")), LEFT);
+        assert_eq!(said(|| lexed.try_edit(0..0, "")), LEFT);
+        for text in [$text, "", "b"] {
+            assert_eq!(said(|| lexed.set_text(text)), LEFT);
+            assert_eq!(said(|| lexed.try_set_text(text)), LEFT);
+        }
         assert_eq!(lexed.try_edit(0..99, ""), Err(EditError::Range));
-        assert_eq!(said(|| lexed == second), left);
-        assert_eq!(said(|| lexed.edit_all(&[])), left);
-        assert_eq!(said(|| lexed.edit_each(&[])), left);
-        assert_eq!(said(|| second.edit(0..0, "")), left);
+        assert_eq!(said(|| lexed == second), LEFT);
+        assert_eq!(said(|| lexed.edit_all(&[])), LEFT);
+        assert_eq!(said(|| lexed.edit_each(&[])), LEFT);
+        assert_eq!(said(|| lexed.edit_at_once(&[])), LEFT);
+        assert_eq!(said(|| second.edit(0..0, "")), LEFT);
         assert_eq!((lexed.text(), second.text()), ($text, $text));
         assert!(lexed.accepts(0..1, "") && !lexed.accepts(0..99, ""));
         let shown = format!("{lexed:?}");
@@ -112,15 +120,20 @@ fn tokens_that_break_the_rule() {
     calls!(LexedDocument);
 }
 
-/// Of a document the body alone is lexed by steps. Where it begins is told by its text, and not known without tokens.
+/// Of a document the body alone is lexed by steps. Where it begins is told by its text, and not known without tokens; nor
+/// is what is settled of a part.
 #[test]
-fn a_document_with_a_head() {
+fn calls_of_one_kind() {
     let mut lexed = LexedDocument::try_with("#!a\nb", Bytes(0)).unwrap();
     assert_eq!((lexed.shebang_len(), lexed.tokens().len()), (3, 2));
     assert_eq!(said(|| lexed.edit(0..4, "!")), broken(0, 2));
-    let left = "a panic in `Stepper::step` left this text without tokens";
-    assert_eq!(said(|| lexed.shebang_len()), left);
+    assert_eq!(said(|| lexed.shebang_len()), LEFT);
+    assert_eq!(said(|| lexed.body()), LEFT);
     has_no_tokens!(lexed, "!b");
+    let mut lexed = LexedText::try_with("abc", Few(3)).unwrap();
+    assert_eq!(lexed.settled(), 1);
+    assert_eq!(said(|| lexed.edit(3..3, "d")), "no step is left");
+    assert_eq!(said(|| lexed.settled()), LEFT);
 }
 
 /// A panic at each step of a text, and then of an edit.
@@ -151,6 +164,20 @@ fn a_panic_at_each_step() {
                 }
             }
             assert_eq!((panicked, edited), (3, 1));
+            // A list of any length is made one edit after another, so the text is that after one of them.
+            let mut lexed = $Kept::try_with("a;".repeat(70), Few(140 + 90)).unwrap();
+            let edits: Vec<_> = (0..70).map(|at| edit_at(3 * at, "b")).collect();
+            assert_eq!(said(|| lexed.edit_each(&edits)), "no step is left");
+            let made = lexed.text().len() - 140;
+            assert!(1 < made && made < 70, "{made}");
+            let text = "ba;".repeat(made) + &"a;".repeat(70 - made);
+            assert_eq!(lexed.text(), text);
+            assert_eq!(said(|| lexed.tokens().len()), LEFT);
+            // All edits at once have too few, and then the text has all of them.
+            let mut lexed = $Kept::try_with("ab", Few(3)).unwrap();
+            let edits = [edit_at(0, "c"), edit_at(2, "d")];
+            assert_eq!(said(|| lexed.edit_at_once(&edits)), "no step is left");
+            has_no_tokens!(lexed, "cabd");
             // The first edit of a list takes its two steps, and the second has none.
             for each in [false, true] {
                 let mut lexed = $Kept::try_with("a", Few(3)).unwrap();

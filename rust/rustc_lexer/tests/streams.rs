@@ -7,21 +7,15 @@ mod random;
 mod stream;
 
 use random::Random;
-use rustc_lexer::{Edition, FrontmatterAllowed, LexedDocument, LexedText, Piece, tokenize};
+use rustc_lexer::{Edition, FrontmatterAllowed, LexedText, Piece, tokenize};
 use std::str;
 use stream::Stream;
 
-/// What texts are made of: what looks ahead, what stays open, and heads of documents.
+/// What texts are made of: what looks ahead, and what stays open.
 #[rustfmt::skip]
 const BITS: &[&str] = &[
     "a", "bc", "r#", "1", "0x", ".", " ", "\n", "é", "😀", "\"", "'", "#", "/", "//", "/*", "*/", "let x = 1;",
     "b'", "\\", "1e", "k#", "\u{2028}", "\r\n", "[", "!",
-];
-
-#[rustfmt::skip]
-const HEADS: &[&str] = &[
-    "#!", "#![a]", "#!/bin/sh", "#!// a", "#!/* a */", "[", "\n", "\r\n", " ", "-", "--", "---", "---a", "\n---\n", "----\n",
-    "\n----", "use a;\n", "a", "é", "\u{85}", "/*", "*/", "#", "!",
 ];
 
 /// The places between the characters of a text.
@@ -29,11 +23,11 @@ fn places(text: &str) -> impl Iterator<Item = usize> {
     text.char_indices().map(|(at, _)| at).chain([text.len()])
 }
 
-/// Where the last of the pieces ends that two characters follow, or else the first one begins.
-fn last_followed<'a>(text: &str, start: usize, pieces: impl Iterator<Item = Piece<'a>>) -> usize {
+/// Where the last of the pieces ends that two characters follow, or 0.
+fn last_followed<'a>(text: &str, pieces: impl Iterator<Item = Piece<'a>>) -> usize {
     let ends = pieces.map(|piece| piece.range().end);
     let is_followed = |end: &usize| text[*end..].chars().count() >= 2;
-    ends.filter(is_followed).last().unwrap_or(start)
+    ends.filter(is_followed).last().unwrap_or(0)
 }
 
 /// The pieces that end at or before a place.
@@ -55,75 +49,11 @@ fn settled_parts() {
             growing.edit(growing.text().len().., &text[growing.text().len()..end]);
             let settled = growing.settled();
             assert_eq!(LexedText::new_in(&text[..end], edition).settled(), settled);
-            let wanted = last_followed(&text[..end], 0, growing.pieces());
+            let wanted = last_followed(&text[..end], growing.pieces());
             assert_eq!(settled, wanted, "{:?}", &text[..end]);
             let known = up_to(growing.pieces(), settled);
             assert_eq!(known, up_to(whole.pieces(), settled), "{end} of {text:?}");
         }
-    }
-}
-
-/// A document is settled likewise once its head is final, and up to nothing before.
-#[test]
-fn settled_documents() {
-    let mut random = Random(12, HEADS);
-    let mut heads = 0;
-    for _ in 0..2000 {
-        let text = random.text(9);
-        let whole = LexedDocument::new(&text);
-        for end in places(&text) {
-            let growing = LexedDocument::new(&text[..end]);
-            let settled = growing.settled();
-            let known = up_to(growing.pieces(), settled);
-            assert_eq!(known, up_to(whole.pieces(), settled), "{end} of {text:?}");
-            if settled > 0 {
-                heads += 1;
-                assert_eq!(growing.shebang_len(), whole.shebang_len(), "{text:?}");
-                let start = growing.shebang_len();
-                let wanted = last_followed(&text[..end], start, growing.pieces());
-                assert_eq!(settled, wanted, "{:?}", &text[..end]);
-            }
-        }
-    }
-    assert!(heads > 1000, "{heads}");
-}
-
-/// When a head is final, worked out by hand.
-#[test]
-fn settled_heads() {
-    for (text, settled) in [
-        ("", 0),
-        ("#", 0),
-        ("fn f", 2),
-        ("-> f", 2),
-        ("--", 0),
-        ("-- ", 1),
-        (" ", 0),
-        ("\n\n", 0),
-        ("\n\na", 0),
-        ("\n\nab", 2),
-        ("#!/bin/sh", 0),
-        ("#!/bin/sh\n", 0),
-        ("#!/bin/sh\na", 9),
-        ("#!/bin/sh\nab", 10),
-        ("#!/bin/sh\nab cd", 13),
-        ("#! \nab", 0),
-        ("#! \nab;", 0),
-        ("#! \nabc d", 7),
-        ("#!/*\na*/ b\n", 0),
-        ("#![a]", 3),
-        ("#![", 0),
-        ("---\n", 0),
-        ("---a\nb\n---", 0),
-        ("---a\nb\n---\n", 0),
-        ("---a\nb\n--- \nc", 11),
-        ("----\n---\nab", 0),
-        ("----\n----\nab", 10),
-        ("\n---\n---", 0),
-        ("\n---\n---\nab", 9),
-        ("#!a\n---\n---", 0),
-    ] {
-        assert_eq!(LexedDocument::new(text).settled(), settled, "{text:?}");
     }
 }
 

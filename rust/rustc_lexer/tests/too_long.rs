@@ -2,8 +2,8 @@
 #![cfg(target_pointer_width = "64")]
 
 use rustc_lexer::{
-    Cursor, Edition, FrontmatterAllowed, fits, is_ident, settled, starts_raw, strip_shebang,
-    tokenize, tokenize_as, tokenize_document, tokenize_in, validate_raw_str,
+    Cursor, Edition, FrontmatterAllowed, fits, is_ident, is_seam, settled, settled_in, starts_raw,
+    strip_shebang, tokenize, tokenize_as, tokenize_document, tokenize_in, validate_raw_str,
 };
 #[cfg(feature = "alloc")]
 use rustc_lexer::{Edit, EditError, EditStop, LexedDocument, LexedText, Steps};
@@ -69,6 +69,12 @@ fn calls_that_take_a_text() {
         }),
         ("settled", |text| {
             let _ = settled(text);
+        }),
+        ("settled_in", |text| {
+            let _ = settled_in(text, Edition::E2018);
+        }),
+        ("is_seam", |text| {
+            let _ = is_seam(text, 1, Edition::E2024);
         }),
     ]);
 }

@@ -346,10 +346,11 @@ fn long_strings() {
     }
 }
 
-/// What is no simple character, wherever among simple ones it stands: these are handed on without the library.
+/// What is no simple character, wherever among simple ones it stands: these are handed on without the library. Once it is
+/// behind more than numbers of 16 bits count.
 #[test]
 fn plain_text_around() {
-    for before in 0..20 {
+    for before in (0..20).chain([70_000]) {
         let text = |x: &str| "a".repeat(before) + x + &"b".repeat(20);
         let around = |x: &str, unit: Result<char, EscapeError>| {
             let end = before + x.len();
@@ -359,7 +360,7 @@ fn plain_text_around() {
             units
         };
         let same = |x: &str, units: Units<char>, unit| {
-            assert_eq!(units, around(x, unit), "behind {before}");
+            assert!(units == around(x, unit), "{x:?} behind {before}");
         };
         let in_raw = Err(BareCarriageReturnInRawString);
         for (x, in_string, in_raw_string) in [

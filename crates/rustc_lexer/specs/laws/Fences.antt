@@ -18,9 +18,7 @@ use Rattle.rustc_lexer.specs.laws.Reach.{one_more-some}
 pub begins-whole : (pattern text : List ℕ) → begins pattern text ≡ true → text ≡ pattern ++ drop (length pattern) text
 begins-whole [] text e = refl
 begins-whole (c ∷ cs) [] e = absurd (true≢false (sym e))
-begins-whole (c ∷ cs) (d ∷ text) e =
-    let parts = and_parts (d == c) (begins cs text) e in
-    ap (λ x. x ∷ text) (eqb-true d c parts.0) ∙ ap (λ xs. c ∷ xs) (begins-whole cs text parts.1)
+begins-whole (c ∷ cs) (d ∷ text) e = grind (arith, common_steps, and_parts, eqb-true, begins-whole cs text (and_parts (d == c) (begins cs text) e).1)
 
 -- the run up to the first newline, as a search answers it
 run-none : (s : List ℕ) → ((k : ℕ) → k < length s → is_newline (get_or s k 0) ≡ true → ⊥) → run_len is_inline s ≡ length s
@@ -49,15 +47,7 @@ line_end-some rest cut offset step e at = ap (λ n. offset + n) (sym (line-some 
 module _ (p : ℕ → Bool) (test : List ℕ → Bool) (fails : (c : ℕ) (s : List ℕ) → p c ≡ true → test (c ∷ s) ≡ false) where
   pub skip_run : (s : List ℕ) → least_offset test s ≡ more (run_len p s) (least_offset test (drop (run_len p s) s))
   skip_run [] = refl
-  skip_run (c ∷ s) = by_class (skip_run s) (p c) refl
-    where
-      by_class : least_offset test s ≡ more (run_len p s) (least_offset test (drop (run_len p s) s)) → (b : Bool) → p c ≡ b
-          → least_offset test (c ∷ s) ≡ more (run_len p (c ∷ s)) (least_offset test (drop (run_len p (c ∷ s)) (c ∷ s)))
-      by_class ih true e =
-          let n : ℕ = run_len p s in
-          offset-on test c s (fails c s e) ∙ (ap one_more ih
-          ∙ (one_more-more n (least_offset test (drop n s)) ∙ ap (λ (b : Bool). let m : ℕ = if b then suc n else 0 in more m (least_offset test (drop m (c ∷ s)))) (sym e)))
-      by_class ih false e = more-zero (least_offset test (c ∷ s)) ∙ ap (λ (b : Bool). let m : ℕ = if b then suc (run_len p s) else 0 in more m (least_offset test (drop m (c ∷ s)))) (sym e)
+  skip_run (c ∷ s) = grind (arith, common_steps, offset-on, one_more-more, more-zero, skip_run s)
 
 -- so many dashes at the front, or more
 pub begins-enough : (n : ℕ) (s : List ℕ) → n ≤ run_len is_dash s → begins (fence n) s ≡ true
@@ -150,8 +140,4 @@ module _ (rest cut : List ℕ) (end : ℕ) (at : IsWalking rest end) (e : cut �
     walk_found alone = sym (here ∙ rw alone refl)
 
     pub walk_on : blank_over true (take step (drop end rest)) ≡ false → end + step + 3 ≤ length rest → IsWalking rest (end + step + 3)
-    walk_on crowded inside = record {
-      inside = inside;
-      left = here ∙ (rw crowded (more-more end (step + 3) (first_lone true 0 (drop (step + 3) (drop end rest))))
-          ∙ (ap (λ (t : List ℕ). more (end + (step + 3)) (first_lone true 0 t)) (drop-drop (step + 3) end rest) ∙ ap (λ (k : ℕ). more k (first_lone true 0 (drop k rest))) (let same : end + (step + 3) ≡ end + step + 3 = omega arith in same)));
-    }
+    walk_on crowded inside = grind (arith, common_steps, here, more-more, drop-drop)

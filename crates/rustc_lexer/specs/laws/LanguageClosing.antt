@@ -35,15 +35,7 @@ module _ {IsSuch : Chars → Chars → Type 0} {test : Chars → ℕ → Bool} (
   decided-at s x y e such = subst (λ (t : Chars). test t (length x) ≡ true) e (tells.decided x y such)
 
   first-offset : (s : Chars) (k : ℕ) → least (test s) (length s) ≡ Some k → IsFirstPositionOf IsSuch (take k s) (drop k s)
-  first-offset s k e =
-      let l = least-some (test s) (length s) k e in
-      record {
-        here = tells.is s k l.here;
-        first = λ x y f such. elim (cases_lt (length x) (length (take k s))) [
-          | inr ge ↦ ge
-          | inl lt ↦ absurd (either-way (test s (length x)) (decided-at s x y (f ∙ take-append-drop k s) such) (l.before (length x) (omega (arith, length-take k s))))
-        ];
-      }
+  first-offset s k e = grind (arith, common_steps, least-some, cases_lt, decided-at, take-append-drop, length-take)
 
   no-offset : (s : Chars) → least (test s) (length s) ≡ None → IsNowhere IsSuch s
   no-offset s e x y f such =
@@ -226,7 +218,7 @@ in_bytes-suc c s o = grind (arith, common_steps, bytes_of-suc)
 in_bytes-one : (c : ℕ) (s : Chars) (o : Option ℕ) → c < 128 → in_bytes (c ∷ s) (one_more o) ≡ one_more (in_bytes s o)
 in_bytes-one c s o w3 = grind (arith, common_steps, bytes_of-suc, encode_ascii)
 
-begins-encode : (pattern s : List ℕ) → list_all is_ascii pattern ≡ true → begins pattern (encode_utf8_all s) ≡ begins pattern s
+pub begins-encode : (pattern s : List ℕ) → list_all is_ascii pattern ≡ true → begins pattern (encode_utf8_all s) ≡ begins pattern s
 begins-encode [] s ascii = refl
 begins-encode (d ∷ ds) [] ascii = refl
 begins-encode (d ∷ ds) (c ∷ s) ascii = let parts = and_parts (is_ascii d) (list_all is_ascii ds) ascii in elim (encoded c s) [

@@ -167,8 +167,7 @@ quote-sound (c ∷ s) = by_test (Sound 39 (c ∷ s)) (is_character c s) (literal
 
 -- what begins no name is a character
 quote-char : (s : List ℕ) → NextIsNot is_name_start s → lifetime_or_char s ≡ literal char_body s
-quote-char [] e = refl
-quote-char (c ∷ s) e = rw (e, or-true (begins (codes "'") s)) refl
+quote-char s w1 = grind (arith, common_steps, or-true)
 
 -- a character that begins none
 at-stops : (d : ℕ) (next : List ℕ) → is_name_start d ≡ false → NextIn (d ∷ []) next → NextIsNot is_name_start next

@@ -1,5 +1,6 @@
 -- Means, by how it is read: the head of a document, and what an edit keeps of the document by it.
-use Rattle.std.specs.Prelude.{ℕ, ◌+◌, ◌-◌, ◌≤◌, ◌≡◌, if◌then◌else◌, List, ◌++◌, length, take, drop, max, chars, Option, Some, None, Bool, true, false, IsCharBoundary}
+use Rattle.std.specs.Prelude.{ℕ, ◌+◌, ◌-◌, ◌≤◌, ◌≡◌, if◌then◌else◌, List, ◌++◌, length, take, drop, max, chars, Option, Some, None, Result, Ok, Err, Bool, true, false, IsCharBoundary}
+use Rattle.std.specs.Str.{IsUtf8}
 use Rattle.rustc_lexer.specs.declared.relex.checkpoints.Checkpoints.{Checkpoints}
 use Rattle.rustc_lexer.specs.declared.relex.head.Head.{Head}
 use Rattle.rustc_lexer.specs.declared.relex.relexing.{Change.Change, Relexed.Relexed, Relexing.Relexing}
@@ -7,11 +8,11 @@ use Rattle.rustc_lexer.specs.{Token}
 use Rattle.rustc_lexer.specs.Classes.{IsText}
 use Rattle.rustc_lexer.specs.Document.{shebang_len}
 pub use Rattle.rustc_lexer.specs.Relexing.{front_tokens, tokens_of_head}
-use Rattle.rustc_lexer.specs.Edits.{apply}
+use Rattle.rustc_lexer.specs.Edits.{IsEdit, IsRelexed, Layout, apply}
 use Rattle.rustc_lexer.specs.Partition.{tokens_by}
 use Rattle.rustc_lexer.specs.means.Checkpoints.{AreBounds}
 use Rattle.rustc_lexer.specs.means.Frontmatter.{frontmatter, opens, spaces_len}
-use Rattle.rustc_lexer.specs.means.Relexing.{IsBodyRelexed, IsRenewed}
+use Rattle.rustc_lexer.specs.means.Relexing.{IsRenewed}
 use Rattle.rustc_lexer.specs.means.Scan.{past}
 
 -- the head of a text with a shebang line of n bytes. `rest` is the text after that line, and `past`
@@ -60,6 +61,25 @@ AreKeptOf whole first text tokens head checkpoints =
     × IsCharBoundary text head.body
     × AreBounds (drop (length (tokens_of_head head)) tokens) checkpoints
 
+-- the offsets of an edit
+abbrev pub edit_change : ℕ → ℕ → List ℕ → Change
+edit_change start stop insert =
+    record { start = start; old_stop = stop; new_stop = start + length insert }
+
+-- the text is `made` by a valid edit, and what is kept with it is still that of the text `before`
+pub record IsPut (whole : Bool) (first : List ℕ → Token) (before insert : List ℕ) (edit : Change)
+    (made : List ℕ) (tokens : List Token) (head : Head) (checkpoints : Checkpoints) : Type 0 where
+  pub kept : AreKeptOf whole first before tokens head checkpoints
+  pub utf8 : IsUtf8 insert
+  pub valid : IsEdit before edit.start edit.old_stop insert
+  pub offsets : edit ≡ edit_change edit.start edit.old_stop insert
+  pub made_is : made ≡ apply before edit.start edit.old_stop insert
+
+-- the text after an edit: the one made, or if the edit is refused the one before, which is put back
+abbrev pub text_left : {R E : Type 0} → Result R E → List ℕ → List ℕ → List ℕ
+text_left (Ok r) made before = made
+text_left (Err e) made before = before
+
 -- the change that an edit makes to the body, in offsets of the body, which began at `from` and now
 -- begins at `to`. If the edit keeps the head, the change is the edit itself. Otherwise it is
 -- everything from the start of the body up to the first position past the edit at which both bodies
@@ -96,38 +116,12 @@ abbrev pub HeadStays : (List ℕ → Head) → List ℕ → ℕ → ℕ → List
 HeadStays heads text start stop insert =
     (heads text ≡ heads (apply text start stop insert)) × ((heads text).body ≤ start)
 
--- the counts of an edit, from those of the edit of its body, if the head stays or if it does not
-abbrev pub IsRelexedAs : (List ℕ → Token) → List ℕ → ℕ → ℕ → List ℕ → Bool → Head → Head → List ℕ
-    → Relexed → Type 0
-IsRelexedAs first text start stop insert kept old now made r =
-    let edit : Change =
-    record { start = start; old_stop = stop; new_stop = start + length insert } in
-    let change : Change = body_change kept old.body now.body edit in
-    (body : Relexed) × IsBodyRelexed first (drop old.body text) change.start change.old_stop
-    (body_insert kept change insert (drop now.body made)) body
-    × (r ≡ counted kept (length (tokens_of_head old)) (length (tokens_of_head now)) body)
-
--- the same, by the old text and the edit
-unfoldable pub IsRelexedWith : (List ℕ → Head) → Bool → (List ℕ → Token) → List ℕ → ℕ → ℕ → List ℕ
-    → Relexed → Type 0
-IsRelexedWith heads kept first text start stop insert r =
-    IsRelexedAs first text start stop insert kept (heads text)
-    (heads (apply text start stop insert)) (apply text start stop insert) r
-
--- r has the counts of an edit
-pub record IsRelexedByHead (heads : List ℕ → Head) (first : List ℕ → Token) (text : List ℕ)
-    (start stop : ℕ) (insert : List ℕ) (r : Relexed) : Type 0 where
-  pub kept : HeadStays heads text start stop insert
-      → IsRelexedWith heads true first text start stop insert r
-  pub changed : (HeadStays heads text start stop insert → ⊥)
-      → IsRelexedWith heads false first text start stop insert r
-
--- the step count grew by the number of tokens that were lexed, except those of a new head
-pub record IsCountedByHead (heads : List ℕ → Head) (text : List ℕ) (start stop : ℕ)
-    (insert : List ℕ) (before after lexed : ℕ) : Type 0 where
-  pub kept : HeadStays heads text start stop insert → after ≡ before + lexed
-  pub changed : (HeadStays heads text start stop insert → ⊥)
-      → after + length (tokens_of_head (heads (apply text start stop insert))) ≡ before + lexed
+-- how many steps it took from `before` on is at most what the edit takes
+abbrev pub TakesFew : (List ℕ → Layout) → List ℕ → ℕ → ℕ → List ℕ → ℕ → ℕ → Type 0
+TakesFew layout text start stop insert before after =
+    (r : Relexed) × IsRelexed layout text start stop insert r
+    × (after + (length (layout (apply text start stop insert)).head - r.kept_front)
+    ≤ before + r.lexed)
 
 -- the new head, if the old one does not stay
 abbrev pub head_unless : Bool → Head → Option Head

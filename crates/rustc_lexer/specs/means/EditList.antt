@@ -1,11 +1,10 @@
 -- Means, by how it is read: how far a list of edits was made.
-use Rattle.std.specs.Prelude.{ℕ, ◌≡◌, ◌-◌, ◌≤◌, Bool, List, length, take, drop, Result, IfErr, OnErr, OnOk}
+use Rattle.std.specs.Prelude.{ℕ, ◌≡◌, ◌-◌, ◌≤◌, Bool, List, length, take, drop}
 use Rattle.rustc_lexer.specs.declared.relex.edit.Edit.{Edit}
-use Rattle.rustc_lexer.specs.declared.relex.edit_list.EditStop.{EditStop}
-use Rattle.rustc_lexer.specs.declared.relex.in_order.Made.{Made}
+use Rattle.rustc_lexer.specs.declared.relex.lexed.edits.Made.{Made}
 use Rattle.rustc_lexer.specs.{Token}
-use Rattle.rustc_lexer.specs.Edits.{AreEdits, AreLeast, AreStepped, apply_list, stop_at}
-use Rattle.rustc_lexer.specs.Kept.{AreMade, Held, layout_in, tokens_in}
+use Rattle.rustc_lexer.specs.Edits.{AreEdits, AreLeast, AreStepped, apply_list}
+use Rattle.rustc_lexer.specs.Kept.{Held, layout_in, tokens_in}
 
 -- so many of the tokens stay at the front, and so many at the back
 pub record StayAtEnds (old new : List Token) (front back : ℕ) : Type 0 where
@@ -34,18 +33,3 @@ pub record AreKeptTo {S : Type 0} (first : S → List ℕ → Token) (whole : Bo
   pub stay : StayAtEnds old.tokens new.tokens made.front made.back
   pub least : AreLeast (layout_in whole (first old.stepper)) old.text (take made.count edits)
       (length old.tokens) (length old.tokens) made.front made.back
-
--- more edits of a list are made, after the first `made.count`, up to one that is refused
-pub record GoOn {S T : Type 0} (first : S → List ℕ → Token) (year steps : S → ℕ) (whole : Bool)
-    (edits : List Edit) (made : Made) (mid : Held S) (result : Result T EditStop) (next : Made)
-    (new : Held S) : Type 0 where
-  pub more : made.count ≤ next.count
-  pub made_to : OnOk result ((old : Held S)
-      → AreMadeTo first year steps whole old edits made mid
-      → AreMadeTo first year steps whole old edits next new)
-  pub stop : IfErr result (λ stop. stop_at stop ≡ next.count)
-  pub stopped : OnErr result ((old : Held S)
-      → AreMadeTo first year steps whole old edits made mid
-      → AreMade first year steps whole old edits result new)
-  pub kept_to : (old : Held S) → AreMadeTo first year steps whole old edits made mid
-      → AreKeptTo first whole old edits made mid → AreKeptTo first whole old edits next new

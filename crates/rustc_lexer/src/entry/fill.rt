@@ -8,6 +8,25 @@ use crate::token::Token;
 use std::iter::Iterator;
 
 /// A form of a token, in which `fill` writes it.
+///
+/// In plain Rust this one is the kind alone:
+///
+/// ```
+/// use rustc_lexer::{FrontmatterAllowed, Record, Token, TokenKind, tokenize};
+///
+/// #[derive(Clone, Copy, Debug, PartialEq)]
+/// struct Kind(TokenKind);
+///
+/// impl Record for Kind {
+///     fn of(token: Token) -> Kind {
+///         Kind(token.kind)
+///     }
+/// }
+///
+/// let mut kinds = [Kind(TokenKind::Eof); 4];
+/// assert_eq!(tokenize("a+b", FrontmatterAllowed::No).fill(&mut kinds), 3);
+/// assert_eq!(kinds[1], Kind(TokenKind::Plus));
+/// ```
 pub trait Record: Copy {
     /// The form of each token.
     ghost written: { Token → Self };

@@ -18,8 +18,24 @@ use std::iter::Iterator;
 ///
 /// A first token is not empty, ends between two characters, and depends only on itself and the two characters after
 /// it. `step` returns the first token of the text that it is given, and always the same one for the same text. In
-/// Rattle each implementation proves this. In plain Rust a kept text tests where tokens end; if an implementation
-/// breaks another rule, the tokens of an edited text are wrong.
+/// Rattle each implementation proves this. In plain Rust a kept text calls `step` alone, and tests where tokens end; if
+/// an implementation breaks another rule, the tokens of an edited text are wrong. [`Relexing`](crate::Relexing) tests
+/// nothing: there tokens of no length never come to an end. By this one each character is a token:
+///
+/// ```
+/// use rustc_lexer::{Stepper, Token, TokenKind};
+///
+/// struct Characters;
+///
+/// impl Stepper for Characters {
+///     fn step(&mut self, rest: &str) -> Token {
+///         let len = rest.chars().next().map_or(0, char::len_utf8) as u32;
+///         Token { kind: TokenKind::Unknown, len }
+///     }
+/// }
+///
+/// assert_eq!(Characters.step("é+").len, 2);
+/// ```
 pub trait Stepper: Drop {
     /// The grammar: the first token of each text.
     ghost grammar: { Self → List ℕ → Token };

@@ -1,13 +1,11 @@
 //! The head of a document: the part before its body.
-ghost use Rattle.std.specs.Prelude.{◌≡◌, ◌++◌, Bool, IsTrue, OnOk, false, length, true};
+ghost use Rattle.std.specs.Prelude.{◌≡◌, ◌++◌, Bool, OnOk, false, length, true};
 ghost use Rattle.std.specs.Str.{IsCharBoundary};
 ghost use Rattle.rustc_lexer.specs.Classes.{Fits};
 ghost use Rattle.rustc_lexer.specs.Relexing as spec;
 ghost use Rattle.rustc_lexer.specs.means.Document as means;
-ghost use Rattle.rustc_lexer.specs.means.Gap.{IsHeadBy};
 
 use crate::frontmatter::frontmatter;
-use crate::relex::final_head::is_head_final;
 use crate::scan::eat_whitespace;
 use crate::shebang::shebang_len;
 use crate::token::{Token, TokenKind};
@@ -17,6 +15,19 @@ use std::alloc::AllocError;
 ///
 /// It is for a program that keeps the tokens of a whole document in lists of its own. [`Head::change_to`] returns what
 /// an edit of the document changes in its body, and [`Relexing`](crate::Relexing) lexes that again.
+///
+/// ```
+/// use rustc_lexer::lists::{Change, Head};
+///
+/// let (old, new) = ("#!/bin/sh\nlet a;", "#!/bin/sh\nlet ab;");
+/// // A `b` was inserted at 15.
+/// let change = Change { start: 15, old_stop: 15, new_stop: 16 };
+/// let (head, now) = (Head::find(old), Head::find(new));
+/// let body = head.change_to(now, change);
+/// assert!(body.keeps_head);
+/// assert_eq!(&new[now.body..], "\nlet ab;");
+/// assert_eq!(body.change, Change { start: 6, old_stop: 6, new_stop: 7 });
+/// ```
 #[derive(Clone, Copy, Debug, PartialEq, Eq)]
 pub struct Head {
     /// The length of the shebang line in bytes, or 0.
@@ -39,11 +50,6 @@ pub trait Extent: Copy {
         requires fits { Fits text.now }
         ensures head { result ≡ means.head_by whole text.now }
         ensures boundary { IsCharBoundary text.now result.body };
-
-    /// Returns whether it is known that each text that begins with the first `len` bytes of this one has the same head.
-    fn settles_head(text: &str, len: usize) -> bool
-        requires fits { Fits text.now }
-        ensures { IsTrue result → IsHeadBy whole (means.head_by whole text.now) len text.now };
 }
 
 /// A whole document.
@@ -83,15 +89,6 @@ impl Extent for Whole {
             },
         }
     }
-
-    #[tactic(auto, using(crate::proofs::AheadLemmas::settled_head, std::proofs::lemmas::Grind::common_steps))]
-    fn settles_head(text: &str, len: usize) -> bool {
-        if !text.is_char_boundary(len) {
-            return false;
-        }
-        let front = &text[..len];
-        is_head_final(front, shebang_len(front))
-    }
 }
 
 /// A part of a document.
@@ -108,10 +105,6 @@ impl Extent for Part {
             frontmatter: None,
             body: 0,
         }
-    }
-
-    fn settles_head(_text: &str, _len: usize) -> bool {
-        true
     }
 }
 

@@ -2,14 +2,14 @@
 ghost use Rattle.std.specs.Prelude.{◌≡◌, ◌+◌, ◌<◌, ◌≤◌, ◌^◌, ◌++◌, ◌↔◌, false, if◌then◌else◌, IfErr, IsTrue, OnErr, OnOk, drop, length, take, Some, []};
 ghost use Rattle.std.specs.Str.{IsCharBoundary, chars};
 ghost use Rattle.std.specs.String.{string_bytes, string_capacity, string_len};
-ghost use Rattle.rustc_lexer.specs.Answers.{tokens_of};
+ghost use Rattle.rustc_lexer.specs.Answers.{first_in, tokens_of};
 ghost use Rattle.rustc_lexer.specs.Classes.{Fits, Utf8};
 ghost use Rattle.rustc_lexer.specs.Joined.{AreClosed, AreInseparable, IsJoined, IsRefused, IsSeparated, MayTouch, RunsOn, TailDecides, WhiteSpaceSeparates, error_text};
 ghost use Rattle.rustc_lexer.specs.LanguageText.{part};
-ghost use Rattle.rustc_lexer.specs.means.Joined.{IsEnding};
+ghost use Rattle.rustc_lexer.specs.means.Joined.{IsSure};
 
 use crate::edition::{Edition, token_in};
-use crate::relex::ending::Ending;
+use crate::relex::settle::settled_in;
 use std::alloc::Global;
 use std::error::Error;
 use std::fmt;
@@ -69,16 +69,16 @@ impl Error for JoinError {}
 pub struct JoinedText {
     text: String,
     edition: Edition,
-    ending: Ending,
+    /// A token boundary that at least two characters follow, or 0. The tokens before it stay, whatever is appended.
+    sure: usize,
 }
 
 impl Model for JoinedText {
     ghost use Rattle.std.specs.String.{string_bytes};
-    ghost use Rattle.rustc_lexer.specs.Answers.{tokens_of};
+    ghost use Rattle.rustc_lexer.specs.Answers.{first_in};
     ghost use Rattle.rustc_lexer.specs.Classes.{IsText};
     ghost use Rattle.rustc_lexer.specs.Joined.{Joined};
-    ghost use Rattle.rustc_lexer.specs.LanguageText.{part};
-    ghost use Rattle.rustc_lexer.specs.means.Joined.{IsEnding};
+    ghost use Rattle.rustc_lexer.specs.means.Joined.{IsSure};
 
     ghost Value = { Joined };
 
@@ -88,12 +88,12 @@ impl Model for JoinedText {
     } };
 
     ghost invariant = { λ j. IsText (string_bytes j.text)
-        × IsEnding (tokens_of (part j.edition) (string_bytes j.text)) j.ending };
+        × IsSure (first_in j.edition) (string_bytes j.text) j.sure };
 }
 
 impl JoinedText {
     /// Returns an empty text, whose pieces are read in this edition.
-    #[tactic(auto, using(crate::proofs::EndingLemmas::no_ending, std::proofs::lemmas::Grind::common_steps))]
+    #[tactic(auto, using(crate::proofs::SureLemmas::sure_start, std::proofs::lemmas::Grind::common_steps))]
     pub fn new(alloc: Global, edition: Edition) -> JoinedText
         ensures text { result.text ≡ [] }
         ensures edition { result.edition ≡ edition }
@@ -101,7 +101,7 @@ impl JoinedText {
         JoinedText {
             text: String::new(alloc),
             edition,
-            ending: Ending::Empty,
+            sure: 0,
         }
     }
 
@@ -150,41 +150,41 @@ impl JoinedText {
         if self.text.reserve(piece.len() + 1).is_err() {
             return Err(JoinError::Memory);
         }
-        if !append_separated(&mut self.text, self.ending, self.edition, piece) {
+        if !append_separated(&mut self.text, self.sure, self.edition, piece) {
             return Err(JoinError::Inseparable);
         }
-        self.ending = self.ending.grown(self.text.as_str(), at, self.edition);
+        self.sure = sure_later(self.text.as_str(), self.sure, self.edition);
         Ok(())
     }
 }
 
 /// Appends the piece after the first separator that keeps the tokens. Returns whether one does; if none does, the text
 /// stays. There is room for a separator of one byte.
-fn append_separated(text: &mut String, ending: Ending, edition: Edition, piece: &str) -> bool
+fn append_separated(text: &mut String, sure: usize, edition: Edition, piece: &str) -> bool
     requires fits { length (string_bytes text.old) + (length piece.now + 1) < 2 ^ 32 }
     requires room { string_len text.old + (length piece.now + 1) ≤ string_capacity text.old }
-    requires ending { IsEnding (tokens_of (part edition) (string_bytes text.old)) ending }
+    requires sure { IsSure (first_in edition) (string_bytes text.old) sure }
     ensures joined { IsTrue result
         → IsJoined edition (string_bytes text.old) piece.now (string_bytes text.new) }
     ensures apart { result ≡ false → AreInseparable edition (string_bytes text.old) piece.now }
     ensures same { result ≡ false → string_bytes text.new ≡ string_bytes text.old }
 {
-    if append(text, ending, edition, "", piece) {
+    if append(text, sure, edition, "", piece) {
         return true;
     }
-    if append(text, ending, edition, " ", piece) {
+    if append(text, sure, edition, " ", piece) {
         return true;
     }
-    append(text, ending, edition, "\n", piece)
+    append(text, sure, edition, "\n", piece)
 }
 
 /// Appends the separator and the piece if the tokens stay so. Returns whether it did. There is room for them.
-fn append(text: &mut String, ending: Ending, edition: Edition, separator: &str, piece: &str) -> bool
+fn append(text: &mut String, sure: usize, edition: Edition, separator: &str, piece: &str) -> bool
     requires fits { length (string_bytes text.old) + (length separator.now + length piece.now)
         < 2 ^ 32 }
     requires room { string_len text.old + (length separator.now + length piece.now)
         ≤ string_capacity text.old }
-    requires ending { IsEnding (tokens_of (part edition) (string_bytes text.old)) ending }
+    requires sure { IsSure (first_in edition) (string_bytes text.old) sure }
     ensures separated { IsTrue result
         ↔ IsSeparated edition (string_bytes text.old) separator.now piece.now }
     ensures text { string_bytes text.new
@@ -200,9 +200,28 @@ fn append(text: &mut String, ending: Ending, edition: Edition, separator: &str, 
     let put_piece = text.push_str(piece);
     prove!(put_piece.is_ok());
     let whole = text.as_str();
-    let stay = is_seam(&whole[at..], separator.len(), edition) && ending.stays(whole, at, edition);
+    let stay = is_seam(&whole[at..], separator.len(), edition) && stays(whole, sure, at, edition);
     if !stay {
         text.truncate(at);
     }
     stay
+}
+
+/// Returns whether the tokens before `at` are the first ones of the whole text, too. Those before `sure` are.
+fn stays(text: &str, sure: usize, at: usize, edition: Edition) -> bool
+    requires fits { Fits text.now }
+    requires boundary { IsCharBoundary text.now at }
+    requires sure { IsSure (first_in edition) (take at text.now) sure }
+    ensures { IsTrue result ↔ MayTouch edition (take at text.now) (drop at text.now) }
+{
+    is_seam(&text[sure..], at - sure, edition)
+}
+
+/// Returns the last boundary that is sure, from one that is.
+fn sure_later(text: &str, sure: usize, edition: Edition) -> usize
+    requires fits { Fits text.now }
+    requires sure { IsSure (first_in edition) text.now sure }
+    ensures { IsSure (first_in edition) text.now result }
+{
+    sure + settled_in(&text[sure..], edition)
 }

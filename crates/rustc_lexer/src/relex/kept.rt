@@ -1,19 +1,17 @@
 //! A text with its tokens, and what an edit of it needs.
-ghost use Rattle.std.specs.Prelude.{◌≡◌, ◌+◌, ◌-◌, ◌≤◌, ◌++◌, IfOk, OnOk, OnErr, ℕ, drop, length, take};
+ghost use Rattle.std.specs.Prelude.{◌≡◌, ◌+◌, ◌++◌, IfOk, List, drop, length, ℕ};
 ghost use Rattle.std.specs.Str.{IsCharBoundary};
-ghost use Rattle.std.specs.String.{string_bytes, string_capacity, string_len};
-ghost use Rattle.rustc_lexer.specs.declared.relex.relexing.Relexed.{Relexed};
+ghost use Rattle.std.specs.String.{string_bytes};
 ghost use Rattle.rustc_lexer.specs.Classes.{Fits};
 ghost use Rattle.rustc_lexer.specs.means.Document as means;
 ghost use Rattle.rustc_lexer.specs.Tokens.{tokens_by};
-ghost use Rattle.rustc_lexer.specs.Edits.{IsEdit, apply};
-ghost use Rattle.rustc_lexer.specs.Kept.{AreKept};
+ghost use Rattle.rustc_lexer.specs.Kept.{IsEdited};
 ghost use Rattle.rustc_lexer.specs.means.Checkpoints.{AreBounds};
 
 use crate::entry::stepper::Stepper;
 use crate::relex::checkpoints::Checkpoints;
 use crate::relex::document_edit::{body_change, counted, keeps_head, new_head, put_tokens};
-use crate::relex::edit::{past_edit, put_in_place, relex};
+use crate::relex::edit::{past_edit, relex};
 use crate::relex::head::{Extent, Head};
 use crate::relex::lex::lex_all;
 use crate::relex::relexing::{Change, Relexed};
@@ -35,70 +33,33 @@ pub(crate) struct Kept<S: Stepper, E: Extent> {
     pub checkpoints: Checkpoints,
 }
 
-/// Makes the edit in the text, which has room for it, and in what is kept of it. If an allocation fails, all but
-/// the text stays as it is.
-pub(crate) fn put_in<S: Stepper, E: Extent>(
+/// Lexes again what an edit has changed of the text, and puts it among what is kept, which is still that of the text before
+/// the edit. If an allocation fails, it stays so.
+pub(crate) fn renew<S: Stepper, E: Extent>(
     kept: &mut Kept<S, E>,
-    start: usize,
-    stop: usize,
-    insert: &str,
+    edit: Change,
 ) -> Result<Relexed, AllocError>
-    requires of_text { means.AreKeptOf E.whole (S.grammar kept.old.stepper)
-        (string_bytes kept.old.text)
+    requires fits { Fits (string_bytes kept.old.text) }
+    requires put { (before insert : List ℕ) × means.IsPut E.whole (S.grammar kept.old.stepper)
+        before insert edit (string_bytes kept.old.text)
         kept.old.tokens.items kept.old.head kept.old.checkpoints }
-    requires edit { IsEdit (string_bytes kept.old.text) start stop insert.now }
-    requires room { string_len kept.old.text + length insert.now ≤ string_capacity kept.old.text }
-
-    // What stays as it was; if it fails, all but the text.
-    ensures grammar { S.grammar kept.new.stepper ≡ S.grammar kept.old.stepper }
-    ensures number { S.number kept.new.stepper ≡ S.number kept.old.stepper }
-    ensures same_tokens { OnErr result (kept.new.tokens.items ≡ kept.old.tokens.items) }
-    ensures same_head { OnErr result (kept.new.head ≡ kept.old.head) }
-    ensures same_checkpoints { OnErr result (kept.new.checkpoints ≡ kept.old.checkpoints) }
-
-    // What the text is afterwards, and what is kept of it.
-    ensures text { string_bytes kept.new.text
-        ≡ apply (string_bytes kept.old.text) start stop insert.now }
-    ensures len { string_len kept.new.text + (stop - start)
-        ≡ string_len kept.old.text + length insert.now }
-    ensures capacity { string_capacity kept.old.text ≤ string_capacity kept.new.text }
-    ensures kept { OnOk result
-        (means.AreKeptOf E.whole (S.grammar kept.new.stepper) (string_bytes kept.new.text)
-        kept.new.tokens.items kept.new.head kept.new.checkpoints) }
-
-    // Which tokens stay, and how many were lexed.
-    ensures relexed { IfOk result
-        (means.IsRelexedByHead (means.head_by E.whole) (S.grammar kept.old.stepper)
-        (string_bytes kept.old.text) start stop insert.now) }
-    ensures kept_tokens { IfOk result (AreKept kept.old.tokens.items kept.new.tokens.items) }
-
-    // How many steps were taken, also if it fails.
-    ensures count { IfOk result
-        (λ r. means.IsCountedByHead (means.head_by E.whole) (string_bytes kept.old.text)
-        start stop insert.now (S.count kept.old.stepper) (S.count kept.new.stepper) r.lexed) }
-    ensures rose { S.count kept.old.stepper ≤ S.count kept.new.stepper }
-    ensures few { OnErr result
-        ((r : Relexed) (most : ℕ)
-        → means.IsRelexedByHead (means.head_by E.whole) (S.grammar kept.old.stepper)
-        (string_bytes kept.old.text) start stop insert.now r
-        → means.IsCountedByHead (means.head_by E.whole) (string_bytes kept.old.text)
-        start stop insert.now (S.count kept.old.stepper) most r.lexed
-        → S.count kept.new.stepper ≤ most) }
+    ensures text { kept.new.text ≡ kept.old.text }
+    ensures renewed { (before insert : List ℕ)
+        → means.IsPut E.whole (S.grammar kept.old.stepper)
+        before insert edit (string_bytes kept.old.text)
+        kept.old.tokens.items kept.old.head kept.old.checkpoints
+        → let left = means.text_left result (string_bytes kept.new.text) before in
+        means.AreKeptOf E.whole (S.grammar kept.new.stepper) left
+        kept.new.tokens.items kept.new.head kept.new.checkpoints
+        × IsEdited S.grammar S.number S.count E.whole
+        (record { text = before; tokens = kept.old.tokens.items; stepper = kept.old.stepper })
+        edit.start edit.old_stop insert result
+        (record { text = left; tokens = kept.new.tokens.items; stepper = kept.new.stepper }) }
 {
-    put_in_place(&mut kept.text, start, stop, insert);
     let made = kept.text.as_str();
     let now = E::find_head(made);
-    let stays = keeps_head(kept.head, now, start);
-    let change = body_change(
-        stays,
-        kept.head.body,
-        now.body,
-        Change {
-            start,
-            old_stop: stop,
-            new_stop: start + insert.len(),
-        },
-    );
+    let stays = keeps_head(kept.head, now, edit.start);
+    let change = body_change(stays, kept.head.body, now.body, edit);
     let old_count = kept.head.count();
     let near = kept.checkpoints.nearest(change.start);
     let body = &made[now.body..];

@@ -5,13 +5,13 @@ ghost use Rattle.rustc_lexer.specs.Tokens.{tokens_by};
 ghost use Rattle.rustc_lexer.specs.means.Checkpoints.{AreBounds};
 
 use crate::entry::stepper::Stepper;
-use crate::relex::checkpoints::{BETWEEN, Checkpoints};
+use crate::relex::checkpoints::Checkpoints;
 use crate::relex::front::Bound;
 use crate::token::{Token, TokenKind};
 use std::alloc::AllocError;
 
-/// How many tokens are lexed at once.
-const BUFFER_LEN: usize = BETWEEN;
+/// How many tokens are lexed at once, and how many there are between two checkpoints.
+const BUFFER_LEN: usize = 128;
 
 /// Lexes all tokens of a text, and appends them to a list. Returns checkpoints among them.
 pub(crate) fn lex_all<S: Stepper>(
@@ -38,7 +38,7 @@ pub(crate) fn lex_all<S: Stepper>(
     let mut offset = 0;
     'left: while offset < text.len() {
         let number = tokens.len() - old_count;
-        checkpoints.remember(Bound { number, offset }, text.len());
+        checkpoints.remember(Bound { number, offset }, offset);
         let (count, bytes) = stepper.fill(&text[offset..], text.len() - offset, &mut buffer);
         tokens.extend_from_slice(&buffer[..count])?;
         offset += bytes;

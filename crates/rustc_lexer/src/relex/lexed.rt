@@ -8,12 +8,13 @@ ghost use Rattle.rustc_lexer.specs.Kept.{IsEdited, layout_in, tokens_in};
 use crate::entry::stepper::Stepper;
 use crate::relex::edit::{accepts, put_in_place};
 use crate::relex::head::{Extent, Part, Whole};
-use crate::relex::kept::{Kept, lex_body, put_in};
-use crate::relex::relexing::Relexed;
+use crate::relex::kept::{Kept, lex_body, renew};
+use crate::relex::relexing::{Change, Relexed};
 use crate::token::Token;
 use std::alloc::{AllocError, Global};
 use std::marker::{Model, PhantomData};
 
+mod at_once;
 mod document;
 mod edits;
 mod in_edition;
@@ -200,11 +201,16 @@ impl<S: Stepper, E: Extent> Lexed<S, E> {
     {
         let removed = String::from_str(self.kept.alloc, &self.kept.text[start..stop])?;
         self.kept.text.reserve(insert.len())?;
-        match put_in(&mut self.kept, start, stop, insert) {
+        put_in_place(&mut self.kept.text, start, stop, insert);
+        let edit = Change {
+            start,
+            old_stop: stop,
+            new_stop: start + insert.len(),
+        };
+        match renew(&mut self.kept, edit) {
             Ok(counts) => Ok(counts),
             Err(refused) => {
-                let new_stop = start + insert.len();
-                put_in_place(&mut self.kept.text, start, new_stop, removed.as_str());
+                put_in_place(&mut self.kept.text, start, edit.new_stop, removed.as_str());
                 Err(refused)
             }
         }

@@ -3,7 +3,7 @@ ghost use Rattle.std.specs.Prelude.{◌≡◌, ◌+◌, ◌-◌, ◌^◌, ◌<�
 ghost use Rattle.rustc_lexer.specs.declared.relex.relexing.Change.{Change};
 ghost use Rattle.rustc_lexer.specs.{Token};
 ghost use Rattle.rustc_lexer.specs.Offsets.{IsBound};
-ghost use Rattle.rustc_lexer.specs.Edits.{IsRelexed, all_stay, count_after, part_by};
+ghost use Rattle.rustc_lexer.specs.Edits.{IsRelexed, all_stay, count_after, none_stays, part_by};
 ghost use Rattle.rustc_lexer.specs.Kept.{AreKept};
 ghost use Rattle.rustc_lexer.specs.Relexing.{known};
 ghost use Rattle.rustc_lexer.specs.Classes.{Fits};
@@ -73,18 +73,45 @@ pub struct Relexed {
 }
 
 impl Relexed {
+    /// Returns the counts of an empty list of edits: all of so many tokens stay, in front.
+    pub fn all(count: usize) -> Relexed
+        ensures { result ≡ all_stay count }
+    {
+        Relexed {
+            kept_front: count,
+            lexed: 0,
+            kept_back: 0,
+        }
+    }
+
+    /// Returns the counts of a text of so many tokens that is new: none was there before.
+    pub fn none(count: usize) -> Relexed
+        ensures { result ≡ none_stays count }
+    {
+        Relexed {
+            kept_front: 0,
+            lexed: count,
+            kept_back: 0,
+        }
+    }
+
     /// Returns the counts of two edits, or lists of edits, after one another: `self` has those of the first, and `next`
     /// those of the second. `old_count` is how many tokens there were before the first.
     ///
-    /// At each end it keeps the lesser of the two; the rest is between. Counts that keep all tokens in front, like those
-    /// of an empty list, change nothing: the answer is then the other counts. So begin with these.
+    /// At each end it keeps the lesser of the two; the rest is between. If one of the two keeps [`all`](Relexed::all),
+    /// the answer is the other.
     ///
-    /// ```ignore
-    /// let old_count = held.tokens().len();
-    /// let mut counts = Relexed { kept_front: old_count, lexed: 0, kept_back: 0 };
-    /// counts = counts.then(held.edit(8, 9, "one")?, old_count);
-    /// counts = counts.then(held.edit(4, 5, "y")?, old_count);
-    /// repaint(held.pieces_of(counts.kept_front, counts.kept_front + counts.lexed));
+    /// A painter begins with `all` of the tokens that it painted last, whose number is `old_count`. Before it first paints,
+    /// it begins with [`none`](Relexed::none) of the text's tokens, and `old_count` is 0.
+    ///
+    /// ```
+    /// use rustc_lexer::Relexed;
+    ///
+    /// // The nine tokens of `a b c d e` are painted. Then the `d` is replaced, and the `b`.
+    /// let first = Relexed { kept_front: 4, lexed: 3, kept_back: 2 };
+    /// let second = Relexed { kept_front: 0, lexed: 3, kept_back: 6 };
+    /// let counts = Relexed::all(9).then(first, 9).then(second, 9);
+    /// assert_eq!(counts, Relexed { kept_front: 0, lexed: 7, kept_back: 2 });
     /// ```
     pub fn then(self, next: Relexed, old_count: usize) -> Relexed
         ensures kept { (old between new : List Token)
@@ -127,11 +154,36 @@ impl Relexed {
     }
 }
 
-/// How far a changed text has been lexed again: from its kept front up to a token boundary.
+/// How far an edited text, whose tokens are in lists of your own, has been lexed again: from its kept front up to a
+/// token boundary.
 ///
 /// It knows the old tokens only by their lengths. If these are the lengths of the tokens of an old text, and the change
 /// made the present text from it, then all numbers are exact. Any other lengths may be passed too, but then the numbers
 /// mean nothing.
+///
+/// In plain Rust:
+///
+/// ```
+/// use rustc_lexer::lists::{Change, Relexing};
+/// use rustc_lexer::{Bound, FrontmatterAllowed, Steps, Token, tokenize};
+///
+/// let (old, new) = ("let ab = cd;", "let abc = cd;");
+/// let mut tokens: Vec<Token> = tokenize(old, FrontmatterAllowed::No).collect();
+/// // A `c` was inserted at 6.
+/// let change = Change { start: 6, old_stop: 6, new_stop: 7 };
+///
+/// let mut steps = Steps::new();
+/// let mut relexing = Relexing::begin(new, &tokens, change, Bound::default());
+/// let mut lexed = Vec::new();
+/// while let Some(token) = relexing.next(&mut steps, new, &tokens, change) {
+///     lexed.push(token);
+/// }
+/// let counts = relexing.counts(tokens.len());
+/// let back = tokens.len() - counts.kept_back;
+/// tokens.splice(counts.kept_front..back, lexed);
+/// assert!(tokenize(new, FrontmatterAllowed::No).eq(tokens));
+/// assert_eq!((counts.kept_front, counts.lexed, counts.kept_back), (2, 1, 5));
+/// ```
 #[derive(Clone, Copy, Debug, PartialEq, Eq)]
 pub struct Relexing {
     /// How many of the old tokens stay at the front, and where they end.

@@ -38,7 +38,16 @@ impl Class {
     }
 }
 
-/// Returns the class of a token by its kind and its text.
+/// Returns the class of a token by its kind and its text: what it is to a reader, as `highlight` shows it by a colour.
+///
+/// ```
+/// use marks::{Class, class_of};
+/// use rustc_lexer::TokenKind;
+///
+/// assert_eq!(class_of(TokenKind::Ident, "while"), Class::Keyword);
+/// assert_eq!(class_of(TokenKind::Ident, "Vec"), Class::TypeName);
+/// assert_eq!(class_of(TokenKind::RawIdent, "r#while"), Class::Plain);
+/// ```
 pub fn class_of(kind: TokenKind, text: &str) -> Class {
     match kind {
         TokenKind::LineComment { doc_style: None }

@@ -8,8 +8,8 @@ use rustc_literal_escaper::erased::EscapeError;
 
 /// A fault of a token. Its `Display` writes a sentence about it.
 ///
-/// [`fault_of`] never returns `InLiteral`, since a literal may have many such faults: [`inside`](crate::inside) returns
-/// the text that has them, for the calls of `rustc_literal_escaper`.
+/// [`fault_of`](crate::fault_of) never returns `InLiteral`, since a literal may have many such faults:
+/// [`inside`](crate::inside) returns the text that has them, for the calls of `rustc_literal_escaper`.
 #[derive(Clone, Copy, Debug, PartialEq, Eq)]
 #[non_exhaustive]
 pub enum Fault {

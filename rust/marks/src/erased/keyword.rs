@@ -19,6 +19,15 @@ pub enum Keyword {
 ///
 /// The word is the text of a token. A raw identifier, like `r#while`, is no keyword, and the lifetime `'static` is a weak
 /// one.
+///
+/// ```
+/// use marks::{Edition, Keyword, keyword_in};
+///
+/// assert_eq!(keyword_in("async", Edition::E2015), None);
+/// assert_eq!(keyword_in("async", Edition::E2018), Some(Keyword::Strict));
+/// assert_eq!(keyword_in("gen", Edition::E2024), Some(Keyword::Reserved));
+/// assert_eq!(keyword_in("union", Edition::E2024), Some(Keyword::Weak));
+/// ```
 pub fn keyword_in(word: &str, edition: Edition) -> Option<Keyword> {
     if is_strict(word, edition) {
         Some(Keyword::Strict)
@@ -33,38 +42,26 @@ pub fn keyword_in(word: &str, edition: Edition) -> Option<Keyword> {
 
 /// Returns whether a word is a strict keyword.
 pub(crate) fn is_strict(word: &str, edition: Edition) -> bool {
-    STRICT.contains(&word) || !matches!(edition, Edition::E2015) && STRICT_2018.contains(&word)
+    match word {
+        "_" | "as" | "break" | "const" | "continue" | "crate" | "else" | "enum" | "extern"
+        | "false" | "fn" | "for" | "if" | "impl" | "in" | "let" | "loop" | "match" | "mod"
+        | "move" | "mut" | "pub" | "ref" | "return" | "self" | "Self" | "static" | "struct"
+        | "super" | "trait" | "true" | "type" | "unsafe" | "use" | "where" | "while" => true,
+        "async" | "await" | "dyn" => !matches!(edition, Edition::E2015),
+        _ => false,
+    }
 }
 
 /// Returns whether a word is a reserved keyword.
 fn is_reserved(word: &str, edition: Edition) -> bool {
-    RESERVED.contains(&word)
-        || !matches!(edition, Edition::E2015) && RESERVED_2018.contains(&word)
-        || matches!(edition, Edition::E2024) && RESERVED_2024.contains(&word)
+    match word {
+        "abstract" | "become" | "box" | "do" | "final" | "macro" | "override" | "priv"
+        | "typeof" | "unsized" | "virtual" | "yield" => true,
+        "try" => !matches!(edition, Edition::E2015),
+        "gen" => matches!(edition, Edition::E2024),
+        _ => false,
+    }
 }
-
-/// The strict keywords of all editions.
-const STRICT: [&str; 36] = [
-    "_", "as", "break", "const", "continue", "crate", "else", "enum", "extern", "false", "fn",
-    "for", "if", "impl", "in", "let", "loop", "match", "mod", "move", "mut", "pub", "ref",
-    "return", "self", "Self", "static", "struct", "super", "trait", "true", "type", "unsafe",
-    "use", "where", "while",
-];
-
-/// Those that were made strict in 2018.
-const STRICT_2018: [&str; 3] = ["async", "await", "dyn"];
-
-/// The reserved keywords of all editions.
-const RESERVED: [&str; 12] = [
-    "abstract", "become", "box", "do", "final", "macro", "override", "priv", "typeof", "unsized",
-    "virtual", "yield",
-];
-
-/// That which was reserved in 2018.
-const RESERVED_2018: [&str; 1] = ["try"];
-
-/// That which was reserved in 2024.
-const RESERVED_2024: [&str; 1] = ["gen"];
 
 /// The weak keywords.
 const WEAK: [&str; 6] = ["'static", "dyn", "macro_rules", "raw", "safe", "union"];

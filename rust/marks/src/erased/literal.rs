@@ -47,6 +47,21 @@ pub fn mode_of(kind: TokenKind) -> Option<Mode> {
 ///
 /// These are the arguments that the calls of `rustc_literal_escaper` take. The ranges that they give count from the start
 /// of the range that this call returns.
+///
+/// ```
+/// use marks::inside;
+/// use rustc_lexer::{FrontmatterAllowed, tokenize};
+/// use rustc_literal_escaper::{Mode, check_for_errors};
+///
+/// let text = r#"b"a\q"suffix"#;
+/// let token = tokenize(text, FrontmatterAllowed::No).next().unwrap();
+/// let (mode, range) = inside(token.kind, text).unwrap();
+/// assert_eq!((mode, range.clone()), (Mode::ByteStr, 2..5));
+///
+/// check_for_errors(&text[range.clone()], mode, |wrong, _| {
+///     assert_eq!(&text[range.start + wrong.start..range.start + wrong.end], r"\q");
+/// });
+/// ```
 #[must_use]
 pub fn inside(kind: TokenKind, text: &str) -> Option<(Mode, Range<usize>)> {
     let mode = mode_of(kind)?;

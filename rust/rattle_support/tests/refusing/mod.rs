@@ -85,7 +85,7 @@ pub fn in_turn<H, T, E>(
     };
     let counts = [false, true].map(|once| {
         ONCE.set(once);
-        (0..100).find(&mut is_over).expect("at most 99 requests")
+        (0..1000).find(&mut is_over).expect("at most 999 requests")
     });
     ONCE.set(false);
     assert_eq!(counts[0], counts[1]);

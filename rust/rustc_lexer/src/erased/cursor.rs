@@ -13,18 +13,7 @@ mod guarded;
 /// Its state is the text that is left, the number of bytes taken since the last token, and whether a frontmatter
 /// may come in front. The bytes taken since the last token are pending: they are part of the next token.
 ///
-/// A loop takes tokens until it has the one that it looks for. Here that is the first one that is not a comment:
-///
-/// ```ignore
-/// let mut cursor = Cursor::new(text, FrontmatterAllowed::No);
-/// loop {
-///     let rest = cursor.as_str();
-///     let token = cursor.advance_token();
-///     if !is_skipped(token.kind) {
-///         return rest;
-///     }
-/// }
-/// ```
+/// A loop takes tokens until it has the one that it looks for.
 #[derive(Clone)]
 pub struct Cursor<'a> {
     tokens: Tokens<'a>,

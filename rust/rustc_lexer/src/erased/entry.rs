@@ -24,18 +24,7 @@ pub use stepper::{Stepper, Steps};
 /// `FrontmatterAllowed::No`, the text from the end of any token has the remaining tokens, so a slice of a document
 /// that begins there can be lexed by itself.
 ///
-/// A loop can slice the text by these lengths. Here it looks for a word among the identifiers and keywords:
-///
-/// ```ignore
-/// let mut start = 0;
-/// for token in tokenize(text, FrontmatterAllowed::No) {
-///     let end = start + token.len as usize;
-///     if matches!(token.kind, TokenKind::Ident) && &text[start..end] == word {
-///         return Some(start);
-///     }
-///     start = end;
-/// }
-/// ```
+/// A loop can slice the text by these lengths.
 pub fn tokenize<'a>(input: &'a str, frontmatter_allowed: FrontmatterAllowed) -> Tokens<'a> {
     tokenize_as(input, frontmatter_allowed, Edition::NEWEST)
 }

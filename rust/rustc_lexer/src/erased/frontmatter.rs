@@ -5,7 +5,7 @@ use crate::erased::classes::{
     is_horizontal_whitespace, is_id_continue, is_id_start, is_whitespace,
 };
 use crate::erased::edition::{Edition, token_in};
-use crate::erased::kernels::{ByteClass, Space};
+use crate::erased::kernels::skip_apart;
 use crate::erased::scan::{eat_while, eat_whitespace, next_is, split_first};
 use crate::erased::token::{FrontmatterAllowed, Token, TokenKind};
 use memchr::memchr;
@@ -19,36 +19,32 @@ pub(crate) fn token_at(text: &str, allowed: FrontmatterAllowed, edition: Edition
     match allowed {
         FrontmatterAllowed::No => token_in(text, edition),
         FrontmatterAllowed::Yes => {
-            if may_open(text) {
-                frontmatter_or_token(text, edition)
+            let token = token_in(text, edition);
+            if may_open(text, token) {
+                frontmatter(text).unwrap_or(token)
             } else {
-                token_in(text, edition)
+                token
             }
         }
     }
 }
 
-/// Returns whether a frontmatter may be at the front of the text, as its first byte determines.
+/// Returns whether a frontmatter may be at the front of the text, as the token determines that is there otherwise: white
+/// space before three dashes, or the first of them.
 #[inline(always)]
-fn may_open(text: &str) -> bool {
-    match text.as_bytes().first() {
-        Some(byte) => *byte == b'-' || *byte >= 128 || Space::has(*byte),
-        None => false,
-    }
-}
-
-/// Returns the first token of a text in an edition, where a frontmatter is allowed. The text is not empty.
-#[inline(never)]
-fn frontmatter_or_token(text: &str, edition: Edition) -> Token {
-    match frontmatter(text) {
-        Some(token) => token,
-        None => token_in(text, edition),
-    }
+fn may_open(text: &str, token: Token) -> bool {
+    let start = match token.kind {
+        TokenKind::Whitespace => token.len as usize,
+        TokenKind::Minus => 0,
+        _ => return false,
+    };
+    text.as_bytes()[start..].starts_with(b"---")
 }
 
 /// Returns the frontmatter at the front of the text, or `None` if none opens there.
 ///
 /// White space before its dashes is part of it, unless the last character of that white space is a newline.
+#[inline(never)]
 pub(crate) fn frontmatter(text: &str) -> Option<Token> {
     let fence = eat_whitespace(text);
     let label = eat_while(fence, |c| c == '-');
@@ -153,7 +149,7 @@ fn line_end(rest: &[u8], offset: usize) -> usize {
 /// to make a searcher, which would allocate on the heap.
 fn find_pattern(rest: &[u8], first: u8, more: &[u8]) -> Option<usize> {
     let mut from = 0;
-    while let Some(step) = find_byte(first, &rest[from..]) {
+    while let Some(step) = find_start(first, more, &rest[from..]) {
         let past = from + step + 1;
         if rest[past..].starts_with(more) {
             return Some(past - 1);
@@ -163,7 +159,24 @@ fn find_pattern(rest: &[u8], first: u8, more: &[u8]) -> Option<usize> {
     None
 }
 
-/// Returns the first place of a byte. In a row of empty lines it is the next byte, and no search begins.
+/// Returns a place of the pattern's first byte up to which the pattern stands nowhere, or `None` if it stands nowhere.
+fn find_start(first: u8, more: &[u8], rest: &[u8]) -> Option<usize> {
+    let start = skip_front(first, more, rest);
+    match find_byte(first, &rest[start..]) {
+        Some(step) => Some(start + step),
+        None => None,
+    }
+}
+
+/// Returns a number of bytes at the front in which the pattern begins nowhere, as its first two bytes tell.
+fn skip_front(first: u8, more: &[u8], rest: &[u8]) -> usize {
+    match more.first() {
+        Some(second) => skip_apart(first, *second, rest),
+        None => 0,
+    }
+}
+
+/// Returns the first place of a byte. Mostly it is the next byte, and no search begins.
 #[inline]
 fn find_byte(byte: u8, rest: &[u8]) -> Option<usize> {
     if rest.first() == Some(&byte) {

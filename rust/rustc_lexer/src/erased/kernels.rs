@@ -179,6 +179,28 @@ pub(crate) fn find_either(one: u8, two: u8, bytes: &[u8]) -> Option<usize> {
     memchr2(one, two, bytes)
 }
 
+/// Returns a mask of the first 16 bytes. Bit k is set if byte k is the one that is looked for.
+#[inline(always)]
+fn places(byte: u8, bytes: &[u8]) -> u64 {
+    u8x16::from_slice(bytes)
+        .simd_eq(u8x16::splat(byte))
+        .to_bitmask()
+}
+
+/// Returns a number of bytes at the front among which the two do not stand together. It looks at 16 places at a time, and
+/// stops at such a pair, or where fewer are left.
+pub(crate) fn skip_apart(one: u8, two: u8, bytes: &[u8]) -> usize {
+    let mut end = 0;
+    while bytes.len() - end > 16 {
+        let pairs = places(one, &bytes[end..]) & places(two, &bytes[end + 1..]);
+        if pairs != 0 {
+            return end + pairs.trailing_zeros() as usize;
+        }
+        end += 16;
+    }
+    end
+}
+
 /// Returns whether a word that ends at `end` is an identifier, as the byte after it determines.
 #[inline(always)]
 pub(crate) fn ends_word(bytes: &[u8], end: usize) -> bool {

@@ -24,10 +24,6 @@ pub fn starts_raw(input: &str, prefix_len: u32) -> bool {
 ///
 /// An offset in the answer counts the bytes past the prefix, plus `prefix_len`. So it is an offset in the text if
 /// each character of the prefix is one byte long.
-///
-/// ```ignore
-/// validate_raw_str("r##\"abc\"#", 1) // NoTerminator { expected: 2, found: 1, possible_terminator_offset: Some(8) }
-/// ```
 #[inline]
 pub fn validate_raw_str(input: &str, prefix_len: u32) -> Result<(), RawStrError> {
     let rest = past_chars(input, prefix_len);

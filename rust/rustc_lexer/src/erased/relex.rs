@@ -1,18 +1,14 @@
 // Made by tools/erase from crates/rustc_lexer/src/relex.rt: edit that file.
 //! Texts that are kept with their tokens, and edits of them.
-mod ahead;
 mod body_change;
 mod checkpoints;
 mod common;
 mod document_edit;
 mod edit;
 mod edit_list;
-mod ending;
-mod final_head;
 mod front;
-mod gap;
-mod head;
-mod in_order;
+// What is by hand in plain Rust names its extents.
+pub(crate) mod head;
 mod joined;
 mod kept;
 mod lex;

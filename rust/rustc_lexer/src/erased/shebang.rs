@@ -11,11 +11,6 @@ use crate::erased::token::{FrontmatterAllowed, TokenKind};
 /// `[`, then it is an attribute, not a shebang line.
 ///
 /// Rust Reference, [Shebang removal](https://doc.rust-lang.org/reference/input-format.html#shebang-removal).
-///
-/// ```ignore
-/// let line = strip_shebang("#!/bin/sh\nfn"); // Some(9)
-/// let attribute = strip_shebang("#![no_std]"); // None
-/// ```
 pub fn strip_shebang(input: &str) -> Option<usize> {
     let tail = input.strip_prefix("#!")?;
     if is_attribute(tail) {
@@ -40,7 +35,7 @@ fn is_attribute(tail: &str) -> bool {
 }
 
 /// Returns whether a token of this kind may come between `#!` and the bracket of an attribute.
-pub(crate) fn is_passed(kind: TokenKind) -> bool {
+fn is_passed(kind: TokenKind) -> bool {
     match kind {
         TokenKind::Whitespace => true,
         TokenKind::LineComment { doc_style } | TokenKind::BlockComment { doc_style, .. } => {

@@ -13,7 +13,15 @@ pub struct Token {
     pub len: u32,
 }
 
-/// The kind of a token.
+/// The kind of a token: white space, a comment, a word, a literal, a lifetime or a symbol. A keyword is a word like any
+/// other.
+///
+/// ```
+/// use rustc_lexer::TokenKind;
+///
+/// assert_eq!(TokenKind::Plus.name(), "Plus");
+/// assert_eq!(TokenKind::Plus.number(), 37);
+/// ```
 ///
 /// Rust Reference, [Tokens](https://doc.rust-lang.org/reference/tokens.html).
 #[derive(Clone, Copy, Debug, PartialEq, Eq, Hash)]
@@ -258,7 +266,16 @@ pub enum DocStyle {
     Inner,
 }
 
-/// The kind of a literal. Its suffix does not matter: `1f32` is an `Int`.
+/// The kind of a literal: a number, a character, a byte or a string, and whether it is whole. Its suffix does not
+/// matter: `1f32` is an `Int`.
+///
+/// ```
+/// use rustc_lexer::LiteralKind;
+///
+/// let kind = LiteralKind::Str { terminated: true };
+/// assert_eq!(kind.name(), "Str");
+/// assert_eq!(kind.number(), 5);
+/// ```
 ///
 /// Rust Reference, [Literals](https://doc.rust-lang.org/reference/tokens.html#literals).
 #[derive(Clone, Copy, Debug, PartialEq, Eq, PartialOrd, Ord, Hash)]

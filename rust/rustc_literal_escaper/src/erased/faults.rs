@@ -11,13 +11,7 @@ use core::ops::Range;
 /// An iterator over the errors and warnings of a literal, each with its place in bytes.
 ///
 /// It returns the items with which [`check_for_errors`](crate::check_for_errors) calls its callback, in the same
-/// order:
-///
-/// ```ignore
-/// for (place, error) in Faults::new(r"a\q", Mode::Str) {
-///     underline(place, error);
-/// }
-/// ```
+/// order.
 pub struct Faults<'a> {
     /// The error between single quotes, until it is returned.
     alone: Option<(Range<usize>, EscapeError)>,

@@ -1,7 +1,14 @@
 // Made by tools/erase from crates/rustc_literal_escaper/src/mode.rt: edit that file.
 //! The kinds of literal that have escapes or could have them.
 
-/// The kind of a literal.
+/// The kind of a literal, by its quotes and its prefix. It says how the text between the quotes is read.
+///
+/// ```
+/// use rustc_literal_escaper::Mode;
+///
+/// assert_eq!(Mode::RawByteStr.prefix_noraw(), "b");
+/// assert!(Mode::CStr.in_double_quotes() && !Mode::Byte.in_double_quotes());
+/// ```
 ///
 /// Rust Reference, [Literals](https://doc.rust-lang.org/reference/tokens.html#literals).
 #[derive(Clone, Copy, Debug, PartialEq, Eq, Hash)]

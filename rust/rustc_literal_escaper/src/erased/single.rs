@@ -12,10 +12,11 @@ use crate::erased::strings::{AsByte, AsChar, Meaning};
 ///
 /// Rust Reference, [Character literals](https://doc.rust-lang.org/reference/tokens.html#character-literals).
 ///
-/// ```ignore
-/// unescape_char("a") // Ok('a')
-/// unescape_char("\\n") // Ok('\n'): a backslash and an n
-/// unescape_char("ab") // Err(EscapeError::MoreThanOneChar)
+/// ```
+/// use rustc_literal_escaper::{EscapeError, unescape_char};
+///
+/// assert_eq!(unescape_char(r"\u{e9}"), Ok('é'));
+/// assert_eq!(unescape_char("ab"), Err(EscapeError::MoreThanOneChar));
 /// ```
 #[inline]
 pub fn unescape_char(src: &str) -> Result<char, EscapeError> {
@@ -26,6 +27,13 @@ pub fn unescape_char(src: &str) -> Result<char, EscapeError> {
 /// in it.
 ///
 /// Rust Reference, [Byte literals](https://doc.rust-lang.org/reference/tokens.html#byte-literals).
+///
+/// ```
+/// use rustc_literal_escaper::{EscapeError, unescape_byte};
+///
+/// assert_eq!(unescape_byte(r"\xff"), Ok(255));
+/// assert_eq!(unescape_byte("é"), Err(EscapeError::NonAsciiCharInByte));
+/// ```
 #[inline]
 pub fn unescape_byte(src: &str) -> Result<u8, EscapeError> {
     read::<AsByte>(src)

@@ -21,6 +21,14 @@ use core::ops::Range;
 /// after it. Their places begin at the backslash.
 ///
 /// Rust Reference, [String literals](https://doc.rust-lang.org/reference/tokens.html#string-literals).
+///
+/// ```
+/// use rustc_literal_escaper::unescape_str;
+///
+/// let mut units = Vec::new();
+/// unescape_str(r"a\n", |range, unit| units.push((range, unit)));
+/// assert_eq!(units, [(0..1, Ok('a')), (1..3, Ok('\n'))]);
+/// ```
 pub fn unescape_str<F: FnMut(Range<usize>, Result<char, EscapeError>)>(src: &str, mut callback: F) {
     each_unit::<AsChar, F>(src, false, &mut callback);
 }
@@ -30,6 +38,14 @@ pub fn unescape_str<F: FnMut(Range<usize>, Result<char, EscapeError>)>(src: &str
 /// It calls in the same way as [`unescape_str`].
 ///
 /// Rust Reference, [Byte string literals](https://doc.rust-lang.org/reference/tokens.html#byte-string-literals).
+///
+/// ```
+/// use rustc_literal_escaper::unescape_byte_str;
+///
+/// let mut units = Vec::new();
+/// unescape_byte_str(r"a\xff", |range, unit| units.push((range, unit)));
+/// assert_eq!(units, [(0..1, Ok(b'a')), (1..5, Ok(255))]);
+/// ```
 pub fn unescape_byte_str<F: FnMut(Range<usize>, Result<u8, EscapeError>)>(
     src: &str,
     mut callback: F,
@@ -54,6 +70,14 @@ pub fn unescape_c_str<F: FnMut(Range<usize>, Result<MixedUnit, EscapeError>)>(
 /// A raw string has no escapes, and only a carriage return is wrong in it.
 ///
 /// Rust Reference, [Raw string literals](https://doc.rust-lang.org/reference/tokens.html#raw-string-literals).
+///
+/// ```
+/// use rustc_literal_escaper::check_raw_str;
+///
+/// let mut units = Vec::new();
+/// check_raw_str(r"\n", |range, unit| units.push((range, unit)));
+/// assert_eq!(units, [(0..1, Ok('\\')), (1..2, Ok('n'))]);
+/// ```
 #[inline]
 pub fn check_raw_str<F: FnMut(Range<usize>, Result<char, EscapeError>)>(
     src: &str,
@@ -68,6 +92,14 @@ pub fn check_raw_str<F: FnMut(Range<usize>, Result<char, EscapeError>)>(
 ///
 /// Rust Reference, [Raw byte string
 /// literals](https://doc.rust-lang.org/reference/tokens.html#raw-byte-string-literals).
+///
+/// ```
+/// use rustc_literal_escaper::{EscapeError, check_raw_byte_str};
+///
+/// let mut units = Vec::new();
+/// check_raw_byte_str("aé", |_, unit| units.push(unit));
+/// assert_eq!(units, [Ok(b'a'), Err(EscapeError::NonAsciiCharInByte)]);
+/// ```
 #[inline]
 pub fn check_raw_byte_str<F: FnMut(Range<usize>, Result<u8, EscapeError>)>(
     src: &str,

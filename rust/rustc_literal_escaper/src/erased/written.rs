@@ -25,10 +25,6 @@ impl From<AllocError> for EscapeCStrError {
 /// It writes each character like `char::escape_default`, so only ASCII. [`unescape_str`] reads the characters of
 /// `text` back from it. `Err` means that an allocation failed, and then `out` is as it was.
 ///
-/// ```ignore
-/// escape_str("a\"é\n", &mut out)? // appends a\"\u{e9}\n, of eleven bytes
-/// ```
-///
 /// [`unescape_str`]: crate::unescape_str
 pub fn escape_str(text: &str, out: &mut String) -> Result<(), AllocError> {
     let start = out.len();

@@ -1,16 +1,55 @@
 //! Several edits of a kept text, one after another.
-ghost use Rattle.std.specs.Prelude.{◌≡◌, IfErr, IfOk, OnOk, length, take};
+ghost use Rattle.std.specs.Prelude.{◌≡◌, ◌+◌, ◌-◌, ◌^◌, ◌<◌, ◌≤◌, IfErr, IfOk, OnOk, length, min, take};
 ghost use Rattle.rustc_lexer.specs.Edits.{stop_at};
 ghost use Rattle.rustc_lexer.specs.Kept.{AreKeptThrough, AreMade, reason, tokens_in};
-ghost use Rattle.rustc_lexer.specs.means.EditList.{AreKeptTo, GoOn};
+ghost use Rattle.rustc_lexer.specs.means.EditList.{AreKeptTo};
 
 use crate::entry::stepper::Stepper;
 use crate::relex::edit::{Edit, accepts, contains_range};
 use crate::relex::edit_list::{EditStop, Stopped};
 use crate::relex::head::Extent;
-use crate::relex::in_order::{Made, edit_in_order};
 use crate::relex::lexed::Lexed;
 use crate::relex::relexing::Relexed;
+
+/// How many edits of a list were made, and how many tokens each of them kept at least.
+#[derive(Clone, Copy)]
+struct Made {
+    count: usize,
+    front: usize,
+    back: usize,
+}
+
+impl Made {
+    /// Returns the same with one more edit, which has these counts.
+    fn more(self, counts: Relexed) -> Made
+        requires { self.count < 2 ^ 63 }
+        ensures count { result.count ≡ self.count + 1 }
+        ensures front { result.front ≡ min self.front counts.kept_front }
+        ensures back { result.back ≡ min self.back counts.kept_back }
+    {
+        Made {
+            count: self.count + 1,
+            front: self.front.min(counts.kept_front),
+            back: self.back.min(counts.kept_back),
+        }
+    }
+
+    /// Returns the counts of these edits. There were `old_len` tokens, and now there are `len`.
+    fn counts(self, old_len: usize, len: usize) -> Relexed
+        requires old { self.front ≤ old_len }
+        requires new { self.front ≤ len }
+        ensures front { result.kept_front ≡ self.front }
+        ensures back { result.kept_back ≡ min self.back (min len old_len - self.front) }
+        ensures all { result.kept_front + result.lexed + result.kept_back ≡ len }
+    {
+        let kept_back = self.back.min(len.min(old_len) - self.front);
+        Relexed {
+            kept_front: self.front,
+            lexed: len - self.front - kept_back,
+            kept_back,
+        }
+    }
+}
 
 impl<S: Stepper, E: Extent> Lexed<S, E> {
     /// Makes the edits in order, each on the text that the edits before it leave, up to the first one that is refused.
@@ -27,8 +66,6 @@ impl<S: Stepper, E: Extent> Lexed<S, E> {
     /// Makes the edits as [`edit_all`](Lexed::edit_all) does. Returns how many tokens all of them kept at the front and at
     /// the back, and how many are now between these. An empty list keeps all at the front. `Err` also says what the edits
     /// before the refused one kept.
-    ///
-    /// A list of at least 64 edits, each behind the one before it, moves what is behind them once.
     pub fn edit_each(&mut self, edits: &[Edit<'_>]) -> Result<Relexed, Stopped>
         ensures made { AreMade S.grammar S.number S.count E.whole self.old edits.now
             (reason result) self.new }
@@ -80,18 +117,7 @@ impl<S: Stepper, E: Extent> Lexed<S, E> {
                 Ok(counts) => *made = made.more(counts),
                 Err(_) => return Err(EditStop::Memory { at }),
             }
-            if at == 0 {
-                self.make_in_order(edits, made)?;
-            }
         }
         Ok(())
-    }
-
-    /// Makes the next edits of a long list that are in order.
-    fn make_in_order(&mut self, edits: &[Edit<'_>], made: &mut Made) -> Result<(), EditStop>
-        ensures { GoOn S.grammar S.number S.count E.whole edits.now made.old self.old
-            result made.new self.new }
-    {
-        edit_in_order(&mut self.kept, edits, made)
     }
 }

@@ -6,7 +6,6 @@ ghost use Rattle.rustc_lexer.specs.Tokens.{bound};
 ghost use Rattle.rustc_lexer.specs.means.Checkpoints.{IsBoundFrom};
 
 use crate::entry::stepper::Stepper;
-use crate::relex::checkpoints::end_from;
 use crate::relex::front::Bound;
 use crate::relex::head::Extent;
 use crate::relex::lexed::Lexed;
@@ -36,9 +35,8 @@ impl<S: Stepper, E: Extent> Lexed<S, E> {
     /// Returns an iterator over the pieces of the tokens from number `from` up to number `to`, like those that an
     /// edit lexed. It reads few of the tokens before them.
     ///
-    /// An editor can paint what an edit changed like this:
-    ///
     /// ```ignore
+    /// // An editor paints what an edit changed.
     /// let counts = held.edit(start, stop, insert)?;
     /// for piece in held.pieces_of(counts.kept_front, counts.kept_front + counts.lexed) {
     ///     paint(piece.start, piece.token.kind, piece.text);
@@ -228,6 +226,18 @@ impl<S: Stepper, E: Extent> Lexed<S, E> {
         }
         (self.ended_at(start), self.begun_before(stop))
     }
+}
+
+/// Returns where the last of the tokens ends. The first one begins at `start`.
+fn end_from(start: u32, tokens: &[Token]) -> u32
+    requires { start + bound tokens.now (length tokens.now) < 2 ^ 32 }
+    ensures { result ≡ start + bound tokens.now (length tokens.now) }
+{
+    let mut end = start;
+    for token in tokens {
+        end += token.len;
+    }
+    end
 }
 
 /// Returns the token that contains the byte at `offset`, by its number and its start. The first token begins at `first`,

@@ -17,11 +17,6 @@ impl<'a> Cursor<'a> {
     /// part of the next token.
     ///
     /// Rust Reference, [Reserved guards](https://doc.rust-lang.org/reference/tokens.html#reserved-guards).
-    ///
-    /// ```ignore
-    /// let mut cursor = Cursor::new("##\"a\"#", FrontmatterAllowed::No);
-    /// let string = cursor.guarded_double_quoted_string(); // 2 hashes, terminated, of length 6
-    /// ```
     #[inline]
     pub fn guarded_double_quoted_string(&mut self) -> Option<GuardedStr> {
         let rest = self.as_str();

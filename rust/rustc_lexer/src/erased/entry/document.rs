@@ -12,16 +12,6 @@ use crate::erased::token::FrontmatterAllowed;
 /// The shebang line is not a token. The first token begins where the remaining text begins: at
 /// `text.len() - tokens.as_str().len()` bytes, as long as no token was taken. For a text that is not a whole
 /// document, and for one whose shebang line is to be read as tokens, call [`tokenize_as`].
-///
-/// ```ignore
-/// let tokens = tokenize_document(text, Edition::E2024);
-/// let mut start = text.len() - tokens.as_str().len(); // 9 for "#!/bin/sh\nfn", 0 without such a line
-/// for token in tokens {
-///     let end = start + token.len as usize;
-///     show(token.kind, &text[start..end]);
-///     start = end;
-/// }
-/// ```
 pub fn tokenize_document<'a>(text: &'a str, edition: Edition) -> Tokens<'a> {
     tokenize_as(&text[shebang_len(text)..], FrontmatterAllowed::Yes, edition)
 }

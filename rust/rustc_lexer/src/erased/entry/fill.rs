@@ -6,6 +6,25 @@ use crate::erased::token::Token;
 use core::iter::Iterator;
 
 /// A form of a token, in which `fill` writes it.
+///
+/// In plain Rust this one is the kind alone:
+///
+/// ```
+/// use rustc_lexer::{FrontmatterAllowed, Record, Token, TokenKind, tokenize};
+///
+/// #[derive(Clone, Copy, Debug, PartialEq)]
+/// struct Kind(TokenKind);
+///
+/// impl Record for Kind {
+///     fn of(token: Token) -> Kind {
+///         Kind(token.kind)
+///     }
+/// }
+///
+/// let mut kinds = [Kind(TokenKind::Eof); 4];
+/// assert_eq!(tokenize("a+b", FrontmatterAllowed::No).fill(&mut kinds), 3);
+/// assert_eq!(kinds[1], Kind(TokenKind::Plus));
+/// ```
 pub trait Record: Copy {
     /// Returns the form of a token.
     fn of(token: Token) -> Self;
@@ -24,17 +43,6 @@ impl<'a> Tokens<'a> {
     /// The number is less than the length of the buffer only if no token is left.
     ///
     /// They are the tokens that as many calls of `next` return.
-    ///
-    /// ```ignore
-    /// let mut buffer = [Token { kind: TokenKind::Eof, len: 0 }; 256];
-    /// let mut tokens = tokenize(text, FrontmatterAllowed::No);
-    /// while !tokens.as_str().is_empty() {
-    ///     let count = tokens.fill(&mut buffer);
-    ///     for token in &buffer[..count] {
-    ///         spaces += matches!(token.kind, TokenKind::Whitespace) as usize;
-    ///     }
-    /// }
-    /// ```
     pub fn fill<R: Record>(&mut self, buffer: &mut [R]) -> usize {
         // The loop takes from a copy, which stays in registers.
         let mut tokens = self.copy();

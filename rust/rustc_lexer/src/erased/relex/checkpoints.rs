@@ -2,15 +2,13 @@
 //! Bounds that are remembered, so that a search begins near its target.
 
 use crate::erased::relex::front::{Bound, FIRST};
-use crate::erased::token::Token;
 
-/// How many token boundaries are remembered.
-const COUNT: usize = 64;
+/// How many token boundaries are remembered. It is odd: then different multiples of a power of two, if there are at most
+/// so many in a row, leave different remainders.
+const COUNT: usize = 63;
 
-/// How many tokens are at least between two boundaries that are remembered at once.
-pub(crate) const BETWEEN: usize = 128;
-
-/// Some boundaries of a list of tokens: one for each of `COUNT` equal shares of its text.
+/// Some boundaries of a list of tokens: one for each share of its text. A share is a power of two, and there are up to
+/// `COUNT`.
 #[derive(Clone, Copy)]
 pub(crate) struct Checkpoints {
     bounds: [Bound; COUNT],
@@ -24,27 +22,14 @@ impl Checkpoints {
         }
     }
 
-    /// Returns checkpoints of the tokens of a text of `len` bytes.
-    pub(crate) fn of(tokens: &[Token], len: usize) -> Checkpoints {
-        let mut checkpoints = Checkpoints::new();
-        let mut at = FIRST;
-        while at.number < tokens.len() {
-            checkpoints.remember(at, len);
-            let number = (at.number + BETWEEN).min(tokens.len());
-            let end = end_from(at.offset as u32, &tokens[at.number..number]);
-            at = Bound {
-                number,
-                offset: end as usize,
-            };
-        }
-        checkpoints
-    }
-
     /// Remembers the boundary, instead of the one for the same share of a text of `len` bytes.
+    ///
+    /// A share has its place by the offset at which it begins. When a text has grown so that two shares become one, this
+    /// is the place of the first of the two, and what comes at the end gets the places of the others.
     pub(crate) fn remember(&mut self, bound: Bound, len: usize) {
-        let share = len / COUNT + 1;
-        let index = (bound.offset / share).min(COUNT - 1);
-        self.bounds[index] = bound;
+        let share = (len / COUNT + 1).next_power_of_two();
+        let start = bound.offset / share * share;
+        self.bounds[start % COUNT] = bound;
     }
 
     /// Returns the boundaries of both, each for the share of a text of `len` bytes in which it is.
@@ -104,13 +89,4 @@ fn move_bound(bound: Bound, kept: Bound, met: Bound, now: Bound) -> Bound {
     } else {
         kept
     }
-}
-
-/// Returns where the last of the tokens ends. The first one begins at `start`.
-pub(crate) fn end_from(start: u32, tokens: &[Token]) -> u32 {
-    let mut end = start;
-    for token in tokens {
-        end += token.len;
-    }
-    end
 }

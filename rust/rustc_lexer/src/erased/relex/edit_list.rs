@@ -29,14 +29,6 @@ pub enum EditStop {
 }
 
 /// Why a list of edits stopped, and what the edits before that one kept.
-///
-/// ```ignore
-/// let mut held = LexedText::new(alloc, "ab cd")?;
-/// let edits = [Edit { start: 0, stop: 2, insert: "x" }, Edit { start: 9, stop: 9, insert: "" }];
-/// let stopped = held.edit_each(&edits).unwrap_err();
-/// assert_eq!(stopped.stop, EditStop::Range { at: 1 });
-/// assert_eq!(stopped.relexed.kept_back, 2);
-/// ```
 #[derive(Clone, Copy, Debug, PartialEq, Eq, Hash)]
 pub struct Stopped {
     /// Which edit was refused, and why.

@@ -3,7 +3,6 @@
 use crate::support::Vec;
 
 use crate::erased::frontmatter::frontmatter;
-use crate::erased::relex::final_head::is_head_final;
 use crate::erased::scan::eat_whitespace;
 use crate::erased::shebang::shebang_len;
 use crate::erased::token::{Token, TokenKind};
@@ -13,6 +12,19 @@ use crate::support::AllocError;
 ///
 /// It is for a program that keeps the tokens of a whole document in lists of its own. [`Head::change_to`] returns what
 /// an edit of the document changes in its body, and [`Relexing`](crate::Relexing) lexes that again.
+///
+/// ```
+/// use rustc_lexer::lists::{Change, Head};
+///
+/// let (old, new) = ("#!/bin/sh\nlet a;", "#!/bin/sh\nlet ab;");
+/// // A `b` was inserted at 15.
+/// let change = Change { start: 15, old_stop: 15, new_stop: 16 };
+/// let (head, now) = (Head::find(old), Head::find(new));
+/// let body = head.change_to(now, change);
+/// assert!(body.keeps_head);
+/// assert_eq!(&new[now.body..], "\nlet ab;");
+/// assert_eq!(body.change, Change { start: 6, old_stop: 6, new_stop: 7 });
+/// ```
 #[derive(Clone, Copy, Debug, PartialEq, Eq, Hash)]
 pub struct Head {
     /// The length of the shebang line in bytes, or 0.
@@ -29,9 +41,6 @@ pub struct Head {
 pub trait Extent: Copy {
     /// Finds the head of a text.
     fn find_head(text: &str) -> Head;
-
-    /// Returns whether it is known that each text that begins with the first `len` bytes of this one has the same head.
-    fn settles_head(text: &str, len: usize) -> bool;
 }
 
 /// A whole document.
@@ -69,14 +78,6 @@ impl Extent for Whole {
             },
         }
     }
-
-    fn settles_head(text: &str, len: usize) -> bool {
-        if !text.is_char_boundary(len) {
-            return false;
-        }
-        let front = &text[..len];
-        is_head_final(front, shebang_len(front))
-    }
 }
 
 /// A part of a document.
@@ -91,10 +92,6 @@ impl Extent for Part {
             frontmatter: None,
             body: 0,
         }
-    }
-
-    fn settles_head(_text: &str, _len: usize) -> bool {
-        true
     }
 }
 

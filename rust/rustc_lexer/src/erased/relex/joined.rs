@@ -3,7 +3,7 @@
 use crate::support::String;
 
 use crate::erased::edition::{Edition, token_in};
-use crate::erased::relex::ending::Ending;
+use crate::erased::relex::settle::settled_in;
 use crate::support::Global;
 use core::error::Error;
 use core::fmt;
@@ -53,7 +53,8 @@ impl Error for JoinError {}
 pub struct JoinedText {
     text: String,
     edition: Edition,
-    ending: Ending,
+    /// A token boundary that at least two characters follow, or 0. The tokens before it stay, whatever is appended.
+    sure: usize,
 }
 
 impl JoinedText {
@@ -62,7 +63,7 @@ impl JoinedText {
         JoinedText {
             text: String::new(alloc),
             edition,
-            ending: Ending::Empty,
+            sure: 0,
         }
     }
 
@@ -92,34 +93,28 @@ impl JoinedText {
         if self.text.reserve(piece.len() + 1).is_err() {
             return Err(JoinError::Memory);
         }
-        if !append_separated(&mut self.text, self.ending, self.edition, piece) {
+        if !append_separated(&mut self.text, self.sure, self.edition, piece) {
             return Err(JoinError::Inseparable);
         }
-        self.ending = self.ending.grown(self.text.as_str(), at, self.edition);
+        self.sure = sure_later(self.text.as_str(), self.sure, self.edition);
         Ok(())
     }
 }
 
 /// Appends the piece after the first separator that keeps the tokens. Returns whether one does; if none does, the text
 /// stays. There is room for a separator of one byte.
-fn append_separated(text: &mut String, ending: Ending, edition: Edition, piece: &str) -> bool {
-    if append(text, ending, edition, "", piece) {
+fn append_separated(text: &mut String, sure: usize, edition: Edition, piece: &str) -> bool {
+    if append(text, sure, edition, "", piece) {
         return true;
     }
-    if append(text, ending, edition, " ", piece) {
+    if append(text, sure, edition, " ", piece) {
         return true;
     }
-    append(text, ending, edition, "\n", piece)
+    append(text, sure, edition, "\n", piece)
 }
 
 /// Appends the separator and the piece if the tokens stay so. Returns whether it did. There is room for them.
-fn append(
-    text: &mut String,
-    ending: Ending,
-    edition: Edition,
-    separator: &str,
-    piece: &str,
-) -> bool {
+fn append(text: &mut String, sure: usize, edition: Edition, separator: &str, piece: &str) -> bool {
     let at = text.as_str().len();
     let put_separator = text.push_str(separator);
     // There is room, so neither of them allocates.
@@ -127,9 +122,19 @@ fn append(
     let put_piece = text.push_str(piece);
     debug_assert!(put_piece.is_ok());
     let whole = text.as_str();
-    let stay = is_seam(&whole[at..], separator.len(), edition) && ending.stays(whole, at, edition);
+    let stay = is_seam(&whole[at..], separator.len(), edition) && stays(whole, sure, at, edition);
     if !stay {
         text.truncate(at);
     }
     stay
+}
+
+/// Returns whether the tokens before `at` are the first ones of the whole text, too. Those before `sure` are.
+fn stays(text: &str, sure: usize, at: usize, edition: Edition) -> bool {
+    is_seam(&text[sure..], at - sure, edition)
+}
+
+/// Returns the last boundary that is sure, from one that is.
+fn sure_later(text: &str, sure: usize, edition: Edition) -> usize {
+    sure + settled_in(&text[sure..], edition)
 }

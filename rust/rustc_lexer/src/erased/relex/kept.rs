@@ -5,7 +5,7 @@ use crate::support::{String, Vec};
 use crate::erased::entry::stepper::Stepper;
 use crate::erased::relex::checkpoints::Checkpoints;
 use crate::erased::relex::document_edit::{body_change, counted, keeps_head, new_head, put_tokens};
-use crate::erased::relex::edit::{past_edit, put_in_place, relex};
+use crate::erased::relex::edit::{past_edit, relex};
 use crate::erased::relex::head::{Extent, Head};
 use crate::erased::relex::lex::lex_all;
 use crate::erased::relex::relexing::{Change, Relexed};
@@ -27,28 +27,16 @@ pub(crate) struct Kept<S: Stepper, E: Extent> {
     pub checkpoints: Checkpoints,
 }
 
-/// Makes the edit in the text, which has room for it, and in what is kept of it. If an allocation fails, all but
-/// the text stays as it is.
-pub(crate) fn put_in<S: Stepper, E: Extent>(
+/// Lexes again what an edit has changed of the text, and puts it among what is kept, which is still that of the text before
+/// the edit. If an allocation fails, it stays so.
+pub(crate) fn renew<S: Stepper, E: Extent>(
     kept: &mut Kept<S, E>,
-    start: usize,
-    stop: usize,
-    insert: &str,
+    edit: Change,
 ) -> Result<Relexed, AllocError> {
-    put_in_place(&mut kept.text, start, stop, insert);
     let made = kept.text.as_str();
     let now = E::find_head(made);
-    let stays = keeps_head(kept.head, now, start);
-    let change = body_change(
-        stays,
-        kept.head.body,
-        now.body,
-        Change {
-            start,
-            old_stop: stop,
-            new_stop: start + insert.len(),
-        },
-    );
+    let stays = keeps_head(kept.head, now, edit.start);
+    let change = body_change(stays, kept.head.body, now.body, edit);
     let old_count = kept.head.count();
     let near = kept.checkpoints.nearest(change.start);
     let body = &made[now.body..];

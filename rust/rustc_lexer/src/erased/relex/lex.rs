@@ -3,13 +3,13 @@
 use crate::support::Vec;
 
 use crate::erased::entry::stepper::Stepper;
-use crate::erased::relex::checkpoints::{BETWEEN, Checkpoints};
+use crate::erased::relex::checkpoints::Checkpoints;
 use crate::erased::relex::front::Bound;
 use crate::erased::token::{Token, TokenKind};
 use crate::support::AllocError;
 
-/// How many tokens are lexed at once.
-const BUFFER_LEN: usize = BETWEEN;
+/// How many tokens are lexed at once, and how many there are between two checkpoints.
+const BUFFER_LEN: usize = 128;
 
 /// Lexes all tokens of a text, and appends them to a list. Returns checkpoints among them.
 pub(crate) fn lex_all<S: Stepper>(
@@ -26,7 +26,7 @@ pub(crate) fn lex_all<S: Stepper>(
     let mut offset = 0;
     while offset < text.len() {
         let number = tokens.len() - old_count;
-        checkpoints.remember(Bound { number, offset }, text.len());
+        checkpoints.remember(Bound { number, offset }, offset);
         let (count, bytes) = stepper.fill(&text[offset..], text.len() - offset, &mut buffer);
         tokens.extend_from_slice(&buffer[..count])?;
         offset += bytes;

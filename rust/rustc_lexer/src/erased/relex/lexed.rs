@@ -5,12 +5,13 @@ use crate::support::String;
 use crate::erased::entry::stepper::Stepper;
 use crate::erased::relex::edit::{accepts, put_in_place};
 use crate::erased::relex::head::{Extent, Part, Whole};
-use crate::erased::relex::kept::{Kept, lex_body, put_in};
-use crate::erased::relex::relexing::Relexed;
+use crate::erased::relex::kept::{Kept, lex_body, renew};
+use crate::erased::relex::relexing::{Change, Relexed};
 use crate::erased::token::Token;
 use crate::support::{AllocError, Global};
 use core::marker::PhantomData;
 
+mod at_once;
 mod document;
 mod edits;
 mod in_edition;
@@ -35,15 +36,6 @@ pub type LexedText<S> = Lexed<S, Part>;
 /// Its tokens begin past the shebang line, and a frontmatter may be the first of them. An edit that keeps both lexes few
 /// tokens; any other lexes all in front of it, too. Each edit also looks for a frontmatter, so it sees one that appears,
 /// disappears or ends elsewhere.
-///
-/// ```ignore
-/// let mut held = LexedDocument::new(alloc, "#!/bin/sh\n---cargo\n---\nfn")?;
-/// let end = held.text().len();
-/// if held.accepts(end, end, "x") {
-///     let counts = held.edit(end, end, "x")?;
-///     assert_eq!((counts.kept_front, counts.lexed, counts.kept_back), (3, 1, 0));
-/// }
-/// ```
 pub type LexedDocument<S> = Lexed<S, Whole>;
 
 impl<S: Stepper, E: Extent> Lexed<S, E> {
@@ -128,11 +120,16 @@ impl<S: Stepper, E: Extent> Lexed<S, E> {
     pub fn edit(&mut self, start: usize, stop: usize, insert: &str) -> Result<Relexed, AllocError> {
         let removed = String::from_str(self.kept.alloc, &self.kept.text[start..stop])?;
         self.kept.text.reserve(insert.len())?;
-        match put_in(&mut self.kept, start, stop, insert) {
+        put_in_place(&mut self.kept.text, start, stop, insert);
+        let edit = Change {
+            start,
+            old_stop: stop,
+            new_stop: start + insert.len(),
+        };
+        match renew(&mut self.kept, edit) {
             Ok(counts) => Ok(counts),
             Err(refused) => {
-                let new_stop = start + insert.len();
-                put_in_place(&mut self.kept.text, start, new_stop, removed.as_str());
+                put_in_place(&mut self.kept.text, start, edit.new_stop, removed.as_str());
                 Err(refused)
             }
         }

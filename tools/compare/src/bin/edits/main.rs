@@ -97,26 +97,29 @@ fn edits(text: &str, whole: f64, rounds: usize) {
 }
 
 fn lists(text: &str, whole: f64, rounds: usize) {
-    for count in [64, 128, 1_000, 6_924] {
+    for count in [10, 63, 64, 1_000, 6_924] {
         let places = in_words(text, count);
-        let edits = places.iter().enumerate().map(|(before, at)| Edit {
-            start: at + before,
-            stop: at + before,
+        let letter = |at| Edit {
+            start: at,
+            stop: at,
             insert: "x",
-        });
-        let edits: Vec<Edit> = edits.collect();
+        };
+        let at_once: Vec<Edit> = places.iter().map(|&at| letter(at)).collect();
+        let moved = places.iter().enumerate();
+        let each: Vec<Edit> = moved.map(|(before, at)| letter(at + before)).collect();
         macro_rules! list {
             ($Kept:ident) => {{
-                let make = || $Kept::new(text);
-                let time = least(rounds, make, |kept| {
-                    kept.edit_each(&edits).expect("the edits are accepted");
-                });
                 let name = stringify!($Kept);
-                row(
-                    &format!("a list of {count} by `edit_each` of a `{name}`"),
-                    time,
-                    whole,
-                );
+                let mut list = |call: &str, what: &dyn Fn(&mut $Kept)| {
+                    let time = least(rounds, || $Kept::new(text), what);
+                    row(&format!("{count} by `{call}` of a `{name}`"), time, whole);
+                };
+                list("edit_each", &|kept| {
+                    kept.edit_each(&each).expect("the edits are accepted");
+                });
+                list("edit_at_once", &|kept| {
+                    kept.edit_at_once(&at_once).expect("the edits are accepted");
+                });
             }};
         }
         list!(LexedText);

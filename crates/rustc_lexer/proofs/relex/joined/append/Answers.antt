@@ -2,9 +2,9 @@ use Rattle.std.proofs.Common.{◌≡◌, ◌∙◌, ◌↔◌, ℕ, List, Bool, 
 use Rattle.std.proofs.lemmas.Str.{IsUtf8-string_bytes}
 use Rattle.rustc_lexer.specs.Joined.{IsSeparated, MayTouch}
 use Rattle.rustc_lexer.specs.laws.Edition.{edition_grammar}
-use Rattle.rustc_lexer.specs.means.Joined.{IsEnding}
+use Rattle.rustc_lexer.specs.Answers.{first_in}
+use Rattle.rustc_lexer.specs.means.Joined.{IsSure}
 use Rattle.rustc_lexer.proofs.JoinedLemmas.{put_by, put_is, between_boundary, by_both, by_one, end_boundary, front_part, rest_fits}
-use Rattle.rustc_lexer.proofs.SeparatorLemmas.{Tokens}
 use Rattle.rustc_lexer.proofs.relex.joined.append.Goals as goal
 use Rattle.rustc_lexer.proofs.relex.joined.append.Goals.{then-is_seam, else-is_seam}
 
@@ -38,11 +38,11 @@ stays-stay-requires-clause-boundary c =
     let at : length c.as_str-at.result.now ≡ length (string_bytes c.args.text.now) = ap length c.as_str-at.ensures.value in
     subst (IsCharBoundary c.as_str-whole.result.now) (sym at) (end_boundary (edition_grammar c.args.edition) put)
 
-pub stays-stay-requires-clause-ending : goal.stays-stay-requires-clause-ending
-stays-stay-requires-clause-ending c =
+pub stays-stay-requires-clause-sure : goal.stays-stay-requires-clause-sure
+stays-stay-requires-clause-sure c =
     let put = put_by (IsUtf8-string_bytes c.args.text.now) c.utf8.separator c.utf8.piece c.requires.fits c.push_str-put_separator.ensures.bytes (sym c.is_ok.ensures.value ∙ c.if-prove.false) c.push_str-put_piece.ensures.bytes (sym c.is_ok-2.ensures.value ∙ c.if-prove-2.false) c.as_str-whole.ensures.value in
     let at : length c.as_str-at.result.now ≡ length (string_bytes c.args.text.now) = ap length c.as_str-at.ensures.value in
-    subst (λ (xs : List ℕ). IsEnding (Tokens c.args.edition xs) c.args.ending) (sym (ap (λ (n : ℕ). take n c.as_str-whole.result.now) at ∙ front_part (edition_grammar c.args.edition) put)) c.requires.ending
+    subst (λ (xs : List ℕ). IsSure (first_in c.args.edition) xs c.args.sure) (sym (ap (λ (n : ℕ). take n c.as_str-whole.result.now) at ∙ front_part (edition_grammar c.args.edition) put)) c.requires.sure
 
 pub truncate-requires : goal.truncate-requires
 truncate-requires c =

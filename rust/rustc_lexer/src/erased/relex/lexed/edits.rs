@@ -5,9 +5,37 @@ use crate::erased::entry::stepper::Stepper;
 use crate::erased::relex::edit::{Edit, accepts, contains_range};
 use crate::erased::relex::edit_list::{EditStop, Stopped};
 use crate::erased::relex::head::Extent;
-use crate::erased::relex::in_order::{Made, edit_in_order};
 use crate::erased::relex::lexed::Lexed;
 use crate::erased::relex::relexing::Relexed;
+
+/// How many edits of a list were made, and how many tokens each of them kept at least.
+#[derive(Clone, Copy)]
+struct Made {
+    count: usize,
+    front: usize,
+    back: usize,
+}
+
+impl Made {
+    /// Returns the same with one more edit, which has these counts.
+    fn more(self, counts: Relexed) -> Made {
+        Made {
+            count: self.count + 1,
+            front: self.front.min(counts.kept_front),
+            back: self.back.min(counts.kept_back),
+        }
+    }
+
+    /// Returns the counts of these edits. There were `old_len` tokens, and now there are `len`.
+    fn counts(self, old_len: usize, len: usize) -> Relexed {
+        let kept_back = self.back.min(len.min(old_len) - self.front);
+        Relexed {
+            kept_front: self.front,
+            lexed: len - self.front - kept_back,
+            kept_back,
+        }
+    }
+}
 
 impl<S: Stepper, E: Extent> Lexed<S, E> {
     /// Makes the edits in order, each on the text that the edits before it leave, up to the first one that is refused.
@@ -22,8 +50,6 @@ impl<S: Stepper, E: Extent> Lexed<S, E> {
     /// Makes the edits as [`edit_all`](Lexed::edit_all) does. Returns how many tokens all of them kept at the front and at
     /// the back, and how many are now between these. An empty list keeps all at the front. `Err` also says what the edits
     /// before the refused one kept.
-    ///
-    /// A list of at least 64 edits, each behind the one before it, moves what is behind them once.
     pub fn edit_each(&mut self, edits: &[Edit<'_>]) -> Result<Relexed, Stopped> {
         let old_len = self.tokens().len();
         let mut made = Made {
@@ -56,15 +82,7 @@ impl<S: Stepper, E: Extent> Lexed<S, E> {
                 Ok(counts) => *made = made.more(counts),
                 Err(_) => return Err(EditStop::Memory { at }),
             }
-            if at == 0 {
-                self.make_in_order(edits, made)?;
-            }
         }
         Ok(())
-    }
-
-    /// Makes the next edits of a long list that are in order.
-    fn make_in_order(&mut self, edits: &[Edit<'_>], made: &mut Made) -> Result<(), EditStop> {
-        edit_in_order(&mut self.kept, edits, made)
     }
 }

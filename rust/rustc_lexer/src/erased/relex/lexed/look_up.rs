@@ -2,7 +2,6 @@
 //! From an offset to a token of a kept text, and the pieces of the text.
 
 use crate::erased::entry::stepper::Stepper;
-use crate::erased::relex::checkpoints::end_from;
 use crate::erased::relex::front::Bound;
 use crate::erased::relex::head::Extent;
 use crate::erased::relex::lexed::Lexed;
@@ -27,15 +26,6 @@ impl<S: Stepper, E: Extent> Lexed<S, E> {
 
     /// Returns an iterator over the pieces of the tokens from number `from` up to number `to`, like those that an
     /// edit lexed. It reads few of the tokens before them.
-    ///
-    /// An editor can paint what an edit changed like this:
-    ///
-    /// ```ignore
-    /// let counts = held.edit(start, stop, insert)?;
-    /// for piece in held.pieces_of(counts.kept_front, counts.kept_front + counts.lexed) {
-    ///     paint(piece.start, piece.token.kind, piece.text);
-    /// }
-    /// ```
     pub fn pieces_of(&self, from: usize, to: usize) -> Pieces<'_> {
         let first = Bound {
             number: 0,
@@ -164,6 +154,15 @@ impl<S: Stepper, E: Extent> Lexed<S, E> {
         }
         (self.ended_at(start), self.begun_before(stop))
     }
+}
+
+/// Returns where the last of the tokens ends. The first one begins at `start`.
+fn end_from(start: u32, tokens: &[Token]) -> u32 {
+    let mut end = start;
+    for token in tokens {
+        end += token.len;
+    }
+    end
 }
 
 /// Returns the token that contains the byte at `offset`, by its number and its start. The first token begins at `first`,

@@ -2,9 +2,8 @@
 //! A kept text that grows at its end, like a stream.
 
 use crate::erased::entry::stepper::Stepper;
-use crate::erased::relex::final_head::is_head_final;
 use crate::erased::relex::front::{Bound, kept_front};
-use crate::erased::relex::head::{Part, Whole};
+use crate::erased::relex::head::Part;
 use crate::erased::relex::lexed::Lexed;
 
 impl<S: Stepper> Lexed<S, Part> {
@@ -20,27 +19,5 @@ impl<S: Stepper> Lexed<S, Part> {
             offset: text.len(),
         };
         kept_front(text, tokens, text.len(), end).offset
-    }
-}
-
-impl<S: Stepper> Lexed<S, Whole> {
-    /// Returns where the last token that at least two characters follow ends, in bytes, or where the shebang line does if
-    /// there is no such token. Returns 0 as long as the head may change.
-    ///
-    /// Whatever is appended to the text, its tokens up to this place stay as they are. It lexes nothing, but looks at the
-    /// head again, and reads only the last tokens.
-    pub fn settled(&self) -> usize {
-        let text = self.text();
-        let start = self.shebang_len();
-        if !is_head_final(text, start) {
-            return 0;
-        }
-        let rest = &text[start..];
-        let tokens = self.tokens();
-        let end = Bound {
-            number: tokens.len(),
-            offset: rest.len(),
-        };
-        start + kept_front(rest, tokens, rest.len(), end).offset
     }
 }

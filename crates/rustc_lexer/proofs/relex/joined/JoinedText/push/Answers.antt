@@ -1,9 +1,10 @@
-use Rattle.std.proofs.Common.{◌≡◌, ◌+◌, ◌^◌, ◌<◌, arith, sym, length, drop, take, subst, string_bytes, chars, IsCharBoundary, List, ℕ}
-use Rattle.rustc_lexer.specs.Answers.{tokens_of}
-use Rattle.rustc_lexer.specs.Joined.{AreClosed, AreInseparable, IsJoined, Joined, MayTouch, RunsOn}
+use Rattle.std.proofs.Common.{◌≡◌, ◌+◌, ◌^◌, ◌<◌, arith, length, subst, string_bytes, chars, List, ℕ}
+use Rattle.std.proofs.lemmas.Str.{IsUtf8-string_bytes}
+use Rattle.rustc_lexer.specs.Answers.{first_in, tokens_of}
+use Rattle.rustc_lexer.specs.Joined.{AreClosed, AreInseparable, IsJoined, Joined, RunsOn}
 use Rattle.rustc_lexer.specs.LanguageText.{part}
-use Rattle.rustc_lexer.specs.means.Joined.{IsEnding}
-use Rattle.rustc_lexer.proofs.EndingLemmas.{IsPast, joined-only, past-piece}
+use Rattle.rustc_lexer.specs.means.Joined.{IsSure}
+use Rattle.rustc_lexer.proofs.SureLemmas.{grown, joined-only}
 use Rattle.rustc_lexer.proofs.SeparatorLemmas.{runs-on}
 use Rattle.rustc_lexer.proofs.relex.joined.JoinedText.push.Goals as goal
 
@@ -14,30 +15,17 @@ returns-then-not-append_separated-clause-closed c =
     λ e. subst (λ (j : Joined). AreClosed (tokens_of (part j.edition) j.text) → RunsOn (tokens_of (part j.edition) j.text) (chars c.args.piece.now)) c.self.view_is
     (λ closed. runs-on c.self.inside.edition (string_bytes c.self.inside.text) c.args.piece.now c.self.invariant.0 c.utf8.piece room closed apart)
 
-pub grown-self-inside-requires-clause-boundary : goal.grown-self-inside-requires-clause-boundary
-grown-self-inside-requires-clause-boundary c =
+pub sure_later-self-inside-requires : goal.sure_later-self-inside-requires
+sure_later-self-inside-requires c =
     let room : length (string_bytes c.self.inside.text) + (length c.args.piece.now + 1) < 2 ^ 32 = omega arith in
-    let past : IsPast c.self.inside.edition (string_bytes c.self.inside.text) (string_bytes c.append_separated.new.text) =
-    past-piece c.self.inside.edition (string_bytes c.self.inside.text) (string_bytes c.reserve.new.self) c.args.piece.now (string_bytes c.append_separated.new.text) c.self.invariant.0 c.utf8.piece c.reserve.ensures.bytes room (c.append_separated.ensures.joined c.if-not-append_separated.false) in
-    let at : c.len-at.result ≡ length (string_bytes c.self.inside.text) = omega arith in
-    subst (IsCharBoundary c.as_str.result.now) (sym at) (subst (λ (xs : List ℕ). IsCharBoundary xs (length (string_bytes c.self.inside.text))) (sym c.as_str.ensures.value) past.boundary)
-
-pub grown-self-inside-requires-clause-touch : goal.grown-self-inside-requires-clause-touch
-grown-self-inside-requires-clause-touch c =
-    let room : length (string_bytes c.self.inside.text) + (length c.args.piece.now + 1) < 2 ^ 32 = omega arith in
-    let past : IsPast c.self.inside.edition (string_bytes c.self.inside.text) (string_bytes c.append_separated.new.text) =
-    past-piece c.self.inside.edition (string_bytes c.self.inside.text) (string_bytes c.reserve.new.self) c.args.piece.now (string_bytes c.append_separated.new.text) c.self.invariant.0 c.utf8.piece c.reserve.ensures.bytes room (c.append_separated.ensures.joined c.if-not-append_separated.false) in
-    let at : c.len-at.result ≡ length (string_bytes c.self.inside.text) = omega arith in
-    let n : ℕ = length (string_bytes c.self.inside.text) in
-    subst (λ (k : ℕ). MayTouch c.self.inside.edition (take k c.as_str.result.now) (drop k c.as_str.result.now)) (sym at)
-    (subst (λ (xs : List ℕ). MayTouch c.self.inside.edition (take n xs) (drop n xs)) (sym c.as_str.ensures.value) past.touch)
+    let g = grown c.self.inside.edition (string_bytes c.self.inside.text) (string_bytes c.reserve.new.self) c.args.piece.now (string_bytes c.append_separated.new.text) c.self.inside.sure c.self.invariant.0 c.self.invariant.1 c.reserve.ensures.bytes room (c.append_separated.ensures.joined c.if-not-append_separated.false) (IsUtf8-string_bytes c.append_separated.new.text) in
+    rw c.as_str.ensures.value record { fits = g.is.fits; sure = g.sure }
 
 pub invariant_of-self-2 : goal.invariant_of-self-2
 invariant_of-self-2 c =
     let room : length (string_bytes c.self.inside.text) + (length c.args.piece.now + 1) < 2 ^ 32 = omega arith in
-    let past : IsPast c.self.inside.edition (string_bytes c.self.inside.text) (string_bytes c.append_separated.new.text) =
-    past-piece c.self.inside.edition (string_bytes c.self.inside.text) (string_bytes c.reserve.new.self) c.args.piece.now (string_bytes c.append_separated.new.text) c.self.invariant.0 c.utf8.piece c.reserve.ensures.bytes room (c.append_separated.ensures.joined c.if-not-append_separated.false) in
-    (past.is, subst (λ (xs : List ℕ). IsEnding (tokens_of (part c.self.inside.edition) xs) c.grown-self-inside.result) c.as_str.ensures.value c.grown-self-inside.ensures)
+    let g = grown c.self.inside.edition (string_bytes c.self.inside.text) (string_bytes c.reserve.new.self) c.args.piece.now (string_bytes c.append_separated.new.text) c.self.inside.sure c.self.invariant.0 c.self.invariant.1 c.reserve.ensures.bytes room (c.append_separated.ensures.joined c.if-not-append_separated.false) (IsUtf8-string_bytes c.append_separated.new.text) in
+    (g.is, subst (λ (xs : List ℕ). IsSure (first_in c.self.inside.edition) xs c.sure_later-self-inside.result) c.as_str.ensures.value c.sure_later-self-inside.ensures)
 
 pub returns-clause-only : goal.returns-clause-only
 returns-clause-only c =

@@ -1,0 +1,91 @@
+-- Two bytes that stand together, looked for at 16 places at a time.
+use Rattle.std.proofs.Common.{◌≡◌, ℕ, zero, suc, ◌+◌, ◌-◌, ◌<◌, ◌≤◌, ◌^◌, ◌==◌, ◌&&◌, Bool, false, true≢false, List, [], ◌∷◌, map, length, drop, get_or, refl, sym, ap, ap₂, ◌∙◌, subst, arith, bit_and, inl, inr}
+use Rattle.std.proofs.Math.Bool.{and-false}
+use Rattle.std.proofs.lemmas.Bool.{cases_lt}
+use Rattle.std.proofs.lemmas.List.{get_or-drop, get_or-map, length-map}
+use Rattle.std.proofs.lemmas.Simd.{length-chunk, get_or-chunk, mask_l-lt}
+use Rattle.std.proofs.lemmas.Nat.Bits.{bit_at_above}
+use Rattle.std.proofs.lemmas.Grind.{common_steps}
+use lib.Count.{count_trailing_zeros}
+use lib.Lanes.{chunk, mask_l}
+use Rattle.memchr.specs.Find.{is_byte}
+use Rattle.rustc_lexer.specs.means.Ends.{bit}
+use Rattle.rustc_lexer.specs.means.Frontmatter.{first}
+use Rattle.rustc_lexer.specs.means.Least.{more, one_more}
+use Rattle.rustc_lexer.specs.means.Scan.{begins}
+use Rattle.rustc_lexer.specs.laws.Choice.{by_either}
+use Rattle.rustc_lexer.specs.laws.Least.{more-zero, offset-on, one_more-more}
+use Rattle.rustc_lexer.proofs.BitLemmas.{bit-and, bit-mask_l, bit-zero, lowest_is}
+
+-- a mask of the first w bytes
+pub few : (p : ℕ → Bool) (bytes : List ℕ) (mask : ℕ) → 16 ≤ length bytes → mask ≡ mask_l (map p (chunk 0 16 bytes)) → mask < 2 ^ 16
+few p bytes mask inside e =
+    let long : length (map p (chunk 0 16 bytes)) ≡ 16 = length-map (chunk 0 16 bytes) p ∙ length-chunk 0 16 bytes (omega arith) in
+    subst (λ n. mask < 2 ^ n) long (subst (λ m. m < 2 ^ length (map p (chunk 0 16 bytes))) (sym e) (mask_l-lt (map p (chunk 0 16 bytes))))
+
+pub in_front : (p : ℕ → Bool) (bytes : List ℕ) (w mask : ℕ) → w ≤ length bytes → mask ≡ mask_l (map p (chunk 0 w bytes)) → (i : ℕ) → i < w → bit mask i ≡ p (get_or bytes i 0)
+in_front p bytes w mask inside e i l = grind (arith, common_steps, bit-mask_l, get_or-map, length-chunk, get_or-chunk)
+
+abbrev pub pair_at : ℕ → ℕ → List ℕ → ℕ → Bool
+pair_at one two bytes k = is_byte one (get_or bytes k 0) && is_byte two (get_or bytes (suc k) 0)
+
+abbrev pub AreApart : ℕ → ℕ → List ℕ → ℕ → Type 0
+AreApart one two bytes n = (k : ℕ) → k < n → pair_at one two bytes k ≡ false
+
+above : (x i : ℕ) → x < 2 ^ 16 → 16 ≤ i → bit x i ≡ false
+unfolding bit
+above x i small far = ap (λ n. n == 1) (bit_at_above x 16 i small far)
+
+pub near : (x : ℕ) → 0 < x → x < 2 ^ 16 → count_trailing_zeros 64 x < 16
+near x some small =
+    let low = lowest_is x some (omega (arith, small)) in
+    elim (cases_lt (count_trailing_zeros 64 x) 16) [
+      | inl less ↦ less
+      | inr far ↦ absurd (true≢false (sym low.set ∙ above x _ small far))
+    ]
+
+-- a look at 16 places from `end` on
+module _ (one two : ℕ) (bytes : List ℕ) (end ones twos : ℕ) (so : AreApart one two bytes end) (left right : List ℕ) (left_is : left ≡ drop end bytes) (right_is : right ≡ drop (end + 1) bytes) (ones_are : (k : ℕ) → k < 16 → bit ones k ≡ is_byte one (get_or left k 0))
+    (twos_are : (k : ℕ) → k < 16 → bit twos k ≡ is_byte two (get_or right k 0)) where
+  looked : (j : ℕ) → j < 16 → bit (bit_and ones twos) j ≡ pair_at one two bytes (end + j)
+  looked j l =
+      let next : end + 1 + j ≡ suc (end + j) = omega arith in
+      bit-and ones twos j ∙ ap₂ (λ a b. a && b)
+      (ones_are j l ∙ ap (is_byte one) (ap (λ (xs : List ℕ). get_or xs j 0) left_is ∙ get_or-drop end bytes j 0))
+      (twos_are j l ∙ ap (is_byte two) (ap (λ (xs : List ℕ). get_or xs j 0) right_is ∙ (get_or-drop (end + 1) bytes j 0 ∙ ap (λ k. get_or bytes k 0) next)))
+
+  up_to : (n : ℕ) → n ≤ 16 → ((j : ℕ) → j < n → bit (bit_and ones twos) j ≡ false) → AreApart one two bytes (end + n)
+  up_to n few none k l = elim (cases_lt k end) [
+    | inl before ↦ so k before
+    | inr past ↦ let e : end + (k - end) ≡ k = omega arith in ap (pair_at one two bytes) (sym e) ∙ (sym (looked (k - end) (omega arith)) ∙ none (k - end) (omega arith))
+  ]
+
+  pub apart_on : bit_and ones twos ≡ 0 → AreApart one two bytes (end + 16)
+  apart_on e = up_to 16 (omega arith) (λ j l. ap (λ m. bit m j) e ∙ bit-zero j)
+
+  pub apart_to : 0 < bit_and ones twos → bit_and ones twos < 2 ^ 16 → AreApart one two bytes (end + count_trailing_zeros 64 (bit_and ones twos))
+  apart_to some small =
+      let low = lowest_is (bit_and ones twos) some (omega (arith, small)) in
+      let less = near (bit_and ones twos) some small in
+      up_to _ (omega arith) low.least
+
+-- where the two stand apart, nothing begins with both
+pair_none : (c one two : ℕ) (ds s : List ℕ) → (is_byte one c && is_byte two (get_or s 0 0)) ≡ false → begins (one ∷ two ∷ ds) (c ∷ s) ≡ false
+pair_none c one two ds [] e = and-false (c == one)
+pair_none c one two ds (d ∷ s) e = by_either (c == one)
+    (λ t. by_either (d == two)
+    (λ u. absurd (true≢false (sym (rw (t, u) refl) ∙ e)))
+    (λ u. rw (t, u) refl))
+    (λ t. rw t refl)
+
+pub apart_first : (one two : ℕ) (ds s : List ℕ) (n : ℕ) → n ≤ length s → AreApart one two s n → first (one ∷ two ∷ ds) s ≡ more n (first (one ∷ two ∷ ds) (drop n s))
+apart_first one two ds s zero le apart = more-zero (first (one ∷ two ∷ ds) s)
+apart_first one two ds [] (suc n) le apart = absurd (omega arith)
+apart_first one two ds (c ∷ s) (suc n) le apart =
+    offset-on (begins (one ∷ two ∷ ds)) c s (pair_none c one two ds s (apart 0 (omega arith)))
+    ∙ (ap one_more (apart_first one two ds s n (omega arith) (λ k l. apart (suc k) (omega arith))) ∙ one_more-more n (first (one ∷ two ∷ ds) (drop n s)))
+
+-- the same of a pattern by its second byte
+pub apart_pattern : (one two : ℕ) (others s : List ℕ) (n : ℕ) → 0 < length others → get_or others 0 0 ≡ two → n ≤ length s → AreApart one two s n → first (one ∷ others) s ≡ more n (first (one ∷ others) (drop n s))
+apart_pattern one two [] s n some e le apart = absurd (omega arith)
+apart_pattern one two (d ∷ ds) s n some e le apart = apart_first one d ds s n le (subst (λ b. AreApart one b s n) (sym e) apart)

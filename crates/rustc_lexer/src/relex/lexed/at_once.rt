@@ -1,0 +1,120 @@
+//! Several edits of a kept text at once, all in offsets of the present text.
+ghost use Rattle.std.specs.Prelude.{◌≡◌, ◌+◌, ◌++◌, ◌^◌, ◌-◌, ◌<◌, ◌≤◌, [], IfErr, IfOk, Ok, OnOk, drop, length, min};
+ghost use Rattle.std.specs.Str.{IsUtf8};
+ghost use Rattle.std.specs.String.{string_bytes};
+ghost use Rattle.rustc_lexer.specs.declared.relex.edit_list.EditStop.{EditStop};
+ghost use Rattle.rustc_lexer.specs.Edits.{AreAtOnce, AreInOrder, IsStopAtOnce, all_stay, start_of_first, stop_of_last};
+ghost use Rattle.rustc_lexer.specs.Edits.{with_all};
+ghost use Rattle.rustc_lexer.specs.Classes.{Fits};
+ghost use Rattle.rustc_lexer.specs.means.Document.{edit_change};
+ghost use Rattle.rustc_lexer.specs.Kept.{IsEdited};
+
+use crate::entry::stepper::Stepper;
+use crate::relex::edit::{Edit, contains_range};
+use crate::relex::edit_list::EditStop;
+use crate::relex::head::Extent;
+use crate::relex::kept::renew;
+use crate::relex::lexed::Lexed;
+use crate::relex::relexing::{Change, Relexed};
+use std::alloc::{AllocError, Global};
+
+impl<S: Stepper, E: Extent> Lexed<S, E> {
+    /// Makes the edits at once. All have offsets of the present text, are in order, and do not overlap, but may touch.
+    ///
+    /// It is one [edit](Lexed::edit), from where the first begins to where the last ends, and returns its counts. An empty
+    /// list keeps all at the front. `Err` names the first that is out of bounds, cuts a character or begins before the one
+    /// in front of it ends; or the last, if the text would be too long or memory is refused. Text and tokens then stay.
+    pub fn edit_at_once(&mut self, edits: &[Edit<'_>]) -> Result<Relexed, EditStop>
+        ensures accepted { OnOk result (AreAtOnce self.old.text edits.now) }
+        ensures none { edits.now ≡ []
+            → (self.new ≡ self.old) × (result ≡ Ok (all_stay (length self.old.tokens))) }
+        ensures edit { (edits.now ≡ [] → ⊥) → AreAtOnce self.old.text edits.now
+            → IsEdited {E = EditStop} S.grammar S.number S.count E.whole self.old
+            (start_of_first edits.now) (stop_of_last 0 edits.now)
+            (with_all self.old.text (start_of_first edits.now) edits.now) result self.new }
+        ensures stop { IfErr result (λ stop. IsStopAtOnce stop self.old.text edits.now) }
+        ensures same { (AreAtOnce self.old.text edits.now → ⊥) → self.new ≡ self.old }
+    {
+        let text = self.text();
+        if edits.is_empty() {
+            return Ok(Relexed {
+                kept_front: self.tokens().len(),
+                lexed: 0,
+                kept_back: 0,
+            });
+        }
+        let edit = change_of(text, edits)?;
+        let at = edits.len() - 1;
+        let Ok(made) = made(self.kept.alloc, text, edits, edit) else {
+            return Err(EditStop::Memory { at });
+        };
+        let before = std::mem::replace(&mut self.kept.text, made);
+        match renew(&mut self.kept, edit) {
+            Ok(counts) => Ok(counts),
+            Err(_) => {
+                self.kept.text = before;
+                Err(EditStop::Memory { at })
+            }
+        }
+    }
+}
+
+/// Returns the offsets of the one edit that they are, or why they are none.
+fn change_of(text: &str, edits: &[Edit<'_>]) -> Result<Change, EditStop>
+    requires some { edits.now ≡ [] → ⊥ }
+    requires fits { Fits text.now }
+    ensures valid { OnOk result (AreAtOnce text.now edits.now) }
+    ensures change { IfOk result (λ edit. edit ≡ edit_change (start_of_first edits.now)
+        (stop_of_last 0 edits.now) (with_all text.now (start_of_first edits.now) edits.now)) }
+    ensures utf8 { OnOk result (IsUtf8 (with_all text.now (start_of_first edits.now) edits.now)) }
+    ensures stop { IfErr result (λ stop. IsStopAtOnce stop text.now edits.now
+        × (AreAtOnce text.now edits.now → ⊥)) }
+{
+    let mut change = Change {
+        start: edits[0].start,
+        old_stop: 0,
+        new_stop: 0,
+    };
+    for (at, edit) in edits.iter().enumerate() {
+        if edit.start < change.old_stop || !contains_range(text, edit.start, edit.stop) {
+            return Err(EditStop::Range { at });
+        }
+        change.new_stop = grown(change.new_stop, edit.start - change.old_stop, edit.insert);
+        change.old_stop = edit.stop;
+    }
+    let behind = text.len() - change.old_stop;
+    if change.new_stop > u32::MAX as usize - behind {
+        let at = edits.len() - 1;
+        return Err(EditStop::TooLong { at });
+    }
+    Ok(change)
+}
+
+/// Returns the length with that many more bytes, and those of a text, or the greatest number.
+fn grown(len: usize, more: usize, text: &str) -> usize
+    ensures sum { result ≡ min (2 ^ 64 - 1) (len + more + length text.now) }
+    ensures utf8 { IsUtf8 text.now }
+{
+    len.saturating_add(more).saturating_add(text.len())
+}
+
+/// Returns the text that they make.
+fn made(alloc: Global, text: &str, edits: &[Edit<'_>], edit: Change) -> Result<String, AllocError>
+    requires in_order { AreInOrder text.now 0 edits.now }
+    requires stop { edit.old_stop ≤ length text.now }
+    requires short { edit.new_stop < 2 ^ 33 }
+    requires fits { Fits text.now }
+    ensures { IfOk result (λ made. string_bytes made
+        ≡ with_all text.now 0 edits.now ++ drop (stop_of_last 0 edits.now) text.now) }
+{
+    let mut made = String::new(alloc);
+    made.reserve(edit.new_stop + (text.len() - edit.old_stop))?;
+    let mut from = 0;
+    for edit in edits {
+        made.push_str(&text[from..edit.start])?;
+        made.push_str(edit.insert)?;
+        from = edit.stop;
+    }
+    made.push_str(&text[from..])?;
+    Ok(made)
+}

@@ -1,0 +1,311 @@
+//! What the calls that edit a kept text are by their definition: the text is made by hand and lexed from scratch, what
+//! is kept is counted as docs/RELEXING.md says it, and each token that is lexed is a step, but those of a new head.
+
+use crate::made::{counts, edit, token};
+use rustc_lexer::{
+    Checked, Edit, EditError, EditStop, Edition, LexedDocument, LexedText, Relexed, Stepper, Steps,
+    Stopped, Token, TokenKind, strip_shebang, tokenize_document, tokenize_in,
+};
+
+/// The grammar of an edition, or that of `looking`.
+pub type Language = Option<Edition>;
+
+pub const LANGUAGES: [Language; 5] = [
+    Some(Edition::E2015),
+    Some(Edition::E2018),
+    Some(Edition::E2021),
+    Some(Edition::E2024),
+    None,
+];
+
+/// A grammar that looks exactly as far as it may: two equal characters are one token, whose kind says how many of the
+/// two after it are an `a`.
+fn looking(rest: &str) -> Token {
+    let mut chars = rest.chars();
+    let first = chars.next().expect("the text is not empty");
+    let twice = chars.clone().next() == Some(first);
+    let len = first.len_utf8() * if twice { 2 } else { 1 };
+    let following = rest[len..].chars().take(2).filter(|&c| c == 'a').count();
+    let kind = [TokenKind::Semi, TokenKind::Dot, TokenKind::Comma][following];
+    token(kind, len as u32)
+}
+
+/// Steps in a language, which are counted.
+#[derive(Clone)]
+pub struct Counting(pub Option<Steps>, pub usize);
+
+impl Stepper for Counting {
+    fn step(&mut self, rest: &str) -> Token {
+        self.1 += 1;
+        match &mut self.0 {
+            Some(steps) => steps.step(rest),
+            None => looking(rest),
+        }
+    }
+}
+
+/// Where the tokens of a text begin, how many of them are its head, and all of them.
+#[derive(Clone, Debug)]
+pub struct Layout {
+    pub start: usize,
+    pub head: usize,
+    pub tokens: Vec<Token>,
+}
+
+fn part(text: &str, language: Language) -> Layout {
+    let tokens = match language {
+        Some(edition) => tokenize_in(text, edition).collect(),
+        None => {
+            let mut at = 0;
+            let next = || {
+                let token = (at < text.len()).then(|| looking(&text[at..]))?;
+                at += token.len as usize;
+                Some(token)
+            };
+            std::iter::from_fn(next).collect()
+        }
+    };
+    let (start, head) = (0, 0);
+    Layout {
+        start,
+        head,
+        tokens,
+    }
+}
+
+fn document(text: &str, language: Language) -> Layout {
+    let edition = language.unwrap_or(Edition::NEWEST);
+    let mut tokens: Vec<Token> = tokenize_document(text, edition).collect();
+    let is_frontmatter = |token: &Token| matches!(token.kind, TokenKind::Frontmatter { .. });
+    let head = tokens
+        .iter()
+        .position(is_frontmatter)
+        .map_or(0, |at| at + 1);
+    let start = strip_shebang(text).unwrap_or(0);
+    if language.is_none() {
+        tokens.truncate(head);
+        let body = start + sum(&tokens);
+        tokens.extend(part(&text[body..], language).tokens);
+    }
+    Layout {
+        start,
+        head,
+        tokens,
+    }
+}
+
+fn sum(tokens: &[Token]) -> usize {
+    tokens.iter().map(|token| token.len as usize).sum()
+}
+
+impl Layout {
+    /// The bounds of the tokens, in bytes of the text.
+    fn bounds(&self) -> Vec<usize> {
+        let mut at = self.start;
+        let ends = self.tokens.iter().map(|token| {
+            at += token.len as usize;
+            at
+        });
+        [self.start].into_iter().chain(ends).collect()
+    }
+}
+
+/// What an edit keeps and lexes of a text, and its steps: the tokens of a new head take none.
+fn of_edit(text: &str, old: &Layout, new: &Layout, edit: &Edit<'_>) -> (Relexed, usize) {
+    let (before, after) = (old.bounds(), new.bounds());
+    let keeps_head = before[old.head] <= edit.start
+        && old.start == new.start
+        && old.tokens[..old.head] == new.tokens[..new.head];
+    let two_before = text[..edit.start].char_indices().rev().nth(1);
+    let is_kept = |end: &&usize| two_before.is_some_and(|(place, _)| **end <= place);
+    let front = match keeps_head {
+        true => old.head + before[old.head + 1..].iter().filter(is_kept).count(),
+        false => 0,
+    };
+    let (new_stop, first) = (edit.start + edit.insert.len(), front.max(new.head));
+    let meeting = (first..after.len()).filter(|&number| after[number] >= new_stop);
+    let met = meeting.into_iter().find_map(|number| {
+        let old_number = before
+            .binary_search(&(after[number] - new_stop + edit.stop))
+            .ok()?;
+        (old_number >= old.head).then_some((number, old_number))
+    });
+    let (number, old_number) = met.expect("the ends of both texts meet");
+    let relexed = counts(front, number - front, old.tokens.len() - old_number);
+    (relexed, relexed.lexed - new.head.saturating_sub(front))
+}
+
+/// What comes of edits by their definition.
+#[derive(Clone, Debug)]
+pub struct Made {
+    pub text: String,
+    pub layout: Layout,
+    pub steps: usize,
+    pub answer: Result<Relexed, Stopped>,
+}
+
+pub fn is_inside(text: &str, edit: &Edit<'_>) -> bool {
+    edit.start <= edit.stop && text.is_char_boundary(edit.start) && text.is_char_boundary(edit.stop)
+}
+
+/// Of a list of edits.
+pub fn of_list<K: Kept>(text: &str, language: Language, edits: &[Edit<'_>]) -> Made {
+    let (mut text, mut layout) = (text.to_owned(), K::layout(text, language));
+    let (old, mut steps, mut stop) = (layout.tokens.len(), 0, None);
+    let (mut front, mut back) = (old, old);
+    for (at, edit) in edits.iter().enumerate() {
+        if !is_inside(&text, edit) {
+            stop = Some(EditStop::Range { at });
+            break;
+        }
+        let mut now = text.clone();
+        now.replace_range(edit.start..edit.stop, edit.insert);
+        let new = K::layout(&now, language);
+        let (relexed, taken) = of_edit(&text, &layout, &new, edit);
+        front = front.min(relexed.kept_front);
+        back = back.min(relexed.kept_back);
+        steps += taken;
+        (text, layout) = (now, new);
+    }
+    let new = layout.tokens.len();
+    back = back.min(old.min(new) - front);
+    let relexed = counts(front, new - front - back, back);
+    let answer = stop.map_or(Ok(relexed), |stop| Err(Stopped { stop, relexed }));
+    Made {
+        text,
+        layout,
+        steps,
+        answer,
+    }
+}
+
+/// Of edits at once, or which is the first that is not in order.
+pub fn of_all<K: Kept>(
+    text: &str,
+    language: Language,
+    edits: &[Edit<'_>],
+) -> Result<Made, EditStop> {
+    let (mut insert, mut from) = (String::new(), edits.first().map_or(0, |edit| edit.start));
+    let mut stop = 0;
+    for (at, edit) in edits.iter().enumerate() {
+        if edit.start < stop || !is_inside(text, edit) {
+            return Err(EditStop::Range { at });
+        }
+        insert += &text[from..edit.start];
+        insert += edit.insert;
+        (from, stop) = (edit.stop, edit.stop);
+    }
+    let whole = edits.first().map(|first| edit(first.start, stop, &insert));
+    Ok(of_list::<K>(text, language, whole.as_slice()))
+}
+
+/// Of another text: one edit of what differs, by characters.
+pub fn of_other<K: Kept>(text: &str, language: Language, other: &str) -> Made {
+    if text == other {
+        return of_list::<K>(text, language, &[]);
+    }
+    let common = |mut old: Vec<char>, new: Vec<char>| {
+        let both = old
+            .iter()
+            .zip(&new)
+            .take_while(|(old, new)| old == new)
+            .count();
+        old.truncate(both);
+        old.into_iter().map(char::len_utf8).sum::<usize>()
+    };
+    let start = common(text.chars().collect(), other.chars().collect());
+    let (old, new) = (&text[start..], &other[start..]);
+    let back = common(old.chars().rev().collect(), new.chars().rev().collect());
+    let insert = &new[..new.len() - back];
+    of_list::<K>(text, language, &[edit(start, text.len() - back, insert)])
+}
+
+pub type Part = LexedText<Checked<Counting>>;
+pub type Whole = LexedDocument<Checked<Counting>>;
+
+/// A text of either kind that is kept with its tokens by a stepper that counts.
+pub trait Kept: Clone {
+    fn held(text: &str, language: Language) -> Self;
+    fn layout(text: &str, language: Language) -> Layout;
+    fn steps(&self) -> usize;
+    fn edit_each(&mut self, edits: &[Edit<'_>]) -> Result<Relexed, Stopped>;
+    fn edit_all(&mut self, edits: &[Edit<'_>]) -> Result<(), EditStop>;
+    fn edit_at_once(&mut self, edits: &[Edit<'_>]) -> Result<Relexed, EditStop>;
+    fn try_edit(&mut self, edit: &Edit<'_>) -> Result<Relexed, EditError>;
+    fn try_set_text(&mut self, text: &str) -> Result<Relexed, EditError>;
+    /// The text, the tokens and what each look-up tells are those of the text.
+    fn is_of(&self, text: &str, layout: &Layout, context: &str);
+}
+
+macro_rules! kept {
+    ($Kept:ident, $layout:ident, $own:expr) => {
+        impl Kept for $Kept<Checked<Counting>> {
+            fn held(text: &str, language: Language) -> Self {
+                let held = $Kept::try_with(text, Counting(language.map(Steps::new_in), 0)).unwrap();
+                let layout = $layout(text, language);
+                assert_eq!(held.steps(), layout.tokens.len() - layout.head, "{text:?}");
+                held
+            }
+            fn layout(text: &str, language: Language) -> Layout {
+                $layout(text, language)
+            }
+            fn steps(&self) -> usize {
+                self.stepper().1
+            }
+            fn edit_each(&mut self, edits: &[Edit<'_>]) -> Result<Relexed, Stopped> {
+                self.edit_each(edits)
+            }
+            fn edit_all(&mut self, edits: &[Edit<'_>]) -> Result<(), EditStop> {
+                self.edit_all(edits)
+            }
+            fn edit_at_once(&mut self, edits: &[Edit<'_>]) -> Result<Relexed, EditStop> {
+                self.edit_at_once(edits)
+            }
+            fn try_edit(&mut self, edit: &Edit<'_>) -> Result<Relexed, EditError> {
+                self.try_edit(edit.start..edit.stop, edit.insert)
+            }
+            fn try_set_text(&mut self, text: &str) -> Result<Relexed, EditError> {
+                self.try_set_text(text)
+            }
+            fn is_of(&self, text: &str, layout: &Layout, context: &str) {
+                assert_eq!(
+                    (self.text(), self.tokens()),
+                    (text, &*layout.tokens),
+                    "{context}"
+                );
+                let bounds = layout.bounds();
+                for offset in 0..=text.len() + 1 {
+                    let past = bounds.partition_point(|&bound| bound <= offset);
+                    let wanted =
+                        (past > 0 && past < bounds.len()).then(|| (past - 1, bounds[past - 1]));
+                    let told = self
+                        .token_at(offset)
+                        .map(|bound| (bound.number, bound.offset));
+                    assert_eq!(told, wanted, "token at {offset}: {context}");
+                    let piece = self
+                        .piece_at(offset)
+                        .map(|piece| (piece.start as usize, piece.text));
+                    let wanted =
+                        wanted.map(|(number, start)| (start, &text[start..bounds[number + 1]]));
+                    assert_eq!(piece, wanted, "piece at {offset}: {context}");
+                }
+                let own: fn(&Self, &str, &Layout, &[usize]) = $own;
+                own(self, text, layout, &bounds);
+            }
+        }
+    };
+}
+
+kept!(LexedText, part, |held, text, _, bounds| {
+    let two = |bound: &usize| text[*bound..].chars().nth(1).is_some();
+    let settled = bounds.iter().copied().rfind(two).unwrap_or(0);
+    assert_eq!(held.settled(), settled, "{text:?}");
+});
+kept!(LexedDocument, document, |held, text, layout, bounds| {
+    let told = (held.shebang_len(), held.body().number, held.body().offset);
+    assert_eq!(
+        told,
+        (layout.start, layout.head, bounds[layout.head]),
+        "{text:?}"
+    );
+});
