@@ -1,11 +1,12 @@
 -- Edits that are made at once: one more of them.
-use Rattle.std.proofs.Common.{◌≡◌, Bool, ℕ, zero, suc, ◌+◌, ◌-◌, ◌^◌, ◌<◌, ◌≤◌, min, List, [], ◌∷◌, ◌++◌, length, take, drop, get_or, refl, sym, ap, ◌∙◌, subst, arith, IsUtf8, IsCharBoundary, append_assoc, length-append, length-drop, length-take-le}
-use Rattle.std.proofs.lemmas.List.{append-nil}
+use Rattle.std.proofs.Common.{◌≡◌, Bool, ℕ, zero, suc, ◌+◌, ◌-◌, ◌^◌, ◌<◌, ◌≤◌, min, List, [], ◌∷◌, ◌++◌, length, take, drop, reverse, get_or, refl, sym, ap, ◌∙◌, subst, arith, IsUtf8, IsCharBoundary, append_assoc, length-append, length-drop, length-take-le, take-take}
+use Rattle.std.proofs.lemmas.List.{append-nil, reverse-append, take-append-drop, take-append-le}
+use Rattle.std.proofs.Math.Seq.{drop-append_seam, take-add}
 use Rattle.std.proofs.lemmas.Str.{IsCharBoundary-start, IsUtf8-append, IsUtf8-between, IsUtf8-past_char, IsUtf8-take}
 use Rattle.std.proofs.Math.Utf8.{encode, encodes}
 use Rattle.std.proofs.lemmas.Grind.{common_steps}
 use Rattle.rustc_lexer.specs.declared.relex.edit.Edit.{Edit}
-use Rattle.rustc_lexer.specs.Edits.{AreAtOnce, AreInOrder, IsInside, apply, start_of_first, stop_of_last, with_all}
+use Rattle.rustc_lexer.specs.Edits.{AreAtOnce, AreInOrder, IsInside, applied, apply, apply_list, start_of_first, stop_of_last, with_all}
 use Rattle.rustc_lexer.specs.declared.relex.checkpoints.Checkpoints.{Checkpoints}
 use Rattle.rustc_lexer.specs.declared.relex.head.Head.{Head}
 use Rattle.rustc_lexer.specs.declared.relex.relexing.Change.{Change}
@@ -85,6 +86,37 @@ from_first text (e ∷ es) some = grind (arith, common_steps)
 pub applied_is : (text : List ℕ) (es : List Edit) → (es ≡ [] → ⊥) → with_all text 0 es ++ drop (stop_of_last 0 es) text ≡ apply text (start_of_first es) (stop_of_last 0 es) (with_all text (start_of_first es) es)
 unfolding apply
 applied_is text es some = grind (arith, common_steps, from_first text es some, append_assoc)
+
+apply-last : (text : List ℕ) (es : List Edit) (e : Edit) → apply_list text (es ++ (e ∷ [])) ≡ applied (apply_list text es) e
+apply-last text [] e = refl
+apply-last text (f ∷ es) e = apply-last (applied text f) es e
+
+-- what is behind an edit, and what it inserts, put behind the text in front of it
+put_before : (text rest : List ℕ) (from : ℕ) (e : Edit) → from ≤ e.start → IsInside text e.start e.stop → apply (take e.stop text ++ rest) e.start e.stop e.insert.now ≡ take from text ++ (take (e.start - from) (drop from text) ++ (e.insert.now ++ rest))
+unfolding apply
+put_before text rest from e after inside =
+    let size : length (take e.stop text) ≡ e.stop = length-take-le e.stop text inside.stop_inside in
+    let front : take e.start (take e.stop text ++ rest) ≡ take e.start text = take-append-le e.start (take e.stop text) rest (omega (arith, size, inside.start_le_stop)) ∙ take-take e.start e.stop text inside.start_le_stop in
+    let back : drop e.stop (take e.stop text ++ rest) ≡ rest = subst (λ n. drop n (take e.stop text ++ rest) ≡ rest) size (drop-append_seam (take e.stop text) rest) in
+    let all : take e.start text ≡ take from text ++ take (e.start - from) (drop from text) = ap (λ n. take n text) (omega (arith, after)) ∙ take-add from (e.start - from) text in
+    rw (front, back, all) (append_assoc (take from text) (take (e.start - from) (drop from text)) (e.insert.now ++ rest))
+
+-- one after another, from the last to the first, they make the same text
+backwards : (text : List ℕ) (from : ℕ) (es : List Edit) → AreInOrder text from es → from ≤ length text → apply_list text (reverse es) ≡ take from text ++ (with_all text from es ++ drop (stop_of_last from es) text)
+backwards text from [] are few = sym (take-append-drop from text)
+backwards text from (e ∷ es) are few =
+    let end : List ℕ = drop (stop_of_last e.stop es) text in
+    let behind : apply_list text (reverse es) ≡ take e.stop text ++ (with_all text e.stop es ++ end) = backwards text e.stop es are.2 are.1.stop_inside in
+    let last : apply_list text (reverse (e ∷ es)) ≡ applied (apply_list text (reverse es)) e = ap (λ (xs : List Edit). apply_list text xs) (reverse-append (e ∷ []) es) ∙ apply-last text (reverse es) e in
+    let put = put_before text (with_all text e.stop es ++ end) from e are.0 are.1 in
+    last ∙ ap (λ (xs : List ℕ). applied xs e) behind ∙ put ∙ ap (λ (xs : List ℕ). take from text ++ xs) (grind (arith, common_steps, append_assoc))
+
+pub none_by_one : (text : List ℕ) (es : List Edit) → length es ≡ 0 → text ≡ apply_list text (reverse es)
+none_by_one text [] none = refl
+none_by_one text (e ∷ es) none = absurd (omega arith)
+
+pub one_by_one : (text : List ℕ) (es : List Edit) → (es ≡ [] → ⊥) → AreInOrder text 0 es → apply text (start_of_first es) (stop_of_last 0 es) (with_all text (start_of_first es) es) ≡ apply_list text (reverse es)
+one_by_one text es some are = sym (applied_is text es some) ∙ sym (backwards text 0 es are (omega arith))
 
 -- what follows a text in a text is one
 rest_encoded : (cs ys : List ℕ) → IsUtf8 (encodes cs ++ ys) → IsUtf8 ys

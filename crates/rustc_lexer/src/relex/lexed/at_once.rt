@@ -1,9 +1,9 @@
 //! Several edits of a kept text at once, all in offsets of the present text.
-ghost use Rattle.std.specs.Prelude.{◌≡◌, ◌+◌, ◌++◌, ◌^◌, ◌-◌, ◌<◌, ◌≤◌, [], IfErr, IfOk, Ok, OnOk, drop, length, min};
+ghost use Rattle.std.specs.Prelude.{◌≡◌, ◌+◌, ◌++◌, ◌^◌, ◌-◌, ◌<◌, ◌≤◌, [], IfErr, IfOk, Ok, OnOk, drop, length, min, reverse};
 ghost use Rattle.std.specs.Str.{IsUtf8};
 ghost use Rattle.std.specs.String.{string_bytes};
 ghost use Rattle.rustc_lexer.specs.declared.relex.edit_list.EditStop.{EditStop};
-ghost use Rattle.rustc_lexer.specs.Edits.{AreAtOnce, AreInOrder, IsStopAtOnce, all_stay, start_of_first, stop_of_last};
+ghost use Rattle.rustc_lexer.specs.Edits.{AreAtOnce, AreInOrder, IsStopAtOnce, all_stay, apply_list, start_of_first, stop_of_last};
 ghost use Rattle.rustc_lexer.specs.Edits.{with_all};
 ghost use Rattle.rustc_lexer.specs.Classes.{Fits};
 ghost use Rattle.rustc_lexer.specs.means.Document.{edit_change};
@@ -21,9 +21,10 @@ use std::alloc::{AllocError, Global};
 impl<S: Stepper, E: Extent> Lexed<S, E> {
     /// Makes the edits at once. All have offsets of the present text, are in order, and do not overlap, but may touch.
     ///
-    /// It is one [edit](Lexed::edit), from where the first begins to where the last ends, and returns its counts. An empty
-    /// list keeps all at the front. `Err` names the first that is out of bounds, cuts a character or begins before the one
-    /// in front of it ends; or the last, if the text would be too long or memory is refused. Text and tokens then stay.
+    /// The text is then what they make one by one, from the last to the first. It is one [edit](Lexed::edit), from where the
+    /// first begins to where the last ends, and returns its counts. An empty list keeps all at the front. `Err` names the
+    /// first that is out of bounds, cuts a character or begins before the one in front of it ends; or the last, if the text
+    /// would be too long or memory is refused. Text and tokens then stay.
     pub fn edit_at_once(&mut self, edits: &[Edit<'_>]) -> Result<Relexed, EditStop>
         ensures accepted { OnOk result (AreAtOnce self.old.text edits.now) }
         ensures none { edits.now ≡ []
@@ -32,6 +33,7 @@ impl<S: Stepper, E: Extent> Lexed<S, E> {
             → IsEdited {E = EditStop} S.grammar S.number S.count E.whole self.old
             (start_of_first edits.now) (stop_of_last 0 edits.now)
             (with_all self.old.text (start_of_first edits.now) edits.now) result self.new }
+        ensures one_by_one { OnOk result (self.new.text ≡ apply_list self.old.text (reverse edits.now)) }
         ensures stop { IfErr result (λ stop. IsStopAtOnce stop self.old.text edits.now) }
         ensures same { (AreAtOnce self.old.text edits.now → ⊥) → self.new ≡ self.old }
     {

@@ -3,7 +3,7 @@ use Rattle.rustc_lexer.specs.declared.relex.edit_list.EditStop.{EditStop}
 use Rattle.rustc_lexer.specs.declared.relex.edit_list.EditStop.TheVariants.{Memory}
 use Rattle.rustc_lexer.specs.Edits.{start_of_first, stop_of_last, with_all}
 use Rattle.rustc_lexer.specs.Kept.{IsEdited}
-use Rattle.rustc_lexer.proofs.AtOnceLemmas.{at_once_none, put_at_once}
+use Rattle.rustc_lexer.proofs.AtOnceLemmas.{at_once_none, none_by_one, one_by_one, put_at_once}
 use Rattle.rustc_lexer.proofs.KeptEdits.{few_none, made_as, refused}
 use Rattle.rustc_lexer.proofs.relex.lexed.Lexed.edit_at_once.Goals as goal
 
@@ -51,3 +51,12 @@ returns-in-Err-clause-edit g c some valid =
     let p = put_at_once c.args.edits.now some c.self.invariant (rw seen at c.in_ok-edit.ensures.utf8) (rw seen at c.in_ok-edit.ensures.valid) (rw seen at c.in_ok-edit.ensures.change) (ap string_bytes c.replace-before.ensures.after ∙ (rw seen at c.in-Ok.ensures)) in
     let is = rw (rw seen at c.in_ok-edit.ensures.change) at (c.in-Err.ensures.renewed _ _ p).1 in
     subst (λ h. IsEdited {E = EditStop} g.S.Stepper.grammar g.S.Stepper.number g.S.Stepper.count g.E.Extent.whole h (start_of_first c.args.edits.now) (stop_of_last 0 c.args.edits.now) (with_all h.text (start_of_first c.args.edits.now) c.args.edits.now) (Err (Memory (length c.args.edits.now - 1))) (record { text = string_bytes c.replace-before.result; tokens = c.renew.new.kept.tokens.items; stepper = c.renew.new.kept.stepper })) c.self.view_is (refused (Err (Memory (length c.args.edits.now - 1))) refl c.self.invariant.0 c.self.invariant.1 (ap string_bytes c.replace-before.ensures.value) is.same_tokens is.grammar is.number is.rose is.few)
+
+pub returns-then-is_empty-clause-one_by_one : goal.returns-then-is_empty-clause-one_by_one
+returns-then-is_empty-clause-one_by_one g c = none_by_one c.args.self.now.text c.args.edits.now (search rules)
+
+pub returns-in-Ok-renew-clause-one_by_one : goal.returns-in-Ok-renew-clause-one_by_one
+returns-in-Ok-renew-clause-one_by_one g c =
+    let some : c.args.edits.now ≡ [] → ⊥ = search rules in
+    let valid = rw c.text-text.ensures.text at c.in_ok-edit.ensures.valid in
+    (returns-in-Ok-renew-clause-edit g c some valid).text ∙ one_by_one _ c.args.edits.now some valid.0
