@@ -1,26 +1,7 @@
 //! Each caller of `examples` on texts made by hand.
 use examples::comments::skip_comments;
-use examples::raw_strings::{RawFault, raw_faults};
 use examples::repaint::{edit_shown, repaint};
-use examples::slices::find_word;
-use rustc_lexer::{LexedText, RawStrError, Relexed, fits};
-
-/// Texts, words, and where those come in them.
-static WORDS: &[(&str, &str, Option<usize>)] = &[
-    ("// loop\nloop {}", "loop", Some(8)),
-    ("\"x\" 'x'", "x", None),
-    ("r#x x", "x", Some(4)),
-    ("r#x", "r#x", None),
-    ("é x", "x", Some(3)),
-    ("", "x", None),
-];
-
-#[test]
-fn words(rt: HostRuntime) {
-    for (text, word, wanted) in WORDS {
-        assert!(rt; fits(text) && find_word(text, word) == *wanted, "at {text}");
-    }
-}
+use rustc_lexer::{LexedText, Relexed, fits};
 
 /// Texts, and their rest after the comments.
 static COMMENTS: &[(&str, &str)] = &[("// a\n/* b */ c // d", "c // d"), ("//! a", ""), ("", "")];
@@ -30,22 +11,6 @@ fn comments(rt: HostRuntime) {
     for (text, wanted) in COMMENTS {
         assert!(rt; fits(text) && skip_comments(text) == *wanted, "at {text}");
     }
-}
-
-#[test]
-fn refused_raw_strings(rt: HostRuntime) {
-    let text = "#!/b\nr#\"a\"# br##\"abc\"# ";
-    let want = [RawFault {
-        start: 12,
-        error: RawStrError::NoTerminator {
-            expected: 2,
-            found: 1,
-            possible_terminator_offset: Some(9),
-        },
-    }];
-    assert!(rt; fits(text));
-    let found = raw_faults(rt.alloc(), text).expect(&rt, "memory");
-    assert!(rt; found.as_slice() == want.as_slice());
 }
 
 #[test]

@@ -1,16 +1,9 @@
--- The pieces of a text, one after another: what is gathered of them, and how they are written.
+-- How the pieces of a text are written, one after another.
 use Rattle.std.proofs.lemmas.Grind.{common_steps}
-use Rattle.std.proofs.Common.{arith}
-use Rattle.std.proofs.Common.{◌≡◌, ℕ, ◌+◌, List, ◌∷◌, ◌++◌, ap, append_assoc}
+use Rattle.std.proofs.Common.{◌≡◌, List, ◌∷◌, ◌++◌, ℕ, ap, append_assoc, arith}
 use Rattle.std.specs.Fmt.{WritesInCalls}
-use Rattle.rustc_lexer.specs.declared.token.Token.{Token}
-use Rattle.rustc_lexer.specs.Kept.{Placed, pieces_from}
+use Rattle.rustc_lexer.specs.Kept.{Placed}
 use Rattle.examples.specs.Repaint.{close_style, open_style, styled}
-
--- what was gathered of the pieces in front of a token, and then what the token gives
-pub gather : {X : Type 0} (of : List Placed → List X) (text : List ℕ) (start : ℕ) (left others : List Token) (token : Token) (held here more all : List X) → held ++ of (pieces_from text start left) ≡ all → left ≡ token ∷ others
-    → of (pieces_from text start (token ∷ others)) ≡ here ++ of (pieces_from text (start + token.len) others) → more ≡ held ++ here → more ++ of (pieces_from text (start + token.len) others) ≡ all
-gather of text start left others token held here more all at first gives pushed = grind (arith, common_steps, append_assoc)
 
 module _ {W : Type 0} (took : W → List ℕ → W → Type 0) where
   -- one more call before the others

@@ -1,5 +1,3 @@
 pub mod Comments
 pub mod Joining
-pub mod RawStrings
 pub mod Repaint
-pub mod Slices

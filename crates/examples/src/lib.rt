@@ -3,6 +3,4 @@
 
 pub mod comments;
 pub mod joining;
-pub mod raw_strings;
 pub mod repaint;
-pub mod slices;
