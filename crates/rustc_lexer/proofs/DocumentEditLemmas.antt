@@ -1,5 +1,5 @@
 -- An edit of a document: what is put in place of its old tokens.
-use Rattle.std.proofs.Common.{◌≡◌, ℕ, ◌+◌, ◌-◌, ◌<◌, ◌≤◌, ◌^◌, Bool, true, false, List, [], ◌∷◌, ◌++◌, length, map, take, drop, refl, sym, ap, ap₂, ◌∙◌, subst, arith, length-drop, length-append, drop-drop, take-add, IsUtf8, IsCharBoundary, IsTrue, ◌↔◌, Option, Result, OnErr}
+use Rattle.std.proofs.Common.{◌≡◌, ℕ, ◌+◌, ◌-◌, ◌<◌, ◌≤◌, ◌^◌, Bool, true, false, List, [], ◌∷◌, ◌++◌, length, map, take, drop, refl, sym, ap, ap₂, ◌∙◌, subst, arith, length-drop, length-append, drop-drop, take-add, IsUtf8, IsCharBoundary, IsTrue, ◌↔◌, Option}
 use Rattle.std.specs.List.{All, Contains}
 use Rattle.std.proofs.lemmas.List.{take_rest}
 use Rattle.std.proofs.lemmas.List.Elements.{All-contains}
@@ -162,6 +162,3 @@ module _ {heads : List ℕ → Head} {first : List ℕ → Token} (law : IsGramm
 
     pub counted_few : IsText text → counts.kept_front < 2 ^ 33
     counted_few is = grind (arith, common_steps, counts_are, tokens_le_bytes, b.made_of.edit_of.is_text.fits)
-
-pub OnErr-always : {T E : Type 0} {P : Type 0} (r : Result T E) → P → OnErr r P
-OnErr-always r w1 = grind (arith, common_steps)

@@ -1,9 +1,8 @@
 -- How a frontmatter opens, by the token that is there otherwise.
 use Rattle.std.proofs.Common.{◌≡◌, ℕ, ◌==◌, true, false, List, [], ◌∷◌, drop, refl, sym, ap, ◌∙◌, arith}
 use Rattle.std.specs.List.{starts_with}
-use Rattle.std.specs.Str.{chars, encode_utf8_all, IsUtf8}
+use Rattle.std.specs.Str.{chars, IsUtf8}
 use Rattle.std.proofs.lemmas.Bool.{eqb-true}
-use Rattle.std.proofs.lemmas.Str.{encodes-chars}
 use Rattle.std.proofs.lemmas.Grind.{common_steps}
 use Rattle.unicode_ident.proofs.Computing.{unicode_ident}
 use Rattle.rustc_lexer.specs.{Edition, Token, Minus, Whitespace}
@@ -45,9 +44,6 @@ module _ (edition : Edition) (text : List ℕ) (is : IsUtf8 text) where
   token-dash : (s : List ℕ) → chars text ≡ 45 ∷ s → first_token_in edition text ≡ record { kind = Minus; len = bytes_of 1 (chars text) }
   unfolding first_token
   token-dash s e = grind (arith, common_steps, lexeme-dash, older)
-
-  whole : encode_utf8_all (chars text) ≡ text
-  whole = encodes-chars text is
 
   -- dashes in bytes and in characters
   dashes : (n : ℕ) → starts_with (λ x y. x == y) (drop (bytes_of n (chars text)) text) (fence 3) ≡ begins (fence 3) (drop n (chars text))

@@ -1,15 +1,14 @@
--- What an edit keeps, by all tokens of a text and by those of its body, and that there is one answer.
-use Rattle.std.proofs.Common.{◌≡◌, ◌⊎◌, inl, inr, ℕ, suc, ◌+◌, ◌-◌, ◌<◌, ◌≤◌, List, [], ◌∷◌, ◌++◌, length, refl, sym, ap, ◌∙◌, arith, length-append}
+-- What an edit keeps, by all tokens of a text and by those of its body.
+use Rattle.std.proofs.Common.{◌≡◌, ◌⊎◌, inl, inr, ℕ, ◌+◌, ◌-◌, ◌≤◌, List, [], ◌∷◌, ◌++◌, length, refl, sym, ap, ◌∙◌, arith, length-append}
 use Rattle.std.proofs.Math.Seq.{drop-append_seam}
 use Rattle.std.proofs.lemmas.Bool.{cases_lt, eqb-false, eqb-true}
 use Rattle.std.proofs.lemmas.Grind.{common_steps}
 use Rattle.rustc_lexer.specs.{Token}
 use Rattle.rustc_lexer.specs.declared.relex.relexing.Relexed.{Relexed}
-use Rattle.rustc_lexer.specs.Edits.{apply, body_in, IsMeeting, IsRelexed, KeepsHead, Layout, part_by, offset_in}
+use Rattle.rustc_lexer.specs.Edits.{body_in, IsMeeting, IsRelexed, KeepsHead, Layout, part_by, offset_in}
 use Rattle.rustc_lexer.specs.Tokens.{bound}
 use Rattle.rustc_lexer.specs.laws.Same.{same_token, token_same}
 use Rattle.rustc_lexer.specs.means.Relexing.{IsBodyMeeting, IsBodyRelexed}
-use Rattle.rustc_lexer.proofs.BoundLemmas.{bound_mono}
 use Rattle.rustc_lexer.proofs.FrontLemmas.{bound-shift}
 
 pub offset-behind : (of : Layout) (k : ℕ) → offset_in of (length of.head + k) ≡ body_in of + bound of.body k
@@ -90,46 +89,3 @@ tokens (x ∷ xs) (y ∷ ys) = grind (arith, common_steps, same_token, all, toke
 
 pub keeps_head : (old new : Layout) (start : ℕ) → Decided (KeepsHead old new start)
 keeps_head old new start = all (at_most (body_in old) start) (numbers old.start new.start) (tokens old.head new.head)
-
--- ---- there is one answer
-
-module _ (layout : List ℕ → Layout) (text : List ℕ) (start stop : ℕ) (insert : List ℕ) (rises : (k : ℕ) → k < length (layout text).body → bound (layout text).body k < bound (layout text).body (suc k)) where
-  abbrev old : Layout
-  old = layout text
-
-  abbrev new : Layout
-  new = layout (apply text start stop insert)
-
-  -- boundaries of the body that stand at one place are one
-  same_bound : (i j : ℕ) → i ≤ length old.body → j ≤ length old.body → bound old.body i ≡ bound old.body j → i ≡ j
-  same_bound i j few less_j e = grind (arith, common_steps, cases_lt, bound_mono)
-
-  same_offset : (i j : ℕ) → length old.head ≤ i → length old.head ≤ j → i ≤ length (old.head ++ old.body) → j ≤ length (old.head ++ old.body) → offset_in old i ≡ offset_in old j → i ≡ j
-  same_offset i j past_i past_j few_i few_j e =
-      let h : ℕ = length old.head in
-      let size = length-append old.head old.body in
-      let n : h + (i - h) ≡ i = omega arith in
-      let m : h + (j - h) ≡ j = omega arith in
-      let at : offset_in old i ≡ body_in old + bound old.body (i - h) = ap (offset_in old) (sym n) ∙ offset-behind old (i - h) in
-      let to : offset_in old j ≡ body_in old + bound old.body (j - h) = ap (offset_in old) (sym m) ∙ offset-behind old (j - h) in
-      let same : i - h ≡ j - h = same_bound (i - h) (j - h) (omega (arith, few_i, size)) (omega (arith, few_j, size)) (omega (arith, at, to, e)) in
-      omega (arith, same, past_i, past_j)
-
-  module _ (r s : Relexed) (a : IsRelexed layout text start stop insert r) (b : IsRelexed layout text start stop insert s) where
-    fronts : r.kept_front ≡ s.kept_front
-    fronts = grind (arith, common_steps, keeps_head)
-
-    lexed : r.lexed ≡ s.lexed
-    lexed = elim (cases_lt r.lexed s.lexed) [
-      | inl less ↦ absurd (b.none_before (r.kept_front + r.lexed) r.kept_back (omega (arith, fronts)) (omega (arith, fronts)) a.meeting)
-      | inr not ↦ elim (cases_lt s.lexed r.lexed) [
-        | inl less ↦ absurd (a.none_before (s.kept_front + s.lexed) s.kept_back (omega (arith, fronts)) (omega (arith, fronts)) b.meeting)
-        | inr none ↦ omega arith
-      ]
-    ]
-
-    backs : r.kept_back ≡ s.kept_back
-    backs = grind (arith, common_steps, fronts, lexed, same_offset, a.meeting, b.meeting)
-
-    pub one_relexed : r ≡ s
-    one_relexed = λ i. record { kept_front = fronts i; lexed = lexed i; kept_back = backs i }

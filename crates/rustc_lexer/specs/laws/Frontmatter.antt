@@ -17,7 +17,6 @@ use Rattle.rustc_lexer.specs.FrontmatterGrammar.{fence, endings}
 use Rattle.rustc_lexer.specs.means.Frontmatter.{closing_end, ends_line, fence_len, first, first_lone, frontmatter, if_found, infostring_len, is_dash, is_newline, label_len, line_end, newline, opening_len, opens, past_opening, spaces_len, then_len}
 use Rattle.rustc_lexer.specs.laws.Reach.{run_len_le}
 use Rattle.rustc_lexer.specs.means.Scan.{begins, bytes_of, next_is, past, run_len}
-use Rattle.rustc_lexer.specs.State.{HasSuffixWithin}
 use Rattle.rustc_lexer.specs.means.Taking.{token_at}
 use Rattle.rustc_lexer.specs.laws.CharSteps.{bytes_of-add}
 use Rattle.rustc_lexer.specs.laws.Fences.{begins-enough, begins-few, begins-dashes}
@@ -148,10 +147,6 @@ frontmatter-cut text is e =
       inside = omega (arith, end, inside);
       boundary = subst (IsCharBoundary text) (sym end) (IsCharBoundary-from_drop text (bytes_of (n + k) s) inside (subst IsUtf8 (past-drop (n + k) text is) (IsUtf8-past (n + k) text is)));
     }
-
-pub frontmatter-suffix : (text : List ℕ) → HasSuffixWithin (frontmatter text)
-unfolding frontmatter
-frontmatter-suffix text = omega arith
 
 -- what holds of the frontmatter, where one opens, and of the token of each edition holds of the token
 pub token_at-either : (P : Token → Type 0) (mode : Mode) (text : List ℕ) → ((edition : Edition) → P (first_token_in edition text)) → (opens (chars text) ≡ true → P (frontmatter text)) → P (token_at mode text)

@@ -1,10 +1,10 @@
 -- How far a token of each kind looks can be read off the conditions of the language on what follows.
-use Rattle.std.proofs.Common.{◌≡◌, ℕ, zero, suc, ◌<◌, ◌==◌, ◌&&◌, if◌then◌else◌, not, Bool, true, false, true≢false, List, [], ◌∷◌, ◌++◌, take, drop, codes, refl, sym, ap, ◌∙◌, subst, arith, Option, None, bytes_eq}
+use Rattle.std.proofs.Common.{◌≡◌, ℕ, zero, suc, ◌<◌, ◌==◌, ◌&&◌, if◌then◌else◌, Bool, true, false, true≢false, List, [], ◌∷◌, ◌++◌, take, codes, refl, sym, ap, ◌∙◌, subst, arith, Option, None, bytes_eq}
 use Rattle.std.proofs.lemmas.Bool.{and_parts, or_parts, eqb-true}
 use Rattle.std.specs.List.{list_all, list_any}
 use Rattle.std.proofs.Math.Bool.{and-false, and-true}
 use Rattle.std.proofs.lemmas.Grind.{common_steps}
-use Rattle.rustc_lexer.specs.Classes.{is_among, is_ident, AreAll, NextIs, NextIsNot, is_word_continue, is_name_start, begins_ident_after, ends_prefix}
+use Rattle.rustc_lexer.specs.Classes.{is_ident, AreAll, NextIs, NextIsNot, is_word_continue, is_name_start, begins_ident_after, ends_prefix}
 use Rattle.unicode_ident.proofs.Computing.{unicode_ident}
 use Rattle.rustc_lexer.specs.{Base, LiteralKind, Int, Float, Char, Literal, UnknownPrefix}
 use Rattle.rustc_lexer.specs.Language as the
@@ -43,10 +43,6 @@ past zero (c ∷ w) s u e = refl
 past (suc k) (c ∷ w) s u e = ap (λ (xs : List ℕ). c ∷ xs) (past k w s u (cut k (suc k) u s (omega arith) e))
 
 -- ---- literals
-
--- whether a name of two characters or more stands between quotes: `'ab'`
-abbrev is_long_char : List ℕ → Bool
-is_long_char w = next_is is_name_start (drop 1 w) && not (next_is (is_among (codes "'")) (drop 2 w))
 
 -- how far a literal looks, wherever its suffix begins
 abbrev pub literal_reach : LiteralKind → List ℕ → ℕ

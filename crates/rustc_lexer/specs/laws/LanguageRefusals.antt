@@ -16,7 +16,6 @@ use Rattle.rustc_lexer.specs.means.Raw.{is_hash, hash_run, close, most_hashes, q
 use Rattle.rustc_lexer.specs.means.Scan.{bytes_of}
 use Rattle.rustc_lexer.specs.Classes.{NextIsNot, bytes}
 use Rattle.rustc_lexer.specs.laws.Choice.{by_either}
-use Rattle.rustc_lexer.specs.laws.LanguageLiterals.{bytes-one}
 use Rattle.rustc_lexer.specs.laws.LanguageRaw.{guard-length, guard-hashes, at_least, split-hashes, before-quote, lacks-rest, lacks-front, close-read, unclosed-read, Closing, found, lost, closing, guarded, whole-text}
 
 -- ---- the most hashes behind a quote
@@ -60,11 +59,6 @@ quote-first m (c ∷ u) v some lacks e =
     not_here true f t =
         let same : quote_hashes (c ∷ u ++ (34 ∷ hashes m ++ v)) ≡ hash_run (u ++ (34 ∷ hashes m ++ v)) = ap (λ (x : ℕ). quote_hashes (x ∷ u ++ (34 ∷ hashes m ++ v))) (eqb-true c 34 f) in
         lacks-front m c u lacks (before-quote m u (hashes m ++ v) (omega (arith, same, t))) (eqb-true c 34 f)
-
--- hashes take a byte each
-pub guard-bytes : (n : ℕ) → bytes (hashes n) ≡ n
-guard-bytes zero = refl
-guard-bytes (suc n) = omega (arith, bytes-one 35 (hashes n) refl, guard-bytes n)
 
 -- where it ends
 end-at : (start m : ℕ) (u v : List ℕ) → start + bytes_of (suc (length u)) (u ++ (34 ∷ hashes m ++ v)) ≡ start + bytes (u ++ 34 ∷ [])

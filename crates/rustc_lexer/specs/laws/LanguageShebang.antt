@@ -125,9 +125,6 @@ prefix-all : (w : List ℕ) → AreAll is_inline w → before_newline w ≡ leng
 prefix-all [] all = refl
 prefix-all (c ∷ w) all = let parts = and_parts (is_inline c) (list_all is_inline w) all in rw parts.0 (more (prefix_len is_inline w) ∙ ap suc (prefix-all w parts.1))
 
-abbrev line_to : List ℕ → ℕ → ℕ
-line_to text n = if begins (codes "\r\n") (drop (n - 1) text) then n - 1 else n
-
 -- a carriage return is no newline
 prefix-return : (w next : List ℕ) → AreAll is_inline w → begins (codes "\r\n") next ≡ true → before_newline (w ++ next) ≡ suc (length w)
 prefix-return [] [] all e = absurd (true≢false (sym e))

@@ -56,9 +56,6 @@ none-raw w0 e = grind (arith, common_steps, opens_raw-none)
 
 -- ---- what is read there as an identifier
 
-abbrev IsPlain : ℕ → (List ℕ → TokenKind × ℕ) → Type 0
-IsPlain c scan = (s : List ℕ) → begins_prefixed (c ∷ s) ≡ false → scan s ≡ ident_or_unknown_prefix s
-
 word-plain : (c : ℕ) (s : List ℕ) → begins_prefixed (c ∷ s) ≡ false → word c s ≡ ident_or_unknown_prefix s
 word-plain c = grind (arith, common_steps, by_letter, opens_raw-stops, or_parts, raw-none)
 
