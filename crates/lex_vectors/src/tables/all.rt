@@ -6,7 +6,7 @@ use crate::tables::{
 };
 
 /// Each table, with its name.
-pub(crate) fn all() -> [(&'static str, &'static [Entry<Ways>]); 26] {
+pub(crate) fn all() -> [(&'static str, &'static [Entry<Ways>]); 28] {
     [
         ("comments", comments::ROWS),
         ("editions", editions::ROWS),
@@ -16,6 +16,8 @@ pub(crate) fn all() -> [(&'static str, &'static [Entry<Ways>]); 26] {
         ("infostrings", frontmatter::INFOSTRINGS),
         ("closings of frontmatter", frontmatter::CLOSINGS),
         ("two closings of frontmatter", frontmatter::PAIRS),
+        ("places of closings", frontmatter::PLACES),
+        ("lines of frontmatter", frontmatter::LINES),
         ("no frontmatter", frontmatter::NONE_ALLOWED),
         ("guarded strings", guarded::ROWS),
         ("long words and comments", hostile::ROWS),

@@ -167,3 +167,33 @@ pub(crate) static PAIRS: &[Entry<Ways>] = rows! {
     ["-" * 70_000, "\na\n", "-" * 3] => [(FRONT, 70_006)],
     ["-" * 70_000, "\na\n"] => [(FRONT, 70_003)],
 };
+
+/// Rows of a line with so many letters each, and the line that closes it. A closing that is not seen gives another token.
+macro_rules! closed_behind {
+    ($($letters:literal)*) => {
+        rows! {
+            DOCUMENT:
+            $(
+                ["---\n", "a" * $letters, "\n---", "\n" * 40, "use b"] => [
+                    (FRONT, 8 + $letters), (Whitespace, 40), (Ident, 3), SPACE, LETTER,
+                ],
+                ["---\n-", "a" * $letters, "\n---", "\n" * 40, "use b"] => [
+                    (FRONT, 9 + $letters), (Whitespace, 40), (Ident, 3), SPACE, LETTER,
+                ],
+                ["----\n---", "a" * $letters, "\n----", "\n" * 40] => [(FRONT, 13 + $letters), (Whitespace, 40)],
+            )*
+        }
+    };
+}
+
+/// Its end at each of the places that are looked at together.
+pub(crate) static PLACES: &[Entry<Ways>] = closed_behind!(0 1 2 3 4 5 6 7 8 9 10 11 12 13 14 15 16 17 31 32 33 100);
+
+/// Many lines.
+pub(crate) static LINES: &[Entry<Ways>] = rows! {
+    DOCUMENT:
+    ["---\n", "-a\n" * 40, "--bc\n" * 40, "\n" * 40, "d- e-\n" * 40, "---\n"] => [(FRONT, 607), SPACE],
+    ["----\n", "---a\n" * 40, "\n---\n" * 40, "-bcdef\n" * 40, "----"] => [(FRONT, 689)],
+    ["----\n", "-a\n" * 40, "--\n" * 40, "---", "\n" * 40] => [(FRONT, 248), (Whitespace, 40)],
+    ["---\n", "- a\n" * 40, "user\n" * 40, "use b"] => [(FRONT, 363), SPACE, (Ident, 3), SPACE, LETTER],
+};
