@@ -2,8 +2,9 @@
 //! `cargo run --release --bin edits -- FILE [ROUNDS]`, on Linux with 64 bits. Edited are the file's first 970,000 bytes.
 //! Times are the least of all rounds, those of single edits by the clock, of what takes longer by the processor's time.
 
+use marks::{Edition, Style, class_of, keyword_in, write_marked};
 use rustc_lexer::{
-    Edit, FrontmatterAllowed, JoinedText, LexedDocument, LexedText, TokenKind, tokenize,
+    Edit, FrontmatterAllowed, JoinedText, LexedDocument, LexedText, Piece, TokenKind, tokenize,
 };
 use std::hint::black_box;
 use std::time::Instant;
@@ -147,18 +148,38 @@ fn heads(text: &str, rounds: usize) {
 
 fn written(text: &str, whole: f64, rounds: usize) {
     let kept = LexedText::new(text);
-    let pieces: Vec<&str> = kept.pieces().map(|piece| piece.text).collect();
-    let count = pieces.len() as f64;
-    let time = least(rounds, JoinedText::new, |joined| {
-        for piece in &pieces {
-            joined.push(piece);
-        }
-    });
-    row(
-        "a push of a token to a `JoinedText`",
-        time / count,
-        whole / count,
-    );
+    let pieces: Vec<Piece> = kept.pieces().collect();
+    let (mut words, count) = (pieces.clone(), pieces.len());
+    words.retain(|piece| piece.token.kind == TokenKind::Ident);
+    let push = |joined: &mut JoinedText| pieces.iter().for_each(|piece| joined.push(piece.text));
+    let class = |piece: &Piece| drop(black_box(class_of(piece.token.kind, piece.text)));
+    let keyword = |piece: &Piece| drop(black_box(keyword_in(piece.text, Edition::E2024)));
+    let html = |page: &mut String| write_marked(Style::Html, Edition::E2024, text, page).unwrap();
+    let page = || String::with_capacity(8 * text.len());
+    for (what, time, count) in [
+        (
+            "a push of a token to a `JoinedText`",
+            least(rounds, JoinedText::new, push),
+            count,
+        ),
+        (
+            "`class_of` of a token",
+            least(rounds, || (), |_| pieces.iter().for_each(class)),
+            count,
+        ),
+        (
+            "`keyword_in` of an identifier",
+            least(rounds, || (), |_| words.iter().for_each(keyword)),
+            words.len(),
+        ),
+        (
+            "a token by `write_marked` as HTML",
+            least(rounds, page, html),
+            count,
+        ),
+    ] {
+        row(what, time / count as f64, whole / pieces.len() as f64);
+    }
 }
 
 fn main() {
