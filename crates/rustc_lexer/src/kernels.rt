@@ -253,19 +253,23 @@ fn places(byte: u8, bytes: &[u8]) -> u64
         .to_bitmask()
 }
 
-/// Returns a number of bytes at the front among which the two do not stand together. It looks at 16 places at a time, and
-/// stops at such a pair, or where fewer are left.
-pub(crate) fn skip_apart(one: u8, two: u8, bytes: &[u8]) -> usize
+/// Returns a number of bytes at the front among which the three do not stand together. It looks at 16 places at a time,
+/// and stops at such bytes, or where fewer are left.
+pub(crate) fn skip_apart(one: u8, two: u8, three: u8, bytes: &[u8]) -> usize
     ensures apart { (k : ℕ) → k < result
-        → (is_byte one (slice_index bytes.now k) && is_byte two (slice_index bytes.now (suc k)))
+        → ((is_byte one (slice_index bytes.now k) && is_byte two (slice_index bytes.now (suc k)))
+        && is_byte three (slice_index bytes.now (suc (suc k))))
         ≡ false }
     ensures inside { result ≤ length bytes.now }
 {
     let mut end = 0;
-    'looks: while bytes.len() - end > 16 {
-        let pairs = places(one, &bytes[end..]) & places(two, &bytes[end + 1..]);
-        if pairs != 0 {
-            return end + pairs.trailing_zeros() as usize;
+    'looks: while bytes.len() - end > 17 {
+        let ones = places(one, &bytes[end..]);
+        let twos = places(two, &bytes[end + 1..]);
+        let threes = places(three, &bytes[end + 2..]);
+        let found = ones & twos & threes;
+        if found != 0 {
+            return end + found.trailing_zeros() as usize;
         }
         end += 16;
     }

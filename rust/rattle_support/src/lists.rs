@@ -36,6 +36,15 @@ impl<T> Vec<T> {
         Ok(())
     }
 
+    pub fn capacity(&self) -> usize {
+        self.0.capacity()
+    }
+
+    /// Makes room for that many more items, and for no others.
+    pub fn reserve_exact(&mut self, more: usize) -> Result<(), AllocError> {
+        Ok(self.0.try_reserve_exact(more)?)
+    }
+
     /// Keeps the first `len` items, or all if there are fewer.
     pub fn truncate(&mut self, len: usize) {
         self.0.truncate(len);

@@ -25,6 +25,14 @@ impl<T> Vec<T> {
         Err(AllocError)
     }
 
+    pub fn capacity(&self) -> usize {
+        0
+    }
+
+    pub fn reserve_exact(&mut self, more: usize) -> Result<(), AllocError> {
+        refused_but_for(more)
+    }
+
     pub fn truncate(&mut self, _: usize) {}
 
     pub fn shrink_to_fit(&mut self) {}

@@ -168,7 +168,7 @@ pub(crate) static PAIRS: &[Entry<Ways>] = rows! {
     ["-" * 70_000, "\na\n"] => [(FRONT, 70_003)],
 };
 
-/// Rows of a line with so many letters each, and the line that closes it. A closing that is not seen gives another token.
+/// Rows of a line with so many letters each, and one that closes it. A closing that is not seen gives another token.
 macro_rules! closed_behind {
     ($($letters:literal)*) => {
         rows! {
@@ -187,7 +187,8 @@ macro_rules! closed_behind {
 }
 
 /// Its end at each of the places that are looked at together.
-pub(crate) static PLACES: &[Entry<Ways>] = closed_behind!(0 1 2 3 4 5 6 7 8 9 10 11 12 13 14 15 16 17 31 32 33 100);
+pub(crate) static PLACES: &[Entry<Ways>] =
+    closed_behind!(0 1 2 3 4 5 6 7 8 9 10 11 12 13 14 15 16 17 31 32 33 100);
 
 /// Many lines.
 pub(crate) static LINES: &[Entry<Ways>] = rows! {

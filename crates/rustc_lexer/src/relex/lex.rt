@@ -1,5 +1,5 @@
 //! Lexes all tokens of a text, with a stepper.
-ghost use Rattle.std.specs.Prelude.{◌≡◌, ◌+◌, ◌++◌, IfOk, OnOk, length};
+ghost use Rattle.std.specs.Prelude.{◌≡◌, ◌+◌, ◌^◌, ◌<◌, ◌++◌, IfOk, OnOk, length};
 ghost use Rattle.rustc_lexer.specs.Classes.{Fits};
 ghost use Rattle.rustc_lexer.specs.Tokens.{tokens_by};
 ghost use Rattle.rustc_lexer.specs.means.Checkpoints.{AreBounds};
@@ -40,8 +40,28 @@ pub(crate) fn lex_all<S: Stepper>(
         let number = tokens.len() - old_count;
         checkpoints.remember(Bound { number, offset }, offset);
         let (count, bytes) = stepper.fill(&text[offset..], text.len() - offset, &mut buffer);
+        make_room(tokens, count, offset, text.len() - offset)?;
         tokens.extend_from_slice(&buffer[..count])?;
         offset += bytes;
     }
     Ok(checkpoints)
+}
+
+/// Makes room for so many more tokens. A list that has to move gets room for those that are to be expected, if what is
+/// left of a text has as many as what is lexed, but at least an eighth of what it has and at most as many again.
+pub(crate) fn make_room(
+    list: &mut Vec<Token>,
+    count: usize,
+    lexed: usize,
+    left: usize,
+) -> Result<(), AllocError>
+    requires { left < 2 ^ 32 }
+    ensures { list.new.items ≡ list.old.items }
+{
+    let len = list.len();
+    if list.capacity() - len < count {
+        let expected = (left + left / 4) / (lexed / len.max(1)).max(1);
+        list.reserve_exact(count.max(len / 8).max(expected.min(len)))?;
+    }
+    Ok(())
 }

@@ -1,6 +1,7 @@
 //! Replaces the middle of a list of tokens in place.
 ghost use Rattle.std.specs.Prelude.{◌≡◌, ◌+◌, ◌≤◌, ◌++◌, OnOk, OnErr, length, take, drop};
 
+use crate::relex::lex::make_room;
 use crate::token::{Token, TokenKind};
 use std::alloc::AllocError;
 
@@ -33,6 +34,7 @@ pub(crate) fn replace(
             kind: TokenKind::Eof,
             len: 0,
         };
+        make_room(list, new_len - old_len, 0, 0)?;
         list.resize(new_len, filler)?;
     }
     list.copy_within(to..old_len, from + with.len());

@@ -5,4 +5,4 @@ use Rattle.rustc_lexer.proofs.frontmatter.skip_front.Goals as goal
 
 pub returns-in-Some-clause-left : goal.returns-in-Some-clause-left
 returns-in-Some-clause-left c =
-    apart_pattern c.args.first c.in-Some.second.now c.args.more.now c.args.rest.now _ (grind (arith, common_steps, rules)) (grind (arith, common_steps, rules)) c.skip_apart.ensures.inside c.skip_apart.ensures.apart
+    apart_pattern c.args.first _ c.in-Some.third.now c.args.more.now c.args.rest.now _ (grind (arith, common_steps, rules)) (grind (arith, common_steps, rules)) (grind (arith, common_steps, rules)) c.skip_apart.ensures.inside c.skip_apart.ensures.apart

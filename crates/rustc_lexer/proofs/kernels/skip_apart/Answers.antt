@@ -4,18 +4,21 @@ use Rattle.std.proofs.lemmas.Nat.{and_le_l}
 use Rattle.rustc_lexer.proofs.PairLemmas.{apart_on, apart_to, near}
 use Rattle.rustc_lexer.proofs.kernels.skip_apart.Goals as goal
 
-pub returns-then-pairs-ne0-clause-apart : goal.returns-then-pairs-ne0-clause-apart
-returns-then-pairs-ne0-clause-apart c =
-    apart_to c.args.one c.args.two c.args.bytes.now c.looks.end _ _ c.looks.invariant.apart _ _ (take_rest c.args.bytes.now c.looks.end) (take_rest c.args.bytes.now (c.looks.end + 1)) c.places.ensures.at c.places-in-looks.ensures.at (omega arith)
-    (omega (arith, c.places.ensures.few, and_le_l c.places.result c.places-in-looks.result))
+pub returns-then-found-ne0-clause-apart : goal.returns-then-found-ne0-clause-apart
+returns-then-found-ne0-clause-apart c =
+    apart_to c.args.one c.args.two c.args.three c.args.bytes.now c.looks.end _ _ _ c.looks.invariant.apart _ _ _ (take_rest c.args.bytes.now c.looks.end) (take_rest c.args.bytes.now (c.looks.end + 1)) (take_rest c.args.bytes.now (c.looks.end + 2))
+    c.places-ones.ensures.at c.places-twos.ensures.at c.places-threes.ensures.at (omega arith)
+    (omega (arith, c.places-ones.ensures.few, and_le_l c.places-ones.result c.places-twos.result, and_le_l (bit_and c.places-ones.result c.places-twos.result) c.places-threes.result))
 
 pub looks-preserved : goal.looks-preserved
 looks-preserved c = record {
-  apart = apart_on c.args.one c.args.two c.args.bytes.now c.looks.end _ _ c.looks.invariant.apart _ _ (take_rest c.args.bytes.now c.looks.end) (take_rest c.args.bytes.now (c.looks.end + 1)) c.places.ensures.at c.places-in-looks.ensures.at (omega arith);
+  apart = apart_on c.args.one c.args.two c.args.three c.args.bytes.now c.looks.end _ _ _ c.looks.invariant.apart _ _ _ (take_rest c.args.bytes.now c.looks.end) (take_rest c.args.bytes.now (c.looks.end + 1)) (take_rest c.args.bytes.now (c.looks.end + 2))
+      c.places-ones.ensures.at c.places-twos.ensures.at c.places-threes.ensures.at (omega arith);
   inside = omega arith;
 }
 
-pub returns-then-pairs-ne0-clause-inside : goal.returns-then-pairs-ne0-clause-inside
-returns-then-pairs-ne0-clause-inside c =
-    let less = near (bit_and c.places.result c.places-in-looks.result) (omega arith) (omega (arith, c.places.ensures.few, and_le_l c.places.result c.places-in-looks.result)) in
+pub returns-then-found-ne0-clause-inside : goal.returns-then-found-ne0-clause-inside
+returns-then-found-ne0-clause-inside c =
+    let pairs = bit_and c.places-ones.result c.places-twos.result in
+    let less = near (bit_and pairs c.places-threes.result) (omega arith) (omega (arith, c.places-ones.ensures.few, and_le_l c.places-ones.result c.places-twos.result, and_le_l pairs c.places-threes.result)) in
     omega arith

@@ -4,7 +4,7 @@ use Rattle.rustc_lexer.proofs.kernels.skip_apart.Given as goal
 
 abbrev pub invariant-looks : goal.invariant-looks
 invariant-looks l = record {
-  apart : AreApart l.one l.two l.bytes l.end;
+  apart : AreApart l.one l.two l.three l.bytes l.end;
   inside : l.end ≤ length l.bytes;
 }
 

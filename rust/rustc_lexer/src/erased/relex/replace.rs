@@ -2,6 +2,7 @@
 //! Replaces the middle of a list of tokens in place.
 use crate::support::Vec;
 
+use crate::erased::relex::lex::make_room;
 use crate::erased::token::{Token, TokenKind};
 use crate::support::AllocError;
 
@@ -28,6 +29,7 @@ pub(crate) fn replace(
             kind: TokenKind::Eof,
             len: 0,
         };
+        make_room(list, new_len - old_len, 0, 0)?;
         list.resize(new_len, filler)?;
     }
     list.copy_within(to..old_len, from + with.len());

@@ -70,9 +70,10 @@ left-preserved g c =
     let old : List Token = c.args.tokens.now.items in
     let written : List Token = take c.fill-count.result.0 c.fill-count.new.buffer in
     let long : length old ≤ length c.left.tokens.items = grown c.args.tokens.now.items c.left.tokens.items c.left.invariant.0 in
-    let more : drop (length old) c.extend_from_slice.new.self.items ≡ behind ++ written = ap (drop (length old)) c.in_ok-extend_from_slice.ensures.items ∙ drop-append-le (length old) c.left.tokens.items written long in
+    let added : c.extend_from_slice.new.self.items ≡ c.left.tokens.items ++ written = c.in_ok-extend_from_slice.ensures.items ∙ ap (λ ts. ts ++ written) c.make_room.ensures in
+    let more : drop (length old) c.extend_from_slice.new.self.items ≡ behind ++ written = ap (drop (length old)) added ∙ drop-append-le (length old) c.left.tokens.items written long in
     let number : c.len.result - c.len-old_count.result ≡ length behind = omega (arith, length-drop (length old) c.left.tokens.items, long) in (
-      c.in_ok-extend_from_slice.ensures.items ∙ (ap (λ ts. ts ++ written) c.left.invariant.0 ∙ (append_assoc old behind written ∙ ap (λ ts. old ++ ts) (sym more))),
+      added ∙ (ap (λ ts. ts ++ written) c.left.invariant.0 ∙ (append_assoc old behind written ∙ ap (λ ts. old ++ ts) (sym more))),
       subst (λ (ts : List Token). IsLexedTo (g.S.Stepper.grammar c.args.stepper.now) c.args.text.now ts (c.left.offset + c.fill-count.result.1)) (sym more) next.more,
       c.fill-count.ensures.grammar ∙ c.left.invariant.2,
       c.fill-count.ensures.number ∙ c.left.invariant.3,
