@@ -109,6 +109,9 @@ fn lists() {
     held.as_mut_slice()[0] = 7;
     held.truncate(2);
     assert!((&held).into_iter().copied().eq([7, 2]) && held.clone().into_iter().eq([7, 2]));
+    held.reserve_exact(90).unwrap();
+    assert!(held.capacity() >= 92 && given(0, || held.resize(92, 0)).is_ok());
+    assert_eq!(given(0, || held.reserve_exact(999)), Err(AllocError));
     let mut full = Vec::new(Global);
     assert_eq!(given(0, || full.resize(1, 0u8)), Err(AllocError));
     assert_eq!(full.len(), 0);

@@ -12,6 +12,8 @@ fn each_request_is_refused() {
     assert_eq!(list.resize(1, 1), Err(AllocError));
     assert_eq!(list.extend_from_slice(&[]), Ok(()));
     assert_eq!(list.resize(0, 1), Ok(()));
+    assert_eq!((list.capacity(), list.reserve_exact(0)), (0, Ok(())));
+    assert_eq!(list.reserve_exact(1), Err(AllocError));
     // As in Rust, to keep more than there is has no effect.
     list.truncate(0);
     list.truncate(1);

@@ -297,6 +297,19 @@ fn an_edition_copies_no_text() {
     assert!(greatest_request(|| LexedText::new(&text)) >= text.len());
 }
 
+/// A list of tokens that grows gets room for those that the rest of the text may have, and by an edit for an eighth more.
+#[test]
+fn tokens_get_little_room() {
+    let (text, mut made) = ("x = [12, y];\n".repeat(5_600), None);
+    let greatest = greatest_request(|| made = Some(LexedText::new(&text)));
+    let mut lexed = made.unwrap();
+    let taken = size_of_val(lexed.tokens());
+    assert!(greatest < taken / 4 * 5, "{greatest} bytes for {taken}");
+    lexed.shrink_to_fit();
+    let greatest = greatest_request(|| lexed.edit(0..0, "x "));
+    assert!(greatest < taken / 7 * 8, "{greatest} bytes for {taken}");
+}
+
 /// A `String` is kept as it is, with the room that it has, and given back: memory is taken for tokens alone.
 #[test]
 fn a_string_is_not_copied() {
