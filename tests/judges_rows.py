@@ -148,6 +148,7 @@ REDECLARE = [
     (HEADER, "__attribute__((used, retain)) static", "__attribute__((used)) static", "and with one of another number by [['-O2', '-Wl,--gc-sections']"),
     (HEADER, "= rustc_lexer_abi_1;", "= 0;", "and with one of another number by [['-O0']"),
     (HEADER, "uint32_t rustc_lexer_abi_1(void);", "uint32_t rustc_lexer_abi_1(void), rustc_lexer_planted(void);\n#define rustc_lexer_abi_1 rustc_lexer_planted", "a program links with its library by [], and"),
+    ("tests/redeclare", '    ("uint8_t base;", "uint16_t base;"),\n', "", "and 9 differences are planted"),
     ("tests/redeclare", '("uint8_t base;", "uint16_t base;")', '("uint8_t base;", "uint8_t  base;")', "does not see"),
 ]
 PACKAGES = [
