@@ -153,8 +153,6 @@ REDECLARE = [
 ]
 PACKAGES = [
     ("rust/ends/src/fault.rs", "no memory", "planted", "is not what is made of the proved source"),
-    ("rust/ends/src/fault.rs", FIRST_LINE, "", "ends/src/fault.rs is not what is made"),
-    ("rust/ends/src/fault.rs", "\n", "\r\n", "ends/src/fault.rs is not what is made"),
     (*TO_COMMENT, "relex/edit.rs is not what is made"),
     ("rust/marks/src/planted.rs", None, FIRST_LINE, "marks/src/planted.rs is not what is made"),
     (".gitattributes", "rust/ends/src/** linguist-generated\n", "", ".gitattributes is not what is made"),
@@ -174,7 +172,6 @@ ERASED = [
     ("rust/ends/Cargo.toml", 'edition = "2024"', 'edition = "2021"', "rust/ends has edition = 2021"),
     ("rust/ends/Cargo.toml", "\n[dependencies]", "\n[features]\nplanted = []\n\n[dependencies]", "rust/ends has features = {'planted': []}"),
     ("rust/ends/Cargo.toml", 'path = "../itoa"', 'path = "../itoa", features = ["a"]', "rust/ends has features of itoa"),
-    ("rust/ends/src/fault.rs", FIRST_LINE, "", "rust/ends/src/fault.rs -> its first line does not name its source"),
     ("rust/ends/src/fault.rs", FIRST_LINE, FIRST_LINE.replace("fault", "lib"), "its first line does not name its source"),
     ("rust/ends/src/planted.rs", None, "", "no file -> rust/ends/src/planted.rs"),
     ("rust/ends/src/fault.rs", "", None, "crates/ends/src/fault.rt -> no file"),
