@@ -226,6 +226,7 @@ BODIES = [
     ("tests/wrong_bodies --proved rustc_literal_escaper", [PROVES_ALL], "NONE IS DRAWN"),
     # where the prover takes all, each line is as one that a hand wrote for a right body
     ("tests/wrong_bodies --draw=3 ends", [PROVES_ALL], "0 of 5 refused by name: 1 of those always tried, 0 new or changed, 4 drawn by 3"),
+    ("tests/wrong_bodies --linked marks", [("tools/over_libraries", None, SHELL + "echo only=1 proved=1\n")], "since their lines are kept; rattle-kit-"),
     ("tests/wrong_bodies --linked --draw=3", [("tools/over_libraries", None, SHELL + "echo only=1 proved=1\n")], "0 of 10 refused by name: 0 of those always tried, 0 new or changed, 10 drawn by 3"),
     ("tests/wrong_bodies planted", [], "planted is no crate with wrong bodies"),
     ("tests/wrong_bodies --changed ends", [PROVES_ALL, ("crates/ends/src/fault.rt", "{ result ≡ status_of fault.now }", "{ result ≡ 0 }")], "ends/closed_pipe_is_a_failure: NOT REFUSED"),
