@@ -599,6 +599,21 @@ static void check_classes(void) {
         {"0x", 2, RUSTC_LEXER_CLASS_NUMBER, RUSTC_LEXER_FAULT_EMPTY_NUMBER},
         {"1.5", 3, RUSTC_LEXER_CLASS_NUMBER, 0},
         {"1e", 2, RUSTC_LEXER_CLASS_NUMBER, RUSTC_LEXER_FAULT_EMPTY_EXPONENT},
+        {"0b12", 4, RUSTC_LEXER_CLASS_NUMBER, RUSTC_LEXER_FAULT_WRONG_DIGIT},
+        {"0o8", 3, RUSTC_LEXER_CLASS_NUMBER, RUSTC_LEXER_FAULT_WRONG_DIGIT},
+        {"0b1u8", 5, RUSTC_LEXER_CLASS_NUMBER, 0},
+        {"0x9", 3, RUSTC_LEXER_CLASS_NUMBER, 0},
+        {"0x1.5", 5, RUSTC_LEXER_CLASS_NUMBER, RUSTC_LEXER_FAULT_FLOAT_OF_BASE},
+        {"r#self", 6, RUSTC_LEXER_CLASS_PLAIN, RUSTC_LEXER_FAULT_RAW_KEYWORD},
+        {"'r#_", 4, RUSTC_LEXER_CLASS_LIFETIME, RUSTC_LEXER_FAULT_RAW_KEYWORD},
+        {"\"a\"_", 4, RUSTC_LEXER_CLASS_TEXT, RUSTC_LEXER_FAULT_UNDERSCORE_SUFFIX},
+        {"\"a\"_a", 5, RUSTC_LEXER_CLASS_TEXT, 0},
+        {"/// \ra", 6, RUSTC_LEXER_CLASS_DOC, RUSTC_LEXER_FAULT_DOC_RETURN},
+        {"// \ra", 5, RUSTC_LEXER_CLASS_COMMENT, 0},
+        {"---\na\rb\n---", 11, RUSTC_LEXER_CLASS_DOC, RUSTC_LEXER_FAULT_FRONTMATTER_RETURN},
+        {"// \xe2\x80\xae", 6, RUSTC_LEXER_CLASS_COMMENT, RUSTC_LEXER_FAULT_TEXT_DIRECTION},
+        {"c\"\xe2\x81\xa6\"", 6, RUSTC_LEXER_CLASS_TEXT, RUSTC_LEXER_FAULT_TEXT_DIRECTION},
+        {"b\"\xe2\x81\xa6\"", 6, RUSTC_LEXER_CLASS_TEXT, 0},
         {"'a'", 3, RUSTC_LEXER_CLASS_TEXT, 0},
         {"'", 1, RUSTC_LEXER_CLASS_TEXT, RUSTC_LEXER_FAULT_OPEN_CHARACTER},
         {"b'", 2, RUSTC_LEXER_CLASS_TEXT, RUSTC_LEXER_FAULT_OPEN_BYTE},
@@ -617,6 +632,10 @@ static void check_classes(void) {
     memcpy(many, "r", 1);
     memcpy(many + 257, "\"\"", 2);
     check_token(many, 515, RUSTC_LEXER_CLASS_TEXT, RUSTC_LEXER_FAULT_MANY_HASHES);
+    memset(many, '-', 513);
+    many[256] = '\n';
+    many[513] = '\0';
+    check_token(many, 513, RUSTC_LEXER_CLASS_DOC, RUSTC_LEXER_FAULT_MANY_DASHES);
 
     struct rustc_lexer_token token = {.kind = RUSTC_LEXER_IDENT, .len = 1};
     uint32_t number = 9;

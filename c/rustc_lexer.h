@@ -312,7 +312,15 @@ enum {
     RUSTC_LEXER_FAULT_OPEN_RAW_STRING = 20, /* nothing closes a raw string */
     RUSTC_LEXER_FAULT_FEW_HASHES = 21, /* nothing closes a raw string: too few hashes follow a quote */
     RUSTC_LEXER_FAULT_MANY_HASHES = 22, /* a raw string has more than 255 hashes on each side */
-    RUSTC_LEXER_FAULT_IN_LITERAL = 23 /* something between the quotes of a literal; no token has this fault */
+    RUSTC_LEXER_FAULT_IN_LITERAL = 23, /* something between the quotes of a literal; no token has this fault */
+    RUSTC_LEXER_FAULT_WRONG_DIGIT = 24, /* a number has a digit that its base does not have */
+    RUSTC_LEXER_FAULT_FLOAT_OF_BASE = 25, /* a number of another base than ten has a point or an exponent */
+    RUSTC_LEXER_FAULT_RAW_KEYWORD = 26, /* self, Self, super, crate or _ after r# or 'r# */
+    RUSTC_LEXER_FAULT_UNDERSCORE_SUFFIX = 27, /* the suffix of a literal is _ */
+    RUSTC_LEXER_FAULT_DOC_RETURN = 28, /* a doc comment has a carriage return that no newline follows */
+    RUSTC_LEXER_FAULT_FRONTMATTER_RETURN = 29, /* a frontmatter has such a carriage return */
+    RUSTC_LEXER_FAULT_MANY_DASHES = 30, /* a frontmatter has more than 255 dashes on each side */
+    RUSTC_LEXER_FAULT_TEXT_DIRECTION = 31 /* a comment or a literal has a character that turns the direction of text */
 };
 
 /* Styles of marks. */

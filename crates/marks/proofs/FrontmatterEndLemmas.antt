@@ -2,6 +2,7 @@
 use Rattle.std.proofs.Common.{◌≡◌, ℕ, zero, suc, ◌+◌, ◌-◌, ◌<◌, ◌≤◌, ◌==◌, nat_eq, nat_lt, not, ◌||◌, Bool, true, false, true≢false, if◌then◌else◌, List, [], ◌∷◌, ◌++◌, codes, length, take, drop, get_or, refl, sym, ap, ◌∙◌, subst, arith, append_assoc, append-nil, drop-cons, drop-drop, length-append, take-append-drop, Option, Some, None, inl, inr}
 use Rattle.std.specs.Char.{encode_utf8}
 use Rattle.std.specs.List.{after_last, list_all, list_any, prefix_len, suffix_len}
+use Rattle.std.specs.Option.{option_or}
 use Rattle.std.specs.Str.{encode_utf8_all, IsUtf8}
 use Rattle.std.proofs.Math.Seq.{drop-append_seam, get_or-append_seam}
 use Rattle.std.proofs.lemmas.Bool.{and_parts, eqb-false, eqb-true, false_from_ne_true, ltb-false, ltb-true, not-true, not_from_false, not_from_true, or_cases, or_parts}
@@ -31,7 +32,8 @@ use Rattle.marks.specs.declared.fault.Fault.{Fault}
 use Rattle.marks.specs.declared.fault.Fault.TheVariants.{FrontmatterSpace, OpenFrontmatter, FrontmatterDashes, FrontmatterWords}
 use Rattle.rustc_literal_escaper.specs.Grammar.{is_newline}
 use Rattle.marks.specs.Frontmatter.{blanks, closing_fault, dashes, end_fault, is_of}
-use Rattle.marks.specs.Fault.{fault_of, front_fault}
+use Rattle.marks.specs.Fault.{fault_of, front_fault, kind_fault}
+use Rattle.marks.specs.TextFault.{frontmatter_fault}
 use Rattle.marks.specs.FrontmatterEnd.{EndsAfter, IsEndFault, IsOpen, IsToldBy, NoLineBegins, TellsFrontmatter, closed, indented, more_words, other_dashes, unclosed}
 
 -- ---- runs, in characters and in bytes
@@ -360,18 +362,19 @@ front-stops p (c ∷ w) next stop = stop
 
 -- of a kind that the grammar gives, in characters
 told-text : (kind : TokenKind) (n : ℕ) (bad_label : Bool) (opening body next : Chars) → IsOpeningBefore (body ++ next) n bad_label opening → IsBodyBefore next (endings n) body
-    → kind ≡ Frontmatter (next_is is_whitespace opening) bad_label → IsToldBy n bad_label opening body next (fault_of kind (encode_utf8_all (opening ++ body)))
+    → kind ≡ Frontmatter (next_is is_whitespace opening) bad_label → IsToldBy n bad_label opening body next (encode_utf8_all (opening ++ body)) (fault_of kind (encode_utf8_all (opening ++ body)))
 told-text kind n bad_label opening body next (the.opening _ space label spaces no_line many is stop) is_body kind_is =
     let told = told-found n (found n many is_body) in
+    let text : List ℕ = encode_utf8_all (opening ++ body) in
     record {
       end = told.end;
       is = told.is;
-      told = ap (λ (k : TokenKind). fault_of k (encode_utf8_all (opening ++ body))) kind_is ∙ by_space space spaces told;
+      told = ap (λ (k : TokenKind). fault_of k text) kind_is ∙ ap (λ (fault : Option Fault). option_or fault (frontmatter_fault text)) (by_space space spaces told);
       exact = (λ e. open-is n (subst (IsEndFault n next body) e told.is), λ free. is-open n many told.is free);
     }
   where
     by_space : (space : Chars) → AreAll is_whitespace space → (told : Told n next body)
-        → fault_of (Frontmatter (next_is is_whitespace (space ++ (fence n ++ label))) bad_label) (encode_utf8_all (space ++ (fence n ++ label) ++ body))
+        → kind_fault (Frontmatter (next_is is_whitespace (space ++ (fence n ++ label))) bad_label) (encode_utf8_all (space ++ (fence n ++ label) ++ body))
         ≡ (if next_is is_whitespace (space ++ (fence n ++ label)) then Some FrontmatterSpace else front_fault bad_label told.end)
     by_space [] spaces told =
         let free = no-space n (label) many in
@@ -384,5 +387,5 @@ told-text kind n bad_label opening body next (the.opening _ space label spaces n
 
 pub tells : (kind : TokenKind) (text : List ℕ) → IsUtf8 text → TellsFrontmatter kind text (fault_of kind text)
 tells kind text utf8 n bad_label opening body next is is_body whole kind_is =
-    subst (λ (t : List ℕ). IsToldBy n bad_label opening body next (fault_of kind t)) (ap encode_utf8_all (sym whole) ∙ encodes-chars text utf8)
+    subst (λ (t : List ℕ). IsToldBy n bad_label opening body next t (fault_of kind t)) (ap encode_utf8_all (sym whole) ∙ encodes-chars text utf8)
     (told-text kind n bad_label opening body next is is_body kind_is)

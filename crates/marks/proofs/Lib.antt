@@ -8,3 +8,4 @@ pub mod LiteralMarkLemmas
 pub mod MarkedLemmas
 pub mod PartLemmas
 pub mod PlaceLemmas
+pub mod TextFaultLemmas

@@ -1,5 +1,6 @@
 -- The error of a token, and the sentence that describes it.
-use Rattle.std.specs.Prelude.{ℕ, ◌-◌, ◌==◌, Bool, true, false, ◌&&◌, nat_lt, if◌then◌else◌, List, ◌++◌, codes, decimal, drop, Option, Some, None, Result, Ok, Err}
+use Rattle.std.specs.Prelude.{ℕ, ◌-◌, ◌==◌, Bool, true, false, ◌&&◌, nat_eq, nat_lt, if◌then◌else◌, List, ◌++◌, codes, decimal, drop, Option, Some, None, Result, Ok, Err}
+use Rattle.std.specs.Option.{option_or}
 use Rattle.std.specs.Str.{byte, chars}
 use Rattle.rustc_lexer.specs.declared.token.LiteralKind.{LiteralKind}
 use Rattle.rustc_lexer.specs.declared.token.LiteralKind.TheVariants.{Int, Float, Char, Byte, Str, ByteStr, CStr, RawStr, RawByteStr, RawCStr}
@@ -10,9 +11,10 @@ use Rattle.rustc_lexer.specs.declared.token.TokenKind.TheVariants.{BlockComment,
 use Rattle.rustc_lexer.specs.Answers.{raw_check}
 use Rattle.rustc_lexer.specs.Classes.{next_is}
 use Rattle.marks.specs.declared.fault.Fault.{Fault}
-use Rattle.marks.specs.declared.fault.Fault.TheVariants.{OpenComment, FrontmatterSpace, FrontmatterInfostring, OpenFrontmatter, FrontmatterIndent, FrontmatterDashes, FrontmatterWords, InvalidName, UnknownPrefix, UnknownLifetimePrefix, GuardedString, InvalidLifetime, UnknownCharacter, EmptyNumber, EmptyExponent, OpenCharacter, OpenByte, OpenString, RawStarter, OpenRawString, FewHashes, ManyHashes, InLiteral}
-use Rattle.marks.specs.declared.fault.TheConstants.{OPEN_COMMENT, FRONTMATTER_SPACE, FRONTMATTER_INFOSTRING, OPEN_FRONTMATTER, FRONTMATTER_INDENT, FRONTMATTER_WORDS, INVALID_NAME, UNKNOWN_PREFIX, UNKNOWN_LIFETIME_PREFIX, GUARDED_STRING, INVALID_LIFETIME, UNKNOWN_CHARACTER, EMPTY_NUMBER, EMPTY_EXPONENT, OPEN_CHARACTER, OPEN_BYTE, OPEN_STRING, RAW_STARTER}
+use Rattle.marks.specs.declared.fault.Fault.TheVariants.{OpenComment, FrontmatterSpace, FrontmatterInfostring, OpenFrontmatter, FrontmatterIndent, FrontmatterDashes, FrontmatterWords, InvalidName, UnknownPrefix, UnknownLifetimePrefix, GuardedString, InvalidLifetime, UnknownCharacter, EmptyNumber, EmptyExponent, OpenCharacter, OpenByte, OpenString, RawStarter, OpenRawString, FewHashes, ManyHashes, InLiteral, WrongDigit, FloatOfBase, RawKeyword, UnderscoreSuffix, DocReturn, FrontmatterReturn, ManyDashes, TextDirection}
+use Rattle.marks.specs.declared.fault.TheConstants.{OPEN_COMMENT, FRONTMATTER_SPACE, FRONTMATTER_INFOSTRING, OPEN_FRONTMATTER, FRONTMATTER_INDENT, FRONTMATTER_WORDS, INVALID_NAME, UNKNOWN_PREFIX, UNKNOWN_LIFETIME_PREFIX, GUARDED_STRING, INVALID_LIFETIME, UNKNOWN_CHARACTER, EMPTY_NUMBER, EMPTY_EXPONENT, OPEN_CHARACTER, OPEN_BYTE, OPEN_STRING, RAW_STARTER, OPEN_PLAIN_RAW_STRING, WRONG_DIGIT, FLOAT_OF_BASE, RAW_KEYWORD, UNDERSCORE_SUFFIX, DOC_RETURN, FRONTMATTER_RETURN, TEXT_DIRECTION}
 use Rattle.marks.specs.Frontmatter.{end_fault}
+use Rattle.marks.specs.TextFault.{text_fault}
 use Rattle.rustc_literal_escaper.specs.Numbers.{error_sentence}
 
 -- the error for a reader, by the reason why a raw string is refused
@@ -56,20 +58,24 @@ front_fault invalid_infostring (Some fault) = Some fault
 front_fault true None = Some FrontmatterInfostring
 front_fault false None = None
 
--- the error of a token; if it has two, one of them
-abbrev pub fault_of : TokenKind → List ℕ → Option Fault
-fault_of (BlockComment doc_style false) text = Some OpenComment
-fault_of (Frontmatter true invalid_infostring) text = Some FrontmatterSpace
-fault_of (Frontmatter false invalid_infostring) text =
+-- the error that the kind of a token tells
+abbrev pub kind_fault : TokenKind → List ℕ → Option Fault
+kind_fault (BlockComment doc_style false) text = Some OpenComment
+kind_fault (Frontmatter true invalid_infostring) text = Some FrontmatterSpace
+kind_fault (Frontmatter false invalid_infostring) text =
     front_fault invalid_infostring (end_fault text)
-fault_of InvalidIdent text = Some InvalidName
-fault_of UnknownPrefixToken text = Some UnknownPrefix
-fault_of UnknownPrefixLifetime text = Some UnknownLifetimePrefix
-fault_of GuardedStrPrefix text = Some GuardedString
-fault_of (Lifetime true) text = Some InvalidLifetime
-fault_of Unknown text = Some UnknownCharacter
-fault_of (Literal kind suffix_start) text = literal_fault kind text
-fault_of kind text = None
+kind_fault InvalidIdent text = Some InvalidName
+kind_fault UnknownPrefixToken text = Some UnknownPrefix
+kind_fault UnknownPrefixLifetime text = Some UnknownLifetimePrefix
+kind_fault GuardedStrPrefix text = Some GuardedString
+kind_fault (Lifetime true) text = Some InvalidLifetime
+kind_fault Unknown text = Some UnknownCharacter
+kind_fault (Literal kind suffix_start) text = literal_fault kind text
+kind_fault kind text = None
+
+-- the error of a token; if it has two, one of them: that of its kind comes before that of its text
+abbrev pub fault_of : TokenKind → List ℕ → Option Fault
+fault_of kind text = option_or (kind_fault kind text) (text_fault kind text)
 
 -- the number of an error, in the same way as that of a class
 abbrev pub fault_number : Fault → ℕ
@@ -96,6 +102,14 @@ fault_number (OpenRawString expected) = 20
 fault_number (FewHashes expected found end) = 21
 fault_number (ManyHashes found) = 22
 fault_number (InLiteral error) = 23
+fault_number WrongDigit = 24
+fault_number FloatOfBase = 25
+fault_number RawKeyword = 26
+fault_number UnderscoreSuffix = 27
+fault_number DocReturn = 28
+fault_number FrontmatterReturn = 29
+fault_number (ManyDashes found) = 30
+fault_number TextDirection = 31
 
 unfoldable pub sentence : Fault → List ℕ
 sentence OpenComment = OPEN_COMMENT.now
@@ -116,11 +130,20 @@ sentence OpenCharacter = OPEN_CHARACTER.now
 sentence OpenByte = OPEN_BYTE.now
 sentence OpenString = OPEN_STRING.now
 sentence RawStarter = RAW_STARTER.now
+sentence WrongDigit = WRONG_DIGIT.now
+sentence FloatOfBase = FLOAT_OF_BASE.now
+sentence RawKeyword = RAW_KEYWORD.now
+sentence UnderscoreSuffix = UNDERSCORE_SUFFIX.now
+sentence DocReturn = DOC_RETURN.now
+sentence FrontmatterReturn = FRONTMATTER_RETURN.now
+sentence TextDirection = TEXT_DIRECTION.now
 sentence (FrontmatterDashes opening closing) =
     codes "this frontmatter opens with "
     ++ (decimal opening ++ (codes " dashes and closes with " ++ decimal closing))
 sentence (OpenRawString expected) =
-    codes "nothing closes this raw string: a quote and " ++ (decimal expected ++ codes " # would")
+    if nat_eq expected 0 then OPEN_PLAIN_RAW_STRING.now
+    else codes "nothing closes this raw string: a quote and "
+    ++ (decimal expected ++ codes " # would")
 sentence (FewHashes expected found end) =
     codes "a quote and "
     ++ (decimal expected
@@ -128,4 +151,6 @@ sentence (FewHashes expected found end) =
     ++ (decimal end ++ (codes " it has " ++ decimal found))))
 sentence (ManyHashes found) =
     codes "a raw string has at most 255 hashes on each side, and this one " ++ decimal found
+sentence (ManyDashes found) =
+    codes "a frontmatter has at most 255 dashes on each side, and this one " ++ decimal found
 sentence (InLiteral error) = error_sentence error

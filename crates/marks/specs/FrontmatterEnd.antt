@@ -2,6 +2,7 @@
 -- lexer's grammar. `body` and `next` are as in FrontmatterGrammar: what follows the opening in the
 -- token, and all of the text after the token.
 use Rattle.std.specs.Prelude.{◌≡◌, ◌↔◌, ◌≤◌, ◌<◌, ℕ, Bool, false, if◌then◌else◌, List, ◌∷◌, ◌++◌, chars, codes, length, Option, Some, None}
+use Rattle.std.specs.Option.{option_or}
 use Rattle.std.specs.Str.{byte}
 use Rattle.rustc_lexer.specs.Classes.{Chars, AreAll, NextNotIn, is_horizontal_whitespace, is_inline, is_whitespace, next_is}
 use Rattle.rustc_lexer.specs.FrontmatterGrammar.{IsAt, IsBodyBefore, IsNowhere, IsOpeningBefore, endings, fence}
@@ -10,6 +11,7 @@ use Rattle.rustc_lexer.specs.declared.token.TokenKind.TheVariants.{Frontmatter}
 use Rattle.marks.specs.declared.fault.Fault.{Fault}
 use Rattle.marks.specs.declared.fault.Fault.TheVariants.{FrontmatterSpace, OpenFrontmatter, FrontmatterIndent, FrontmatterDashes, FrontmatterWords}
 use Rattle.marks.specs.Fault.{front_fault}
+use Rattle.marks.specs.TextFault.{frontmatter_fault}
 
 -- no line of the text begins with n dashes, unless its first does
 abbrev pub NoLineBegins : ℕ → Chars → Type 0
@@ -56,13 +58,15 @@ pub data IsEndFault (n : ℕ) (next : Chars) : Chars → Option Fault → Type 0
   unclosed : {body : Chars} → IsOpen body next → IsEndFault n next body (Some OpenFrontmatter)
 
 -- what is told of a frontmatter by the grammar: the error that its lines say, unless white space
--- comes before it; and that nothing closes it exactly where nothing does
-pub record IsToldBy (n : ℕ) (bad_label : Bool) (opening body next : Chars) (fault : Option Fault)
-    : Type 0 where
+-- comes before it, or else that of its text; and that nothing closes it exactly where nothing does
+pub record IsToldBy (n : ℕ) (bad_label : Bool) (opening body next : Chars) (text : List ℕ)
+    (fault : Option Fault) : Type 0 where
   pub end : Option Fault
   pub is : IsEndFault n next body end
   pub told : fault
-      ≡ (if next_is is_whitespace opening then Some FrontmatterSpace else front_fault bad_label end)
+      ≡ option_or
+      (if next_is is_whitespace opening then Some FrontmatterSpace else front_fault bad_label end)
+      (frontmatter_fault text)
   pub exact : end ≡ Some OpenFrontmatter ↔ IsOpen body next
 
 -- the error of a token, if the grammar has it as a frontmatter in a text that goes on by `next`
@@ -73,4 +77,4 @@ TellsFrontmatter kind text fault =
     → IsBodyBefore next (endings n) body
     → chars text ≡ opening ++ body
     → kind ≡ Frontmatter (next_is is_whitespace opening) bad_label
-    → IsToldBy n bad_label opening body next fault
+    → IsToldBy n bad_label opening body next text fault

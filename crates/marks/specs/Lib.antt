@@ -10,5 +10,6 @@ pub mod LiteralMarks
 pub mod Mark
 pub mod Marked
 pub mod Part
+pub mod TextFault
 pub mod laws
 pub mod means

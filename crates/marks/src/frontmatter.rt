@@ -50,7 +50,7 @@ fn closing_fault(opening: usize, line: &[u8]) -> Option<Fault>
 
 /// Returns how many of these bytes come first.
 #[tactic(auto, using(crate::proofs::FrontmatterLemmas::run_on, crate::proofs::FrontmatterLemmas::run_stops, crate::proofs::FrontmatterLemmas::run_is_all, std::proofs::lemmas::Grind::common_steps))]
-fn run_of(these: &[u8], bytes: &[u8]) -> usize
+pub fn run_of(these: &[u8], bytes: &[u8]) -> usize
     ensures value { result ≡ prefix_len (spec.is_of these.now) bytes.now }
     ensures inside { result ≤ length bytes.now }
 {

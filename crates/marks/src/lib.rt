@@ -11,6 +11,7 @@ mod literal;
 mod marked;
 mod part;
 mod style;
+mod text_fault;
 
 pub use class::{Class, class_of};
 pub use fault::{Fault, fault_of};

@@ -2,6 +2,7 @@
 use Rattle.std.proofs.Common.{◌≡◌, true, false, List, ℕ, None, Some, ap, arith, refl, sym, ◌∙◌}
 use Rattle.std.proofs.lemmas.Grind.{common_steps}
 use Rattle.rustc_lexer.specs.declared.token.Token.{Token}
+use Rattle.rustc_lexer.specs.declared.token.Base.TheVariants.{Binary, Octal, Decimal, Hexadecimal}
 use Rattle.rustc_lexer.specs.declared.token.LiteralKind.{LiteralKind}
 use Rattle.rustc_lexer.specs.declared.token.LiteralKind.TheVariants.{Int, Float, Char, Byte, Str, ByteStr, CStr, RawStr, RawByteStr, RawCStr}
 use Rattle.rustc_lexer.specs.declared.token.TokenKind.{TokenKind}
@@ -20,10 +21,22 @@ AreKept kind len text =
 
 literal_kept : (kind : LiteralKind) (suffix_start len : ℕ) (text : List ℕ) → AreKept (Literal kind suffix_start) len text
 unfolding kind_entry literal_entry token_numbers first_of second_of third_of literal_second literal_third
-literal_kept (Int base true) s len text = (refl, refl)
-literal_kept (Int base false) s len text = (refl, refl)
-literal_kept (Float base true) s len text = (refl, refl)
-literal_kept (Float base false) s len text = (refl, refl)
+literal_kept (Int Binary true) s len text = (refl, refl)
+literal_kept (Int Octal true) s len text = (refl, refl)
+literal_kept (Int Decimal true) s len text = (refl, refl)
+literal_kept (Int Hexadecimal true) s len text = (refl, refl)
+literal_kept (Int Binary false) s len text = (refl, refl)
+literal_kept (Int Octal false) s len text = (refl, refl)
+literal_kept (Int Decimal false) s len text = (refl, refl)
+literal_kept (Int Hexadecimal false) s len text = (refl, refl)
+literal_kept (Float Binary true) s len text = (refl, refl)
+literal_kept (Float Octal true) s len text = (refl, refl)
+literal_kept (Float Decimal true) s len text = (refl, refl)
+literal_kept (Float Hexadecimal true) s len text = (refl, refl)
+literal_kept (Float Binary false) s len text = (refl, refl)
+literal_kept (Float Octal false) s len text = (refl, refl)
+literal_kept (Float Decimal false) s len text = (refl, refl)
+literal_kept (Float Hexadecimal false) s len text = (refl, refl)
 literal_kept (Char true) s len text = (refl, refl)
 literal_kept (Char false) s len text = (refl, refl)
 literal_kept (Byte true) s len text = (refl, refl)

@@ -1,11 +1,12 @@
 -- The error of a token as a number, and the kind of a token whose numbers C passes.
-use Rattle.std.specs.Prelude.{ℕ, Bool, not, ◌&&◌, ◌||◌, nat_eq, nat_le, if◌then◌else◌, Option, Some, None}
-use Rattle.rustc_lexer.specs.declared.token.Base.TheVariants.{Decimal}
+use Rattle.std.specs.Prelude.{ℕ, Bool, not, ◌||◌, nat_eq, if◌then◌else◌, Option, Some, None}
+use Rattle.rustc_lexer.specs.declared.token.Base.{Base}
+use Rattle.rustc_lexer.specs.declared.token.Base.TheVariants.{Binary, Octal, Decimal, Hexadecimal}
 use Rattle.rustc_lexer.specs.declared.token.DocStyle.TheVariants.{Outer}
 use Rattle.rustc_lexer.specs.declared.token.LiteralKind.{LiteralKind}
-use Rattle.rustc_lexer.specs.declared.token.LiteralKind.TheVariants.{Int, Float, Char, Byte, Str, RawStr, RawCStr}
+use Rattle.rustc_lexer.specs.declared.token.LiteralKind.TheVariants.{Int, Float, Char, Byte, Str, ByteStr, RawStr, RawByteStr, RawCStr}
 use Rattle.rustc_lexer.specs.declared.token.TokenKind.{TokenKind}
-use Rattle.rustc_lexer.specs.declared.token.TokenKind.TheVariants.{LineComment, BlockComment, Whitespace, Frontmatter, Ident, InvalidIdent, UnknownPrefix, UnknownPrefixLifetime, GuardedStrPrefix, Literal, Lifetime, Unknown}
+use Rattle.rustc_lexer.specs.declared.token.TokenKind.TheVariants.{LineComment, BlockComment, Whitespace, Frontmatter, Ident, InvalidIdent, RawIdent, UnknownPrefix, UnknownPrefixLifetime, RawLifetime, GuardedStrPrefix, Literal, Lifetime, Unknown}
 use Rattle.marks.specs.declared.fault.Fault.{Fault}
 use Rattle.marks.specs.Fault.{fault_number}
 use Rattle.rustc_lexer_c.specs.declared.token.CToken.{CToken}
@@ -18,18 +19,26 @@ number_of (Some fault) = fault_number fault
 abbrev pub is_set : ℕ → Bool
 is_set number = not (nat_eq number 0)
 
+abbrev pub base_of : ℕ → Base
+base_of number =
+    if nat_eq number 2 then Binary
+    else if nat_eq number 8 then Octal
+    else if nat_eq number 10 then Decimal
+    else Hexadecimal
+
 -- the kind of the literal, or of the token, with these numbers, as far as its class and its error
--- depend on it: all bases are one, and so are all kinds with the same error, and all that are plain
--- and have none
+-- depend on it: all kinds with the same error are one, and so are all that are plain and have none
 abbrev pub literal_of : CToken → LiteralKind
 literal_of token =
     let n_hashes = if is_set token.second then Some token.third else None in
-    if nat_eq token.first 1 then Int Decimal (is_set token.third)
-    else if nat_eq token.first 2 then Float Decimal (is_set token.third)
+    if nat_eq token.first 1 then Int (base_of token.second) (is_set token.third)
+    else if nat_eq token.first 2 then Float (base_of token.second) (is_set token.third)
     else if nat_eq token.first 3 then Char (is_set token.second)
     else if nat_eq token.first 4 then Byte (is_set token.second)
-    else if nat_le token.first 7 && nat_le 5 token.first then Str (is_set token.second)
+    else if nat_eq token.first 5 || nat_eq token.first 7 then Str (is_set token.second)
+    else if nat_eq token.first 6 then ByteStr (is_set token.second)
     else if nat_eq token.first 8 then RawStr n_hashes
+    else if nat_eq token.first 9 then RawByteStr n_hashes
     else RawCStr n_hashes
 
 abbrev pub kind_of : CToken → TokenKind
@@ -40,10 +49,12 @@ kind_of token =
     else if nat_eq token.kind 4 then Frontmatter (is_set token.first) (is_set token.second)
     else if nat_eq token.kind 5 then Ident
     else if nat_eq token.kind 6 then InvalidIdent
+    else if nat_eq token.kind 7 then RawIdent
     else if nat_eq token.kind 9 then UnknownPrefix
     else if nat_eq token.kind 10 then UnknownPrefixLifetime
+    else if nat_eq token.kind 11 then RawLifetime
     else if nat_eq token.kind 12 then GuardedStrPrefix
-    else if nat_eq token.kind 13 then Literal (literal_of token) 0
-    else if nat_eq token.kind 11 || nat_eq token.kind 14 then Lifetime (is_set token.first)
+    else if nat_eq token.kind 13 then Literal (literal_of token) token.suffix_start
+    else if nat_eq token.kind 14 then Lifetime (is_set token.first)
     else if nat_eq token.kind 42 then Unknown
     else Whitespace

@@ -70,14 +70,16 @@ fn kind_of(token: &CToken) -> TokenKind
         },
         5 => TokenKind::Ident,
         6 => TokenKind::InvalidIdent,
+        7 => TokenKind::RawIdent,
         9 => TokenKind::UnknownPrefix,
         10 => TokenKind::UnknownPrefixLifetime,
+        11 => TokenKind::RawLifetime,
         12 => TokenKind::GuardedStrPrefix,
         13 => TokenKind::Literal {
             kind: literal_of(token),
-            suffix_start: 0,
+            suffix_start: token.suffix_start,
         },
-        11 | 14 => TokenKind::Lifetime {
+        14 => TokenKind::Lifetime {
             starts_with_number: first,
         },
         42 => TokenKind::Unknown,
@@ -89,7 +91,7 @@ fn kind_of(token: &CToken) -> TokenKind
 fn literal_of(token: &CToken) -> LiteralKind
     ensures { result ≡ spec.literal_of token.now }
 {
-    let base = Base::Decimal;
+    let base = base_of(token.second);
     let (terminated, empty) = (token.second != 0, token.third != 0);
     let n_hashes = if terminated { Some(token.third) } else { None };
     match token.first {
@@ -103,8 +105,22 @@ fn literal_of(token: &CToken) -> LiteralKind
         },
         3 => LiteralKind::Char { terminated },
         4 => LiteralKind::Byte { terminated },
-        5..=7 => LiteralKind::Str { terminated },
+        5 | 7 => LiteralKind::Str { terminated },
+        6 => LiteralKind::ByteStr { terminated },
         8 => LiteralKind::RawStr { n_hashes },
+        9 => LiteralKind::RawByteStr { n_hashes },
         _ => LiteralKind::RawCStr { n_hashes },
+    }
+}
+
+/// Returns the base with this number.
+fn base_of(number: u8) -> Base
+    ensures { result ≡ spec.base_of number }
+{
+    match number {
+        2 => Base::Binary,
+        8 => Base::Octal,
+        10 => Base::Decimal,
+        _ => Base::Hexadecimal,
     }
 }

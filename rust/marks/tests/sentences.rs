@@ -3,7 +3,7 @@
 use marks::{Edition, Style, write_marked};
 
 /// What is written of texts: each of these without its sentences.
-const WRITTEN: [&str; 48] = [
+const WRITTEN: [&str; 79] = [
     "a /* b [<- nothing closes this comment]",
     " --- [<- white space comes before this frontmatter, which begins its line]\n---\n",
     "---a b [<- the first line of this frontmatter holds more than a name]\n---\n",
@@ -52,6 +52,37 @@ const WRITTEN: [&str; 48] = [
     "\"a\\ [<- more than one line end is skipped here]\n\n b\"",
     "\"a\\ [<- not all white space after this line end is skipped: spaces, tabs and line ends are]\n\u{a0}b\"",
     "\"\\q [<- nothing closes this string]",
+    "r\"a [<- nothing closes this raw string: a quote would]",
+    "0b12u8 [<- this number has a digit that its base does not have];",
+    "0b1_01u8;",
+    "0o1_8 [<- this number has a digit that its base does not have];",
+    "0o17u9;",
+    "0x1.5 [<- only a decimal number has a point or an exponent];",
+    "0b12e3 [<- only a decimal number has a point or an exponent];",
+    "0b1f32 1.5e3",
+    "r#self [<- this word cannot be a raw name]",
+    "r#Self [<- this word cannot be a raw name]",
+    "r#super [<- this word cannot be a raw name]",
+    "r#crate [<- this word cannot be a raw name]",
+    "r#_ [<- this word cannot be a raw name]",
+    "'r#self [<- this word cannot be a raw name]",
+    "'r#_ [<- this word cannot be a raw name]",
+    "r#as 'r#static r#_a selfr",
+    "\"a\"_ [<- an underscore alone is no suffix]",
+    "b'a'_ [<- an underscore alone is no suffix]",
+    "cr#\"a\"#_ [<- an underscore alone is no suffix]",
+    "\"a\"__ 'a'_a 1_ 1.0_ 0b1_",
+    "/// a [<- a doc comment cannot hold a carriage return that no newline follows]\rb",
+    "/** a [<- a doc comment cannot hold a carriage return that no newline follows]\rb */",
+    "/// a\r\n/** a\r\n*/ // a\rb\n/* a\rb */ /*** a\rb */",
+    "--- [<- a frontmatter cannot hold a carriage return that no newline follows]\na\rb\n---\n",
+    "---\na\r\nb\n---\n",
+    "// \u{202e} [<- a character here turns the direction of text, so that code looks other than it is]",
+    "/** \u{2066} */ [<- a character here turns the direction of text, so that code looks other than it is]",
+    "'\u{2069}' [<- a character here turns the direction of text, so that code looks other than it is]",
+    "cr\"\u{202a}\" [<- a character here turns the direction of text, so that code looks other than it is]",
+    "// \u{2029}\u{202f}\u{2065}\u{206a} \\u{202e}",
+    "b\"a\u{202e} [<- this character is not in ASCII, and so is no byte]\"",
 ];
 
 /// What is written without its sentences.
@@ -70,7 +101,10 @@ fn each_fault_has_its_sentence() {
     let hashes = "#".repeat(256);
     let sentence = "a raw string has at most 255 hashes on each side, and this one 256";
     let many = format!("r{hashes}\"a\"{hashes} [<- {sentence}]");
-    for wanted in WRITTEN.into_iter().chain([&*many]) {
+    let dashes = "-".repeat(256);
+    let sentence = "a frontmatter has at most 255 dashes on each side, and this one 256";
+    let long = format!("{dashes} [<- {sentence}]\n{dashes}\n");
+    for wanted in WRITTEN.into_iter().chain([&*many, &long]) {
         let (text, mut written) = (text_of(wanted), String::new());
         write_marked(Style::NoColours, Edition::E2024, &text, &mut written).unwrap();
         assert_eq!(written, wanted);

@@ -2,6 +2,7 @@
 //! The faults of tokens.
 
 use crate::erased::frontmatter::end_fault;
+use crate::erased::text_fault::text_fault;
 use core::fmt;
 use rustc_lexer::erased::{LiteralKind, RawStrError, TokenKind, starts_raw, validate_raw_str};
 use rustc_literal_escaper::erased::EscapeError;
@@ -60,6 +61,22 @@ pub enum Fault {
     ManyHashes { found: u32 },
     /// Something is wrong between the quotes of a literal.
     InLiteral(EscapeError),
+    /// A number of base 2 or 8 has a digit that its base does not have.
+    WrongDigit,
+    /// A number of another base than ten has a point or an exponent.
+    FloatOfBase,
+    /// The word after `r#` or `'r#` is `self`, `Self`, `super`, `crate` or `_`.
+    RawKeyword,
+    /// The suffix of a literal is `_`.
+    UnderscoreSuffix,
+    /// A doc comment holds a carriage return that no newline follows.
+    DocReturn,
+    /// A frontmatter holds a carriage return that no newline follows.
+    FrontmatterReturn,
+    /// A frontmatter has more than 255 dashes on each side.
+    ManyDashes { found: u32 },
+    /// A comment or a literal holds a character that turns the direction of text.
+    TextDirection,
 }
 
 impl Fault {
@@ -89,6 +106,14 @@ impl Fault {
             Fault::FewHashes { .. } => 21,
             Fault::ManyHashes { .. } => 22,
             Fault::InLiteral(_) => 23,
+            Fault::WrongDigit => 24,
+            Fault::FloatOfBase => 25,
+            Fault::RawKeyword => 26,
+            Fault::UnderscoreSuffix => 27,
+            Fault::DocReturn => 28,
+            Fault::FrontmatterReturn => 29,
+            Fault::ManyDashes { .. } => 30,
+            Fault::TextDirection => 31,
         }
     }
 }
@@ -96,6 +121,14 @@ impl Fault {
 /// Returns what is wrong with a token, by its kind and its text. Returns `None` if nothing is wrong. If two things are, it
 /// returns one.
 pub fn fault_of(kind: TokenKind, text: &str) -> Option<Fault> {
+    match kind_fault(kind, text) {
+        None => text_fault(kind, text),
+        fault => fault,
+    }
+}
+
+/// Returns what the kind of a token says to be wrong, or `None` if it says nothing.
+fn kind_fault(kind: TokenKind, text: &str) -> Option<Fault> {
     match kind {
         TokenKind::BlockComment {
             terminated: false, ..
@@ -204,6 +237,24 @@ const OPEN_STRING: &str = "nothing closes this string";
 
 const RAW_STARTER: &str = "no quote follows: a raw string begins with hashes and a quote";
 
+const OPEN_PLAIN_RAW_STRING: &str = "nothing closes this raw string: a quote would";
+
+const WRONG_DIGIT: &str = "this number has a digit that its base does not have";
+
+const FLOAT_OF_BASE: &str = "only a decimal number has a point or an exponent";
+
+const RAW_KEYWORD: &str = "this word cannot be a raw name";
+
+const UNDERSCORE_SUFFIX: &str = "an underscore alone is no suffix";
+
+const DOC_RETURN: &str = "a doc comment cannot hold a carriage return that no newline follows";
+
+const FRONTMATTER_RETURN: &str =
+    "a frontmatter cannot hold a carriage return that no newline follows";
+
+const TEXT_DIRECTION: &str =
+    "a character here turns the direction of text, so that code looks other than it is";
+
 impl fmt::Display for Fault {
     fn fmt(&self, f: &mut fmt::Formatter) -> fmt::Result {
         match self {
@@ -226,6 +277,16 @@ impl fmt::Display for Fault {
             Fault::OpenString => f.write_str(OPEN_STRING),
             Fault::RawStarter => f.write_str(RAW_STARTER),
             Fault::InLiteral(error) => error.fmt(f),
+            Fault::WrongDigit => f.write_str(WRONG_DIGIT),
+            Fault::FloatOfBase => f.write_str(FLOAT_OF_BASE),
+            Fault::RawKeyword => f.write_str(RAW_KEYWORD),
+            Fault::UnderscoreSuffix => f.write_str(UNDERSCORE_SUFFIX),
+            Fault::DocReturn => f.write_str(DOC_RETURN),
+            Fault::FrontmatterReturn => f.write_str(FRONTMATTER_RETURN),
+            Fault::TextDirection => f.write_str(TEXT_DIRECTION),
+            Fault::OpenRawString { expected } if *expected == 0 => {
+                f.write_str(OPEN_PLAIN_RAW_STRING)
+            }
             Fault::OpenRawString { expected } => write!(
                 f,
                 "nothing closes this raw string: a quote and {expected} # would"
@@ -245,6 +306,10 @@ impl fmt::Display for Fault {
             Fault::ManyHashes { found } => write!(
                 f,
                 "a raw string has at most 255 hashes on each side, and this one {found}"
+            ),
+            Fault::ManyDashes { found } => write!(
+                f,
+                "a frontmatter has at most 255 dashes on each side, and this one {found}"
             ),
         }
     }

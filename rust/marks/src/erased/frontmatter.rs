@@ -37,7 +37,7 @@ fn closing_fault(opening: usize, line: &[u8]) -> Option<Fault> {
 }
 
 /// Returns how many of these bytes come first.
-fn run_of(these: &[u8], bytes: &[u8]) -> usize {
+pub fn run_of(these: &[u8], bytes: &[u8]) -> usize {
     let mut count = 0;
     while count < bytes.len() {
         if !these.contains(&bytes[count]) {

@@ -1,0 +1,187 @@
+//! The faults in the text of a token, of which its kind says nothing.
+ghost use Rattle.std.specs.Prelude.{◌≡◌, drop};
+ghost use Rattle.std.specs.List.{between, list_any};
+ghost use Rattle.std.specs.Str.{chars};
+ghost use Rattle.rustc_lexer.specs.Classes.{Fits};
+ghost use Rattle.marks.specs.TextFault as spec;
+
+use crate::fault::Fault;
+use crate::frontmatter::run_of;
+use memchr::memchr;
+use rustc_lexer::{Base, DocStyle, LiteralKind, TokenKind};
+
+/// Returns what is wrong with the text of a token whose kind says nothing of it, or `None` if nothing is.
+pub fn text_fault(kind: TokenKind, text: &str) -> Option<Fault>
+    requires fits { Fits text.now }
+    ensures { result ≡ spec.text_fault kind text.now }
+{
+    match kind {
+        TokenKind::LineComment { doc_style } | TokenKind::BlockComment { doc_style, .. } => {
+            comment_fault(doc_style, text)
+        }
+        TokenKind::Frontmatter { .. } => frontmatter_fault(text),
+        TokenKind::RawIdent | TokenKind::RawLifetime => raw_name_fault(text),
+        TokenKind::Literal { kind, suffix_start } => {
+            literal_text_fault(kind, suffix_start as usize, text)
+        }
+        _ => None,
+    }
+}
+
+/// Returns what is wrong in a comment, or `None` if nothing is.
+fn comment_fault(doc_style: Option<DocStyle>, text: &str) -> Option<Fault>
+    requires fits { Fits text.now }
+    ensures { result ≡ spec.comment_fault doc_style text.now }
+{
+    match doc_style {
+        None => direction_fault(text),
+        Some(_) if has_bare_return(text.as_bytes()) => Some(Fault::DocReturn),
+        Some(_) => direction_fault(text),
+    }
+}
+
+/// Returns what is wrong in a frontmatter, or `None` if nothing is.
+fn frontmatter_fault(text: &str) -> Option<Fault>
+    requires fits { Fits text.now }
+    ensures { result ≡ spec.frontmatter_fault text.now }
+{
+    if has_bare_return(text.as_bytes()) {
+        return Some(Fault::FrontmatterReturn);
+    }
+    let dashes = run_of(b"-", text.as_bytes());
+    if dashes > 255 {
+        return Some(Fault::ManyDashes {
+            found: dashes as u32,
+        });
+    }
+    None
+}
+
+/// Returns whether a carriage return is bare: a byte follows it that is no newline.
+#[tactic(auto, using(crate::proofs::TextFaultLemmas::bare_on, crate::proofs::TextFaultLemmas::bare_here, crate::proofs::TextFaultLemmas::bare_nowhere, crate::proofs::TextFaultLemmas::rest_fits, std::proofs::lemmas::Grind::common_steps))]
+fn has_bare_return(bytes: &[u8]) -> bool
+    requires fits { Fits bytes.now }
+    ensures { result ≡ spec.has_bare_return bytes.now }
+{
+    let mut rest = bytes;
+    while let Some(at) = memchr(b'\r', rest) {
+        rest = &rest[at + 1..];
+        if goes_on(rest) {
+            return true;
+        }
+    }
+    false
+}
+
+/// Returns whether a byte comes that is no newline.
+#[tactic(auto, using(crate::proofs::TextFaultLemmas::first_goes_on))]
+fn goes_on(bytes: &[u8]) -> bool
+    ensures { result ≡ spec.goes_on bytes.now }
+{
+    !bytes.is_empty() && bytes[0] != b'\n'
+}
+
+/// Returns the fault of a text in which a character turns the direction, or `None` if none does.
+#[tactic(auto, using(crate::proofs::TextFaultLemmas::ascii_stays))]
+fn direction_fault(text: &str) -> Option<Fault>
+    ensures { result ≡ spec.direction_fault text.now }
+{
+    // Most texts: few characters are outside of ASCII.
+    if text.is_ascii() {
+        return None;
+    }
+    if has_turn(text) {
+        return Some(Fault::TextDirection);
+    }
+    None
+}
+
+/// Returns whether a text has a character that turns the direction.
+fn has_turn(text: &str) -> bool
+    ensures { result ≡ list_any spec.turns_direction (chars text.now) }
+{
+    text.chars().any(turns_direction)
+}
+
+/// Returns whether a character turns the direction of text.
+fn turns_direction(c: char) -> bool
+    ensures { result ≡ spec.turns_direction c }
+{
+    matches!(c, '\u{202a}'..='\u{202e}' | '\u{2066}'..='\u{2069}')
+}
+
+/// The words that cannot be raw, as names and as lifetimes.
+const NEVER_RAW: [&str; 10] = [
+    "r#self", "r#Self", "r#super", "r#crate", "r#_", "'r#self", "'r#Self", "'r#super", "'r#crate",
+    "'r#_",
+];
+
+/// Returns what is wrong with a raw name, or `None` if nothing is.
+fn raw_name_fault(text: &str) -> Option<Fault>
+    ensures { result ≡ spec.raw_name_fault text.now }
+{
+    if NEVER_RAW.contains(&text) {
+        return Some(Fault::RawKeyword);
+    }
+    None
+}
+
+/// Returns what is wrong with a literal whose suffix begins at this place, or `None` if nothing is.
+fn literal_text_fault(kind: LiteralKind, suffix_start: usize, text: &str) -> Option<Fault>
+    ensures { result ≡ spec.literal_text_fault kind suffix_start text.now }
+{
+    match kind {
+        LiteralKind::Int {
+            base: Base::Binary,
+            ..
+        } => digit_fault(b"01_", digits_of(suffix_start, text.as_bytes())),
+        LiteralKind::Int {
+            base: Base::Octal,
+            ..
+        } => digit_fault(b"01234567_", digits_of(suffix_start, text.as_bytes())),
+        LiteralKind::Int { .. }
+        | LiteralKind::Float {
+            base: Base::Decimal,
+            ..
+        } => None,
+        LiteralKind::Float { .. } => Some(Fault::FloatOfBase),
+        LiteralKind::Byte { .. } | LiteralKind::ByteStr { .. } | LiteralKind::RawByteStr { .. } => {
+            suffix_fault(suffix_start, text.as_bytes())
+        }
+        _ => match suffix_fault(suffix_start, text.as_bytes()) {
+            None => direction_fault(text),
+            fault => fault,
+        },
+    }
+}
+
+/// Returns the digits of a number between the prefix of its base and its suffix.
+#[tactic(auto, using(crate::proofs::TextFaultLemmas::digits_here))]
+fn digits_of(suffix_start: usize, text: &[u8]) -> &[u8]
+    ensures { result.now ≡ between 2 suffix_start text.now }
+{
+    let end = suffix_start.min(text.len());
+    &text[end.min(2)..end]
+}
+
+/// Returns what is wrong with digits, of which the base has these, or `None` if nothing is.
+fn digit_fault(these: &[u8], digits: &[u8]) -> Option<Fault>
+    ensures { result ≡ spec.digit_fault these.now digits.now }
+{
+    if run_of(these, digits) == digits.len() {
+        return None;
+    }
+    Some(Fault::WrongDigit)
+}
+
+/// Returns what is wrong with the suffix of a literal, or `None` if nothing is.
+#[tactic(auto, using(crate::proofs::TextFaultLemmas::suffix_here))]
+fn suffix_fault(suffix_start: usize, text: &[u8]) -> Option<Fault>
+    ensures { result ≡ spec.suffix_fault (drop suffix_start text.now) }
+{
+    let suffix = &text[suffix_start.min(text.len())..];
+    if suffix.len() == 1 && suffix[0] == b'_' {
+        return Some(Fault::UnderscoreSuffix);
+    }
+    None
+}
