@@ -95,7 +95,8 @@ pub type LexedText<S = Steps> = Lexed<Text, S>;
 /// ```
 ///
 /// The first of its pieces begins at [`shebang_len`](LexedDocument::shebang_len). A shebang line is not a piece: if an
-/// edit changes it, `kept_front` is 0, and the text before the first piece is to be repainted too.
+/// edit changes it, `kept_front` is 0, and the text before the first piece is to be repainted too. A byte order mark in
+/// front of it is a piece, `Unknown`, and hides it and a frontmatter.
 pub type LexedDocument<S = Steps> = Lexed<Document, S>;
 
 /// How much of a file a text is: [`Text`] or [`Document`], and nothing else.

@@ -237,7 +237,7 @@ pub fn tokenize_as(
 }
 
 /// Returns the tokens of a whole file in an edition, in order: those of the text after its shebang line, which may
-/// begin with a frontmatter.
+/// begin with a frontmatter. Take a byte order mark off first: it is an `Unknown` token, and hides both.
 ///
 /// The shebang line is not a token, so the first token begins where it ends:
 ///
