@@ -326,8 +326,8 @@ enum {
 /* Styles of marks. */
 enum {
     RUSTC_LEXER_STYLE_HTML = 1,      /* HTML tags, with entities in the text */
-    RUSTC_LEXER_STYLE_COLOURS = 2,   /* escape sequences of a terminal */
-    RUSTC_LEXER_STYLE_NO_COLOURS = 3 /* only the messages about errors */
+    RUSTC_LEXER_STYLE_COLOURS = 2,   /* escape sequences of a terminal, control characters as symbols */
+    RUSTC_LEXER_STYLE_NO_COLOURS = 3 /* only the messages about errors, and these symbols */
 };
 
 /* Returns RUSTC_LEXER_OK if the text is UTF-8 and short enough, otherwise the status that other calls return for it. */

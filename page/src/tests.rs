@@ -289,6 +289,14 @@ fn calls_of_the_page() {
     answered(crate::change(4, false, NEWEST));
     let listed = answered(crate::listing(NEWEST));
     assert_eq!(listed, "0 3 Unknown\n3 1 Ident\n");
+    // What HTML has as an entity is of the text, too.
+    // SAFETY: the room has three bytes.
+    unsafe { crate::room(3).copy_from("\0\r<".as_ptr(), 3) };
+    answered(crate::change(3, false, NEWEST));
+    has(
+        &answered(crate::show(0, 1, 0, NEWEST)),
+        r#"[[" wrong","\u0000"],["","\u000d<"]]"#,
+    );
     // Each line is shown, however many are asked for.
     let long = "a\n".repeat(150);
     // SAFETY: the room has so many bytes.

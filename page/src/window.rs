@@ -123,6 +123,8 @@ impl Window {
         self.put(match &entity[1..] {
             "amp" => '&',
             "lt" => '<',
+            "#13" => '\r',
+            "#0" => '\0',
             _ => '>',
         });
     }

@@ -10,7 +10,7 @@ use Rattle.highlight_run.specs.declared.job.Options.{Options}
 use Rattle.highlight_run.specs.declared.job.When.{When}
 use Rattle.highlight_run.specs.declared.job.When.TheVariants.{Auto, Always, Never}
 use Rattle.marks.specs.declared.style.Style.{Style}
-use Rattle.marks.specs.declared.style.Style.TheVariants.{Html, Colours, NoColours}
+use Rattle.marks.specs.declared.style.Style.TheVariants.{Html, Colours, NoColours, Raw}
 
 -- when colours are written
 abbrev pub when_of : List ℕ → Option When
@@ -21,15 +21,16 @@ when_of word =
     else None))
 
 abbrev pub no_options : Options
-no_options = record { html = false; edition = None; color = None }
+no_options = record { form = None; edition = None; color = None }
 
 -- the options with one more; none where that one stands already
-abbrev pub page : Options → Option Options
-page options = if options.html then None else Some record options { html = true }
-
 abbrev pub unless_given : {T : Type 0} → Option T → Options → Option Options
 unless_given None options = Some options
 unless_given (Some x) options = None
+
+-- a page or raw text, of which only one may stand
+abbrev pub in_form : Options → Style → Option Options
+in_form options style = unless_given options.form record options { form = Some style }
 
 abbrev pub in_edition : Options → Edition → Option Options
 in_edition options edition =
@@ -63,11 +64,12 @@ with_value options name value =
 -- the options with the one that a word writes by itself; none where its value is another word
 abbrev pub with_word : Options → List ℕ → Option (Option Options)
 with_word options word =
-    if bytes_eq word (codes "--html") then Some (page options)
+    if bytes_eq word (codes "--html") then Some (in_form options Html)
+    else (if bytes_eq word (codes "--raw") then Some (in_form options Raw)
     else (if bytes_eq word (codes "--color=auto") then Some (with_colours options Auto)
     else (if bytes_eq word (codes "--color=always") then Some (with_colours options Always)
     else (if bytes_eq word (codes "--color=never") then Some (with_colours options Never)
-    else None)))
+    else None))))
 
 -- the options that follow on those of a word, or else on its value
 abbrev pub by_word : Option (Option Options) → List ℕ → (Options → Result Options (List ℕ))
@@ -96,8 +98,7 @@ coloured (Some Never) colours = false
 
 abbrev pub style_of : Options → Bool → Style
 style_of options colours =
-    if options.html then Html
-    else (if coloured options.color colours then Colours else NoColours)
+    unwrap_or options.form (if coloured options.color colours then Colours else NoColours)
 
 -- to show a text by options: where no edition is named it is the newest one
 abbrev pub show : Bool → Options → Job

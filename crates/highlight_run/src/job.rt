@@ -1,6 +1,6 @@
 //! What a run has to do, as its arguments say.
 ghost use Rattle.std.specs.Prelude.{◌≡◌, None, map, string_bytes, IfErr, IfOk, Ok, Err};
-ghost use Rattle.highlight_run.specs.Job.{in_edition, job_alone, job_of, options_of, page, style_of, when_of, with_colours, with_value, with_word};
+ghost use Rattle.highlight_run.specs.Job.{in_edition, in_form, job_alone, job_of, options_of, style_of, when_of, with_colours, with_value, with_word};
 
 use marks::Style;
 use rustc_lexer::Edition;
@@ -30,14 +30,14 @@ enum When {
 /// The options that were given, and `None` for each of the others.
 #[derive(Clone, Copy)]
 struct Options {
-    html: bool,
+    form: Option<Style>,
     edition: Option<Edition>,
     color: Option<When>,
 }
 
 /// No option.
 const NO_OPTIONS: Options = Options {
-    html: false,
+    form: None,
     edition: None,
     color: None,
 };
@@ -108,7 +108,9 @@ fn with_word(options: Options, word: &str) -> Option<Option<Options>>
     ensures { result ≡ with_word options word.now }
 {
     if word == "--html" {
-        Some(page(options))
+        Some(in_form(options, Style::Html))
+    } else if word == "--raw" {
+        Some(in_form(options, Style::Raw))
     } else if word == "--color=auto" {
         Some(with_colours(options, When::Auto))
     } else if word == "--color=always" {
@@ -136,12 +138,12 @@ fn with_value<'a>(options: Options, name: &'a str, value: &'a str) -> Result<Opt
     }
 }
 
-/// Adds `--html`. Returns `None` if it is there already.
-fn page(options: Options) -> Option<Options>
-    ensures { result ≡ page options }
+/// Adds `--html` or `--raw`. Returns `None` if one of these is there already.
+fn in_form(options: Options, style: Style) -> Option<Options>
+    ensures { result ≡ in_form options style }
 {
-    (!options.html).then_some(Options {
-        html: true,
+    options.form.is_none().then_some(Options {
+        form: Some(style),
         ..options
     })
 }
@@ -170,8 +172,8 @@ fn with_colours(options: Options, when: When) -> Option<Options>
 fn style_of(options: Options, colours: bool) -> Style
     ensures { result ≡ style_of options colours }
 {
-    if options.html {
-        return Style::Html;
+    if let Some(style) = options.form {
+        return style;
     }
     let coloured = match options.color {
         None | Some(When::Auto) => colours,

@@ -73,7 +73,7 @@ fn head(style: Style) -> &'static str
 {
     match style {
         Style::Html => HEAD,
-        Style::Colours | Style::NoColours => "",
+        Style::Colours | Style::NoColours | Style::Raw => "",
     }
 }
 
@@ -83,6 +83,6 @@ fn foot(style: Style) -> &'static str
 {
     match style {
         Style::Html => FOOT,
-        Style::Colours | Style::NoColours => "",
+        Style::Colours | Style::NoColours | Style::Raw => "",
     }
 }

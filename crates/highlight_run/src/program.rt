@@ -20,13 +20,14 @@ use std::io::{ErrorKind, Read, Write};
 /// The usage.
 const HELP: &str = "highlight < FILE           writes a Rust source in the colours of a terminal
 highlight --html < FILE    writes it as a page
+highlight --raw < FILE     writes it with its control characters, which a terminal obeys, and with no colours
 highlight --help, -h       writes these lines
 highlight --version, -V    writes the version
 With --edition YEAR the source is read as Rust of 2015, 2018, 2021 or 2024.
 With --color always there are colours, with --color never there are none, and with --color auto there are colours
 where the output is a terminal, NO_COLOR is not set, or empty, and TERM is not dumb. That is so too where --color is
 not given. --color=never and its like are taken, too.
-Options stand in any order, each once. A page has its own colours, whatever --color says.
+Options stand in any order, each once, and --html or --raw alone. A page has its own colours, whatever --color says.
 A token with a fault is underlined in its first line, with a sentence behind it that says what is wrong.
 ";
 
@@ -128,7 +129,7 @@ fn show<R: Read, W: Write>(
 
 /// What is said behind a word that is refused.
 const TAKEN: &str =
-    "'; it takes a source on standard input, --html, --edition 2015, 2018, 2021 or 2024, \
+    "'; it takes a source on standard input, as < FILE does, --html or --raw, --edition 2015, 2018, 2021 or 2024, \
     --color auto, always or never, --help, --version";
 
 /// Returns whether to write colours if no argument says so, by the values of `NO_COLOR` and `TERM`.

@@ -8,4 +8,5 @@ pub mod LiteralMarkLemmas
 pub mod MarkedLemmas
 pub mod PartLemmas
 pub mod PlaceLemmas
+pub mod ScreenLemmas
 pub mod TextFaultLemmas

@@ -1,6 +1,11 @@
 -- What a marked text says, and the calls that write it.
-use Rattle.std.proofs.Common.{◌≡◌, ℕ, List, [], ◌∷◌, length, take, drop, refl, ap, ◌∙◌, arith, take-add, Option, append-nil}
+use Rattle.std.proofs.Common.{◌≡◌, ℕ, ◌+◌, ◌-◌, ◌==◌, inl, inr, List, [], ◌∷◌, ◌++◌, length, take, drop, refl, ap, subst, ◌∙◌, arith, take-add, take-append-drop, Option, append-nil}
 use Rattle.std.specs.Fmt.{WritesInCalls}
+use Rattle.std.specs.Prelude.{OnOk, Result}
+use Rattle.std.specs.Char.{encode_utf8, len_utf8}
+use Rattle.std.specs.Str.{IsCharBoundary, IsUtf8, chars}
+use Rattle.std.proofs.lemmas.Bool.{cases_Bool, eqb-true}
+use Rattle.std.proofs.lemmas.Str.{IsCharBoundary-past_char, IsCharBoundary-start}
 use Rattle.std.proofs.lemmas.List.Concat.{flat_map-append}
 use Rattle.std.proofs.lemmas.Grind.{common_steps}
 use Rattle.rustc_lexer.specs.declared.edition.Edition.{Edition}
@@ -9,12 +14,12 @@ use Rattle.rustc_lexer.specs.Document.{document_tokens, shebang_len}
 use Rattle.rustc_lexer.specs.Tokens.{bound, Partitions}
 use Rattle.rustc_literal_escaper.specs.declared.mode.Mode.{Mode}
 use Rattle.marks.specs.declared.class.Class.{Class}
-use Rattle.marks.specs.declared.class.Class.TheVariants.{Comment}
+use Rattle.marks.specs.declared.class.Class.TheVariants.{Comment, Plain}
 use Rattle.marks.specs.declared.fault.Fault.{Fault}
 use Rattle.marks.specs.declared.style.Style.{Style}
 use Rattle.marks.specs.declared.style.Style.TheVariants.{Html}
 use Rattle.marks.specs.Escape.{unescaped, untagged}
-use Rattle.marks.specs.Marked.{marked, marked_tokens, parts, parts_by, text_parts, token_parts}
+use Rattle.marks.specs.Marked.{document_parts, mark_len, marked, marked_tokens, parts, parts_by, text_parts, token_parts}
 use Rattle.marks.specs.Part.{Own, own, with_marks, without_marks}
 use Rattle.marks.proofs.EscapeLemmas.{unescaped_escaped}
 use Rattle.marks.proofs.LiteralLemmas.{without_literal}
@@ -28,10 +33,27 @@ without_marks-parts : (text : List ℕ) (tokens : List Token) → without_marks 
 without_marks-parts text [] = refl
 without_marks-parts text (token ∷ tokens) = grind (arith, common_steps, flat_map-append, without_token, take-add, without_marks-parts (drop token.len text) tokens)
 
--- without the marks, a text is as it was, and so it is on a page
-module _ (edition : Edition) (text : List ℕ) (cut : Partitions (drop (shebang_len text) text) (document_tokens edition text)) where
+-- without the marks, a document is as it was
+pub document_is : (edition : Edition) (text : List ℕ) → Partitions (drop (shebang_len text) text) (document_tokens edition text) → without_marks (document_parts edition text) ≡ text
+document_is edition text cut = grind (arith, common_steps, without_marks-parts)
+
+-- a text may be cut past its byte order mark
+pub past_mark : (text rest : List ℕ) (c : ℕ) → IsUtf8 text → chars text ≡ c ∷ chars rest → text ≡ encode_utf8 c ++ rest → IsCharBoundary text (mark_len text)
+past_mark text rest c utf8 reads is = elim (cases_Bool (c == 0xFEFF)) [
+  | inl at ↦ rw (reads, at) (subst (λ (d : ℕ). IsCharBoundary text (0 + len_utf8 d)) (eqb-true c 0xFEFF at) (IsCharBoundary-past_char text rest 0 c (omega arith) utf8 is))
+  | inr apart ↦ rw (reads, apart) (IsCharBoundary-start text utf8)
+]
+
+pub no_mark : (text : List ℕ) → IsUtf8 text → chars text ≡ [] → IsCharBoundary text (mark_len text)
+no_mark text utf8 none = rw none (IsCharBoundary-start text utf8)
+
+-- so a text is as it was, and so it is on a page
+module _ (edition : Edition) (text rest : List ℕ) (n : ℕ) (is : n ≡ mark_len text) (past : rest ≡ drop n text) (same : without_marks (document_parts edition rest) ≡ rest) where
   pub text_is : without_marks (text_parts edition text) ≡ text
-  text_is = grind (arith, common_steps, without_marks-parts)
+  text_is =
+      let is_rest : rest ≡ drop (mark_len text) text = past ∙ ap (λ (k : ℕ). drop k text) is in
+      let left = subst (λ (bs : List ℕ). without_marks (document_parts edition bs) ≡ bs) is_rest same in
+      ap (λ (bs : List ℕ). take (mark_len text) text ++ bs) left ∙ take-append-drop (mark_len text) text
 
   pub page_is : unescaped (untagged (marked Html edition text)) ≡ text
   page_is = ap unescaped (shows (text_parts edition text)) ∙ (unescaped_escaped (without_marks (text_parts edition text)) ∙ text_is)
@@ -46,8 +68,20 @@ module _ {W : Type 0} (took : W → List ℕ → W → Type 0) where
       → WritesInCalls took w1 (marked_tokens style rest others) w → WritesInCalls took w0 (marked_tokens style text left) w
   writes_token style w0 w1 w text rest own left others token first past is wrote more = grind (arith, common_steps, writes_parts)
 
-  -- the shebang line, and then the tokens of what follows it
-  pub writes_past : (style : Style) (edition : Edition) (w v u : W) (text : List ℕ)
-      → WritesInCalls took w (with_marks style (Own Comment (take (shebang_len text) text) ∷ [])) v
-      → WritesInCalls took v (marked_tokens style (drop (shebang_len text) text) (document_tokens edition text)) u → WritesInCalls took w (marked style edition text) u
-  writes_past style edition w v u text first more = writes_parts took style (Own Comment (take (shebang_len text) text) ∷ []) (parts (drop (shebang_len text) text) (document_tokens edition text)) w v u first more
+  -- a byte order mark and the shebang line, and then the tokens of what follows them
+  pub writes_past : (style : Style) (edition : Edition) (w0 w v u : W) (mark text : List ℕ)
+      → WritesInCalls took w0 (with_marks style (Own Plain mark ∷ [])) w → WritesInCalls took w (with_marks style (Own Comment (take (shebang_len text) text) ∷ [])) v
+      → WritesInCalls took v (marked_tokens style (drop (shebang_len text) text) (document_tokens edition text)) u → WritesInCalls took w0 (with_marks style (Own Plain mark ∷ document_parts edition text)) u
+  writes_past style edition w0 w v u mark text before first more =
+      writes_parts took style (Own Plain mark ∷ []) (document_parts edition text) w0 w u before
+      (writes_parts took style (Own Comment (take (shebang_len text) text) ∷ []) (parts (drop (shebang_len text) text) (document_tokens edition text)) w v u first more)
+
+  -- so the byte order mark and the document are the text
+  pub writes_whole : {T E : Type 0} (r : Result T E) (style : Style) (edition : Edition) (text mark rest : List ℕ) (n : ℕ) (w v : W) → n ≡ mark_len text → mark ≡ take (n - 0) text → rest ≡ drop n text
+      → OnOk r (WritesInCalls took w (with_marks style (Own Plain mark ∷ document_parts edition rest)) v) → OnOk r (WritesInCalls took w (marked style edition text) v)
+  writes_whole r style edition text mark rest n w v is front past wrote =
+      let all : n - 0 ≡ n = omega arith in
+      let is_mark : mark ≡ take (mark_len text) text = front ∙ ap (λ (k : ℕ). take k text) (all ∙ is) in
+      let is_rest : rest ≡ drop (mark_len text) text = past ∙ ap (λ (k : ℕ). drop k text) is in
+      subst (λ (m : List ℕ). OnOk r (WritesInCalls took w (with_marks style (Own Plain m ∷ document_parts edition (drop (mark_len text) text))) v)) is_mark
+      (subst (λ (s : List ℕ). OnOk r (WritesInCalls took w (with_marks style (Own Plain mark ∷ document_parts edition s)) v)) is_rest wrote)

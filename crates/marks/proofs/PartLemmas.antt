@@ -76,7 +76,7 @@ module _ {W : Type 0} (took : W → List ℕ → W → Type 0) where
 
   -- a part of the text between the marks of its class
   pub writes_in_class : (style : Style) (class : Class) (text : List ℕ) (w0 w1 w2 w3 : W) (before after : List ℕ) → (length text == 0) ≡ false → before ≡ class_open style class → after ≡ class_close style class
-      → took w0 before w1 → WritesInCalls took w1 (shown style text) w2 → took w2 after w3 → WritesInCalls took w0 (with_marks style (Own class text ∷ [])) w3
+      → took w0 before w1 → WritesInCalls took w1 (shown style class text) w2 → took w2 after w3 → WritesInCalls took w0 (with_marks style (Own class text ∷ [])) w3
   writes_in_class style class [] w0 w1 w2 w3 before after some opens closes a b d = absurd (true≢false some)
   writes_in_class style class (x ∷ xs) w0 w1 w2 w3 before after some opens closes a b d =
       let open_call = subst (λ (bs : List ℕ). took w0 bs w1) opens a in

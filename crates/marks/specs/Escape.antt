@@ -3,19 +3,23 @@ use Rattle.std.specs.Prelude.{ℕ, zero, suc, ◌==◌, Bool, true, false, ◌||
 use Rattle.std.specs.List.{flat_map}
 use Rattle.std.specs.Str.{byte, bytes_eq}
 
--- the bytes that HTML would read as markup
+-- the bytes that HTML would read as markup, as nothing or as the end of a line
 abbrev pub is_special : ℕ → Bool
-is_special b = b == byte "&" || b == byte "<" || b == byte ">"
+is_special b =
+    b == byte "&" || b == byte "<" || b == byte ">" || b == byte "\r" || b == 0
 
--- the entity for `&`, `<` or else `>`
+-- the entity for `&`, `<`, `>` or a carriage return, or else for U+0000
 abbrev pub entity : ℕ → List ℕ
 entity b =
-    if b == byte "&" then codes "&amp;" else (if b == byte "<" then codes "&lt;" else codes "&gt;")
+    if b == byte "&" then codes "&amp;"
+    else (if b == byte "<" then codes "&lt;"
+    else (if b == byte ">" then codes "&gt;"
+    else (if b == byte "\r" then codes "&#13;" else codes "&#0;")))
 
 abbrev pub escaped_byte : ℕ → List ℕ
 escaped_byte b = if is_special b then entity b else b ∷ []
 
--- the text with entities for `&`, `<` and `>`
+-- the text with entities for these bytes
 abbrev pub escaped : List ℕ → List ℕ
 escaped text = flat_map escaped_byte text
 
@@ -32,7 +36,9 @@ unescaped_past zero (b ∷ bs) =
     else (if begins_with (codes "amp;") bs then byte "&" ∷ unescaped_past 4 bs
     else (if begins_with (codes "lt;") bs then byte "<" ∷ unescaped_past 3 bs
     else (if begins_with (codes "gt;") bs then byte ">" ∷ unescaped_past 3 bs
-    else b ∷ unescaped_past 0 bs)))
+    else (if begins_with (codes "#13;") bs then byte "\r" ∷ unescaped_past 4 bs
+    else (if begins_with (codes "#0;") bs then 0 ∷ unescaped_past 3 bs
+    else b ∷ unescaped_past 0 bs)))))
 
 -- the text that these bytes with entities stand for
 abbrev pub unescaped : List ℕ → List ℕ

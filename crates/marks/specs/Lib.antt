@@ -10,6 +10,7 @@ pub mod LiteralMarks
 pub mod Mark
 pub mod Marked
 pub mod Part
+pub mod Screen
 pub mod TextFault
 pub mod laws
 pub mod means

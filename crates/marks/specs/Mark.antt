@@ -4,7 +4,7 @@ use Rattle.marks.specs.declared.class.Class.{Class}
 use Rattle.marks.specs.declared.class.Class.TheVariants.{Plain, Comment, Doc, Keyword, TypeName, Text, Escape, Number, Lifetime}
 use Rattle.marks.specs.declared.fault.Fault.{Fault}
 use Rattle.marks.specs.declared.style.Style.{Style}
-use Rattle.marks.specs.declared.style.Style.TheVariants.{Html, Colours, NoColours}
+use Rattle.marks.specs.declared.style.Style.TheVariants.{Html, Colours, NoColours, Raw}
 use Rattle.marks.specs.Fault.{sentence}
 
 -- an escape sequence, by the characters between its bracket and its last letter
@@ -31,12 +31,14 @@ class_open Colours Escape = sgr (codes "96")
 class_open Colours Number = sgr (codes "36")
 class_open Colours Lifetime = sgr (codes "33")
 class_open NoColours class = []
+class_open Raw class = []
 
 abbrev pub class_close : Style → Class → List ℕ
 class_close style Plain = []
 class_close Html class = codes "</span>"
 class_close Colours class = sgr (codes "0")
 class_close NoColours class = []
+class_close Raw class = []
 
 -- the mark before the first line of a token with an error. In a page it holds the sentence about
 -- the error
@@ -44,6 +46,7 @@ abbrev pub fault_open : Style → Fault → List ℕ
 fault_open Html fault = codes "<mark title=\"" ++ (sentence fault ++ codes "\">")
 fault_open Colours fault = sgr (codes "4;31")
 fault_open NoColours fault = []
+fault_open Raw fault = []
 
 -- that sentence in brackets, so that no code runs into it
 abbrev pub bracketed : Fault → List ℕ
@@ -54,3 +57,4 @@ abbrev pub fault_close : Style → Fault → List ℕ
 fault_close Html fault = codes "</mark>"
 fault_close Colours fault = sgr (codes "0;31") ++ (bracketed fault ++ sgr (codes "0"))
 fault_close NoColours fault = bracketed fault
+fault_close Raw fault = bracketed fault

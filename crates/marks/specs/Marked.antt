@@ -1,11 +1,12 @@
 -- A text with its shebang line and its tokens marked.
-use Rattle.std.specs.Prelude.{ℕ, List, [], ◌∷◌, ◌++◌, take, drop, Option, Some, None}
+use Rattle.std.specs.Prelude.{ℕ, ◌==◌, if◌then◌else◌, slice_index, List, [], ◌∷◌, ◌++◌, take, drop, Option, Some, None}
+use Rattle.std.specs.Str.{chars}
 use Rattle.rustc_lexer.specs.declared.edition.Edition.{Edition}
 use Rattle.rustc_lexer.specs.declared.token.Token.{Token}
 use Rattle.rustc_lexer.specs.declared.token.TokenKind.{TokenKind}
 use Rattle.rustc_lexer.specs.Document.{document_tokens, shebang_len}
 use Rattle.marks.specs.declared.class.Class.{Class}
-use Rattle.marks.specs.declared.class.Class.TheVariants.{Comment}
+use Rattle.marks.specs.declared.class.Class.TheVariants.{Comment, Plain}
 use Rattle.marks.specs.declared.fault.Fault.{Fault}
 use Rattle.marks.specs.declared.style.Style.{Style}
 use Rattle.rustc_literal_escaper.specs.declared.mode.Mode.{Mode}
@@ -34,12 +35,21 @@ parts text [] = []
 parts text (token ∷ tokens) =
     token_parts token.kind (take token.len text) ++ parts (drop token.len text) tokens
 
--- the parts of a whole text: its shebang line as a comment, and the tokens of the text after it,
--- which is a document in an edition
-abbrev pub text_parts : Edition → List ℕ → List Part
-text_parts edition text =
+-- the parts of a document in an edition: its shebang line as a comment, and the tokens of the text
+-- after it
+abbrev pub document_parts : Edition → List ℕ → List Part
+document_parts edition text =
     Own Comment (take (shebang_len text) text)
     ∷ parts (drop (shebang_len text) text) (document_tokens edition text)
+
+-- the length of the byte order mark, U+FEFF, that a text begins with, or 0
+abbrev pub mark_len : List ℕ → ℕ
+mark_len text = if slice_index (chars text) 0 == 0xFEFF then 3 else 0
+
+-- the parts of a whole text: its byte order mark, and the document behind that
+abbrev pub text_parts : Edition → List ℕ → List Part
+text_parts edition text =
+    Own Plain (take (mark_len text) text) ∷ document_parts edition (drop (mark_len text) text)
 
 -- the tokens of a text, each between its marks, as they are written
 abbrev pub marked_tokens : Style → List ℕ → List Token → List ℕ

@@ -1,12 +1,13 @@
 -- A part of a text, between the marks of its class and of its error.
 use Rattle.std.specs.Prelude.{ℕ, ◌==◌, Bool, ◌||◌, List, [], ◌∷◌, ◌++◌, take, drop}
 use Rattle.std.specs.List.{flat_map, position_or_len}
-use Rattle.std.specs.Str.{byte}
+use Rattle.std.specs.Str.{byte, chars, encode_utf8_all}
 use Rattle.marks.specs.declared.class.Class.{Class}
 use Rattle.marks.specs.declared.fault.Fault.{Fault}
 use Rattle.marks.specs.declared.style.Style.{Style}
-use Rattle.marks.specs.declared.style.Style.TheVariants.{Html, Colours, NoColours}
+use Rattle.marks.specs.declared.style.Style.TheVariants.{Html, Colours, NoColours, Raw}
 use Rattle.marks.specs.Escape.{escaped}
+use Rattle.marks.specs.Screen.{seen}
 use Rattle.marks.specs.Mark.{class_open, class_close, fault_open, fault_close}
 
 -- a part of a marked text: text in its class, or a mark of an error
@@ -30,17 +31,19 @@ fault_parts fault class text =
     Open fault ∷ Own class (take (first_line text) text)
     ∷ Close fault ∷ Own class (drop (first_line text) text) ∷ []
 
--- text as it is written: with entities in a page, unchanged in a terminal
-abbrev pub shown : Style → List ℕ → List ℕ
-shown Html text = escaped text
-shown Colours text = text
-shown NoColours text = text
+-- text of a class as it is written: with entities in a page, and with symbols for control
+-- characters elsewhere, unless it is to be raw
+abbrev pub shown : Style → Class → List ℕ → List ℕ
+shown Html class text = escaped text
+shown Colours class text = encode_utf8_all (seen class (chars text))
+shown NoColours class text = encode_utf8_all (seen class (chars text))
+shown Raw class text = text
 
 -- a part as it is written: text between the marks of its class; an empty text has no marks
 abbrev pub written : Style → Part → List ℕ
 written style (Own class []) = []
 written style (Own class (b ∷ bs)) =
-    class_open style class ++ (shown style (b ∷ bs) ++ class_close style class)
+    class_open style class ++ (shown style class (b ∷ bs) ++ class_close style class)
 written style (Open fault) = fault_open style fault
 written style (Close fault) = fault_close style fault
 

@@ -10,6 +10,7 @@ mod keyword;
 mod literal;
 mod marked;
 mod part;
+mod screen;
 mod style;
 mod text_fault;
 

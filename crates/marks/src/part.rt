@@ -7,6 +7,7 @@ ghost use Rattle.marks.specs.Part.{Own, fault_parts, first_line, shown, with_mar
 use crate::class::Class;
 use crate::escape::write_escaped;
 use crate::fault::Fault;
+use crate::screen::write_seen;
 use crate::style::{Style, class_close, class_open, close_fault, open_fault};
 use memchr::memchr2;
 use std::fmt;
@@ -55,19 +56,19 @@ pub fn write_in_class<W: fmt::Write>(
         return Ok(());
     }
     output.write_str(class_open(style, class))?;
-    write_shown(style, text, output)?;
+    write_shown(style, class, text, output)?;
     output.write_str(class_close(style, class))
 }
 
-/// Writes a part of the text: in a page with entities, in a terminal as it is.
+/// Writes a part of the text: in a page with entities, elsewhere with symbols for control characters or raw.
 #[tactic(auto, using(crate::proofs::CallLemmas::tried_call))]
-fn write_shown<W: fmt::Write>(style: Style, text: &str, output: &mut W) -> fmt::Result
+fn write_shown<W: fmt::Write>(style: Style, class: Class, text: &str, output: &mut W) -> fmt::Result
     ensures { OnOk result
-        (WritesInCalls W.write_str_gives output.old (shown style text.now) output.new) }
+        (WritesInCalls W.write_str_gives output.old (shown style class text.now) output.new) }
 {
     match style {
         Style::Html => write_escaped(text, output),
-        Style::Colours => output.write_str(text),
-        Style::NoColours => output.write_str(text),
+        Style::Colours | Style::NoColours => write_seen(class, text, output),
+        Style::Raw => output.write_str(text),
     }
 }

@@ -18,6 +18,8 @@ pub enum Style {
     Colours,
     /// The sentences of faults alone.
     NoColours,
+    /// The same, with control characters as they are. A terminal obeys these.
+    Raw,
 }
 
 /// Returns the mark before a token of a class.
@@ -47,7 +49,7 @@ pub fn class_open(style: Style, class: Class) -> &'static str
             Class::Number => "\x1b[36m",
             Class::Lifetime => "\x1b[33m",
         },
-        Style::NoColours => "",
+        Style::NoColours | Style::Raw => "",
     }
 }
 
@@ -56,7 +58,7 @@ pub fn class_close(style: Style, class: Class) -> &'static str
     ensures { result.now ≡ class_close style class }
 {
     match (style, class) {
-        (_, Class::Plain) | (Style::NoColours, _) => "",
+        (_, Class::Plain) | (Style::NoColours | Style::Raw, _) => "",
         (Style::Html, _) => "</span>",
         (Style::Colours, _) => "\x1b[0m",
     }
@@ -70,7 +72,7 @@ pub fn open_fault<W: fmt::Write>(style: Style, fault: Fault, output: &mut W) -> 
     match style {
         Style::Html => write!(output, "<mark title=\"{fault}\">"),
         Style::Colours => output.write_str("\x1b[4;31m"),
-        Style::NoColours => Ok(()),
+        Style::NoColours | Style::Raw => Ok(()),
     }
 }
 
@@ -82,6 +84,6 @@ pub fn close_fault<W: fmt::Write>(style: Style, fault: Fault, output: &mut W) ->
     match style {
         Style::Html => output.write_str("</mark>"),
         Style::Colours => write!(output, "\x1b[0;31m [<- {fault}]\x1b[0m"),
-        Style::NoColours => write!(output, " [<- {fault}]"),
+        Style::NoColours | Style::Raw => write!(output, " [<- {fault}]"),
     }
 }

@@ -30,14 +30,14 @@ enum When {
 /// The options that were given, and `None` for each of the others.
 #[derive(Clone, Copy)]
 struct Options {
-    html: bool,
+    form: Option<Style>,
     edition: Option<Edition>,
     color: Option<When>,
 }
 
 /// No option.
 const NO_OPTIONS: Options = Options {
-    html: false,
+    form: None,
     edition: None,
     color: None,
 };
@@ -95,7 +95,9 @@ fn read_options(options: Options, words: &[String]) -> Result<Options, &str> {
 /// `Some(None)` if the option is there already.
 fn with_word(options: Options, word: &str) -> Option<Option<Options>> {
     if word == "--html" {
-        Some(page(options))
+        Some(in_form(options, Style::Html))
+    } else if word == "--raw" {
+        Some(in_form(options, Style::Raw))
     } else if word == "--color=auto" {
         Some(with_colours(options, When::Auto))
     } else if word == "--color=always" {
@@ -119,10 +121,10 @@ fn with_value<'a>(options: Options, name: &'a str, value: &'a str) -> Result<Opt
     }
 }
 
-/// Adds `--html`. Returns `None` if it is there already.
-fn page(options: Options) -> Option<Options> {
-    (!options.html).then_some(Options {
-        html: true,
+/// Adds `--html` or `--raw`. Returns `None` if one of these is there already.
+fn in_form(options: Options, style: Style) -> Option<Options> {
+    options.form.is_none().then_some(Options {
+        form: Some(style),
         ..options
     })
 }
@@ -145,8 +147,8 @@ fn with_colours(options: Options, when: When) -> Option<Options> {
 
 /// Returns the style that the options ask for.
 fn style_of(options: Options, colours: bool) -> Style {
-    if options.html {
-        return Style::Html;
+    if let Some(style) = options.form {
+        return style;
     }
     let coloured = match options.color {
         None | Some(When::Auto) => colours,

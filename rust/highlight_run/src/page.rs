@@ -64,7 +64,7 @@ pub fn write_text<W: fmt::Write>(
 fn head(style: Style) -> &'static str {
     match style {
         Style::Html => HEAD,
-        Style::Colours | Style::NoColours => "",
+        Style::Colours | Style::NoColours | Style::Raw => "",
     }
 }
 
@@ -72,6 +72,6 @@ fn head(style: Style) -> &'static str {
 fn foot(style: Style) -> &'static str {
     match style {
         Style::Html => FOOT,
-        Style::Colours | Style::NoColours => "",
+        Style::Colours | Style::NoColours | Style::Raw => "",
     }
 }

@@ -7,7 +7,7 @@ use failing::{BYTES, Program, WHOLE, words_of};
 use highlight_run::program::{Start, program};
 use highlight_run::run::run;
 use highlight_run::{Job, read_job};
-use marks::Style::{self, Colours, Html, NoColours};
+use marks::Style::{self, Colours, Html, NoColours, Raw};
 use rattle_std::alloc::Global;
 use rattle_std::env::VarError::{self, NotPresent, NotUnicode, OutOfMemory};
 use rattle_std::io::ErrorKind;
@@ -16,7 +16,7 @@ use rustc_lexer::Edition::{self, E2015, E2018, E2021, E2024};
 
 /// Arguments with bars between them, whether the output is a terminal that takes colours, and the style and the edition
 /// that they ask for.
-const SHOWN: [(&str, bool, Style, Edition); 22] = [
+const SHOWN: [(&str, bool, Style, Edition); 25] = [
     ("", true, Colours, E2024),
     ("", false, NoColours, E2024),
     ("--html", false, Html, E2024),
@@ -39,10 +39,13 @@ const SHOWN: [(&str, bool, Style, Edition); 22] = [
     ("--color=never|--edition|2018", true, NoColours, E2018),
     ("--edition|2021|--color=auto", true, Colours, E2021),
     ("--html|--color=always", true, Html, E2024),
+    ("--raw", false, Raw, E2024),
+    ("--raw", true, Raw, E2024),
+    ("--color=always|--raw|--edition|2018", true, Raw, E2018),
 ];
 
 /// Arguments that are refused, and the one that is named.
-const REFUSED: [(&str, &str); 22] = [
+const REFUSED: [(&str, &str); 27] = [
     ("html", "html"),
     ("x|--html", "x"),
     ("--html|--html", "--html"),
@@ -65,6 +68,11 @@ const REFUSED: [(&str, &str); 22] = [
     ("--edition|2018|--edition|2018", "--edition"),
     ("--edition|2018|--version", "--version"),
     ("--html=yes", "--html=yes"),
+    ("--raw|--html", "--html"),
+    ("--html|--raw", "--raw"),
+    ("--raw|--raw", "--raw"),
+    ("main.rs|--raw", "main.rs"),
+    ("-", "-"),
 ];
 
 /// Each form of arguments is read as its job; of others one is named.
@@ -163,6 +171,7 @@ fn runs() {
         std::string::String::from_utf8(output.into_inner().bytes).unwrap()
     };
     assert_eq!(written(NoColours, E2015), "#\"a\"");
+    assert_eq!(written(Raw, E2018), "#\"a\"");
     assert_eq!(written(Colours, E2018), "#\x1b[32m\"a\"\x1b[0m");
     let page = written(Html, E2021);
     let end = "<pre>\n#<span class=\"text\">\"a\"</span></pre>\n</body>\n</html>\n";
@@ -170,7 +179,7 @@ fn runs() {
 }
 
 /// What is said behind a word that is refused.
-const TAKEN: &str = "it takes a source on standard input, --html, --edition 2015, 2018, 2021 or 2024, \
+const TAKEN: &str = "it takes a source on standard input, as < FILE does, --html or --raw, --edition 2015, 2018, 2021 or 2024, \
     --color auto, always or never, --help, --version";
 
 /// A process and its input, and the status and the message; what is taken follows where it ends in `; `.

@@ -81,7 +81,10 @@ pub fn fault_of(kind: TokenKind, text: &str) -> Option<Fault> {
 }
 
 /// Writes a whole file in an edition: its shebang line, if it has one, between the marks of a comment, then each token
-/// between its marks. The file may begin with a frontmatter.
+/// between its marks. The file may begin with a frontmatter, and with a byte order mark, which is no token here.
+///
+/// In a page, U+0000 and carriage returns are entities; elsewhere control characters but tabs and line ends are shown
+/// as symbols, like `␛`, since a terminal obeys them, unless the style is [`Style::Raw`].
 ///
 /// ```
 /// use marks::{Edition, Style, write_marked};

@@ -1,7 +1,7 @@
-//! What is written of a whole text: colours and tags, shebang lines, faults over lines, editions.
+//! What is written of a whole text: colours and tags, shebang lines, faults over lines, control characters, editions.
 
 use marks::Edition::{self, E2015, E2018, E2021, E2024};
-use marks::Style::{self, Colours, Html, NoColours};
+use marks::Style::{self, Colours, Html, NoColours, Raw};
 use marks::write_marked;
 
 /// A style, an edition, a text, and what is written.
@@ -56,9 +56,34 @@ const LINES: [Row<'_>; 23] = [
     (Colours, E2024, "let union = 1;", "\x1b[35mlet\x1b[0m union = \x1b[36m1\x1b[0m;"),
 ];
 
+/// Control characters, line ends, and byte order marks.
+#[rustfmt::skip]
+const CONTROLS: [Row<'_>; 20] = [
+    (NoColours, E2024, "// \x1b[2J\x07\0\x1f\x7f\t\u{9b}\u{80}\u{a0}", "// ␛[2J␇␀␟␡\t��\u{a0}"),
+    (Colours, E2024, "// \x1b[0m", "\x1b[90m// ␛[0m\x1b[0m"),
+    (Raw, E2024, "// \x1b[0m\r \0\u{9b}", "// \x1b[0m\r \0\u{9b}"),
+    (Raw, E2024, "0x", "0x [<- this number has no digits]"),
+    (Html, E2024, "// \x1b\0\r<\r\n", "<span class=\"comment\">// \x1b&#0;&#13;&lt;&#13;</span>\n"),
+    (NoColours, E2024, "// a\r\n/// b\r\n/* c\r\n */\r\n\r\n", "// a\r\n/// b\r\n/* c\r\n */\r\n\r\n"),
+    (NoColours, E2024, "// a\r", "// a\r"),
+    (NoColours, E2024, "// a\rb\r\r\n", "// a␍b␍\r\n"),
+    (NoColours, E2024, "a;\rb;\r\r\n", "a;␍b;␍\r\n"),
+    (NoColours, E2024, "a;\r", "a;␍"),
+    (NoColours, E2024, "\x0b\x0c\u{85}a", "␋␌�a"),
+    (Colours, E2024, "'\x1b'", "\x1b[32m'␛'\x1b[0m"),
+    (NoColours, E2024, "\"\x1b\\q\x1b\"", "\"␛\\q [<- there is no such escape: a backslash itself is written twice]␛\""),
+    (NoColours, E2024, "#!/bin/sh \x1b\nfn", "#!/bin/sh ␛\nfn"),
+    (Colours, E2024, "\u{feff}#!/bin/sh\n---\n---\nfn", "\u{feff}\x1b[90m#!/bin/sh\x1b[0m\n\x1b[36m---\n---\x1b[0m\n\x1b[35mfn\x1b[0m"),
+    (Html, E2021, "\u{feff}fn", "\u{feff}<span class=\"keyword\">fn</span>"),
+    (NoColours, E2018, "\u{feff}", "\u{feff}"),
+    (NoColours, E2018, "\u{feff}\u{feff}", "\u{feff}\u{feff} [<- no token begins with this character]"),
+    (NoColours, E2018, "a\u{feff}", "a\u{feff} [<- no token begins with this character]"),
+    (NoColours, E2018, "\u{fefe}", "\u{fefe} [<- no token begins with this character]"),
+];
+
 /// Tokens that editions read in their own ways.
 #[rustfmt::skip]
-const EDITIONS: [Row<'_>; 15] = [
+const EDITIONS: [Row<'_>; 14] = [
     (NoColours, E2024, "#\"a\"", "#\" [<- these marks are reserved for strings to come]a [<- no literal has this prefix]\" [<- nothing closes this string]"),
     (NoColours, E2021, "#\"a\"", "#\"a\""),
     (NoColours, E2018, "#\"a\"", "#\"a\""),
@@ -72,14 +97,18 @@ const EDITIONS: [Row<'_>; 15] = [
     (Colours, E2021, "---\n---\n#\"a\"", "\x1b[36m---\n---\x1b[0m\n#\x1b[32m\"a\"\x1b[0m"),
     (Colours, E2015, "\n---\n---", "\n\x1b[36m---\n---\x1b[0m"),
     (Colours, E2018, "#\"a\"", "#\x1b[32m\"a\"\x1b[0m"),
-    (NoColours, E2018, "\u{feff}#!a", "\u{feff} [<- no token begins with this character]#!a"),
     (Colours, E2018, "#!/bin/sh\nz'a'", "\x1b[90m#!/bin/sh\x1b[0m\nz\x1b[32m'a'\x1b[0m"),
 ];
 
 /// Each text is written as its row says.
 #[test]
 fn rows() {
-    for (style, edition, text, wanted) in STYLES.into_iter().chain(LINES).chain(EDITIONS) {
+    for (style, edition, text, wanted) in STYLES
+        .into_iter()
+        .chain(LINES)
+        .chain(CONTROLS)
+        .chain(EDITIONS)
+    {
         let mut written = String::new();
         write_marked(style, edition, text, &mut written).unwrap();
         assert_eq!(written, wanted, "{text} in {edition:?}");

@@ -5,23 +5,47 @@ use crate::erased::class::{Class, class_of};
 use crate::erased::fault::fault_of;
 use crate::erased::literal::{mode_of, write_literal};
 use crate::erased::part::{write_in_class, write_with_fault};
+use crate::erased::screen::split_first;
 use crate::erased::style::Style;
 use core::fmt;
 use rustc_lexer::erased::{Edition, TokenKind, tokenize_document, tokenize_in};
 
-/// Writes a whole text with marks. A shebang line, if there is one, is written between the marks of a comment, and
-/// each token after it between its own. The marks are colours by the class of each token, and a sentence at each
-/// token that has a fault.
+/// Writes a whole text with marks. A byte order mark, U+FEFF, at its start is written as it is, though
+/// `tokenize_document` has a token for it. A shebang line behind it, if there is one, is written between the marks of
+/// a comment, and each token after that between its own. The marks are colours by the class of each token, and a
+/// sentence at each token that has a fault.
 ///
-/// Without the marks the output is the text. In a page the text is the part outside of the tags, with its entities
-/// undone.
+/// Without the marks the output is the text, but for symbols in place of control characters, like `␛`, that are no
+/// tabs and no line ends, unless the style is `Raw`. In a page the text is the part outside of the tags, with its
+/// entities undone.
 pub fn write_marked<W: fmt::Write>(
     style: Style,
     edition: Edition,
     text: &str,
     output: &mut W,
 ) -> fmt::Result {
+    let begin = mark_len(text);
+    write_document(style, edition, &text[..begin], &text[begin..], output)
+}
+
+/// Returns the length of a byte order mark at the start of a text, or 0.
+fn mark_len(text: &str) -> usize {
+    match split_first(text) {
+        Some(('\u{feff}', _)) => 3,
+        _ => 0,
+    }
+}
+
+/// Writes a byte order mark, which may be empty, and a document behind it with marks.
+fn write_document<W: fmt::Write>(
+    style: Style,
+    edition: Edition,
+    mark: &str,
+    text: &str,
+    output: &mut W,
+) -> fmt::Result {
     let tokens = tokenize_document(text, edition);
+    write_in_class(style, Class::Plain, mark, output)?;
     let mut start = text.len() - tokens.as_str().len();
     write_in_class(style, Class::Comment, &text[..start], output)?;
     for token in tokens {

@@ -4,6 +4,7 @@
 use crate::erased::class::Class;
 use crate::erased::escape::write_escaped;
 use crate::erased::fault::Fault;
+use crate::erased::screen::write_seen;
 use crate::erased::style::{Style, class_close, class_open, close_fault, open_fault};
 use core::fmt;
 use memchr::memchr2;
@@ -40,15 +41,20 @@ pub fn write_in_class<W: fmt::Write>(
         return Ok(());
     }
     output.write_str(class_open(style, class))?;
-    write_shown(style, text, output)?;
+    write_shown(style, class, text, output)?;
     output.write_str(class_close(style, class))
 }
 
-/// Writes a part of the text: in a page with entities, in a terminal as it is.
-fn write_shown<W: fmt::Write>(style: Style, text: &str, output: &mut W) -> fmt::Result {
+/// Writes a part of the text: in a page with entities, elsewhere with symbols for control characters or raw.
+fn write_shown<W: fmt::Write>(
+    style: Style,
+    class: Class,
+    text: &str,
+    output: &mut W,
+) -> fmt::Result {
     match style {
         Style::Html => write_escaped(text, output),
-        Style::Colours => output.write_str(text),
-        Style::NoColours => output.write_str(text),
+        Style::Colours | Style::NoColours => write_seen(class, text, output),
+        Style::Raw => output.write_str(text),
     }
 }

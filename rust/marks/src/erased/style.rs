@@ -14,6 +14,8 @@ pub enum Style {
     Colours,
     /// The sentences of faults alone.
     NoColours,
+    /// The same, with control characters as they are. A terminal obeys these.
+    Raw,
 }
 
 /// Returns the mark before a token of a class.
@@ -41,14 +43,14 @@ pub fn class_open(style: Style, class: Class) -> &'static str {
             Class::Number => "\x1b[36m",
             Class::Lifetime => "\x1b[33m",
         },
-        Style::NoColours => "",
+        Style::NoColours | Style::Raw => "",
     }
 }
 
 /// Returns the mark after a token of a class.
 pub fn class_close(style: Style, class: Class) -> &'static str {
     match (style, class) {
-        (_, Class::Plain) | (Style::NoColours, _) => "",
+        (_, Class::Plain) | (Style::NoColours | Style::Raw, _) => "",
         (Style::Html, _) => "</span>",
         (Style::Colours, _) => "\x1b[0m",
     }
@@ -59,7 +61,7 @@ pub fn open_fault<W: fmt::Write>(style: Style, fault: Fault, output: &mut W) -> 
     match style {
         Style::Html => write!(output, "<mark title=\"{fault}\">"),
         Style::Colours => output.write_str("\x1b[4;31m"),
-        Style::NoColours => Ok(()),
+        Style::NoColours | Style::Raw => Ok(()),
     }
 }
 
@@ -68,6 +70,6 @@ pub fn close_fault<W: fmt::Write>(style: Style, fault: Fault, output: &mut W) ->
     match style {
         Style::Html => output.write_str("</mark>"),
         Style::Colours => write!(output, "\x1b[0;31m [<- {fault}]\x1b[0m"),
-        Style::NoColours => write!(output, " [<- {fault}]"),
+        Style::NoColours | Style::Raw => write!(output, " [<- {fault}]"),
     }
 }
