@@ -18,7 +18,8 @@ pub record IsFrame (head foot : List ℕ) : Type 0 where
 -- the arguments that job_of takes
 abbrev pub argument_words : List (List ℕ)
 argument_words =
-    codes "--help, -h" ∷ codes "--version, -V" ∷ codes "--html" ∷ codes "--raw" ∷ codes "--edition YEAR" ∷ codes "2015, 2018, 2021 or 2024"
+    codes "--help, -h" ∷ codes "--version, -V" ∷ codes "--html" ∷ codes "--raw"
+    ∷ codes "--edition YEAR" ∷ codes "2015, 2018, 2021 or 2024"
     ∷ codes "--color always" ∷ codes "--color never" ∷ codes "--color auto"
     ∷ codes "--color=never" ∷ []
 

@@ -128,9 +128,8 @@ fn show<R: Read, W: Write>(
 }
 
 /// What is said behind a word that is refused.
-const TAKEN: &str =
-    "'; it takes a source on standard input, as < FILE does, --html or --raw, --edition 2015, 2018, 2021 or 2024, \
-    --color auto, always or never, --help, --version";
+const TAKEN: &str = "'; it takes a source on standard input, as < FILE does, --html or --raw, \
+    --edition 2015, 2018, 2021 or 2024, --color auto, always or never, --help, --version";
 
 /// Returns whether to write colours if no argument says so, by the values of `NO_COLOR` and `TERM`.
 /// `None` means that memory for a value was refused.
