@@ -2,18 +2,18 @@
 use Rattle.std.proofs.Common.{◌≡◌, ◌↔◌, ℕ, zero, suc, ◌+◌, ◌-◌, ◌^◌, ◌<◌, ◌≤◌, true, List, ◌++◌, codes, length, take, drop, refl, sym, ap, ◌∙◌, subst, arith, length-append, length-drop, length-take, length-take-le, take-append-drop, drop-drop, take_all, chars, IsUtf8, IsCharBoundary}
 use Rattle.std.proofs.lemmas.Grind.{common_steps}
 use Rattle.std.proofs.lemmas.List.{drop-take}
-use Rattle.std.proofs.lemmas.Str.{IsCharBoundary-from_drop, IsUtf8-append, IsUtf8-drop, IsUtf8-take, chars-append}
+use Rattle.std.proofs.lemmas.Str.{IsCharBoundary-from_drop, IsUtf8-append, IsUtf8-between, IsUtf8-drop, IsUtf8-take, chars-append}
 use Rattle.rustc_lexer.specs.{Edition, Token}
 use Rattle.rustc_lexer.specs.Answers.{first_in}
 use Rattle.rustc_lexer.specs.Classes.{IsText}
 use Rattle.rustc_lexer.specs.Joined as the
 use Rattle.rustc_lexer.specs.Joined.{IsJoined, MayTouch, TailDecides}
-use Rattle.rustc_lexer.specs.Locality.{IsGrammar, IsSettled, has_two}
+use Rattle.rustc_lexer.specs.Locality.{AgreePast, IsGrammar, IsSettled, has_two}
 use Rattle.rustc_lexer.specs.Partition.{bound, tokens_by}
-use Rattle.rustc_lexer.specs.laws.Cuts.{IsCutAt, at_bound}
+use Rattle.rustc_lexer.specs.laws.Cuts.{IsCutAt, at_bound, tokens_local}
 use Rattle.rustc_lexer.specs.laws.Edition.{edition_grammar}
 use Rattle.rustc_lexer.specs.means.Joined.{IsSure}
-use Rattle.rustc_lexer.proofs.EditLemmas.{bound-same, has_two-count, has_two-intro}
+use Rattle.rustc_lexer.proofs.EditLemmas.{bound-same, has_two-agree, has_two-before, has_two-count, has_two-intro, has_two-same}
 use Rattle.rustc_lexer.proofs.FrontLemmas.{bound-shift}
 use Rattle.rustc_lexer.proofs.JoinedLemmas.{IsSplit, drop-front, near_touch, sure_split, sure_stays}
 
@@ -50,6 +50,24 @@ module _ {first : List ℕ → Token} (law : IsGrammar first) where
         two = λ some. two_more text more from is (sure_place text from is at) (at.two some);
       }
 
+  -- what is sure in a text is so in one that ends before, but two characters later
+  pub sure_cut : (text : List ℕ) (from at : ℕ) → IsText text → IsCharBoundary text at → IsSure first text from → has_two text from at ≡ true → IsSure first (take at text) from
+  sure_cut text from at is cut here two =
+      let k : ℕ = here.number in
+      let left : List ℕ = take at text in
+      let size : length left ≡ at = length-take-le at text cut.0 in
+      let left_is : IsText left = record { utf8 = IsUtf8-take text at is.utf8 cut; fits = omega (arith, size, cut.0, is.fits) } in
+      let short : take at left ≡ take at text = take_all at left (omega (arith, size)) in
+      let middle : IsUtf8 (take (at - from) (drop from text)) = IsUtf8-between text from at is.utf8 (omega (arith, has_two-before text from at two)) (sure_place text from is here) cut in
+      let past : AgreePast (bound (tokens_by first text) k) text left = subst (λ (p : ℕ). AgreePast p text left) (sym here.offset_is) (has_two-agree text left from at middle short two) in
+      let same : take k (tokens_by first left) ≡ take k (tokens_by first text) = tokens_local law k text left is left_is here.few past in
+      record {
+        number = k;
+        few = (let few = here.few in omega (arith, ap length same, length-take k (tokens_by first left), length-take k (tokens_by first text)));
+        offset_is = bound-same k (tokens_by first left) (tokens_by first text) same ∙ here.offset_is;
+        two = λ some. subst (λ (n : ℕ). has_two left from n ≡ true) (sym size) (has_two-same left text from at short ∙ two);
+      }
+
   -- the bound of the end of a text is one of the text
   pub sure_on : (text : List ℕ) (from more : ℕ) → IsText text → IsSure first text from → IsSettled (drop from text) (tokens_by first (drop from text)) more → IsSure first text (from + more)
   sure_on text from more is at settled =
@@ -83,6 +101,12 @@ module _ (edition : Edition) where
 
   abbrev first : List ℕ → Token
   first = first_in edition
+
+  pub sure_place_in : (text : List ℕ) (from : ℕ) → IsText text → IsSure first text from → IsCharBoundary text from
+  sure_place_in = sure_place law
+
+  pub sure_cut_in : (text : List ℕ) (from at : ℕ) → IsText text → IsCharBoundary text at → IsSure first text from → has_two text from at ≡ true → IsSure first (take at text) from
+  sure_cut_in = sure_cut law
 
   -- ---- what comes past a bound decides
 

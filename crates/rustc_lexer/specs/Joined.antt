@@ -1,6 +1,7 @@
 -- Texts that are joined so that their tokens stay, and the separators that are written between them
 -- for that.
-use Rattle.std.specs.Prelude.{ℕ, ◌≡◌, ◌↔◌, ◌+◌, ◌≤◌, ◌^◌, List, [], ◌∷◌, ◌++◌, length, drop, codes, chars, Bool, true, false, not}
+use Rattle.std.specs.Prelude.{ℕ, ◌≡◌, ◌↔◌, ◌+◌, ◌≤◌, ◌^◌, List, [], ◌∷◌, ◌++◌, length, take, drop, codes, chars, Bool, true, false, not}
+use Rattle.std.specs.Str.{IsCharBoundary}
 use Rattle.rustc_lexer.specs.{Edition, Token, TokenKind, Literal, BlockComment, LineComment, Whitespace}
 use Rattle.rustc_lexer.specs.declared.relex.joined.JoinError.{JoinError}
 use Rattle.rustc_lexer.specs.declared.relex.joined.JoinError.TheVariants.{Inseparable, TooLong, Memory}
@@ -98,6 +99,15 @@ pub record RunsOn (tokens : List Token) (piece : Chars) : Type 0 where
 pub record Joined : Type 0 where
   pub edition : Edition
   pub text : Utf8
+
+-- the text may end there: its tokens are those up to there, and then others
+abbrev pub MayEnd : Joined → ℕ → Type 0
+MayEnd held len = IsCharBoundary held.text len
+    × MayTouch held.edition (take len held.text) (drop len held.text)
+
+-- the text up to there, in the same edition
+abbrev pub cut_to : Joined → ℕ → Joined
+cut_to held len = record { edition = held.edition; text = take len held.text }
 
 -- why a piece was refused: no separator keeps the tokens; with one, the text might have 4 GiB; or
 -- an allocation failed

@@ -1,5 +1,5 @@
 -- The numbers and the names of kinds, and the words of an error.
-use Rattle.std.specs.Prelude.{ℕ, Bool, true, false, List, codes, ◌++◌, decimal}
+use Rattle.std.specs.Prelude.{ℕ, Bool, true, false, List, None, codes, ◌++◌, decimal}
 use Rattle.rustc_lexer.specs.{LiteralKind, RawStrError, InvalidStarter, NoTerminator, TooManyDelimiters, TokenKind, Int, Float, Char, Byte, Str, ByteStr, CStr, RawStr, RawByteStr, RawCStr, LineComment, BlockComment, Whitespace, Frontmatter, Ident, InvalidIdent, RawIdent, ForcedKeywordIdent, UnknownPrefix, UnknownPrefixLifetime, RawLifetime, GuardedStrPrefix, Literal, Lifetime, Semi, Comma, Dot, OpenParen, CloseParen, OpenBrace, CloseBrace, OpenBracket, CloseBracket, At, Pound, Tilde, Question, Colon, Dollar, Eq, Bang, Lt, Gt, Minus, And, Or, Plus, Star, Slash, Caret, Percent, Unknown, Eof}
 
 -- the number of a kind, for other languages, and the name of its variant. A number never changes: a
@@ -58,6 +58,27 @@ has_fields (Frontmatter has_invalid_preceding_whitespace invalid_infostring) = t
 has_fields (Literal kind suffix_start) = true
 has_fields (Lifetime starts_with_number) = true
 has_fields kind = false
+
+-- what a parser passes over: white space, and comments that document nothing
+abbrev pub is_trivia : TokenKind → Bool
+is_trivia Whitespace = true
+is_trivia (LineComment None) = true
+is_trivia (BlockComment None terminated) = true
+is_trivia kind = false
+
+-- the symbols that open a group
+abbrev pub opens_group : TokenKind → Bool
+opens_group OpenParen = true
+opens_group OpenBracket = true
+opens_group OpenBrace = true
+opens_group kind = false
+
+-- and those that close one
+abbrev pub closes_group : TokenKind → Bool
+closes_group CloseParen = true
+closes_group CloseBracket = true
+closes_group CloseBrace = true
+closes_group kind = false
 
 -- the number and the name of each kind of literal
 unfoldable pub literal_entry : LiteralKind → ℕ × List ℕ

@@ -1,6 +1,6 @@
 //! Tokens: their kinds and their lengths.
 ghost use Rattle.std.specs.Prelude.{◌≡◌, Some};
-ghost use Rattle.rustc_lexer.specs.Kinds.{has_fields, kind_entry, literal_entry, raw_str_text};
+ghost use Rattle.rustc_lexer.specs.Kinds.{closes_group, has_fields, is_trivia, kind_entry, literal_entry, opens_group, raw_str_text};
 
 use std::error::Error;
 use std::fmt;
@@ -206,6 +206,60 @@ impl TokenKind {
         ensures { result ≡ has_fields self }
     {
         WITH_FIELDS >> self.number() & 1 == 1
+    }
+
+    /// Returns whether a parser passes over the token: white space, or a comment that documents nothing.
+    ///
+    /// ```
+    /// use rustc_lexer::{DocStyle, TokenKind};
+    ///
+    /// assert!(TokenKind::LineComment { doc_style: None }.is_trivia());
+    /// assert!(!TokenKind::LineComment { doc_style: Some(DocStyle::Outer) }.is_trivia());
+    /// ```
+    pub fn is_trivia(self) -> bool
+        ensures { result ≡ is_trivia self }
+    {
+        matches!(
+            self,
+            TokenKind::Whitespace
+                | TokenKind::LineComment { doc_style: None }
+                | TokenKind::BlockComment {
+                    doc_style: None,
+                    ..
+                },
+        )
+    }
+
+    /// Returns whether the token opens a group: whether it is `(`, `[` or `{`.
+    ///
+    /// ```
+    /// use rustc_lexer::TokenKind;
+    ///
+    /// assert!(TokenKind::OpenParen.is_open() && !TokenKind::Lt.is_open());
+    /// ```
+    pub fn is_open(self) -> bool
+        ensures { result ≡ opens_group self }
+    {
+        matches!(
+            self,
+            TokenKind::OpenParen | TokenKind::OpenBracket | TokenKind::OpenBrace
+        )
+    }
+
+    /// Returns whether the token closes a group: whether it is `)`, `]` or `}`.
+    ///
+    /// ```
+    /// use rustc_lexer::TokenKind;
+    ///
+    /// assert!(TokenKind::CloseParen.is_close() && !TokenKind::Gt.is_close());
+    /// ```
+    pub fn is_close(self) -> bool
+        ensures { result ≡ closes_group self }
+    {
+        matches!(
+            self,
+            TokenKind::CloseParen | TokenKind::CloseBracket | TokenKind::CloseBrace
+        )
     }
 
     /// Returns the number and the name of the kind.

@@ -1,6 +1,7 @@
 //! Why a text that is kept with its tokens could not be made or edited.
 
 use crate::AllocError;
+use alloc::string::String;
 use core::error::Error;
 use core::fmt;
 
@@ -39,6 +40,50 @@ impl Error for EditError {}
 impl From<AllocError> for EditError {
     fn from(_: AllocError) -> EditError {
         EditError::Memory
+    }
+}
+
+/// Why a text could not be kept, with that text: an error of
+/// [`try_from_string_in`](crate::Lexed::try_from_string_in).
+#[derive(Clone, PartialEq, Eq)]
+pub struct FromStringError {
+    pub(crate) text: String,
+    pub(crate) error: EditError,
+}
+
+impl FromStringError {
+    /// Returns the text.
+    #[must_use]
+    pub fn into_string(self) -> String {
+        self.text
+    }
+
+    /// Returns why it could not be kept.
+    #[must_use]
+    pub fn error(&self) -> EditError {
+        self.error
+    }
+}
+
+// The text may be long, and is the caller's.
+impl fmt::Debug for FromStringError {
+    fn fmt(&self, f: &mut fmt::Formatter<'_>) -> fmt::Result {
+        let mut shown = f.debug_struct("FromStringError");
+        shown.field("error", &self.error).finish_non_exhaustive()
+    }
+}
+
+impl fmt::Display for FromStringError {
+    fn fmt(&self, f: &mut fmt::Formatter<'_>) -> fmt::Result {
+        self.error.fmt(f)
+    }
+}
+
+impl Error for FromStringError {}
+
+impl From<FromStringError> for EditError {
+    fn from(refused: FromStringError) -> EditError {
+        refused.error
     }
 }
 

@@ -2,8 +2,8 @@
 //! A lexer for Rust source: it splits a text into tokens.
 //!
 //! A token is a kind and a length in bytes. The lexer accepts every text: a fault, like a comment that nothing
-//! closes, shows in a field of its token or in the token's kind. Lexing allocates no memory. Only a [`LexedText`]
-//! and a [`LexedDocument`] allocate: they keep a text with its tokens while it is edited.
+//! closes, shows in a field of its token or in the token's kind. Lexing allocates no memory. What allocates is a
+//! [`LexedText`] or a [`LexedDocument`], which keeps a text with its tokens while it is edited, and a [`JoinedText`].
 
 mod classes;
 mod cursor;

@@ -23,12 +23,14 @@ use core::fmt;
 ///
 /// - **White space** is a piece like any other: push it where you want some. A parser reads `&&` as one operator, though
 ///   it is two tokens, so push a space between a `&` and a `&` that are two.
-/// - **Each piece is written for good**, before the next one is known. So `0`, `.` and `.` make `0 ..`, since `0.` is a
-///   number, and the pieces `0` and `..` make `0..`.
+/// - **Each piece is written** before the next one is known. So `0`, `.` and `.` make `0 ..`, since `0.` is a number, and
+///   the pieces `0` and `..` make `0..`. Where the next one shows that a piece was wrong, like white space after an open
+///   token, [`truncate`](JoinedText::truncate) takes it back.
 /// - **The text is a part of a file.** Read as a whole file, it has other tokens if it begins with `#!` and no `[`
 ///   follows, or with `---`, also after white space. Before you write it at the start of a file, test that
 ///   [`strip_shebang`](crate::strip_shebang) returns `None`, and that no token of
-///   [`tokenize_document`](crate::tokenize_document) is a `Frontmatter`. No valid Rust begins so.
+///   [`tokenize_document`](crate::tokenize_document) is a `Frontmatter`. No valid Rust begins so. Of a file with a head
+///   write `text[..Head::find(text).body]`, a newline, and the joined body: [`Head`](crate::lists::Head).
 ///
 /// [`push`](JoinedText::push), and what collects or extends, panics where [`try_push`](JoinedText::try_push) returns an
 /// error. To push what a value displays, push `format!("{value}")`: it does not implement [`fmt::Write`], since values
@@ -98,10 +100,51 @@ impl JoinedText {
         self.0.push(piece.as_ref())
     }
 
+    /// Takes back all pieces after the first `len` bytes: those pushed since [`len`](JoinedText::len) was that. If the
+    /// text is not longer, nothing changes.
+    ///
+    /// Any place will do where the text splits into the tokens before it and those after it.
+    ///
+    /// ```
+    /// use rustc_lexer::JoinedText;
+    ///
+    /// // A formatter makes one newline of two, but not here, since `b'`, a newline and `'` are a byte.
+    /// let mut text = JoinedText::new();
+    /// text.push("b'");
+    /// let len = text.len();
+    /// text.push("\n");
+    /// if text.try_push("'r").is_err() {
+    ///     text.truncate(len);
+    ///     text.extend(["\n\n", "'r"]);
+    /// }
+    /// assert_eq!(text.as_str(), "b'\n\n'r");
+    /// ```
+    ///
+    /// # Panics
+    ///
+    /// Panics if the text does not split there. Then nothing has changed.
+    #[track_caller]
+    pub fn truncate(&mut self, len: usize) {
+        let cuts = len >= self.len() || self.0.truncate(len);
+        assert!(cuts, "the text does not split into tokens at {len}");
+    }
+
     /// Returns the text.
     #[must_use]
     pub fn as_str(&self) -> &str {
         self.0.as_str()
+    }
+
+    /// Returns the length of the text in bytes.
+    #[must_use]
+    pub fn len(&self) -> usize {
+        self.as_str().len()
+    }
+
+    /// Returns whether the text is empty.
+    #[must_use]
+    pub fn is_empty(&self) -> bool {
+        self.as_str().is_empty()
     }
 
     /// Returns the edition in which the pieces are read.
@@ -116,6 +159,27 @@ impl JoinedText {
         self.0.into_string().into()
     }
 }
+
+impl AsRef<str> for JoinedText {
+    fn as_ref(&self) -> &str {
+        self.as_str()
+    }
+}
+
+impl fmt::Display for JoinedText {
+    fn fmt(&self, f: &mut fmt::Formatter<'_>) -> fmt::Result {
+        self.as_str().fmt(f)
+    }
+}
+
+/// Two are equal if their texts and their editions are.
+impl PartialEq for JoinedText {
+    fn eq(&self, other: &JoinedText) -> bool {
+        self.as_str() == other.as_str() && self.edition() == other.edition()
+    }
+}
+
+impl Eq for JoinedText {}
 
 impl Default for JoinedText {
     fn default() -> JoinedText {

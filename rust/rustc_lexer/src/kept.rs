@@ -1,9 +1,9 @@
 //! Texts that are kept with their tokens under edits: a part of a file, and a whole one.
 
 use crate::checked::Checked;
-use crate::edit_error::{EditError, check_accepted, made, try_fitting};
+use crate::edit_error::{EditError, FromStringError, check_accepted, made, try_fitting};
 use crate::erased::{self, Edit, EditStop, Stopped};
-use crate::support::{AllocError, Global};
+use crate::support::{self, AllocError, Global};
 use crate::{Bound, Edition, Piece, Pieces, Relexed, Stepper, Steps, Token};
 use alloc::string::String;
 use core::fmt;
@@ -59,8 +59,9 @@ pub struct Lexed<E: Extent, S: Stepper = Steps> {
     in_edit: bool,
 }
 
-/// A text and its tokens, which are always those of lexing the text from scratch, as a part of a file. For a whole
-/// file, with a shebang line and a frontmatter, use [`LexedDocument`](crate::LexedDocument).
+/// A text and its tokens, which are always those of lexing the text from scratch, as a part of a file; of a stepper of
+/// your own that holds if it keeps the rule of [`Stepper`]. For a whole file, with a shebang line and a frontmatter, use
+/// [`LexedDocument`](crate::LexedDocument).
 ///
 /// An edit lexes again only the tokens near it, and keeps all others.
 ///
@@ -208,20 +209,26 @@ impl<E: Extent> Lexed<E> {
     /// let text = String::from("let x;");
     /// let lexed = LexedText::try_from_string_in(text, Edition::E2021)?;
     /// assert_eq!(lexed.tokens().len(), 4);
-    /// # Ok::<(), rustc_lexer::EditError>(())
+    /// # Ok::<(), rustc_lexer::FromStringError>(())
     /// ```
     ///
     /// # Errors
     ///
-    /// `TooLong` if the text has more than `u32::MAX` bytes, `Memory` if an allocation failed. The text is dropped.
-    pub fn try_from_string_in(text: String, edition: Edition) -> Result<Self, EditError> {
-        try_fitting(&text)?;
-        let steps = Steps::new_in(edition);
-        Ok(Lexed::of(erased::Lexed::with_string(
-            Global,
-            text.into(),
-            steps,
-        )?))
+    /// `TooLong` if the text has more than `u32::MAX` bytes, `Memory` if an allocation failed. The error has the text.
+    pub fn try_from_string_in(text: String, edition: Edition) -> Result<Self, FromStringError> {
+        let mut text = text.into();
+        Self::taking(&mut text, edition).map_err(|error| FromStringError {
+            text: text.into(),
+            error,
+        })
+    }
+
+    /// Does what `try_from_string_in` does. Where it fails, the text stays.
+    fn taking(text: &mut support::String, edition: Edition) -> Result<Self, EditError> {
+        try_fitting(text.as_str())?;
+        let mut lexed = Lexed::of(E::lex("", edition)?);
+        lexed.lex_anew(text)?;
+        Ok(lexed)
     }
 
     /// Returns the edition of the tokens. Edits keep it.
@@ -301,8 +308,8 @@ impl<S: Stepper, E: Extent> Lexed<E, Checked<S>> {
     /// # Panics
     ///
     /// Panics if `step` does, or if a token of it is empty, is longer than the text or ends inside a character. So
-    /// do edits: `text` then has the edit, and each call that needs the tokens panics. An edit that is refused needs
-    /// none.
+    /// do edits: `text` then has the edit, and each call that needs the tokens panics, until `set_text` lexes a text
+    /// anew. An edit that is refused needs none.
     ///
     /// # Errors
     ///
@@ -359,7 +366,14 @@ impl<S: Stepper, E: Extent> Lexed<E, S> {
         answer
     }
 
-    /// Returns the text.
+    /// Takes a text, and lexes it by the stepper that is kept. If an allocation fails, the text stays.
+    fn lex_anew(&mut self, text: &mut support::String) -> Result<Relexed, AllocError> {
+        self.kept.lex_anew(text)?;
+        self.in_edit = false;
+        Ok(Relexed::none(self.tokens().len()))
+    }
+
+    /// Returns the text. Where a step panicked it has the edit in which that was, and of a list also those before it.
     ///
     /// ```
     /// use rustc_lexer::LexedText;
@@ -385,7 +399,7 @@ impl<S: Stepper, E: Extent> Lexed<E, S> {
         self.whole().tokens()
     }
 
-    /// Returns the text, and drops its tokens. It copies nothing.
+    /// Returns the text, as [`text`](Lexed::text) does, and drops its tokens. It copies nothing.
     ///
     /// ```
     /// use rustc_lexer::LexedText;
@@ -627,7 +641,8 @@ impl<S: Stepper, E: Extent> Lexed<E, S> {
     /// Makes the text another one, like one that a formatter wrote, by one edit of what differs: between the
     /// longest front that both texts have, and the longest back that they have behind that.
     ///
-    /// Returns the counts of that edit. If the text is the same already, all tokens are kept in front.
+    /// Returns the counts of that edit. If the text is the same already, all tokens are kept in front. Where a step
+    /// panicked before, it lexes the text anew, and keeps none.
     ///
     /// ```
     /// use rustc_lexer::{LexedText, Relexed};
@@ -660,9 +675,12 @@ impl<S: Stepper, E: Extent> Lexed<E, S> {
     ///
     /// `TooLong` if the new text has more than `u32::MAX` bytes, `Memory` if an allocation failed. Text and tokens
     /// are then as they were.
-    #[track_caller]
     pub fn try_set_text(&mut self, text: impl AsRef<str>) -> Result<Relexed, EditError> {
         let text = try_fitting(text.as_ref())?;
+        if self.in_edit {
+            let mut text = support::String::from_str(Global, text)?;
+            return Ok(self.lex_anew(&mut text)?);
+        }
         Ok(self.change(|kept| kept.set_text(text))?)
     }
 
@@ -682,6 +700,7 @@ impl<S: Stepper, E: Extent> Lexed<E, S> {
     }
 }
 
+/// Where a step panicked, the copy has the same [`text`](Lexed::text), and no tokens either.
 // Derived it would want `E::Proved: Clone`, which no caller can name.
 impl<S: Stepper + Clone, E: Extent> Clone for Lexed<E, S> {
     fn clone(&self) -> Self {
@@ -804,7 +823,7 @@ impl<S: Stepper> Lexed<Document, S> {
 }
 
 impl Relexed {
-    /// Returns the numbers of the tokens that were lexed, among those after the edit.
+    /// Returns the numbers of the tokens that were lexed, among those after the edit. Counts of no text do not wrap.
     ///
     /// ```
     /// use rustc_lexer::LexedText;
@@ -816,6 +835,6 @@ impl Relexed {
     /// ```
     #[must_use]
     pub fn range(&self) -> Range<usize> {
-        self.kept_front..self.kept_front + self.lexed
+        self.kept_front..self.kept_front.saturating_add(self.lexed)
     }
 }

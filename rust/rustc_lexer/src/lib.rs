@@ -42,6 +42,11 @@
 #![no_std]
 #![cfg_attr(docsrs, feature(doc_cfg))]
 #![deny(missing_docs)]
+#![warn(
+    clippy::missing_errors_doc,
+    clippy::missing_panics_doc,
+    clippy::must_use_candidate
+)]
 #![forbid(unsafe_code)]
 
 #[cfg(feature = "alloc")]
@@ -62,6 +67,11 @@ mod edit_error;
 /// change with the source. All other callers use the calls at the crate's root.
 // Contracts alone use some imports of the source, and Clippy would write some of it otherwise.
 #[allow(unused_imports, dead_code)]
+#[allow(
+    clippy::missing_errors_doc,
+    clippy::missing_panics_doc,
+    clippy::must_use_candidate
+)]
 #[allow(clippy::collapsible_if, clippy::manual_map)]
 #[allow(clippy::len_without_is_empty, clippy::new_without_default)]
 #[allow(clippy::too_many_arguments)]
@@ -84,7 +94,7 @@ pub use classes::{
 };
 pub use cursor::Cursor;
 #[cfg(feature = "alloc")]
-pub use edit_error::EditError;
+pub use edit_error::{EditError, FromStringError};
 #[doc(alias("offset", "position"))]
 #[doc(inline)]
 pub use erased::Bound;

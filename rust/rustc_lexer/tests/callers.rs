@@ -102,6 +102,7 @@ mod kept {
         panics_here!(text.push("a"));
         panics_here!(text.extend(["a"]));
         panics_here!(JoinedText::from_iter(["\"", "a"]));
+        panics_here!(JoinedText::from_iter(["ab"]).truncate(1));
     }
 
     /// Its tokens have one byte, and at `!` it panics.
@@ -133,8 +134,6 @@ mod kept {
         panics_here!(text.edit_all(&edits));
         panics_here!(text.edit_each(&edits));
         panics_here!(text.edit_at_once(&edits));
-        panics_here!(text.set_text(""));
-        panics_here!(text.try_set_text(""));
         panics_here!(text.settled());
         let second = text.clone();
         panics_here!(text == second);

@@ -181,6 +181,23 @@ fn kinds_with_fields() {
     assert!(!TokenKind::Eof.has_fields());
 }
 
+/// What a parser passes over, what opens a group and what closes one, and none of all other tokens.
+#[test]
+fn kinds_that_parsers_tell_apart() {
+    let texts = |text, allowed, is: fn(TokenKind) -> bool| {
+        let tokens = tokenize(text, allowed).pieces();
+        let some = tokens.filter(|piece| is(piece.token.kind));
+        some.map(|piece| piece.text).collect::<Vec<_>>().join("|")
+    };
+    let rest = "({[<a 1 'a /// a\n//! a\n/** a *//*! a */>]});,//\n/**// *// a\n//// a\n/* a";
+    let text = format!("---\n---\n{rest}");
+    let texts = |is| texts(&text, FrontmatterAllowed::Yes, is);
+    assert_eq!(texts(TokenKind::is_open), "(|{|[");
+    assert_eq!(texts(TokenKind::is_close), "]|}|)");
+    let trivia = texts(TokenKind::is_trivia);
+    assert_eq!(trivia, "\n| | | |\n|\n|//|\n|/**/| |// a|\n|//// a|\n|/* a");
+}
+
 #[test]
 fn years() {
     let years = [

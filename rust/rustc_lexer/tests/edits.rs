@@ -460,6 +460,7 @@ fn what_two_lists_keep() {
     // Counts of no text.
     let most = counts(usize::MAX, usize::MAX, usize::MAX);
     assert_eq!(most.then(most, 13), most);
+    assert_eq!(most.range(), usize::MAX..usize::MAX);
 }
 
 /// A list keeps what each of its edits keeps, and there its tokens are the old ones.

@@ -1,6 +1,7 @@
 //! Texts that are made of pieces.
 
 use rustc_lexer::{Edition, JoinError, JoinedText, Token, is_seam, tokenize_in};
+use std::panic::{AssertUnwindSafe, catch_unwind};
 
 /// What the pieces make, or the number of the first that is refused.
 fn joined(edition: Edition, pieces: &[&str]) -> Result<String, usize> {
@@ -116,11 +117,66 @@ fn editions() {
 fn places_that_panic() {
     for at in [1, 2, 4, 5, usize::MAX] {
         let call = || is_seam("\u{20ac}", at, Edition::E2024);
-        let said = std::panic::catch_unwind(call).expect_err("it panics");
+        let said = catch_unwind(call).expect_err("it panics");
         let said = said.downcast_ref::<&str>().copied();
         assert_eq!(said, Some("`at` is not on a char boundary"), "{at}");
     }
     assert!(is_seam("\u{20ac}", 3, Edition::E2024));
+}
+
+/// Cut back to where each piece ended, it is what it was then, whatever it was before and is after.
+#[test]
+fn pieces_that_are_taken_back() {
+    let pieces = [
+        "b'", "\n", "a", "b", " ", "/", "/", "1", ".", "..", "é", "// c", "\n", "k", "#",
+    ];
+    for &edition in Edition::ALL {
+        let (mut text, mut before) = (JoinedText::new_in(edition), Vec::new());
+        for piece in pieces {
+            before.push(text.clone());
+            text.push(piece);
+        }
+        let places: Vec<usize> = before.iter().map(JoinedText::len).collect();
+        for then in &before {
+            let mut cut = text.clone();
+            cut.truncate(then.len());
+            assert_eq!((&cut, cut.is_empty()), (then, then.as_str() == ""));
+            for piece in ["'r", "a", "\n", "\n\n", "#a", "/"] {
+                let (mut one, mut other) = (cut.clone(), then.clone());
+                assert_eq!(
+                    one.try_push(piece),
+                    other.try_push(piece),
+                    "{then} {piece:?}"
+                );
+                assert_eq!(one, other);
+            }
+        }
+        // Past the end nothing changes, and a place that cuts a token or a character is refused.
+        let mut whole = text.clone();
+        for len in [text.len(), text.len() + 1, usize::MAX] {
+            whole.truncate(len);
+            assert_eq!(whole, text);
+        }
+        for len in (0..text.len()).filter(|len| !places.contains(len)) {
+            let seam = text.as_str().is_char_boundary(len) && is_seam(text.as_str(), len, edition);
+            let cut = AssertUnwindSafe(|| whole.truncate(len));
+            assert_eq!(catch_unwind(cut).is_ok(), seam, "{len}");
+            assert!(seam || whole == text);
+            whole.clone_from(&text);
+        }
+    }
+}
+
+#[test]
+fn a_text_is_equal_shown_and_read() {
+    let mut text = JoinedText::new_in(Edition::E2021);
+    text.push("let");
+    assert_ne!(text, JoinedText::new_in(Edition::E2021));
+    assert_ne!(text, JoinedText::from_iter(["let"]));
+    assert_eq!(format!("{text}{text:>5}"), "let  let");
+    assert_eq!((text.len(), text.is_empty()), (3, false));
+    // It can be a piece.
+    assert_eq!(JoinedText::from_iter([&text, &text]).as_ref(), "let let");
 }
 
 #[test]

@@ -325,10 +325,13 @@ fn a_string_is_not_copied() {
             let given_back = kept.into_string();
             assert_eq!((given_back.as_ptr(), given_back.capacity()), (at, room));
             let string = $string;
-            let refused = given(0, || {
-                $Kept::try_from_string_in(string, Edition::E2024).map(drop)
-            });
-            assert_eq!(refused, Err(EditError::Memory));
+            let (at, room) = (string.as_ptr(), string.capacity());
+            let refused = given(0, || $Kept::try_from_string_in(string, Edition::E2024));
+            let refused = refused.unwrap_err();
+            assert_eq!(refused.error(), EditError::Memory);
+            let given_back = refused.into_string();
+            assert_eq!((given_back.as_ptr(), given_back.capacity()), (at, room));
+            assert_eq!(given_back, text);
         };
     }
     let with_room = || {

@@ -1,6 +1,6 @@
 //! Steppers of a caller that break a rule or panic: what the calls of a kept text say then, and what it has afterwards.
 
-use rustc_lexer::{Edit, EditError, LexedDocument, LexedText, Stepper, Token, TokenKind};
+use rustc_lexer::{Edit, EditError, LexedDocument, LexedText, Relexed, Stepper, Token, TokenKind};
 use std::panic::{AssertUnwindSafe, catch_unwind};
 
 /// Its tokens have one byte, but those at `!` have this many.
@@ -67,10 +67,9 @@ macro_rules! has_no_tokens {
         assert_eq!(said(|| lexed.piece_at(0).is_some()), LEFT);
         assert_eq!(said(|| lexed.edit(0..0, "")), LEFT);
         assert_eq!(said(|| lexed.try_edit(0..0, "")), LEFT);
-        for text in [$text, "", "b"] {
-            assert_eq!(said(|| lexed.set_text(text)), LEFT);
-            assert_eq!(said(|| lexed.try_set_text(text)), LEFT);
-        }
+        // A text that makes a step panic again changes nothing.
+        assert_ne!(said(|| lexed.set_text($text)), LEFT);
+        assert_eq!(said(|| lexed.tokens().len()), LEFT);
         assert_eq!(lexed.try_edit(0..99, ""), Err(EditError::Range));
         assert_eq!(said(|| lexed == second), LEFT);
         assert_eq!(said(|| lexed.edit_all(&[])), LEFT);
@@ -83,6 +82,8 @@ macro_rules! has_no_tokens {
         assert!(shown.ends_with(&format!("{{ text: {:?}, .. }}", $text)));
         lexed.shrink_to_fit();
         assert_eq!(lexed.into_string(), $text);
+        assert_eq!(second.try_set_text(""), Ok(Relexed::none(0)));
+        assert_eq!((second.text(), second.tokens().len()), ("", 0));
     };
 }
 
@@ -134,6 +135,30 @@ fn calls_of_one_kind() {
     assert_eq!(lexed.settled(), 1);
     assert_eq!(said(|| lexed.edit(3..3, "d")), "no step is left");
     assert_eq!(said(|| lexed.settled()), LEFT);
+}
+
+/// A new text is lexed anew, head and all, and then its tokens are kept again.
+#[test]
+fn a_new_text_heals() {
+    let mut lexed = LexedText::try_with("ab!", Bytes(1)).unwrap();
+    assert_eq!(
+        lexed.set_text("ab"),
+        Relexed {
+            kept_front: 0,
+            lexed: 2,
+            kept_back: 0
+        }
+    );
+    let mut lexed = LexedText::try_with("abcdef", Bytes(0)).unwrap();
+    said(|| lexed.edit(3..3, "!"));
+    assert_eq!(lexed.set_text("abcdef"), Relexed::none(6));
+    assert_eq!(lexed.tokens().len(), 6);
+    assert_eq!(lexed.edit(6..6, "g").kept_front, 4);
+    let mut lexed = LexedDocument::try_with("#!a\nb", Bytes(0)).unwrap();
+    said(|| lexed.edit(0..4, "!"));
+    assert_eq!(lexed.set_text("#!ab\n---\n---\nc"), Relexed::none(4));
+    assert_eq!((lexed.shebang_len(), lexed.body().number), (4, 2));
+    assert_eq!(lexed.edit(13..14, "d").kept_front, 2);
 }
 
 /// A panic at each step of a text, and then of an edit.

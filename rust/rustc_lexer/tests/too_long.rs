@@ -6,7 +6,7 @@ use rustc_lexer::{
     strip_shebang, tokenize, tokenize_as, tokenize_document, tokenize_in, validate_raw_str,
 };
 #[cfg(feature = "alloc")]
-use rustc_lexer::{Edit, EditError, EditStop, LexedDocument, LexedText, Steps};
+use rustc_lexer::{Edit, EditError, EditStop, FromStringError, LexedDocument, LexedText, Steps};
 use std::panic::catch_unwind;
 use std::sync::LazyLock;
 
@@ -95,6 +95,20 @@ fn calls_that_take_the_longest_text() {
     assert_eq!(strip_shebang(longest), None);
 }
 
+/// Why the text was refused, which the error has.
+#[cfg(feature = "alloc")]
+fn given_back(refused: Option<FromStringError>) -> Option<EditError> {
+    let refused = refused?;
+    assert_eq!(
+        format!("{refused:?}"),
+        "FromStringError { error: TooLong, .. }"
+    );
+    assert_eq!(refused.to_string(), EditError::TooLong.to_string());
+    let (error, other) = (refused.error(), EditError::from(refused.clone()));
+    assert_eq!((error, refused.into_string().len()), (other, 1 << 32));
+    Some(error)
+}
+
 #[cfg(feature = "alloc")]
 #[test]
 fn texts_with_their_tokens() {
@@ -128,8 +142,8 @@ fn texts_with_their_tokens() {
     let texts = [
         LexedText::try_new_in(too_long(), edition).err(),
         LexedText::try_with(too_long(), Steps::new()).err(),
-        LexedText::try_from_string_in(too_long_string(), edition).err(),
-        LexedDocument::try_from_string_in(too_long_string(), edition).err(),
+        given_back(LexedText::try_from_string_in(too_long_string(), edition).err()),
+        given_back(LexedDocument::try_from_string_in(too_long_string(), edition).err()),
         LexedDocument::try_new_in(too_long(), edition).err(),
         LexedDocument::try_with(too_long(), Steps::new()).err(),
     ];

@@ -23,6 +23,11 @@
 #![no_std]
 #![cfg_attr(docsrs, feature(doc_cfg))]
 #![deny(missing_docs)]
+#![warn(
+    clippy::missing_errors_doc,
+    clippy::missing_panics_doc,
+    clippy::must_use_candidate
+)]
 #![forbid(unsafe_code)]
 
 #[cfg(feature = "alloc")]
@@ -36,6 +41,11 @@ extern crate std;
 /// strings, and may change with the source. All other callers use the calls at the crate's root.
 // Contracts alone use some of its imports and variables.
 #[allow(missing_docs, unused_imports, unused_variables, dead_code)]
+#[allow(
+    clippy::missing_errors_doc,
+    clippy::missing_panics_doc,
+    clippy::must_use_candidate
+)]
 #[allow(clippy::assign_op_pattern, clippy::collapsible_if)]
 #[allow(clippy::question_mark)]
 #[doc(hidden)]

@@ -1,14 +1,15 @@
 //! A text that is made of pieces whose tokens stay.
-ghost use Rattle.std.specs.Prelude.{◌≡◌, ◌+◌, ◌<◌, ◌≤◌, ◌^◌, ◌++◌, ◌↔◌, false, if◌then◌else◌, IfErr, IsTrue, OnErr, OnOk, drop, length, take, Some, []};
+ghost use Rattle.std.specs.Prelude.{◌≡◌, ◌+◌, ◌<◌, ◌≤◌, ◌^◌, ◌++◌, ◌↔◌, false, if◌then◌else◌, IfErr, IfSome, IsTrue, OnErr, OnOk, drop, is_some, length, take, Some, []};
 ghost use Rattle.std.specs.Str.{IsCharBoundary, chars};
 ghost use Rattle.std.specs.String.{string_bytes, string_capacity, string_len};
 ghost use Rattle.rustc_lexer.specs.Answers.{first_in, tokens_of};
 ghost use Rattle.rustc_lexer.specs.Classes.{Fits, Utf8};
-ghost use Rattle.rustc_lexer.specs.Joined.{AreClosed, AreInseparable, IsJoined, IsRefused, IsSeparated, MayTouch, RunsOn, TailDecides, WhiteSpaceSeparates, error_text};
+ghost use Rattle.rustc_lexer.specs.Joined.{AreClosed, AreInseparable, IsJoined, IsRefused, IsSeparated, MayEnd, MayTouch, RunsOn, TailDecides, WhiteSpaceSeparates, cut_to, error_text};
 ghost use Rattle.rustc_lexer.specs.LanguageText.{part};
 ghost use Rattle.rustc_lexer.specs.means.Joined.{IsSure};
 
 use crate::edition::{Edition, token_in};
+use crate::relex::front::two_stand;
 use crate::relex::settle::settled_in;
 use std::alloc::Global;
 use std::error::Error;
@@ -155,6 +156,43 @@ impl JoinedText {
         }
         self.sure = sure_later(self.text.as_str(), self.sure, self.edition);
         Ok(())
+    }
+
+    /// Cuts the text back to its first `len` bytes if their tokens are the first ones of the text, as at the end of each
+    /// piece. Returns whether it did; otherwise nothing changes.
+    pub fn truncate(&mut self, len: usize) -> bool
+        ensures may { IsTrue result ↔ MayEnd self.old len }
+        ensures cut { IsTrue result → self.new ≡ cut_to self.old len }
+        ensures same { result ≡ false → self.new ≡ self.old }
+    {
+        let text = self.text.as_str();
+        if !text.is_char_boundary(len) {
+            return false;
+        }
+        let Some(sure) = sure_before(text, self.sure, len, self.edition) else {
+            return false;
+        };
+        self.text.truncate(len);
+        self.sure = sure;
+        true
+    }
+}
+
+/// Returns a boundary that is sure in the text up to `at`, by one of the whole text, if the text may end there.
+#[tactic(auto, using(crate::proofs::SureLemmas::sure_start, crate::proofs::SureLemmas::sure_place_in, crate::proofs::SureLemmas::sure_cut_in))]
+fn sure_before(text: &str, sure: usize, at: usize, edition: Edition) -> Option<usize>
+    requires fits { Fits text.now }
+    requires boundary { IsCharBoundary text.now at }
+    requires sure { IsSure (first_in edition) text.now sure }
+    ensures may { IsTrue (is_some result)
+        ↔ MayTouch edition (take at text.now) (drop at text.now) }
+    ensures sure { IfSome result (λ it. IsSure (first_in edition) (take at text.now) it) }
+{
+    let sure = if two_stand(text, sure, at) { sure } else { 0 };
+    if stays(text, sure, at, edition) {
+        Some(sure)
+    } else {
+        None
     }
 }
 

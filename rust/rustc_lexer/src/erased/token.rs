@@ -204,6 +204,54 @@ impl TokenKind {
         WITH_FIELDS >> self.number() & 1 == 1
     }
 
+    /// Returns whether a parser passes over the token: white space, or a comment that documents nothing.
+    ///
+    /// ```
+    /// use rustc_lexer::{DocStyle, TokenKind};
+    ///
+    /// assert!(TokenKind::LineComment { doc_style: None }.is_trivia());
+    /// assert!(!TokenKind::LineComment { doc_style: Some(DocStyle::Outer) }.is_trivia());
+    /// ```
+    pub fn is_trivia(self) -> bool {
+        matches!(
+            self,
+            TokenKind::Whitespace
+                | TokenKind::LineComment { doc_style: None }
+                | TokenKind::BlockComment {
+                    doc_style: None,
+                    ..
+                },
+        )
+    }
+
+    /// Returns whether the token opens a group: whether it is `(`, `[` or `{`.
+    ///
+    /// ```
+    /// use rustc_lexer::TokenKind;
+    ///
+    /// assert!(TokenKind::OpenParen.is_open() && !TokenKind::Lt.is_open());
+    /// ```
+    pub fn is_open(self) -> bool {
+        matches!(
+            self,
+            TokenKind::OpenParen | TokenKind::OpenBracket | TokenKind::OpenBrace
+        )
+    }
+
+    /// Returns whether the token closes a group: whether it is `)`, `]` or `}`.
+    ///
+    /// ```
+    /// use rustc_lexer::TokenKind;
+    ///
+    /// assert!(TokenKind::CloseParen.is_close() && !TokenKind::Gt.is_close());
+    /// ```
+    pub fn is_close(self) -> bool {
+        matches!(
+            self,
+            TokenKind::CloseParen | TokenKind::CloseBracket | TokenKind::CloseBrace
+        )
+    }
+
     /// Returns the number and the name of the kind.
     #[inline(always)]
     fn entry(self) -> (u8, &'static str) {

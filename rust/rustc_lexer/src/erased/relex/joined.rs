@@ -3,6 +3,7 @@
 use crate::support::String;
 
 use crate::erased::edition::{Edition, token_in};
+use crate::erased::relex::front::two_stand;
 use crate::erased::relex::settle::settled_in;
 use crate::support::Global;
 use core::error::Error;
@@ -98,6 +99,31 @@ impl JoinedText {
         }
         self.sure = sure_later(self.text.as_str(), self.sure, self.edition);
         Ok(())
+    }
+
+    /// Cuts the text back to its first `len` bytes if their tokens are the first ones of the text, as at the end of each
+    /// piece. Returns whether it did; otherwise nothing changes.
+    pub fn truncate(&mut self, len: usize) -> bool {
+        let text = self.text.as_str();
+        if !text.is_char_boundary(len) {
+            return false;
+        }
+        let Some(sure) = sure_before(text, self.sure, len, self.edition) else {
+            return false;
+        };
+        self.text.truncate(len);
+        self.sure = sure;
+        true
+    }
+}
+
+/// Returns a boundary that is sure in the text up to `at`, by one of the whole text, if the text may end there.
+fn sure_before(text: &str, sure: usize, at: usize, edition: Edition) -> Option<usize> {
+    let sure = if two_stand(text, sure, at) { sure } else { 0 };
+    if stays(text, sure, at, edition) {
+        Some(sure)
+    } else {
+        None
     }
 }
 

@@ -105,6 +105,19 @@ impl<S: Stepper, E: Extent> Lexed<S, E> {
         Ok(())
     }
 
+    /// Takes another text, and lexes it by the stepper. Nothing of what is kept matters for it. `Err` means that an
+    /// allocation failed, and then both texts stay where they are.
+    pub(crate) fn lex_anew(&mut self, text: &mut String) -> Result<(), AllocError> {
+        let stepper = &mut self.kept.stepper;
+        let now = E::find_head(text.as_str());
+        let (lexed, checkpoints) = lex_body(self.kept.alloc, now, stepper, text.as_str())?;
+        self.kept.text = core::mem::replace(text, String::new(self.kept.alloc));
+        self.kept.tokens = lexed;
+        self.kept.head = now;
+        self.kept.checkpoints = checkpoints;
+        Ok(())
+    }
+
     /// Returns whether an edit can be made: whether its range is inside the text, between characters, and the new
     /// text has at most `u32::MAX` bytes.
     pub fn accepts(&self, start: usize, stop: usize, insert: &str) -> bool {
