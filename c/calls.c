@@ -557,7 +557,7 @@ static void check_token(const char *text, size_t len, uint32_t class_wanted, uin
     struct rustc_lexer_token token = rustc_lexer_first_token_unchecked(bytes, strlen(text), 1);
     uint32_t number = 99;
     CHECK(token.len == len);
-    CHECK(rustc_lexer_class(bytes, len, &token, &number) == RUSTC_LEXER_OK && number == class_wanted);
+    CHECK(rustc_lexer_class(bytes, len, &token, 2024, &number) == RUSTC_LEXER_OK && number == class_wanted);
     number = 99;
     CHECK(rustc_lexer_fault(bytes, len, &token, &number) == RUSTC_LEXER_OK && number == fault_wanted);
 }
@@ -639,11 +639,21 @@ static void check_classes(void) {
 
     struct rustc_lexer_token token = {.kind = RUSTC_LEXER_IDENT, .len = 1};
     uint32_t number = 9;
-    CHECK(rustc_lexer_class((const uint8_t *)"\xff", 1, &token, &number) == RUSTC_LEXER_NOT_UTF8 && number == 0);
+    CHECK(rustc_lexer_class((const uint8_t *)"\xff", 1, &token, 2024, &number) == RUSTC_LEXER_NOT_UTF8 && number == 0);
     number = 9;
     CHECK(rustc_lexer_fault((const uint8_t *)"\xff", 1, &token, &number) == RUSTC_LEXER_NOT_UTF8 && number == 0);
-    CHECK(rustc_lexer_class(NULL, 0, &token, &number) == RUSTC_LEXER_OK && number == RUSTC_LEXER_CLASS_PLAIN);
+    CHECK(rustc_lexer_class(NULL, 0, &token, 2024, &number) == RUSTC_LEXER_OK && number == RUSTC_LEXER_CLASS_PLAIN);
     CHECK(rustc_lexer_fault(NULL, 0, &token, &number) == RUSTC_LEXER_OK && number == 0);
+
+    /* a keyword of later editions, and years that are none */
+    const uint8_t *word = (const uint8_t *)"dyn";
+    for (uint32_t year = 2013; year < 2030; year++) {
+        bool is_edition = year == 2015 || year == 2018 || year == 2021 || year == 2024;
+        uint32_t wanted = year == 2015 ? RUSTC_LEXER_CLASS_PLAIN : is_edition ? RUSTC_LEXER_CLASS_KEYWORD : 0;
+        number = 9;
+        uint32_t status = rustc_lexer_class(word, 3, &token, year, &number);
+        CHECK(status == (is_edition ? RUSTC_LEXER_OK : RUSTC_LEXER_BAD_EDITION) && number == wanted);
+    }
 }
 
 int main(void) {

@@ -261,7 +261,7 @@ static void check_classes(const uint8_t *text, size_t len, enum placement placem
     uint8_t *numbers = token.bytes;
     for (int i = 0; i < 2; i++) {
         memcpy(token.bytes, &first, sizeof first);
-        CHECK(rustc_lexer_class(text, first.len, token.bytes, number.bytes) == RUSTC_LEXER_OK);
+        CHECK(rustc_lexer_class(text, first.len, token.bytes, 2024, number.bytes) == RUSTC_LEXER_OK);
         CHECK(rustc_lexer_fault(text, first.len, token.bytes, number.bytes) == RUSTC_LEXER_OK);
         for (size_t j = 0; j < 4; j++)
             numbers[j] = (uint8_t)below(j == 0 ? 45 : 12);

@@ -280,7 +280,7 @@ enum {
     RUSTC_LEXER_CLASS_PLAIN = 1, /* white space, a symbol, or a name of no other class */
     RUSTC_LEXER_CLASS_COMMENT = 2, /* a comment that is no doc comment */
     RUSTC_LEXER_CLASS_DOC = 3, /* a doc comment, or a frontmatter */
-    RUSTC_LEXER_CLASS_KEYWORD = 4, /* a strict keyword of the newest edition, in every edition */
+    RUSTC_LEXER_CLASS_KEYWORD = 4, /* a strict keyword of the edition */
     RUSTC_LEXER_CLASS_TYPE_NAME = 5, /* a name that begins with a capital letter of ASCII */
     RUSTC_LEXER_CLASS_TEXT = 6, /* a string, a character or a byte */
     RUSTC_LEXER_CLASS_ESCAPE = 7, /* an escape in one of these; no token has this class */
@@ -517,8 +517,10 @@ uint32_t rustc_lexer_literal_errors(const uint8_t *text, size_t len, uint32_t mo
 uint32_t rustc_lexer_literal_errors_unchecked(const uint8_t *text, size_t len, uint32_t mode, size_t passed,
                                               struct rustc_lexer_unit *buffer, size_t buffer_len, size_t *count);
 
-/* Writes the class of a token, RUSTC_LEXER_CLASS_.., into `number`. The text is that of the token. */
-uint32_t rustc_lexer_class(const uint8_t *text, size_t len, const struct rustc_lexer_token *token, uint32_t *number);
+/* Writes the class of a token, RUSTC_LEXER_CLASS_.., into `number`. The text is that of the token, in an edition like
+ * 2024. */
+uint32_t rustc_lexer_class(const uint8_t *text, size_t len, const struct rustc_lexer_token *token, uint32_t edition,
+                           uint32_t *number);
 
 /* Writes what is wrong with a token, RUSTC_LEXER_FAULT_.., into `number`, or 0 if nothing is. The text is that of the
  * token. What is wrong between the quotes of a literal that is closed, rustc_lexer_literal_errors writes. */

@@ -29,9 +29,9 @@ without_token : (fault : Option Fault) (mode : Option Mode) (class : Class) (tex
 without_token fault mode class text = grind (arith, common_steps, without_fault, without_literal, append-nil)
 
 -- without the marks, the parts are the text as far as the tokens go
-without_marks-parts : (text : List ℕ) (tokens : List Token) → without_marks (parts text tokens) ≡ take (bound tokens (length tokens)) text
-without_marks-parts text [] = refl
-without_marks-parts text (token ∷ tokens) = grind (arith, common_steps, flat_map-append, without_token, take-add, without_marks-parts (drop token.len text) tokens)
+without_marks-parts : (edition : Edition) (text : List ℕ) (tokens : List Token) → without_marks (parts edition text tokens) ≡ take (bound tokens (length tokens)) text
+without_marks-parts edition text [] = refl
+without_marks-parts edition text (token ∷ tokens) = grind (arith, common_steps, flat_map-append, without_token, take-add, without_marks-parts edition (drop token.len text) tokens)
 
 -- without the marks, a document is as it was
 pub document_is : (edition : Edition) (text : List ℕ) → Partitions (drop (shebang_len text) text) (document_tokens edition text) → without_marks (document_parts edition text) ≡ text
@@ -62,19 +62,19 @@ module _ (edition : Edition) (text rest : List ℕ) (n : ℕ) (is : n ≡ mark_l
 
 module _ {W : Type 0} (took : W → List ℕ → W → Type 0) where
   -- a token, and then those that are left
-  pub writes_token : (style : Style) (w0 w1 w : W) (text rest own : List ℕ) (left others : List Token) (token : Token)
+  pub writes_token : (style : Style) (edition : Edition) (w0 w1 w : W) (text rest own : List ℕ) (left others : List Token) (token : Token)
       → left ≡ token ∷ others → rest ≡ drop token.len text → own ≡ take token.len text
-      → WritesInCalls took w0 (with_marks style (token_parts token.kind own)) w1
-      → WritesInCalls took w1 (marked_tokens style rest others) w → WritesInCalls took w0 (marked_tokens style text left) w
-  writes_token style w0 w1 w text rest own left others token first past is wrote more = grind (arith, common_steps, writes_parts)
+      → WritesInCalls took w0 (with_marks style (token_parts edition token.kind own)) w1
+      → WritesInCalls took w1 (marked_tokens style edition rest others) w → WritesInCalls took w0 (marked_tokens style edition text left) w
+  writes_token style edition w0 w1 w text rest own left others token first past is wrote more = grind (arith, common_steps, writes_parts)
 
   -- a byte order mark and the shebang line, and then the tokens of what follows them
   pub writes_past : (style : Style) (edition : Edition) (w0 w v u : W) (mark text : List ℕ)
       → WritesInCalls took w0 (with_marks style (Own Plain mark ∷ [])) w → WritesInCalls took w (with_marks style (Own Comment (take (shebang_len text) text) ∷ [])) v
-      → WritesInCalls took v (marked_tokens style (drop (shebang_len text) text) (document_tokens edition text)) u → WritesInCalls took w0 (with_marks style (Own Plain mark ∷ document_parts edition text)) u
+      → WritesInCalls took v (marked_tokens style edition (drop (shebang_len text) text) (document_tokens edition text)) u → WritesInCalls took w0 (with_marks style (Own Plain mark ∷ document_parts edition text)) u
   writes_past style edition w0 w v u mark text before first more =
       writes_parts took style (Own Plain mark ∷ []) (document_parts edition text) w0 w u before
-      (writes_parts took style (Own Comment (take (shebang_len text) text) ∷ []) (parts (drop (shebang_len text) text) (document_tokens edition text)) w v u first more)
+      (writes_parts took style (Own Comment (take (shebang_len text) text) ∷ []) (parts edition (drop (shebang_len text) text) (document_tokens edition text)) w v u first more)
 
   -- so the byte order mark and the document are the text
   pub writes_whole : {T E : Type 0} (r : Result T E) (style : Style) (edition : Edition) (text mark rest : List ℕ) (n : ℕ) (w v : W) → n ≡ mark_len text → mark ≡ take (n - 0) text → rest ≡ drop n text

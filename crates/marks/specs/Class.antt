@@ -1,7 +1,7 @@
--- The class of a token, which says what it is for a reader, by its kind and its text.
+-- The class of a token in an edition, which says what it is for a reader, by its kind and its text.
 use Rattle.std.specs.Prelude.{ℕ, Bool, false, if◌then◌else◌, List, [], ◌∷◌, Some, None}
 use Rattle.std.specs.Char.{is_ascii_uppercase}
-use Rattle.rustc_lexer.specs.declared.edition.Edition.TheVariants.{E2024}
+use Rattle.rustc_lexer.specs.declared.edition.Edition.{Edition}
 use Rattle.rustc_lexer.specs.declared.token.LiteralKind.{LiteralKind}
 use Rattle.rustc_lexer.specs.declared.token.LiteralKind.TheVariants.{Int, Float}
 use Rattle.rustc_lexer.specs.declared.token.TokenKind.{TokenKind}
@@ -16,9 +16,9 @@ abbrev pub is_type_name : List ℕ → Bool
 is_type_name [] = false
 is_type_name (b ∷ bs) = is_ascii_uppercase b
 
-abbrev pub word_class : List ℕ → Class
-word_class word =
-    if has Strict E2024 word then Keyword
+abbrev pub word_class : List ℕ → Edition → Class
+word_class word edition =
+    if has Strict edition word then Keyword
     else (if is_type_name word then TypeName else Plain)
 
 abbrev pub literal_class : LiteralKind → Class
@@ -26,18 +26,18 @@ literal_class (Int base empty_int) = Number
 literal_class (Float base empty_exponent) = Number
 literal_class kind = Text
 
-abbrev pub class_of : TokenKind → List ℕ → Class
-class_of (LineComment None) text = Comment
-class_of (LineComment (Some style)) text = Doc
-class_of (BlockComment None terminated) text = Comment
-class_of (BlockComment (Some style) terminated) text = Doc
-class_of (Frontmatter has_invalid_preceding_whitespace invalid_infostring) text = Doc
-class_of Ident text = word_class text
-class_of (Literal kind suffix_start) text = literal_class kind
-class_of (LifetimeToken starts_with_number) text = Lifetime
-class_of RawLifetime text = Lifetime
-class_of UnknownPrefixLifetime text = Lifetime
-class_of kind text = Plain
+abbrev pub class_of : TokenKind → List ℕ → Edition → Class
+class_of (LineComment None) text edition = Comment
+class_of (LineComment (Some style)) text edition = Doc
+class_of (BlockComment None terminated) text edition = Comment
+class_of (BlockComment (Some style) terminated) text edition = Doc
+class_of (Frontmatter has_invalid_preceding_whitespace invalid_infostring) text edition = Doc
+class_of Ident text edition = word_class text edition
+class_of (Literal kind suffix_start) text edition = literal_class kind
+class_of (LifetimeToken starts_with_number) text edition = Lifetime
+class_of RawLifetime text edition = Lifetime
+class_of UnknownPrefixLifetime text edition = Lifetime
+class_of kind text edition = Plain
 
 -- the number of a class, for other languages. A number never changes: a new class gets a new one
 abbrev pub class_number : Class → ℕ

@@ -27,20 +27,22 @@ parts_by (Some fault) mode class text = fault_parts fault class text
 parts_by None (Some mode) class text = literal_parts mode text
 parts_by None None class text = Own class text ∷ []
 
-abbrev pub token_parts : TokenKind → List ℕ → List Part
-token_parts kind text = parts_by (fault_of kind text) (closed_mode kind) (class_of kind text) text
+abbrev pub token_parts : Edition → TokenKind → List ℕ → List Part
+token_parts edition kind text =
+    parts_by (fault_of kind text) (closed_mode kind) (class_of kind text edition) text
 
-abbrev pub parts : List ℕ → List Token → List Part
-parts text [] = []
-parts text (token ∷ tokens) =
-    token_parts token.kind (take token.len text) ++ parts (drop token.len text) tokens
+abbrev pub parts : Edition → List ℕ → List Token → List Part
+parts edition text [] = []
+parts edition text (token ∷ tokens) =
+    token_parts edition token.kind (take token.len text)
+    ++ parts edition (drop token.len text) tokens
 
 -- the parts of a document in an edition: its shebang line as a comment, and the tokens of the text
 -- after it
 abbrev pub document_parts : Edition → List ℕ → List Part
 document_parts edition text =
     Own Comment (take (shebang_len text) text)
-    ∷ parts (drop (shebang_len text) text) (document_tokens edition text)
+    ∷ parts edition (drop (shebang_len text) text) (document_tokens edition text)
 
 -- the length of the byte order mark, U+FEFF, that a text begins with, or 0
 abbrev pub mark_len : List ℕ → ℕ
@@ -51,9 +53,9 @@ abbrev pub text_parts : Edition → List ℕ → List Part
 text_parts edition text =
     Own Plain (take (mark_len text) text) ∷ document_parts edition (drop (mark_len text) text)
 
--- the tokens of a text, each between its marks, as they are written
-abbrev pub marked_tokens : Style → List ℕ → List Token → List ℕ
-marked_tokens style text tokens = with_marks style (parts text tokens)
+-- the tokens of a text in an edition, each between its marks, as they are written
+abbrev pub marked_tokens : Style → Edition → List ℕ → List Token → List ℕ
+marked_tokens style edition text tokens = with_marks style (parts edition text tokens)
 
 -- the same for a whole text
 abbrev pub marked : Style → Edition → List ℕ → List ℕ

@@ -17,8 +17,8 @@ pub enum Class {
     Comment,
     /// A doc comment, or a frontmatter.
     Doc,
-    /// A strict keyword of the newest edition, like `while`. So `async`, `await` and `dyn` are of this class in 2015 too,
-    /// and reserved words, like `try`, and weak keywords, like `union`, in no edition.
+    /// A strict keyword of the edition, like `while`. Reserved words, like `try`, and weak keywords, like `union`, are
+    /// names.
     Keyword,
     /// A name that begins with a capital letter of ASCII.
     TypeName,
@@ -41,18 +41,20 @@ impl Class {
     }
 }
 
-/// Returns the class of a token by its kind and its text: what it is to a reader, as `highlight` shows it by a colour.
+/// Returns the class of a token in an edition, by its kind and its text: what it is to a reader, as `highlight` shows it
+/// by a colour.
 ///
 /// ```
-/// use marks::{Class, class_of};
+/// use marks::{Class, Edition, class_of};
 /// use rustc_lexer::TokenKind;
 ///
-/// assert_eq!(class_of(TokenKind::Ident, "while"), Class::Keyword);
-/// assert_eq!(class_of(TokenKind::Ident, "Vec"), Class::TypeName);
-/// assert_eq!(class_of(TokenKind::RawIdent, "r#while"), Class::Plain);
+/// assert_eq!(class_of(TokenKind::Ident, "async", Edition::E2018), Class::Keyword);
+/// assert_eq!(class_of(TokenKind::Ident, "async", Edition::E2015), Class::Plain);
+/// assert_eq!(class_of(TokenKind::Ident, "Vec", Edition::E2024), Class::TypeName);
+/// assert_eq!(class_of(TokenKind::RawIdent, "r#while", Edition::E2024), Class::Plain);
 /// ```
-pub fn class_of(kind: TokenKind, text: &str) -> Class
-    ensures { result ≡ class_of kind text.now }
+pub fn class_of(kind: TokenKind, text: &str, edition: Edition) -> Class
+    ensures { result ≡ class_of kind text.now edition }
 {
     match kind {
         TokenKind::LineComment { doc_style: None }
@@ -63,7 +65,7 @@ pub fn class_of(kind: TokenKind, text: &str) -> Class
         TokenKind::LineComment { .. }
         | TokenKind::BlockComment { .. }
         | TokenKind::Frontmatter { .. } => Class::Doc,
-        TokenKind::Ident => word_class(text),
+        TokenKind::Ident => word_class(text, edition),
         TokenKind::Literal { kind, .. } => match kind {
             LiteralKind::Int { .. } | LiteralKind::Float { .. } => Class::Number,
             _ => Class::Text,
@@ -75,10 +77,10 @@ pub fn class_of(kind: TokenKind, text: &str) -> Class
 }
 
 /// Returns the class of an identifier or a keyword.
-fn word_class(word: &str) -> Class
-    ensures { result ≡ word_class word.now }
+fn word_class(word: &str, edition: Edition) -> Class
+    ensures { result ≡ word_class word.now edition }
 {
-    if is_strict(word, Edition::E2024) {
+    if is_strict(word, edition) {
         Class::Keyword
     } else if is_type_name(word) {
         Class::TypeName

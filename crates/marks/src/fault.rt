@@ -8,6 +8,7 @@ use crate::frontmatter::end_fault;
 use crate::text_fault::text_fault;
 use rustc_lexer::{LiteralKind, RawStrError, TokenKind, starts_raw, validate_raw_str};
 use rustc_literal_escaper::EscapeError;
+use std::error::Error;
 use std::fmt;
 
 /// A fault of a token. Its `Display` writes a sentence about it.
@@ -341,3 +342,5 @@ impl fmt::Display for Fault {
         }
     }
 }
+
+impl Error for Fault {}

@@ -74,7 +74,7 @@ fn write_document<W: fmt::Write>(
     write_in_class(style, Class::Comment, &text[..start], output)?;
     for token in tokens {
         let end = start + token.len as usize;
-        write_token(style, token.kind, &text[start..end], output)?;
+        write_token(style, edition, token.kind, &text[start..end], output)?;
         start = end;
     }
     Ok(())
@@ -93,7 +93,7 @@ pub fn write_first_tokens<W: fmt::Write>(
 ) -> fmt::Result
     requires fits { Fits text.now }
     ensures { OnOk result (WritesInCalls W.write_str_gives output.old
-        (marked_tokens style text.now
+        (marked_tokens style edition text.now
         (take count (tokens_of (part edition) text.now))) output.new) }
 {
     let mut tokens = tokenize_in(text, edition);
@@ -104,7 +104,7 @@ pub fn write_first_tokens<W: fmt::Write>(
             break;
         };
         let end = start + token.len as usize;
-        write_token(style, token.kind, &text[start..end], output)?;
+        write_token(style, edition, token.kind, &text[start..end], output)?;
         start = end;
         left -= 1;
     }
@@ -115,15 +115,16 @@ pub fn write_first_tokens<W: fmt::Write>(
 /// fault. In a literal without a fault of its own, each escape and each stretch that is wrong has marks around it.
 fn write_token<W: fmt::Write>(
     style: Style,
+    edition: Edition,
     kind: TokenKind,
     text: &str,
     output: &mut W,
 ) -> fmt::Result
     requires fits { Fits text.now }
     ensures { OnOk result (WritesInCalls W.write_str_gives output.old
-        (with_marks style (token_parts kind text.now)) output.new) }
+        (with_marks style (token_parts edition kind text.now)) output.new) }
 {
-    let class = class_of(kind, text);
+    let class = class_of(kind, text, edition);
     if let Some(fault) = fault_of(kind, text) {
         return write_with_fault(style, fault, class, text, output);
     }

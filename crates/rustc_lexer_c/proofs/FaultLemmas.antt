@@ -1,6 +1,8 @@
 -- The kind that numbers stand for has the class and the error of each token with these numbers.
 use Rattle.std.proofs.Common.{◌≡◌, true, false, List, ℕ, None, Some, ap, arith, refl, sym, ◌∙◌}
 use Rattle.std.proofs.lemmas.Grind.{common_steps}
+use Rattle.rustc_lexer.specs.declared.edition.Edition.{Edition}
+use Rattle.rustc_lexer.specs.declared.edition.Edition.TheVariants.{E2024}
 use Rattle.rustc_lexer.specs.declared.token.Token.{Token}
 use Rattle.rustc_lexer.specs.declared.token.Base.TheVariants.{Binary, Octal, Decimal, Hexadecimal}
 use Rattle.rustc_lexer.specs.declared.token.LiteralKind.{LiteralKind}
@@ -14,53 +16,53 @@ use Rattle.rustc_lexer_c.specs.Numbers.{first_of, literal_second, literal_third,
 use Rattle.marks.specs.Class.{class_of}
 use Rattle.marks.specs.Fault.{fault_of}
 
-abbrev AreKept : TokenKind → ℕ → List ℕ → Type 0
-AreKept kind len text =
+abbrev AreKept : TokenKind → ℕ → List ℕ → Edition → Type 0
+AreKept kind len text edition =
     let numbers : CToken = token_numbers record { kind = kind; len = len } in
-    (class_of (kind_of numbers) text ≡ class_of kind text) × (fault_of (kind_of numbers) text ≡ fault_of kind text)
+    (class_of (kind_of numbers) text edition ≡ class_of kind text edition) × (fault_of (kind_of numbers) text ≡ fault_of kind text)
 
-literal_kept : (kind : LiteralKind) (suffix_start len : ℕ) (text : List ℕ) → AreKept (Literal kind suffix_start) len text
+literal_kept : (kind : LiteralKind) (suffix_start len : ℕ) (text : List ℕ) (edition : Edition) → AreKept (Literal kind suffix_start) len text edition
 unfolding kind_entry literal_entry token_numbers first_of second_of third_of literal_second literal_third
-literal_kept (Int Binary true) s len text = (refl, refl)
-literal_kept (Int Octal true) s len text = (refl, refl)
-literal_kept (Int Decimal true) s len text = (refl, refl)
-literal_kept (Int Hexadecimal true) s len text = (refl, refl)
-literal_kept (Int Binary false) s len text = (refl, refl)
-literal_kept (Int Octal false) s len text = (refl, refl)
-literal_kept (Int Decimal false) s len text = (refl, refl)
-literal_kept (Int Hexadecimal false) s len text = (refl, refl)
-literal_kept (Float Binary true) s len text = (refl, refl)
-literal_kept (Float Octal true) s len text = (refl, refl)
-literal_kept (Float Decimal true) s len text = (refl, refl)
-literal_kept (Float Hexadecimal true) s len text = (refl, refl)
-literal_kept (Float Binary false) s len text = (refl, refl)
-literal_kept (Float Octal false) s len text = (refl, refl)
-literal_kept (Float Decimal false) s len text = (refl, refl)
-literal_kept (Float Hexadecimal false) s len text = (refl, refl)
-literal_kept (Char true) s len text = (refl, refl)
-literal_kept (Char false) s len text = (refl, refl)
-literal_kept (Byte true) s len text = (refl, refl)
-literal_kept (Byte false) s len text = (refl, refl)
-literal_kept (Str true) s len text = (refl, refl)
-literal_kept (Str false) s len text = (refl, refl)
-literal_kept (ByteStr true) s len text = (refl, refl)
-literal_kept (ByteStr false) s len text = (refl, refl)
-literal_kept (CStr true) s len text = (refl, refl)
-literal_kept (CStr false) s len text = (refl, refl)
-literal_kept (RawStr None) s len text = (refl, refl)
-literal_kept (RawStr (Some n)) s len text = (refl, refl)
-literal_kept (RawByteStr None) s len text = (refl, refl)
-literal_kept (RawByteStr (Some n)) s len text = (refl, refl)
-literal_kept (RawCStr None) s len text = (refl, refl)
-literal_kept (RawCStr (Some n)) s len text = (refl, refl)
+literal_kept (Int Binary true) s len text edition = (refl, refl)
+literal_kept (Int Octal true) s len text edition = (refl, refl)
+literal_kept (Int Decimal true) s len text edition = (refl, refl)
+literal_kept (Int Hexadecimal true) s len text edition = (refl, refl)
+literal_kept (Int Binary false) s len text edition = (refl, refl)
+literal_kept (Int Octal false) s len text edition = (refl, refl)
+literal_kept (Int Decimal false) s len text edition = (refl, refl)
+literal_kept (Int Hexadecimal false) s len text edition = (refl, refl)
+literal_kept (Float Binary true) s len text edition = (refl, refl)
+literal_kept (Float Octal true) s len text edition = (refl, refl)
+literal_kept (Float Decimal true) s len text edition = (refl, refl)
+literal_kept (Float Hexadecimal true) s len text edition = (refl, refl)
+literal_kept (Float Binary false) s len text edition = (refl, refl)
+literal_kept (Float Octal false) s len text edition = (refl, refl)
+literal_kept (Float Decimal false) s len text edition = (refl, refl)
+literal_kept (Float Hexadecimal false) s len text edition = (refl, refl)
+literal_kept (Char true) s len text edition = (refl, refl)
+literal_kept (Char false) s len text edition = (refl, refl)
+literal_kept (Byte true) s len text edition = (refl, refl)
+literal_kept (Byte false) s len text edition = (refl, refl)
+literal_kept (Str true) s len text edition = (refl, refl)
+literal_kept (Str false) s len text edition = (refl, refl)
+literal_kept (ByteStr true) s len text edition = (refl, refl)
+literal_kept (ByteStr false) s len text edition = (refl, refl)
+literal_kept (CStr true) s len text edition = (refl, refl)
+literal_kept (CStr false) s len text edition = (refl, refl)
+literal_kept (RawStr None) s len text edition = (refl, refl)
+literal_kept (RawStr (Some n)) s len text edition = (refl, refl)
+literal_kept (RawByteStr None) s len text edition = (refl, refl)
+literal_kept (RawByteStr (Some n)) s len text edition = (refl, refl)
+literal_kept (RawCStr None) s len text edition = (refl, refl)
+literal_kept (RawCStr (Some n)) s len text edition = (refl, refl)
 
-are_kept : (kind : TokenKind) (len : ℕ) (text : List ℕ) → AreKept kind len text
+are_kept : (kind : TokenKind) (len : ℕ) (text : List ℕ) (edition : Edition) → AreKept kind len text edition
 unfolding kind_entry token_numbers first_of second_of third_of
-are_kept (Literal kind suffix_start) len text = literal_kept kind suffix_start len text
-are_kept kind len text = grind (arith, common_steps, literal_kept)
+are_kept (Literal kind suffix_start) len text edition = literal_kept kind suffix_start len text edition
+are_kept kind len text edition = grind (arith, common_steps, literal_kept)
 
-pub same_class : (it : Token) (token : CToken) (text : List ℕ) → token_numbers it ≡ token → class_of (kind_of token) text ≡ class_of it.kind text
-same_class it token text same = ap (λ (t : CToken). class_of (kind_of t) text) (sym same) ∙ (are_kept it.kind it.len text).0
+pub same_class : (it : Token) (token : CToken) (text : List ℕ) (edition : Edition) → token_numbers it ≡ token → class_of (kind_of token) text edition ≡ class_of it.kind text edition
+same_class it token text edition same = ap (λ (t : CToken). class_of (kind_of t) text edition) (sym same) ∙ (are_kept it.kind it.len text edition).0
 
 pub same_fault : (it : Token) (token : CToken) (text : List ℕ) → token_numbers it ≡ token → fault_of (kind_of token) text ≡ fault_of it.kind text
-same_fault it token text same = ap (λ (t : CToken). fault_of (kind_of t) text) (sym same) ∙ (are_kept it.kind it.len text).1
+same_fault it token text same = ap (λ (t : CToken). fault_of (kind_of t) text) (sym same) ∙ (are_kept it.kind it.len text E2024).1

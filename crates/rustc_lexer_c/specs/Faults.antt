@@ -1,5 +1,6 @@
--- The error of a token as a number, and the kind of a token whose numbers C passes.
-use Rattle.std.specs.Prelude.{ℕ, Bool, not, ◌||◌, nat_eq, if◌then◌else◌, Option, Some, None}
+-- The class and the error of a token as numbers, and the kind of a token whose numbers C passes.
+use Rattle.std.specs.Prelude.{ℕ, Bool, List, not, ◌||◌, nat_eq, if◌then◌else◌, Option, Some, None}
+use Rattle.rustc_lexer.specs.declared.edition.Edition.{Edition}
 use Rattle.rustc_lexer.specs.declared.token.Base.{Base}
 use Rattle.rustc_lexer.specs.declared.token.Base.TheVariants.{Binary, Octal, Decimal, Hexadecimal}
 use Rattle.rustc_lexer.specs.declared.token.DocStyle.TheVariants.{Outer}
@@ -7,6 +8,7 @@ use Rattle.rustc_lexer.specs.declared.token.LiteralKind.{LiteralKind}
 use Rattle.rustc_lexer.specs.declared.token.LiteralKind.TheVariants.{Int, Float, Char, Byte, Str, ByteStr, RawStr, RawByteStr, RawCStr}
 use Rattle.rustc_lexer.specs.declared.token.TokenKind.{TokenKind}
 use Rattle.rustc_lexer.specs.declared.token.TokenKind.TheVariants.{LineComment, BlockComment, Whitespace, Frontmatter, Ident, InvalidIdent, RawIdent, UnknownPrefix, UnknownPrefixLifetime, RawLifetime, GuardedStrPrefix, Literal, Lifetime, Unknown}
+use Rattle.marks.specs.Class.{class_number, class_of}
 use Rattle.marks.specs.declared.fault.Fault.{Fault}
 use Rattle.marks.specs.Fault.{fault_number}
 use Rattle.rustc_lexer_c.specs.declared.token.CToken.{CToken}
@@ -58,3 +60,8 @@ kind_of token =
     else if nat_eq token.kind 14 then Lifetime (is_set token.first)
     else if nat_eq token.kind 42 then Unknown
     else Whitespace
+
+-- the number of the class of a token in an edition, or 0 in none
+abbrev pub class_in : CToken → List ℕ → Option Edition → ℕ
+class_in token text None = 0
+class_in token text (Some edition) = class_number (class_of (kind_of token) text edition)

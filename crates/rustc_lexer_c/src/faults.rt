@@ -1,29 +1,45 @@
 //! The class and the fault of a token.
-ghost use Rattle.std.specs.Prelude.{◌≡◌};
+ghost use Rattle.std.specs.Prelude.{◌≡◌, ◌≢◌, None};
+ghost use Rattle.rustc_lexer.specs.declared.edition.Edition.{Edition};
 ghost use Rattle.rustc_lexer.specs.declared.token.Token.{Token};
-ghost use Rattle.marks.specs.Class.{class_number, class_of};
+ghost use Rattle.rustc_lexer.specs.LanguageCalls.{edition_of_year};
+ghost use Rattle.marks.specs.Class.{class_of};
 ghost use Rattle.marks.specs.Fault.{fault_of};
 ghost use Rattle.rustc_lexer_c.specs.Faults as spec;
 ghost use Rattle.rustc_lexer_c.specs.Numbers.{token_numbers};
-ghost use Rattle.rustc_lexer_c.specs.Status.{Writes};
+ghost use Rattle.rustc_lexer_c.specs.declared.status.Refusal.TheVariants.{BadEdition};
+ghost use Rattle.rustc_lexer_c.specs.Status.{Writes, refusal_number};
 
-use crate::status::{done, refuse, text_of};
+use crate::relex::edition_of;
+use crate::status::{Refusal, done, refuse, text_of};
 use crate::token::CToken;
 use marks::{Fault, class_of, fault_of};
 use rustc_lexer::{Base, DocStyle, LiteralKind, TokenKind};
 
-/// Writes the number of the class of a token, by its numbers and its text.
+/// Writes the number of the class of a token in the edition of a year, by its numbers and its text.
 #[tactic(auto, using(crate::proofs::FaultLemmas::same_class))]
 #[unsafe(no_mangle)]
-pub extern "C" fn rustc_lexer_class(text: &[u8], token: &CToken, number: &mut u32) -> u32
-    ensures class { Writes text.now (Unit {0}) 0
-        (class_number (class_of (spec.kind_of token.now) text.now)) 0 number.new result }
-    ensures same { (it : Token) → token_numbers it ≡ token.now
-        → class_of (spec.kind_of token.now) text.now ≡ class_of it.kind text.now }
+pub extern "C" fn rustc_lexer_class(
+    text: &[u8],
+    token: &CToken,
+    edition: u32,
+    number: &mut u32,
+) -> u32
+    ensures class { Writes text.now (edition_of_year edition ≢ None) (refusal_number BadEdition)
+        (spec.class_in token.now text.now (edition_of_year edition)) 0 number.new result }
+    ensures same { (it : Token) (year : Edition) → token_numbers it ≡ token.now
+        → class_of (spec.kind_of token.now) text.now year ≡ class_of it.kind text.now year }
 {
-    match text_of(text) {
-        Ok(text) => done(u32::from(class_of(kind_of(token), text).number()), number),
-        Err(refusal) => refuse(refusal, 0, number),
+    let text = match text_of(text) {
+        Ok(text) => text,
+        Err(refusal) => return refuse(refusal, 0, number),
+    };
+    match edition_of(edition) {
+        Some(edition) => done(
+            u32::from(class_of(kind_of(token), text, edition).number()),
+            number,
+        ),
+        None => refuse(Refusal::BadEdition, 0, number),
     }
 }
 

@@ -34,7 +34,7 @@ pub extern "C" fn rustc_lexer_marks(
     ensures status { spec.IsMarksStatus text.now style edition result }
     ensures marks { result ≡ OK → (kind : Style) → spec.style_of style ≡ Some kind
         → (year : Edition) → edition_of_year edition ≡ Some year
-        → spec.IsFront (marked_tokens kind text.now (take count (tokens_of (part year) text.now)))
+        → spec.IsFront (marked_tokens kind year text.now (take count (tokens_of (part year) text.now)))
         buffer.old buffer.new written.new }
     ensures refused { result ≢ OK → written.new ≡ 0 }
     ensures same { result ≢ OK → result ≢ refusal_number SmallBuffer → buffer.new ≡ buffer.old }
@@ -82,7 +82,7 @@ fn fill(
     requires fits { Fits text.now }
     requires none { output.old.len ≡ 0 }
     ensures { OnOk result ((output.new.bytes.ghost_name ≡ output.old.bytes.ghost_name)
-        × spec.IsFront (marked_tokens style text.now
+        × spec.IsFront (marked_tokens style edition text.now
         (take count (tokens_of (part edition) text.now)))
         output.old.bytes.now output.new.bytes.now output.new.len) }
 {

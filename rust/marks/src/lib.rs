@@ -24,6 +24,11 @@
 
 #![no_std]
 #![deny(missing_docs)]
+#![warn(
+    clippy::missing_errors_doc,
+    clippy::missing_panics_doc,
+    clippy::must_use_candidate
+)]
 #![forbid(unsafe_code)]
 
 /// The proved source without its contracts, generated from `crates/marks`.
@@ -33,6 +38,11 @@
 /// use the calls at the crate's root.
 // Contracts alone use some of its imports and variables.
 #[allow(missing_docs, unused_imports, unused_variables, dead_code)]
+#[allow(
+    clippy::missing_errors_doc,
+    clippy::missing_panics_doc,
+    clippy::must_use_candidate
+)]
 #[doc(hidden)]
 pub mod erased;
 

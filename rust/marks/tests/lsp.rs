@@ -67,8 +67,10 @@ fn parts(text: &str) -> Vec<Part> {
         let range = start..start + token.len as usize;
         start = range.end;
         let word = &text[range.clone()];
-        let Some((name, modifiers)) = paint(class_of(token.kind, word), keyword_in(word, EDITION))
-        else {
+        let Some((name, modifiers)) = paint(
+            class_of(token.kind, word, EDITION),
+            keyword_in(word, EDITION),
+        ) else {
             continue;
         };
         let mut goes_on = false;

@@ -83,7 +83,7 @@ const CONTROLS: [Row<'_>; 20] = [
 
 /// Tokens that editions read in their own ways.
 #[rustfmt::skip]
-const EDITIONS: [Row<'_>; 14] = [
+const EDITIONS: [Row<'_>; 16] = [
     (NoColours, E2024, "#\"a\"", "#\" [<- these marks are reserved for strings to come]a [<- no literal has this prefix]\" [<- nothing closes this string]"),
     (NoColours, E2021, "#\"a\"", "#\"a\""),
     (NoColours, E2018, "#\"a\"", "#\"a\""),
@@ -97,6 +97,8 @@ const EDITIONS: [Row<'_>; 14] = [
     (Colours, E2021, "---\n---\n#\"a\"", "\x1b[36m---\n---\x1b[0m\n#\x1b[32m\"a\"\x1b[0m"),
     (Colours, E2015, "\n---\n---", "\n\x1b[36m---\n---\x1b[0m"),
     (Colours, E2018, "#\"a\"", "#\x1b[32m\"a\"\x1b[0m"),
+    (Colours, E2015, "async fn", "async \x1b[35mfn\x1b[0m"),
+    (Colours, E2018, "async fn", "\x1b[35masync\x1b[0m \x1b[35mfn\x1b[0m"),
     (Colours, E2018, "#!/bin/sh\nz'a'", "\x1b[90m#!/bin/sh\x1b[0m\nz\x1b[32m'a'\x1b[0m"),
 ];
 

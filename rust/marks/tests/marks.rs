@@ -122,6 +122,9 @@ fn an_edition_has_its_tokens() {
     assert_eq!(first(Style::Html, Edition::E2018, 3, "'a#b"), older);
     assert_eq!(whole(Style::Html, Edition::E2021, "'a#b"), lifetime);
     assert_eq!(whole(Style::Html, Edition::E2018, "'a#b"), older);
+    assert_eq!(first(Style::Colours, Edition::E2015, 1, "dyn A"), "dyn");
+    let keyword = "\x1b[35mdyn\x1b[0m";
+    assert_eq!(first(Style::Colours, Edition::E2018, 1, "dyn A"), keyword);
     for &edition in Edition::ALL {
         let keyword = "\x1b[35mfn\x1b[0m";
         assert_eq!(

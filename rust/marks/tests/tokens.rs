@@ -4,6 +4,8 @@ use marks::Edition::{self, E2015, E2018, E2021, E2024};
 use marks::Keyword::{self, Reserved, Strict, Weak};
 use marks::{Class, Fault, class_of, fault_of, keyword_in};
 use rustc_lexer::{DocStyle, LiteralKind, TokenKind, tokenize_document, tokenize_in};
+use std::collections::HashSet;
+use std::error::Error;
 
 /// The strict keywords of all editions, as the Rust Reference lists them.
 const STRICT: &str = "_ as break const continue crate else enum extern false fn for if impl in let loop match mod move \
@@ -100,10 +102,32 @@ fn tokens_have_classes() {
     ] {
         let token = tokenize_in(text, E2024).next().unwrap();
         assert_eq!(token.len as usize, text.len(), "{text}");
-        assert_eq!(class_of(token.kind, text), wanted, "{text}");
+        assert_eq!(class_of(token.kind, text, Edition::E2024), wanted, "{text}");
+    }
+    // A word goes by the edition: `dyn` is a name in the first.
+    for (edition, wanted) in [
+        (E2015, Plain),
+        (E2018, Keyword),
+        (E2021, Keyword),
+        (E2024, Keyword),
+    ] {
+        let classes = ["async", "dyn", "try"].map(|word| class_of(TokenKind::Ident, word, edition));
+        assert_eq!(classes, [wanted, wanted, Plain]);
     }
     let doc_style = Some(DocStyle::Outer);
-    assert_eq!(class_of(TokenKind::LineComment { doc_style }, "///"), Doc);
+    assert_eq!(
+        class_of(TokenKind::LineComment { doc_style }, "///", Edition::E2024),
+        Doc
+    );
+}
+
+/// They go into a `Box<dyn Error>`, and with classes and keywords into sets.
+#[test]
+fn faults_are_errors() {
+    let error: Box<dyn Error> = Box::new(Fault::OpenByte);
+    assert_eq!(error.to_string(), "nothing closes this byte");
+    let seen = [1, 2, 1].map(|found| (Fault::ManyHashes { found }, Class::Text, Strict));
+    assert_eq!(HashSet::from(seen).len(), 2);
 }
 
 /// The numbers that `c/rustc_lexer.h` has.

@@ -130,7 +130,7 @@ calls! {
         ) -> u32;
     }
     faults {
-        fn rustc_lexer_class(text: &[u8], token: &CToken, number: &mut u32) -> u32;
+        fn rustc_lexer_class(text: &[u8], token: &CToken, edition: u32, number: &mut u32) -> u32;
         fn rustc_lexer_fault(text: &[u8], token: &CToken, number: &mut u32) -> u32;
     }
     marked {

@@ -3,6 +3,7 @@
 
 use crate::erased::frontmatter::end_fault;
 use crate::erased::text_fault::text_fault;
+use core::error::Error;
 use core::fmt;
 use rustc_lexer::erased::{LiteralKind, RawStrError, TokenKind, starts_raw, validate_raw_str};
 use rustc_literal_escaper::erased::EscapeError;
@@ -13,6 +14,7 @@ use rustc_literal_escaper::erased::EscapeError;
 /// [`inside`](crate::inside) returns the text that has them, for the calls of `rustc_literal_escaper`.
 #[derive(Clone, Copy, Debug, PartialEq, Eq)]
 #[non_exhaustive]
+#[derive(Hash)]
 pub enum Fault {
     /// Nothing closes a block comment.
     OpenComment,
@@ -81,6 +83,7 @@ pub enum Fault {
 
 impl Fault {
     /// Returns the number of the fault, from 1 on, for other languages. It never changes.
+    #[must_use]
     pub fn number(self) -> u8 {
         match self {
             Fault::OpenComment => 1,
@@ -314,3 +317,5 @@ impl fmt::Display for Fault {
         }
     }
 }
+
+impl Error for Fault {}

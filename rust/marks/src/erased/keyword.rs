@@ -4,7 +4,7 @@
 use rustc_lexer::erased::Edition;
 
 /// How far a word is a keyword.
-#[derive(Clone, Copy, Debug, PartialEq, Eq)]
+#[derive(Clone, Copy, Debug, PartialEq, Eq, Hash)]
 pub enum Keyword {
     /// Nowhere a name, like `while`.
     Strict,
@@ -28,6 +28,7 @@ pub enum Keyword {
 /// assert_eq!(keyword_in("gen", Edition::E2024), Some(Keyword::Reserved));
 /// assert_eq!(keyword_in("union", Edition::E2024), Some(Keyword::Weak));
 /// ```
+#[must_use]
 pub fn keyword_in(word: &str, edition: Edition) -> Option<Keyword> {
     if is_strict(word, edition) {
         Some(Keyword::Strict)

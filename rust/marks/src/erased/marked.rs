@@ -50,7 +50,7 @@ fn write_document<W: fmt::Write>(
     write_in_class(style, Class::Comment, &text[..start], output)?;
     for token in tokens {
         let end = start + token.len as usize;
-        write_token(style, token.kind, &text[start..end], output)?;
+        write_token(style, edition, token.kind, &text[start..end], output)?;
         start = end;
     }
     Ok(())
@@ -75,7 +75,7 @@ pub fn write_first_tokens<W: fmt::Write>(
             break;
         };
         let end = start + token.len as usize;
-        write_token(style, token.kind, &text[start..end], output)?;
+        write_token(style, edition, token.kind, &text[start..end], output)?;
         start = end;
         left -= 1;
     }
@@ -86,11 +86,12 @@ pub fn write_first_tokens<W: fmt::Write>(
 /// fault. In a literal without a fault of its own, each escape and each stretch that is wrong has marks around it.
 fn write_token<W: fmt::Write>(
     style: Style,
+    edition: Edition,
     kind: TokenKind,
     text: &str,
     output: &mut W,
 ) -> fmt::Result {
-    let class = class_of(kind, text);
+    let class = class_of(kind, text, edition);
     if let Some(fault) = fault_of(kind, text) {
         return write_with_fault(style, fault, class, text, output);
     }

@@ -212,6 +212,7 @@ impl TokenKind {
     /// assert!(TokenKind::LineComment { doc_style: None }.is_trivia());
     /// assert!(!TokenKind::LineComment { doc_style: Some(DocStyle::Outer) }.is_trivia());
     /// ```
+    #[must_use]
     pub fn is_trivia(self) -> bool {
         matches!(
             self,
@@ -231,6 +232,7 @@ impl TokenKind {
     ///
     /// assert!(TokenKind::OpenParen.is_open() && !TokenKind::Lt.is_open());
     /// ```
+    #[must_use]
     pub fn is_open(self) -> bool {
         matches!(
             self,
@@ -245,6 +247,7 @@ impl TokenKind {
     ///
     /// assert!(TokenKind::CloseParen.is_close() && !TokenKind::Gt.is_close());
     /// ```
+    #[must_use]
     pub fn is_close(self) -> bool {
         matches!(
             self,

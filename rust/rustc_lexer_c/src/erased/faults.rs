@@ -1,16 +1,24 @@
 // Made by tools/erase from crates/rustc_lexer_c/src/faults.rt: edit that file.
 //! The class and the fault of a token.
 
-use crate::erased::status::{done, refuse, text_of};
+use crate::erased::relex::edition_of;
+use crate::erased::status::{Refusal, done, refuse, text_of};
 use crate::erased::token::CToken;
 use marks::{Fault, class_of, fault_of};
 use rustc_lexer::erased::{Base, DocStyle, LiteralKind, TokenKind};
 
-/// Writes the number of the class of a token, by its numbers and its text.
-pub fn rustc_lexer_class(text: &[u8], token: &CToken, number: &mut u32) -> u32 {
-    match text_of(text) {
-        Ok(text) => done(u32::from(class_of(kind_of(token), text).number()), number),
-        Err(refusal) => refuse(refusal, 0, number),
+/// Writes the number of the class of a token in the edition of a year, by its numbers and its text.
+pub fn rustc_lexer_class(text: &[u8], token: &CToken, edition: u32, number: &mut u32) -> u32 {
+    let text = match text_of(text) {
+        Ok(text) => text,
+        Err(refusal) => return refuse(refusal, 0, number),
+    };
+    match edition_of(edition) {
+        Some(edition) => done(
+            u32::from(class_of(kind_of(token), text, edition).number()),
+            number,
+        ),
+        None => refuse(Refusal::BadEdition, 0, number),
     }
 }
 
