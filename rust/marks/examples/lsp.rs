@@ -3,7 +3,7 @@
 //! all, and what each line of standard input changes: LINE CHARACTER LINE CHARACTER TEXT.
 
 use marks::{Class, Edition, Keyword, class_of, keyword_in};
-use rustc_lexer::{EditError, LexedDocument, Piece, Pieces};
+use rustc_lexer::{EditError, LexedDocument, Piece, Pieces, Relexed};
 use std::error::Error;
 use std::ops::Range;
 use std::{env, fs, io};
@@ -30,30 +30,29 @@ pub struct Document {
     lines: Vec<usize>,
     /// How many numbers were sent last for each token that the text then had.
     counts: Vec<usize>,
-    /// How many of those tokens each change since has kept, at the front and at the back.
-    kept: (usize, usize),
+    /// Which of those tokens all changes since have kept.
+    changes: Relexed,
 }
 
 impl Document {
     pub fn open(text: &str, edition: Edition) -> Result<Document, EditError> {
+        let lexed = LexedDocument::try_new_in(text, edition)?;
         Ok(Document {
-            lexed: LexedDocument::try_new_in(text, edition)?,
+            changes: Relexed::none(lexed.tokens().len()),
+            lexed,
             lines: lines(text),
             counts: Vec::new(),
-            kept: (0, 0),
         })
     }
 
     /// Replaces a range, or the whole text. Of several changes, each has the positions that those before it left.
     pub fn change(&mut self, at: Option<Range<Position>>, insert: &str) -> Result<(), EditError> {
-        let range = match at {
-            Some(range) => self.offset(range.start)..self.offset(range.end),
-            None => 0..self.lexed.text().len(),
+        let relexed = match at.map(|at| self.offset(at.start)..self.offset(at.end)) {
+            Some(range) => self.lexed.try_edit(range, insert)?,
+            None => self.lexed.try_set_text(insert)?,
         };
-        let relexed = self.lexed.try_edit(range, insert)?;
         self.lines = lines(self.lexed.text());
-        self.kept.0 = self.kept.0.min(relexed.kept_front);
-        self.kept.1 = self.kept.1.min(relexed.kept_back);
+        self.changes = self.changes.then(relexed, self.counts.len());
         Ok(())
     }
 
@@ -61,39 +60,32 @@ impl Document {
     /// many units after the start of that one or of its line, its length in units, its type, and its modifiers.
     pub fn full(&mut self) -> Vec<u32> {
         self.counts.clear();
-        self.kept = (0, 0);
+        self.changes = Relexed::none(self.lexed.tokens().len());
         self.delta().data
     }
 
     /// Returns what makes of the numbers that were sent last those of the present text.
     pub fn delta(&mut self) -> Delta {
-        let front = self.kept.0;
-        let back = self.kept.1.min(self.counts.len() - front);
+        let (front, back) = (self.changes.kept_front, self.changes.kept_back);
         // A token is placed by the one before it. So the first one shown at the back is sent again.
         let mut old = self.counts[self.counts.len() - back..].iter();
-        let next = old.position(|&count| count > 0);
-        let back = next.map_or(back, |at| back - at - 1);
-
-        let changed = front..self.lexed.tokens().len() - back;
-        let place = self.place_before(front);
-        let (data, counts) = self.encode(place, self.lexed.pieces_of(changed));
-        let start = self.counts[..front].iter().sum();
-        let replaced = front..self.counts.len() - back;
-        let deleted = self.counts.splice(replaced, counts).sum();
-        self.kept = (self.counts.len(), self.counts.len());
-        Delta {
-            start,
-            deleted,
+        let back = back - old.position(|&count| count > 0).map_or(0, |at| at + 1);
+        let (end, old_end) = (self.lexed.tokens().len() - back, self.counts.len() - back);
+        let place = self.place_before(front).unwrap_or(0);
+        let (data, counts) = self.encode(place, self.lexed.pieces_of(front..end));
+        let delta = Delta {
+            start: self.counts[..front].iter().sum(),
+            deleted: self.counts.splice(front..old_end, counts).sum(),
             data,
-        }
+        };
+        self.changes = Relexed::all(self.counts.len());
+        delta
     }
 
-    /// Returns where the last part begins that is shown of the tokens before this one, or 0.
-    fn place_before(&self, number: usize) -> usize {
-        let shown = self.counts[..number].iter().rposition(|&count| count > 0);
-        let before = shown.and_then(|number| self.lexed.pieces_of(number..number + 1).next());
-        let last = before.and_then(|piece| self.parts(piece).last());
-        last.map_or(0, |part| part.start)
+    /// Returns where the last part begins that is shown of the tokens before this one.
+    fn place_before(&self, number: usize) -> Option<usize> {
+        let shown = self.counts[..number].iter().rposition(|&count| count > 0)?;
+        Some(parts(self.lexed.pieces_of(shown..).next()?).last()?.start)
     }
 
     /// Returns the numbers of all tokens that have a part in the range, like the lines in view.
@@ -116,35 +108,17 @@ impl Document {
         start + before.map(char::len_utf8).sum::<usize>()
     }
 
-    /// Returns the line of a character.
-    fn line_of(&self, offset: usize) -> usize {
-        self.lines.partition_point(|&start| start <= offset) - 1
-    }
-
-    /// Returns where a piece is on each of its lines, without the ends of lines.
-    fn parts(&self, piece: Piece<'_>) -> impl Iterator<Item = Range<usize>> {
-        let (from, to) = (
-            piece.start as usize,
-            piece.start as usize + piece.text.len(),
-        );
-        let parts = (self.line_of(from)..=self.line_of(to - 1)).map(move |line| {
-            let range = self.lines[line].max(from)..self.lines[line + 1].min(to);
-            let part = self.lexed.text()[range.clone()].trim_end_matches(['\r', '\n']);
-            range.start..range.start + part.len()
-        });
-        parts.filter(|part| !part.is_empty())
-    }
-
     /// Returns the numbers of pieces, the first of them placed by an offset, and how many numbers each piece has.
     fn encode(&self, mut last: usize, pieces: Pieces<'_>) -> (Vec<u32>, Vec<usize>) {
         let units = |range: Range<usize>| self.lexed.text()[range].encode_utf16().count() as u32;
+        let line_of = |at: usize| self.lines.partition_point(|&start| start <= at) - 1;
         let (mut data, mut counts) = (Vec::new(), Vec::new());
         for piece in pieces {
             let before = data.len();
             if let Some([kind, modifiers]) = paint(piece, self.lexed.edition()) {
-                for part in self.parts(piece) {
-                    let line = self.line_of(part.start);
-                    let lines = (line - self.line_of(last)) as u32;
+                for part in parts(piece) {
+                    let line = line_of(part.start);
+                    let lines = (line - line_of(last)) as u32;
                     let place = units(last.max(self.lines[line])..part.start);
                     last = part.start;
                     data.extend([lines, place, units(part), kind, modifiers]);
@@ -156,29 +130,35 @@ impl Document {
     }
 }
 
+/// Returns where a piece is on each of its lines, without the ends of lines.
+fn parts(piece: Piece<'_>) -> impl Iterator<Item = Range<usize>> {
+    let mut at = piece.range().start;
+    let parts = piece.text.split(['\r', '\n']).map(move |part| {
+        let start = at;
+        at += part.len() + 1;
+        start..at - 1
+    });
+    parts.filter(|part| !part.is_empty())
+}
+
 /// Returns type and modifiers of a token. Blanks, symbols and plain names have none: the client colours them.
 fn paint(piece: Piece<'_>, edition: Edition) -> Option<[u32; 2]> {
     let word = keyword_in(piece.text, edition);
-    match class_of(piece.token.kind, piece.text) {
-        _ if matches!(word, Some(Keyword::Strict | Keyword::Reserved)) => Some([1, 0]),
+    match class_of(piece.token.kind, piece.text, edition) {
         Class::Comment => Some([0, 0]),
         Class::Doc => Some([0, 1]),
         Class::TypeName => Some([2, 0]),
         Class::Text => Some([3, 0]),
         Class::Number => Some([4, 0]),
         Class::Lifetime => Some([5, 0]),
-        _ => None,
+        _ => matches!(word, Some(Keyword::Strict | Keyword::Reserved)).then_some([1, 0]),
     }
 }
 
 /// Returns where the lines of a text begin, and its end. A line ends with `\n`, `\r\n` or `\r`.
 fn lines(text: &str) -> Vec<usize> {
-    let bytes = text.as_bytes();
-    let ends_at = |&at: &usize| match bytes[at] {
-        b'\r' => bytes.get(at + 1) != Some(&b'\n'),
-        byte => byte == b'\n',
-    };
-    let starts = (0..bytes.len()).filter(ends_at).map(|at| at + 1);
+    let ends = text.match_indices(['\r', '\n']).map(|(at, _)| at + 1);
+    let starts = ends.filter(|&at| !text[at - 1..].starts_with("\r\n"));
     [0].into_iter().chain(starts).chain([text.len()]).collect()
 }
 

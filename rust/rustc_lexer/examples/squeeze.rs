@@ -1,52 +1,45 @@
 //! Takes out comments that document nothing, and white space where the tokens stay without it: `cargo run --example squeeze
 //! < FILE > SQUEEZED`. Then it lexes what it made, and writes nothing but a message if a token differs.
-use rustc_lexer::{Edition, JoinError, JoinedText, TokenKind, tokenize_document};
+use rustc_lexer::lists::Head;
+use rustc_lexer::{
+    Edition, JoinError, JoinedText, Piece, TokenKind, tokenize_document, tokenize_in,
+};
 use std::io;
 
-/// The shebang line, and the tokens after it with their texts.
-fn tokens(text: &str) -> (&str, Vec<(TokenKind, &str)>) {
-    let tokens = tokenize_document(text, Edition::E2024);
-    let shebang = &text[..tokens.offset()];
-    let with_text = tokens.pieces().map(|piece| (piece.token.kind, piece.text));
-    (shebang, with_text.collect())
-}
-
-/// Comments that nothing closes stay, since they are errors.
+/// A comment that nothing closes stays, since it is an error.
 fn is_dropped(kind: TokenKind) -> bool {
-    match kind {
-        TokenKind::Whitespace => true,
-        TokenKind::LineComment { doc_style } => doc_style.is_none(),
-        TokenKind::BlockComment {
-            doc_style,
-            terminated,
-        } => doc_style.is_none() && terminated,
-        _ => false,
-    }
+    let is_open = matches!(kind, TokenKind::BlockComment { terminated, .. } if !terminated);
+    kind.is_trivia() && !is_open
 }
 
 fn squeeze(text: &str) -> Result<String, JoinError> {
-    let (shebang, tokens) = tokens(text);
-    let end = if shebang.is_empty() { "" } else { "\n" };
-    let mut head = format!("{shebang}{end}");
-    let mut body = JoinedText::new();
+    // The shebang line and the frontmatter stay. The body is a part of a file, on a line of its own.
+    let (head, body) = text.split_at(Head::find(text).body);
+    let has_both = !head.is_empty() && !body.is_empty();
+    let mut joined = JoinedText::new();
+    let pieces: Vec<Piece<'_>> = tokenize_in(body, Edition::E2024).pieces().collect();
     // What had nothing between it is one piece: `0..n` stays so.
-    for mut piece in tokens.split(|(kind, _)| is_dropped(*kind)) {
-        if let [(TokenKind::Frontmatter { .. }, text), rest @ ..] = piece {
-            head += &format!("{text}\n");
-            piece = rest;
-        }
-        body.try_push(piece.iter().map(|(_, text)| *text).collect::<String>())?;
+    for pieces in pieces.split(|piece| is_dropped(piece.token.kind)) {
+        joined.try_push(pieces.iter().map(|piece| piece.text).collect::<String>())?;
     }
-    Ok(head + body.as_str())
+    Ok(head.to_owned() + if has_both { "\n" } else { "" } + joined.as_str())
+}
+
+/// The shebang line, and the tokens after it that stay, with their texts.
+fn kept(text: &str) -> (&str, Vec<(TokenKind, &str)>) {
+    let tokens = tokenize_document(text, Edition::E2024);
+    let shebang = &text[..tokens.offset()];
+    let with_text = tokens.pieces().map(|piece| (piece.token.kind, piece.text));
+    (
+        shebang,
+        with_text.filter(|(kind, _)| !is_dropped(*kind)).collect(),
+    )
 }
 
 fn main() -> io::Result<()> {
     let text = io::read_to_string(io::stdin())?;
     let squeezed = squeeze(&text).map_err(io::Error::other)?;
-    let ((shebang, mut old), (same, mut new)) = (tokens(&text), tokens(&squeezed));
-    old.retain(|(kind, _)| !is_dropped(*kind));
-    new.retain(|(kind, _)| !is_dropped(*kind));
-    if (shebang, old) != (same, new) {
+    if kept(&text) != kept(&squeezed) {
         return Err(io::Error::other("a token would change"));
     }
     print!("{squeezed}");
