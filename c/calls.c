@@ -229,23 +229,23 @@ static void check_offsets(void) {
     for (size_t near = 0; near <= count; near++) {
         for (size_t at = 0; at < 8; at++) {
             size_t here = near, from = starts[near];
-            CHECK(rustc_lexer_token_at(whole, count, 10 + at, &here, &from));
+            CHECK(rustc_lexer_token_start_at(whole, count, 10 + at, &here, &from));
             CHECK(here == numbers[at] && from == starts[here]);
         }
         for (size_t i = 0; i < sizeof outside / sizeof outside[0]; i++) {
             size_t here = near, from = starts[near];
-            CHECK(!rustc_lexer_token_at(whole, count, outside[i], &here, &from));
+            CHECK(!rustc_lexer_token_start_at(whole, count, outside[i], &here, &from));
             CHECK(here == near && from == starts[near]);
         }
     }
-    CHECK(rustc_lexer_token_at(whole, count, SIZE_MAX, &number, &start) && number == 0 && start == SIZE_MAX - 1);
+    CHECK(rustc_lexer_token_start_at(whole, count, SIZE_MAX, &number, &start) && number == 0 && start == SIZE_MAX - 1);
     for (size_t wrong = 0; wrong < 40; wrong++) {
         size_t here = wrong % 8 == 7 ? SIZE_MAX : wrong % 8, from = SIZE_MAX / 4 * (wrong / 8);
-        bool is = rustc_lexer_token_at(whole, count, 12, &here, &from);
+        bool is = rustc_lexer_token_start_at(whole, count, 12, &here, &from);
         CHECK(is ? here < count && from <= 12 : here == (wrong % 8 == 7 ? SIZE_MAX : wrong % 8));
     }
     number = start = 0;
-    CHECK(!rustc_lexer_token_at(NULL, 0, 0, &number, &start) && number == 0 && start == 0);
+    CHECK(!rustc_lexer_token_start_at(NULL, 0, 0, &number, &start) && number == 0 && start == 0);
 }
 
 static void check_others(void) {
@@ -404,11 +404,11 @@ static void check_errors(unescape_call *errors) {
 }
 
 /* What is marked of a text, with so much room. Behind what is written the buffer keeps its bytes. */
-static bool is_marked_as(const char *text, uint32_t style, uint32_t edition, size_t count, const char *wanted) {
+static bool is_marked_as(const char *text, uint32_t format, uint32_t edition, size_t count, const char *wanted) {
     uint8_t bytes[200];
     size_t written = 99, len = strlen(wanted);
     memset(bytes, 0xAA, sizeof bytes);
-    if (rustc_lexer_marks((const uint8_t *)text, strlen(text), style, edition, count, bytes, len, &written) !=
+    if (rustc_lexer_marks((const uint8_t *)text, strlen(text), format, edition, count, bytes, len, &written) !=
         RUSTC_LEXER_OK)
         return false;
     return written == len && memcmp(bytes, wanted, len) == 0 && bytes[len] == 0xAA;
@@ -419,15 +419,15 @@ static void check_marks(void) {
     uint8_t bytes[8];
     size_t written = 99;
     /* a keyword, white space and a number; a symbol that a page reads; a prefix that 2021 has and 2018 has not */
-    CHECK(is_marked_as("as 1", RUSTC_LEXER_STYLE_HTML, 2024, 9,
+    CHECK(is_marked_as("as 1", RUSTC_LEXER_FORMAT_HTML, 2024, 9,
                        "<span class=\"keyword\">as</span> <span class=\"number\">1</span>"));
-    CHECK(is_marked_as("as 1", RUSTC_LEXER_STYLE_COLOURS, 2024, 1, "\033[35mas\033[0m"));
-    CHECK(is_marked_as("as 1", RUSTC_LEXER_STYLE_NO_COLOURS, 2024, 2, "as "));
-    CHECK(is_marked_as("a<&b", RUSTC_LEXER_STYLE_HTML, 2015, SIZE_MAX, "a&lt;&amp;b"));
-    CHECK(is_marked_as("a\"\"", RUSTC_LEXER_STYLE_NO_COLOURS, 2021, 1, "a [<- no literal has this prefix]"));
-    CHECK(is_marked_as("a\"\"", RUSTC_LEXER_STYLE_HTML, 2018, 9, "a<span class=\"text\">\"\"</span>"));
-    CHECK(is_marked_as("a", RUSTC_LEXER_STYLE_HTML, 2024, 0, ""));
-    CHECK(is_marked_as("", RUSTC_LEXER_STYLE_HTML, 2024, 1, ""));
+    CHECK(is_marked_as("as 1", RUSTC_LEXER_FORMAT_COLOURS, 2024, 1, "\033[35mas\033[0m"));
+    CHECK(is_marked_as("as 1", RUSTC_LEXER_FORMAT_NO_COLOURS, 2024, 2, "as "));
+    CHECK(is_marked_as("a<&b", RUSTC_LEXER_FORMAT_HTML, 2015, SIZE_MAX, "a&lt;&amp;b"));
+    CHECK(is_marked_as("a\"\"", RUSTC_LEXER_FORMAT_NO_COLOURS, 2021, 1, "a [<- no literal has this prefix]"));
+    CHECK(is_marked_as("a\"\"", RUSTC_LEXER_FORMAT_HTML, 2018, 9, "a<span class=\"text\">\"\"</span>"));
+    CHECK(is_marked_as("a", RUSTC_LEXER_FORMAT_HTML, 2024, 0, ""));
+    CHECK(is_marked_as("", RUSTC_LEXER_FORMAT_HTML, 2024, 1, ""));
 
     memset(bytes, 0xAA, sizeof bytes);
     CHECK(rustc_lexer_marks(text, 2, 1, 2024, 9, bytes, 5, &written) == RUSTC_LEXER_OK && written == 5);
@@ -443,18 +443,18 @@ static void check_marks(void) {
     /* what is refused, in its order; the buffer stays as it was */
     static const struct {
         const char *text;
-        uint32_t style, edition, status;
+        uint32_t format, edition, status;
     } refused[] = {
         {"\xff", 0, 0, RUSTC_LEXER_NOT_UTF8},
         {"a", 0, 2022, RUSTC_LEXER_BAD_EDITION},
         {"a", 1, 2024 + 65536, RUSTC_LEXER_BAD_EDITION},
-        {"a", 0, 2024, RUSTC_LEXER_BAD_STYLE},
-        {"a", 4, 2024, RUSTC_LEXER_BAD_STYLE},
+        {"a", 0, 2024, RUSTC_LEXER_BAD_FORMAT},
+        {"a", 4, 2024, RUSTC_LEXER_BAD_FORMAT},
     };
     for (size_t i = 0; i < sizeof refused / sizeof refused[0]; i++) {
         written = 99;
         memset(bytes, 0xAA, sizeof bytes);
-        CHECK(rustc_lexer_marks((const uint8_t *)refused[i].text, 1, refused[i].style, refused[i].edition, 1, bytes, 8,
+        CHECK(rustc_lexer_marks((const uint8_t *)refused[i].text, 1, refused[i].format, refused[i].edition, 1, bytes, 8,
                                 &written) == refused[i].status);
         CHECK(written == 0 && memcmp(bytes, "\xaa\xaa\xaa\xaa\xaa\xaa\xaa\xaa", 8) == 0);
     }
@@ -464,7 +464,7 @@ static void check_marks(void) {
 static const uint32_t order[] = {
     RUSTC_LEXER_TOO_LONG,     RUSTC_LEXER_NOT_UTF8,    RUSTC_LEXER_BAD_PLACE,
     RUSTC_LEXER_NOT_RAW,      RUSTC_LEXER_BAD_MODE,    RUSTC_LEXER_BAD_EDITION,
-    RUSTC_LEXER_BAD_EDIT,     RUSTC_LEXER_BAD_STYLE,   RUSTC_LEXER_SMALL_BUFFER,
+    RUSTC_LEXER_BAD_EDIT,     RUSTC_LEXER_BAD_FORMAT,  RUSTC_LEXER_SMALL_BUFFER,
 };
 
 static bool is_before(uint32_t one, uint32_t other) {
@@ -504,10 +504,10 @@ static void check_order(void) {
          RUSTC_LEXER_BAD_EDIT},
         {rustc_lexer_body_edit(bad, 1, &edit, &head, &made, &is), RUSTC_LEXER_NOT_UTF8, RUSTC_LEXER_BAD_EDIT},
         {rustc_lexer_marks(bad, 1, 1, 0, 1, NULL, 0, &count), RUSTC_LEXER_NOT_UTF8, RUSTC_LEXER_BAD_EDITION},
-        {rustc_lexer_marks(bad, 1, 0, 2024, 1, NULL, 0, &count), RUSTC_LEXER_NOT_UTF8, RUSTC_LEXER_BAD_STYLE},
-        {rustc_lexer_marks(good, 1, 0, 0, 1, bytes, 8, &count), RUSTC_LEXER_BAD_EDITION, RUSTC_LEXER_BAD_STYLE},
+        {rustc_lexer_marks(bad, 1, 0, 2024, 1, NULL, 0, &count), RUSTC_LEXER_NOT_UTF8, RUSTC_LEXER_BAD_FORMAT},
+        {rustc_lexer_marks(good, 1, 0, 0, 1, bytes, 8, &count), RUSTC_LEXER_BAD_EDITION, RUSTC_LEXER_BAD_FORMAT},
         {rustc_lexer_marks(good, 1, 1, 0, 1, NULL, 0, &count), RUSTC_LEXER_BAD_EDITION, RUSTC_LEXER_SMALL_BUFFER},
-        {rustc_lexer_marks(good, 1, 0, 2024, 1, NULL, 0, &count), RUSTC_LEXER_BAD_STYLE, RUSTC_LEXER_SMALL_BUFFER},
+        {rustc_lexer_marks(good, 1, 0, 2024, 1, NULL, 0, &count), RUSTC_LEXER_BAD_FORMAT, RUSTC_LEXER_SMALL_BUFFER},
     };
     for (size_t i = 0; i < sizeof rows / sizeof rows[0]; i++)
         CHECK(rows[i][0] == rows[i][is_before(rows[i][1], rows[i][2]) ? 1 : 2]);
@@ -528,7 +528,7 @@ static void check_many(batch_call *tokens, unescape_call *unescape) {
     CHECK(tokens(many, MANY, &place, many_tokens, MANY, &count) == RUSTC_LEXER_OK && count == MANY);
     for (size_t i = 0; i < MANY; i++)
         CHECK(many_tokens[i].kind == RUSTC_LEXER_SEMI && many_tokens[i].len == 1);
-    CHECK(rustc_lexer_marks(many, MANY, RUSTC_LEXER_STYLE_HTML, 2024, MANY, bytes, MANY, &count) == RUSTC_LEXER_OK);
+    CHECK(rustc_lexer_marks(many, MANY, RUSTC_LEXER_FORMAT_HTML, 2024, MANY, bytes, MANY, &count) == RUSTC_LEXER_OK);
     CHECK(count == MANY && memcmp(bytes, many, MANY) == 0);
     CHECK(unescape(many, MANY, RUSTC_LEXER_STR, 0, many_units, MANY, &count) == RUSTC_LEXER_OK && count == MANY);
     CHECK(is_unit(many_units[MANY - 1], MANY - 1, MANY, RUSTC_LEXER_UNIT_CHAR, ';'));
@@ -575,18 +575,18 @@ static void check_classes(void) {
         {"%", 1, RUSTC_LEXER_CLASS_PLAIN, 0},
         {"a", 1, RUSTC_LEXER_CLASS_PLAIN, 0},
         {"// a", 4, RUSTC_LEXER_CLASS_COMMENT, 0},
-        {"/* a", 4, RUSTC_LEXER_CLASS_COMMENT, RUSTC_LEXER_FAULT_OPEN_COMMENT},
+        {"/* a", 4, RUSTC_LEXER_CLASS_COMMENT, RUSTC_LEXER_FAULT_UNTERMINATED_BLOCK_COMMENT},
         {"/// a", 5, RUSTC_LEXER_CLASS_DOC, 0},
         {"/*! */", 6, RUSTC_LEXER_CLASS_DOC, 0},
         {"while", 5, RUSTC_LEXER_CLASS_KEYWORD, 0},
         {"Vec", 3, RUSTC_LEXER_CLASS_TYPE_NAME, 0},
         {"---\na\n---\n", 9, RUSTC_LEXER_CLASS_DOC, 0},
-        {" ---\n", 5, RUSTC_LEXER_CLASS_DOC, RUSTC_LEXER_FAULT_FRONTMATTER_SPACE},
-        {"---a b\n---", 10, RUSTC_LEXER_CLASS_DOC, RUSTC_LEXER_FAULT_FRONTMATTER_INFOSTRING},
-        {"---\na", 5, RUSTC_LEXER_CLASS_DOC, RUSTC_LEXER_FAULT_OPEN_FRONTMATTER},
-        {"---\n ---", 8, RUSTC_LEXER_CLASS_DOC, RUSTC_LEXER_FAULT_FRONTMATTER_INDENT},
-        {"---\n----", 8, RUSTC_LEXER_CLASS_DOC, RUSTC_LEXER_FAULT_FRONTMATTER_DASHES},
-        {"---\n--- a", 9, RUSTC_LEXER_CLASS_DOC, RUSTC_LEXER_FAULT_FRONTMATTER_WORDS},
+        {" ---\n", 5, RUSTC_LEXER_CLASS_DOC, RUSTC_LEXER_FAULT_WHITESPACE_BEFORE_FRONTMATTER},
+        {"---a b\n---", 10, RUSTC_LEXER_CLASS_DOC, RUSTC_LEXER_FAULT_INVALID_INFOSTRING},
+        {"---\na", 5, RUSTC_LEXER_CLASS_DOC, RUSTC_LEXER_FAULT_UNCLOSED_FRONTMATTER},
+        {"---\n ---", 8, RUSTC_LEXER_CLASS_DOC, RUSTC_LEXER_FAULT_WHITESPACE_BEFORE_FRONTMATTER_CLOSE},
+        {"---\n----", 8, RUSTC_LEXER_CLASS_DOC, RUSTC_LEXER_FAULT_FRONTMATTER_CLOSE_MISMATCH},
+        {"---\n--- a", 9, RUSTC_LEXER_CLASS_DOC, RUSTC_LEXER_FAULT_EXTRA_AFTER_FRONTMATTER_CLOSE},
         {"a\xf0\x9f\x99\x82", 5, RUSTC_LEXER_CLASS_PLAIN, RUSTC_LEXER_FAULT_INVALID_NAME},
         {"z\"a\"", 1, RUSTC_LEXER_CLASS_PLAIN, RUSTC_LEXER_FAULT_UNKNOWN_PREFIX},
         {"'z#", 2, RUSTC_LEXER_CLASS_LIFETIME, RUSTC_LEXER_FAULT_UNKNOWN_LIFETIME_PREFIX},
@@ -599,8 +599,8 @@ static void check_classes(void) {
         {"0x", 2, RUSTC_LEXER_CLASS_NUMBER, RUSTC_LEXER_FAULT_EMPTY_NUMBER},
         {"1.5", 3, RUSTC_LEXER_CLASS_NUMBER, 0},
         {"1e", 2, RUSTC_LEXER_CLASS_NUMBER, RUSTC_LEXER_FAULT_EMPTY_EXPONENT},
-        {"0b12", 4, RUSTC_LEXER_CLASS_NUMBER, RUSTC_LEXER_FAULT_WRONG_DIGIT},
-        {"0o8", 3, RUSTC_LEXER_CLASS_NUMBER, RUSTC_LEXER_FAULT_WRONG_DIGIT},
+        {"0b12", 4, RUSTC_LEXER_CLASS_NUMBER, RUSTC_LEXER_FAULT_INVALID_DIGIT},
+        {"0o8", 3, RUSTC_LEXER_CLASS_NUMBER, RUSTC_LEXER_FAULT_INVALID_DIGIT},
         {"0b1u8", 5, RUSTC_LEXER_CLASS_NUMBER, 0},
         {"0x9", 3, RUSTC_LEXER_CLASS_NUMBER, 0},
         {"0x1.5", 5, RUSTC_LEXER_CLASS_NUMBER, RUSTC_LEXER_FAULT_FLOAT_OF_BASE},
@@ -608,34 +608,34 @@ static void check_classes(void) {
         {"'r#_", 4, RUSTC_LEXER_CLASS_LIFETIME, RUSTC_LEXER_FAULT_RAW_KEYWORD},
         {"\"a\"_", 4, RUSTC_LEXER_CLASS_TEXT, RUSTC_LEXER_FAULT_UNDERSCORE_SUFFIX},
         {"\"a\"_a", 5, RUSTC_LEXER_CLASS_TEXT, 0},
-        {"/// \ra", 6, RUSTC_LEXER_CLASS_DOC, RUSTC_LEXER_FAULT_DOC_RETURN},
+        {"/// \ra", 6, RUSTC_LEXER_CLASS_DOC, RUSTC_LEXER_FAULT_BARE_CARRIAGE_RETURN_IN_DOC_COMMENT},
         {"// \ra", 5, RUSTC_LEXER_CLASS_COMMENT, 0},
-        {"---\na\rb\n---", 11, RUSTC_LEXER_CLASS_DOC, RUSTC_LEXER_FAULT_FRONTMATTER_RETURN},
-        {"// \xe2\x80\xae", 6, RUSTC_LEXER_CLASS_COMMENT, RUSTC_LEXER_FAULT_TEXT_DIRECTION},
-        {"c\"\xe2\x81\xa6\"", 6, RUSTC_LEXER_CLASS_TEXT, RUSTC_LEXER_FAULT_TEXT_DIRECTION},
+        {"---\na\rb\n---", 11, RUSTC_LEXER_CLASS_DOC, RUSTC_LEXER_FAULT_BARE_CARRIAGE_RETURN_IN_FRONTMATTER},
+        {"// \xe2\x80\xae", 6, RUSTC_LEXER_CLASS_COMMENT, RUSTC_LEXER_FAULT_TEXT_DIRECTION_CODEPOINT},
+        {"c\"\xe2\x81\xa6\"", 6, RUSTC_LEXER_CLASS_TEXT, RUSTC_LEXER_FAULT_TEXT_DIRECTION_CODEPOINT},
         {"b\"\xe2\x81\xa6\"", 6, RUSTC_LEXER_CLASS_TEXT, 0},
         {"'a'", 3, RUSTC_LEXER_CLASS_TEXT, 0},
-        {"'", 1, RUSTC_LEXER_CLASS_TEXT, RUSTC_LEXER_FAULT_OPEN_CHARACTER},
-        {"b'", 2, RUSTC_LEXER_CLASS_TEXT, RUSTC_LEXER_FAULT_OPEN_BYTE},
+        {"'", 1, RUSTC_LEXER_CLASS_TEXT, RUSTC_LEXER_FAULT_UNTERMINATED_CHAR},
+        {"b'", 2, RUSTC_LEXER_CLASS_TEXT, RUSTC_LEXER_FAULT_UNTERMINATED_BYTE},
         {"\"\\q\"", 4, RUSTC_LEXER_CLASS_TEXT, 0},
-        {"\"a", 2, RUSTC_LEXER_CLASS_TEXT, RUSTC_LEXER_FAULT_OPEN_STRING},
-        {"b\"a", 3, RUSTC_LEXER_CLASS_TEXT, RUSTC_LEXER_FAULT_OPEN_STRING},
-        {"c\"a", 3, RUSTC_LEXER_CLASS_TEXT, RUSTC_LEXER_FAULT_OPEN_STRING},
+        {"\"a", 2, RUSTC_LEXER_CLASS_TEXT, RUSTC_LEXER_FAULT_UNTERMINATED_STRING},
+        {"b\"a", 3, RUSTC_LEXER_CLASS_TEXT, RUSTC_LEXER_FAULT_UNTERMINATED_STRING},
+        {"c\"a", 3, RUSTC_LEXER_CLASS_TEXT, RUSTC_LEXER_FAULT_UNTERMINATED_STRING},
         {"r\"a\"", 4, RUSTC_LEXER_CLASS_TEXT, 0},
-        {"r#~", 3, RUSTC_LEXER_CLASS_TEXT, RUSTC_LEXER_FAULT_RAW_STARTER},
-        {"br\"a", 4, RUSTC_LEXER_CLASS_TEXT, RUSTC_LEXER_FAULT_OPEN_RAW_STRING},
-        {"cr##\"a\"#", 8, RUSTC_LEXER_CLASS_TEXT, RUSTC_LEXER_FAULT_FEW_HASHES},
+        {"r#~", 3, RUSTC_LEXER_CLASS_TEXT, RUSTC_LEXER_FAULT_INVALID_RAW_STARTER},
+        {"br\"a", 4, RUSTC_LEXER_CLASS_TEXT, RUSTC_LEXER_FAULT_UNTERMINATED_RAW_STRING},
+        {"cr##\"a\"#", 8, RUSTC_LEXER_CLASS_TEXT, RUSTC_LEXER_FAULT_TOO_FEW_HASHES},
     };
     for (size_t i = 0; i < sizeof rows / sizeof rows[0]; i++)
         check_token(rows[i].text, rows[i].len, rows[i].class_wanted, rows[i].fault_wanted);
     memset(many, '#', 515);
     memcpy(many, "r", 1);
     memcpy(many + 257, "\"\"", 2);
-    check_token(many, 515, RUSTC_LEXER_CLASS_TEXT, RUSTC_LEXER_FAULT_MANY_HASHES);
+    check_token(many, 515, RUSTC_LEXER_CLASS_TEXT, RUSTC_LEXER_FAULT_TOO_MANY_HASHES);
     memset(many, '-', 513);
     many[256] = '\n';
     many[513] = '\0';
-    check_token(many, 513, RUSTC_LEXER_CLASS_DOC, RUSTC_LEXER_FAULT_MANY_DASHES);
+    check_token(many, 513, RUSTC_LEXER_CLASS_DOC, RUSTC_LEXER_FAULT_TOO_MANY_DASHES);
 
     struct rustc_lexer_token token = {.kind = RUSTC_LEXER_IDENT, .len = 1};
     uint32_t number = 9;

@@ -112,7 +112,7 @@ static void lex(batch_call *tokens, const uint8_t *text, size_t len, uint32_t al
 static void find_token(const struct rustc_lexer_token *tokens, size_t count, size_t len, enum placement placement) {
     size_t none = 0, found, from, offset = below(len + 2);
     struct block number = copy_of(&none, sizeof none, placement), start = copy_of(&none, sizeof none, placement);
-    CHECK(rustc_lexer_token_at(tokens, count, offset, number.bytes, start.bytes) == (offset < len));
+    CHECK(rustc_lexer_token_start_at(tokens, count, offset, number.bytes, start.bytes) == (offset < len));
     memcpy(&found, number.bytes, sizeof found);
     memcpy(&from, start.bytes, sizeof from);
     CHECK(offset < len ? found < count && from <= offset && offset - from < tokens[found].len : found == 0);
@@ -274,10 +274,11 @@ static void check_classes(const uint8_t *text, size_t len, enum placement placem
 /* A text between its marks, in a buffer that may be too small. */
 static void check_marks(const uint8_t *text, size_t len, enum placement placement) {
     struct block count = block_of(sizeof(size_t), placement);
-    for (uint32_t style = RUSTC_LEXER_STYLE_HTML; style <= RUSTC_LEXER_STYLE_NO_COLOURS; style++) {
+    for (uint32_t format = RUSTC_LEXER_FORMAT_HTML; format <= RUSTC_LEXER_FORMAT_NO_COLOURS; format++) {
         size_t buffer_len = below(20 * MOST), written;
         struct block buffer = block_of(buffer_len, placement);
-        uint32_t status = rustc_lexer_marks(text, len, style, 2021, below(MOST), buffer.bytes, buffer_len, count.bytes);
+        uint32_t status = rustc_lexer_marks(text, len, format, 2021, below(MOST), buffer.bytes, buffer_len,
+                                            count.bytes);
         memcpy(&written, count.bytes, sizeof written);
         CHECK(status == RUSTC_LEXER_OK ? written <= buffer_len : status == RUSTC_LEXER_SMALL_BUFFER && written == 0);
         release(buffer);

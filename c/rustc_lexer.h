@@ -35,7 +35,7 @@ extern "C" {
 #endif
 
 /* Statuses. If several apply, a call returns the first of these: TOO_LONG, NOT_UTF8, BAD_PLACE, NOT_RAW, BAD_MODE,
- * BAD_EDITION, BAD_EDIT, BAD_STYLE, SMALL_BUFFER. */
+ * BAD_EDITION, BAD_EDIT, BAD_FORMAT, SMALL_BUFFER. */
 enum {
     RUSTC_LEXER_OK = 0,
     RUSTC_LEXER_NOT_UTF8 = 1,  /* the text is not UTF-8 */
@@ -45,7 +45,7 @@ enum {
     RUSTC_LEXER_BAD_EDITION = 5, /* no edition of Rust has this year */
     RUSTC_LEXER_BAD_EDIT = 6,  /* the edit cannot have made the text, or relexing cannot go on from the numbers */
     RUSTC_LEXER_BAD_MODE = 7,  /* the mode is not a kind of literal from RUSTC_LEXER_CHAR on */
-    RUSTC_LEXER_BAD_STYLE = 8, /* the style is not one of RUSTC_LEXER_STYLE_.. */
+    RUSTC_LEXER_BAD_FORMAT = 8, /* the format is not one of RUSTC_LEXER_FORMAT_.. */
     RUSTC_LEXER_SMALL_BUFFER = 9 /* the buffer is too small for the output */
 };
 
@@ -290,13 +290,13 @@ enum {
 
 /* Faults of tokens. */
 enum {
-    RUSTC_LEXER_FAULT_OPEN_COMMENT = 1, /* nothing closes a block comment */
-    RUSTC_LEXER_FAULT_FRONTMATTER_SPACE = 2, /* white space comes before a frontmatter on its line */
-    RUSTC_LEXER_FAULT_FRONTMATTER_INFOSTRING = 3, /* the first line of a frontmatter is malformed */
-    RUSTC_LEXER_FAULT_OPEN_FRONTMATTER = 4, /* no line closes a frontmatter */
-    RUSTC_LEXER_FAULT_FRONTMATTER_INDENT = 5, /* white space comes before the dashes that close a frontmatter */
-    RUSTC_LEXER_FAULT_FRONTMATTER_DASHES = 6, /* a frontmatter closes with more or fewer dashes than it opens with */
-    RUSTC_LEXER_FAULT_FRONTMATTER_WORDS = 7, /* more than dashes is on the last line of a frontmatter */
+    RUSTC_LEXER_FAULT_UNTERMINATED_BLOCK_COMMENT = 1, /* nothing closes a block comment */
+    RUSTC_LEXER_FAULT_WHITESPACE_BEFORE_FRONTMATTER = 2, /* white space comes before a frontmatter on its line */
+    RUSTC_LEXER_FAULT_INVALID_INFOSTRING = 3, /* the first line of a frontmatter is malformed */
+    RUSTC_LEXER_FAULT_UNCLOSED_FRONTMATTER = 4, /* no line closes a frontmatter */
+    RUSTC_LEXER_FAULT_WHITESPACE_BEFORE_FRONTMATTER_CLOSE = 5, /* white space comes before the dashes that close one */
+    RUSTC_LEXER_FAULT_FRONTMATTER_CLOSE_MISMATCH = 6, /* one closes with more or fewer dashes than it opens with */
+    RUSTC_LEXER_FAULT_EXTRA_AFTER_FRONTMATTER_CLOSE = 7, /* more than dashes is on the last line of a frontmatter */
     RUSTC_LEXER_FAULT_INVALID_NAME = 8, /* a name has an emoji */
     RUSTC_LEXER_FAULT_UNKNOWN_PREFIX = 9, /* no literal has this prefix */
     RUSTC_LEXER_FAULT_UNKNOWN_LIFETIME_PREFIX = 10, /* no lifetime has this prefix */
@@ -305,29 +305,29 @@ enum {
     RUSTC_LEXER_FAULT_UNKNOWN_CHARACTER = 13, /* no token begins with the character */
     RUSTC_LEXER_FAULT_EMPTY_NUMBER = 14, /* a number has no digits */
     RUSTC_LEXER_FAULT_EMPTY_EXPONENT = 15, /* an exponent has no digits */
-    RUSTC_LEXER_FAULT_OPEN_CHARACTER = 16, /* nothing closes a character */
-    RUSTC_LEXER_FAULT_OPEN_BYTE = 17, /* nothing closes a byte */
-    RUSTC_LEXER_FAULT_OPEN_STRING = 18, /* nothing closes a string */
-    RUSTC_LEXER_FAULT_RAW_STARTER = 19, /* no quote follows where a raw string begins */
-    RUSTC_LEXER_FAULT_OPEN_RAW_STRING = 20, /* nothing closes a raw string */
-    RUSTC_LEXER_FAULT_FEW_HASHES = 21, /* nothing closes a raw string: too few hashes follow a quote */
-    RUSTC_LEXER_FAULT_MANY_HASHES = 22, /* a raw string has more than 255 hashes on each side */
+    RUSTC_LEXER_FAULT_UNTERMINATED_CHAR = 16, /* nothing closes a character */
+    RUSTC_LEXER_FAULT_UNTERMINATED_BYTE = 17, /* nothing closes a byte */
+    RUSTC_LEXER_FAULT_UNTERMINATED_STRING = 18, /* nothing closes a string */
+    RUSTC_LEXER_FAULT_INVALID_RAW_STARTER = 19, /* no quote follows where a raw string begins */
+    RUSTC_LEXER_FAULT_UNTERMINATED_RAW_STRING = 20, /* nothing closes a raw string */
+    RUSTC_LEXER_FAULT_TOO_FEW_HASHES = 21, /* nothing closes a raw string: too few hashes follow a quote */
+    RUSTC_LEXER_FAULT_TOO_MANY_HASHES = 22, /* a raw string has more than 255 hashes on each side */
     RUSTC_LEXER_FAULT_IN_LITERAL = 23, /* something between the quotes of a literal; no token has this fault */
-    RUSTC_LEXER_FAULT_WRONG_DIGIT = 24, /* a number has a digit that its base does not have */
+    RUSTC_LEXER_FAULT_INVALID_DIGIT = 24, /* a number has a digit that its base does not have */
     RUSTC_LEXER_FAULT_FLOAT_OF_BASE = 25, /* a number of another base than ten has a point or an exponent */
     RUSTC_LEXER_FAULT_RAW_KEYWORD = 26, /* self, Self, super, crate or _ after r# or 'r# */
     RUSTC_LEXER_FAULT_UNDERSCORE_SUFFIX = 27, /* the suffix of a literal is _ */
-    RUSTC_LEXER_FAULT_DOC_RETURN = 28, /* a doc comment has a carriage return that no newline follows */
-    RUSTC_LEXER_FAULT_FRONTMATTER_RETURN = 29, /* a frontmatter has such a carriage return */
-    RUSTC_LEXER_FAULT_MANY_DASHES = 30, /* a frontmatter has more than 255 dashes on each side */
-    RUSTC_LEXER_FAULT_TEXT_DIRECTION = 31 /* a comment or a literal has a character that turns the direction of text */
+    RUSTC_LEXER_FAULT_BARE_CARRIAGE_RETURN_IN_DOC_COMMENT = 28, /* a doc comment has a carriage return that no newline follows */
+    RUSTC_LEXER_FAULT_BARE_CARRIAGE_RETURN_IN_FRONTMATTER = 29, /* a frontmatter has such a carriage return */
+    RUSTC_LEXER_FAULT_TOO_MANY_DASHES = 30, /* a frontmatter has more than 255 dashes on each side */
+    RUSTC_LEXER_FAULT_TEXT_DIRECTION_CODEPOINT = 31 /* a comment or a literal has a character that turns the direction of text */
 };
 
-/* Styles of marks. */
+/* Formats of marks. */
 enum {
-    RUSTC_LEXER_STYLE_HTML = 1,      /* HTML tags, with entities in the text */
-    RUSTC_LEXER_STYLE_COLOURS = 2,   /* escape sequences of a terminal, control characters as symbols */
-    RUSTC_LEXER_STYLE_NO_COLOURS = 3 /* only the messages about errors, and these symbols */
+    RUSTC_LEXER_FORMAT_HTML = 1,      /* HTML tags, with entities in the text */
+    RUSTC_LEXER_FORMAT_COLOURS = 2,   /* escape sequences of a terminal, control characters as symbols */
+    RUSTC_LEXER_FORMAT_NO_COLOURS = 3 /* only the messages about errors, and these symbols */
 };
 
 /* Returns RUSTC_LEXER_OK if the text is UTF-8 and short enough, otherwise the status that other calls return for it. */
@@ -463,8 +463,8 @@ uint32_t rustc_lexer_settled_unchecked(const uint8_t *text, size_t len, size_t *
  *
  * Of `tokens` only the lengths are read. If the two numbers are no boundary of theirs, the result means nothing, but
  * the call is safe. */
-bool rustc_lexer_token_at(const struct rustc_lexer_token *tokens, size_t tokens_len, size_t offset, size_t *number,
-                          size_t *start);
+bool rustc_lexer_token_start_at(const struct rustc_lexer_token *tokens, size_t tokens_len, size_t offset,
+                                size_t *number, size_t *start);
 
 /* Writes 1 if the texts before and after byte `at` may touch, otherwise 0: whether the tokens of the text are those of
  * its part before `at`, and then those of its part after `at`. So a program that writes tokens finds out whether it has
@@ -536,7 +536,7 @@ uint32_t rustc_lexer_fault(const uint8_t *text, size_t len, const struct rustc_l
  *
  * With RUSTC_LEXER_SMALL_BUFFER the buffer may have any bytes: call again with a larger one. With any other status
  * except 0 the buffer stays as it was. With all of these `written` is 0. */
-uint32_t rustc_lexer_marks(const uint8_t *text, size_t len, uint32_t style, uint32_t edition, size_t count,
+uint32_t rustc_lexer_marks(const uint8_t *text, size_t len, uint32_t format, uint32_t edition, size_t count,
                            uint8_t *buffer, size_t buffer_len, size_t *written);
 
 /* Writes 1 if the text is an identifier, otherwise 0. */

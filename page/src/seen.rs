@@ -51,7 +51,7 @@ fn fresh(source: &Source, edition: usize) -> Range<usize> {
     else {
         return 0..0;
     };
-    let mut lexed = source.pieces_of(edition, last.range());
+    let mut lexed = source.pieces_of_tokens(edition, last.changed_tokens());
     let Some(first) = lexed.next() else {
         return 0..0;
     };
@@ -70,12 +70,12 @@ pub fn show(source: &Source, first: usize, count: usize, caret: usize, edition: 
     let range = bytes_of_lines(source, first, count);
     let fresh = fresh(source, edition);
     let lines = lines_of(source, range.clone(), fresh.clone(), edition);
-    let (begin, _) = source.token_at(edition, range.start);
-    let (end, _) = source.token_at(edition, range.end.max(1) - 1);
+    let (begin, _) = source.token_start_at(edition, range.start);
+    let (end, _) = source.token_start_at(edition, range.end.max(1) - 1);
     let there = source.tokens(edition).len();
     let past = (end + 1).min(there).max(begin);
     let caret = source.byte_of(caret);
-    let (at, _) = source.token_at(edition, caret);
+    let (at, _) = source.token_start_at(edition, caret);
     let at = at.min(there.max(1) - 1);
     let mut out = "{".to_string();
     push_name(&mut out, "lines");
@@ -123,7 +123,7 @@ fn push_tokens(
     edition: usize,
 ) {
     let lines = listing::write(source, numbers.clone(), edition);
-    let tokens = source.pieces_of(edition, numbers.clone());
+    let tokens = source.pieces_of_tokens(edition, numbers.clone());
     let rows = numbers.zip(tokens).zip(lines.lines());
     push_list(out, rows, |out, ((number, token), line)| {
         let start = token.start as usize;

@@ -81,10 +81,10 @@ impl Source {
     }
 
     /// The tokens of these numbers, with their places and texts.
-    pub fn pieces_of(&self, edition: usize, numbers: Range<usize>) -> Pieces<'_> {
+    pub fn pieces_of_tokens(&self, edition: usize, numbers: Range<usize>) -> Pieces<'_> {
         match &self.held {
-            Held::Part(texts) => texts[edition].pieces_of(numbers),
-            Held::Document(texts) => texts[edition].pieces_of(numbers),
+            Held::Part(texts) => texts[edition].pieces_of_tokens(numbers),
+            Held::Document(texts) => texts[edition].pieces_of_tokens(numbers),
         }
     }
 
@@ -134,14 +134,14 @@ impl Source {
     }
 
     /// The number and the start of the first token that ends past the byte.
-    pub fn token_at(&self, edition: usize, byte: usize) -> (usize, usize) {
+    pub fn token_start_at(&self, edition: usize, byte: usize) -> (usize, usize) {
         let byte = byte.max(self.begin());
         let found = match &self.held {
-            Held::Part(texts) => texts[edition].token_at(byte),
-            Held::Document(texts) => texts[edition].token_at(byte),
+            Held::Part(texts) => texts[edition].token_start_at(byte),
+            Held::Document(texts) => texts[edition].token_start_at(byte),
         };
         found.map_or((self.tokens(edition).len(), self.text().len()), |at| {
-            (at.number, at.offset)
+            (at.index, at.offset)
         })
     }
 

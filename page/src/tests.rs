@@ -93,8 +93,8 @@ fn places() {
     assert_eq!((source.line_count(), source.line_start(2)), (3, 5));
     assert_eq!(source.line_start(3), source.text().len());
     // A byte is of the token that ends past it.
-    assert_eq!(source.token_at(NEWEST, 3), (1, 3));
-    assert_eq!(source.token_at(NEWEST, 10), (3, 10));
+    assert_eq!(source.token_start_at(NEWEST, 3), (1, 3));
+    assert_eq!(source.token_start_at(NEWEST, 10), (3, 10));
     for (at, place) in [
         (0, (1, 1)),
         (3, (1, 3)),

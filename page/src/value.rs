@@ -1,6 +1,6 @@
 //! What a literal stands for.
 
-use marks::inside;
+use marks::literal_contents;
 use rustc_lexer::TokenKind;
 use rustc_literal_escaper::{
     EscapeError, MixedUnit, Mode, check_raw_byte_str, check_raw_c_str, check_raw_str,
@@ -10,7 +10,7 @@ use rustc_literal_escaper::{
 
 /// What a literal with quotes stands for, written with escapes. `None` for what is no such literal, or is not closed.
 pub fn value(kind: TokenKind, text: &str) -> Option<String> {
-    let (mode, range) = inside(kind, text)?;
+    let (mode, range) = literal_contents(kind, text)?;
     let inside = &text[range];
     let mut read = Read::default();
     match mode {

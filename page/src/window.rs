@@ -1,7 +1,7 @@
 //! Lines of a text between their marks: what `marks` writes, as runs of characters with a class.
 
 use crate::source::Source;
-use marks::{Style, write_first_tokens, write_marked};
+use marks::{Format, write_first_tokens, write_marked};
 use rustc_lexer::Edition;
 use std::fmt;
 use std::ops::Range;
@@ -37,7 +37,7 @@ pub fn lines_of(
     fresh: Range<usize>,
     edition: usize,
 ) -> Vec<Line> {
-    let (number, start) = source.token_at(edition, range.start);
+    let (number, start) = source.token_start_at(edition, range.start);
     let mut window = Window {
         range,
         fresh,
@@ -52,10 +52,10 @@ pub fn lines_of(
             source.tokens(edition).len() - number,
             &source.text()[start..],
         );
-        write_first_tokens(Style::Html, year, count, rest, &mut window)
+        write_first_tokens(Format::Html, year, count, rest, &mut window)
     } else {
         window.at = 0;
-        write_marked(Style::Html, year, source.text(), &mut window)
+        write_marked(Format::Html, year, source.text(), &mut window)
     };
     window.lines
 }

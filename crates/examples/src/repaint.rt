@@ -48,7 +48,7 @@ pub fn repaint<S: Stepper, W: fmt::Write>(
         output.new) }
 {
     let back = lexed.tokens().len() - relexed.kept_back;
-    for piece in lexed.pieces_of(relexed.kept_front, back) {
+    for piece in lexed.pieces_of_tokens(relexed.kept_front, back) {
         output.write_str(opening(piece.token.kind))?;
         output.write_str(piece.text)?;
         output.write_str(closing(piece.token.kind))?;

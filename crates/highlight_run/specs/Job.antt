@@ -9,8 +9,8 @@ use Rattle.highlight_run.specs.declared.job.Job.TheVariants.{Show, Help, Version
 use Rattle.highlight_run.specs.declared.job.Options.{Options}
 use Rattle.highlight_run.specs.declared.job.When.{When}
 use Rattle.highlight_run.specs.declared.job.When.TheVariants.{Auto, Always, Never}
-use Rattle.marks.specs.declared.style.Style.{Style}
-use Rattle.marks.specs.declared.style.Style.TheVariants.{Html, Colours, NoColours, Raw}
+use Rattle.marks.specs.declared.format.Format.{Format}
+use Rattle.marks.specs.declared.format.Format.TheVariants.{Html, Colours, NoColours, Raw}
 
 -- when colours are written
 abbrev pub when_of : List ℕ → Option When
@@ -29,8 +29,8 @@ unless_given None options = Some options
 unless_given (Some x) options = None
 
 -- a page or raw text, of which only one may stand
-abbrev pub in_form : Options → Style → Option Options
-in_form options style = unless_given options.form record options { form = Some style }
+abbrev pub in_form : Options → Format → Option Options
+in_form options format = unless_given options.form record options { form = Some style }
 
 abbrev pub in_edition : Options → Edition → Option Options
 in_edition options edition =
@@ -96,13 +96,13 @@ coloured (Some Auto) colours = colours
 coloured (Some Always) colours = true
 coloured (Some Never) colours = false
 
-abbrev pub style_of : Options → Bool → Style
-style_of options colours =
+abbrev pub format_of : Options → Bool → Format
+format_of options colours =
     unwrap_or options.form (if coloured options.color colours then Colours else NoColours)
 
 -- to show a text by options: where no edition is named it is the newest one
 abbrev pub show : Bool → Options → Job
-show colours options = Show (style_of options colours) (unwrap_or options.edition newest)
+show colours options = Show (format_of options colours) (unwrap_or options.edition newest)
 
 -- the job of a word that stands alone
 abbrev pub job_alone : List (List ℕ) → Option Job

@@ -2,20 +2,20 @@
 use Rattle.std.specs.Prelude.{ℕ, List, [], ◌++◌}
 use Rattle.rustc_lexer.specs.declared.edition.Edition.{Edition}
 use Rattle.highlight_run.specs.declared.page.TheConstants.{HEAD, FOOT}
-use Rattle.marks.specs.declared.style.Style.{Style}
-use Rattle.marks.specs.declared.style.Style.TheVariants.{Html}
+use Rattle.marks.specs.declared.format.Format.{Format}
+use Rattle.marks.specs.declared.format.Format.TheVariants.{Html}
 use Rattle.marks.specs.Marked.{marked}
 
 -- what stands before the text: in a page its head, in a terminal nothing
-abbrev pub head : Style → List ℕ
+abbrev pub head : Format → List ℕ
 head Html = HEAD.now
-head style = []
+head format = []
 
 -- what stands past it
-abbrev pub foot : Style → List ℕ
+abbrev pub foot : Format → List ℕ
 foot Html = FOOT.now
-foot style = []
+foot format = []
 
 -- all that is written of a text
-abbrev pub printed : Style → Edition → List ℕ → List ℕ
-printed style edition text = head style ++ (marked style edition text ++ foot style)
+abbrev pub printed : Format → Edition → List ℕ → List ℕ
+printed format edition text = head format ++ (marked format edition text ++ foot format)

@@ -47,7 +47,7 @@ abbrev pub Does : Option (List ℕ) → Option (List ℕ) → Option (List ℕ) 
     → Result (Unit {0}) Fault → Type 0
 Does known old new Help result = Writes HELP.now old new result
 Does known old new Version result = Writes VERSION.now old new result
-Does known old new (Show style edition) result = Makes (printed style edition) known old new result
+Does known old new (Show format edition) result = Makes (printed format edition) known old new result
 
 -- the line about a word that is refused: it names the word, and lists what is taken
 abbrev pub refusal : List ℕ → List ℕ

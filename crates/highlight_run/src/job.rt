@@ -1,17 +1,17 @@
 //! What a run has to do, as its arguments say.
 ghost use Rattle.std.specs.Prelude.{◌≡◌, None, map, string_bytes, IfErr, IfOk, Ok, Err};
-ghost use Rattle.highlight_run.specs.Job.{in_edition, in_form, job_alone, job_of, options_of, style_of, when_of, with_colours, with_value, with_word};
+ghost use Rattle.highlight_run.specs.Job.{format_of, in_edition, in_form, job_alone, job_of, options_of, when_of, with_colours, with_value, with_word};
 
-use marks::Style;
+use marks::Format;
 use rustc_lexer::Edition;
 use std::str::FromStr;
 
 /// What a run has to do.
 #[derive(Clone, Copy, Debug, PartialEq, Eq)]
 pub enum Job {
-    /// Write the text of standard input in a style, lexed in an edition. The text may begin with
+    /// Write the text of standard input in a format, lexed in an edition. The text may begin with
     /// a frontmatter.
-    Show { style: Style, edition: Edition },
+    Show { format: Format, edition: Edition },
     /// Print the usage.
     Help,
     /// Print the version.
@@ -30,7 +30,7 @@ enum When {
 /// The options that were given, and `None` for each of the others.
 #[derive(Clone, Copy)]
 struct Options {
-    form: Option<Style>,
+    form: Option<Format>,
     edition: Option<Edition>,
     color: Option<When>,
 }
@@ -59,7 +59,7 @@ pub fn read_job(words: &[String], colours: bool) -> Result<Job, &str>
     }
     let options = read_options(NO_OPTIONS, words)?;
     Ok(Job::Show {
-        style: style_of(options, colours),
+        format: format_of(options, colours),
         edition: options.edition.unwrap_or(Edition::NEWEST),
     })
 }
@@ -108,9 +108,9 @@ fn with_word(options: Options, word: &str) -> Option<Option<Options>>
     ensures { result ≡ with_word options word.now }
 {
     if word == "--html" {
-        Some(in_form(options, Style::Html))
+        Some(in_form(options, Format::Html))
     } else if word == "--raw" {
-        Some(in_form(options, Style::Raw))
+        Some(in_form(options, Format::Raw))
     } else if word == "--color=auto" {
         Some(with_colours(options, When::Auto))
     } else if word == "--color=always" {
@@ -139,11 +139,11 @@ fn with_value<'a>(options: Options, name: &'a str, value: &'a str) -> Result<Opt
 }
 
 /// Adds `--html` or `--raw`. Returns `None` if one of these is there already.
-fn in_form(options: Options, style: Style) -> Option<Options>
-    ensures { result ≡ in_form options style }
+fn in_form(options: Options, format: Format) -> Option<Options>
+    ensures { result ≡ in_form options format }
 {
     options.form.is_none().then_some(Options {
-        form: Some(style),
+        form: Some(format),
         ..options
     })
 }
@@ -168,12 +168,12 @@ fn with_colours(options: Options, when: When) -> Option<Options>
     })
 }
 
-/// Returns the style that the options ask for.
-fn style_of(options: Options, colours: bool) -> Style
-    ensures { result ≡ style_of options colours }
+/// Returns the format that the options ask for.
+fn format_of(options: Options, colours: bool) -> Format
+    ensures { result ≡ format_of options colours }
 {
-    if let Some(style) = options.form {
-        return style;
+    if let Some(format) = options.form {
+        return format;
     }
     let coloured = match options.color {
         None | Some(When::Auto) => colours,
@@ -181,9 +181,9 @@ fn style_of(options: Options, colours: bool) -> Style
         Some(When::Never) => false,
     };
     if coloured {
-        Style::Colours
+        Format::Colours
     } else {
-        Style::NoColours
+        Format::NoColours
     }
 }
 

@@ -4,7 +4,7 @@ ghost use Rattle.std.specs.Fmt.{WritesInCalls};
 ghost use Rattle.rustc_lexer.specs.Classes.{Fits};
 ghost use Rattle.highlight_run.specs.Page.{foot, head, printed};
 
-use marks::{Style, write_marked};
+use marks::{Format, write_marked};
 use rustc_lexer::Edition;
 use std::fmt;
 
@@ -51,38 +51,38 @@ const FOOT: &str = "</pre>
 </html>
 ";
 
-/// Writes a whole marked text, inside a page if the style is HTML.
+/// Writes a whole marked text, inside a page if the format is HTML.
 pub fn write_text<W: fmt::Write>(
-    style: Style,
+    format: Format,
     edition: Edition,
     text: &str,
     output: &mut W,
 ) -> fmt::Result
     requires fits { Fits text.now }
     ensures { OnOk result (WritesInCalls W.write_str_gives output.old
-        (printed style edition text.now) output.new) }
+        (printed format edition text.now) output.new) }
 {
-    output.write_str(head(style))?;
-    write_marked(style, edition, text, output)?;
-    output.write_str(foot(style))
+    output.write_str(head(format))?;
+    write_marked(format, edition, text, output)?;
+    output.write_str(foot(format))
 }
 
 /// Returns what is written before the text.
-fn head(style: Style) -> &'static str
-    ensures { result.now ≡ head style }
+fn head(format: Format) -> &'static str
+    ensures { result.now ≡ head format }
 {
-    match style {
-        Style::Html => HEAD,
-        Style::Colours | Style::NoColours | Style::Raw => "",
+    match format {
+        Format::Html => HEAD,
+        Format::Colours | Format::NoColours | Format::Raw => "",
     }
 }
 
 /// Returns what is written after the text.
-fn foot(style: Style) -> &'static str
-    ensures { result.now ≡ foot style }
+fn foot(format: Format) -> &'static str
+    ensures { result.now ≡ foot format }
 {
-    match style {
-        Style::Html => FOOT,
-        Style::Colours | Style::NoColours | Style::Raw => "",
+    match format {
+        Format::Html => FOOT,
+        Format::Colours | Format::NoColours | Format::Raw => "",
     }
 }

@@ -8,7 +8,7 @@ ghost use Rattle.highlight_run.specs.Page.{foot, head};
 ghost use Rattle.highlight_run.specs.Program.{asked, colours_of, is_dumb, is_unset, Ran};
 ghost use Rattle.highlight_run.specs.Texts.{IsFrame, NamesArguments};
 ghost use Rattle.highlight_run.specs.declared.program.TheConstants.{HELP};
-ghost use Rattle.marks.specs.declared.style.Style.TheVariants.{Html};
+ghost use Rattle.marks.specs.declared.format.Format.TheVariants.{Html};
 
 use crate::job::{Job, read_job};
 use crate::run::run;
@@ -115,7 +115,7 @@ fn show<R: Read, W: Write>(
         Err(_) => return Err(Fault::Memory),
     };
     match read_job(words.as_slice(), colours) {
-        Ok(Job::Show { style, edition }) => run(alloc, style, edition, input, output),
+        Ok(Job::Show { format, edition }) => run(alloc, format, edition, input, output),
         Ok(Job::Help) => put(output, HELP),
         Ok(Job::Version) => put(output, VERSION),
         Err(word) => {

@@ -7,7 +7,7 @@ ghost use Rattle.highlight_run.specs.Page.{printed};
 
 use crate::page::write_text;
 use ends::{Fault, Watched, put, read_text};
-use marks::Style;
+use marks::Format;
 use rustc_lexer::Edition;
 use std::alloc::Global;
 use std::fmt;
@@ -30,7 +30,7 @@ use std::io::{Read, Write};
 #[tactic(auto, using(ends::proofs::RunLemmas::makes_unread, ends::proofs::RunLemmas::makes_written))]
 pub fn run<R: Read, W: Write>(
     alloc: Global,
-    style: Style,
+    format: Format,
     edition: Edition,
     input: &mut Watched<R>,
     output: &mut Watched<W>,
@@ -39,20 +39,20 @@ pub fn run<R: Read, W: Write>(
     requires writes { has_failed output.old ≡ false }
     ensures leaves { Leaves input.new output.new (W.contents output.old.inner)
         (W.contents output.new.inner) result }
-    ensures ends { Makes (printed style edition) (R.remaining input.old.inner)
+    ensures ends { Makes (printed format edition) (R.remaining input.old.inner)
         (W.contents output.old.inner) (W.contents output.new.inner) result }
 {
     let text = read_text(alloc, input)?;
-    let made = print(alloc, style, edition, text.as_str()).map_err(|_| Fault::Memory)?;
+    let made = print(alloc, format, edition, text.as_str()).map_err(|_| Fault::Memory)?;
     put(output, made.as_str())
 }
 
 /// Returns the whole output for a text.
-fn print(alloc: Global, style: Style, edition: Edition, text: &str) -> Result<String, fmt::Error>
+fn print(alloc: Global, format: Format, edition: Edition, text: &str) -> Result<String, fmt::Error>
     requires { Fits text.now }
-    ensures { IfOk result (λ made. string_bytes made ≡ printed style edition text.now) }
+    ensures { IfOk result (λ made. string_bytes made ≡ printed format edition text.now) }
 {
     let mut made = String::new(alloc);
-    write_text(style, edition, text, &mut made)?;
+    write_text(format, edition, text, &mut made)?;
     Ok(made)
 }

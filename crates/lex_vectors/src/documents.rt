@@ -3,7 +3,7 @@ use crate::edits::{EditRow, Keeps, is_edited, is_listed, lexed_by};
 use crate::steppers::{Characters, Counting};
 use crate::tables::documents::{FRONTS, HEADS, KEPT, SPACED};
 use crate::tables::edits::{CHARACTERS, LONG, SHORT};
-use rustc_lexer::{Bound, Edit, EditStop, LexedDocument, Relexed, Stepper, Token, fits};
+use rustc_lexer::{Edit, EditStop, LexedDocument, Relexed, Stepper, Token, TokenStart, fits};
 use std::alloc::{AllocError, Global};
 
 impl<S: Stepper> Keeps for LexedDocument<S> {
@@ -121,12 +121,12 @@ fn heads(rt: HostRuntime) -> Result<(), AllocError> {
     for (text, shebang, number, place) in HEADS {
         assert!(rt; fits(text));
         let lexed = LexedDocument::new(rt.alloc(), text)?;
-        let body = Bound {
-            number: *number,
+        let body = TokenStart {
+            index: *number,
             offset: *place,
         };
         assert!(rt;
-            lexed.shebang_len() == *shebang && lexed.body() == body,
+            lexed.shebang_len() == *shebang && lexed.body_start() == body,
             "{text}"
         );
     }

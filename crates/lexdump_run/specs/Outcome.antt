@@ -9,7 +9,7 @@ use Rattle.rustc_lexer.specs.declared.relex.edit_list.EditStop.TheVariants.{Rang
 use Rattle.rustc_lexer.specs.Answers.{shebang}
 use Rattle.rustc_lexer.specs.Classes.{IsText}
 use Rattle.rustc_lexer.specs.Edits.{apply_list, stop_at, AreEdits, IsStop}
-use Rattle.rustc_lexer.specs.LanguageText.{document, part, newest}
+use Rattle.rustc_lexer.specs.LanguageText.{source, part, newest}
 use Rattle.rustc_lexer.specs.Tokens.{tokens_of}
 use Rattle.ends.specs.declared.fault.Fault.{Fault}
 use Rattle.ends.specs.declared.fault.Fault.TheVariants.{NotUtf8, TooLong, EditRange, EditTooLong, Memory, Read, Write}
@@ -21,7 +21,7 @@ use Rattle.lexdump_run.specs.Listing.{listing, shebang_line}
 -- before it leave
 abbrev pub IsPrinted : Job → List ℕ → List ℕ → Type 0
 IsPrinted (Plain edition) text made = made ≡ listing (tokens_of (part edition) text)
-IsPrinted Front text made = made ≡ listing (tokens_of (document newest) text)
+IsPrinted Front text made = made ≡ listing (tokens_of (source newest) text)
 IsPrinted Shebang text made = made ≡ shebang_line (shebang text)
 IsPrinted (Edit edition edits) text made =
     AreEdits text edits.items

@@ -29,7 +29,7 @@ use Rattle.rustc_lexer.specs.laws.LanguageRuns.{none-among, start-word_start, wo
 use Rattle.rustc_lexer.specs.laws.Reach.{run_all}
 use Rattle.rustc_lexer.proofs.PartLemmas.{continue_part}
 use Rattle.marks.specs.declared.fault.Fault.{Fault}
-use Rattle.marks.specs.declared.fault.Fault.TheVariants.{FrontmatterSpace, OpenFrontmatter, FrontmatterDashes, FrontmatterWords}
+use Rattle.marks.specs.declared.fault.Fault.TheVariants.{WhitespaceBeforeFrontmatter, UnclosedFrontmatter, FrontmatterCloseMismatch, ExtraAfterFrontmatterClose}
 use Rattle.rustc_literal_escaper.specs.Grammar.{is_newline}
 use Rattle.marks.specs.Frontmatter.{blanks, closing_fault, dashes, end_fault, is_of}
 use Rattle.marks.specs.Fault.{fault_of, front_fault, kind_fault}
@@ -216,7 +216,7 @@ module _ (n : ℕ) (next u line : Chars) (inline : AreAll is_inline line) where
   module _ (lone : begins (fence 3) line ≡ false → NoLineBegins 3 (body ++ next)) (first : begins (fence n) line ≡ false → NoLineBegins n (body ++ next)) where
     -- dashes come first
     flush-told : blanks line ≡ 0 → 3 ≤ dashes rest
-        → IsEndFault n next body (if not (nat_eq (dashes rest) n) then Some (FrontmatterDashes n (dashes rest)) else if nat_eq (blanks tail) (length tail) then None else Some FrontmatterWords)
+        → IsEndFault n next body (if not (nat_eq (dashes rest) n) then Some (FrontmatterCloseMismatch n (dashes rest)) else if nat_eq (blanks tail) (length tail) then None else Some ExtraAfterFrontmatterClose)
     flush-told flush enough =
         let d : ℕ = dashes rest in
         let same_rest : rest ≡ line = ap (λ (k : ℕ). drop k line) flush in
@@ -224,7 +224,7 @@ module _ (n : ℕ) (next u line : Chars) (inline : AreAll is_inline line) where
         let stops = run-stops (is_of (codes "-")) (is_among (codes "-")) same-dash rest in
         let plain = all-drop is_inline d rest (all-drop is_inline (blanks line) line inline) in
         by_test (IsEndFault n next body) (not (nat_eq d n)) _ _
-        (λ other. subst (λ (l : Chars). IsEndFault n next (u ++ 10 ∷ l) (Some (FrontmatterDashes n d))) (sym shape) (other_dashes u tail d enough
+        (λ other. subst (λ (l : Chars). IsEndFault n next (u ++ 10 ∷ l) (Some (FrontmatterCloseMismatch n d))) (sym shape) (other_dashes u tail d enough
         (λ le.
         let few : d < n = grind (arith, nat_tests) in
         let none : begins (fence n) line ≡ false = false_from_ne_true _ (λ t. let many = begins-dashes n line t in let same : dashes line ≡ d = ap dashes (sym same_rest) in omega (arith, many, same, few)) in
@@ -244,7 +244,7 @@ module _ (n : ℕ) (next u line : Chars) (inline : AreAll is_inline line) where
         let inside : k < length tail = omega (arith, eqb-false k (length tail) more, prefix_len-le-length (is_of (codes "\t ")) tail) in
         let cut : drop k tail ≡ c ∷ w = drop-cons tail k 0 inside in
         let split : tail ≡ take k tail ++ (c ∷ w) = sym (take-append-drop k tail) ∙ ap (λ (v : Chars). take k tail ++ v) cut in
-        subst (λ (l : Chars). IsEndFault n next (u ++ 10 ∷ l) (Some FrontmatterWords)) (sym (closes ∙ ap (λ (v : Chars). fence n ++ v) split))
+        subst (λ (l : Chars). IsEndFault n next (u ++ 10 ∷ l) (Some ExtraAfterFrontmatterClose)) (sym (closes ∙ ap (λ (v : Chars). fence n ++ v) split))
         (more_words u (take k tail) c w (run-all (is_of (codes "\t ")) is_horizontal_whitespace same-blank tail)
         (ap (next_is is_horizontal_whitespace) (sym cut) ∙ run-stops (is_of (codes "\t ")) is_horizontal_whitespace same-blank tail)
         (subst (NextIsNot (is_among (codes "-"))) split stops) (subst (AreAll is_inline) cut (all-drop is_inline k tail plain)))))
@@ -327,7 +327,7 @@ told-found n {next} (last u line inline lone first) = record {
       ∙ (ap (λ (k : ℕ). closing_fault k (encode_utf8_all line)) (ap dashes (sym split) ∙ opens) ∙ closing-encode n line));
 }
 told-found n {next} {body} (only lone none) = record {
-  end = Some OpenFrontmatter;
+  end = Some UnclosedFrontmatter;
   is = unclosed (lone, λ bs ends. true≢false (sym (ap (list_any is_newline) ends.2 ∙ has-line ends.0 (bs ++ (fence 3 ++ ends.1))) ∙ none));
   same = λ front run clean. rw (one-encode (front ++ body) (list_any-append is_newline front body ∙ rw (clean, none) refl)) refl;
 }
@@ -342,14 +342,14 @@ lone-not k n u line next le lone =
     fence-begins zero s = refl
     fence-begins (suc n) s = fence-begins n s
 
-is-open : (n : ℕ) {next body : Chars} {end : Option Fault} → 3 ≤ n → IsEndFault n next body end → IsOpen body next → end ≡ Some OpenFrontmatter
+is-open : (n : ℕ) {next body : Chars} {end : Option Fault} → 3 ≤ n → IsEndFault n next body end → IsOpen body next → end ≡ Some UnclosedFrontmatter
 is-open n {next} many (closed u bs all) free = absurd (lone-not 3 n u bs next many free.0)
 is-open n {next} many (more_words u bs c w all other stop plain) free = absurd (lone-not 3 n u (bs ++ c ∷ w) next many free.0)
 is-open n {next} many (other_dashes u w m enough few stop plain) free = absurd (lone-not 3 m u w next enough free.0)
 is-open n many (indented bs lone some ends) free = absurd (free.1 bs ends)
 is-open n many (unclosed is) free = refl
 
-open-is : (n : ℕ) {next body : Chars} → IsEndFault n next body (Some OpenFrontmatter) → IsOpen body next
+open-is : (n : ℕ) {next body : Chars} → IsEndFault n next body (Some UnclosedFrontmatter) → IsOpen body next
 open-is n (unclosed is) = is
 
 no-space : (n : ℕ) (w : Chars) → 3 ≤ n → next_is is_whitespace (fence n ++ w) ≡ false
@@ -375,7 +375,7 @@ told-text kind n bad_label opening body next (the.opening _ space label spaces n
   where
     by_space : (space : Chars) → AreAll is_whitespace space → (told : Told n next body)
         → kind_fault (Frontmatter (next_is is_whitespace (space ++ (fence n ++ label))) bad_label) (encode_utf8_all (space ++ (fence n ++ label) ++ body))
-        ≡ (if next_is is_whitespace (space ++ (fence n ++ label)) then Some FrontmatterSpace else front_fault bad_label told.end)
+        ≡ (if next_is is_whitespace (space ++ (fence n ++ label)) then Some WhitespaceBeforeFrontmatter else front_fault bad_label told.end)
     by_space [] spaces told =
         let free = no-space n (label) many in
         let stops = front-stops (is_among (codes "-")) (label ++ body) next (ap (next_is (is_among (codes "-"))) (append_assoc label body next) ∙ stop) in

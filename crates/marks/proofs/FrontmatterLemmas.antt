@@ -9,13 +9,13 @@ use Rattle.std.proofs.lemmas.List.Sums.{prefix_len-drop_all, prefix_len-drop_no,
 use Rattle.std.proofs.lemmas.Grind.{common_steps}
 use Rattle.memchr.specs.Find.{IsLastByte, is_byte}
 use Rattle.marks.specs.declared.fault.Fault.{Fault}
-use Rattle.marks.specs.declared.fault.Fault.TheVariants.{OpenFrontmatter}
+use Rattle.marks.specs.declared.fault.Fault.TheVariants.{UnclosedFrontmatter}
 use Rattle.rustc_literal_escaper.specs.Grammar.{is_newline}
 use Rattle.marks.specs.Frontmatter.{closing_fault, dashes, end_fault, is_of}
 
 module _ (bytes text : List ℕ) where
   abbrev chosen : Bool → Option Fault
-  chosen b = if b then closing_fault (dashes text) (after_last is_newline text) else Some OpenFrontmatter
+  chosen b = if b then closing_fault (dashes text) (after_last is_newline text) else Some UnclosedFrontmatter
 
   pub ends_found : (n opening : ℕ) (line : List ℕ) (found : Option Fault) → bytes ≡ text → IsLastByte (is_byte (byte "\n")) bytes (Some n)
       → opening ≡ dashes bytes → line ≡ take (length bytes - (n + 1)) (drop (n + 1) bytes) → found ≡ closing_fault opening line → found ≡ end_fault text
@@ -29,7 +29,7 @@ module _ (bytes text : List ℕ) where
       let some : list_any is_newline text ≡ true = subst (λ (xs : List ℕ). list_any is_newline xs ≡ true) same (list_any_at is_newline bytes n 0 high last.1) in
       f ∙ ap (λ (k : ℕ). closing_fault k line) (o ∙ ap dashes same) ∙ ap (closing_fault (dashes text)) after ∙ ap chosen (sym some)
 
-  pub ends_none : bytes ≡ text → IsLastByte (is_byte (byte "\n")) bytes None → Some OpenFrontmatter ≡ end_fault text
+  pub ends_none : bytes ≡ text → IsLastByte (is_byte (byte "\n")) bytes None → Some UnclosedFrontmatter ≡ end_fault text
   ends_none same none =
       let none_is : list_any is_newline text ≡ false = subst (λ (xs : List ℕ). list_any is_newline xs ≡ false) same
       (list_any_none is_newline bytes (All-from_get_or (λ x. is_newline x ≡ false) bytes 0 (λ k less. false_from_ne_true _ (none k (omega arith) less)))) in

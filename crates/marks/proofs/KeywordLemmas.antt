@@ -5,7 +5,7 @@ use Rattle.std.proofs.lemmas.Slice.Eq.{bytes_eq-Decides}
 use Rattle.marks.specs.Keyword.{has, is_in, made}
 use Rattle.rustc_lexer.specs.declared.edition.Edition.{Edition}
 use Rattle.rustc_lexer.specs.declared.edition.Edition.TheVariants.{E2015, E2018, E2021, E2024}
-use Rattle.marks.specs.declared.keyword.Keyword.{Keyword}
+use Rattle.marks.specs.declared.keyword.KeywordKind.{KeywordKind}
 
 infixr 20 ◌&◌
 -- one fact, and then another
@@ -20,7 +20,7 @@ is_out [] word others = refl
 is_out (keyword ∷ words) word others =
     search (rules, bytes_eq-Decides, others.0, is_out words word others.1)
 
-pub has_not : (sort : Keyword) (edition : Edition) (word : List ℕ) → IsNoneOf word (made sort E2015)
+pub has_not : (sort : KeywordKind) (edition : Edition) (word : List ℕ) → IsNoneOf word (made sort E2015)
     → IsNoneOf word (made sort E2018) → IsNoneOf word (made sort E2024) → false ≡ has sort edition word
 has_not sort E2015 word first second third = is_out (made sort E2015) word first
 has_not sort E2018 word first second third = search (is_out _ word first, is_out _ word second)

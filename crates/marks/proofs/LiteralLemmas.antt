@@ -20,7 +20,7 @@ use Rattle.rustc_literal_escaper.specs.Items.{ArePlaced, IsPlaced}
 use Rattle.rustc_literal_escaper.specs.declared.mode.Mode.{Mode}
 use Rattle.marks.specs.declared.class.Class.TheVariants.{Text}
 use Rattle.marks.specs.declared.literal.Look.{Look}
-use Rattle.marks.specs.declared.style.Style.{Style}
+use Rattle.marks.specs.declared.format.Format.{Format}
 use Rattle.std.specs.List.{between}
 use Rattle.marks.specs.Answers.{stretches_of, string_stretches}
 use Rattle.marks.specs.Literal.{Stretch, single_stretches, stretches_at, look_parts, parts_from, char_error, char_look, stretch}
@@ -90,49 +90,49 @@ told_already mode begin at close items rest item is less = ap (stretches_from mo
 
 module _ {W : Type 0} (took : W → List ℕ → W → Type 0) where
   -- a stretch, and the plain text before it
-  pub writes_stretch : (style : Style) (look : Look) (some : Option Look) (text plain own : List ℕ) (shown start end : ℕ) (w0 w1 w2 : W) → some ≡ Some look → shown ≤ start → start ≤ end
+  pub writes_stretch : (format : Format) (look : Look) (some : Option Look) (text plain own : List ℕ) (shown start end : ℕ) (w0 w1 w2 : W) → some ≡ Some look → shown ≤ start → start ≤ end
       → plain ≡ take (start - shown) (drop shown text) → own ≡ take (end - start) (drop start text)
-      → WritesInCalls took w0 (with_marks style (Own Text plain ∷ [])) w1 → WritesInCalls took w1 (with_marks style (look_parts look own)) w2
-      → WritesOn took style text w0 shown (stretch start end some) w2 end
-  writes_stretch style look some text plain own shown start end w0 w1 w2 is low high is_plain is_own a b = λ more last rest.
+      → WritesInCalls took w0 (with_marks format (Own Text plain ∷ [])) w1 → WritesInCalls took w1 (with_marks format (look_parts look own)) w2
+      → WritesOn took format text w0 shown (stretch start end some) w2 end
+  writes_stretch format look some text plain own shown start end w0 w1 w2 is low high is_plain is_own a b = λ more last rest.
       let past : drop (start - shown) (drop shown text) ≡ drop start text = let same : shown + (start - shown) ≡ start = omega arith in drop-drop (start - shown) shown text ∙ ap (λ (n : ℕ). drop n text) same in
       let behind : drop (end - start) (drop start text) ≡ drop end text = let same : start + (end - start) ≡ end = omega arith in drop-drop (end - start) start text ∙ ap (λ (n : ℕ). drop n text) same in
-      rw (is, past, behind, ← is_plain, ← is_own) (writes_parts took style (Own Text plain ∷ []) (look_parts look own ++ parts_from end (drop end text) more) w0 w1 last a (writes_parts took style (look_parts look own) (parts_from end (drop end text) more) w1 w2 last b rest))
+      rw (is, past, behind, ← is_plain, ← is_own) (writes_parts took format (Own Text plain ∷ []) (look_parts look own ++ parts_from end (drop end text) more) w0 w1 last a (writes_parts took format (look_parts look own) (parts_from end (drop end text) more) w1 w2 last b rest))
 
   -- what is left of a literal from the place `shown` on
-  abbrev pub WritesLeft : Style → List ℕ → W → ℕ → List Stretch → W → Type 0
-  WritesLeft style text w shown ss last = WritesInCalls took w (with_marks style (parts_from shown (drop shown text) ss)) last
+  abbrev pub WritesLeft : Format → List ℕ → W → ℕ → List Stretch → W → Type 0
+  WritesLeft format text w shown ss last = WritesInCalls took w (with_marks format (parts_from shown (drop shown text) ss)) last
 
   -- some stretches, and then no more
-  pub writes_last : (style : Style) (text rest : List ℕ) (shown to : ℕ) (ss : List Stretch) (w v u : W) → WritesOn took style text w shown ss v to → rest ≡ drop to text → WritesInCalls took v (with_marks style (Own Text rest ∷ [])) u
-      → WritesLeft style text w shown ss u
-  writes_last style text rest shown to ss w v u on is wrote =
-      subst (λ (all : List Stretch). WritesLeft style text w shown all u) (append-nil ss) (on [] u (subst (λ (xs : List ℕ). WritesInCalls took v (with_marks style (Own Text xs ∷ [])) u) is wrote))
+  pub writes_last : (format : Format) (text rest : List ℕ) (shown to : ℕ) (ss : List Stretch) (w v u : W) → WritesOn took format text w shown ss v to → rest ≡ drop to text → WritesInCalls took v (with_marks format (Own Text rest ∷ [])) u
+      → WritesLeft format text w shown ss u
+  writes_last format text rest shown to ss w v u on is wrote =
+      subst (λ (all : List Stretch). WritesLeft format text w shown all u) (append-nil ss) (on [] u (subst (λ (xs : List ℕ). WritesInCalls took v (with_marks format (Own Text xs ∷ [])) u) is wrote))
 
   -- what stands between single quotes
-  pub writes_single : (style : Style) (mode : Mode) (text inside rest : List ℕ) (begin close to : ℕ) (look : Option Look) (w v u : W) → look ≡ char_look (char_error mode inside) inside → inside ≡ between begin close text → rest ≡ drop to text
-      → WritesOn took style text w 0 (stretch begin close look) v to → WritesInCalls took v (with_marks style (Own Text rest ∷ [])) u
-      → WritesInCalls took w (with_marks style (parts_from 0 text (single_stretches mode begin close text))) u
-  writes_single style mode text inside rest begin close to look w v u looks is past on wrote =
-      grind (arith, common_steps, writes_last style text rest 0 to (stretch begin close look) w v u on past wrote)
+  pub writes_single : (format : Format) (mode : Mode) (text inside rest : List ℕ) (begin close to : ℕ) (look : Option Look) (w v u : W) → look ≡ char_look (char_error mode inside) inside → inside ≡ between begin close text → rest ≡ drop to text
+      → WritesOn took format text w 0 (stretch begin close look) v to → WritesInCalls took v (with_marks format (Own Text rest ∷ [])) u
+      → WritesInCalls took w (with_marks format (parts_from 0 text (single_stretches mode begin close text))) u
+  writes_single format mode text inside rest begin close to look w v u looks is past on wrote =
+      grind (arith, common_steps, writes_last format text rest 0 to (stretch begin close look) w v u on past wrote)
 
   -- an element that is told already
-  pub writes_told : (style : Style) (mode : Mode) (text : List ℕ) (begin at close shown : ℕ) (items rest : List Item) (item : Item) (w last : W) → items ≡ item ∷ rest → begin + item.0.start < at
-      → WritesLeft style text w shown (stretches_from mode begin at close rest) last → WritesLeft style text w shown (stretches_from mode begin at close items) last
-  writes_told style mode text begin at close shown items rest item w last is less more = grind (arith, common_steps, told_already)
+  pub writes_told : (format : Format) (mode : Mode) (text : List ℕ) (begin at close shown : ℕ) (items rest : List Item) (item : Item) (w last : W) → items ≡ item ∷ rest → begin + item.0.start < at
+      → WritesLeft format text w shown (stretches_from mode begin at close rest) last → WritesLeft format text w shown (stretches_from mode begin at close items) last
+  writes_told format mode text begin at close shown items rest item w last is less more = grind (arith, common_steps, told_already)
 
   -- an element, and what stands before it
-  pub writes_item : (style : Style) (mode : Mode) (text : List ℕ) (begin at close shown to next : ℕ) (items rest : List Item) (item : Item) (look : Option Look) (w v u last : W) → items ≡ item ∷ rest → at ≤ begin + item.0.start → look ≡ element_look mode item.1
-      → WritesOn took style text w shown (gap at (begin + item.0.start)) v to → WritesOn took style text v to (stretch (begin + item.0.start) (begin + item.0.end) look) u next
-      → WritesLeft style text u next (stretches_from mode begin (begin + item.0.end) close rest) last → WritesLeft style text w shown (stretches_from mode begin at close items) last
-  writes_item style mode text begin at close shown to next items rest item look w v u last is high looks a b more =
+  pub writes_item : (format : Format) (mode : Mode) (text : List ℕ) (begin at close shown to next : ℕ) (items rest : List Item) (item : Item) (look : Option Look) (w v u last : W) → items ≡ item ∷ rest → at ≤ begin + item.0.start → look ≡ element_look mode item.1
+      → WritesOn took format text w shown (gap at (begin + item.0.start)) v to → WritesOn took format text v to (stretch (begin + item.0.start) (begin + item.0.end) look) u next
+      → WritesLeft format text u next (stretches_from mode begin (begin + item.0.end) close rest) last → WritesLeft format text w shown (stretches_from mode begin at close items) last
+  writes_item format mode text begin at close shown to next items rest item look w v u last is high looks a b more =
       grind (arith, common_steps)
 
   -- all elements, and then none
-  pub writes_all : (style : Style) (mode : Mode) (text inside : List ℕ) (begin close : ℕ) (items : List Item) (w last : W) → items ≡ items_of (is_raw mode) inside → inside ≡ between begin close text
-      → WritesLeft style text w 0 (stretches_from mode begin begin close items) last → WritesInCalls took w (with_marks style (parts_from 0 text (means.string_stretches mode begin close text))) last
-  writes_all style mode text inside begin close items w last are is wrote = grind (arith, common_steps)
+  pub writes_all : (format : Format) (mode : Mode) (text inside : List ℕ) (begin close : ℕ) (items : List Item) (w last : W) → items ≡ items_of (is_raw mode) inside → inside ≡ between begin close text
+      → WritesLeft format text w 0 (stretches_from mode begin begin close items) last → WritesInCalls took w (with_marks format (parts_from 0 text (means.string_stretches mode begin close text))) last
+  writes_all format mode text inside begin close items w last are is wrote = grind (arith, common_steps)
 
-  pub writes_end : (style : Style) (mode : Mode) (text rest : List ℕ) (begin at close shown to : ℕ) (items : List Item) (w v u : W) → items ≡ [] → rest ≡ drop to text → WritesOn took style text w shown (gap at close) v to
-      → WritesInCalls took v (with_marks style (Own Text rest ∷ [])) u → WritesLeft style text w shown (stretches_from mode begin at close items) u
-  writes_end style mode text rest begin at close shown to items w v u none past on wrote = grind (arith, common_steps, writes_last)
+  pub writes_end : (format : Format) (mode : Mode) (text rest : List ℕ) (begin at close shown to : ℕ) (items : List Item) (w v u : W) → items ≡ [] → rest ≡ drop to text → WritesOn took format text w shown (gap at close) v to
+      → WritesInCalls took v (with_marks format (Own Text rest ∷ [])) u → WritesLeft format text w shown (stretches_from mode begin at close items) u
+  writes_end format mode text rest begin at close shown to items w v u none past on wrote = grind (arith, common_steps, writes_last)

@@ -16,8 +16,8 @@ use Rattle.rustc_literal_escaper.specs.declared.mode.Mode.{Mode}
 use Rattle.marks.specs.declared.class.Class.{Class}
 use Rattle.marks.specs.declared.class.Class.TheVariants.{Comment, Plain}
 use Rattle.marks.specs.declared.fault.Fault.{Fault}
-use Rattle.marks.specs.declared.style.Style.{Style}
-use Rattle.marks.specs.declared.style.Style.TheVariants.{Html}
+use Rattle.marks.specs.declared.format.Format.{Format}
+use Rattle.marks.specs.declared.format.Format.TheVariants.{Html}
 use Rattle.marks.specs.Escape.{unescaped, untagged}
 use Rattle.marks.specs.Marked.{document_parts, mark_len, marked, marked_tokens, parts, parts_by, text_parts, token_parts}
 use Rattle.marks.specs.Part.{Own, own, with_marks, without_marks}
@@ -62,26 +62,26 @@ module _ (edition : Edition) (text rest : List ℕ) (n : ℕ) (is : n ≡ mark_l
 
 module _ {W : Type 0} (took : W → List ℕ → W → Type 0) where
   -- a token, and then those that are left
-  pub writes_token : (style : Style) (edition : Edition) (w0 w1 w : W) (text rest own : List ℕ) (left others : List Token) (token : Token)
+  pub writes_token : (format : Format) (edition : Edition) (w0 w1 w : W) (text rest own : List ℕ) (left others : List Token) (token : Token)
       → left ≡ token ∷ others → rest ≡ drop token.len text → own ≡ take token.len text
-      → WritesInCalls took w0 (with_marks style (token_parts edition token.kind own)) w1
-      → WritesInCalls took w1 (marked_tokens style edition rest others) w → WritesInCalls took w0 (marked_tokens style edition text left) w
-  writes_token style edition w0 w1 w text rest own left others token first past is wrote more = grind (arith, common_steps, writes_parts)
+      → WritesInCalls took w0 (with_marks format (token_parts edition token.kind own)) w1
+      → WritesInCalls took w1 (marked_tokens format edition rest others) w → WritesInCalls took w0 (marked_tokens format edition text left) w
+  writes_token format edition w0 w1 w text rest own left others token first past is wrote more = grind (arith, common_steps, writes_parts)
 
   -- a byte order mark and the shebang line, and then the tokens of what follows them
-  pub writes_past : (style : Style) (edition : Edition) (w0 w v u : W) (mark text : List ℕ)
-      → WritesInCalls took w0 (with_marks style (Own Plain mark ∷ [])) w → WritesInCalls took w (with_marks style (Own Comment (take (shebang_len text) text) ∷ [])) v
-      → WritesInCalls took v (marked_tokens style edition (drop (shebang_len text) text) (document_tokens edition text)) u → WritesInCalls took w0 (with_marks style (Own Plain mark ∷ document_parts edition text)) u
-  writes_past style edition w0 w v u mark text before first more =
-      writes_parts took style (Own Plain mark ∷ []) (document_parts edition text) w0 w u before
-      (writes_parts took style (Own Comment (take (shebang_len text) text) ∷ []) (parts edition (drop (shebang_len text) text) (document_tokens edition text)) w v u first more)
+  pub writes_past : (format : Format) (edition : Edition) (w0 w v u : W) (mark text : List ℕ)
+      → WritesInCalls took w0 (with_marks format (Own Plain mark ∷ [])) w → WritesInCalls took w (with_marks format (Own Comment (take (shebang_len text) text) ∷ [])) v
+      → WritesInCalls took v (marked_tokens format edition (drop (shebang_len text) text) (document_tokens edition text)) u → WritesInCalls took w0 (with_marks format (Own Plain mark ∷ document_parts edition text)) u
+  writes_past format edition w0 w v u mark text before first more =
+      writes_parts took format (Own Plain mark ∷ []) (document_parts edition text) w0 w u before
+      (writes_parts took format (Own Comment (take (shebang_len text) text) ∷ []) (parts edition (drop (shebang_len text) text) (document_tokens edition text)) w v u first more)
 
   -- so the byte order mark and the document are the text
-  pub writes_whole : {T E : Type 0} (r : Result T E) (style : Style) (edition : Edition) (text mark rest : List ℕ) (n : ℕ) (w v : W) → n ≡ mark_len text → mark ≡ take (n - 0) text → rest ≡ drop n text
-      → OnOk r (WritesInCalls took w (with_marks style (Own Plain mark ∷ document_parts edition rest)) v) → OnOk r (WritesInCalls took w (marked style edition text) v)
-  writes_whole r style edition text mark rest n w v is front past wrote =
+  pub writes_whole : {T E : Type 0} (r : Result T E) (format : Format) (edition : Edition) (text mark rest : List ℕ) (n : ℕ) (w v : W) → n ≡ mark_len text → mark ≡ take (n - 0) text → rest ≡ drop n text
+      → OnOk r (WritesInCalls took w (with_marks format (Own Plain mark ∷ document_parts edition rest)) v) → OnOk r (WritesInCalls took w (marked format edition text) v)
+  writes_whole r format edition text mark rest n w v is front past wrote =
       let all : n - 0 ≡ n = omega arith in
       let is_mark : mark ≡ take (mark_len text) text = front ∙ ap (λ (k : ℕ). take k text) (all ∙ is) in
       let is_rest : rest ≡ drop (mark_len text) text = past ∙ ap (λ (k : ℕ). drop k text) is in
-      subst (λ (m : List ℕ). OnOk r (WritesInCalls took w (with_marks style (Own Plain m ∷ document_parts edition (drop (mark_len text) text))) v)) is_mark
-      (subst (λ (s : List ℕ). OnOk r (WritesInCalls took w (with_marks style (Own Plain mark ∷ document_parts edition s)) v)) is_rest wrote)
+      subst (λ (m : List ℕ). OnOk r (WritesInCalls took w (with_marks format (Own Plain m ∷ document_parts edition (drop (mark_len text) text))) v)) is_mark
+      (subst (λ (s : List ℕ). OnOk r (WritesInCalls took w (with_marks format (Own Plain mark ∷ document_parts edition s)) v)) is_rest wrote)

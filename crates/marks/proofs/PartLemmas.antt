@@ -8,8 +8,8 @@ use Rattle.std.proofs.lemmas.Grind.{common_steps}
 use Rattle.rustc_literal_escaper.specs.declared.error.EscapeError.{EscapeError}
 use Rattle.marks.specs.declared.class.Class.{Class}
 use Rattle.marks.specs.declared.fault.Fault.{Fault}
-use Rattle.marks.specs.declared.style.Style.{Style}
-use Rattle.marks.specs.declared.style.Style.TheVariants.{Html}
+use Rattle.marks.specs.declared.format.Format.{Format}
+use Rattle.marks.specs.declared.format.Format.TheVariants.{Html}
 use Rattle.marks.specs.Escape.{escaped, escaped_byte, untagged, untagged_from}
 use Rattle.marks.specs.Fault.{sentence}
 use Rattle.rustc_literal_escaper.specs.Numbers.{error_sentence}
@@ -64,21 +64,21 @@ shows (p ∷ ps) = shows_part p (with_marks Html ps) ∙ (ap (λ xs. escaped (ow
 
 -- ---- the calls that write it
 
-with_marks-append : (style : Style) (ps qs : List Part) → with_marks style (ps ++ qs) ≡ with_marks style ps ++ with_marks style qs
-with_marks-append style [] qs = refl
-with_marks-append style (p ∷ ps) qs = ap (λ xs. written style p ++ xs) (with_marks-append style ps qs) ∙ sym (append_assoc (written style p) (with_marks style ps) (with_marks style qs))
+with_marks-append : (format : Format) (ps qs : List Part) → with_marks format (ps ++ qs) ≡ with_marks format ps ++ with_marks format qs
+with_marks-append format [] qs = refl
+with_marks-append format (p ∷ ps) qs = ap (λ xs. written format p ++ xs) (with_marks-append format ps qs) ∙ sym (append_assoc (written format p) (with_marks format ps) (with_marks format qs))
 
 module _ {W : Type 0} (took : W → List ℕ → W → Type 0) where
   -- some parts, and then others
-  pub writes_parts : (style : Style) (ps qs : List Part) (w0 w1 w2 : W) → WritesInCalls took w0 (with_marks style ps) w1 → WritesInCalls took w1 (with_marks style qs) w2
-      → WritesInCalls took w0 (with_marks style (ps ++ qs)) w2
-  writes_parts style ps qs w0 w1 w2 first more = subst (λ (bs : List ℕ). WritesInCalls took w0 bs w2) (sym (with_marks-append style ps qs)) (writes_both took w0 w1 w2 _ _ first more)
+  pub writes_parts : (format : Format) (ps qs : List Part) (w0 w1 w2 : W) → WritesInCalls took w0 (with_marks format ps) w1 → WritesInCalls took w1 (with_marks format qs) w2
+      → WritesInCalls took w0 (with_marks format (ps ++ qs)) w2
+  writes_parts format ps qs w0 w1 w2 first more = subst (λ (bs : List ℕ). WritesInCalls took w0 bs w2) (sym (with_marks-append format ps qs)) (writes_both took w0 w1 w2 _ _ first more)
 
   -- a part of the text between the marks of its class
-  pub writes_in_class : (style : Style) (class : Class) (text : List ℕ) (w0 w1 w2 w3 : W) (before after : List ℕ) → (length text == 0) ≡ false → before ≡ class_open style class → after ≡ class_close style class
-      → took w0 before w1 → WritesInCalls took w1 (shown style class text) w2 → took w2 after w3 → WritesInCalls took w0 (with_marks style (Own class text ∷ [])) w3
-  writes_in_class style class [] w0 w1 w2 w3 before after some opens closes a b d = absurd (true≢false some)
-  writes_in_class style class (x ∷ xs) w0 w1 w2 w3 before after some opens closes a b d =
+  pub writes_in_class : (format : Format) (class : Class) (text : List ℕ) (w0 w1 w2 w3 : W) (before after : List ℕ) → (length text == 0) ≡ false → before ≡ class_open format class → after ≡ class_close format class
+      → took w0 before w1 → WritesInCalls took w1 (shown format class text) w2 → took w2 after w3 → WritesInCalls took w0 (with_marks format (Own class text ∷ [])) w3
+  writes_in_class format class [] w0 w1 w2 w3 before after some opens closes a b d = absurd (true≢false some)
+  writes_in_class format class (x ∷ xs) w0 w1 w2 w3 before after some opens closes a b d =
       let open_call = subst (λ (bs : List ℕ). took w0 bs w1) opens a in
       let close_call = subst (λ (bs : List ℕ). took w2 bs w3) closes d in
       writes_both took w0 w3 w3 _ _ (
@@ -86,14 +86,14 @@ module _ {W : Type 0} (took : W → List ℕ → W → Type 0) where
       writes_both took w1 w2 w3 _ _ b (one_call took w2 w3 _ close_call))) (no_calls took w3)
 
   -- a token with a fault between its marks
-  pub writes_fault : (style : Style) (fault : Fault) (class : Class) (text line rest : List ℕ) (n : ℕ) (w0 w1 w2 w3 w4 : W) → n ≡ first_line text → line ≡ take (n - 0) text → rest ≡ drop n text
-      → WritesInCalls took w0 (fault_open style fault) w1 → WritesInCalls took w1 (with_marks style (Own class line ∷ [])) w2
-      → WritesInCalls took w2 (fault_close style fault) w3 → WritesInCalls took w3 (with_marks style (Own class rest ∷ [])) w4
-      → WritesInCalls took w0 (with_marks style (fault_parts fault class text)) w4
-  writes_fault style fault class text line rest n w0 w1 w2 w3 w4 is front past a b d e =
+  pub writes_fault : (format : Format) (fault : Fault) (class : Class) (text line rest : List ℕ) (n : ℕ) (w0 w1 w2 w3 w4 : W) → n ≡ first_line text → line ≡ take (n - 0) text → rest ≡ drop n text
+      → WritesInCalls took w0 (fault_open format fault) w1 → WritesInCalls took w1 (with_marks format (Own class line ∷ [])) w2
+      → WritesInCalls took w2 (fault_close format fault) w3 → WritesInCalls took w3 (with_marks format (Own class rest ∷ [])) w4
+      → WritesInCalls took w0 (with_marks format (fault_parts fault class text)) w4
+  writes_fault format fault class text line rest n w0 w1 w2 w3 w4 is front past a b d e =
       let all : n - 0 ≡ n = omega arith in
       let is_line : line ≡ take (first_line text) text = front ∙ ap (λ (k : ℕ). take k text) (all ∙ is) in
       let is_rest : rest ≡ drop (first_line text) text = past ∙ ap (λ (k : ℕ). drop k text) is in
       let whole = writes_both took w0 w1 w4 _ _ a (
-      writes_parts style (Own class line ∷ []) (Close fault ∷ Own class rest ∷ []) w1 w2 w4 b (writes_both took w2 w3 w4 _ _ d e)) in
+      writes_parts format (Own class line ∷ []) (Close fault ∷ Own class rest ∷ []) w1 w2 w4 b (writes_both took w2 w3 w4 _ _ d e)) in
       rw (sym is_line, sym is_rest) whole

@@ -7,7 +7,7 @@ use Rattle.rustc_lexer.specs.declared.token.LiteralKind.TheVariants.{Int, Float}
 use Rattle.rustc_lexer.specs.declared.token.TokenKind.{TokenKind}
 use Rattle.rustc_lexer.specs.declared.token.TokenKind.TheVariants.{LineComment, BlockComment, Frontmatter, Ident, Literal, Lifetime as LifetimeToken, RawLifetime, UnknownPrefixLifetime}
 use Rattle.marks.specs.declared.class.Class.{Class}
-use Rattle.marks.specs.declared.keyword.Keyword.TheVariants.{Strict}
+use Rattle.marks.specs.declared.keyword.KeywordKind.TheVariants.{Strict}
 use Rattle.marks.specs.Keyword.{has}
 use Rattle.marks.specs.declared.class.Class.TheVariants.{Plain, Comment, Doc, Keyword, TypeName, Text, Escape, Number, Lifetime}
 

@@ -11,18 +11,18 @@ use Rattle.rustc_lexer.specs.declared.token.TokenKind.TheVariants.{BlockComment,
 use Rattle.rustc_lexer.specs.Answers.{raw_check}
 use Rattle.rustc_lexer.specs.Classes.{next_is}
 use Rattle.marks.specs.declared.fault.Fault.{Fault}
-use Rattle.marks.specs.declared.fault.Fault.TheVariants.{OpenComment, FrontmatterSpace, FrontmatterInfostring, OpenFrontmatter, FrontmatterIndent, FrontmatterDashes, FrontmatterWords, InvalidName, UnknownPrefix, UnknownLifetimePrefix, GuardedString, InvalidLifetime, UnknownCharacter, EmptyNumber, EmptyExponent, OpenCharacter, OpenByte, OpenString, RawStarter, OpenRawString, FewHashes, ManyHashes, InLiteral, WrongDigit, FloatOfBase, RawKeyword, UnderscoreSuffix, DocReturn, FrontmatterReturn, ManyDashes, TextDirection}
-use Rattle.marks.specs.declared.fault.TheConstants.{OPEN_COMMENT, FRONTMATTER_SPACE, FRONTMATTER_INFOSTRING, OPEN_FRONTMATTER, FRONTMATTER_INDENT, FRONTMATTER_WORDS, INVALID_NAME, UNKNOWN_PREFIX, UNKNOWN_LIFETIME_PREFIX, GUARDED_STRING, INVALID_LIFETIME, UNKNOWN_CHARACTER, EMPTY_NUMBER, EMPTY_EXPONENT, OPEN_CHARACTER, OPEN_BYTE, OPEN_STRING, RAW_STARTER, OPEN_PLAIN_RAW_STRING, WRONG_DIGIT, FLOAT_OF_BASE, RAW_KEYWORD, UNDERSCORE_SUFFIX, DOC_RETURN, FRONTMATTER_RETURN, TEXT_DIRECTION}
+use Rattle.marks.specs.declared.fault.Fault.TheVariants.{UnterminatedBlockComment, WhitespaceBeforeFrontmatter, InvalidInfostring, UnclosedFrontmatter, WhitespaceBeforeFrontmatterClose, FrontmatterCloseMismatch, ExtraAfterFrontmatterClose, InvalidName, UnknownPrefix, UnknownLifetimePrefix, GuardedString, InvalidLifetime, UnknownCharacter, EmptyNumber, EmptyExponent, UnterminatedChar, UnterminatedByte, UnterminatedString, InvalidRawStarter, UnterminatedRawString, TooFewHashes, TooManyHashes, InLiteral, InvalidDigit, FloatOfBase, RawKeyword, UnderscoreSuffix, BareCarriageReturnInDocComment, BareCarriageReturnInFrontmatter, TooManyDashes, TextDirectionCodepoint}
+use Rattle.marks.specs.declared.fault.TheConstants.{UNTERMINATED_BLOCK_COMMENT, WHITESPACE_BEFORE_FRONTMATTER, INVALID_INFOSTRING, UNCLOSED_FRONTMATTER, WHITESPACE_BEFORE_FRONTMATTER_CLOSE, EXTRA_AFTER_FRONTMATTER_CLOSE, INVALID_NAME, UNKNOWN_PREFIX, UNKNOWN_LIFETIME_PREFIX, GUARDED_STRING, INVALID_LIFETIME, UNKNOWN_CHARACTER, EMPTY_NUMBER, EMPTY_EXPONENT, UNTERMINATED_CHAR, UNTERMINATED_BYTE, UNTERMINATED_STRING, INVALID_RAW_STARTER, OPEN_PLAIN_RAW_STRING, INVALID_DIGIT, FLOAT_OF_BASE, RAW_KEYWORD, UNDERSCORE_SUFFIX, BARE_CARRIAGE_RETURN_IN_DOC_COMMENT, BARE_CARRIAGE_RETURN_IN_FRONTMATTER, TEXT_DIRECTION_CODEPOINT}
 use Rattle.marks.specs.Frontmatter.{end_fault}
 use Rattle.marks.specs.TextFault.{text_fault}
 use Rattle.rustc_literal_escaper.specs.Numbers.{error_sentence}
 
 -- the error for a reader, by the reason why a raw string is refused
 abbrev pub refusal : RawStrError → Fault
-refusal (InvalidStarter bad_char) = RawStarter
-refusal (NoTerminator expected found None) = OpenRawString expected
-refusal (NoTerminator expected found (Some end)) = FewHashes expected found end
-refusal (TooManyDelimiters found) = ManyHashes found
+refusal (InvalidStarter bad_char) = InvalidRawStarter
+refusal (NoTerminator expected found None) = UnterminatedRawString expected
+refusal (NoTerminator expected found (Some end)) = TooFewHashes expected found end
+refusal (TooManyDelimiters found) = TooManyHashes found
 
 abbrev pub refused : Result (Unit {0}) RawStrError → Option Fault
 refused (Ok done) = None
@@ -41,11 +41,11 @@ raw_fault text prefix_len =
 abbrev pub literal_fault : LiteralKind → List ℕ → Option Fault
 literal_fault (Int base true) text = Some EmptyNumber
 literal_fault (Float base true) text = Some EmptyExponent
-literal_fault (Char false) text = Some OpenCharacter
-literal_fault (Byte false) text = Some OpenByte
-literal_fault (Str false) text = Some OpenString
-literal_fault (ByteStr false) text = Some OpenString
-literal_fault (CStr false) text = Some OpenString
+literal_fault (Char false) text = Some UnterminatedChar
+literal_fault (Byte false) text = Some UnterminatedByte
+literal_fault (Str false) text = Some UnterminatedString
+literal_fault (ByteStr false) text = Some UnterminatedString
+literal_fault (CStr false) text = Some UnterminatedString
 literal_fault (RawStr None) text = raw_fault text 1
 literal_fault (RawByteStr None) text = raw_fault text 2
 literal_fault (RawCStr None) text = raw_fault text 2
@@ -55,13 +55,13 @@ literal_fault kind text = None
 -- line
 abbrev pub front_fault : Bool → Option Fault → Option Fault
 front_fault invalid_infostring (Some fault) = Some fault
-front_fault true None = Some FrontmatterInfostring
+front_fault true None = Some InvalidInfostring
 front_fault false None = None
 
 -- the error that the kind of a token tells
 abbrev pub kind_fault : TokenKind → List ℕ → Option Fault
-kind_fault (BlockComment doc_style false) text = Some OpenComment
-kind_fault (Frontmatter true invalid_infostring) text = Some FrontmatterSpace
+kind_fault (BlockComment doc_style false) text = Some UnterminatedBlockComment
+kind_fault (Frontmatter true invalid_infostring) text = Some WhitespaceBeforeFrontmatter
 kind_fault (Frontmatter false invalid_infostring) text =
     front_fault invalid_infostring (end_fault text)
 kind_fault InvalidIdent text = Some InvalidName
@@ -79,13 +79,13 @@ fault_of kind text = option_or (kind_fault kind text) (text_fault kind text)
 
 -- the number of an error, in the same way as that of a class
 abbrev pub fault_number : Fault → ℕ
-fault_number OpenComment = 1
-fault_number FrontmatterSpace = 2
-fault_number FrontmatterInfostring = 3
-fault_number OpenFrontmatter = 4
-fault_number FrontmatterIndent = 5
-fault_number (FrontmatterDashes opening closing) = 6
-fault_number FrontmatterWords = 7
+fault_number UnterminatedBlockComment = 1
+fault_number WhitespaceBeforeFrontmatter = 2
+fault_number InvalidInfostring = 3
+fault_number UnclosedFrontmatter = 4
+fault_number WhitespaceBeforeFrontmatterClose = 5
+fault_number (FrontmatterCloseMismatch opening closing) = 6
+fault_number ExtraAfterFrontmatterClose = 7
 fault_number InvalidName = 8
 fault_number UnknownPrefix = 9
 fault_number UnknownLifetimePrefix = 10
@@ -94,30 +94,30 @@ fault_number InvalidLifetime = 12
 fault_number UnknownCharacter = 13
 fault_number EmptyNumber = 14
 fault_number EmptyExponent = 15
-fault_number OpenCharacter = 16
-fault_number OpenByte = 17
-fault_number OpenString = 18
-fault_number RawStarter = 19
-fault_number (OpenRawString expected) = 20
-fault_number (FewHashes expected found end) = 21
-fault_number (ManyHashes found) = 22
+fault_number UnterminatedChar = 16
+fault_number UnterminatedByte = 17
+fault_number UnterminatedString = 18
+fault_number InvalidRawStarter = 19
+fault_number (UnterminatedRawString expected) = 20
+fault_number (TooFewHashes expected found end) = 21
+fault_number (TooManyHashes found) = 22
 fault_number (InLiteral error) = 23
-fault_number WrongDigit = 24
+fault_number InvalidDigit = 24
 fault_number FloatOfBase = 25
 fault_number RawKeyword = 26
 fault_number UnderscoreSuffix = 27
-fault_number DocReturn = 28
-fault_number FrontmatterReturn = 29
-fault_number (ManyDashes found) = 30
-fault_number TextDirection = 31
+fault_number BareCarriageReturnInDocComment = 28
+fault_number BareCarriageReturnInFrontmatter = 29
+fault_number (TooManyDashes found) = 30
+fault_number TextDirectionCodepoint = 31
 
 unfoldable pub sentence : Fault → List ℕ
-sentence OpenComment = OPEN_COMMENT.now
-sentence FrontmatterSpace = FRONTMATTER_SPACE.now
-sentence FrontmatterInfostring = FRONTMATTER_INFOSTRING.now
-sentence OpenFrontmatter = OPEN_FRONTMATTER.now
-sentence FrontmatterIndent = FRONTMATTER_INDENT.now
-sentence FrontmatterWords = FRONTMATTER_WORDS.now
+sentence UnterminatedBlockComment = UNTERMINATED_BLOCK_COMMENT.now
+sentence WhitespaceBeforeFrontmatter = WHITESPACE_BEFORE_FRONTMATTER.now
+sentence InvalidInfostring = INVALID_INFOSTRING.now
+sentence UnclosedFrontmatter = UNCLOSED_FRONTMATTER.now
+sentence WhitespaceBeforeFrontmatterClose = WHITESPACE_BEFORE_FRONTMATTER_CLOSE.now
+sentence ExtraAfterFrontmatterClose = EXTRA_AFTER_FRONTMATTER_CLOSE.now
 sentence InvalidName = INVALID_NAME.now
 sentence UnknownPrefix = UNKNOWN_PREFIX.now
 sentence UnknownLifetimePrefix = UNKNOWN_LIFETIME_PREFIX.now
@@ -126,31 +126,31 @@ sentence InvalidLifetime = INVALID_LIFETIME.now
 sentence UnknownCharacter = UNKNOWN_CHARACTER.now
 sentence EmptyNumber = EMPTY_NUMBER.now
 sentence EmptyExponent = EMPTY_EXPONENT.now
-sentence OpenCharacter = OPEN_CHARACTER.now
-sentence OpenByte = OPEN_BYTE.now
-sentence OpenString = OPEN_STRING.now
-sentence RawStarter = RAW_STARTER.now
-sentence WrongDigit = WRONG_DIGIT.now
+sentence UnterminatedChar = UNTERMINATED_CHAR.now
+sentence UnterminatedByte = UNTERMINATED_BYTE.now
+sentence UnterminatedString = UNTERMINATED_STRING.now
+sentence InvalidRawStarter = INVALID_RAW_STARTER.now
+sentence InvalidDigit = INVALID_DIGIT.now
 sentence FloatOfBase = FLOAT_OF_BASE.now
 sentence RawKeyword = RAW_KEYWORD.now
 sentence UnderscoreSuffix = UNDERSCORE_SUFFIX.now
-sentence DocReturn = DOC_RETURN.now
-sentence FrontmatterReturn = FRONTMATTER_RETURN.now
-sentence TextDirection = TEXT_DIRECTION.now
-sentence (FrontmatterDashes opening closing) =
+sentence BareCarriageReturnInDocComment = BARE_CARRIAGE_RETURN_IN_DOC_COMMENT.now
+sentence BareCarriageReturnInFrontmatter = BARE_CARRIAGE_RETURN_IN_FRONTMATTER.now
+sentence TextDirectionCodepoint = TEXT_DIRECTION_CODEPOINT.now
+sentence (FrontmatterCloseMismatch opening closing) =
     codes "this frontmatter opens with "
     ++ (decimal opening ++ (codes " dashes and closes with " ++ decimal closing))
-sentence (OpenRawString expected) =
+sentence (UnterminatedRawString expected) =
     if nat_eq expected 0 then OPEN_PLAIN_RAW_STRING.now
     else codes "nothing closes this raw string: a quote and "
     ++ (decimal expected ++ codes " # would")
-sentence (FewHashes expected found end) =
+sentence (TooFewHashes expected found end) =
     codes "a quote and "
     ++ (decimal expected
     ++ (codes " # would close this raw string; at byte "
     ++ (decimal end ++ (codes " it has " ++ decimal found))))
-sentence (ManyHashes found) =
+sentence (TooManyHashes found) =
     codes "a raw string has at most 255 hashes on each side, and this one " ++ decimal found
-sentence (ManyDashes found) =
+sentence (TooManyDashes found) =
     codes "a frontmatter has at most 255 dashes on each side, and this one " ++ decimal found
 sentence (InLiteral error) = error_sentence error

@@ -9,7 +9,7 @@ use Rattle.rustc_lexer.specs.FrontmatterGrammar.{IsAt, IsBodyBefore, IsNowhere, 
 use Rattle.rustc_lexer.specs.declared.token.TokenKind.{TokenKind}
 use Rattle.rustc_lexer.specs.declared.token.TokenKind.TheVariants.{Frontmatter}
 use Rattle.marks.specs.declared.fault.Fault.{Fault}
-use Rattle.marks.specs.declared.fault.Fault.TheVariants.{FrontmatterSpace, OpenFrontmatter, FrontmatterIndent, FrontmatterDashes, FrontmatterWords}
+use Rattle.marks.specs.declared.fault.Fault.TheVariants.{WhitespaceBeforeFrontmatter, UnclosedFrontmatter, WhitespaceBeforeFrontmatterClose, FrontmatterCloseMismatch, ExtraAfterFrontmatterClose}
 use Rattle.marks.specs.Fault.{front_fault}
 use Rattle.marks.specs.TextFault.{frontmatter_fault}
 
@@ -39,23 +39,23 @@ pub data IsEndFault (n : ℕ) (next : Chars) : Chars → Option Fault → Type 0
       → is_horizontal_whitespace c ≡ false
       → NextNotIn (codes "-") (blanks ++ c ∷ w)
       → AreAll is_inline (c ∷ w)
-      → IsEndFault n next (u ++ byte "\n" ∷ (fence n ++ (blanks ++ c ∷ w))) (Some FrontmatterWords)
+      → IsEndFault n next (u ++ byte "\n" ∷ (fence n ++ (blanks ++ c ∷ w))) (Some ExtraAfterFrontmatterClose)
   -- its last line has more dashes, or at least three; then no line has n, up to the end of the text
   other_dashes : (u w : Chars) (m : ℕ)
       → 3 ≤ m
       → (m ≤ n → (m < n) × NoLineBegins n (u ++ byte "\n" ∷ (fence m ++ w) ++ next))
       → NextNotIn (codes "-") w
       → AreAll is_inline w
-      → IsEndFault n next (u ++ byte "\n" ∷ (fence m ++ w)) (Some (FrontmatterDashes n m))
+      → IsEndFault n next (u ++ byte "\n" ∷ (fence m ++ w)) (Some (FrontmatterCloseMismatch n m))
   -- no line of the text has three dashes but the last of the frontmatter, where spaces or tabs come
   -- before them
   indented : {body : Chars} (blanks : Chars)
       → NoLineBegins 3 (body ++ next)
       → 0 < length blanks
       → EndsAfter blanks body
-      → IsEndFault n next body (Some FrontmatterIndent)
+      → IsEndFault n next body (Some WhitespaceBeforeFrontmatterClose)
   -- nor does that line have them
-  unclosed : {body : Chars} → IsOpen body next → IsEndFault n next body (Some OpenFrontmatter)
+  unclosed : {body : Chars} → IsOpen body next → IsEndFault n next body (Some UnclosedFrontmatter)
 
 -- what is told of a frontmatter by the grammar: the error that its lines say, unless white space
 -- comes before it, or else that of its text; and that nothing closes it exactly where nothing does
@@ -65,9 +65,9 @@ pub record IsToldBy (n : ℕ) (bad_label : Bool) (opening body next : Chars) (te
   pub is : IsEndFault n next body end
   pub told : fault
       ≡ option_or
-      (if next_is is_whitespace opening then Some FrontmatterSpace else front_fault bad_label end)
+      (if next_is is_whitespace opening then Some WhitespaceBeforeFrontmatter else front_fault bad_label end)
       (frontmatter_fault text)
-  pub exact : end ≡ Some OpenFrontmatter ↔ IsOpen body next
+  pub exact : end ≡ Some UnclosedFrontmatter ↔ IsOpen body next
 
 -- the error of a token, if the grammar has it as a frontmatter in a text that goes on by `next`
 abbrev pub TellsFrontmatter : TokenKind → List ℕ → Option Fault → Type 0

@@ -4,11 +4,11 @@ use Rattle.std.specs.List.{list_any}
 use Rattle.std.specs.Str.{bytes_eq}
 use Rattle.rustc_lexer.specs.declared.edition.Edition.{Edition}
 use Rattle.rustc_lexer.specs.declared.edition.Edition.TheVariants.{E2015, E2018, E2024}
-use Rattle.marks.specs.declared.keyword.Keyword.{Keyword}
-use Rattle.marks.specs.declared.keyword.Keyword.TheVariants.{Strict, Reserved, Weak}
+use Rattle.marks.specs.declared.keyword.KeywordKind.{KeywordKind}
+use Rattle.marks.specs.declared.keyword.KeywordKind.TheVariants.{Strict, Reserved, Weak}
 
 -- the words that an edition made keywords of a sort; those of E2015 were there before it
-abbrev pub made : Keyword → Edition → List (List ℕ)
+abbrev pub made : KeywordKind → Edition → List (List ℕ)
 made Strict E2015 =
     codes "_" ∷ codes "as" ∷ codes "break" ∷ codes "const" ∷ codes "continue" ∷ codes "crate"
     ∷ codes "else" ∷ codes "enum" ∷ codes "extern" ∷ codes "false" ∷ codes "fn" ∷ codes "for"
@@ -34,15 +34,15 @@ is_in words word = list_any (λ keyword. bytes_eq keyword word) words
 
 -- whether the word is a keyword of a sort in an edition: this one made it, or one before. That of
 -- 2021 made none
-abbrev pub has : Keyword → Edition → List ℕ → Bool
+abbrev pub has : KeywordKind → Edition → List ℕ → Bool
 has sort E2015 word = is_in (made sort E2015) word
 has sort E2024 word = is_in (made sort E2015) word || is_in (made sort E2018) word
     || is_in (made sort E2024) word
 has sort edition word = is_in (made sort E2015) word || is_in (made sort E2018) word
 
 -- a word that is a keyword of two sorts, as `dyn` is from 2018 on, is of the stricter one
-abbrev pub keyword_in : List ℕ → Edition → Option Keyword
-keyword_in word edition =
+abbrev pub keyword_kind : List ℕ → Edition → Option KeywordKind
+keyword_kind word edition =
     if has Strict edition word then Some Strict
     else if has Reserved edition word then Some Reserved
     else if is_in (made Weak E2015) word then Some Weak

@@ -3,8 +3,8 @@ use Rattle.std.specs.Prelude.{ℕ, List, [], ◌∷◌, ◌++◌, codes}
 use Rattle.marks.specs.declared.class.Class.{Class}
 use Rattle.marks.specs.declared.class.Class.TheVariants.{Plain, Comment, Doc, Keyword, TypeName, Text, Escape, Number, Lifetime}
 use Rattle.marks.specs.declared.fault.Fault.{Fault}
-use Rattle.marks.specs.declared.style.Style.{Style}
-use Rattle.marks.specs.declared.style.Style.TheVariants.{Html, Colours, NoColours, Raw}
+use Rattle.marks.specs.declared.format.Format.{Format}
+use Rattle.marks.specs.declared.format.Format.TheVariants.{Html, Colours, NoColours, Raw}
 use Rattle.marks.specs.Fault.{sentence}
 
 -- an escape sequence, by the characters between its bracket and its last letter
@@ -12,8 +12,8 @@ abbrev pub sgr : List ℕ → List ℕ
 sgr attributes = 27 ∷ codes "[" ++ (attributes ++ codes "m")
 
 -- the mark in front of text of a class. White space, symbols and other names have none
-abbrev pub class_open : Style → Class → List ℕ
-class_open style Plain = []
+abbrev pub class_open : Format → Class → List ℕ
+class_open format Plain = []
 class_open Html Comment = codes "<span class=\"comment\">"
 class_open Html Doc = codes "<span class=\"doc\">"
 class_open Html Keyword = codes "<span class=\"keyword\">"
@@ -33,8 +33,8 @@ class_open Colours Lifetime = sgr (codes "33")
 class_open NoColours class = []
 class_open Raw class = []
 
-abbrev pub class_close : Style → Class → List ℕ
-class_close style Plain = []
+abbrev pub class_close : Format → Class → List ℕ
+class_close format Plain = []
 class_close Html class = codes "</span>"
 class_close Colours class = sgr (codes "0")
 class_close NoColours class = []
@@ -42,7 +42,7 @@ class_close Raw class = []
 
 -- the mark before the first line of a token with an error. In a page it holds the sentence about
 -- the error
-abbrev pub fault_open : Style → Fault → List ℕ
+abbrev pub fault_open : Format → Fault → List ℕ
 fault_open Html fault = codes "<mark title=\"" ++ (sentence fault ++ codes "\">")
 fault_open Colours fault = sgr (codes "4;31")
 fault_open NoColours fault = []
@@ -53,7 +53,7 @@ abbrev pub bracketed : Fault → List ℕ
 bracketed fault = codes " [<- " ++ (sentence fault ++ codes "]")
 
 -- the mark after that line. In a terminal it holds the sentence
-abbrev pub fault_close : Style → Fault → List ℕ
+abbrev pub fault_close : Format → Fault → List ℕ
 fault_close Html fault = codes "</mark>"
 fault_close Colours fault = sgr (codes "0;31") ++ (bracketed fault ++ sgr (codes "0"))
 fault_close NoColours fault = bracketed fault

@@ -8,7 +8,7 @@ use Rattle.rustc_lexer.specs.Document.{document_tokens, shebang_len}
 use Rattle.marks.specs.declared.class.Class.{Class}
 use Rattle.marks.specs.declared.class.Class.TheVariants.{Comment, Plain}
 use Rattle.marks.specs.declared.fault.Fault.{Fault}
-use Rattle.marks.specs.declared.style.Style.{Style}
+use Rattle.marks.specs.declared.format.Format.{Format}
 use Rattle.rustc_literal_escaper.specs.declared.mode.Mode.{Mode}
 use Rattle.marks.specs.Class.{class_of}
 use Rattle.marks.specs.Fault.{fault_of}
@@ -54,9 +54,9 @@ text_parts edition text =
     Own Plain (take (mark_len text) text) ∷ document_parts edition (drop (mark_len text) text)
 
 -- the tokens of a text in an edition, each between its marks, as they are written
-abbrev pub marked_tokens : Style → Edition → List ℕ → List Token → List ℕ
-marked_tokens style edition text tokens = with_marks style (parts edition text tokens)
+abbrev pub marked_tokens : Format → Edition → List ℕ → List Token → List ℕ
+marked_tokens format edition text tokens = with_marks format (parts edition text tokens)
 
 -- the same for a whole text
-abbrev pub marked : Style → Edition → List ℕ → List ℕ
-marked style edition text = with_marks style (text_parts edition text)
+abbrev pub marked : Format → Edition → List ℕ → List ℕ
+marked format edition text = with_marks format (text_parts edition text)

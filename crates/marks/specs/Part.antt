@@ -4,8 +4,8 @@ use Rattle.std.specs.List.{flat_map, position_or_len}
 use Rattle.std.specs.Str.{byte, chars, encode_utf8_all}
 use Rattle.marks.specs.declared.class.Class.{Class}
 use Rattle.marks.specs.declared.fault.Fault.{Fault}
-use Rattle.marks.specs.declared.style.Style.{Style}
-use Rattle.marks.specs.declared.style.Style.TheVariants.{Html, Colours, NoColours, Raw}
+use Rattle.marks.specs.declared.format.Format.{Format}
+use Rattle.marks.specs.declared.format.Format.TheVariants.{Html, Colours, NoColours, Raw}
 use Rattle.marks.specs.Escape.{escaped}
 use Rattle.marks.specs.Screen.{seen}
 use Rattle.marks.specs.Mark.{class_open, class_close, fault_open, fault_close}
@@ -33,23 +33,23 @@ fault_parts fault class text =
 
 -- text of a class as it is written: with entities in a page, and with symbols for control
 -- characters elsewhere, unless it is to be raw
-abbrev pub shown : Style → Class → List ℕ → List ℕ
+abbrev pub shown : Format → Class → List ℕ → List ℕ
 shown Html class text = escaped text
 shown Colours class text = encode_utf8_all (seen class (chars text))
 shown NoColours class text = encode_utf8_all (seen class (chars text))
 shown Raw class text = text
 
 -- a part as it is written: text between the marks of its class; an empty text has no marks
-abbrev pub written : Style → Part → List ℕ
-written style (Own class []) = []
-written style (Own class (b ∷ bs)) =
-    class_open style class ++ (shown style class (b ∷ bs) ++ class_close style class)
-written style (Open fault) = fault_open style fault
-written style (Close fault) = fault_close style fault
+abbrev pub written : Format → Part → List ℕ
+written format (Own class []) = []
+written format (Own class (b ∷ bs)) =
+    class_open format class ++ (shown format class (b ∷ bs) ++ class_close format class)
+written format (Open fault) = fault_open format fault
+written format (Close fault) = fault_close format fault
 
-abbrev pub with_marks : Style → List Part → List ℕ
-with_marks style [] = []
-with_marks style (part ∷ parts) = written style part ++ with_marks style parts
+abbrev pub with_marks : Format → List Part → List ℕ
+with_marks format [] = []
+with_marks format (part ∷ parts) = written format part ++ with_marks format parts
 
 -- a part without its marks
 abbrev pub own : Part → List ℕ

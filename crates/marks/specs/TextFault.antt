@@ -12,7 +12,7 @@ use Rattle.rustc_lexer.specs.declared.token.LiteralKind.TheVariants.{Int, Float,
 use Rattle.rustc_lexer.specs.declared.token.TokenKind.{TokenKind}
 use Rattle.rustc_lexer.specs.declared.token.TokenKind.TheVariants.{LineComment, BlockComment, Frontmatter, RawIdent, RawLifetime, Literal}
 use Rattle.marks.specs.declared.fault.Fault.{Fault}
-use Rattle.marks.specs.declared.fault.Fault.TheVariants.{WrongDigit, FloatOfBase, RawKeyword, UnderscoreSuffix, DocReturn, FrontmatterReturn, ManyDashes, TextDirection}
+use Rattle.marks.specs.declared.fault.Fault.TheVariants.{InvalidDigit, FloatOfBase, RawKeyword, UnderscoreSuffix, BareCarriageReturnInDocComment, BareCarriageReturnInFrontmatter, TooManyDashes, TextDirectionCodepoint}
 use Rattle.marks.specs.Frontmatter.{dashes, is_of}
 
 -- whether a byte comes that is no newline
@@ -33,17 +33,17 @@ turns_direction c =
     nat_le 0x202a c && nat_le c 0x202e || nat_le 0x2066 c && nat_le c 0x2069
 
 abbrev pub direction_fault : List ℕ → Option Fault
-direction_fault text = if list_any turns_direction (chars text) then Some TextDirection else None
+direction_fault text = if list_any turns_direction (chars text) then Some TextDirectionCodepoint else None
 
 abbrev pub comment_fault : Option DocStyle → List ℕ → Option Fault
 comment_fault None text = direction_fault text
 comment_fault (Some style) text =
-    if has_bare_return text then Some DocReturn else direction_fault text
+    if has_bare_return text then Some BareCarriageReturnInDocComment else direction_fault text
 
 abbrev pub frontmatter_fault : List ℕ → Option Fault
 frontmatter_fault text =
-    if has_bare_return text then Some FrontmatterReturn
-    else if nat_lt 255 (dashes text) then Some (ManyDashes (dashes text))
+    if has_bare_return text then Some BareCarriageReturnInFrontmatter
+    else if nat_lt 255 (dashes text) then Some (TooManyDashes (dashes text))
     else None
 
 -- the words that cannot be raw, as names and as lifetimes
@@ -60,7 +60,7 @@ raw_name_fault text =
 -- as good as a digit
 abbrev pub digit_fault : List ℕ → List ℕ → Option Fault
 digit_fault these digits =
-    if nat_eq (prefix_len (is_of these) digits) (length digits) then None else Some WrongDigit
+    if nat_eq (prefix_len (is_of these) digits) (length digits) then None else Some InvalidDigit
 
 abbrev pub suffix_fault : List ℕ → Option Fault
 suffix_fault suffix =

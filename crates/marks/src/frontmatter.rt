@@ -16,7 +16,7 @@ pub fn end_fault(text: &str) -> Option<Fault>
 {
     let bytes = text.as_bytes();
     let Some(newline) = memrchr(b'\n', bytes) else {
-        return Some(Fault::OpenFrontmatter);
+        return Some(Fault::UnclosedFrontmatter);
     };
     closing_fault(run_of(b"-", bytes), &bytes[newline + 1..])
 }
@@ -33,18 +33,18 @@ fn closing_fault(opening: usize, line: &[u8]) -> Option<Fault>
     let dashes = run_of(b"-", rest);
     let tail = &rest[dashes..];
     if dashes < 3 {
-        Some(Fault::OpenFrontmatter)
+        Some(Fault::UnclosedFrontmatter)
     } else if blanks > 0 {
-        Some(Fault::FrontmatterIndent)
+        Some(Fault::WhitespaceBeforeFrontmatterClose)
     } else if dashes != opening {
-        Some(Fault::FrontmatterDashes {
+        Some(Fault::FrontmatterCloseMismatch {
             opening: opening as u32,
             closing: dashes as u32,
         })
     } else if run_of(b"\t ", tail) == tail.len() {
         None
     } else {
-        Some(Fault::FrontmatterWords)
+        Some(Fault::ExtraAfterFrontmatterClose)
     }
 }
 

@@ -4,9 +4,9 @@ ghost use Rattle.marks.specs.Keyword as spec;
 
 use rustc_lexer::Edition;
 
-/// How far a word is a keyword.
+/// The kind of a keyword: how far a word is one.
 #[derive(Clone, Copy, Debug, PartialEq, Eq)]
-pub enum Keyword {
+pub enum KeywordKind {
     /// Nowhere a name, like `while`.
     Strict,
     /// Nowhere a name, since Rust keeps it for later, like `yield`.
@@ -15,29 +15,29 @@ pub enum Keyword {
     Weak,
 }
 
-/// Returns how far a word is a keyword in an edition, by the chapter
+/// Returns the kind of keyword that a word is in an edition, by the chapter
 /// [Keywords](https://doc.rust-lang.org/reference/keywords.html) of the Rust Reference. Returns `None` if it is none.
 ///
 /// The word is the text of a token. A raw identifier, like `r#while`, is no keyword, and the lifetime `'static` is a weak
 /// one.
 ///
 /// ```
-/// use marks::{Edition, Keyword, keyword_in};
+/// use marks::{Edition, KeywordKind, keyword_kind};
 ///
-/// assert_eq!(keyword_in("async", Edition::E2015), None);
-/// assert_eq!(keyword_in("async", Edition::E2018), Some(Keyword::Strict));
-/// assert_eq!(keyword_in("gen", Edition::E2024), Some(Keyword::Reserved));
-/// assert_eq!(keyword_in("union", Edition::E2024), Some(Keyword::Weak));
+/// assert_eq!(keyword_kind("async", Edition::E2015), None);
+/// assert_eq!(keyword_kind("async", Edition::E2018), Some(KeywordKind::Strict));
+/// assert_eq!(keyword_kind("gen", Edition::E2024), Some(KeywordKind::Reserved));
+/// assert_eq!(keyword_kind("union", Edition::E2024), Some(KeywordKind::Weak));
 /// ```
-pub fn keyword_in(word: &str, edition: Edition) -> Option<Keyword>
-    ensures { result ≡ spec.keyword_in word.now edition }
+pub fn keyword_kind(word: &str, edition: Edition) -> Option<KeywordKind>
+    ensures { result ≡ spec.keyword_kind word.now edition }
 {
     if is_strict(word, edition) {
-        Some(Keyword::Strict)
+        Some(KeywordKind::Strict)
     } else if is_reserved(word, edition) {
-        Some(Keyword::Reserved)
+        Some(KeywordKind::Reserved)
     } else if WEAK.contains(&word) {
-        Some(Keyword::Weak)
+        Some(KeywordKind::Weak)
     } else {
         None
     }
@@ -45,7 +45,7 @@ pub fn keyword_in(word: &str, edition: Edition) -> Option<Keyword>
 
 /// Returns whether a word is a strict keyword.
 pub(crate) fn is_strict(word: &str, edition: Edition) -> bool
-    ensures { result ≡ spec.has Keyword.Strict edition word.now }
+    ensures { result ≡ spec.has KeywordKind.Strict edition word.now }
 {
     match word {
         "_"
@@ -91,7 +91,7 @@ pub(crate) fn is_strict(word: &str, edition: Edition) -> bool
 
 /// Returns whether a word is a reserved keyword.
 fn is_reserved(word: &str, edition: Edition) -> bool
-    ensures { result ≡ spec.has Keyword.Reserved edition word.now }
+    ensures { result ≡ spec.has KeywordKind.Reserved edition word.now }
 {
     match word {
         "abstract"

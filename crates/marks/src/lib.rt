@@ -5,18 +5,18 @@
 mod class;
 mod escape;
 mod fault;
+mod format;
 mod frontmatter;
 mod keyword;
 mod literal;
 mod marked;
 mod part;
 mod screen;
-mod style;
 mod text_fault;
 
 pub use class::{Class, class_of};
 pub use fault::{Fault, fault_of};
-pub use keyword::{Keyword, keyword_in};
-pub use literal::inside;
+pub use format::Format;
+pub use keyword::{KeywordKind, keyword_kind};
+pub use literal::literal_contents;
 pub use marked::{write_first_tokens, write_marked};
-pub use style::Style;

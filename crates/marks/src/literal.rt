@@ -14,8 +14,8 @@ ghost use Rattle.marks.specs.Part.{with_marks};
 
 use crate::class::Class;
 use crate::fault::Fault;
+use crate::format::Format;
 use crate::part::{write_in_class, write_with_fault};
-use crate::style::Style;
 use memchr::{memchr, memrchr};
 use rustc_lexer::{LiteralKind, TokenKind};
 use rustc_literal_escaper::{Element, Elements, EscapeError, Mode, unescape_byte, unescape_char};
@@ -60,20 +60,20 @@ pub fn mode_of(kind: TokenKind) -> Option<Mode>
 /// of the range that this call returns.
 ///
 /// ```
-/// use marks::inside;
+/// use marks::literal_contents;
 /// use rustc_lexer::{FrontmatterAllowed, tokenize};
 /// use rustc_literal_escaper::{Mode, check_for_errors};
 ///
 /// let text = r#"b"a\q"suffix"#;
 /// let token = tokenize(text, FrontmatterAllowed::No).next().unwrap();
-/// let (mode, range) = inside(token.kind, text).unwrap();
+/// let (mode, range) = literal_contents(token.kind, text).unwrap();
 /// assert_eq!((mode, range.clone()), (Mode::ByteStr, 2..5));
 ///
 /// check_for_errors(&text[range.clone()], mode, |wrong, _| {
 ///     assert_eq!(&text[range.start + wrong.start..range.start + wrong.end], r"\q");
 /// });
 /// ```
-pub fn inside(kind: TokenKind, text: &str) -> Option<(Mode, Range<usize>)>
+pub fn literal_contents(kind: TokenKind, text: &str) -> Option<(Mode, Range<usize>)>
     ensures value { result ≡ spec.contents kind text.now }
     ensures places { IfSome result (λ found. IsCharBoundary text.now found.1.start
         × IsCharBoundary text.now found.1.end × (found.1.start ≤ found.1.end)) }
@@ -104,22 +104,22 @@ fn between_quotes(mode: Mode, text: &str) -> Option<(usize, usize)>
 /// Writes a closed literal: its escapes in their class, its faults between their marks, and the rest as text.
 #[tactic(auto, using(crate::proofs::LiteralLemmas::string_found))]
 pub fn write_literal<W: fmt::Write>(
-    style: Style,
+    format: Format,
     mode: Mode,
     text: &str,
     output: &mut W,
 ) -> fmt::Result
     requires fits { Fits text.now }
     ensures { OnOk result (WritesInCalls W.write_str_gives output.old
-        (with_marks style (literal_parts mode text.now)) output.new) }
+        (with_marks format (literal_parts mode text.now)) output.new) }
 {
     let Some((start, end)) = between_quotes(mode, text) else {
-        return write_in_class(style, Class::Text, text, output);
+        return write_in_class(format, Class::Text, text, output);
     };
     if is_single(mode) {
-        write_single(style, mode, text, start, end, output)
+        write_single(format, mode, text, start, end, output)
     } else {
-        write_string(style, mode, text, start, end, output)
+        write_string(format, mode, text, start, end, output)
     }
 }
 
@@ -161,7 +161,7 @@ fn last_place(byte: u8, text: &str) -> usize
 /// Writes a literal between single quotes. The text between them goes from the place `begin` to `close`.
 #[tactic(auto, using(crate::proofs::PlaceLemmas::place_lemmas))]
 fn write_single<W: fmt::Write>(
-    style: Style,
+    format: Format,
     mode: Mode,
     text: &str,
     begin: usize,
@@ -172,12 +172,12 @@ fn write_single<W: fmt::Write>(
     requires close { IsCharBoundary text.now close }
     requires order { begin ≤ close }
     ensures { OnOk result (WritesInCalls W.write_str_gives output.old
-        (with_marks style (spec.parts_from 0 text.now
+        (with_marks format (spec.parts_from 0 text.now
         (spec.single_stretches mode begin close text.now))) output.new) }
 {
     let look = single_look(mode, &text[begin..close]);
-    let shown = write_stretch(style, look, text, 0, begin, close, output)?;
-    write_in_class(style, Class::Text, &text[shown..], output)
+    let shown = write_stretch(format, look, text, 0, begin, close, output)?;
+    write_in_class(format, Class::Text, &text[shown..], output)
 }
 
 /// Returns the look of the text between single quotes, or `None` if it is plain.
@@ -203,7 +203,7 @@ fn single_error(mode: Mode, inside: &str) -> Option<EscapeError>
 
 /// Writes a literal between double quotes. The text between them goes from the place `begin` to `close`.
 fn write_string<W: fmt::Write>(
-    style: Style,
+    format: Format,
     mode: Mode,
     text: &str,
     begin: usize,
@@ -215,7 +215,7 @@ fn write_string<W: fmt::Write>(
     requires close { IsCharBoundary text.now close }
     requires order { begin ≤ close }
     ensures { OnOk result (WritesInCalls W.write_str_gives output.old
-        (with_marks style (spec.parts_from 0 text.now
+        (with_marks format (spec.parts_from 0 text.now
         (means.string_stretches mode begin close text.now))) output.new) }
 {
     let mut shown = 0;
@@ -226,9 +226,9 @@ fn write_string<W: fmt::Write>(
             continue;
         }
         let end = begin + range.end;
-        shown = write_skipped(style, text, shown, at, start, output)?;
+        shown = write_skipped(format, text, shown, at, start, output)?;
         shown = write_stretch(
-            style,
+            format,
             look_of(mode, element),
             text,
             shown,
@@ -238,13 +238,13 @@ fn write_string<W: fmt::Write>(
         )?;
         at = end;
     }
-    shown = write_skipped(style, text, shown, at, close, output)?;
-    write_in_class(style, Class::Text, &text[shown..], output)
+    shown = write_skipped(format, text, shown, at, close, output)?;
+    write_in_class(format, Class::Text, &text[shown..], output)
 }
 
 /// Writes the text between two elements: nothing, or a line end that is skipped.
 fn write_skipped<W: fmt::Write>(
-    style: Style,
+    format: Format,
     text: &str,
     shown: usize,
     at: usize,
@@ -257,11 +257,11 @@ fn write_skipped<W: fmt::Write>(
     requires order { (shown ≤ at) × (at ≤ start) }
     ensures { MatchResult result
         (λ to. (IsCharBoundary text.now to × (to ≤ start))
-        × means.WritesOn W.write_str_gives style text.now output.old shown (means.gap at start)
+        × means.WritesOn W.write_str_gives format text.now output.old shown (means.gap at start)
         output.new to) (λ error. Unit {0}) }
 {
     if at < start {
-        write_stretch(style, Some(Look::Escape), text, shown, at, start, output)
+        write_stretch(format, Some(Look::Escape), text, shown, at, start, output)
     } else {
         Ok(shown)
     }
@@ -271,7 +271,7 @@ fn write_skipped<W: fmt::Write>(
 /// to which all is written.
 #[tactic(auto, using(crate::proofs::LiteralLemmas::writes_stretch, std::proofs::lemmas::Grind::common_steps))]
 fn write_stretch<W: fmt::Write>(
-    style: Style,
+    format: Format,
     look: Option<Look>,
     text: &str,
     shown: usize,
@@ -285,26 +285,26 @@ fn write_stretch<W: fmt::Write>(
     requires order { (shown ≤ start) × (start ≤ end) }
     ensures { MatchResult result
         (λ to. (IsCharBoundary text.now to × (to ≤ end))
-        × means.WritesOn W.write_str_gives style text.now output.old shown
+        × means.WritesOn W.write_str_gives format text.now output.old shown
         (spec.stretch start end look) output.new to) (λ error. Unit {0}) }
 {
     let Some(look) = look else {
         return Ok(shown);
     };
-    write_in_class(style, Class::Text, &text[shown..start], output)?;
-    write_look(style, look, &text[start..end], output)?;
+    write_in_class(format, Class::Text, &text[shown..start], output)?;
+    write_look(format, look, &text[start..end], output)?;
     Ok(end)
 }
 
 /// Writes a stretch between its marks.
-fn write_look<W: fmt::Write>(style: Style, look: Look, text: &str, output: &mut W) -> fmt::Result
+fn write_look<W: fmt::Write>(format: Format, look: Look, text: &str, output: &mut W) -> fmt::Result
     ensures { OnOk result (WritesInCalls W.write_str_gives output.old
-        (with_marks style (spec.look_parts look text.now)) output.new) }
+        (with_marks format (spec.look_parts look text.now)) output.new) }
 {
     match look {
-        Look::Escape => write_in_class(style, Class::Escape, text, output),
+        Look::Escape => write_in_class(format, Class::Escape, text, output),
         Look::Wrong(error) => {
-            write_with_fault(style, Fault::InLiteral(error), Class::Text, text, output)
+            write_with_fault(format, Fault::InLiteral(error), Class::Text, text, output)
         }
     }
 }

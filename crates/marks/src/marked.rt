@@ -11,10 +11,10 @@ ghost use Rattle.marks.specs.Part.{Own, with_marks, without_marks};
 
 use crate::class::{Class, class_of};
 use crate::fault::fault_of;
+use crate::format::Format;
 use crate::literal::{mode_of, write_literal};
 use crate::part::{write_in_class, write_with_fault};
 use crate::screen::split_first;
-use crate::style::Style;
 use rustc_lexer::{Edition, TokenKind, tokenize_document, tokenize_in};
 use std::fmt;
 
@@ -24,22 +24,22 @@ use std::fmt;
 /// sentence at each token that has a fault.
 ///
 /// Without the marks the output is the text, but for symbols in place of control characters, like `␛`, that are no
-/// tabs and no line ends, unless the style is `Raw`. In a page the text is the part outside of the tags, with its
+/// tabs and no line ends, unless the format is `Raw`. In a page the text is the part outside of the tags, with its
 /// entities undone.
 pub fn write_marked<W: fmt::Write>(
-    style: Style,
+    format: Format,
     edition: Edition,
     text: &str,
     output: &mut W,
 ) -> fmt::Result
     requires fits { Fits text.now }
     ensures written { OnOk result (WritesInCalls W.write_str_gives output.old
-        (marked style edition text.now) output.new) }
+        (marked format edition text.now) output.new) }
     ensures text { without_marks (text_parts edition text.now) ≡ text.now }
-    ensures page { unescaped (untagged (marked Style.Html edition text.now)) ≡ text.now }
+    ensures page { unescaped (untagged (marked Format.Html edition text.now)) ≡ text.now }
 {
     let begin = mark_len(text);
-    write_document(style, edition, &text[..begin], &text[begin..], output)
+    write_document(format, edition, &text[..begin], &text[begin..], output)
 }
 
 /// Returns the length of a byte order mark at the start of a text, or 0.
@@ -57,7 +57,7 @@ fn mark_len(text: &str) -> usize
 /// Writes a byte order mark, which may be empty, and a document behind it with marks.
 #[tactic(auto, using(crate::proofs::MarkedLemmas::document_is))]
 fn write_document<W: fmt::Write>(
-    style: Style,
+    format: Format,
     edition: Edition,
     mark: &str,
     text: &str,
@@ -65,16 +65,16 @@ fn write_document<W: fmt::Write>(
 ) -> fmt::Result
     requires fits { Fits text.now }
     ensures written { OnOk result (WritesInCalls W.write_str_gives output.old
-        (with_marks style (Own Class.Plain mark.now ∷ document_parts edition text.now)) output.new) }
+        (with_marks format (Own Class.Plain mark.now ∷ document_parts edition text.now)) output.new) }
     ensures text { without_marks (document_parts edition text.now) ≡ text.now }
 {
     let tokens = tokenize_document(text, edition);
-    write_in_class(style, Class::Plain, mark, output)?;
+    write_in_class(format, Class::Plain, mark, output)?;
     let mut start = text.len() - tokens.as_str().len();
-    write_in_class(style, Class::Comment, &text[..start], output)?;
+    write_in_class(format, Class::Comment, &text[..start], output)?;
     for token in tokens {
         let end = start + token.len as usize;
-        write_token(style, edition, token.kind, &text[start..end], output)?;
+        write_token(format, edition, token.kind, &text[start..end], output)?;
         start = end;
     }
     Ok(())
@@ -85,7 +85,7 @@ fn write_document<W: fmt::Write>(
 ///
 /// So the visible part of a long text can be written without the rest.
 pub fn write_first_tokens<W: fmt::Write>(
-    style: Style,
+    format: Format,
     edition: Edition,
     count: usize,
     text: &str,
@@ -93,7 +93,7 @@ pub fn write_first_tokens<W: fmt::Write>(
 ) -> fmt::Result
     requires fits { Fits text.now }
     ensures { OnOk result (WritesInCalls W.write_str_gives output.old
-        (marked_tokens style edition text.now
+        (marked_tokens format edition text.now
         (take count (tokens_of (part edition) text.now))) output.new) }
 {
     let mut tokens = tokenize_in(text, edition);
@@ -104,7 +104,7 @@ pub fn write_first_tokens<W: fmt::Write>(
             break;
         };
         let end = start + token.len as usize;
-        write_token(style, edition, token.kind, &text[start..end], output)?;
+        write_token(format, edition, token.kind, &text[start..end], output)?;
         start = end;
         left -= 1;
     }
@@ -114,7 +114,7 @@ pub fn write_first_tokens<W: fmt::Write>(
 /// Writes a token between its marks. If the token has a fault, its first line is also between the marks of the
 /// fault. In a literal without a fault of its own, each escape and each stretch that is wrong has marks around it.
 fn write_token<W: fmt::Write>(
-    style: Style,
+    format: Format,
     edition: Edition,
     kind: TokenKind,
     text: &str,
@@ -122,14 +122,14 @@ fn write_token<W: fmt::Write>(
 ) -> fmt::Result
     requires fits { Fits text.now }
     ensures { OnOk result (WritesInCalls W.write_str_gives output.old
-        (with_marks style (token_parts edition kind text.now)) output.new) }
+        (with_marks format (token_parts edition kind text.now)) output.new) }
 {
     let class = class_of(kind, text, edition);
     if let Some(fault) = fault_of(kind, text) {
-        return write_with_fault(style, fault, class, text, output);
+        return write_with_fault(format, fault, class, text, output);
     }
     match mode_of(kind) {
-        None => write_in_class(style, class, text, output),
-        Some(mode) => write_literal(style, mode, text, output),
+        None => write_in_class(format, class, text, output),
+        Some(mode) => write_literal(format, mode, text, output),
     }
 }

@@ -7,8 +7,8 @@ ghost use Rattle.marks.specs.Part.{Own, fault_parts, first_line, shown, with_mar
 use crate::class::Class;
 use crate::escape::write_escaped;
 use crate::fault::Fault;
+use crate::format::{Format, class_close, class_open, close_fault, open_fault};
 use crate::screen::write_seen;
-use crate::style::{Style, class_close, class_open, close_fault, open_fault};
 use memchr::memchr2;
 use std::fmt;
 
@@ -16,20 +16,20 @@ use std::fmt;
 /// class.
 #[tactic(auto, using(crate::proofs::PartLemmas::writes_fault, std::proofs::lemmas::Result::on_ok_weaker, std::proofs::lemmas::Grind::common_steps))]
 pub fn write_with_fault<W: fmt::Write>(
-    style: Style,
+    format: Format,
     fault: Fault,
     class: Class,
     text: &str,
     output: &mut W,
 ) -> fmt::Result
     ensures { OnOk result (WritesInCalls W.write_str_gives output.old
-        (with_marks style (fault_parts fault class text.now)) output.new) }
+        (with_marks format (fault_parts fault class text.now)) output.new) }
 {
     let end = first_line(text);
-    open_fault(style, fault, output)?;
-    write_in_class(style, class, &text[..end], output)?;
-    close_fault(style, fault, output)?;
-    write_in_class(style, class, &text[end..], output)
+    open_fault(format, fault, output)?;
+    write_in_class(format, class, &text[..end], output)?;
+    close_fault(format, fault, output)?;
+    write_in_class(format, class, &text[end..], output)
 }
 
 /// Returns how many bytes come before the first newline or carriage return.
@@ -44,31 +44,36 @@ fn first_line(text: &str) -> usize
 /// Writes a part of the text between the marks of its class. Writes nothing if the part is empty.
 #[tactic(auto, using(crate::proofs::CallLemmas::on_ok, crate::proofs::PartLemmas::writes_in_class, std::proofs::lemmas::Grind::common_steps))]
 pub fn write_in_class<W: fmt::Write>(
-    style: Style,
+    format: Format,
     class: Class,
     text: &str,
     output: &mut W,
 ) -> fmt::Result
     ensures { OnOk result (WritesInCalls W.write_str_gives output.old
-        (with_marks style (Own class text.now ∷ [])) output.new) }
+        (with_marks format (Own class text.now ∷ [])) output.new) }
 {
     if text.is_empty() {
         return Ok(());
     }
-    output.write_str(class_open(style, class))?;
-    write_shown(style, class, text, output)?;
-    output.write_str(class_close(style, class))
+    output.write_str(class_open(format, class))?;
+    write_shown(format, class, text, output)?;
+    output.write_str(class_close(format, class))
 }
 
 /// Writes a part of the text: in a page with entities, elsewhere with symbols for control characters or raw.
 #[tactic(auto, using(crate::proofs::CallLemmas::tried_call))]
-fn write_shown<W: fmt::Write>(style: Style, class: Class, text: &str, output: &mut W) -> fmt::Result
+fn write_shown<W: fmt::Write>(
+    format: Format,
+    class: Class,
+    text: &str,
+    output: &mut W,
+) -> fmt::Result
     ensures { OnOk result
-        (WritesInCalls W.write_str_gives output.old (shown style class text.now) output.new) }
+        (WritesInCalls W.write_str_gives output.old (shown format class text.now) output.new) }
 {
-    match style {
-        Style::Html => write_escaped(text, output),
-        Style::Colours | Style::NoColours => write_seen(class, text, output),
-        Style::Raw => output.write_str(text),
+    match format {
+        Format::Html => write_escaped(text, output),
+        Format::Colours | Format::NoColours => write_seen(class, text, output),
+        Format::Raw => output.write_str(text),
     }
 }

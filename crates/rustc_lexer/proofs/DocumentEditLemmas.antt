@@ -6,7 +6,7 @@ use Rattle.std.proofs.lemmas.List.Elements.{All-contains}
 use Rattle.std.proofs.Math.Seq.{drop-append_seam, drop-append-add, take-append_seam, take-append-add}
 use Rattle.std.proofs.lemmas.Grind.{common_steps}
 use Rattle.rustc_lexer.specs.declared.relex.checkpoints.Checkpoints.{Checkpoints}
-use Rattle.rustc_lexer.specs.declared.relex.front.Bound.{Bound}
+use Rattle.rustc_lexer.specs.declared.relex.front.TokenStart.{TokenStart}
 use Rattle.rustc_lexer.specs.declared.relex.head.Head.{Head}
 use Rattle.rustc_lexer.specs.declared.relex.relexing.Change.{Change}
 use Rattle.rustc_lexer.specs.declared.relex.relexing.Relexed.{Relexed}
@@ -72,9 +72,9 @@ pub made_read : {first : List ℕ → Token} {text : List ℕ} (tokens read : Li
 made_read {first} {text} tokens read n {change} {insert} {body} e is = subst (λ (ts : List Token). IsMadeOf first text (map (λ (t : Token). t.len) ts) change insert body) (ap (drop n) (sym e) ∙ sym (take_rest read n)) is
 
 -- what was lexed is put in place of the old tokens
-pub renewed_by : {first : List ℕ → Token} {text : List ℕ} {change : Change} {body : List ℕ} {lexed : List Token} {at : Relexing} (n : ℕ) (tokens : List Token) (head : Option Head) {new : List Token} → IsLexed first text change body lexed at → new ≡ head_put (take n tokens) head ++ (take at.front.number (drop n tokens) ++ (lexed ++ drop at.back.number (drop n tokens)))
+pub renewed_by : {first : List ℕ → Token} {text : List ℕ} {change : Change} {body : List ℕ} {lexed : List Token} {at : Relexing} (n : ℕ) (tokens : List Token) (head : Option Head) {new : List Token} → IsLexed first text change body lexed at → new ≡ head_put (take n tokens) head ++ (take at.front.index (drop n tokens) ++ (lexed ++ drop at.back.index (drop n tokens)))
     → IsRenewedBehind first text change body n tokens head new at
-renewed_by {first} {text} {change} {body} {lexed} {at} n tokens head {new} is put = record { behind = take at.front.number (drop n tokens) ++ (lexed ++ drop at.back.number (drop n tokens)); renewed = record { lexed = lexed; lexed_is = is; now_is = refl }; now_is = put }
+renewed_by {first} {text} {change} {body} {lexed} {at} n tokens head {new} is put = record { behind = take at.front.index (drop n tokens) ++ (lexed ++ drop at.back.index (drop n tokens)); renewed = record { lexed = lexed; lexed_is = is; now_is = refl }; now_is = put }
 
 -- nothing is kept before an edit at the front
 none_from : (text : List ℕ) (from : ℕ) (ts : List Token) → kept_front_from text 0 from ts ≡ 0
@@ -87,7 +87,7 @@ kept_none text ts = kept_front_by text 0 0 ts ∙ none_from text 0 ts
 pub relexed-front : {first : List ℕ → Token} {text : List ℕ} {stop : ℕ} {insert : List ℕ} {r : Relexed} → IsBodyRelexed first text 0 stop insert r → r.kept_front ≡ 0
 relexed-front {first} {text} is = is.front ∙ kept_none text (tokens_by first text)
 
-pub near_behind : (tokens : List Token) {all : List Token} {near : Bound} {n m : ℕ} (checkpoints : Checkpoints) → n ≡ m → drop n tokens ≡ all → AreBounds (drop m tokens) checkpoints → Contains checkpoints.bounds near → IsBound all near
+pub near_behind : (tokens : List Token) {all : List Token} {near : TokenStart} {n m : ℕ} (checkpoints : Checkpoints) → n ≡ m → drop n tokens ≡ all → AreBounds (drop m tokens) checkpoints → Contains checkpoints.bounds near → IsBound all near
 near_behind tokens {all} {near} {n} {m} checkpoints same e are is = grind (arith, common_steps, All-contains)
 
 module _ {heads : List ℕ → Head} {first : List ℕ → Token} (law : IsGrammar first) {text made insert : List ℕ} {start stop : ℕ} {old now : Head} {kept : Bool} {n : ℕ} {tokens : List Token} {body : List ℕ} {change : Change} (b : IsBodyEdit heads first text made insert start stop old now kept n tokens body change)
@@ -128,13 +128,13 @@ module _ {heads : List ℕ → Head} {first : List ℕ → Token} (law : IsGramm
       renewed_bounds law b.old_body whole_made whole_renewed checkpoints (subst (λ k. AreBounds (drop k tokens) checkpoints) (sym same) are)
 
   -- where the head does not stay, nothing is kept before the edit
-  front_none : kept ≡ false → at.front.number ≡ 0
+  front_none : kept ≡ false → at.front.index ≡ 0
   front_none e =
       let zero_start : change.start ≡ 0 = ap (λ (ch : Change). ch.start) b.change_is ∙ ap (λ (k : Bool). (body_change k old.body now.body (edit_change start stop insert)).start) e in
       r.renewed.lexed_is.stands.front_number ∙ (ap (kept_front (drop old.body text) (tokens_by first (drop old.body text))) zero_start ∙ kept_none (drop old.body text) (tokens_by first (drop old.body text)))
 
-  module _ (counts : Relexed) {m c : ℕ} (m_is : m ≡ length (tokens_of_head now)) (c_is : c ≡ length tokens - n) (counts_are : counts ≡ record { kept_front = at.front.number; lexed = at.lexed; kept_back = c - at.back.number }) where
-    sizes : (at.front.number + at.lexed + (c - at.back.number) ≡ length r.behind) × (length new ≡ m + length r.behind) × (c ≡ length (drop n tokens))
+  module _ (counts : Relexed) {m c : ℕ} (m_is : m ≡ length (tokens_of_head now)) (c_is : c ≡ length tokens - n) (counts_are : counts ≡ record { kept_front = at.front.index; lexed = at.lexed; kept_back = c - at.back.index }) where
+    sizes : (at.front.index + at.lexed + (c - at.back.index) ≡ length r.behind) × (length new ≡ m + length r.behind) × (c ≡ length (drop n tokens))
     sizes =
         grind (arith, common_steps, length-drop, whole_made, whole_renewed, new_is, length-append, renewed_all law b.old_body whole_made whole_renewed)
 
@@ -148,13 +148,13 @@ module _ {heads : List ℕ → Head} {first : List ℕ → Token} (law : IsGramm
     pub counted_front : take (counted kept n m counts).kept_front new ≡ take (counted kept n m counts).kept_front tokens
     counted_front = rw counts_are (by_kept kept refl)
       where
-        by_kept : (k : Bool) → kept ≡ k → take (counted k n m (record { kept_front = at.front.number; lexed = at.lexed; kept_back = c - at.back.number })).kept_front new ≡ take (counted k n m (record { kept_front = at.front.number; lexed = at.lexed; kept_back = c - at.back.number })).kept_front tokens
+        by_kept : (k : Bool) → kept ≡ k → take (counted k n m (record { kept_front = at.front.index; lexed = at.lexed; kept_back = c - at.back.index })).kept_front new ≡ take (counted k n m (record { kept_front = at.front.index; lexed = at.lexed; kept_back = c - at.back.index })).kept_front tokens
         by_kept true e =
-            let number : n + at.front.number ≡ length (tokens_of_head now) + at.front.number = omega (arith, same_count e, m_is) in
-            ap₂ take number new_is ∙ (take-append-add (tokens_of_head now) r.behind at.front.number ∙ (ap₂ (λ xs ys. xs ++ ys) (sym (b.old_front ∙ ap tokens_of_head (b.decided.0 e).0)) (renewed_front law b.old_body whole_made whole_renewed) ∙ sym (take-add n at.front.number tokens)))
+            let number : n + at.front.index ≡ length (tokens_of_head now) + at.front.index = omega (arith, same_count e, m_is) in
+            ap₂ take number new_is ∙ (take-append-add (tokens_of_head now) r.behind at.front.index ∙ (ap₂ (λ xs ys. xs ++ ys) (sym (b.old_front ∙ ap tokens_of_head (b.decided.0 e).0)) (renewed_front law b.old_body whole_made whole_renewed) ∙ sym (take-add n at.front.index tokens)))
         by_kept false e = rw (front_none e) refl
 
-    back_with : (k : ℕ) → k ≡ length (tokens_of_head now) + (at.front.number + at.lexed) → drop k new ≡ drop (length tokens - (c - at.back.number)) tokens
+    back_with : (k : ℕ) → k ≡ length (tokens_of_head now) + (at.front.index + at.lexed) → drop k new ≡ drop (length tokens - (c - at.back.index)) tokens
     back_with k e = grind (arith, common_steps, sizes, new_is, drop-append-add, renewed_back, whole_made, whole_renewed, drop-drop)
 
     pub counted_back : drop ((counted kept n m counts).kept_front + (counted kept n m counts).lexed) new ≡ drop (length tokens - (counted kept n m counts).kept_back) tokens

@@ -7,7 +7,7 @@ use Rattle.rustc_lexer.specs.Classes.{IsText, bytes}
 use Rattle.rustc_lexer.specs.Document.{is_frontmatter, shebang_len, document_tokens, head_count}
 use Rattle.rustc_lexer.specs.means.Document.{front_tokens, head_of, tokens_of_head}
 use Rattle.rustc_lexer.specs.LanguageText as grammar
-use Rattle.rustc_lexer.specs.LanguageText.{AreTokens, IsTokenIn, Mode, document, is_document, mode_after, part}
+use Rattle.rustc_lexer.specs.LanguageText.{AreTokens, IsTokenIn, Mode, is_source, mode_after, part, source}
 use Rattle.rustc_lexer.specs.Tokens.{bound}
 use Rattle.rustc_lexer.specs.laws.Choice.{by_symbol}
 use Rattle.rustc_lexer.specs.laws.LanguageTokens.{language}
@@ -23,13 +23,13 @@ use Rattle.std.proofs.lemmas.Grind.{common_steps}
 none-in : {edition : Edition} {next u : List ℕ} {kind : TokenKind} → IsTokenIn edition next kind u → is_frontmatter kind ≡ false
 none-in w0 = grind (arith, common_steps, not-true, by_symbol)
 
-stays-part : (mode : Mode) (kind : TokenKind) → is_document mode ≡ false → is_document (mode_after mode kind) ≡ false
+stays-part : (mode : Mode) (kind : TokenKind) → is_source mode ≡ false → is_source (mode_after mode kind) ≡ false
 stays-part mode kind w2 = grind (arith, common_steps)
 
 head_count-later : (t : Token) (ts : List Token) → is_frontmatter t.kind ≡ false → head_count ts ≡ 0 → head_count (t ∷ ts) ≡ 0
 head_count-later t ts other none = grind (arith, common_steps)
 
-no-front : {mode : Mode} {cs : List ℕ} {tokens : List Token} → AreTokens mode cs tokens → is_document mode ≡ false → head_count tokens ≡ 0
+no-front : {mode : Mode} {cs : List ℕ} {tokens : List Token} → AreTokens mode cs tokens → is_source mode ≡ false → head_count tokens ≡ 0
 no-front grammar.nothing e = refl
 no-front (grammar.something {mode} {kind} {c} {w} {next} {tokens} p free rest) e = head_count-later (record { kind = kind; len = bytes (c ∷ w) }) tokens (none-in p) (no-front rest (stays-part mode kind e))
 no-front (grammar.frontmatter_first body is_opening ends rest) e = absurd (true≢false e)

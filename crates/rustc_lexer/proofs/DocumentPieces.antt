@@ -9,7 +9,7 @@ use Rattle.rustc_lexer.specs.{Token}
 use Rattle.rustc_lexer.specs.Classes.{IsText}
 use Rattle.rustc_lexer.specs.Document.{shebang_len, document_tokens}
 use Rattle.rustc_lexer.specs.means.Document.{document_by, head_of, tokens_of_head}
-use Rattle.rustc_lexer.specs.LanguageText.{document, part, newest}
+use Rattle.rustc_lexer.specs.LanguageText.{source, part, newest}
 use Rattle.rustc_lexer.specs.Locality.{IsGrammar}
 use Rattle.rustc_lexer.specs.Tokens.{bound, tokens_by}
 use Rattle.rustc_lexer.specs.laws.Tokens.{partitions}
@@ -44,7 +44,7 @@ module _ {first : List ℕ → Token} (law : IsGrammar first) (text : List ℕ) 
       let all = head_whole newest text is (ahead text is).boundary in
       let front : take k (document_tokens newest text) ≡ take k tokens = ap (take k) all ∙ (take-append-le k heads _ few ∙ sym (ap (take k) e ∙ take-append-le k heads _ few)) in
       let same : bound (document_tokens newest text) k ≡ bound tokens k = bound-same k (document_tokens newest text) tokens front in
-      let there : IsCharBoundary rest (bound (document_tokens newest text) k) = (partitions rest (document newest) rest_text).boundaries k (omega (arith, ap length all, length-append heads (read_tokens (part newest) body))) in
+      let there : IsCharBoundary rest (bound (document_tokens newest text) k) = (partitions rest (source newest) rest_text).boundaries k (omega (arith, ap length all, length-append heads (read_tokens (part newest) body))) in
       IsCharBoundary-from_rest text (shebang_len text) (bound tokens k) (shebang-boundary text is).0 (subst (IsCharBoundary rest) same there)
 
   -- the bounds of the tokens of the body

@@ -15,7 +15,7 @@ use Rattle.rustc_lexer.specs.LanguageCalls as calls
 use Rattle.rustc_lexer.specs.LanguageCalls.{IsLineBefore, IsShebang}
 use Rattle.rustc_lexer.specs.laws.TheAnswers.{the_shebang}
 use Rattle.rustc_lexer.specs.Language.{IsTokenBefore}
-use Rattle.rustc_lexer.specs.LanguageText.{document, part, mode_after, year}
+use Rattle.rustc_lexer.specs.LanguageText.{source, part, mode_after, year}
 use Rattle.rustc_lexer.specs.Tables.{symbols}
 use Rattle.rustc_lexer.specs.laws.Choice.{by_symbol}
 use Rattle.rustc_lexer.specs.laws.Frontmatter.{frontmatter-cut}
@@ -32,14 +32,14 @@ use Rattle.rustc_lexer.specs.means.Scan.{begins, bytes_of, next_is, past, run_le
 use Rattle.rustc_lexer.specs.means.Taking.{token_at}
 use Rattle.rustc_lexer.specs.means.Tokens.{read_tokens}
 
--- ---- a token that leaves a document one
+-- ---- a token that leaves source what it is
 
 abbrev stays : TokenKind → Bool
 stays Whitespace = true
 stays Eof = true
 stays kind = false
 
-solid-after : (edition : Edition) (kind : TokenKind) → stays kind ≡ false → mode_after (document edition) kind ≡ part edition
+solid-after : (edition : Edition) (kind : TokenKind) → stays kind ≡ false → mode_after (source edition) kind ≡ part edition
 solid-after edition kind w2 = grind (arith, common_steps)
 
 -- none does that has characters and begins with no white space
@@ -82,23 +82,23 @@ first-space edition text white = by_chars (chars text) refl white
 
 module _ (edition : Edition) where
   -- a frontmatter, and what follows it
-  pub with-front : (text : List ℕ) → IsText text → opens (chars text) ≡ true → read_tokens (document edition) text ≡ frontmatter text ∷ read_tokens (part edition) (drop (frontmatter text).len text)
+  pub with-front : (text : List ℕ) → IsText text → opens (chars text) ≡ true → read_tokens (source edition) text ≡ frontmatter text ∷ read_tokens (part edition) (drop (frontmatter text).len text)
   unfolding frontmatter
   with-front text is e =
       let some : 0 < length text = (let cut = frontmatter-cut text is.utf8 e in let i = cut.inside in let m = cut.not_empty in omega arith) in
-      let at : token_at (document edition) text ≡ frontmatter text = rw e refl in
-      tokens-cons (document edition) text is some ∙ ap (λ (t : Token). t ∷ read_tokens (mode_after (document edition) t.kind) (drop t.len text)) at
+      let at : token_at (source edition) text ≡ frontmatter text = rw e refl in
+      tokens-cons (source edition) text is some ∙ ap (λ (t : Token). t ∷ read_tokens (mode_after (source edition) t.kind) (drop t.len text)) at
 
   -- none, and no white space
-  without-space : (text : List ℕ) → IsText text → opens (chars text) ≡ false → next_is is_whitespace (chars text) ≡ false → read_tokens (document edition) text ≡ read_tokens (part edition) text
-  without-space [] is none out = tokens-nil (document edition) ∙ sym (tokens-nil (part edition))
+  without-space : (text : List ℕ) → IsText text → opens (chars text) ≡ false → next_is is_whitespace (chars text) ≡ false → read_tokens (source edition) text ≡ read_tokens (part edition) text
+  without-space [] is none out = tokens-nil (source edition) ∙ sym (tokens-nil (part edition))
   without-space (b ∷ bs) is none out =
       let text : List ℕ = b ∷ bs in
       let t : Token = first_token_in edition text in
       let some : 0 < length (chars text) = by_chars (chars text) refl in
-      let at : token_at (document edition) text ≡ t = rw none refl in
-      let after : mode_after (document edition) t.kind ≡ part edition = solid-after edition t.kind (first-solid edition text some out) in
-      tokens-cons (document edition) text is (omega arith) ∙ (ap (λ (u : Token). u ∷ read_tokens (mode_after (document edition) u.kind) (drop u.len text)) at
+      let at : token_at (source edition) text ≡ t = rw none refl in
+      let after : mode_after (source edition) t.kind ≡ part edition = solid-after edition t.kind (first-solid edition text some out) in
+      tokens-cons (source edition) text is (omega arith) ∙ (ap (λ (u : Token). u ∷ read_tokens (mode_after (source edition) u.kind) (drop u.len text)) at
       ∙ (ap (λ m. t ∷ read_tokens m (drop t.len text)) after ∙ sym (tokens-cons (part edition) text is (omega arith))))
     where
       by_chars : (cs : List ℕ) → chars (b ∷ bs) ≡ cs → 0 < length cs
@@ -133,20 +133,20 @@ module _ (edition : Edition) where
       first_is : first_token_in edition text ≡ space
       first_is = first-space edition text white ∙ ap (λ (n : ℕ). let t : Token = record { kind = Whitespace; len = n } in t) size_is
 
-      document_space : read_tokens (document edition) text ≡ space ∷ read_tokens (document edition) tail
+      document_space : read_tokens (source edition) text ≡ space ∷ read_tokens (source edition) tail
       document_space =
-          let at : token_at (document edition) text ≡ first_token_in edition text = rw none refl in
-          tokens-cons (document edition) text is (some text refl) ∙ (ap (λ (u : Token). u ∷ read_tokens (mode_after (document edition) u.kind) (drop u.len text)) (at ∙ first_is) ∙ ap (λ xs. space ∷ read_tokens (document edition) xs) (sym tail_drop))
+          let at : token_at (source edition) text ≡ first_token_in edition text = rw none refl in
+          tokens-cons (source edition) text is (some text refl) ∙ (ap (λ (u : Token). u ∷ read_tokens (mode_after (source edition) u.kind) (drop u.len text)) (at ∙ first_is) ∙ ap (λ xs. space ∷ read_tokens (source edition) xs) (sym tail_drop))
 
       part_space : read_tokens (part edition) text ≡ space ∷ read_tokens (part edition) tail
       part_space = grind (arith, common_steps, tokens-cons (part edition) text is (some text refl), first_is, tail_drop)
 
     -- no frontmatter, past white space or none
-    pub without-front : opens (chars text) ≡ false → opens (chars tail) ≡ false → read_tokens (document edition) text ≡ read_tokens (part edition) text
+    pub without-front : opens (chars text) ≡ false → opens (chars tail) ≡ false → read_tokens (source edition) text ≡ read_tokens (part edition) text
     without-front none none_past = grind (arith, common_steps, without-space, document_space, tail_text, tail_no, part_space)
 
     -- a frontmatter past white space
-    pub with-spaced : opens (chars text) ≡ false → opens (chars tail) ≡ true → read_tokens (document edition) text ≡ front_tokens size (Some (frontmatter tail)) ++ read_tokens (part edition) (drop (size + (frontmatter tail).len) text)
+    pub with-spaced : opens (chars text) ≡ false → opens (chars tail) ≡ true → read_tokens (source edition) text ≡ front_tokens size (Some (frontmatter tail)) ++ read_tokens (part edition) (drop (size + (frontmatter tail).len) text)
     with-spaced none opened = by_space (next_is is_whitespace (chars text)) refl
       where
         behind : drop (frontmatter tail).len tail ≡ drop (size + (frontmatter tail).len) text
@@ -156,7 +156,7 @@ module _ (edition : Edition) where
         by_size zero less = absurd (omega arith)
         by_size (suc n) less = refl
 
-        by_space : (b : Bool) → next_is is_whitespace (chars text) ≡ b → read_tokens (document edition) text ≡ front_tokens size (Some (frontmatter tail)) ++ read_tokens (part edition) (drop (size + (frontmatter tail).len) text)
+        by_space : (b : Bool) → next_is is_whitespace (chars text) ≡ b → read_tokens (source edition) text ≡ front_tokens size (Some (frontmatter tail)) ++ read_tokens (part edition) (drop (size + (frontmatter tail).len) text)
         by_space false out = absurd (true≢false (sym opened ∙ (ap (λ xs. opens (chars xs)) whole ∙ none)))
           where
             zero_len : (cs : List ℕ) → next_is is_whitespace cs ≡ false → spaces_len cs ≡ 0

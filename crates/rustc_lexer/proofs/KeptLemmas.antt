@@ -4,7 +4,7 @@ use Rattle.std.proofs.Math.Seq.{drop-append_seam}
 use Rattle.std.proofs.lemmas.Str.{IsUtf8-drop}
 use Rattle.std.proofs.lemmas.Grind.{common_steps}
 use Rattle.rustc_lexer.specs.declared.relex.checkpoints.Checkpoints.{Checkpoints}
-use Rattle.rustc_lexer.specs.declared.relex.front.Bound.{Bound}
+use Rattle.rustc_lexer.specs.declared.relex.front.TokenStart.{TokenStart}
 use Rattle.rustc_lexer.specs.declared.relex.head.Head.{Head}
 use Rattle.rustc_lexer.specs.{Token}
 use Rattle.rustc_lexer.specs.Classes.{IsText}
@@ -49,11 +49,11 @@ module _ {first : List ℕ → Token} (law : IsGrammar first) (whole : Bool) (te
   body_at k = grind (arith, common_steps, head_ends, all_are, bound-append, bound-shift)
 
   -- a bound of the body's tokens is one of all
-  pub near_at : (near : Bound) (n : ℕ) → n ≡ length fronts → IsBound (drop (length fronts) tokens) near → head.body + near.offset ≡ head.shebang_len + bound tokens (n + near.number)
-  near_at near n e at = omega (arith, at.1, body_at near.number, ap (λ m. bound tokens (m + near.number)) e)
+  pub near_at : (near : TokenStart) (n : ℕ) → n ≡ length fronts → IsBound (drop (length fronts) tokens) near → head.body + near.offset ≡ head.shebang_len + bound tokens (n + near.index)
+  near_at near n e at = omega (arith, at.1, body_at near.index, ap (λ m. bound tokens (m + near.index)) e)
 
   -- the same, with its offset in the text
-  pub near_from : (near : Bound) (n : ℕ) → n ≡ length fronts → IsBound (drop (length fronts) tokens) near → IsBoundFrom head.shebang_len tokens (record { number = n + near.number; offset = head.body + near.offset })
+  pub near_from : (near : TokenStart) (n : ℕ) → n ≡ length fronts → IsBound (drop (length fronts) tokens) near → IsBoundFrom head.shebang_len tokens (record { index = n + near.index; offset = head.body + near.offset })
   near_from near n e at = grind (arith, common_steps, all_are, length-append, length-drop, near_at)
 
   -- the last bound is the text's end

@@ -3,7 +3,7 @@ use Rattle.std.proofs.Common.{◌≡◌, ℕ, ◌+◌, ◌^◌, ◌<◌, ◌≤�
 use Rattle.std.proofs.lemmas.Bool.{cases_lt}
 use Rattle.std.proofs.lemmas.Grind.{common_steps}
 use Rattle.rustc_lexer.specs.declared.relex.checkpoints.Checkpoints.{Checkpoints}
-use Rattle.rustc_lexer.specs.declared.relex.front.Bound.{Bound}
+use Rattle.rustc_lexer.specs.declared.relex.front.TokenStart.{TokenStart}
 use Rattle.rustc_lexer.specs.declared.relex.head.Head.{Head}
 use Rattle.rustc_lexer.specs.{Edition, Token}
 use Rattle.rustc_lexer.specs.Answers.{first_in}
@@ -42,5 +42,5 @@ module _ {S : Type 0} {first : List ℕ → Token} (law : IsGrammar first) (whol
   cut_seen = rw (sym text_is, sym tokens_is) (subst (λ n. AreCut text n (length text) tokens) (start_is whole text head are.2) (kept_cuts law whole text tokens head checkpoints are))
 
 -- where no token has the offset, the text has ended
-pub none_past : {result : Option Bound} {first offset len : ℕ} → IsSome result ↔ ((first ≤ offset) × (offset < len)) → result ≡ None → first ≤ offset → len ≤ offset
+pub none_past : {result : Option TokenStart} {first offset len : ℕ} → IsSome result ↔ ((first ≤ offset) × (offset < len)) → result ≡ None → first ≤ offset → len ≤ offset
 none_past {result} {first} {offset} {len} some none from = grind (arith, common_steps, cases_lt)

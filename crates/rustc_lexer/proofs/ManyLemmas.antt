@@ -5,7 +5,7 @@ use Rattle.std.proofs.lemmas.Bool.{cases_lt}
 use Rattle.std.proofs.lemmas.List.{take-append-drop}
 use Rattle.std.proofs.lemmas.Str.{IsUtf8-drop, IsCharBoundary-from_drop}
 use Rattle.std.proofs.Math.Nat.{max-le}
-use Rattle.rustc_lexer.specs.declared.relex.front.{Bound.Bound, Meeting.Meeting}
+use Rattle.rustc_lexer.specs.declared.relex.front.{Meeting.Meeting, TokenStart.TokenStart}
 use Rattle.rustc_lexer.specs.declared.relex.relexing.Change.{Change}
 use Rattle.rustc_lexer.specs.declared.relex.relexing.Relexing.{Relexing}
 use Rattle.rustc_lexer.specs.{Token}
@@ -45,9 +45,9 @@ module _ {first : List ℕ → Token} (law : IsGrammar first) (before lengths in
         let up = rises law text (made_text law before lengths insert text change is) (known at) (omega (arith, more, inside)) in
         let later : at.at < bound new number = omega (arith, stands.offset, up, bound_mono new (suc (known at)) number more) in
         let free = clear (bound new number) later early past in
-        elim (cases_lt m.0 at.back.number) [
+        elim (cases_lt m.0 at.back.index) [
           | inl less ↦ (let b = stands.below m.0 less in let top : max change.new_stop at.at ≤ at.at = max-le free.0 (omega arith) in omega (arith, b, top, there, past, later))
-          | inr far ↦ omega (arith, stands.back_bound.1, bound_mono old at.back.number m.0 far, there, past, free.1)
+          | inr far ↦ omega (arith, stands.back_bound.1, bound_mono old at.back.index m.0 far, there, past, free.1)
         ]
   ]
 
@@ -71,11 +71,11 @@ module _ {first : List ℕ → Token} (law : IsGrammar first) (before lengths in
         let there : known at + k ≡ number = omega (arith, le) in
         omega (arith, begun k (omega (arith, le, less)), shift k, ap (bound new) there)
 
-    not_past : known past_many ≤ meet old new change.old_stop change.new_stop at.front.number
+    not_past : known past_many ≤ meet old new change.old_stop change.new_stop at.front.index
     unfolding meet
     not_past =
         let test : ℕ → Bool = λ m. meets_at old change.old_stop change.new_stop (bound new m) in
-        let k : ℕ = at.front.number in
+        let k : ℕ = at.front.index in
         let j : ℕ = least_from test (length new - k) k in
         let far : known at ≤ j = stands.not_past in
         let most = inside in
@@ -124,11 +124,11 @@ module _ {first : List ℕ → Token} (law : IsGrammar first) (text left : List 
   block_count = omega (arith, bytes_is, number_le_bound (tokens_by first left) count few (rises law left rest_is))
 
 -- what is left past those tokens, if more of them were lexed
-pub more_lexed : (new left items block : List Token) (at past : Relexing) (count : ℕ) → past.front ≡ at.front → past.lexed ≡ at.lexed + count → drop at.front.number new ≡ items ++ drop (known at) new → left ≡ drop (known at) new → block ≡ take count left → drop past.front.number new ≡ (items ++ block) ++ drop (known past) new
+pub more_lexed : (new left items block : List Token) (at past : Relexing) (count : ℕ) → past.front ≡ at.front → past.lexed ≡ at.lexed + count → drop at.front.index new ≡ items ++ drop (known at) new → left ≡ drop (known at) new → block ≡ take count left → drop past.front.index new ≡ (items ++ block) ++ drop (known past) new
 more_lexed new left items block at past count front lexed so left_is block_is =
-    let n : known at + count ≡ known past = omega (arith, ap (λ (b : Bound). b.number) front, lexed) in
+    let n : known at + count ≡ known past = omega (arith, ap (λ (b : TokenStart). b.index) front, lexed) in
     let split : drop (known at) new ≡ block ++ drop (known past) new = sym (take-append-drop count (drop (known at) new)) ∙ (ap (λ (ts : List Token). take count ts ++ drop count (drop (known at) new)) (sym left_is) ∙ (ap (λ (ts : List Token). ts ++ drop count (drop (known at) new)) (sym block_is) ∙ ap (λ (ts : List Token). block ++ ts) (drop-drop count (known at) new ∙ ap (λ m. drop m new) n))) in
-    ap (λ (b : Bound). drop b.number new) front ∙ (so ∙ (ap (λ (ts : List Token). items ++ ts) split ∙ sym (append_assoc items block (drop (known past) new))))
+    ap (λ (b : TokenStart). drop b.index new) front ∙ (so ∙ (ap (λ (ts : List Token). items ++ ts) split ∙ sym (append_assoc items block (drop (known past) new))))
 
 -- a buffer with room has some token of a text before an offset
 pub some_filled : {X : Type 0} (form : Token → X) (end : ℕ) (tokens : List Token) (buffer filled : List X) (count : ℕ) → IsFilledTo form end tokens buffer filled count → 0 < length buffer → 0 < end → 0 < count

@@ -2,7 +2,7 @@
 use Rattle.std.proofs.Common.{◌≡◌, ℕ, zero, suc, ◌+◌, ◌-◌, ◌^◌, ◌<◌, ◌≤◌, List, [], ◌∷◌, ◌++◌, get_or, length, take, drop, slice_range, refl, sym, ap, ◌∙◌, subst, arith, length-append, length-take, length-take-le, length-drop, take-take, IsCharBoundary, Option, Some, None, IfSome, IsSome}
 use Rattle.std.proofs.lemmas.Grind.{common_steps}
 use Rattle.std.proofs.lemmas.List.{take-append-le}
-use Rattle.rustc_lexer.specs.declared.relex.{front.Bound.Bound, pieces.Piece.Piece}
+use Rattle.rustc_lexer.specs.declared.relex.{front.TokenStart.TokenStart, pieces.Piece.Piece}
 use Rattle.rustc_lexer.specs.{Token}
 use Rattle.rustc_lexer.specs.Tokens.{bound, tokens_by}
 use Rattle.rustc_lexer.specs.means.Pieces.{AreBoundariesFrom, AreCut}
@@ -104,15 +104,15 @@ last_piece text start end all tokens t e are =
     ap (pieces_from text start) e ∙ (pieces-last text start tokens t ∙ ap (λ p. pieces_from text start tokens ++ p ∷ []) same)
 
 -- the first piece from the token on that contains a byte
-pub piece_is : (piece : Option Piece) (text : List ℕ) (first offset : ℕ) (tokens : List Token) (at : Bound) (rest : List Placed) → ContainsByte first tokens offset at → YieldsPiece (pieces_from text at.offset (take (length tokens - at.number) (drop at.number tokens))) piece rest → IfSome piece (λ piece. (at : Bound) × ContainsByte first tokens offset at × (take 1 (drop at.number (pieces_from text first tokens)) ≡ placed piece ∷ []))
+pub piece_is : (piece : Option Piece) (text : List ℕ) (first offset : ℕ) (tokens : List Token) (at : TokenStart) (rest : List Placed) → ContainsByte first tokens offset at → YieldsPiece (pieces_from text at.offset (take (length tokens - at.index) (drop at.index tokens))) piece rest → IfSome piece (λ piece. (at : TokenStart) × ContainsByte first tokens offset at × (take 1 (drop at.index (pieces_from text first tokens)) ≡ placed piece ∷ []))
 piece_is None text first offset tokens at rest is yields = tt
 piece_is (Some piece) text first offset tokens at rest is yields =
-    let n : ℕ = length tokens - at.number in
-    let left : List Placed = drop at.number (pieces_from text first tokens) in
-    let begin : take n left ≡ placed piece ∷ rest = sym (pieces-part text first at.offset tokens at.number n is.start) ∙ yields.0 in
+    let n : ℕ = length tokens - at.index in
+    let left : List Placed = drop at.index (pieces_from text first tokens) in
+    let begin : take n left ≡ placed piece ∷ rest = sym (pieces-part text first at.offset tokens at.index n is.start) ∙ yields.0 in
     (at, is, sym (take-take 1 n left (omega (arith, is.number))) ∙ ap (take 1) begin)
 
-pub piece_some : (piece : Option Piece) (text : List ℕ) (first offset : ℕ) (tokens : List Token) (at : Bound) (rest : List Placed) → ContainsByte first tokens offset at → YieldsPiece (pieces_from text at.offset (take (length tokens - at.number) (drop at.number tokens))) piece rest → IsSome piece
+pub piece_some : (piece : Option Piece) (text : List ℕ) (first offset : ℕ) (tokens : List Token) (at : TokenStart) (rest : List Placed) → ContainsByte first tokens offset at → YieldsPiece (pieces_from text at.offset (take (length tokens - at.index) (drop at.index tokens))) piece rest → IsSome piece
 piece_some piece text first offset tokens at rest w7 w8 = grind (arith, common_steps, length-take-le, length-drop, length-pieces)
 
 -- ---- where a token begins, from a bound before it on

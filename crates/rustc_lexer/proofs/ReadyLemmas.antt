@@ -1,7 +1,7 @@
 -- An edit: what lexing from the kept front asks, and what it leaves.
 use Rattle.std.proofs.Common.{◌≡◌, ℕ, ◌+◌, ◌-◌, ◌<◌, ◌≤◌, ◌^◌, true, List, ◌++◌, length, take, drop, refl, sym, ap, ◌∙◌, subst, arith, length-take, append_assoc, IsUtf8}
 use Rattle.rustc_lexer.specs.means.Relexing.{AreBoundaries, kept_front, meet, relexed_of}
-use Rattle.rustc_lexer.specs.declared.relex.front.Bound.{Bound}
+use Rattle.rustc_lexer.specs.declared.relex.front.TokenStart.{TokenStart}
 use Rattle.rustc_lexer.specs.{Token}
 use Rattle.rustc_lexer.specs.Classes.{IsText}
 use Rattle.rustc_lexer.specs.Locality.{IsGrammar, has_two}
@@ -15,10 +15,10 @@ use Rattle.std.proofs.lemmas.Str.{IsCharBoundary-from_drop}
 use Rattle.std.proofs.lemmas.Grind.{common_steps}
 
 -- the new text has the tokens of the kept front, which are before the edit
-pub record IsReady (first : List ℕ → Token) (old : List Token) (text : List ℕ) (kept : Bound) (start : ℕ) : Type 0 where
-  pub kept_same : take kept.number old ≡ take kept.number (tokens_by first text)
-  pub kept_new : kept.number ≤ length (tokens_by first text)
-  pub kept_before : (k : ℕ) → k < kept.number → bound old k < start
+pub record IsReady (first : List ℕ → Token) (old : List Token) (text : List ℕ) (kept : TokenStart) (start : ℕ) : Type 0 where
+  pub kept_same : take kept.index old ≡ take kept.index (tokens_by first text)
+  pub kept_new : kept.index ≤ length (tokens_by first text)
+  pub kept_before : (k : ℕ) → k < kept.index → bound old k < start
 
 module _ {first : List ℕ → Token} (law : IsGrammar first) (text : List ℕ) (is : IsText text) where
   pub cuts : AreBoundaries text (tokens_by first text)
@@ -28,15 +28,15 @@ module _ {first : List ℕ → Token} (law : IsGrammar first) (text : List ℕ) 
   bounds_fit k few = omega (arith, (cuts k few).0, is.fits)
 
   module _ (start stop : ℕ) (insert new : List ℕ) (edit : IsEdit text start stop insert) (ed : IsEdited text start stop insert new) where
-    pub ready : (kept : Bound) → kept.number ≤ length (tokens_by first text) → kept.offset ≡ bound (tokens_by first text) kept.number → (0 < kept.number → has_two text kept.offset start ≡ true) → IsReady first (tokens_by first text) new kept start
+    pub ready : (kept : TokenStart) → kept.index ≤ length (tokens_by first text) → kept.offset ≡ bound (tokens_by first text) kept.index → (0 < kept.index → has_two text kept.offset start ≡ true) → IsReady first (tokens_by first text) new kept start
     ready kept few at two =
-        let two_past : 0 < kept.number → has_two text (bound (tokens_by first text) kept.number) start ≡ true = λ some. subst (λ p. has_two text p start ≡ true) at (two some) in
-        let same : take kept.number (tokens_by first new) ≡ take kept.number (tokens_by first text) = kept_same law text start stop insert new is edit ed kept.number few two_past in
-        let long : length (take kept.number (tokens_by first new)) ≡ length (take kept.number (tokens_by first text)) = ap length same in
+        let two_past : 0 < kept.index → has_two text (bound (tokens_by first text) kept.index) start ≡ true = λ some. subst (λ p. has_two text p start ≡ true) at (two some) in
+        let same : take kept.index (tokens_by first new) ≡ take kept.index (tokens_by first text) = kept_same law text start stop insert new is edit ed kept.index few two_past in
+        let long : length (take kept.index (tokens_by first new)) ≡ length (take kept.index (tokens_by first text)) = ap length same in
         record {
           kept_same = sym same;
-          kept_new = omega (arith, length-take kept.number (tokens_by first new), length-take kept.number (tokens_by first text));
-          kept_before = λ k less. omega (arith, bound_mono (tokens_by first text) k kept.number (omega arith), has_two-before text (bound (tokens_by first text) kept.number) start (two_past (omega arith)));
+          kept_new = omega (arith, length-take kept.index (tokens_by first new), length-take kept.index (tokens_by first text));
+          kept_before = λ k less. omega (arith, bound_mono (tokens_by first text) k kept.index (omega arith), has_two-before text (bound (tokens_by first text) kept.index) start (two_past (omega arith)));
         }
 
     -- what it leaves: the new tokens are whole, and the counts are those of the edit
@@ -50,10 +50,10 @@ counts {first} law text is start stop insert items number kept kept_is met =
 
 -- the same, for a list and a text that are known by equations
 module _ {first : List ℕ → Token} (law : IsGrammar first) (text : List ℕ) (is : IsText text) (start stop : ℕ) (insert : List ℕ) (its : IsUtf8 insert) (edit : IsEdit text start stop insert) where
-  pub ready_for : (old : List Token) (new : List ℕ) (kept : Bound) → old ≡ tokens_by first text → new ≡ apply text start stop insert → kept.number ≤ length old → kept.offset ≡ bound old kept.number → (0 < kept.number → has_two text kept.offset start ≡ true) → IsReady first old new kept start
+  pub ready_for : (old : List Token) (new : List ℕ) (kept : TokenStart) → old ≡ tokens_by first text → new ≡ apply text start stop insert → kept.index ≤ length old → kept.offset ≡ bound old kept.index → (0 < kept.index → has_two text kept.offset start ≡ true) → IsReady first old new kept start
   ready_for old new kept e f few at two =
-      let few' : kept.number ≤ length (tokens_by first text) = rw e at few in
-      let at' : kept.offset ≡ bound (tokens_by first text) kept.number = at ∙ ap (λ ts. bound ts kept.number) e in
+      let few' : kept.index ≤ length (tokens_by first text) = rw e at few in
+      let at' : kept.offset ≡ bound (tokens_by first text) kept.index = at ∙ ap (λ ts. bound ts kept.index) e in
       rw (e, f) (ready law text is start stop insert (apply text start stop insert) edit (edited text start stop insert is its edit) kept few' at' two)
 
   pub whole_for : (old : List Token) (new : List ℕ) (items : List Token) (number kept : ℕ) → old ≡ tokens_by first text → new ≡ apply text start stop insert → IsMet first old new stop (start + length insert) kept items number → items ++ drop number old ≡ tokens_by first (apply text start stop insert)

@@ -5,7 +5,7 @@ use Rattle.std.proofs.Math.Nat.{le-max_left, le-max_right, max-le}
 use Rattle.std.proofs.lemmas.Str.{IsUtf8-append, IsUtf8-drop, IsCharBoundary-at_seam, IsCharBoundary-from_drop}
 use Rattle.std.proofs.lemmas.Grind.{common_steps}
 use Rattle.rustc_lexer.specs.declared.relex.relexing.Relexed.{Relexed}
-use Rattle.rustc_lexer.specs.declared.relex.front.Bound.{Bound}
+use Rattle.rustc_lexer.specs.declared.relex.front.TokenStart.{TokenStart}
 use Rattle.rustc_lexer.specs.declared.relex.front.Meeting.{Meeting}
 use Rattle.rustc_lexer.specs.declared.relex.relexing.Change.{Change}
 use Rattle.rustc_lexer.specs.declared.relex.relexing.Relexing.{Relexing}
@@ -106,16 +106,16 @@ module _ {first : List ℕ → Token} (law : IsGrammar first) (before lengths in
   end_last offset at = grind (arith, damage_stop text change made_change, text_end.0, text_end.1, rises, bound_mono)
 
   -- what lexing from the kept front asks
-  ready : (kept : Bound) → IsBound old kept → (0 < kept.number → has_two before kept.offset change.start ≡ true) → IsReady first old text kept change.start
+  ready : (kept : TokenStart) → IsBound old kept → (0 < kept.index → has_two before kept.offset change.start ≡ true) → IsReady first old text kept change.start
   ready kept at two =
       ready_for law before is.edit_of.is_text change.start change.old_stop insert is.edit_of.inserted is.edit_of.is_edit old text kept refl is.edit_of.made at.0 at.1 two
 
   -- each bound before the kept front is before the edit
-  pub front_below : (kept : Bound) → IsBound old kept → (0 < kept.number → has_two before kept.offset change.start ≡ true) → (k : ℕ) → k < kept.number → bound old k + change.new_stop < max change.new_stop kept.offset + change.old_stop
+  pub front_below : (kept : TokenStart) → IsBound old kept → (0 < kept.index → has_two before kept.offset change.start ≡ true) → (k : ℕ) → k < kept.index → bound old k + change.new_stop < max change.new_stop kept.offset + change.old_stop
   front_below kept at two k less =
       omega (arith, le-max_left change.new_stop kept.offset, is.edit_of.is_edit.inside.start_le_stop, (ready kept at two).kept_before k less)
 
-  pub stands_first : (kept : Bound) (to : Meeting) → kept.number ≡ kept_front before old change.start → IsBound old kept → (0 < kept.number → has_two before kept.offset change.start ≡ true) → IsFollowed old change.old_stop change.new_stop kept.offset to.at to.met → (kept.offset < change.new_stop → to.at ≡ kept) → Stands first before change text record { front = kept; lexed = 0; back = to.at; at = kept.offset; met = to.met }
+  pub stands_first : (kept : TokenStart) (to : Meeting) → kept.index ≡ kept_front before old change.start → IsBound old kept → (0 < kept.index → has_two before kept.offset change.start ≡ true) → IsFollowed old change.old_stop change.new_stop kept.offset to.at to.met → (kept.offset < change.new_stop → to.at ≡ kept) → Stands first before change text record { front = kept; lexed = 0; back = to.at; at = kept.offset; met = to.met }
   stands_first kept to number at two followed stays = grind (arith, common_steps, ready, bound-same, meet_ge)
 
   module _ (at : Relexing) (stands : Stands first before change text at) where
@@ -128,12 +128,12 @@ module _ {first : List ℕ → Token} (law : IsGrammar first) (before lengths in
     to : IsLexedTo first text items at.at
     to = grind (arith, common_steps, long)
 
-    going : IsGoing first old text change.old_stop change.new_stop at.front.number items at.at at.back.number at.back.offset at.met
+    going : IsGoing first old text change.old_stop change.new_stop at.front.index items at.at at.back.index at.back.offset at.met
     going = record {
       to = to;
       kept_le = omega (arith, long);
-      search = ap (λ n. least_from (test first old text change.old_stop change.new_stop at.front.number) (length new - n) n) long
-          ∙ meet-skip old new change.old_stop change.new_stop at.front.number (known at) (omega arith) stands.inside stands.not_past;
+      search = ap (λ n. least_from (test first old text change.old_stop change.new_stop at.front.index) (length new - n) n) long
+          ∙ meet-skip old new change.old_stop change.new_stop at.front.index (known at) (omega arith) stands.inside stands.not_past;
       number_bound = stands.back_bound.0;
       offset_is = stands.back_bound.1;
       below = stands.below;
@@ -150,35 +150,35 @@ module _ {first : List ℕ → Token} (law : IsGrammar first) (before lengths in
     over_met out = grind (arith, common_steps, stands_inside, eqb-true)
 
     -- each bound that was passed is before a later offset too
-    pub below_later : (later : ℕ) → at.at ≤ later → (k : ℕ) → k < at.back.number → bound old k + change.new_stop < max change.new_stop later + change.old_stop
+    pub below_later : (later : ℕ) → at.at ≤ later → (k : ℕ) → k < at.back.index → bound old k + change.new_stop < max change.new_stop later + change.old_stop
     below_later later le k less = grind (arith, common_steps, max-le, le-max_left, le-max_right, stands.below k less)
 
-    pub is_met : at.met ≡ true → IsMet first old text change.old_stop change.new_stop at.front.number items at.back.number
-    is_met hit = going_met first old text change.old_stop change.new_stop at.front.number items at.at at.back.number at.back.offset at.met going hit
+    pub is_met : at.met ≡ true → IsMet first old text change.old_stop change.new_stop at.front.index items at.back.index
+    is_met hit = going_met first old text change.old_stop change.new_stop at.front.index items at.at at.back.index at.back.offset at.met going hit
 
-    met_by : at.met ≡ true → IsMet first old text change.old_stop (change.start + length insert) at.front.number items at.back.number
-    met_by hit = subst (λ end. IsMet first old text change.old_stop end at.front.number items at.back.number) is.edit_of.new_stop (is_met hit)
+    met_by : at.met ≡ true → IsMet first old text change.old_stop (change.start + length insert) at.front.index items at.back.index
+    met_by hit = subst (λ end. IsMet first old text change.old_stop end at.front.index items at.back.index) is.edit_of.new_stop (is_met hit)
 
     -- no more was lexed than the whole edit lexes
     pub few_lexed : at.lexed ≤ (relexed_of first before change.start change.old_stop insert).lexed
     few_lexed = grind (arith, common_steps, lexed_for)
 
     -- at the meeting: the counts are those of the edit, and the new tokens are whole
-    pub counts_met : at.met ≡ true → (length lengths ≡ length old) × (relexed_of first before change.start change.old_stop insert ≡ record { kept_front = at.front.number; lexed = at.lexed; kept_back = length old - at.back.number }) × IsWhole old new at
+    pub counts_met : at.met ≡ true → (length lengths ≡ length old) × (relexed_of first before change.start change.old_stop insert ≡ record { kept_front = at.front.index; lexed = at.lexed; kept_back = length old - at.back.index }) × IsWhole old new at
     counts_met hit =
         let met = met_by hit in
-        let counted : relexed_of first before change.start change.old_stop insert ≡ record { kept_front = at.front.number; lexed = length items - at.front.number; kept_back = length old - at.back.number } =
-        counts_for law before is.edit_of.is_text change.start change.old_stop insert is.edit_of.inserted is.edit_of.is_edit old text items at.back.number at.front.number refl is.edit_of.made stands.front_number met in
-        let lexed : length items - at.front.number ≡ at.lexed = omega (arith, long) in
-        let whole : items ++ drop at.back.number old ≡ new = whole_for law before is.edit_of.is_text change.start change.old_stop insert is.edit_of.inserted is.edit_of.is_edit old text items at.back.number at.front.number refl is.edit_of.made met ∙ ap (tokens_by first) (sym is.edit_of.made) in
-        let split : items ≡ take at.front.number old ++ take at.lexed (drop at.front.number new) = take-add at.front.number at.lexed new ∙ ap (λ (ts : List Token). ts ++ take at.lexed (drop at.front.number new)) (sym stands.front_same) in (
+        let counted : relexed_of first before change.start change.old_stop insert ≡ record { kept_front = at.front.index; lexed = length items - at.front.index; kept_back = length old - at.back.index } =
+        counts_for law before is.edit_of.is_text change.start change.old_stop insert is.edit_of.inserted is.edit_of.is_edit old text items at.back.index at.front.index refl is.edit_of.made stands.front_number met in
+        let lexed : length items - at.front.index ≡ at.lexed = omega (arith, long) in
+        let whole : items ++ drop at.back.index old ≡ new = whole_for law before is.edit_of.is_text change.start change.old_stop insert is.edit_of.inserted is.edit_of.is_edit old text items at.back.index at.front.index refl is.edit_of.made met ∙ ap (tokens_by first) (sym is.edit_of.made) in
+        let split : items ≡ take at.front.index old ++ take at.lexed (drop at.front.index new) = take-add at.front.index at.lexed new ∙ ap (λ (ts : List Token). ts ++ take at.lexed (drop at.front.index new)) (sym stands.front_same) in (
           ap (λ (ns : List ℕ). length ns) is.lengths_are ∙ length-map old (λ (t : Token). t.len),
-          counted ∙ ap (λ (n : ℕ). let r : Relexed = record { kept_front = at.front.number; lexed = n; kept_back = length old - at.back.number } in r) lexed,
-          sym (append_assoc (take at.front.number old) (take at.lexed (drop at.front.number new)) (drop at.back.number old)) ∙ (ap (λ (ts : List Token). ts ++ drop at.back.number old) (sym split) ∙ whole),
+          counted ∙ ap (λ (n : ℕ). let r : Relexed = record { kept_front = at.front.index; lexed = n; kept_back = length old - at.back.index } in r) lexed,
+          sym (append_assoc (take at.front.index old) (take at.lexed (drop at.front.index new)) (drop at.back.index old)) ∙ (ap (λ (ts : List Token). ts ++ drop at.back.index old) (sym split) ∙ whole),
         )
 
     -- the tokens that were lexed for it, behind the kept front
-    pub lexed_met : (tokens : List Token) → at.met ≡ true → at.lexed ≡ length tokens → drop at.front.number new ≡ tokens ++ drop (known at) new → IsMet first old text change.old_stop (change.start + length insert) at.front.number (take at.front.number old ++ tokens) at.back.number
+    pub lexed_met : (tokens : List Token) → at.met ≡ true → at.lexed ≡ length tokens → drop at.front.index new ≡ tokens ++ drop (known at) new → IsMet first old text change.old_stop (change.start + length insert) at.front.index (take at.front.index old ++ tokens) at.back.index
     lexed_met tokens hit lexed are = grind (arith, common_steps, take_at, take-add, met_by)
 
     -- one token more
@@ -197,7 +197,7 @@ module _ {first : List ℕ → Token} (law : IsGrammar first) (before lengths in
             front_same = stands.front_same;
             inside = omega (arith, count, more.number);
             offset = len ∙ (more.offset_is ∙ ap (bound new) count);
-            not_past = omega (arith, long, going_least first old text change.old_stop change.new_stop at.front.number law made_text items at.at at.back.number at.back.offset at.met going out (stands_inside out));
+            not_past = omega (arith, long, going_least first old text change.old_stop change.new_stop at.front.index law made_text items at.at at.back.index at.back.offset at.met going out (stands_inside out));
             met_is = followed.met_is;
             back_bound = followed.bound_is;
             not_begun = λ early. stays early ∙ stands.not_begun (omega arith);
@@ -222,11 +222,11 @@ step_offset {first} law text at token is cut more token_is =
     grind (arith, length-drop at text, token_is, (ap (λ (t : Token). t.len) token_is), drop-drop token.len at text, IsUtf8-drop, IsCharBoundary-from_drop)
 
 -- where nothing was lexed, all tokens past the front are left
-pub all_lexed : (new : List Token) (at : Relexing) (items : List Token) → items ≡ [] → at.lexed ≡ 0 → drop at.front.number new ≡ items ++ drop (known at) new
+pub all_lexed : (new : List Token) (at : Relexing) (items : List Token) → items ≡ [] → at.lexed ≡ 0 → drop at.front.index new ≡ items ++ drop (known at) new
 all_lexed new at items none zero_lexed = grind (arith, common_steps)
 
 -- and where one token more was lexed, those that are left are the ones behind it
-pub one_lexed : (new : List Token) (at past : Relexing) (items more : List Token) (token : Token) → past.front ≡ at.front → drop at.front.number new ≡ items ++ drop (known at) new → drop (known at) new ≡ token ∷ drop (known past) new → more ≡ items ++ token ∷ [] → drop past.front.number new ≡ more ++ drop (known past) new
+pub one_lexed : (new : List Token) (at past : Relexing) (items more : List Token) (token : Token) → past.front ≡ at.front → drop at.front.index new ≡ items ++ drop (known at) new → drop (known at) new ≡ token ∷ drop (known past) new → more ≡ items ++ token ∷ [] → drop past.front.index new ≡ more ++ drop (known past) new
 one_lexed new at past items more token front so next more_is = grind (arith, common_steps, append_assoc)
 
 -- where relexing is not over, more text is left

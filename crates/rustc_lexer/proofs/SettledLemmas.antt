@@ -4,7 +4,7 @@ use Rattle.std.proofs.lemmas.Bool.Decides.{leb_tells}
 use Rattle.std.proofs.lemmas.Str.{IsCharBoundary-from_drop, IsCharBoundary-end, IsUtf8-between}
 use Rattle.std.proofs.Math.Seq.{take-length}
 use Rattle.std.proofs.lemmas.Grind.{common_steps}
-use Rattle.rustc_lexer.specs.declared.relex.front.Bound.{Bound}
+use Rattle.rustc_lexer.specs.declared.relex.front.TokenStart.{TokenStart}
 use Rattle.rustc_lexer.specs.{Token}
 use Rattle.rustc_lexer.specs.Offsets.{IsBound}
 use Rattle.rustc_lexer.specs.Tokens.{bound, tokens_by}
@@ -86,15 +86,15 @@ cuts_by law text is = record { utf8 = is.utf8; cuts = λ k few. (boundary law te
 
 module _ (text : List ℕ) (tokens : List Token) (are : AreCuts text tokens) where
   -- what the search for it asks, from the end on
-  front_from_end : (read : List ℕ) (slice : List Token) → read ≡ text → slice ≡ tokens → IsFront text tokens (map (λ (t : Token). t.len) slice) read (length read) × IsBound tokens (record { number = length slice; offset = length read })
+  front_from_end : (read : List ℕ) (slice : List Token) → read ≡ text → slice ≡ tokens → IsFront text tokens (map (λ (t : Token). t.len) slice) read (length read) × IsBound tokens (record { index = length slice; offset = length read })
   front_from_end read slice e f = rw (e, f) (record { utf8 = are.utf8; cuts = are.cuts; lengths_are = refl; same = refl }, (omega arith, sym are.whole))
 
-  settled_at : (at : Bound) → at.number ≡ kept_front text tokens (length text) → IsBound tokens at → (0 < at.number → has_two text at.offset (length text) ≡ true) → IsSettled text tokens at.offset
+  settled_at : (at : TokenStart) → at.index ≡ kept_front text tokens (length text) → IsBound tokens at → (0 < at.index → has_two text at.offset (length text) ≡ true) → IsSettled text tokens at.offset
   settled_at at count is two = record {
-    at_bound = (at.number, is.0, sym is.1);
-    two = λ some. two (positive at.number is.1 some);
-    last = λ k few has. elim (leb_tells k at.number) [
-      | inl before ↦ omega (arith, bound_mono tokens k at.number before.1, is.1)
+    at_bound = (at.index, is.0, sym is.1);
+    two = λ some. two (positive at.index is.1 some);
+    last = λ k few has. elim (leb_tells k at.index) [
+      | inl before ↦ omega (arith, bound_mono tokens k at.index before.1, is.1)
       | inr after ↦ absurd (let kept : IsKept text tokens (length text) k (bound tokens k) = kept_from text tokens (length text) k (bound tokens k) are.utf8 are.cuts few refl (λ some. has) in omega (arith, kept.count, count, after.1))
     ];
   }
@@ -104,9 +104,9 @@ module _ (text : List ℕ) (tokens : List Token) (are : AreCuts text tokens) whe
       positive (suc n) e some = omega arith
 
   -- what the search answers
-  pub settled_by_front : (read : List ℕ) (slice : List Token) (at : Bound) → read ≡ text → slice ≡ tokens
-      → ((old : List ℕ) (ts : List Token) → IsFront old ts (map (λ (t : Token). t.len) slice) read (length read) → IsBound ts (record { number = length slice; offset = length read })
-      → (at.number ≡ kept_front old ts (length read)) × IsBound ts at × (0 < at.number → has_two old at.offset (length read) ≡ true))
+  pub settled_by_front : (read : List ℕ) (slice : List Token) (at : TokenStart) → read ≡ text → slice ≡ tokens
+      → ((old : List ℕ) (ts : List Token) → IsFront old ts (map (λ (t : Token). t.len) slice) read (length read) → IsBound ts (record { index = length slice; offset = length read })
+      → (at.index ≡ kept_front old ts (length read)) × IsBound ts at × (0 < at.index → has_two old at.offset (length read) ≡ true))
       → IsSettled text tokens at.offset
   settled_by_front read slice at e f found =
       let from = front_from_end read slice e f in

@@ -32,7 +32,7 @@ module _ {first : List ℕ → Token} (law : IsGrammar first) (before lengths in
     offset = s.offset;
     none_before = λ number back more less m.
         true≢false (sym (meeting-passes old new change.old_stop change.new_stop number (body_meets m))
-        ∙ least_from-none test (length new - at.front.number) at.front.number number more (let far = s.not_past in omega (arith, far, less)));
+        ∙ least_from-none test (length new - at.front.index) at.front.index number more (let far = s.not_past in omega (arith, far, less)));
     met = (
       λ hit. let m = passes-meeting old new change.old_stop change.new_stop (known at) s.inside (ap (meets_at old change.old_stop change.new_stop) (sym s.offset) ∙ (sym s.met_is ∙ hit)) in (length old - m.0, part_meets m.3),
       λ m. s.met_is ∙ (ap (meets_at old change.old_stop change.new_stop) s.offset ∙ meeting-passes old new change.old_stop change.new_stop (known at) (body_meets m.1)),
@@ -59,20 +59,20 @@ module _ {first : List ℕ → Token} (law : IsGrammar first) (before lengths in
     reached = λ past few. let far = u.reached past few in omega (arith, past, far);
   }
     where
-      front : take at.front.number old ≡ take at.front.number new
+      front : take at.front.index old ≡ take at.front.index new
       front =
           let e = is.edit_of in
           let same = front_same law before e.is_text change.start change.old_stop insert e.inserted e.is_edit in
-          ap (λ n. take n old) u.front ∙ (sym same ∙ (ap (λ n. take n (tokens_by first (apply before change.start change.old_stop insert))) (sym u.front) ∙ ap (λ (bytes : List ℕ). take at.front.number (tokens_by first bytes)) (sym e.made)))
+          ap (λ n. take n old) u.front ∙ (sym same ∙ (ap (λ n. take n (tokens_by first (apply before change.start change.old_stop insert))) (sym u.front) ∙ ap (λ (bytes : List ℕ). take at.front.index (tokens_by first bytes)) (sym e.made)))
 
-      not_past : known at ≤ meet old new change.old_stop change.new_stop at.front.number
-      not_past = elim (cases_lt (least_from test (length new - at.front.number) at.front.number) (known at)) [
+      not_past : known at ≤ meet old new change.old_stop change.new_stop at.front.index
+      not_past = elim (cases_lt (least_from test (length new - at.front.index) at.front.index) (known at)) [
         | inl less ↦
-            let j : ℕ = least_from test (length new - at.front.number) at.front.number in
+            let j : ℕ = least_from test (length new - at.front.index) at.front.index in
             let inside = u.inside in
-            let hit : test j ≡ true = least_from-hit test (length new - at.front.number) at.front.number (omega (arith, inside, less)) in
+            let hit : test j ≡ true = least_from-hit test (length new - at.front.index) at.front.index (omega (arith, inside, less)) in
             let m = passes-meeting old new change.old_stop change.new_stop j (omega (arith, inside, less)) hit in
-            absurd (u.none_before j (length old - m.0) (meet_ge old new change.old_stop change.new_stop at.front.number) less (part_meets m.3))
+            absurd (u.none_before j (length old - m.0) (meet_ge old new change.old_stop change.new_stop at.front.index) less (part_meets m.3))
         | inr more ↦ more
       ]
 

@@ -4,7 +4,7 @@ use Rattle.std.specs.Prelude.{ℕ, suc, ◌+◌, List, ◌++◌, take, drop, Boo
 use Rattle.std.specs.{List.position, Option.option_map_or}
 use Rattle.rustc_lexer.specs.{Edition, Token, TokenKind, Frontmatter}
 use Rattle.rustc_lexer.specs.Answers.{shebang, tokens_of}
-use Rattle.rustc_lexer.specs.LanguageText.{document, newest}
+use Rattle.rustc_lexer.specs.LanguageText.{newest, source}
 use Rattle.rustc_lexer.specs.Edits.{Layout}
 use Rattle.rustc_lexer.specs.Partition.{bound, tokens_by}
 
@@ -14,7 +14,7 @@ shebang_len text = unwrap_or (shebang text) 0
 
 -- the tokens of a document in an edition, without its shebang line
 abbrev pub document_tokens : Edition → List ℕ → List Token
-document_tokens edition text = tokens_of (document edition) (drop (shebang_len text) text)
+document_tokens edition text = tokens_of (source edition) (drop (shebang_len text) text)
 
 -- ---- head and body
 

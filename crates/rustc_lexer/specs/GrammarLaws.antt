@@ -45,7 +45,7 @@ reach kind w = 0
 -- from a value of this type, so a contract that names either rests on all of the laws. That value
 -- and the proofs are in laws/TheLaws.antt
 pub record TheLaws : Type 0 where
-  -- a text has exactly one list of tokens, as a document and as a part, in each edition
+  -- a text has exactly one list of tokens, as source and as a part, in each edition
   pub tokens : (mode : Mode) (text : Utf8) → TheOnly (IsText text) (AreTokens mode (chars text))
   -- a part that is not empty has exactly one first token
   pub first : (edition : Edition) (text : Utf8)

@@ -1,6 +1,6 @@
--- The grammar of whole texts: which tokens a text has in an edition, read as a document or as a
--- part of one. `w` and `next` are as in Language.antt, which has the tokens of the newest edition.
--- Older editions have other tokens in place of guarded strings, raw lifetimes and reserved
+-- The grammar of whole texts: which tokens a text has in an edition, read as the source of a file
+-- or as a part of it. `w` and `next` are as in Language.antt, which has the tokens of the newest
+-- edition. Older editions have other tokens in place of guarded strings, raw lifetimes and reserved
 -- prefixes, which rustc's lexer leaves to its caller (in the Rust Reference, see "2021 Edition
 -- differences" and "2024 Edition differences" of these). C strings and `k#` are the same tokens in
 -- all editions, although Rust has C strings only since 2021 (docs/EDITIONS.md, "What is left to a
@@ -60,33 +60,33 @@ pub data IsTokenIn (edition : Edition) (next : Chars) : TokenKind → Chars → 
 
 -- ---- how a text is read
 
--- a text is read in an edition, either as a document, which may begin with a frontmatter, or as a
--- part of one
+-- a text is read in an edition, either as source, which is a file past its shebang line and may
+-- begin with a frontmatter, or as a part of a file
 pub data Mode : Type 0 where
-  document : Edition → Mode
+  source : Edition → Mode
   part : Edition → Mode
 
 -- the mode for the flag of a call and its edition. A call that names no edition uses the newest one
 abbrev pub mode_in : FrontmatterAllowed → Edition → Mode
-mode_in Yes edition = document edition
+mode_in Yes edition = source edition
 mode_in No edition = part edition
 
 -- the edition of a mode
 abbrev pub mode_edition : Mode → Edition
-mode_edition (document edition) = edition
+mode_edition (source edition) = edition
 mode_edition (part edition) = edition
 
-abbrev pub is_document : Mode → Bool
-is_document (document edition) = true
-is_document (part edition) = false
+abbrev pub is_source : Mode → Bool
+is_source (source edition) = true
+is_source (part edition) = false
 
--- the mode of the text after a token of this kind. After white space or `Eof`, a document is still
--- read as a document. After any other token, the rest of it is read as a part
+-- the mode of the text after a token of this kind. After white space or `Eof`, source is still read
+-- as source. After any other token, the rest of it is read as a part
 abbrev pub mode_after : Mode → TokenKind → Mode
 mode_after (part edition) kind = part edition
-mode_after (document edition) Whitespace = document edition
-mode_after (document edition) Eof = document edition
-mode_after (document edition) kind = part edition
+mode_after (source edition) Whitespace = source edition
+mode_after (source edition) Eof = source edition
+mode_after (source edition) kind = part edition
 
 -- ---- its tokens
 
@@ -99,14 +99,14 @@ frontmatter_token opening bad_label body =
       len = bytes opening + bytes body;
     }
 
--- the tokens of these characters, none if there are no characters. If a document begins with a
+-- the tokens of these characters, none if there are no characters. If source begins with a
 -- frontmatter, the first token is that, and the text after it is read as a part. Otherwise the
 -- first is a token of the edition, and the tokens of the text after it follow
 pub data AreTokens : Mode → Chars → List Token → Type 0 where
   nothing : {mode : Mode} → AreTokens mode [] []
   something : {mode : Mode} {kind : TokenKind} {c : ℕ} {w next : Chars} {tokens : List Token}
       → IsTokenIn (mode_edition mode) next kind (c ∷ w)
-      → (is_document mode ≡ true → OpensNone (c ∷ w ++ next))
+      → (is_source mode ≡ true → OpensNone (c ∷ w ++ next))
       → AreTokens (mode_after mode kind) next tokens
       → AreTokens mode (c ∷ w ++ next) (record { kind = kind; len = bytes (c ∷ w) } ∷ tokens)
   frontmatter_first : {edition : Edition} {n : ℕ} {bad_label : Bool} {opening next : Chars}
@@ -114,7 +114,7 @@ pub data AreTokens : Mode → Chars → List Token → Type 0 where
       → IsOpeningBefore (body ++ next) n bad_label opening
       → IsBodyBefore next (endings n) body
       → AreTokens (part edition) next tokens
-      → AreTokens (document edition) (opening ++ (body ++ next))
+      → AreTokens (source edition) (opening ++ (body ++ next))
       (frontmatter_token opening bad_label body ∷ tokens)
 
 -- if the premise holds, the answer is allowed and no other is

@@ -1,20 +1,20 @@
 -- Offsets in a text and its tokens.
 use Rattle.std.specs.Prelude.{ℕ, ◌+◌, ◌<◌, ◌≤◌, List, length, ◌≡◌, ◌↔◌}
-use Rattle.rustc_lexer.specs.declared.relex.front.Bound.{Bound}
+use Rattle.rustc_lexer.specs.declared.relex.front.TokenStart.{TokenStart}
 use Rattle.rustc_lexer.specs.{Token}
 use Rattle.rustc_lexer.specs.Partition.{bound}
 
 -- `at` is a boundary of the tokens, by its number and its offset
-abbrev pub IsBound : List Token → Bound → Type 0
-IsBound tokens at = (at.number ≤ length tokens) × (at.offset ≡ bound tokens at.number)
+abbrev pub IsBound : List Token → TokenStart → Type 0
+IsBound tokens at = (at.index ≤ length tokens) × (at.offset ≡ bound tokens at.index)
 
 -- the token with this number and this start contains the byte at `offset`, if the first token
 -- begins at `first`
-pub record ContainsByte (first : ℕ) (tokens : List Token) (offset : ℕ) (at : Bound) : Type 0 where
-  pub number : at.number < length tokens
-  pub start : at.offset ≡ first + bound tokens at.number
+pub record ContainsByte (first : ℕ) (tokens : List Token) (offset : ℕ) (at : TokenStart) : Type 0 where
+  pub number : at.index < length tokens
+  pub start : at.offset ≡ first + bound tokens at.index
   pub begins : at.offset ≤ offset
-  pub ends : offset < first + bound tokens (at.number + 1)
+  pub ends : offset < first + bound tokens (at.index + 1)
 
 -- the tokens from number `from` up to number `to` are those that contain a byte of the range from
 -- `start` up to `stop`: that begin before its end, and end past its start. An empty range has no

@@ -33,13 +33,13 @@ pub record IsMadeOf (first : List ℕ → Token) (before lengths : List ℕ) (ed
 
 -- how many of the new tokens are known: those that are kept at the front, and those that were lexed
 abbrev pub known : Relexing → ℕ
-known at = at.front.number + at.lexed
+known at = at.front.index + at.lexed
 
 -- relexing can go on from these numbers
 pub record MayGoOn (text : List ℕ) (count : ℕ) (at : Relexing) : Type 0 where
   pub boundary : IsCharBoundary text at.at
-  pub number : at.back.number ≤ count
-  pub order : at.front.number ≤ at.back.number
+  pub number : at.back.index ≤ count
+  pub order : at.front.index ≤ at.back.index
   pub small : at.back.offset < 2 ^ 63
   pub few : at.lexed ≤ at.at
 
@@ -66,12 +66,12 @@ pub record TakesSteps (first : List ℕ → Token) (text : List ℕ) (past : ℕ
 -- last boundary; up to the end of the change it is that of the front
 pub record IsUnderWay (first : List ℕ → Token) (old : List ℕ) (change : Change) (text : List ℕ)
     (at : Relexing) : Type 0 where
-  pub front : at.front.number
+  pub front : at.front.index
       ≡ count_by (λ end. has_two old end change.start) (ends_from 0 (tokens_by first old))
   pub front_bound : IsBound (tokens_by first old) at.front
   pub inside : known at ≤ length (tokens_by first text)
   pub offset : at.at ≡ bound (tokens_by first text) (known at)
-  pub none_before : (number back : ℕ) → at.front.number ≤ number → number < known at
+  pub none_before : (number back : ℕ) → at.front.index ≤ number → number < known at
       → IsMeeting (part_by first old) (part_by first text) change.old_stop change.new_stop number
       back → ⊥
   pub met : (at.met ≡ true)
@@ -79,9 +79,9 @@ pub record IsUnderWay (first : List ℕ → Token) (old : List ℕ) (change : Ch
       change.new_stop (known at) back)
   pub back_bound : IsBound (tokens_by first old) at.back
   pub not_begun : at.at < change.new_stop → at.back ≡ at.front
-  pub passed : (k : ℕ) → k < at.back.number → bound (tokens_by first old) k + change.new_stop
+  pub passed : (k : ℕ) → k < at.back.index → bound (tokens_by first old) k + change.new_stop
       < max change.new_stop at.at + change.old_stop
-  pub reached : change.new_stop ≤ at.at → at.back.number < length (tokens_by first old)
+  pub reached : change.new_stop ≤ at.at → at.back.index < length (tokens_by first old)
       → at.at + change.old_stop ≤ at.back.offset + change.new_stop
 
 -- for each old text whose tokens have these lengths, and of which the change made this text:
@@ -98,8 +98,8 @@ GoesOn first lengths text change at at' =
 -- they met are together the new tokens
 abbrev pub IsWhole : List Token → List Token → Relexing → Type 0
 IsWhole old new at =
-    take at.front.number old
-    ++ (take at.lexed (drop at.front.number new) ++ drop at.back.number old) ≡ new
+    take at.front.index old
+    ++ (take at.lexed (drop at.front.index new) ++ drop at.back.index old) ≡ new
 
 -- ---- the head of a document, and how an edit of the document changes its body
 

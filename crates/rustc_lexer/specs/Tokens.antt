@@ -89,7 +89,7 @@ EndsFaulty kind len = Unit {0}
 abbrev pub HasSuffix : Token → Type 0
 HasSuffix token = HasSuffixWithin token × EndsFaulty token.kind token.len
 
--- an iterator at the start of a text, which it reads as a document or as a part in an edition. Its
+-- an iterator at the start of a text, which it reads as source or as a part in an edition. Its
 -- tokens, those of the text, partition it; a part can be lexed again from each token boundary; and
 -- the suffix and the text of each token are as its kind says
 pub record ReadsAs (allowed : FrontmatterAllowed) (edition : Edition) (text : List ℕ) (at : State) :

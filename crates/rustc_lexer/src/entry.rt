@@ -23,7 +23,7 @@ pub(crate) mod stepper;
 mod tally;
 
 pub use document::tokenize_document;
-pub use fill::Record;
+pub use fill::FromToken;
 pub use stepper::{Stepper, Steps};
 
 /// Returns an iterator over the tokens of a text, which may have at most `u32::MAX` bytes.

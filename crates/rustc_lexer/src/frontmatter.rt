@@ -6,7 +6,7 @@ ghost use Rattle.rustc_lexer.specs.{Edition};
 ghost use Rattle.rustc_lexer.specs.Classes;
 ghost use Rattle.rustc_lexer.specs.Classes.{Fits, begins, is_among, next_is};
 ghost use Rattle.rustc_lexer.specs.FrontmatterGrammar.{fence};
-ghost use Rattle.rustc_lexer.specs.LanguageText.{document, mode_in};
+ghost use Rattle.rustc_lexer.specs.LanguageText.{mode_in, source};
 ghost use Rattle.rustc_lexer.specs.means.Edition.{first_token_in};
 ghost use Rattle.rustc_lexer.specs.means.Frontmatter as spec;
 ghost use Rattle.rustc_lexer.specs.means.Least as least;

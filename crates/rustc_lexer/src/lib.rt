@@ -25,14 +25,15 @@ pub use classes::{
 pub use cursor::Cursor;
 pub use edition::{Edition, UnknownEdition};
 pub use entry::{
-    EditionTokens, Record, Stepper, Steps, Tokens, tokenize, tokenize_as, tokenize_document,
+    EditionTokens, FromToken, Stepper, Steps, Tokens, tokenize, tokenize_as, tokenize_document,
     tokenize_in,
 };
 pub use lexemes::ident::is_ident;
 pub use raw_check::{starts_raw, validate_raw_str};
 pub use relex::{
-    BodyChange, Bound, Change, Edit, EditStop, Head, JoinError, JoinedText, Lexed, LexedDocument,
-    LexedText, Measured, Piece, Pieces, Relexed, Relexing, Stopped, is_seam, settled, settled_in,
+    BodyChange, Change, Edit, EditStop, Head, JoinError, JoinedText, Lexed, LexedDocument,
+    LexedText, Measured, Piece, Pieces, Relexed, Relexing, Stopped, TokenStart, is_seam, settled,
+    settled_in,
 };
 pub use shebang::strip_shebang;
 pub use token::{

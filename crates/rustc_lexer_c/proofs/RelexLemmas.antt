@@ -26,7 +26,7 @@ use Rattle.rustc_lexer_c.specs.Numbers.{token_numbers}
 use Rattle.rustc_lexer_c.specs.Relex.{IsPassed, IsRelexBatch, change_of, front_of, lexed_before, numbers_of, relexing_of, written}
 
 -- the numbers are those of where it stands
-relex_back : (text : List ℕ) (n : ℕ) (at : Relexing) → at.back.number ≤ n → is_over text at ≡ at.met → relexing_of n (numbers_of text n at) ≡ at
+relex_back : (text : List ℕ) (n : ℕ) (at : Relexing) → at.back.index ≤ n → is_over text at ≡ at.met → relexing_of n (numbers_of text n at) ≡ at
 relex_back text n at few over = grind (arith, common_steps)
 
 -- what this call wrote comes behind what was written
@@ -35,7 +35,7 @@ written_more new front before count lexed buffer filled sum inside e =
     grind (arith, common_steps, length-take-le, take-add)
 
 -- the list that is put together is that of the new tokens
-list_whole : (tokens new : List Token) (at : Relexing) (n : ℕ) (old : List CToken) → n ≡ at.back.number → old ≡ map token_numbers tokens → IsWhole tokens new at → take at.front.number old ++ (written new at.front.number at.lexed ++ drop n old) ≡ map token_numbers new
+list_whole : (tokens new : List Token) (at : Relexing) (n : ℕ) (old : List CToken) → n ≡ at.back.index → old ≡ map token_numbers tokens → IsWhole tokens new at → take at.front.index old ++ (written new at.front.index at.lexed ++ drop n old) ≡ map token_numbers new
 list_whole tokens new at n old same e whole = grind (arith, common_steps, take-map, drop-map)
 
 module _ (edition : Edition) (text : List ℕ) (old : List CToken) (change : CEdit) (c : CRelexing) (buffer filled : List CToken) (count : ℕ) (begin at : Relexing) where
@@ -69,25 +69,25 @@ module _ (edition : Edition) (text : List ℕ) (old : List CToken) (change : CEd
         let lexed = steps.lexed in
         let over = over_is before insert is so.0 in
         let same = relex_back text (length old) at may.number over in
-        let number = ap (λ b. b.number) steps.front in
-        let at_begin : known begin ≡ at.front.number + lexed_before c = omega arith in
+        let number = ap (λ b. b.index) steps.front in
+        let at_begin : known begin ≡ at.front.index + lexed_before c = omega arith in
         let many : length lens ≡ length old = length-map old (λ (t : CToken). t.len) in
-        let left : tokens_by first (drop begin.at text) ≡ drop (at.front.number + lexed_before c) (tokens_of (part edition) text) = so.1 ∙ ap (λ n. drop n (tokens_of (part edition) text)) at_begin in
+        let left : tokens_by first (drop begin.at text) ≡ drop (at.front.index + lexed_before c) (tokens_of (part edition) text) = so.1 ∙ ap (λ n. drop n (tokens_of (part edition) text)) at_begin in
         let filled_is = tokens ∙ ap (λ (ts : List Token). map token_numbers (take count ts) ++ drop count buffer) left in
-        let back : length old - (length old - at.back.number) ≡ at.back.number = (let few = may.number in omega arith) in
+        let back : length old - (length old - at.back.index) ≡ at.back.index = (let few = may.number in omega arith) in
         record {
           passed = record {
             near = λ e. grind (arith, common_steps);
             under_way = λ _. subst (IsUnderWay first before (change_of change) text) (sym same) so.0;
           };
           tokens = filled_is;
-          more = written_more (tokens_of (part edition) text) at.front.number (lexed_before c) count at.lexed buffer filled (omega arith) so.0.inside filled_is;
+          more = written_more (tokens_of (part edition) text) at.front.index (lexed_before c) count at.lexed buffer filled (omega arith) so.0.inside filled_is;
           few = (relexed_of first before change.start change.old_stop insert, found, few_lexed law before lens insert text (change_of change) is at at_stands);
           counts = λ e.
               let met = counts_met law before lens insert text (change_of change) is at at_stands (grind (arith, common_steps)) in
-              subst (IsRelexed (part_by first) before change.start change.old_stop insert) (met.1 ∙ ap (λ (n : ℕ). let r : Relexed = record { kept_front = at.front.number; lexed = at.lexed; kept_back = n - at.back.number } in r) (sym met.0 ∙ many)) found;
+              subst (IsRelexed (part_by first) before change.start change.old_stop insert) (met.1 ∙ ap (λ (n : ℕ). let r : Relexed = record { kept_front = at.front.index; lexed = at.lexed; kept_back = n - at.back.index } in r) (sym met.0 ∙ many)) found;
           list = λ e are.
               let met = counts_met law before lens insert text (change_of change) is at at_stands (grind (arith, common_steps)) in
-              list_whole (tokens_by first before) (tokens_by first text) at (length old - (length old - at.back.number)) old back are met.2;
+              list_whole (tokens_by first before) (tokens_by first text) at (length old - (length old - at.back.index)) old back are met.2;
         };
   }

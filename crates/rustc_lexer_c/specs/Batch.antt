@@ -7,7 +7,7 @@ use Rattle.rustc_lexer.specs.declared.token.FrontmatterAllowed.TheVariants.{Yes,
 use Rattle.rustc_lexer.specs.declared.token.Token.{Token}
 pub use Rattle.rustc_lexer.specs.Tokens.{state_past}
 use Rattle.rustc_lexer.specs.LanguageCalls.{edition_of_year}
-use Rattle.rustc_lexer.specs.LanguageText.{Mode, document, newest, part, mode_edition, mode_in}
+use Rattle.rustc_lexer.specs.LanguageText.{Mode, source, newest, part, mode_edition, mode_in}
 use Rattle.rustc_lexer.specs.State.{State}
 use Rattle.rustc_lexer.specs.Tokens.{tokens_left}
 use Rattle.rustc_lexer_c.specs.declared.batch.CPlace.{CPlace}
@@ -25,10 +25,10 @@ abbrev pub allowed_number : FrontmatterAllowed → ℕ
 allowed_number No = 0
 allowed_number Yes = 1
 
--- whether the rest of the text may begin with a frontmatter: 1 at the start of a document, 0 in a
+-- whether the rest of the text may begin with a frontmatter: 1 at the start of source, 0 in a
 -- part
 abbrev pub mode_number : Mode → ℕ
-mode_number (document edition) = 1
+mode_number (source edition) = 1
 mode_number (part edition) = 0
 
 -- zeros, which stand for no token

@@ -1,6 +1,6 @@
 -- From an offset to a token, among tokens of which C gives the numbers.
 use Rattle.std.specs.Prelude.{ℕ, ◌≡◌, ◌+◌, ◌≤◌, Bool, true, false, List, length, map}
-use Rattle.rustc_lexer.specs.declared.relex.front.Bound.{Bound}
+use Rattle.rustc_lexer.specs.declared.relex.front.TokenStart.{TokenStart}
 use Rattle.rustc_lexer.specs.declared.token.Token.{Token}
 use Rattle.rustc_lexer.specs.Offsets.{ContainsByte}
 use Rattle.rustc_lexer.specs.Tokens.{bound}
@@ -8,16 +8,16 @@ use Rattle.rustc_lexer_c.specs.declared.token.CToken.{CToken}
 
 -- the numbers are those of tokens of these lengths. The first of them begins at `first`, and
 -- `near` is a boundary of them, by its number and its offset
-pub record ArePlaced (numbers : List CToken) (first : ℕ) (tokens : List Token) (near : Bound)
+pub record ArePlaced (numbers : List CToken) (first : ℕ) (tokens : List Token) (near : TokenStart)
     : Type 0 where
   pub lengths : map (λ (t : CToken). t.len) numbers ≡ map (λ (t : Token). t.len) tokens
-  pub number : near.number ≤ length tokens
-  pub offset : near.offset ≡ first + bound tokens near.number
+  pub number : near.index ≤ length tokens
+  pub offset : near.offset ≡ first + bound tokens near.index
 
 -- a call that looks for the token that contains the byte at `offset`, from the boundary `near` on.
 -- If there is one, `at` is where it begins. If there is none, `at` is `near`, and the byte is
 -- before or after all tokens
-pub record FindsToken (numbers : List CToken) (offset : ℕ) (near at : Bound) (found : Bool)
+pub record FindsToken (numbers : List CToken) (offset : ℕ) (near at : TokenStart) (found : Bool)
     : Type 0 where
   pub token : found ≡ true → (first : ℕ) (tokens : List Token)
       → ArePlaced numbers first tokens near → ContainsByte first tokens offset at

@@ -2,7 +2,7 @@
 use Rattle.std.specs.Prelude.{ℕ, ◌≡◌, ◌≢◌, ◌+◌, ◌-◌, ◌≤◌, ◌<◌, ◌^◌, if◌then◌else◌, nat_eq, List, ◌++◌, length, map, take, drop, Some, None}
 use Rattle.std.specs.Str.{IsUtf8}
 use Rattle.rustc_lexer.specs.declared.edition.Edition.{Edition}
-use Rattle.rustc_lexer.specs.declared.relex.front.Bound.{Bound}
+use Rattle.rustc_lexer.specs.declared.relex.front.TokenStart.{TokenStart}
 use Rattle.rustc_lexer.specs.declared.relex.relexing.Change.{Change}
 use Rattle.rustc_lexer.specs.declared.relex.relexing.Relexed.{Relexed}
 use Rattle.rustc_lexer.specs.declared.relex.relexing.Relexing.{Relexing}
@@ -35,15 +35,15 @@ abbrev pub change_of : CEdit → Change
 change_of c = record { start = c.start; old_stop = c.old_stop; new_stop = c.new_stop }
 
 -- the token boundary that the fields for the front give
-abbrev pub front_of : CRelexing → Bound
-front_of c = record { number = c.kept_front; offset = c.front_offset }
+abbrev pub front_of : CRelexing → TokenStart
+front_of c = record { index = c.kept_front; offset = c.front_offset }
 
 -- the state of relexing that the fields give, if there are `count` old tokens
 abbrev pub relexing_of : ℕ → CRelexing → Relexing
 relexing_of count c = record {
   front = front_of c;
   lexed = c.lexed;
-  back = record { number = count - c.kept_back; offset = c.back_offset };
+  back = record { index = count - c.kept_back; offset = c.back_offset };
   at = c.at;
   met = nat_eq c.stage STAGE_DONE;
 }
@@ -126,10 +126,10 @@ pub record Relexes (text : List ℕ) (old : List CToken) (edit : CEdit) (year : 
 -- the state of relexing as numbers
 abbrev pub numbers_of : List ℕ → ℕ → Relexing → CRelexing
 numbers_of text count at = record {
-  kept_front = at.front.number;
+  kept_front = at.front.index;
   front_offset = at.front.offset;
   lexed = at.lexed;
-  kept_back = count - at.back.number;
+  kept_back = count - at.back.index;
   back_offset = at.back.offset;
   at = at.at;
   stage = if is_over text at then STAGE_DONE else STAGE_MORE;

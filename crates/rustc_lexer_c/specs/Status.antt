@@ -5,7 +5,7 @@ use Rattle.rustc_lexer.specs.declared.edition.Edition.{Edition}
 use Rattle.rustc_lexer.specs.Classes.{IsText}
 use Rattle.rustc_lexer.specs.LanguageCalls.{edition_of_year}
 use Rattle.rustc_lexer_c.specs.declared.status.Refusal.{Refusal}
-use Rattle.rustc_lexer_c.specs.declared.status.Refusal.TheVariants.{NotUtf8, TooLong, BadPlace, NotRaw, BadEdition, BadEdit, BadMode, BadStyle, SmallBuffer}
+use Rattle.rustc_lexer_c.specs.declared.status.Refusal.TheVariants.{NotUtf8, TooLong, BadPlace, NotRaw, BadEdition, BadEdit, BadMode, BadFormat, SmallBuffer}
 
 -- the call was done
 abbrev pub OK : ℕ
@@ -19,7 +19,7 @@ refusal_number NotRaw = 4
 refusal_number BadEdition = 5
 refusal_number BadEdit = 6
 refusal_number BadMode = 7
-refusal_number BadStyle = 8
+refusal_number BadFormat = 8
 refusal_number SmallBuffer = 9
 
 -- why these bytes are not a text that can be lexed. Their length is tested first

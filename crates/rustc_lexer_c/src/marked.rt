@@ -5,7 +5,7 @@ ghost use Rattle.rustc_lexer.specs.Classes.{Fits};
 ghost use Rattle.rustc_lexer.specs.LanguageCalls.{edition_of_year};
 ghost use Rattle.rustc_lexer.specs.LanguageText.{part};
 ghost use Rattle.rustc_lexer.specs.Tokens.{tokens_of};
-ghost use Rattle.marks.specs.declared.style.Style.{Style};
+ghost use Rattle.marks.specs.declared.format.Format.{Format};
 ghost use Rattle.marks.specs.Marked.{marked_tokens};
 ghost use Rattle.rustc_lexer_c.specs.Marks as spec;
 ghost use Rattle.rustc_lexer_c.specs.declared.status.Refusal.TheVariants.{SmallBuffer};
@@ -14,25 +14,25 @@ ghost use Rattle.rustc_lexer_c.specs.Status.{OK, refusal_number};
 use crate::buffer::Buffer;
 use crate::relex::edition_of;
 use crate::status::{OK, Refusal, text_of};
-use marks::{Style, write_first_tokens};
+use marks::{Format, write_first_tokens};
 use rustc_lexer::Edition;
 use std::fmt;
 
 /// Writes the first `count` tokens of a text in an edition at the front of the buffer, each between the marks of a
-/// style, or all tokens if it has fewer. Writes the number of bytes into `written`.
+/// format, or all tokens if it has fewer. Writes the number of bytes into `written`.
 ///
 /// If the buffer is too small, `written` is 0, and the contents of the buffer are unspecified.
 #[unsafe(no_mangle)]
 pub extern "C" fn rustc_lexer_marks(
     text: &[u8],
-    style: u32,
+    format: u32,
     edition: u32,
     count: usize,
     buffer: &mut [u8],
     written: &mut usize,
 ) -> u32
-    ensures status { spec.IsMarksStatus text.now style edition result }
-    ensures marks { result ≡ OK → (kind : Style) → spec.style_of style ≡ Some kind
+    ensures status { spec.IsMarksStatus text.now format edition result }
+    ensures marks { result ≡ OK → (kind : Format) → spec.format_of format ≡ Some kind
         → (year : Edition) → edition_of_year edition ≡ Some year
         → spec.IsFront (marked_tokens kind year text.now (take count (tokens_of (part year) text.now)))
         buffer.old buffer.new written.new }
@@ -47,25 +47,25 @@ pub extern "C" fn rustc_lexer_marks(
     let Some(edition) = edition_of(edition) else {
         return Refusal::BadEdition.number();
     };
-    let Some(style) = style_of(style) else {
-        return Refusal::BadStyle.number();
+    let Some(format) = format_of(format) else {
+        return Refusal::BadFormat.number();
     };
     let mut output = Buffer::new(buffer);
-    let Ok(()) = fill(style, edition, count, text, &mut output) else {
+    let Ok(()) = fill(format, edition, count, text, &mut output) else {
         return Refusal::SmallBuffer.number();
     };
     *written = output.len;
     OK
 }
 
-/// Returns the style with this number, or `None` if there is none.
-fn style_of(number: u32) -> Option<Style>
-    ensures { result ≡ spec.style_of number }
+/// Returns the format with this number, or `None` if there is none.
+fn format_of(number: u32) -> Option<Format>
+    ensures { result ≡ spec.format_of number }
 {
     match number {
-        1 => Some(Style::Html),
-        2 => Some(Style::Colours),
-        3 => Some(Style::NoColours),
+        1 => Some(Format::Html),
+        2 => Some(Format::Colours),
+        3 => Some(Format::NoColours),
         _ => None,
     }
 }
@@ -73,7 +73,7 @@ fn style_of(number: u32) -> Option<Style>
 /// Writes marked tokens into a buffer of which nothing is written.
 #[tactic(auto, using(crate::proofs::OutputLemmas::written_front, std::proofs::lemmas::Grind::common_steps))]
 fn fill(
-    style: Style,
+    format: Format,
     edition: Edition,
     count: usize,
     text: &str,
@@ -82,9 +82,9 @@ fn fill(
     requires fits { Fits text.now }
     requires none { output.old.len ≡ 0 }
     ensures { OnOk result ((output.new.bytes.ghost_name ≡ output.old.bytes.ghost_name)
-        × spec.IsFront (marked_tokens style edition text.now
+        × spec.IsFront (marked_tokens format edition text.now
         (take count (tokens_of (part edition) text.now)))
         output.old.bytes.now output.new.bytes.now output.new.len) }
 {
-    write_first_tokens(style, edition, count, text, output)
+    write_first_tokens(format, edition, count, text, output)
 }

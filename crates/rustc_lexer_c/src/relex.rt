@@ -12,7 +12,7 @@ ghost use Rattle.rustc_lexer_c.specs.Status.{OK};
 
 use crate::status::{OK, Refusal, refuse, text_of, utf8_text_of};
 use crate::token::CToken;
-use rustc_lexer::{Bound, Change, Edition, Measured, Relexing, Steps};
+use rustc_lexer::{Change, Edition, Measured, Relexing, Steps, TokenStart};
 
 /// An edit that was made, by its places in bytes. It took out what was from `start` up to `old_stop` in the old
 /// text, and put in what is from `start` up to `new_stop` in the present text.
@@ -172,8 +172,8 @@ fn standing(text: &str, old: &[CToken], change: Change, relexing: &CRelexing) ->
         → spec.IsPassed first before change text.now (length old.now) relexing.now
         → IsUnderWay first before change text.now at)) }
 {
-    let front = Bound {
-        number: relexing.kept_front,
+    let front = TokenStart {
+        index: relexing.kept_front,
         offset: relexing.front_offset,
     };
     if relexing.stage == STAGE_BEGIN {
@@ -185,8 +185,8 @@ fn standing(text: &str, old: &[CToken], change: Change, relexing: &CRelexing) ->
     let at = Relexing {
         front,
         lexed: relexing.lexed,
-        back: Bound {
-            number: old.len() - relexing.kept_back,
+        back: TokenStart {
+            index: old.len() - relexing.kept_back,
             offset: relexing.back_offset,
         },
         at: relexing.at,
@@ -201,10 +201,10 @@ fn relexing_numbers(at: &Relexing, text: &str, old_count: usize) -> CRelexing
     ensures { result ≡ spec.numbers_of text.now old_count at.now }
 {
     CRelexing {
-        kept_front: at.front.number,
+        kept_front: at.front.index,
         front_offset: at.front.offset,
         lexed: at.lexed,
-        kept_back: old_count - at.back.number,
+        kept_back: old_count - at.back.index,
         back_offset: at.back.offset,
         at: at.at,
         stage: if at.is_over(text) {

@@ -24,8 +24,8 @@ pub(crate) enum Refusal {
     BadEdit = 6,
     /// No literal has the mode.
     BadMode = 7,
-    /// No style has the number.
-    BadStyle = 8,
+    /// No format has the number.
+    BadFormat = 8,
     /// The buffer has too little room. Its contents are then unspecified.
     SmallBuffer = 9,
 }

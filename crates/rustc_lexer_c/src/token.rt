@@ -3,7 +3,7 @@ ghost use Rattle.std.specs.Prelude.{◌≡◌};
 ghost use Rattle.rustc_lexer.specs.Kinds.{kind_entry};
 ghost use Rattle.rustc_lexer_c.specs.Numbers as numbers;
 
-use rustc_lexer::{DocStyle, LiteralKind, Record, Token, TokenKind};
+use rustc_lexer::{DocStyle, FromToken, LiteralKind, Token, TokenKind};
 
 /// A token in the form that C sees: its kind, the fields of the kind as one byte each, and its length. A byte
 /// without a field is 0.
@@ -28,13 +28,13 @@ pub struct CToken {
 }
 
 /// The record of a token is its numbers.
-impl Record for CToken {
+impl FromToken for CToken {
     ghost use Rattle.rustc_lexer_c.specs.Numbers.{token_numbers};
 
     ghost written = { token_numbers };
 
     #[inline(always)]
-    fn of(token: Token) -> CToken {
+    fn from_token(token: Token) -> CToken {
         if token.kind.has_fields() {
             return token_numbers(token);
         }

@@ -2,16 +2,16 @@
 //! What a run has to do, as its arguments say.
 use rattle_std::prelude::String;
 
-use marks::Style;
+use marks::Format;
 use rattle_std::str::FromStr;
 use rustc_lexer::erased::Edition;
 
 /// What a run has to do.
 #[derive(Clone, Copy, Debug, PartialEq, Eq)]
 pub enum Job {
-    /// Write the text of standard input in a style, lexed in an edition. The text may begin with
+    /// Write the text of standard input in a format, lexed in an edition. The text may begin with
     /// a frontmatter.
-    Show { style: Style, edition: Edition },
+    Show { format: Format, edition: Edition },
     /// Print the usage.
     Help,
     /// Print the version.
@@ -30,7 +30,7 @@ enum When {
 /// The options that were given, and `None` for each of the others.
 #[derive(Clone, Copy)]
 struct Options {
-    form: Option<Style>,
+    form: Option<Format>,
     edition: Option<Edition>,
     color: Option<When>,
 }
@@ -55,7 +55,7 @@ pub fn read_job(words: &[String], colours: bool) -> Result<Job, &str> {
     }
     let options = read_options(NO_OPTIONS, words)?;
     Ok(Job::Show {
-        style: style_of(options, colours),
+        format: format_of(options, colours),
         edition: options.edition.unwrap_or(Edition::NEWEST),
     })
 }
@@ -95,9 +95,9 @@ fn read_options(options: Options, words: &[String]) -> Result<Options, &str> {
 /// `Some(None)` if the option is there already.
 fn with_word(options: Options, word: &str) -> Option<Option<Options>> {
     if word == "--html" {
-        Some(in_form(options, Style::Html))
+        Some(in_form(options, Format::Html))
     } else if word == "--raw" {
-        Some(in_form(options, Style::Raw))
+        Some(in_form(options, Format::Raw))
     } else if word == "--color=auto" {
         Some(with_colours(options, When::Auto))
     } else if word == "--color=always" {
@@ -122,9 +122,9 @@ fn with_value<'a>(options: Options, name: &'a str, value: &'a str) -> Result<Opt
 }
 
 /// Adds `--html` or `--raw`. Returns `None` if one of these is there already.
-fn in_form(options: Options, style: Style) -> Option<Options> {
+fn in_form(options: Options, format: Format) -> Option<Options> {
     options.form.is_none().then_some(Options {
-        form: Some(style),
+        form: Some(format),
         ..options
     })
 }
@@ -145,10 +145,10 @@ fn with_colours(options: Options, when: When) -> Option<Options> {
     })
 }
 
-/// Returns the style that the options ask for.
-fn style_of(options: Options, colours: bool) -> Style {
-    if let Some(style) = options.form {
-        return style;
+/// Returns the format that the options ask for.
+fn format_of(options: Options, colours: bool) -> Format {
+    if let Some(format) = options.form {
+        return format;
     }
     let coloured = match options.color {
         None | Some(When::Auto) => colours,
@@ -156,9 +156,9 @@ fn style_of(options: Options, colours: bool) -> Style {
         Some(When::Never) => false,
     };
     if coloured {
-        Style::Colours
+        Format::Colours
     } else {
-        Style::NoColours
+        Format::NoColours
     }
 }
 

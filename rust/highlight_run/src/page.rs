@@ -1,7 +1,7 @@
 // Made by tools/erase from crates/highlight_run/src/page.rt: edit that file.
 //! The web page around a marked text.
 
-use marks::{Style, write_marked};
+use marks::{Format, write_marked};
 use rattle_std::fmt;
 use rustc_lexer::erased::Edition;
 
@@ -48,30 +48,30 @@ const FOOT: &str = "</pre>
 </html>
 ";
 
-/// Writes a whole marked text, inside a page if the style is HTML.
+/// Writes a whole marked text, inside a page if the format is HTML.
 pub fn write_text<W: fmt::Write>(
-    style: Style,
+    format: Format,
     edition: Edition,
     text: &str,
     output: &mut W,
 ) -> fmt::Result {
-    output.write_str(head(style))?;
-    write_marked(style, edition, text, output)?;
-    output.write_str(foot(style))
+    output.write_str(head(format))?;
+    write_marked(format, edition, text, output)?;
+    output.write_str(foot(format))
 }
 
 /// Returns what is written before the text.
-fn head(style: Style) -> &'static str {
-    match style {
-        Style::Html => HEAD,
-        Style::Colours | Style::NoColours | Style::Raw => "",
+fn head(format: Format) -> &'static str {
+    match format {
+        Format::Html => HEAD,
+        Format::Colours | Format::NoColours | Format::Raw => "",
     }
 }
 
 /// Returns what is written after the text.
-fn foot(style: Style) -> &'static str {
-    match style {
-        Style::Html => FOOT,
-        Style::Colours | Style::NoColours | Style::Raw => "",
+fn foot(format: Format) -> &'static str {
+    match format {
+        Format::Html => FOOT,
+        Format::Colours | Format::NoColours | Format::Raw => "",
     }
 }

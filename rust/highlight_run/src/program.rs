@@ -83,7 +83,7 @@ fn show<R: Read, W: Write>(
         Err(_) => return Err(Fault::Memory),
     };
     match read_job(words.as_slice(), colours) {
-        Ok(Job::Show { style, edition }) => run(alloc, style, edition, input, output),
+        Ok(Job::Show { format, edition }) => run(alloc, format, edition, input, output),
         Ok(Job::Help) => put(output, HELP),
         Ok(Job::Version) => put(output, VERSION),
         Err(word) => {

@@ -4,7 +4,7 @@ use rattle_std::prelude::String;
 
 use crate::page::write_text;
 use ends::{Fault, Watched, put, read_text};
-use marks::Style;
+use marks::Format;
 use rattle_std::alloc::Global;
 use rattle_std::fmt;
 use rattle_std::io::{Read, Write};
@@ -26,19 +26,24 @@ use rustc_lexer::erased::Edition;
 /// - `Fault::Write`: a write or the flush failed. A beginning of the output was written.
 pub fn run<R: Read, W: Write>(
     alloc: Global,
-    style: Style,
+    format: Format,
     edition: Edition,
     input: &mut Watched<R>,
     output: &mut Watched<W>,
 ) -> Result<(), Fault> {
     let text = read_text(alloc, input)?;
-    let made = print(alloc, style, edition, text.as_str()).map_err(|_| Fault::Memory)?;
+    let made = print(alloc, format, edition, text.as_str()).map_err(|_| Fault::Memory)?;
     put(output, made.as_str())
 }
 
 /// Returns the whole output for a text.
-fn print(alloc: Global, style: Style, edition: Edition, text: &str) -> Result<String, fmt::Error> {
+fn print(
+    alloc: Global,
+    format: Format,
+    edition: Edition,
+    text: &str,
+) -> Result<String, fmt::Error> {
     let mut made = String::new(alloc);
-    write_text(style, edition, text, &mut made)?;
+    write_text(format, edition, text, &mut made)?;
     Ok(made)
 }

@@ -7,16 +7,16 @@ use failing::{BYTES, Program, WHOLE, words_of};
 use highlight_run::program::{Start, program};
 use highlight_run::run::run;
 use highlight_run::{Job, read_job};
-use marks::Style::{self, Colours, Html, NoColours, Raw};
+use marks::Format::{self, Colours, Html, NoColours, Raw};
 use rattle_std::alloc::Global;
 use rattle_std::env::VarError::{self, NotPresent, NotUnicode, OutOfMemory};
 use rattle_std::io::ErrorKind;
 use rattle_std::prelude::String;
 use rustc_lexer::Edition::{self, E2015, E2018, E2021, E2024};
 
-/// Arguments with bars between them, whether the output is a terminal that takes colours, and the style and the edition
-/// that they ask for.
-const SHOWN: [(&str, bool, Style, Edition); 25] = [
+/// Arguments with bars between them, whether the output is a terminal that takes colours, and the format and the
+/// edition that they ask for.
+const SHOWN: [(&str, bool, Format, Edition); 25] = [
     ("", true, Colours, E2024),
     ("", false, NoColours, E2024),
     ("--html", false, Html, E2024),
@@ -78,8 +78,8 @@ const REFUSED: [(&str, &str); 27] = [
 /// Each form of arguments is read as its job; of others one is named.
 #[test]
 fn jobs() {
-    for (line, colours, style, edition) in SHOWN {
-        let job = Job::Show { style, edition };
+    for (line, colours, format, edition) in SHOWN {
+        let job = Job::Show { format, edition };
         assert_eq!(read_job(&words_of(line), colours), Ok(job), "{line}");
     }
     for (line, job) in [
@@ -162,12 +162,15 @@ fn help_and_version() {
     }
 }
 
-/// A run writes the text in its style and edition, for a page with what stands around it.
+/// A run writes the text in its format and edition, for a page with what stands around it.
 #[test]
 fn runs() {
-    let written = |style, edition| {
+    let written = |format, edition| {
         let (mut input, mut output) = (BYTES.reader(b"#\"a\""), BYTES.writer());
-        assert_eq!(run(Global, style, edition, &mut input, &mut output), Ok(()));
+        assert_eq!(
+            run(Global, format, edition, &mut input, &mut output),
+            Ok(())
+        );
         std::string::String::from_utf8(output.into_inner().bytes).unwrap()
     };
     assert_eq!(written(NoColours, E2015), "#\"a\"");

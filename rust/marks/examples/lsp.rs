@@ -2,7 +2,7 @@
 //! all of them, what changed since the last answer, or those in view. `cargo run -p verified-marks --example lsp -- FILE` prints
 //! all, and what each line of standard input changes: LINE CHARACTER LINE CHARACTER TEXT.
 
-use marks::{Class, Edition, Keyword, class_of, keyword_in};
+use marks::{Class, Edition, KeywordKind, class_of, keyword_kind};
 use rustc_lexer::{EditError, LexedDocument, Piece, Pieces, Relexed};
 use std::error::Error;
 use std::ops::Range;
@@ -72,7 +72,7 @@ impl Document {
         let back = back - old.position(|&count| count > 0).map_or(0, |at| at + 1);
         let (end, old_end) = (self.lexed.tokens().len() - back, self.counts.len() - back);
         let place = self.place_before(front).unwrap_or(0);
-        let (data, counts) = self.encode(place, self.lexed.pieces_of(front..end));
+        let (data, counts) = self.encode(place, self.lexed.pieces_of_tokens(front..end));
         let delta = Delta {
             start: self.counts[..front].iter().sum(),
             deleted: self.counts.splice(front..old_end, counts).sum(),
@@ -85,13 +85,17 @@ impl Document {
     /// Returns where the last part begins that is shown of the tokens before this one.
     fn place_before(&self, number: usize) -> Option<usize> {
         let shown = self.counts[..number].iter().rposition(|&count| count > 0)?;
-        Some(parts(self.lexed.pieces_of(shown..).next()?).last()?.start)
+        Some(
+            parts(self.lexed.pieces_of_tokens(shown..).next()?)
+                .last()?
+                .start,
+        )
     }
 
     /// Returns the numbers of all tokens that have a part in the range, like the lines in view.
     pub fn viewport(&self, range: Range<Position>) -> Vec<u32> {
         let range = self.offset(range.start)..self.offset(range.end);
-        self.encode(0, self.lexed.pieces_in(range)).0
+        self.encode(0, self.lexed.pieces_in_bytes(range)).0
     }
 
     /// Returns the offset of a position. One past the end of a line, or of the text, is that end.
@@ -143,7 +147,7 @@ fn parts(piece: Piece<'_>) -> impl Iterator<Item = Range<usize>> {
 
 /// Returns type and modifiers of a token. Blanks, symbols and plain names have none: the client colours them.
 fn paint(piece: Piece<'_>, edition: Edition) -> Option<[u32; 2]> {
-    let word = keyword_in(piece.text, edition);
+    let word = keyword_kind(piece.text, edition);
     match class_of(piece.token.kind, piece.text, edition) {
         Class::Comment => Some([0, 0]),
         Class::Doc => Some([0, 1]),
@@ -151,7 +155,7 @@ fn paint(piece: Piece<'_>, edition: Edition) -> Option<[u32; 2]> {
         Class::Text => Some([3, 0]),
         Class::Number => Some([4, 0]),
         Class::Lifetime => Some([5, 0]),
-        _ => matches!(word, Some(Keyword::Strict | Keyword::Reserved)).then_some([1, 0]),
+        _ => matches!(word, Some(KeywordKind::Strict | KeywordKind::Reserved)).then_some([1, 0]),
     }
 }
 

@@ -2,10 +2,10 @@
 //! malformed tokens.
 //!
 //! ```
-//! use marks::{Edition, Style, write_marked};
+//! use marks::{Edition, Format, write_marked};
 //!
 //! let mut page = String::new();
-//! write_marked(Style::Html, Edition::E2024, "let x = 'a", &mut page).unwrap();
+//! write_marked(Format::Html, Edition::E2024, "let x = 'a", &mut page).unwrap();
 //! assert_eq!(
 //!     page,
 //!     "<span class=\"keyword\">let</span> x = \
@@ -13,8 +13,8 @@
 //! );
 //! ```
 //!
-//! [`class_of`], [`fault_of`], [`keyword_in`] and [`inside`] tell the same of a single token, for those who show it in their
-//! own way.
+//! [`class_of`], [`fault_of`], [`keyword_kind`] and [`literal_contents`] tell the same of a single token, for those who
+//! show it in their own way.
 //!
 //! Nothing here allocates, and the crate needs no `std`.
 //!
@@ -47,7 +47,7 @@
 pub mod erased;
 
 #[doc(inline)]
-pub use erased::{Class, Fault, Keyword, Style, class_of, inside, keyword_in};
+pub use erased::{Class, Fault, Format, KeywordKind, class_of, keyword_kind, literal_contents};
 pub use rustc_lexer::Edition;
 
 use core::fmt;
@@ -74,7 +74,7 @@ fn fitting(text: &str) -> &str {
 /// let text = "---\nname\n";
 /// let token = rustc_lexer::tokenize_document(text, Edition::E2024).next().unwrap();
 /// let fault = fault_of(token.kind, text).unwrap();
-/// assert_eq!(fault, Fault::OpenFrontmatter);
+/// assert_eq!(fault, Fault::UnclosedFrontmatter);
 /// assert_eq!(
 ///     fault.to_string(),
 ///     "nothing closes this frontmatter: a line of as many dashes would"
@@ -94,13 +94,13 @@ pub fn fault_of(kind: TokenKind, text: &str) -> Option<Fault> {
 /// between its marks. The file may begin with a frontmatter, and with a byte order mark, which is no token here.
 ///
 /// In a page, U+0000 and carriage returns are entities; elsewhere control characters but tabs and line ends are shown
-/// as symbols, like `␛`, since a terminal obeys them, unless the style is [`Style::Raw`].
+/// as symbols, like `␛`, since a terminal obeys them, unless the format is [`Format::Raw`].
 ///
 /// ```
-/// use marks::{Edition, Style, write_marked};
+/// use marks::{Edition, Format, write_marked};
 ///
 /// let mut page = String::new();
-/// write_marked(Style::Html, Edition::E2024, "#!/bin/sh\nfn", &mut page).unwrap();
+/// write_marked(Format::Html, Edition::E2024, "#!/bin/sh\nfn", &mut page).unwrap();
 /// assert_eq!(
 ///     page,
 ///     "<span class=\"comment\">#!/bin/sh</span>\n<span class=\"keyword\">fn</span>"
@@ -117,12 +117,12 @@ pub fn fault_of(kind: TokenKind, text: &str) -> Option<Fault> {
 #[doc(alias = "highlight")]
 #[track_caller]
 pub fn write_marked<W: fmt::Write>(
-    style: Style,
+    format: Format,
     edition: Edition,
     text: &str,
     output: &mut W,
 ) -> fmt::Result {
-    erased::write_marked(style, edition, fitting(text), output)
+    erased::write_marked(format, edition, fitting(text), output)
 }
 
 /// Writes the first `count` tokens of a text in an edition, or all if it has fewer, each between its marks. The text is
@@ -132,12 +132,12 @@ pub fn write_marked<W: fmt::Write>(
 /// most two characters after it.
 ///
 /// ```
-/// use marks::{Edition, Style, write_first_tokens};
+/// use marks::{Edition, Format, write_first_tokens};
 ///
 /// let mut seen = String::new();
-/// write_first_tokens(Style::Html, Edition::E2024, 2, "a < b", &mut seen).unwrap();
+/// write_first_tokens(Format::Html, Edition::E2024, 2, "a < b", &mut seen).unwrap();
 /// assert_eq!(seen, "a ");
-/// write_first_tokens(Style::Html, Edition::E2024, 9, "< b", &mut seen).unwrap();
+/// write_first_tokens(Format::Html, Edition::E2024, 9, "< b", &mut seen).unwrap();
 /// assert_eq!(seen, "a &lt; b");
 /// ```
 ///
@@ -151,11 +151,11 @@ pub fn write_marked<W: fmt::Write>(
 #[doc(alias = "highlight")]
 #[track_caller]
 pub fn write_first_tokens<W: fmt::Write>(
-    style: Style,
+    format: Format,
     edition: Edition,
     count: usize,
     text: &str,
     output: &mut W,
 ) -> fmt::Result {
-    erased::write_first_tokens(style, edition, count, fitting(text), output)
+    erased::write_first_tokens(format, edition, count, fitting(text), output)
 }

@@ -1,7 +1,7 @@
 //! Where a call with a text that is too long panics: at the caller's line.
 #![cfg(target_pointer_width = "64")]
 
-use marks::{Edition, Style, fault_of, write_first_tokens, write_marked};
+use marks::{Edition, Format, fault_of, write_first_tokens, write_marked};
 use rustc_lexer::TokenKind;
 use std::panic::{self, AssertUnwindSafe, catch_unwind};
 use std::sync::Mutex;
@@ -31,13 +31,13 @@ fn a_text_that_is_too_long() {
     let mut output = String::new();
     panics_here!(fault_of(TokenKind::Ident, &long));
     panics_here!(write_marked(
-        Style::Html,
+        Format::Html,
         Edition::E2024,
         &long,
         &mut output
     ));
     panics_here!(write_first_tokens(
-        Style::Html,
+        Format::Html,
         Edition::E2024,
         1,
         &long,

@@ -5,7 +5,7 @@
 mod lsp;
 
 use lsp::{Delta, Document, Position, TYPES};
-use marks::{Class, Edition, Keyword, class_of, keyword_in};
+use marks::{Class, Edition, KeywordKind, class_of, keyword_kind};
 use rustc_lexer::{EditError, tokenize_document};
 use std::ops::Range;
 
@@ -40,8 +40,8 @@ fn positions(text: &str, range: &Range<usize>) -> Range<Position> {
 }
 
 /// The type and the modifiers of a token, by the names of types.
-fn paint(class: Class, word: Option<Keyword>) -> Option<(&'static str, u32)> {
-    if let Some(Keyword::Strict | Keyword::Reserved) = word {
+fn paint(class: Class, word: Option<KeywordKind>) -> Option<(&'static str, u32)> {
+    if let Some(KeywordKind::Strict | KeywordKind::Reserved) = word {
         return Some(("keyword", 0));
     }
     match class {
@@ -69,7 +69,7 @@ fn parts(text: &str) -> Vec<Part> {
         let word = &text[range.clone()];
         let Some((name, modifiers)) = paint(
             class_of(token.kind, word, EDITION),
-            keyword_in(word, EDITION),
+            keyword_kind(word, EDITION),
         ) else {
             continue;
         };

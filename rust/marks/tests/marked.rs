@@ -1,15 +1,15 @@
 //! What is written of a whole text: colours and tags, shebang lines, faults over lines, control characters, editions.
 
 use marks::Edition::{self, E2015, E2018, E2021, E2024};
-use marks::Style::{self, Colours, Html, NoColours, Raw};
+use marks::Format::{self, Colours, Html, NoColours, Raw};
 use marks::write_marked;
 
-/// A style, an edition, a text, and what is written.
-type Row<'a> = (Style, Edition, &'a str, &'a str);
+/// A format, an edition, a text, and what is written.
+type Row<'a> = (Format, Edition, &'a str, &'a str);
 
 /// Colours, escapes, tags and entities.
 #[rustfmt::skip]
-const STYLES: [Row<'_>; 16] = [
+const FORMATS: [Row<'_>; 16] = [
     (Colours, E2024, "", ""),
     (Colours, E2024, "let x: Vec<u8> = 'é'; // b", "\x1b[35mlet\x1b[0m x: \x1b[1;34mVec\x1b[0m<u8> = \x1b[32m'é'\x1b[0m; \x1b[90m// b\x1b[0m"),
     (Colours, E2024, "&'a 1 /// d", "&\x1b[33m'a\x1b[0m \x1b[36m1\x1b[0m \x1b[36m/// d\x1b[0m"),
@@ -105,14 +105,14 @@ const EDITIONS: [Row<'_>; 16] = [
 /// Each text is written as its row says.
 #[test]
 fn rows() {
-    for (style, edition, text, wanted) in STYLES
+    for (format, edition, text, wanted) in FORMATS
         .into_iter()
         .chain(LINES)
         .chain(CONTROLS)
         .chain(EDITIONS)
     {
         let mut written = String::new();
-        write_marked(style, edition, text, &mut written).unwrap();
+        write_marked(format, edition, text, &mut written).unwrap();
         assert_eq!(written, wanted, "{text} in {edition:?}");
     }
 }

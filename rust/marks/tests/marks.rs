@@ -1,23 +1,23 @@
-//! The calls by hand: what they write, in each style and edition, and an output that fails.
+//! The calls by hand: what they write, in each format and edition, and an output that fails.
 
 use core::fmt;
-use marks::{Edition, Style, inside, write_first_tokens, write_marked};
+use marks::{Edition, Format, literal_contents, write_first_tokens, write_marked};
 use rustc_lexer::{FrontmatterAllowed, tokenize};
 use rustc_literal_escaper::Mode;
 
 const NEWEST: Edition = Edition::NEWEST;
 
 /// What is written of the first tokens of a text.
-fn first(style: Style, edition: Edition, count: usize, text: &str) -> String {
+fn first(format: Format, edition: Edition, count: usize, text: &str) -> String {
     let mut written = String::new();
-    write_first_tokens(style, edition, count, text, &mut written).unwrap();
+    write_first_tokens(format, edition, count, text, &mut written).unwrap();
     written
 }
 
 /// What is written of a whole text.
-fn whole(style: Style, edition: Edition, text: &str) -> String {
+fn whole(format: Format, edition: Edition, text: &str) -> String {
     let mut written = String::new();
-    write_marked(style, edition, text, &mut written).unwrap();
+    write_marked(format, edition, text, &mut written).unwrap();
     written
 }
 
@@ -27,13 +27,13 @@ fn each_style_has_its_marks() {
     let page = "<span class=\"keyword\">let</span> <mark title=\"no token begins with this character\">\u{b7}</mark>";
     let colours = "\x1b[35mlet\x1b[0m \x1b[4;31m\u{b7}\x1b[0;31m [<- no token begins with this character]\x1b[0m";
     let plain = "let \u{b7} [<- no token begins with this character]";
-    for (style, wanted) in [
-        (Style::Html, page),
-        (Style::Colours, colours),
-        (Style::NoColours, plain),
+    for (format, wanted) in [
+        (Format::Html, page),
+        (Format::Colours, colours),
+        (Format::NoColours, plain),
     ] {
-        assert_eq!(whole(style, NEWEST, text), wanted);
-        assert_eq!(first(style, NEWEST, 3, text), wanted);
+        assert_eq!(whole(format, NEWEST, text), wanted);
+        assert_eq!(first(format, NEWEST, 3, text), wanted);
     }
 }
 
@@ -56,7 +56,7 @@ fn what_is_between_the_quotes() {
         ("a", None),
     ] {
         let kind = tokenize(text, FrontmatterAllowed::No).next().unwrap().kind;
-        let found = inside(kind, text).map(|(mode, range)| (mode, &text[range]));
+        let found = literal_contents(kind, text).map(|(mode, range)| (mode, &text[range]));
         assert_eq!(found, wanted, "of {text}");
     }
 }
@@ -73,7 +73,7 @@ fn where_it_is_between_the_quotes() {
         ("br\"a\"", 3..4),
     ] {
         let kind = tokenize(text, FrontmatterAllowed::No).next().unwrap().kind;
-        assert_eq!(inside(kind, text).unwrap().1, wanted, "of {text}");
+        assert_eq!(literal_contents(kind, text).unwrap().1, wanted, "of {text}");
     }
 }
 
@@ -81,9 +81,9 @@ fn where_it_is_between_the_quotes() {
 fn a_part_has_no_shebang_line() {
     let text = "#!/a\nb";
     let marked = "<span class=\"comment\">#!/a</span>\nb";
-    assert_eq!(whole(Style::Html, NEWEST, text), marked);
+    assert_eq!(whole(Format::Html, NEWEST, text), marked);
     for count in [9, usize::MAX] {
-        assert_eq!(first(Style::Html, NEWEST, count, text), text);
+        assert_eq!(first(Format::Html, NEWEST, count, text), text);
     }
 }
 
@@ -100,40 +100,40 @@ fn so_many_tokens_are_written() {
         #[cfg(target_pointer_width = "64")]
         (1 << 32, "a+1"),
     ] {
-        let written = first(Style::NoColours, NEWEST, count, "a+1");
+        let written = first(Format::NoColours, NEWEST, count, "a+1");
         assert_eq!(written, wanted, "{count} tokens");
     }
     let many = ";".repeat(70_000);
     for count in [69_999, 70_000, 80_000] {
-        let written = first(Style::NoColours, NEWEST, count, &many);
+        let written = first(Format::NoColours, NEWEST, count, &many);
         assert!(written == many[..count.min(70_000)], "{count} tokens");
     }
-    assert!(whole(Style::Html, NEWEST, &many) == many);
+    assert!(whole(Format::Html, NEWEST, &many) == many);
     let mark = "\u{feff} [<- no token begins with this character]";
-    assert_eq!(first(Style::NoColours, NEWEST, 1, "\u{feff}a"), mark);
+    assert_eq!(first(Format::NoColours, NEWEST, 1, "\u{feff}a"), mark);
 }
 
 #[test]
 fn an_edition_has_its_tokens() {
     let lifetime =
         "<mark title=\"no lifetime has this prefix\"><span class=\"lifetime\">'a</span></mark>#b";
-    assert_eq!(first(Style::Html, Edition::E2021, 3, "'a#b"), lifetime);
+    assert_eq!(first(Format::Html, Edition::E2021, 3, "'a#b"), lifetime);
     let older = "<span class=\"lifetime\">'a</span>#b";
-    assert_eq!(first(Style::Html, Edition::E2018, 3, "'a#b"), older);
-    assert_eq!(whole(Style::Html, Edition::E2021, "'a#b"), lifetime);
-    assert_eq!(whole(Style::Html, Edition::E2018, "'a#b"), older);
-    assert_eq!(first(Style::Colours, Edition::E2015, 1, "dyn A"), "dyn");
+    assert_eq!(first(Format::Html, Edition::E2018, 3, "'a#b"), older);
+    assert_eq!(whole(Format::Html, Edition::E2021, "'a#b"), lifetime);
+    assert_eq!(whole(Format::Html, Edition::E2018, "'a#b"), older);
+    assert_eq!(first(Format::Colours, Edition::E2015, 1, "dyn A"), "dyn");
     let keyword = "\x1b[35mdyn\x1b[0m";
-    assert_eq!(first(Style::Colours, Edition::E2018, 1, "dyn A"), keyword);
+    assert_eq!(first(Format::Colours, Edition::E2018, 1, "dyn A"), keyword);
     for &edition in Edition::ALL {
         let keyword = "\x1b[35mfn\x1b[0m";
         assert_eq!(
-            first(Style::Colours, edition, 1, "fn"),
+            first(Format::Colours, edition, 1, "fn"),
             keyword,
             "in {edition}"
         );
         assert_eq!(
-            whole(Style::Colours, edition, "fn"),
+            whole(Format::Colours, edition, "fn"),
             keyword,
             "in {edition}"
         );
@@ -144,10 +144,10 @@ fn an_edition_has_its_tokens() {
 #[test]
 fn a_whole_text_has_a_frontmatter() {
     let text = "---\na\n---\nfn";
-    let marked = whole(Style::Html, NEWEST, text);
+    let marked = whole(Format::Html, NEWEST, text);
     let (front, rest) = marked.split_once(">---\na\n---</span>\n").unwrap();
     assert!(front.starts_with("<span") && rest.starts_with("<span"));
-    assert_eq!(first(Style::Html, NEWEST, 3, text), "---");
+    assert_eq!(first(Format::Html, NEWEST, 3, text), "---");
 }
 
 /// An output that takes so many calls.
@@ -163,10 +163,10 @@ impl fmt::Write for Few {
 #[test]
 fn an_error_is_one_of_the_output() {
     let takes = |calls, count| {
-        write_first_tokens(Style::Html, NEWEST, count, "a+1", &mut Few(calls)).is_ok()
+        write_first_tokens(Format::Html, NEWEST, count, "a+1", &mut Few(calls)).is_ok()
     };
     assert!(takes(0, 0) && !takes(0, 1) && takes(3, 1) && !takes(3, 2));
-    let marked = |calls, text| write_marked(Style::Html, NEWEST, text, &mut Few(calls)).is_ok();
+    let marked = |calls, text| write_marked(Format::Html, NEWEST, text, &mut Few(calls)).is_ok();
     assert!(marked(0, "") && !marked(0, "a+1") && !marked(3, "a+1") && marked(99, "a+1"));
     assert!(!marked(0, "#!/a") && marked(99, "#!/a"), "a shebang line");
 }
@@ -179,9 +179,9 @@ fn a_text_that_is_too_long() {
     // SAFETY: U+0000 is one byte that is 0.
     let text = unsafe { std::str::from_utf8_unchecked(&zeros) };
     let calls: [&dyn Fn() -> fmt::Result; 3] = [
-        &|| write_marked(Style::Html, NEWEST, text, &mut Few(0)),
-        &|| write_first_tokens(Style::Html, NEWEST, 1, text, &mut Few(0)),
-        &|| write_first_tokens(Style::Html, NEWEST, 0, text, &mut Few(0)),
+        &|| write_marked(Format::Html, NEWEST, text, &mut Few(0)),
+        &|| write_first_tokens(Format::Html, NEWEST, 1, text, &mut Few(0)),
+        &|| write_first_tokens(Format::Html, NEWEST, 0, text, &mut Few(0)),
     ];
     for call in calls {
         let said = std::panic::catch_unwind(std::panic::AssertUnwindSafe(call)).unwrap_err();
@@ -189,12 +189,12 @@ fn a_text_that_is_too_long() {
         assert_eq!(said.downcast_ref::<&str>(), Some(&wanted));
     }
     // One byte fewer fits. This call reads only the front of it.
-    assert!(write_first_tokens(Style::Html, NEWEST, 0, &text[1..], &mut Few(0)).is_ok());
+    assert!(write_first_tokens(Format::Html, NEWEST, 0, &text[1..], &mut Few(0)).is_ok());
 }
 
-/// A style may be a key of a map.
+/// A format may be a key of a map.
 #[test]
 fn a_style_is_a_key() {
     fn is_key<T: Copy + Eq + std::hash::Hash>() {}
-    is_key::<Style>();
+    is_key::<Format>();
 }

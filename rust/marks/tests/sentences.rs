@@ -1,6 +1,6 @@
 //! The sentence about each fault, behind the stretch of a text that has it.
 
-use marks::{Edition, Style, write_marked};
+use marks::{Edition, Format, write_marked};
 
 /// What is written of texts: each of these without its sentences.
 const WRITTEN: [&str; 79] = [
@@ -106,7 +106,7 @@ fn each_fault_has_its_sentence() {
     let long = format!("{dashes} [<- {sentence}]\n{dashes}\n");
     for wanted in WRITTEN.into_iter().chain([&*many, &long]) {
         let (text, mut written) = (text_of(wanted), String::new());
-        write_marked(Style::Raw, Edition::E2024, &text, &mut written).unwrap();
+        write_marked(Format::Raw, Edition::E2024, &text, &mut written).unwrap();
         assert_eq!(written, wanted);
     }
 }

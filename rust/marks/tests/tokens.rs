@@ -1,8 +1,8 @@
 //! What a single token is: its class, the sort of a keyword, and its fault.
 
 use marks::Edition::{self, E2015, E2018, E2021, E2024};
-use marks::Keyword::{self, Reserved, Strict, Weak};
-use marks::{Class, Fault, class_of, fault_of, keyword_in};
+use marks::KeywordKind::{self, Reserved, Strict, Weak};
+use marks::{Class, Fault, class_of, fault_of, keyword_kind};
 use rustc_lexer::{DocStyle, LiteralKind, TokenKind, tokenize_document, tokenize_in};
 use std::collections::HashSet;
 use std::error::Error;
@@ -17,7 +17,7 @@ const RESERVED: &str =
 
 /// Words that editions took, and words that are none: what each is in the four editions, in their order.
 #[rustfmt::skip]
-const WORDS: [(&str, [Option<Keyword>; 4]); 26] = [
+const WORDS: [(&str, [Option<KeywordKind>; 4]); 26] = [
     ("async", [None, Some(Strict), Some(Strict), Some(Strict)]),
     ("await", [None, Some(Strict), Some(Strict), Some(Strict)]),
     ("dyn", [Some(Weak), Some(Strict), Some(Strict), Some(Strict)]),
@@ -51,21 +51,21 @@ fn words_are_keywords_by_edition() {
     for &edition in Edition::ALL {
         for word in STRICT.split(' ').filter(|word| !word.is_empty()) {
             assert_eq!(
-                keyword_in(word, edition),
+                keyword_kind(word, edition),
                 Some(Strict),
                 "{word} in {edition}"
             );
         }
         for word in RESERVED.split(' ') {
             assert_eq!(
-                keyword_in(word, edition),
+                keyword_kind(word, edition),
                 Some(Reserved),
                 "{word} in {edition}"
             );
         }
     }
     for (word, wanted) in WORDS {
-        let found = [E2015, E2018, E2021, E2024].map(|edition| keyword_in(word, edition));
+        let found = [E2015, E2018, E2021, E2024].map(|edition| keyword_kind(word, edition));
         assert_eq!(found, wanted, "{word}");
     }
 }
@@ -124,9 +124,9 @@ fn tokens_have_classes() {
 /// They go into a `Box<dyn Error>`, and with classes and keywords into sets.
 #[test]
 fn faults_are_errors() {
-    let error: Box<dyn Error> = Box::new(Fault::OpenByte);
+    let error: Box<dyn Error> = Box::new(Fault::UnterminatedByte);
     assert_eq!(error.to_string(), "nothing closes this byte");
-    let seen = [1, 2, 1].map(|found| (Fault::ManyHashes { found }, Class::Text, Strict));
+    let seen = [1, 2, 1].map(|found| (Fault::TooManyHashes { found }, Class::Text, Strict));
     assert_eq!(HashSet::from(seen).len(), 2);
 }
 
@@ -137,15 +137,15 @@ fn numbers_of_classes_and_faults() {
         [Class::Plain, Class::Doc, Class::Lifetime].map(Class::number),
         [1, 3, 9]
     );
-    let dashes = Fault::FrontmatterDashes {
+    let dashes = Fault::FrontmatterCloseMismatch {
         opening: 3,
         closing: 4,
     };
     let faults = [
-        Fault::OpenComment,
+        Fault::UnterminatedBlockComment,
         dashes,
-        Fault::OpenByte,
-        Fault::ManyHashes { found: 256 },
+        Fault::UnterminatedByte,
+        Fault::TooManyHashes { found: 256 },
     ];
     assert_eq!(faults.map(Fault::number), [1, 6, 17, 22]);
 }
@@ -155,32 +155,32 @@ fn numbers_of_classes_and_faults() {
 #[test]
 fn frontmatters_end_well_or_not() {
     use Fault::*;
-    let dashes = |opening, closing| Some(FrontmatterDashes { opening, closing });
+    let dashes = |opening, closing| Some(FrontmatterCloseMismatch { opening, closing });
     for (text, wanted) in [
         ("---\n---", None),
         ("---\n---\n", None),
         ("---\na\n---\nfn", None),
         ("--- cargo\na\n--- \t\n", None),
         ("----\n---\n----", None),
-        ("---", Some(OpenFrontmatter)),
-        ("---\n", Some(OpenFrontmatter)),
-        ("---\nabc\nfn x", Some(OpenFrontmatter)),
-        ("---\na\n--\n", Some(OpenFrontmatter)),
-        ("---\nuse a;", Some(OpenFrontmatter)),
-        ("---\na\nuse b;\n", Some(OpenFrontmatter)),
-        ("---\na ---\n//! b", Some(OpenFrontmatter)),
+        ("---", Some(UnclosedFrontmatter)),
+        ("---\n", Some(UnclosedFrontmatter)),
+        ("---\nabc\nfn x", Some(UnclosedFrontmatter)),
+        ("---\na\n--\n", Some(UnclosedFrontmatter)),
+        ("---\nuse a;", Some(UnclosedFrontmatter)),
+        ("---\na\nuse b;\n", Some(UnclosedFrontmatter)),
+        ("---\na ---\n//! b", Some(UnclosedFrontmatter)),
         ("----\na\n---", dashes(4, 3)),
         ("----\na\n---x", dashes(4, 3)),
         ("---\na\n----", dashes(3, 4)),
         ("---\na\n------ b", dashes(3, 6)),
-        ("---\na\n--- x", Some(FrontmatterWords)),
-        ("---cargo\n---cargo", Some(FrontmatterWords)),
-        ("---\na\n---\u{a0}\n", Some(FrontmatterWords)),
-        ("---\na\n ---\n", Some(FrontmatterIndent)),
-        ("---\na\n\t ----\nb", Some(FrontmatterIndent)),
-        (" ---\na", Some(FrontmatterSpace)),
-        ("---a b\n---", Some(FrontmatterInfostring)),
-        ("---a b\nc", Some(OpenFrontmatter)),
+        ("---\na\n--- x", Some(ExtraAfterFrontmatterClose)),
+        ("---cargo\n---cargo", Some(ExtraAfterFrontmatterClose)),
+        ("---\na\n---\u{a0}\n", Some(ExtraAfterFrontmatterClose)),
+        ("---\na\n ---\n", Some(WhitespaceBeforeFrontmatterClose)),
+        ("---\na\n\t ----\nb", Some(WhitespaceBeforeFrontmatterClose)),
+        (" ---\na", Some(WhitespaceBeforeFrontmatter)),
+        ("---a b\n---", Some(InvalidInfostring)),
+        ("---a b\nc", Some(UnclosedFrontmatter)),
     ] {
         for &edition in Edition::ALL {
             let token = tokenize_document(text, edition).next().unwrap();
@@ -203,13 +203,16 @@ fn a_fault_has_what_its_text_has() {
     let fault = |text| fault_of(token, text);
     assert_eq!(
         fault("r##\"abc\"#"),
-        Some(Fault::FewHashes {
+        Some(Fault::TooFewHashes {
             expected: 2,
             found: 1,
             end: 8
         })
     );
-    assert_eq!(fault("r#\"abc"), Some(Fault::OpenRawString { expected: 1 }));
+    assert_eq!(
+        fault("r#\"abc"),
+        Some(Fault::UnterminatedRawString { expected: 1 })
+    );
     assert_eq!(
         fault_of(TokenKind::Unknown, "\u{ac}"),
         Some(Fault::UnknownCharacter)

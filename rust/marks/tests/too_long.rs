@@ -1,7 +1,7 @@
 //! A text of more than `u32::MAX` bytes: each call that takes a text says that it is too long, in a release, too.
 #![cfg(target_pointer_width = "64")]
 
-use marks::{Edition, Style, fault_of, write_first_tokens, write_marked};
+use marks::{Edition, Format, fault_of, write_first_tokens, write_marked};
 use rustc_lexer::TokenKind;
 use std::panic::catch_unwind;
 
@@ -17,10 +17,10 @@ fn calls_that_take_a_text() {
             let _ = fault_of(TokenKind::Unknown, text);
         }),
         ("write_marked", |text| {
-            let _ = write_marked(Style::Html, Edition::E2024, text, &mut String::new());
+            let _ = write_marked(Format::Html, Edition::E2024, text, &mut String::new());
         }),
         ("write_first_tokens", |text| {
-            let _ = write_first_tokens(Style::Html, Edition::E2024, 1, text, &mut String::new());
+            let _ = write_first_tokens(Format::Html, Edition::E2024, 1, text, &mut String::new());
         }),
     ];
     for (name, call) in calls {

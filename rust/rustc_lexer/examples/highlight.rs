@@ -33,7 +33,10 @@ fn main() -> io::Result<()> {
             continue;
         }
         let relexed = lexed.edit(start..stop, insert);
-        let painted: Vec<String> = lexed.pieces_of(relexed.range()).map(paint).collect();
+        let painted: Vec<String> = lexed
+            .pieces_of_tokens(relexed.changed_tokens())
+            .map(paint)
+            .collect();
         let kept = relexed.kept_front + relexed.kept_back;
         println!("{}  ({kept} tokens kept)", painted.concat());
         shown.splice(relexed.kept_front..shown.len() - relexed.kept_back, painted);

@@ -1,6 +1,6 @@
 //! Takes out comments that document nothing, and white space where the tokens stay without it: `cargo run --example squeeze
 //! < FILE > SQUEEZED`. Then it lexes what it made, and writes nothing but a message if a token differs.
-use rustc_lexer::lists::Head;
+use rustc_lexer::incremental::Head;
 use rustc_lexer::{
     Edition, JoinError, JoinedText, Piece, TokenKind, tokenize_document, tokenize_in,
 };

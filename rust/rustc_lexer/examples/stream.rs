@@ -41,7 +41,7 @@ impl Stream {
     }
 
     fn print(&mut self, end: usize, output: &mut impl Write) -> io::Result<()> {
-        for piece in self.lexed.pieces_in(..end) {
+        for piece in self.lexed.pieces_in_bytes(..end) {
             let start = self.start + piece.range().start;
             writeln!(output, "{start} {:?} {:?}", piece.token.kind, piece.text)?;
         }

@@ -11,7 +11,7 @@ fn main() -> io::Result<()> {
         let typed = typed?;
         let relexed = lexed.edit(cursor..cursor, &typed);
         cursor += typed.len();
-        for piece in lexed.pieces_of(relexed.range()) {
+        for piece in lexed.pieces_of_tokens(relexed.changed_tokens()) {
             println!("{} {:?} {:?}", piece.start, piece.token.kind, piece.text);
         }
         println!("{} kept", relexed.kept_front + relexed.kept_back);

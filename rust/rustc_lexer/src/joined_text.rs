@@ -30,7 +30,7 @@ use core::fmt;
 ///   follows, or with `---`, also after white space. Before you write it at the start of a file, test that
 ///   [`strip_shebang`](crate::strip_shebang) returns `None`, and that no token of
 ///   [`tokenize_document`](crate::tokenize_document) is a `Frontmatter`. No valid Rust begins so. Of a file with a head
-///   write `text[..Head::find(text).body]`, a newline, and the joined body: [`Head`](crate::lists::Head).
+///   write `text[..Head::find(text).body]`, a newline, and the joined body: [`Head`](crate::incremental::Head).
 ///
 /// [`push`](JoinedText::push), and what collects or extends, panics where [`try_push`](JoinedText::try_push) returns an
 /// error. To push what a value displays, push `format!("{value}")`: it does not implement [`fmt::Write`], since values

@@ -4,7 +4,7 @@ use crate::checked::Checked;
 use crate::edit_error::{EditError, FromStringError, check_accepted, made, try_fitting};
 use crate::erased::{self, Edit, EditStop, Stopped};
 use crate::support::{self, AllocError, Global};
-use crate::{Bound, Edition, Piece, Pieces, Relexed, Stepper, Steps, Token};
+use crate::{Edition, Piece, Pieces, Relexed, Stepper, Steps, Token, TokenStart};
 use alloc::string::String;
 use core::fmt;
 use core::ops::{self, Range, RangeBounds};
@@ -427,14 +427,14 @@ impl<S: Stepper, E: Extent> Lexed<E, S> {
         self.whole().pieces()
     }
 
-    /// Returns the pieces of some tokens, by their numbers. After an edit, repaint those of `relexed.range()`.
+    /// Returns the pieces of some tokens, by their numbers. After an edit, repaint those of `relexed.changed_tokens()`.
     ///
     /// ```
     /// use rustc_lexer::LexedText;
     ///
     /// let mut lexed = LexedText::new("a + b + c + d");
     /// let relexed = lexed.edit(8..8, "x");
-    /// let painted: Vec<&str> = lexed.pieces_of(relexed.range()).map(|piece| piece.text).collect();
+    /// let painted: Vec<&str> = lexed.pieces_of_tokens(relexed.changed_tokens()).map(|piece| piece.text).collect();
     /// assert_eq!(painted, ["+", " ", "xc"]);
     /// ```
     ///
@@ -442,27 +442,27 @@ impl<S: Stepper, E: Extent> Lexed<E, S> {
     ///
     /// Panics if there are no such tokens.
     #[track_caller]
-    pub fn pieces_of(&self, numbers: impl RangeBounds<usize>) -> Pieces<'_> {
+    pub fn pieces_of_tokens(&self, numbers: impl RangeBounds<usize>) -> Pieces<'_> {
         let numbers = checked_range(&numbers, self.tokens());
-        self.whole().pieces_of(numbers.start, numbers.end)
+        self.whole().pieces_of_tokens(numbers.start, numbers.end)
     }
 
-    /// Returns the token that contains the byte at `offset`: its number, and where it begins. `None` at and past the
+    /// Returns the token that contains the byte at `offset`: its index, and where it begins. `None` at and past the
     /// end of the text, and in a shebang line, which is no token.
     ///
     /// It reads few of the tokens, most of all near the last edit.
     ///
     /// ```
-    /// use rustc_lexer::{Bound, LexedText};
+    /// use rustc_lexer::{LexedText, TokenStart};
     ///
     /// let lexed = LexedText::new("let abc;");
-    /// assert_eq!(lexed.token_at(6), Some(Bound { number: 2, offset: 4 }));
-    /// assert_eq!(lexed.token_at(8), None);
+    /// assert_eq!(lexed.token_start_at(6), Some(TokenStart { index: 2, offset: 4 }));
+    /// assert_eq!(lexed.token_start_at(8), None);
     /// ```
     #[must_use]
     #[track_caller]
-    pub fn token_at(&self, offset: usize) -> Option<Bound> {
-        self.whole().token_at(offset)
+    pub fn token_start_at(&self, offset: usize) -> Option<TokenStart> {
+        self.whole().token_start_at(offset)
     }
 
     /// Returns the piece that contains the byte at `offset`, like that under a caret. `None` at and past the end of the
@@ -489,7 +489,7 @@ impl<S: Stepper, E: Extent> Lexed<E, S> {
     /// use rustc_lexer::LexedText;
     ///
     /// let lexed = LexedText::new("let abc = 1;");
-    /// let seen: Vec<&str> = lexed.pieces_in(5..9).map(|piece| piece.text).collect();
+    /// let seen: Vec<&str> = lexed.pieces_in_bytes(5..9).map(|piece| piece.text).collect();
     /// assert_eq!(seen, ["abc", " ", "="]);
     /// ```
     ///
@@ -499,13 +499,13 @@ impl<S: Stepper, E: Extent> Lexed<E, S> {
     /// use rustc_lexer::LexedText;
     ///
     /// let lexed = LexedText::new("f(a, b");
-    /// let opens = lexed.pieces_in(..6).rev().find(|piece| piece.text == "(");
+    /// let opens = lexed.pieces_in_bytes(..6).rev().find(|piece| piece.text == "(");
     /// assert_eq!(opens.map(|piece| piece.start), Some(1));
     /// ```
     #[track_caller]
-    pub fn pieces_in(&self, range: impl RangeBounds<usize>) -> Pieces<'_> {
+    pub fn pieces_in_bytes(&self, range: impl RangeBounds<usize>) -> Pieces<'_> {
         let range = range_in(&range, self.text().len());
-        self.whole().pieces_in(range.start, range.end)
+        self.whole().pieces_in_bytes(range.start, range.end)
     }
 
     /// Returns whether the range is in bounds and on char boundaries, and the new text has at most `u32::MAX`
@@ -812,13 +812,13 @@ impl<S: Stepper> Lexed<Document, S> {
     /// ```
     /// use rustc_lexer::LexedDocument;
     ///
-    /// let body = LexedDocument::new("#!/bin/sh\n---\n---\nfn").body();
-    /// assert_eq!((body.number, body.offset), (2, 17));
+    /// let body = LexedDocument::new("#!/bin/sh\n---\n---\nfn").body_start();
+    /// assert_eq!((body.index, body.offset), (2, 17));
     /// ```
     #[must_use]
     #[track_caller]
-    pub fn body(&self) -> Bound {
-        self.whole().body()
+    pub fn body_start(&self) -> TokenStart {
+        self.whole().body_start()
     }
 }
 
@@ -830,11 +830,11 @@ impl Relexed {
     ///
     /// let mut lexed = LexedText::new("a + b + c + d");
     /// let relexed = lexed.edit(8..8, "x");
-    /// let written: u32 = lexed.tokens()[relexed.range()].iter().map(|token| token.len).sum();
+    /// let written: u32 = lexed.tokens()[relexed.changed_tokens()].iter().map(|token| token.len).sum();
     /// assert_eq!(written, 4);
     /// ```
     #[must_use]
-    pub fn range(&self) -> Range<usize> {
+    pub fn changed_tokens(&self) -> Range<usize> {
         self.kept_front..self.kept_front.saturating_add(self.lexed)
     }
 }

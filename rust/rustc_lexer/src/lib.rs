@@ -20,7 +20,7 @@
 //! | to take those of [`tokenize`] one by one, and look ahead | [`Cursor`] |
 //! | the tokens of a file while it is edited | [`LexedDocument`], or [`LexedText`] for a part of a file |
 //! | several edits at once, like those of a rename | [`LexedText::edit_at_once`] |
-//! | the same on lists of your own | the module [`lists`] |
+//! | the same on lists of your own | the module [`incremental`] |
 //! | the final tokens of a text that is still arriving | [`LexedText::settled`]; [`settled_in`] lexes it all |
 //! | to write tokens so that lexing gives them back | [`JoinedText`] |
 //! | to test what would panic | [`fits`], [`starts_raw`] |
@@ -31,8 +31,8 @@
 //! contracts. It is proved of that source that, for every text under 4 GiB, its tokens are the only ones that a grammar
 //! of the language allows. The rest of this crate is written by hand: the calls of the original, of [`LexedText`] and
 //! of [`LexedDocument`] test what the contracts require of a caller, and where the tokens of a [`Stepper`] end.
-//! The module [`lists`] tests nothing: lists or a head that are not those of the old text give wrong tokens or a panic.
-//! The repository's `docs/ERASED.md` says what is claimed and what is trusted.
+//! The module [`incremental`] tests nothing: lists or a head that are not those of the old text give wrong tokens or a
+//! panic. The repository's `docs/ERASED.md` says what is claimed and what is trusted.
 #![cfg_attr(
     feature = "alloc",
     doc = "\n# A program that keeps the tokens of a file\n\n```no_run"
@@ -77,11 +77,11 @@ mod edit_error;
 #[allow(clippy::too_many_arguments)]
 #[doc(hidden)]
 pub mod erased;
+pub mod incremental;
 #[cfg(feature = "alloc")]
 mod joined_text;
 #[cfg(feature = "alloc")]
 mod kept;
-pub mod lists;
 mod pieces;
 mod tokens;
 mod traits;
@@ -95,9 +95,6 @@ pub use classes::{
 pub use cursor::Cursor;
 #[cfg(feature = "alloc")]
 pub use edit_error::{EditError, FromStringError};
-#[doc(alias("offset", "position"))]
-#[doc(inline)]
-pub use erased::Bound;
 #[cfg(feature = "alloc")]
 #[doc(inline)]
 pub use erased::JoinError;
@@ -107,9 +104,12 @@ pub use erased::Piece;
 #[doc(alias("highlight", "keyword"))]
 #[doc(inline)]
 pub use erased::TokenKind;
+#[doc(alias("offset", "position"))]
+#[doc(inline)]
+pub use erased::TokenStart;
 #[doc(inline)]
 pub use erased::{
-    Base, DocStyle, Edition, FrontmatterAllowed, GuardedStr, LiteralKind, RawStrError, Record,
+    Base, DocStyle, Edition, FromToken, FrontmatterAllowed, GuardedStr, LiteralKind, RawStrError,
     Relexed, Stepper, Steps, Token, UnknownEdition,
 };
 #[cfg(feature = "alloc")]
@@ -126,7 +126,7 @@ pub use kept::{Lexed, LexedDocument, LexedText};
 #[cfg(all(doc, not(feature = "alloc")))]
 use erased::{JoinedText, LexedDocument, LexedText, Pieces};
 #[cfg(doc)]
-use lists::{Head, Relexing};
+use incremental::{Head, Relexing};
 pub use pieces::TokenPieces;
 use rattle_support as support;
 pub use rattle_support::AllocError;

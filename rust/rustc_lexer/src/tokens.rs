@@ -1,6 +1,6 @@
 //! The tokens of a text, as an iterator.
 
-use crate::{Edition, FrontmatterAllowed, Record, Token, TokenPieces, erased, fitting};
+use crate::{Edition, FromToken, FrontmatterAllowed, Token, TokenPieces, erased, fitting};
 #[cfg(feature = "alloc")]
 use alloc::vec::Vec;
 use core::fmt;
@@ -125,14 +125,14 @@ impl<'a> Tokens<'a> {
     /// assert_eq!(spaces, 3);
     /// ```
     #[cfg_attr(not(debug_assertions), inline)]
-    pub fn fill<R: Record>(&mut self, buffer: &mut [R]) -> usize {
+    pub fn fill<R: FromToken>(&mut self, buffer: &mut [R]) -> usize {
         if cfg!(debug_assertions) {
             // What is generic is compiled with the program, and `next` with this crate.
             for (count, record) in buffer.iter_mut().enumerate() {
                 let Some(token) = self.next() else {
                     return count;
                 };
-                *record = R::of(token);
+                *record = R::from_token(token);
             }
             return buffer.len();
         }

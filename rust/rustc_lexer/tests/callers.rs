@@ -79,7 +79,7 @@ mod kept {
                 let mut lexed = $Kept::new("é");
                 panics_here!(lexed.edit(1..2, ""));
                 panics_here!(lexed.edit(9.., ""));
-                panics_here!(lexed.pieces_of(0..9));
+                panics_here!(lexed.pieces_of_tokens(0..9));
                 #[cfg(target_pointer_width = "64")]
                 {
                     let long = too_long();
@@ -125,9 +125,9 @@ mod kept {
         let edits: [Edit<'_>; 0] = [];
         panics_here!(text.tokens().len());
         panics_here!(text.pieces());
-        panics_here!(text.pieces_of(0..0));
-        panics_here!(text.pieces_in(0..1));
-        panics_here!(text.token_at(0));
+        panics_here!(text.pieces_of_tokens(0..0));
+        panics_here!(text.pieces_in_bytes(0..1));
+        panics_here!(text.token_start_at(0));
         panics_here!(text.piece_at(0));
         panics_here!(text.edit(0..0, ""));
         panics_here!(text.try_edit(0..0, ""));
@@ -139,7 +139,7 @@ mod kept {
         panics_here!(text == second);
         let mut file = LexedDocument::try_with("ab", Bytes).unwrap();
         place(|| file.edit(1..1, "!"));
-        panics_here!(file.body());
+        panics_here!(file.body_start());
         panics_here!(file.shebang_len());
     }
 }

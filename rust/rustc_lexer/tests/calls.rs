@@ -2,11 +2,11 @@
 
 use RawStrError::{InvalidStarter, NoTerminator, TooManyDelimiters};
 use rustc_lexer::{
-    Base, Bound, Cursor, DocStyle, Edition, FrontmatterAllowed, GuardedStr, LiteralKind,
-    RawStrError, Steps, Token, TokenKind, Tokens, UNICODE_VERSION, UnknownEdition, erased,
-    is_horizontal_whitespace, is_id_continue, is_id_start, is_ident, is_whitespace, lists, settled,
-    settled_in, starts_raw, strip_shebang, tokenize, tokenize_as, tokenize_document, tokenize_in,
-    validate_raw_str,
+    Base, Cursor, DocStyle, Edition, FrontmatterAllowed, GuardedStr, LiteralKind, RawStrError,
+    Steps, Token, TokenKind, TokenStart, Tokens, UNICODE_VERSION, UnknownEdition, erased,
+    incremental, is_horizontal_whitespace, is_id_continue, is_id_start, is_ident, is_whitespace,
+    settled, settled_in, starts_raw, strip_shebang, tokenize, tokenize_as, tokenize_document,
+    tokenize_in, validate_raw_str,
 };
 
 fn guarded(n_hashes: u32, terminated: bool, token_len: u32) -> Option<GuardedStr> {
@@ -125,8 +125,8 @@ fn orders_and_numbers() {
     assert_eq!(bases.map(|base| base as u32), [2, 8, 10, 16]);
     ascend(&bases);
     ascend(Edition::ALL);
-    let bounds = [(0, 0), (0, 1), (1, 0), (2, 9)].map(|(number, offset)| Bound { number, offset });
-    assert_eq!(bounds[0], Bound::default());
+    let bounds = [(0, 0), (0, 1), (1, 0), (2, 9)].map(|(index, offset)| TokenStart { index, offset });
+    assert_eq!(bounds[0], TokenStart::default());
     ascend(&bounds);
     ascend(&[
         Int { base: Binary, empty_int: true }, Int { base: Octal, empty_int: false },
@@ -616,7 +616,7 @@ fn many_tokens_at_once() {
         use rustc_lexer::{Edit, LexedDocument, LexedText};
         assert!(tokenize(&text, FrontmatterAllowed::No).into_vec() == wanted);
         let lexed = LexedText::new(&text);
-        assert!(lexed.tokens() == wanted && lexed.pieces_of(0..70_000).count() == 70_000);
+        assert!(lexed.tokens() == wanted && lexed.pieces_of_tokens(0..70_000).count() == 70_000);
         let edit = Edit {
             start: 1,
             stop: 1,
@@ -624,8 +624,11 @@ fn many_tokens_at_once() {
         };
         let mut lexed = LexedDocument::try_with(";;", Steps::new()).unwrap();
         let relexed = lexed.edit_each(&[edit]).unwrap();
-        assert!(lexed.tokens() == wanted && lexed.pieces_of(relexed.range()).len() > 69_990);
-        assert_eq!(lexed.pieces_in(0..70_000).count(), 70_000);
+        assert!(
+            lexed.tokens() == wanted
+                && lexed.pieces_of_tokens(relexed.changed_tokens()).len() > 69_990
+        );
+        assert_eq!(lexed.pieces_in_bytes(0..70_000).count(), 70_000);
     }
 }
 
@@ -683,7 +686,7 @@ fn traits_that_are_taken_for_granted() {
     fn stays_at_its_end<T: std::iter::FusedIterator + Clone + std::fmt::Debug>() {}
     #[cfg(feature = "alloc")]
     fn has_two_ends<T: DoubleEndedIterator + ExactSizeIterator>() {}
-    fn is_measured<T: lists::Measured>() {}
+    fn is_measured<T: incremental::Measured>() {}
     fn steps<T: rustc_lexer::Stepper + Clone + std::fmt::Debug>() {}
     fn is_key<T: Copy + Eq + std::hash::Hash>() {}
     fn crosses_threads<T: Send + Sync + std::panic::UnwindSafe + std::panic::RefUnwindSafe>() {}
@@ -695,12 +698,16 @@ fn traits_that_are_taken_for_granted() {
     is_measured::<Token>();
     steps::<Steps>();
     is_key::<(
-        lists::BodyChange,
-        lists::Change,
-        lists::Head,
-        lists::Relexing,
+        incremental::BodyChange,
+        incremental::Change,
+        incremental::Head,
+        incremental::Relexing,
     )>();
-    is_key::<(Bound, rustc_lexer::Relexed, rustc_lexer::UnknownEdition)>();
+    is_key::<(
+        TokenStart,
+        rustc_lexer::Relexed,
+        rustc_lexer::UnknownEdition,
+    )>();
     is_key::<rustc_lexer::Piece<'_>>();
     is_key::<(Token, TokenKind, LiteralKind, Base, DocStyle)>();
     is_key::<(GuardedStr, RawStrError, FrontmatterAllowed, Edition)>();

@@ -6,10 +6,10 @@ mod random;
 use made::{counts, edit, token};
 use random::Random;
 use rattle_support::Global;
-use rustc_lexer::lists::{Change, Head, Relexing};
+use rustc_lexer::incremental::{Change, Head, Relexing};
 use rustc_lexer::{
-    Bound, EditStop, Edition, FrontmatterAllowed, LexedDocument, LexedText, Relexed, Stepper,
-    Steps, Token, TokenKind, erased, strip_shebang, tokenize_as, tokenize_document,
+    EditStop, Edition, FrontmatterAllowed, LexedDocument, LexedText, Relexed, Stepper, Steps,
+    Token, TokenKind, TokenStart, erased, strip_shebang, tokenize_as, tokenize_document,
 };
 use std::ops::Range;
 
@@ -60,8 +60,8 @@ fn check_tokens<S: Stepper>(lexed: &LexedDocument<S>, edition: Edition, context:
     let mut start = line;
     for (number, (piece, token)) in lexed.pieces().zip(&scratch).enumerate() {
         if number == head {
-            let body = lexed.body();
-            assert_eq!((body.number, body.offset), (head, start), "{context}");
+            let body = lexed.body_start();
+            assert_eq!((body.index, body.offset), (head, start), "{context}");
         }
         let end = start + token.len as usize;
         let told = (piece.start as usize, piece.token, piece.text);
@@ -78,15 +78,15 @@ fn of_body(
     range: &Range<usize>,
     insert: &str,
 ) -> Option<Relexed> {
-    let (old, new) = (before.body(), after.body());
+    let (old, new) = (before.body_start(), after.body_start());
     let stays = old == new
         && before.shebang_len() == after.shebang_len()
-        && before.tokens()[..old.number] == after.tokens()[..new.number];
+        && before.tokens()[..old.index] == after.tokens()[..new.index];
     (stays && old.offset <= range.start).then(|| {
         let mut body = LexedText::new_in(&before.text()[old.offset..], before.edition());
         let relexed = body.edit(range.start - old.offset..range.end - old.offset, insert);
         Relexed {
-            kept_front: old.number + relexed.kept_front,
+            kept_front: old.index + relexed.kept_front,
             ..relexed
         }
     })
@@ -104,7 +104,7 @@ fn edit_and_check(lexed: &mut LexedDocument, range: Range<usize>, insert: &str) 
     let (kept_front, kept_back) = (relexed.kept_front, relexed.kept_back);
     let (old, new) = (before.tokens(), lexed.tokens());
     let lexed_anew = kept_front..new.len() - kept_back;
-    assert_eq!(relexed.range(), lexed_anew, "{context}");
+    assert_eq!(relexed.changed_tokens(), lexed_anew, "{context}");
     assert_eq!(old[..kept_front], new[..kept_front], "{context}");
     let behind = [old.len() - kept_back, new.len() - kept_back];
     assert_eq!(old[behind[0]..], new[behind[1]..], "{context}");
@@ -112,7 +112,7 @@ fn edit_and_check(lexed: &mut LexedDocument, range: Range<usize>, insert: &str) 
         Some(wanted) => assert_eq!(relexed, wanted, "{context}"),
         None => assert_eq!(kept_front, 0, "{context}"),
     }
-    let painted = lexed.pieces_of(relexed.range());
+    let painted = lexed.pieces_of_tokens(relexed.changed_tokens());
     let all = lexed.pieces().skip(kept_front);
     assert!(painted.eq(all.take(relexed.lexed)), "{context}");
 }
@@ -165,8 +165,8 @@ fn another_edition() {
             lexed.$set_edition(Edition::E2018).unwrap();
             let told = (lexed.edition(), lexed.tokens().len());
             assert_eq!(told, (Edition::E2018, 6));
-            let body = lexed.body();
-            assert_eq!((lexed.shebang_len(), body.number, body.offset), (3, 2, 11));
+            let body = lexed.body_start();
+            assert_eq!((lexed.shebang_len(), body.index, body.offset), (3, 2, 11));
         };
     }
     let (text, edition) = ("#!a\n---\n---\n'r#foo", Edition::E2021);
@@ -178,7 +178,9 @@ fn another_edition() {
     lexed.shrink_to_fit();
     let told = (lexed.edition(), lexed.text());
     assert_eq!(told, (Edition::E2024, "#!a\n---\n---\n"));
-    let pieces = lexed.pieces_of(0..2).map(|piece| (piece.start, piece.text));
+    let pieces = lexed
+        .pieces_of_tokens(0..2)
+        .map(|piece| (piece.start, piece.text));
     assert!(pieces.eq([(3, "\n"), (4, "---\n---")]));
 }
 
@@ -199,7 +201,7 @@ fn edits_of_the_head() {
     ] {
         let mut lexed = LexedDocument::new(SCRIPT);
         let relexed = lexed.try_edit(range.clone(), insert).unwrap();
-        let told = (relexed.kept_front, lexed.body().offset);
+        let told = (relexed.kept_front, lexed.body_start().offset);
         assert_eq!(told, (front, body), "{insert:?} at {range:?}");
         check(&lexed, Edition::E2024, "an edit of the head");
     }
@@ -212,7 +214,7 @@ fn an_edit_right_behind_the_head() {
     let kinds = |lexed: &LexedDocument| lexed.tokens()[0].kind;
     let before = kinds(&lexed);
     edit_and_check(&mut lexed, 3..3, "\nuse a;");
-    assert_eq!(lexed.body().offset, 3);
+    assert_eq!(lexed.body_start().offset, 3);
     assert!(kinds(&lexed) != before);
 }
 
@@ -318,12 +320,12 @@ fn what_is_held() {
     let lens = by_characters.tokens().iter().map(|token| token.len);
     assert!(lens.eq([1, 1, 2]));
     assert_eq!(by_characters.stepper().0, 3);
-    let pieces = lexed.pieces_of(1..3);
+    let pieces = lexed.pieces_of_tokens(1..3);
     let pieces: Vec<_> = pieces.map(|piece| (piece.start, piece.text)).collect();
     assert_eq!(pieces, [(10, "---\na\n---"), (19, "\n")]);
     let empty = LexedDocument::default();
     assert_eq!((empty.text(), empty.tokens().len()), ("", 0));
-    assert_eq!(empty.body().offset, 0);
+    assert_eq!(empty.body_start().offset, 0);
     let shown = format!("{:?}", LexedDocument::new("#!a+"));
     let wanted = r##"LexedDocument { text: "#!a+", tokens: [], .. }"##;
     assert_eq!(shown, wanted);
@@ -345,7 +347,7 @@ fn calls_with_a_stepper() {
             assert_eq!(lexed.edit_each(&[]).map(|counts| counts.kept_front), Ok(3));
             lexed.shrink_to_fit();
             assert_eq!((lexed.text(), lexed.tokens().len()), ("bcé", 3));
-            let counts = (lexed.pieces().len(), lexed.pieces_of(1..2).len());
+            let counts = (lexed.pieces().len(), lexed.pieces_of_tokens(1..2).len());
             assert_eq!(counts, (3, 1));
             assert!(lexed.stepper().0 >= 5);
             assert!(format!("{lexed:?}").starts_with(stringify!($lexed)));
@@ -377,8 +379,8 @@ fn a_list_of_the_caller() {
         new_stop: 6,
     };
     assert!(change.may_make(text));
-    let (number, offset) = (0, 0);
-    let mut relexing = Relexing::begin(text, &old, change, Bound { number, offset });
+    let (index, offset) = (0, 0);
+    let mut relexing = Relexing::begin(text, &old, change, TokenStart { index, offset });
     let (mut steps, mut buffer) = (Steps::new(), [token(TokenKind::Eof, 0); 2]);
     let filled = relexing.fill(&mut steps, text, &old, change, &mut buffer);
     assert_eq!((filled, buffer), (2, [word, space]));
@@ -405,7 +407,7 @@ fn lists_of_the_caller() {
         let counts = held.edit(range.clone(), &insert);
         let (head, now) = (Head::find(&old), Head::find(held.text()));
         assert_eq!(now.shebang_len, held.shebang_len());
-        assert_eq!(now.body, held.body().offset);
+        assert_eq!(now.body, held.body_start().offset);
         let edit = Change {
             start: range.start,
             old_stop: range.end,
@@ -414,14 +416,14 @@ fn lists_of_the_caller() {
         let of_body = head.change_to(now, edit);
         let (body, old_body) = (&held.text()[now.body..], &tokens[head.count()..]);
         let change = of_body.change;
-        let (number, offset) = (0, 0);
-        let first = Bound { number, offset };
+        let (index, offset) = (0, 0);
+        let first = TokenStart { index, offset };
         assert!(change.may_make(body));
         let mut steps = Steps::new();
         let mut relexing = Relexing::begin(body, old_body, change, first);
         let mut made = tokens_of(now);
-        let kept = made.len() + relexing.front.number;
-        made.extend(&old_body[..relexing.front.number]);
+        let kept = made.len() + relexing.front.index;
+        made.extend(&old_body[..relexing.front.index]);
         while let Some(token) = relexing.next(&mut steps, body, old_body, change) {
             made.push(token);
             let passed = relexing.at.checked_sub(change.new_stop);

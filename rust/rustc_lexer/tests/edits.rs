@@ -92,7 +92,7 @@ fn edit_and_check(lexed: &mut LexedText, range: Range<usize>, insert: &str) {
     check(lexed, &context);
     let wanted = wanted(&before, &old, lexed.tokens(), &range, insert.len());
     assert_eq!(relexed, wanted, "{context}");
-    let painted = lexed.pieces_of(relexed.range());
+    let painted = lexed.pieces_of_tokens(relexed.changed_tokens());
     let all = lexed.pieces().skip(relexed.kept_front);
     assert!(painted.eq(all.take(relexed.lexed)), "{context}");
 }
@@ -251,19 +251,19 @@ fn ranges_that_panic() {
         (|| LexedText::new("é").edit(1..2, "").lexed, EDIT),
         (|| LexedDocument::new("é").edit(1..2, "").lexed, EDIT),
         (
-            || LexedText::new("a b").pieces_of(2..4).len(),
+            || LexedText::new("a b").pieces_of_tokens(2..4).len(),
             "token range 2..4 out of range for 3 tokens",
         ),
         (
-            || LexedDocument::new("#!a\nb").pieces_of(1..3).len(),
+            || LexedDocument::new("#!a\nb").pieces_of_tokens(1..3).len(),
             "token range 1..3 out of range for 2 tokens",
         ),
         (
-            || LexedText::new("a b").pieces_of(2..1).len(),
+            || LexedText::new("a b").pieces_of_tokens(2..1).len(),
             "token range 2..1 out of range for 3 tokens",
         ),
         (
-            || LexedDocument::new("#!a\nb c").pieces_of(2..1).len(),
+            || LexedDocument::new("#!a\nb c").pieces_of_tokens(2..1).len(),
             "token range 2..1 out of range for 4 tokens",
         ),
     ];
@@ -460,7 +460,7 @@ fn what_two_lists_keep() {
     // Counts of no text.
     let most = counts(usize::MAX, usize::MAX, usize::MAX);
     assert_eq!(most.then(most, 13), most);
-    assert_eq!(most.range(), usize::MAX..usize::MAX);
+    assert_eq!(most.changed_tokens(), usize::MAX..usize::MAX);
 }
 
 /// A list keeps what each of its edits keeps, and there its tokens are the old ones.
@@ -728,10 +728,10 @@ fn ranges() {
             let shown = |pieces: rustc_lexer::Pieces<'_>| -> String {
                 pieces.map(|piece| piece.text).collect()
             };
-            assert_eq!(shown(lexed.pieces_in(..2)), "a ");
-            assert_eq!(shown(lexed.pieces_in(3..)), " c");
-            assert_eq!(shown(lexed.pieces_of(1..=2)), " b");
-            assert_eq!(shown(lexed.pieces_of(..)), "a b c");
+            assert_eq!(shown(lexed.pieces_in_bytes(..2)), "a ");
+            assert_eq!(shown(lexed.pieces_in_bytes(3..)), " c");
+            assert_eq!(shown(lexed.pieces_of_tokens(1..=2)), " b");
+            assert_eq!(shown(lexed.pieces_of_tokens(..)), "a b c");
         };
     }
     rows!(LexedText);

@@ -3,7 +3,7 @@
 mod random;
 
 use random::Random;
-use rustc_lexer::{Bound, LexedDocument, LexedText, Piece, Pieces, Token};
+use rustc_lexer::{LexedDocument, LexedText, Piece, Pieces, Token, TokenStart};
 use std::ops::Range;
 
 /// What edits are made of: pieces that join with what stands around them, and heads of documents.
@@ -24,11 +24,11 @@ fn starts(tokens: &[Token], mut start: usize) -> Vec<usize> {
 }
 
 /// The token at the offset, by looking at each.
-fn found(starts: &[usize], offset: usize) -> Option<Bound> {
+fn found(starts: &[usize], offset: usize) -> Option<TokenStart> {
     let mut ends = starts.windows(2);
-    let number = ends.position(|ends| (ends[0]..ends[1]).contains(&offset))?;
-    let offset = starts[number];
-    Some(Bound { number, offset })
+    let index = ends.position(|ends| (ends[0]..ends[1]).contains(&offset))?;
+    let offset = starts[index];
+    Some(TokenStart { index, offset })
 }
 
 /// The numbers of the tokens that contain a byte of the range, by looking at each.
@@ -61,16 +61,16 @@ macro_rules! check {
         let offsets = (first..first + 6).chain((0..6).map(|_| $random.below(end)));
         for offset in offsets.chain([usize::MAX]) {
             let found = found(&starts, offset);
-            assert_eq!(lexed.token_at(offset), found, "{offset} in {lexed:?}");
-            let wanted = found.and_then(|at| lexed.pieces().nth(at.number));
+            assert_eq!(lexed.token_start_at(offset), found, "{offset} in {lexed:?}");
+            let wanted = found.and_then(|at| lexed.pieces().nth(at.index));
             assert_eq!(lexed.piece_at(offset), wanted, "{offset} in {lexed:?}");
         }
         for _ in 0..4 {
             let range = $random.below(end)..$random.below(end);
             let numbers = touched(&starts, &range);
             let first = numbers.first().copied().unwrap_or(0);
-            let wanted = lexed.pieces_of(first..first + numbers.len());
-            let pieces = lexed.pieces_in(range.clone());
+            let wanted = lexed.pieces_of_tokens(first..first + numbers.len());
+            let pieces = lexed.pieces_in_bytes(range.clone());
             let mixed = from_both_ends(pieces.clone(), &mut $random);
             assert!(pieces.eq(wanted.clone()), "{range:?} in {lexed:?}");
             assert!(wanted.eq(mixed), "{range:?} in {lexed:?}");
@@ -114,7 +114,7 @@ fn a_long_text() {
         text.edit(range.clone(), "x + /* */");
         check!(text, starts(text.tokens(), 0), random, range.start);
     }
-    let all = text.pieces_in(0..usize::MAX);
+    let all = text.pieces_in_bytes(0..usize::MAX);
     assert!(all.eq(text.pieces()));
 }
 
@@ -133,10 +133,10 @@ fn offsets_of_a_text() {
         (11, None),
         (usize::MAX, None),
     ] {
-        let found = text.token_at(offset).map(|at| (at.number, at.offset));
+        let found = text.token_start_at(offset).map(|at| (at.index, at.offset));
         assert_eq!(found, wanted, "{offset}");
     }
-    assert_eq!(LexedText::new("").token_at(0), None);
+    assert_eq!(LexedText::new("").token_start_at(0), None);
 }
 
 #[test]
@@ -152,10 +152,12 @@ fn offsets_of_a_document() {
         (21, Some((3, 20))),
         (22, None),
     ] {
-        let found = document.token_at(offset).map(|at| (at.number, at.offset));
+        let found = document
+            .token_start_at(offset)
+            .map(|at| (at.index, at.offset));
         assert_eq!(found, wanted, "{offset}");
     }
-    assert_eq!(LexedDocument::new("#!a").token_at(1), None);
+    assert_eq!(LexedDocument::new("#!a").token_start_at(1), None);
 }
 
 #[test]
@@ -175,7 +177,7 @@ fn pieces_in_a_range() {
         (6..2, &[]),
     ];
     for (range, wanted) in rows {
-        let pieces = text.pieces_in(range.clone()).map(|piece| piece.text);
+        let pieces = text.pieces_in_bytes(range.clone()).map(|piece| piece.text);
         assert!(pieces.eq(wanted.iter().copied()), "{range:?}");
     }
     for (range, wanted) in [
@@ -185,7 +187,7 @@ fn pieces_in_a_range() {
         (6..usize::MAX, vec![(6, "c")]),
         (7..8, vec![]),
     ] {
-        let pieces = document.pieces_in(range.clone());
+        let pieces = document.pieces_in_bytes(range.clone());
         let pieces: Vec<_> = pieces.map(|piece| (piece.start, piece.text)).collect();
         assert_eq!(pieces, wanted, "{range:?}");
     }
@@ -215,25 +217,29 @@ fn pieces_by_hand() {
     let all = [(0, "a"), (1, " "), (2, "😀"), (6, " "), (7, "é")];
     assert_eq!(told(text.pieces()), all);
     for (range, wanted) in [(1..3, 1..3), (6..99, 3..5), (2..2, 2..2)] {
-        assert_eq!(told(text.pieces_in(range)), all[wanted]);
+        assert_eq!(told(text.pieces_in_bytes(range)), all[wanted]);
     }
-    let bound = |number, offset| Some(Bound { number, offset });
+    let bound = |index, offset| Some(TokenStart { index, offset });
     for (offset, number, start) in [(0, 0, 0), (1, 1, 1), (5, 2, 2), (6, 3, 6), (8, 4, 7)] {
-        assert_eq!(text.token_at(offset), bound(number, start), "{offset}");
+        assert_eq!(
+            text.token_start_at(offset),
+            bound(number, start),
+            "{offset}"
+        );
         let piece = text.piece_at(offset).unwrap();
         assert_eq!((piece.start, piece.text), all[number], "{offset}");
         assert_eq!(piece.token, text.tokens()[number]);
     }
-    assert_eq!((text.token_at(9), text.piece_at(9)), (None, None));
+    assert_eq!((text.token_start_at(9), text.piece_at(9)), (None, None));
     let document = LexedDocument::new("#!a\n---\nb\n---\nfn");
     let all = [(3, "\n"), (4, "---\nb\n---"), (13, "\n"), (14, "fn")];
     assert_eq!(told(document.pieces()), all);
     for range in [0..0, 0..2, 1..3, 3..4, 4..4] {
-        assert_eq!(told(document.pieces_of(range.clone())), all[range]);
+        assert_eq!(told(document.pieces_of_tokens(range.clone())), all[range]);
     }
-    assert_eq!(told(document.pieces_in(0..5)), all[..2]);
-    assert_eq!(told(document.pieces_in(14..99)), all[3..]);
-    let found = [2, 3].map(|offset| document.token_at(offset));
+    assert_eq!(told(document.pieces_in_bytes(0..5)), all[..2]);
+    assert_eq!(told(document.pieces_in_bytes(14..99)), all[3..]);
+    let found = [2, 3].map(|offset| document.token_start_at(offset));
     assert_eq!(found, [None, bound(0, 3)]);
     let found = [2, 3, 12, 15, 16].map(|offset| document.piece_at(offset));
     let found = found.map(|piece| piece.map(|piece| (piece.start, piece.text)));
@@ -253,7 +259,7 @@ fn pieces_far_into_a_text() {
             let check = |lexed: &$Kept, from: usize, wanted: &[(u32, &str)]| {
                 let from = from + $tokens;
                 let wanted = wanted.iter().map(|&(start, text)| (start + $bytes, text));
-                let pieces = told(lexed.pieces_of(from..from + wanted.len()));
+                let pieces = told(lexed.pieces_of_tokens(from..from + wanted.len()));
                 assert!(wanted.eq(pieces.iter().copied()), "{pieces:?}");
             };
             check(&lexed, 1501, &[(3004, " "), (3005, "12"), (3007, " ")]);

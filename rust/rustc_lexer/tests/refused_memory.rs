@@ -78,7 +78,7 @@ macro_rules! edits {
                         assert_eq!(answer, Err(EditError::Memory));
                         assert_held!(lexed, text, $tokenize(text, Edition::E2024));
                         $(assert_eq!(lexed.$shebang_len(), old.$shebang_len());)?
-                        assert!((0..text.len()).all(|at| lexed.token_at(at) == old.token_at(at)));
+                        assert!((0..text.len()).all(|at| lexed.token_start_at(at) == old.token_start_at(at)));
                     }
                     let answer = answer.or_else(|_| lexed.try_edit(range.clone(), insert));
                     assert_eq!(answer, Ok(wanted));

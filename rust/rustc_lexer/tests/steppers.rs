@@ -61,9 +61,9 @@ macro_rules! has_no_tokens {
         let mut second = lexed.clone();
         assert_eq!(said(|| lexed.tokens().len()), LEFT);
         assert_eq!(said(|| lexed.pieces().len()), LEFT);
-        assert_eq!(said(|| lexed.pieces_of(0..0).len()), LEFT);
-        assert_eq!(said(|| lexed.pieces_in(0..1).len()), LEFT);
-        assert_eq!(said(|| lexed.token_at(0)), LEFT);
+        assert_eq!(said(|| lexed.pieces_of_tokens(0..0).len()), LEFT);
+        assert_eq!(said(|| lexed.pieces_in_bytes(0..1).len()), LEFT);
+        assert_eq!(said(|| lexed.token_start_at(0)), LEFT);
         assert_eq!(said(|| lexed.piece_at(0).is_some()), LEFT);
         assert_eq!(said(|| lexed.edit(0..0, "")), LEFT);
         assert_eq!(said(|| lexed.try_edit(0..0, "")), LEFT);
@@ -129,7 +129,7 @@ fn calls_of_one_kind() {
     assert_eq!((lexed.shebang_len(), lexed.tokens().len()), (3, 2));
     assert_eq!(said(|| lexed.edit(0..4, "!")), broken(0, 2));
     assert_eq!(said(|| lexed.shebang_len()), LEFT);
-    assert_eq!(said(|| lexed.body()), LEFT);
+    assert_eq!(said(|| lexed.body_start()), LEFT);
     has_no_tokens!(lexed, "!b");
     let mut lexed = LexedText::try_with("abc", Few(3)).unwrap();
     assert_eq!(lexed.settled(), 1);
@@ -157,7 +157,7 @@ fn a_new_text_heals() {
     let mut lexed = LexedDocument::try_with("#!a\nb", Bytes(0)).unwrap();
     said(|| lexed.edit(0..4, "!"));
     assert_eq!(lexed.set_text("#!ab\n---\n---\nc"), Relexed::none(4));
-    assert_eq!((lexed.shebang_len(), lexed.body().number), (4, 2));
+    assert_eq!((lexed.shebang_len(), lexed.body_start().index), (4, 2));
     assert_eq!(lexed.edit(13..14, "d").kept_front, 2);
 }
 

@@ -94,7 +94,7 @@ calls! {
         ) -> u32;
     }
     offsets {
-        fn rustc_lexer_token_at(tokens: &[CToken], offset: usize, number: &mut usize, start: &mut usize) -> bool;
+        fn rustc_lexer_token_start_at(tokens: &[CToken], offset: usize, number: &mut usize, start: &mut usize) -> bool;
     }
     places {
         fn rustc_lexer_strip_shebang(text: &[u8], line_len: &mut usize) -> u32;
@@ -135,7 +135,7 @@ calls! {
     }
     marked {
         fn rustc_lexer_marks(
-            text: &[u8], style: u32, edition: u32, count: usize, buffer: &mut [u8], written: &mut usize
+            text: &[u8], format: u32, edition: u32, count: usize, buffer: &mut [u8], written: &mut usize
         ) -> u32;
     }
     classes {

@@ -13,7 +13,7 @@ use Rattle.rustc_literal_escaper.specs.Grammar.{Item}
 use Rattle.rustc_literal_escaper.specs.Meaning.{error_of, is_raw}
 use Rattle.marks.specs.declared.literal.Look.{Look}
 use Rattle.marks.specs.declared.literal.Look.TheVariants.{Escape, Wrong}
-use Rattle.marks.specs.declared.style.Style.{Style}
+use Rattle.marks.specs.declared.format.Format.{Format}
 use Rattle.marks.specs.Literal.{Stretch, parts_from, stretch}
 use Rattle.marks.specs.Part.{with_marks}
 
@@ -47,10 +47,10 @@ string_stretches mode begin close text =
 
 -- a writer that has written a literal up to the offset `shown` writes these stretches, and has then
 -- written it up to `to`: whatever stretches follow, writing those too completes the literal
-abbrev pub WritesOn : {W : Type 0} → (W → List ℕ → W → Type 0) → Style → Utf8
+abbrev pub WritesOn : {W : Type 0} → (W → List ℕ → W → Type 0) → Format → Utf8
     → W → ℕ → List Stretch → W → ℕ → Type 0
-WritesOn {W} took style text old shown stretches new to =
+WritesOn {W} took format text old shown stretches new to =
     (more : List Stretch) (last : W)
-    → WritesInCalls took new (with_marks style (parts_from to (drop to text) more)) last
+    → WritesInCalls took new (with_marks format (parts_from to (drop to text) more)) last
     → WritesInCalls took old
-    (with_marks style (parts_from shown (drop shown text) (stretches ++ more))) last
+    (with_marks format (parts_from shown (drop shown text) (stretches ++ more))) last

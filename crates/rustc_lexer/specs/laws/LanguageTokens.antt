@@ -13,7 +13,7 @@ use Rattle.rustc_lexer.specs.laws.LanguageClosing.{body-at, body-read, endings-p
 use Rattle.rustc_lexer.specs.laws.LanguageFrontmatter.{fence-length, opening-read, Opened, opened, opens-none, none-opens}
 use Rattle.rustc_lexer.specs.laws.LanguageLiterals.{bytes-append}
 use Rattle.rustc_lexer.specs.FrontmatterGrammar.{fence, IsOpeningBefore, opening}
-use Rattle.rustc_lexer.specs.LanguageText.{IsTokenIn, Mode, is_document, document, part, mode_edition, mode_after, AreTokens, nothing, something, frontmatter_first}
+use Rattle.rustc_lexer.specs.LanguageText.{IsTokenIn, Mode, is_source, source, part, mode_edition, mode_after, AreTokens, nothing, something, frontmatter_first}
 use Rattle.rustc_lexer.specs.means.Scan.{bytes_of, next_is, past}
 use Rattle.rustc_lexer.specs.means.Taking.{token_at}
 use Rattle.rustc_lexer.specs.laws.LanguageIn.{token-read-in, first-front}
@@ -22,13 +22,13 @@ use Rattle.rustc_lexer.specs.laws.Tokens.{token_at-cuts, by_tokens, tokens-nil, 
 
 -- ---- a list that the language allows is the list of the tokens
 
-pub at-first : (mode : Mode) (text : List ℕ) → (is_document mode ≡ true → opens (chars text) ≡ false) → token_at mode text ≡ first_token_in (mode_edition mode) text
+pub at-first : (mode : Mode) (text : List ℕ) → (is_source mode ≡ true → opens (chars text) ≡ false) → token_at mode text ≡ first_token_in (mode_edition mode) text
 at-first mode text w2 = grind (arith, common_steps)
 
-at-frontmatter : (edition : Edition) (text : List ℕ) → opens (chars text) ≡ true → token_at (document edition) text ≡ frontmatter text
+at-frontmatter : (edition : Edition) (text : List ℕ) → opens (chars text) ≡ true → token_at (source edition) text ≡ frontmatter text
 at-frontmatter edition text e = rw e refl
 
-after-frontmatter : (edition : Edition) (text : List ℕ) → mode_after (document edition) (frontmatter text).kind ≡ part edition
+after-frontmatter : (edition : Edition) (text : List ℕ) → mode_after (source edition) (frontmatter text).kind ≡ part edition
 unfolding frontmatter
 after-frontmatter edition text = refl
 
@@ -74,7 +74,7 @@ tokens-read (frontmatter_first {edition} {n} {bad_label} {opening = front} {next
     let token : Token = record { kind = Frontmatter (next_is is_whitespace front) bad_label; len = bytes front + bytes body } in
     let whole : chars text ≡ (front ++ body) ++ next = e ∙ sym (append_assoc front body next) in
     let same : frontmatter text ≡ token = frontmatter-is text n bad_label front (body ++ next) is e is_opening ∙ ap (λ (k : ℕ). let t : Token = record { kind = Frontmatter (next_is is_whitespace front) bad_label; len = bytes front + k } in t) (sym len) in
-    step (document edition) text (front ++ body) next token tokens is (omega (arith, opening-some is_opening, length-append front body)) whole (at-frontmatter edition text (ap opens e ∙ r.opens_here) ∙ same) (sym (bytes-append front body))
+    step (source edition) text (front ++ body) next token tokens is (omega (arith, opening-some is_opening, length-append front body)) whole (at-frontmatter edition text (ap opens e ∙ r.opens_here) ∙ same) (sym (bytes-append front body))
     (λ u text_u f. tokens-read rest u text_u f)
 
 -- ---- and the tokens are such a list
@@ -84,21 +84,21 @@ abbrev Puts : Mode → List ℕ → Token → Type 0
 Puts mode text t = AreTokens (mode_after mode t.kind) (chars (drop t.len text)) (read_tokens (mode_after mode t.kind) (drop t.len text)) → AreTokens mode (chars text) (t ∷ read_tokens (mode_after mode t.kind) (drop t.len text))
 
 -- a token of the characters, and the tokens of what follows it
-put : (mode : Mode) (text : List ℕ) (kind : TokenKind) (c : ℕ) (w next : List ℕ) → IsText text → c ∷ w ++ next ≡ chars text → IsTokenIn (mode_edition mode) next kind (c ∷ w) → (is_document mode ≡ true → opens (chars text) ≡ false) → Puts mode text (token kind (bytes (c ∷ w)))
+put : (mode : Mode) (text : List ℕ) (kind : TokenKind) (c : ℕ) (w next : List ℕ) → IsText text → c ∷ w ++ next ≡ chars text → IsTokenIn (mode_edition mode) next kind (c ∷ w) → (is_source mode ≡ true → opens (chars text) ≡ false) → Puts mode text (token kind (bytes (c ∷ w)))
 put mode text kind c w next is whole p free rest =
     grind (arith, common_steps, split text (c ∷ w) next is (sym whole), (split text (c ∷ w) next is (sym whole)).left, (split text (c ∷ w) next is (sym whole)).again, rest, whole, something, opens-none)
 
-lexeme-first : (mode : Mode) (text : List ℕ) → IsText text → 0 < length text → (is_document mode ≡ true → opens (chars text) ≡ false) → Puts mode text (token_at mode text)
+lexeme-first : (mode : Mode) (text : List ℕ) → IsText text → 0 < length text → (is_source mode ≡ true → opens (chars text) ≡ false) → Puts mode text (token_at mode text)
 lexeme-first mode text is some free =
     grind (arith, common_steps, first-front (mode_edition mode) text (chars text) is some refl, at-first mode text free, (first-front (mode_edition mode) text (chars text) is some refl).same, put)
 
-frontmatter-first : (edition : Edition) (text : List ℕ) → IsText text → 0 < length text → opens (chars text) ≡ true → Puts (document edition) text (frontmatter text)
+frontmatter-first : (edition : Edition) (text : List ℕ) → IsText text → 0 < length text → opens (chars text) ≡ true → Puts (source edition) text (frontmatter text)
 frontmatter-first edition text is some opened_here rest_are = put (opened (chars text) opened_here)
   where
     tokens : List Token
-    tokens = read_tokens (mode_after (document edition) (frontmatter text).kind) (drop (frontmatter text).len text)
+    tokens = read_tokens (mode_after (source edition) (frontmatter text).kind) (drop (frontmatter text).len text)
 
-    put : Opened (chars text) → AreTokens (document edition) (chars text) (frontmatter text ∷ tokens)
+    put : Opened (chars text) → AreTokens (source edition) (chars text) (frontmatter text ∷ tokens)
     put o =
         let n : ℕ = o.count in
         let b = body-at _ o.rest (endings-patterns n) in
@@ -112,8 +112,8 @@ frontmatter-first edition text is some opened_here rest_are = put (opened (chars
         frontmatter-is text n bad_label o.front (body ++ next) is (sym whole) is_opening ∙ ap (λ (k : ℕ). let t : Token = record { kind = Frontmatter (next_is is_whitespace o.front) bad_label; len = bytes o.front + k } in t) (body-read n b.is) in
         let cut : drop (frontmatter text).len text ≡ encode_utf8_all next = ap (λ (t : Token). drop t.len text) same ∙ (ap (λ (k : ℕ). drop k text) (sym (bytes-append o.front body)) ∙ parts.left) in
         let rest_is : AreTokens (part edition) next tokens = subst (λ (cs : List ℕ). AreTokens (part edition) cs tokens) (ap chars cut ∙ parts.again) (subst (λ (mode : Mode). AreTokens mode (chars (drop (frontmatter text).len text)) tokens) (after-frontmatter edition text) rest_are) in
-        subst (λ (cs : List ℕ). AreTokens (document edition) cs (frontmatter text ∷ tokens)) whole
-        (subst (λ (t : Token). AreTokens (document edition) (o.front ++ (body ++ next)) (t ∷ tokens)) (sym same) (frontmatter_first body is_opening b.is rest_is))
+        subst (λ (cs : List ℕ). AreTokens (source edition) cs (frontmatter text ∷ tokens)) whole
+        (subst (λ (t : Token). AreTokens (source edition) (o.front ++ (body ++ next)) (t ∷ tokens)) (sym same) (frontmatter_first body is_opening b.is rest_is))
 
 puts : (mode : Mode) (text : List ℕ) → IsText text → 0 < length text → Puts mode text (token_at mode text)
 puts w0 text is some = grind (arith, common_steps, lexeme-first, at-frontmatter, frontmatter-first)

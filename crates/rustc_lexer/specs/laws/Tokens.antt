@@ -6,8 +6,8 @@ use Rattle.std.proofs.lemmas.List.Elements.{All-nil, All-cons}
 use Rattle.std.proofs.lemmas.Grind.{common_steps}
 use Rattle.rustc_lexer.specs.{Token}
 use Rattle.rustc_lexer.specs.Partition.{bound, Partitions}
-use Rattle.rustc_lexer.specs.means.Tokens.{cut, tokens_of_document, read_tokens}
-use Rattle.rustc_lexer.specs.LanguageText.{Mode, document, part, mode_after}
+use Rattle.rustc_lexer.specs.means.Tokens.{cut, tokens_of_source, read_tokens}
+use Rattle.rustc_lexer.specs.LanguageText.{Mode, source, part, mode_after}
 use Rattle.rustc_lexer.specs.laws.Edition.{edition_grammar}
 use Rattle.rustc_lexer.specs.means.Taking.{token_at}
 use Rattle.rustc_lexer.specs.laws.Cuts.{tokens-nil as part-nil, tokens-cons as part-cons}
@@ -36,26 +36,26 @@ shorter text token cuts = let n = cuts.not_empty in let i = cuts.inside in omega
 -- any count that is large enough gives the same tokens
 cut-enough : (mode : Mode) (m n : ℕ) (text : List ℕ) → IsText text → length text ≤ m → length text ≤ n → cut mode m text ≡ cut mode n text
 cut-enough (part edition) m n text is a b = refl
-cut-enough (document edition) zero zero [] is a b = refl
-cut-enough (document edition) zero (suc n) [] is a b = refl
-cut-enough (document edition) (suc m) zero [] is a b = refl
-cut-enough (document edition) (suc m) (suc n) [] is a b = refl
-cut-enough (document edition) zero n (c ∷ cs) is a b = absurd (omega arith)
-cut-enough (document edition) (suc m) zero (c ∷ cs) is a b = absurd (omega arith)
-cut-enough (document edition) (suc m) (suc n) (c ∷ cs) is a b =
-    let token : Token = token_at (document edition) (c ∷ cs) in
-    let cuts : CutsOff (c ∷ cs) token = token_at-cuts (document edition) (c ∷ cs) is (omega arith) in
+cut-enough (source edition) zero zero [] is a b = refl
+cut-enough (source edition) zero (suc n) [] is a b = refl
+cut-enough (source edition) (suc m) zero [] is a b = refl
+cut-enough (source edition) (suc m) (suc n) [] is a b = refl
+cut-enough (source edition) zero n (c ∷ cs) is a b = absurd (omega arith)
+cut-enough (source edition) (suc m) zero (c ∷ cs) is a b = absurd (omega arith)
+cut-enough (source edition) (suc m) (suc n) (c ∷ cs) is a b =
+    let token : Token = token_at (source edition) (c ∷ cs) in
+    let cuts : CutsOff (c ∷ cs) token = token_at-cuts (source edition) (c ∷ cs) is (omega arith) in
     let less : length (drop token.len (c ∷ cs)) < suc (length cs) = shorter (c ∷ cs) token cuts in
-    ap (λ ts. token ∷ ts) (cut-enough (mode_after (document edition) token.kind) m n (drop token.len (c ∷ cs)) cuts.left (omega arith) (omega arith))
+    ap (λ ts. token ∷ ts) (cut-enough (mode_after (source edition) token.kind) m n (drop token.len (c ∷ cs)) cuts.left (omega arith) (omega arith))
 
 pub tokens-nil : (mode : Mode) → read_tokens mode [] ≡ []
-unfolding tokens_of_document
+unfolding tokens_of_source
 tokens-nil mode = grind (arith, common_steps, part-nil)
 
 -- the tokens of a text: its first one, and those of what is left
 pub tokens-cons : (mode : Mode) (text : List ℕ) → IsText text → 0 < length text
     → read_tokens mode text ≡ token_at mode text ∷ read_tokens (mode_after mode (token_at mode text).kind) (drop (token_at mode text).len text)
-unfolding tokens_of_document
+unfolding tokens_of_source
 tokens-cons w0 text is some = grind (arith, common_steps, part-cons, edition_grammar, token_at-cuts, shorter, cut-enough)
 
 -- what holds of a text whose first tokens were cut off holds of the text

@@ -2,7 +2,7 @@
 use Rattle.std.specs.Prelude.{ℕ, zero, suc, ◌+◌, ◌-◌, ◌<◌, ◌≤◌, ◌&&◌, Bool, cond, nat_le, nat_lt, nat_eq, count_by, max, map, IsCharBoundary, ◌≡◌, ◌++◌, ◌∷◌, true, List, length, take, drop}
 use Rattle.std.specs.List.{list_any}
 use Rattle.std.specs.Str.{IsUtf8}
-use Rattle.rustc_lexer.specs.declared.relex.front.Bound.{Bound}
+use Rattle.rustc_lexer.specs.declared.relex.front.TokenStart.{TokenStart}
 use Rattle.rustc_lexer.specs.declared.relex.front.Damage.{Damage}
 use Rattle.rustc_lexer.specs.declared.relex.relexing.Change.{Change}
 use Rattle.rustc_lexer.specs.declared.relex.relexing.Relexed.{Relexed}
@@ -80,22 +80,22 @@ relexed_of first text start stop insert =
 -- before the present offset, moved back by the edit, or the last boundary
 pub record Stands (first : List ℕ → Token) (old : List ℕ) (change : Change) (text : List ℕ)
     (at : Relexing) : Type 0 where
-  pub front_number : at.front.number ≡ kept_front old (tokens_by first old) change.start
+  pub front_number : at.front.index ≡ kept_front old (tokens_by first old) change.start
   pub front_bound : IsBound (tokens_by first old) at.front
-  pub front_same : take at.front.number (tokens_by first old)
-      ≡ take at.front.number (tokens_by first text)
+  pub front_same : take at.front.index (tokens_by first old)
+      ≡ take at.front.index (tokens_by first text)
   pub inside : known at ≤ length (tokens_by first text)
   pub offset : at.at ≡ bound (tokens_by first text) (known at)
   pub not_past : known at
       ≤ meet (tokens_by first old) (tokens_by first text) change.old_stop change.new_stop
-      at.front.number
+      at.front.index
   pub met_is : at.met ≡ meets_at (tokens_by first old) change.old_stop change.new_stop at.at
   pub back_bound : IsBound (tokens_by first old) at.back
   pub not_begun : at.at < change.new_stop → at.back ≡ at.front
-  pub below : (k : ℕ) → k < at.back.number
+  pub below : (k : ℕ) → k < at.back.index
       → bound (tokens_by first old) k + change.new_stop
       < max change.new_stop at.at + change.old_stop
-  pub reached : change.new_stop ≤ at.at → at.back.number < length (tokens_by first old)
+  pub reached : change.new_stop ≤ at.at → at.back.index < length (tokens_by first old)
       → at.at - change.new_stop + change.old_stop ≤ at.back.offset
 
 -- ---- the parts
@@ -139,11 +139,11 @@ IsLast tokens offset =
 
 -- the old tokens were followed to boundary `back` for an offset of the new text, and `met` says
 -- whether that offset meets the old tokens
-pub record IsFollowed (old : List Token) (old_stop new_stop offset : ℕ) (back : Bound) (met : Bool)
+pub record IsFollowed (old : List Token) (old_stop new_stop offset : ℕ) (back : TokenStart) (met : Bool)
     : Type 0 where
   pub bound_is : IsBound old back
-  pub below : (k : ℕ) → k < back.number → bound old k + new_stop < max new_stop offset + old_stop
-  pub reached : new_stop ≤ offset → back.number < length old
+  pub below : (k : ℕ) → k < back.index → bound old k + new_stop < max new_stop offset + old_stop
+  pub reached : new_stop ≤ offset → back.index < length old
       → offset - new_stop + old_stop ≤ back.offset
   pub met_is : met ≡ meets_at old old_stop new_stop offset
 
@@ -153,7 +153,7 @@ pub record IsLexed (first : List ℕ → Token) (old : List ℕ) (change : Chang
   pub stands : Stands first old change text at
   pub met : at.met ≡ true
   pub lexed : at.lexed ≡ length tokens
-  pub tokens_are : drop at.front.number (tokens_by first text)
+  pub tokens_are : drop at.front.index (tokens_by first text)
       ≡ tokens ++ drop (known at) (tokens_by first text)
 
 -- the tokens of the old text are replaced by those of the new one: the kept front and back stay,
@@ -162,7 +162,7 @@ pub record IsRenewed (first : List ℕ → Token) (old : List ℕ) (change : Cha
     (tokens now : List Token) (at : Relexing) : Type 0 where
   pub lexed : List Token
   pub lexed_is : IsLexed first old change text lexed at
-  pub now_is : now ≡ take at.front.number tokens ++ (lexed ++ drop at.back.number tokens)
+  pub now_is : now ≡ take at.front.index tokens ++ (lexed ++ drop at.back.index tokens)
 
 -- ---- what two texts have in common
 

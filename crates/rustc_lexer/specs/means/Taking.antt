@@ -3,15 +3,15 @@ use Rattle.std.specs.Prelude.{◌≡◌, ◌+◌, ◌^◌, ◌<◌, ℕ, List, [
 use Rattle.std.specs.Str.{chars}
 use Rattle.rustc_lexer.specs.{Token, Eof}
 use Rattle.rustc_lexer.specs.Classes.{IsText}
-use Rattle.rustc_lexer.specs.LanguageText.{Mode, document, newest, part, mode_after, mode_edition}
+use Rattle.rustc_lexer.specs.LanguageText.{Mode, source, newest, part, mode_after, mode_edition}
 use Rattle.rustc_lexer.specs.State.{State, token_past}
 use Rattle.rustc_lexer.specs.means.Edition.{first_token_in}
 use Rattle.rustc_lexer.specs.means.Frontmatter.{frontmatter, opens}
 
--- the first token of a text, which is a frontmatter if one opens a document
+-- the first token of a text, which is a frontmatter if one opens source
 abbrev pub token_at : Mode → List ℕ → Token
 token_at (part edition) text = first_token_in edition text
-token_at (document edition) text =
+token_at (source edition) text =
     if opens (chars text) then frontmatter text else first_token_in edition text
 
 -- the token of a state, and the state after it. At the end of the text it is a token of length 0,

@@ -2,28 +2,28 @@
 use Rattle.std.specs.Prelude.{ℕ, zero, suc, ◌≡◌, List, [], ◌∷◌, ◌++◌, length, take, drop, map, min}
 use Rattle.rustc_lexer.specs.{Edition, Token}
 use Rattle.rustc_lexer.specs.Partition.{tokens_by}
-use Rattle.rustc_lexer.specs.LanguageText.{Mode, document, part, mode_after}
+use Rattle.rustc_lexer.specs.LanguageText.{Mode, source, part, mode_after}
 use Rattle.rustc_lexer.specs.means.Edition.{first_token_in}
 use Rattle.rustc_lexer.specs.means.Taking.{token_at}
 
--- the tokens of a text, of which `count` at most are read as those of a document: each says how
+-- the tokens of a text, of which `count` at most are read as those of source: each says how
 -- what follows it is read
 abbrev pub cut : Mode → ℕ → List ℕ → List Token
 cut (part edition) count text = tokens_by (first_token_in edition) text
-cut (document edition) zero text = []
-cut (document edition) (suc count) [] = []
-cut (document edition) (suc count) (b ∷ bs) =
-    let token : Token = token_at (document edition) (b ∷ bs) in
-    token ∷ cut (mode_after (document edition) token.kind) count (drop token.len (b ∷ bs))
+cut (source edition) zero text = []
+cut (source edition) (suc count) [] = []
+cut (source edition) (suc count) (b ∷ bs) =
+    let token : Token = token_at (source edition) (b ∷ bs) in
+    token ∷ cut (mode_after (source edition) token.kind) count (drop token.len (b ∷ bs))
 
--- the tokens of a document, which has no more of them than bytes
-unfoldable pub tokens_of_document : Edition → List ℕ → List Token
-tokens_of_document edition text = cut (document edition) (length text) text
+-- the tokens of source, which has no more of them than bytes
+unfoldable pub tokens_of_source : Edition → List ℕ → List Token
+tokens_of_source edition text = cut (source edition) (length text) text
 
 -- the tokens of a text
 abbrev pub read_tokens : Mode → List ℕ → List Token
 read_tokens (part edition) text = tokens_by (first_token_in edition) text
-read_tokens (document edition) text = tokens_of_document edition text
+read_tokens (source edition) text = tokens_of_source edition text
 
 -- the buffer holds the first of the tokens at its front, each as it is written: as many as there
 -- are, or as there is room for; the rest of the buffer stays

@@ -3,7 +3,7 @@ ghost use Rattle.std.specs.Prelude.{◌≡◌, All, drop};
 ghost use Rattle.std.specs.Str.{IsCharBoundary};
 ghost use Rattle.rustc_lexer.specs.Classes.{Fits};
 ghost use Rattle.rustc_lexer.specs.Document.{document_tokens, shebang_len};
-ghost use Rattle.rustc_lexer.specs.LanguageText.{document};
+ghost use Rattle.rustc_lexer.specs.LanguageText.{source};
 ghost use Rattle.rustc_lexer.specs.Tokens.{HasSuffix, HaveTexts, Partitions, tokens_left};
 
 use crate::edition::Edition;
@@ -33,7 +33,7 @@ pub fn tokenize_document<'a>(text: &'a str, edition: Edition) -> Tokens<'a>
         ≡ record {
           pending = 0;
           rest = drop (shebang_len text.now) text.now;
-          mode = document edition;
+          mode = source edition;
         } }
     ensures tokens { tokens_left result ≡ document_tokens edition text.now }
     ensures boundary { IsCharBoundary text.now (shebang_len text.now) }

@@ -12,13 +12,13 @@ use std::iter::Iterator;
 /// In plain Rust this one is the kind alone:
 ///
 /// ```
-/// use rustc_lexer::{FrontmatterAllowed, Record, Token, TokenKind, tokenize};
+/// use rustc_lexer::{FromToken, FrontmatterAllowed, Token, TokenKind, tokenize};
 ///
 /// #[derive(Clone, Copy, Debug, PartialEq)]
 /// struct Kind(TokenKind);
 ///
-/// impl Record for Kind {
-///     fn of(token: Token) -> Kind {
+/// impl FromToken for Kind {
+///     fn from_token(token: Token) -> Kind {
 ///         Kind(token.kind)
 ///     }
 /// }
@@ -27,21 +27,21 @@ use std::iter::Iterator;
 /// assert_eq!(tokenize("a+b", FrontmatterAllowed::No).fill(&mut kinds), 3);
 /// assert_eq!(kinds[1], Kind(TokenKind::Plus));
 /// ```
-pub trait Record: Copy {
+pub trait FromToken: Copy {
     /// The form of each token.
     ghost written: { Token → Self };
 
     /// Returns the form of a token.
-    fn of(token: Token) -> Self
+    fn from_token(token: Token) -> Self
         ensures { result ≡ written token };
 }
 
 /// A token in its own form.
-impl Record for Token {
+impl FromToken for Token {
     ghost written = { λ token. token };
 
     #[inline(always)]
-    fn of(token: Token) -> Token {
+    fn from_token(token: Token) -> Token {
         token
     }
 }
@@ -62,7 +62,7 @@ impl<'a> Tokens<'a> {
     ///     }
     /// }
     /// ```
-    pub fn fill<R: Record>(&mut self, buffer: &mut [R]) -> usize
+    pub fn fill<R: FromToken>(&mut self, buffer: &mut [R]) -> usize
         ensures count { result ≡ min (length buffer.old) (length (tokens_left self.old)) }
         ensures tokens { buffer.new
             ≡ map R.written (take result (tokens_left self.old)) ++ drop result buffer.old }
@@ -76,7 +76,7 @@ impl<'a> Tokens<'a> {
             let Some(token) = tokens.next() else {
                 break;
             };
-            buffer[count] = R::of(token);
+            buffer[count] = R::from_token(token);
             count += 1;
         }
         *self = tokens;

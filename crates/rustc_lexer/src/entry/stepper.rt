@@ -8,7 +8,7 @@ ghost use Rattle.rustc_lexer.specs.LanguageText.{year, newest};
 ghost use Rattle.rustc_lexer.specs.Locality.{IsGrammar};
 
 use crate::edition::{Edition, token_in};
-use crate::entry::fill::Record;
+use crate::entry::fill::FromToken;
 use crate::entry::tally::Tally;
 use crate::entry::tokenize_in;
 use crate::token::Token;
@@ -64,7 +64,7 @@ pub trait Stepper: Drop {
     ///
     /// This default takes one step after another. A stepper that can find many tokens at once has a body of its
     /// own.
-    fn fill<R: Record>(&mut self, text: &str, end: usize, buffer: &mut [R]) -> (usize, usize)
+    fn fill<R: FromToken>(&mut self, text: &str, end: usize, buffer: &mut [R]) -> (usize, usize)
         requires fits { Fits text.now }
         requires inside { end ≤ length text.now }
         ensures filled { IsFilledTo R.written end (tokens_by (grammar self.old) text.now)
@@ -78,7 +78,7 @@ pub trait Stepper: Drop {
         let mut at = 0;
         'places: while written < buffer.len() && at < end {
             let token = self.step(&text[at..]);
-            buffer[written] = R::of(token);
+            buffer[written] = R::from_token(token);
             written += 1;
             at += token.len as usize;
         }
@@ -141,21 +141,21 @@ impl Stepper for Steps {
         token_in(rest, self.edition)
     }
 
-    fn fill<R: Record>(&mut self, text: &str, end: usize, buffer: &mut [R]) -> (usize, usize) {
+    fn fill<R: FromToken>(&mut self, text: &str, end: usize, buffer: &mut [R]) -> (usize, usize) {
         let mut tokens = tokenize_in(text, self.edition);
         let past_end = text.len() - end;
         let mut count = 0;
         'places: while count < buffer.len() && tokens.left() > past_end {
             // Most tokens are told: a branch of their own is faster.
             if let Some(token) = tokens.told() {
-                buffer[count] = R::of(token);
+                buffer[count] = R::from_token(token);
                 count += 1;
                 continue;
             }
             let Some(token) = tokens.next() else {
                 break;
             };
-            buffer[count] = R::of(token);
+            buffer[count] = R::from_token(token);
             count += 1;
         }
         self.tally.tick_by(count);

@@ -5,7 +5,7 @@ ghost use Rattle.rustc_lexer.specs.{Token};
 ghost use Rattle.rustc_lexer.specs.means.Checkpoints.{AreBounds, IsMovable, IsReplaced};
 ghost use Rattle.rustc_lexer.specs.Offsets.{IsBound};
 
-use crate::relex::front::{Bound, FIRST};
+use crate::relex::front::{FIRST, TokenStart};
 
 /// How many token boundaries are remembered. It is odd: then different multiples of a power of two, if there are at most
 /// so many in a row, leave different remainders.
@@ -15,7 +15,7 @@ const COUNT: usize = 63;
 /// `COUNT`.
 #[derive(Clone, Copy)]
 pub(crate) struct Checkpoints {
-    bounds: [Bound; COUNT],
+    bounds: [TokenStart; COUNT],
 }
 
 impl Checkpoints {
@@ -32,7 +32,7 @@ impl Checkpoints {
     ///
     /// A share has its place by the offset at which it begins. When a text has grown so that two shares become one, this
     /// is the place of the first of the two, and what comes at the end gets the places of the others.
-    pub(crate) fn remember(&mut self, bound: Bound, len: usize)
+    pub(crate) fn remember(&mut self, bound: TokenStart, len: usize)
         ensures { (tokens : List Token) → AreBounds tokens self.old → IsBound tokens bound
             → AreBounds tokens self.new }
     {
@@ -48,7 +48,7 @@ impl Checkpoints {
     {
         let mut all = *more;
         for bound in &self.bounds {
-            if bound.number > 0 {
+            if bound.index > 0 {
                 all.remember(*bound, len);
             }
         }
@@ -56,7 +56,7 @@ impl Checkpoints {
     }
 
     /// Returns the checkpoint that is nearest to `offset`.
-    pub(crate) fn nearest(&self, offset: usize) -> Bound
+    pub(crate) fn nearest(&self, offset: usize) -> TokenStart
         ensures { Contains self.now.bounds result }
     {
         let mut nearest = self.bounds[0];
@@ -69,15 +69,15 @@ impl Checkpoints {
     }
 
     /// Returns the last checkpoint that has at most `number` tokens before it, or the first boundary of the list.
-    pub(crate) fn before_number(&self, number: usize) -> Bound
-        ensures number { result.number ≤ number }
+    pub(crate) fn before_number(&self, number: usize) -> TokenStart
+        ensures number { result.index ≤ number }
         ensures bound { (tokens : List Token) → AreBounds tokens self.now → IsBound tokens result }
-        ensures last { All (λ bound. bound.number ≤ number → bound.number ≤ result.number)
+        ensures last { All (λ bound. bound.index ≤ number → bound.index ≤ result.index)
             self.now.bounds }
     {
         let mut last = FIRST;
         for bound in &self.bounds {
-            if last.number < bound.number && bound.number <= number {
+            if last.index < bound.index && bound.index <= number {
                 last = *bound;
             }
         }
@@ -86,7 +86,7 @@ impl Checkpoints {
 
     /// Returns the checkpoints after an edit. The edit keeps the tokens up to `kept`, and those from `met` on,
     /// which is then `now`. A checkpoint in between becomes `kept`.
-    pub(crate) fn after(&self, kept: Bound, met: Bound, now: Bound) -> Checkpoints
+    pub(crate) fn after(&self, kept: TokenStart, met: TokenStart, now: TokenStart) -> Checkpoints
         requires { All (IsMovable met now) self.now.bounds }
         ensures { (old new : List Token) → IsReplaced old new kept met now → AreBounds old self.now
             → AreBounds new result }
@@ -102,16 +102,16 @@ impl Checkpoints {
 /// Returns the boundary after an edit. The edit keeps the tokens up to `kept`, and those from `met` on, which is then
 /// `now`.
 #[tactic(auto, using(crate::proofs::CheckpointLemmas::front_stays, crate::proofs::CheckpointLemmas::kept_stays, std::proofs::lemmas::Grind::common_steps))]
-fn move_bound(bound: Bound, kept: Bound, met: Bound, now: Bound) -> Bound
+fn move_bound(bound: TokenStart, kept: TokenStart, met: TokenStart, now: TokenStart) -> TokenStart
     requires { IsMovable met now bound }
     ensures { (old new : List Token) → IsReplaced old new kept met now → IsBound old bound
         → IsBound new result }
 {
-    if bound.number <= kept.number {
+    if bound.index <= kept.index {
         bound
-    } else if bound.number >= met.number {
-        Bound {
-            number: bound.number - met.number + now.number,
+    } else if bound.index >= met.index {
+        TokenStart {
+            index: bound.index - met.index + now.index,
             offset: bound.offset - met.offset + now.offset,
         }
     } else {

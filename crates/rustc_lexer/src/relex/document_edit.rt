@@ -86,17 +86,17 @@ pub(crate) fn put_tokens(
     at: Relexing,
     lexed: Vec<Token>,
 ) -> Result<(), AllocError>
-    requires order { at.front.number ≤ at.back.number }
-    requires inside { old_count + at.back.number ≤ length tokens.old.items }
+    requires order { at.front.index ≤ at.back.index }
+    requires inside { old_count + at.back.index ≤ length tokens.old.items }
     ensures put { OnOk result
         (tokens.new.items
         ≡ means.head_put (take old_count tokens.old.items) head
-        ++ (take at.front.number (drop old_count tokens.old.items)
-        ++ (lexed.items ++ drop at.back.number (drop old_count tokens.old.items)))) }
+        ++ (take at.front.index (drop old_count tokens.old.items)
+        ++ (lexed.items ++ drop at.back.index (drop old_count tokens.old.items)))) }
     ensures same { OnErr result (tokens.new.items ≡ tokens.old.items) }
 {
-    let from = old_count + at.front.number;
-    let to = old_count + at.back.number;
+    let from = old_count + at.front.index;
+    let to = old_count + at.back.index;
     match head {
         None => replace(tokens, from, to, lexed),
         Some(head) => {

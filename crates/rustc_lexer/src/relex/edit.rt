@@ -14,7 +14,7 @@ ghost use Rattle.rustc_lexer.specs.means.Relexing.{IsLexed, relexed_of};
 
 use crate::entry::stepper::Stepper;
 use crate::relex::checkpoints::Checkpoints;
-use crate::relex::front::Bound;
+use crate::relex::front::TokenStart;
 use crate::relex::relexing::{Change, Relexing};
 use crate::token::{Token, TokenKind};
 use std::alloc::{AllocError, Global};
@@ -72,7 +72,7 @@ pub(crate) fn relex<S: Stepper>(
     alloc: Global,
     stepper: &mut S,
     old: &[Token],
-    near: Bound,
+    near: TokenStart,
     text: &str,
     change: Change,
     lexed_bounds: &mut Checkpoints,
@@ -132,12 +132,12 @@ pub(crate) fn relex<S: Stepper>(
 }
 
 /// Returns where the last token ends that was lexed.
-fn end_of(at: Relexing) -> Bound
+fn end_of(at: Relexing) -> TokenStart
     requires small { known at < 2 ^ 64 }
     ensures { result ≡ end_of at }
 {
-    Bound {
-        number: at.front.number + at.lexed,
+    TokenStart {
+        index: at.front.index + at.lexed,
         offset: at.at,
     }
 }
@@ -161,7 +161,7 @@ pub(crate) fn past_edit(
         return moved;
     }
     let mut all = moved.joined(lexed_bounds, len);
-    if at.front.number == 0 {
+    if at.front.index == 0 {
         return all;
     }
     all.remember(at.front, len);

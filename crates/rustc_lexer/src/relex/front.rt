@@ -31,18 +31,18 @@ impl Measured for Token {
     }
 }
 
-/// A token boundary: how many tokens come before it, and its offset.
+/// Where a token begins, or the last one ends: its index and its offset.
 #[derive(Clone, Copy, Debug, PartialEq, Eq)]
-pub struct Bound {
-    /// How many tokens come before it.
-    pub number: usize,
+pub struct TokenStart {
+    /// How many tokens come before it: the index of the one that begins there.
+    pub index: usize,
     /// Its offset, in bytes from the start of the text.
     pub offset: usize,
 }
 
 /// The first boundary, which each list has.
-pub(crate) const FIRST: Bound = Bound {
-    number: 0,
+pub(crate) const FIRST: TokenStart = TokenStart {
+    index: 0,
     offset: 0,
 };
 
@@ -78,27 +78,27 @@ fn stand_before(text: &str, from: usize, to: usize) -> bool
 }
 
 /// Returns the last boundary up to `from` that is at least two characters before `start`, or the first boundary.
-fn walk_back<T: Measured>(text: &str, tokens: &[T], start: usize, from: Bound) -> Bound
+fn walk_back<T: Measured>(text: &str, tokens: &[T], start: usize, from: TokenStart) -> TokenStart
     requires boundary { IsCharBoundary text.now start }
-    ensures number { result.number ≤ length tokens.now }
+    ensures number { result.index ≤ length tokens.now }
     ensures boundary { IsCharBoundary text.now result.offset }
     ensures before { result.offset ≤ start }
     ensures bound { (old : List ℕ) (ts : List Token)
         → IsFront old ts (map T.bytes tokens.now) text.now start → IsBound ts from
-        → IsBound ts result × (0 < result.number → has_two old result.offset start ≡ true) }
+        → IsBound ts result × (0 < result.index → has_two old result.offset start ≡ true) }
 {
-    if from.number > tokens.len() {
+    if from.index > tokens.len() {
         return FIRST;
     }
     let mut at = from;
-    while at.number > 0 {
+    while at.index > 0 {
         if stand_before(text, at.offset, start) {
             return at;
         }
-        let number = at.number - 1;
-        at = Bound {
-            number,
-            offset: at.offset.saturating_sub(tokens[number].len() as usize),
+        let index = at.index - 1;
+        at = TokenStart {
+            index,
+            offset: at.offset.saturating_sub(tokens[index].len() as usize),
         };
     }
     FIRST
@@ -106,22 +106,27 @@ fn walk_back<T: Measured>(text: &str, tokens: &[T], start: usize, from: Bound) -
 
 /// Returns how many of the tokens end at least two characters before `start`. The search begins at `near`, which may be
 /// any boundary.
-pub(crate) fn kept_front<T: Measured>(text: &str, tokens: &[T], start: usize, near: Bound) -> Bound
+pub(crate) fn kept_front<T: Measured>(
+    text: &str,
+    tokens: &[T],
+    start: usize,
+    near: TokenStart,
+) -> TokenStart
     requires boundary { IsCharBoundary text.now start }
-    ensures number { result.number ≤ length tokens.now }
+    ensures number { result.index ≤ length tokens.now }
     ensures boundary { IsCharBoundary text.now result.offset }
     ensures before { result.offset ≤ start }
     ensures front { (old : List ℕ) (ts : List Token)
         → IsFront old ts (map T.bytes tokens.now) text.now start → IsBound ts near
-        → (result.number ≡ kept_front old ts start)
+        → (result.index ≡ kept_front old ts start)
         × IsBound ts result
-        × (0 < result.number → has_two old result.offset start ≡ true) }
+        × (0 < result.index → has_two old result.offset start ≡ true) }
 {
     let mut at = walk_back(text, tokens, start, near);
-    while at.number < tokens.len() {
-        let next = Bound {
-            number: at.number + 1,
-            offset: at.offset + tokens[at.number].len() as usize,
+    while at.index < tokens.len() {
+        let next = TokenStart {
+            index: at.index + 1,
+            offset: at.offset + tokens[at.index].len() as usize,
         };
         if !stand_before(text, next.offset, start) {
             break;
@@ -132,24 +137,24 @@ pub(crate) fn kept_front<T: Measured>(text: &str, tokens: &[T], start: usize, ne
 }
 
 /// Returns the first boundary from `from` on that is not before `target`, or the last boundary.
-fn next_bound<T: Measured>(tokens: &[T], from: Bound, target: usize) -> Bound
-    requires number { from.number ≤ length tokens.now }
+fn next_bound<T: Measured>(tokens: &[T], from: TokenStart, target: usize) -> TokenStart
+    requires number { from.index ≤ length tokens.now }
     requires small { from.offset < 2 ^ 63 }
     requires target_small { target < 2 ^ 34 }
-    ensures number { result.number ≤ length tokens.now }
-    ensures ahead { from.number ≤ result.number }
+    ensures number { result.index ≤ length tokens.now }
+    ensures ahead { from.index ≤ result.index }
     ensures small { result.offset < 2 ^ 63 }
     ensures bound { (ts : List Token) → HasLengths ts (map T.bytes tokens.now) → IsBound ts from
-        → ((k : ℕ) → k < from.number → bound ts k < target)
+        → ((k : ℕ) → k < from.index → bound ts k < target)
         → IsBound ts result
-        × ((k : ℕ) → k < result.number → bound ts k < target)
-        × (result.number < length tokens.now → target ≤ result.offset) }
+        × ((k : ℕ) → k < result.index → bound ts k < target)
+        × (result.index < length tokens.now → target ≤ result.offset) }
 {
     let mut at = from;
-    while at.number < tokens.len() && at.offset < target {
-        at = Bound {
-            number: at.number + 1,
-            offset: at.offset + tokens[at.number].len() as usize,
+    while at.index < tokens.len() && at.offset < target {
+        at = TokenStart {
+            index: at.index + 1,
+            offset: at.offset + tokens[at.index].len() as usize,
         };
     }
     at
@@ -158,7 +163,7 @@ fn next_bound<T: Measured>(tokens: &[T], from: Bound, target: usize) -> Bound
 /// A position in the old tokens, and whether the new tokens meet it.
 #[derive(Clone, Copy)]
 pub(crate) struct Meeting {
-    pub at: Bound,
+    pub at: TokenStart,
     pub met: bool,
 }
 
@@ -177,18 +182,18 @@ pub(crate) struct Damage {
 /// always is one, the last one, so no length is read there.
 pub(crate) fn follow<T: Measured>(
     tokens: &[T],
-    from: Bound,
+    from: TokenStart,
     offset: usize,
     damage: Damage,
 ) -> Meeting
-    requires number { from.number ≤ length tokens.now }
+    requires number { from.index ≤ length tokens.now }
     requires small { from.offset < 2 ^ 63 }
     requires added_le { damage.added ≤ damage.past }
     requires offset_fits { offset + damage.removed < 2 ^ 34 }
 
     // It is not before `from`, and is among the old tokens.
-    ensures number { result.at.number ≤ length tokens.now }
-    ensures ahead { from.number ≤ result.at.number }
+    ensures number { result.at.index ≤ length tokens.now }
+    ensures ahead { from.index ≤ result.at.index }
     ensures small { result.at.offset < 2 ^ 63 }
 
     // Before the end of the edit, no old token is met.
@@ -197,7 +202,7 @@ pub(crate) fn follow<T: Measured>(
 
     // After it, how far exactly they are followed, and whether they are met there.
     ensures followed { (ts : List Token) → HasLengths ts (map T.bytes tokens.now) → IsBound ts from
-        → ((k : ℕ) → k < from.number
+        → ((k : ℕ) → k < from.index
         → bound ts k + damage.past < max damage.past offset + old_stop_of damage)
         → (offset ≡ damage.end → IsLast ts (offset - damage.past + old_stop_of damage))
         → IsFollowed ts (old_stop_of damage) damage.past offset result.at result.met }
@@ -211,8 +216,8 @@ pub(crate) fn follow<T: Measured>(
     let target = offset - damage.added + damage.removed;
     if offset == damage.end {
         return Meeting {
-            at: Bound {
-                number: tokens.len(),
+            at: TokenStart {
+                index: tokens.len(),
                 offset: target,
             },
             met: true,

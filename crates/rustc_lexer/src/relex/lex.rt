@@ -6,7 +6,7 @@ ghost use Rattle.rustc_lexer.specs.means.Checkpoints.{AreBounds};
 
 use crate::entry::stepper::Stepper;
 use crate::relex::checkpoints::Checkpoints;
-use crate::relex::front::Bound;
+use crate::relex::front::TokenStart;
 use crate::token::{Token, TokenKind};
 use std::alloc::AllocError;
 
@@ -37,8 +37,8 @@ pub(crate) fn lex_all<S: Stepper>(
     }; BUFFER_LEN];
     let mut offset = 0;
     'left: while offset < text.len() {
-        let number = tokens.len() - old_count;
-        checkpoints.remember(Bound { number, offset }, offset);
+        let index = tokens.len() - old_count;
+        checkpoints.remember(TokenStart { index, offset }, offset);
         let (count, bytes) = stepper.fill(&text[offset..], text.len() - offset, &mut buffer);
         make_room(tokens, count, offset, text.len() - offset)?;
         tokens.extend_from_slice(&buffer[..count])?;

@@ -12,9 +12,9 @@ ghost use Rattle.rustc_lexer.specs.Relexing.{GoesOn, IsChange, IsMadeOf, IsUnder
 ghost use Rattle.rustc_lexer.specs.means.Relexing.{damage_of};
 ghost use Rattle.rustc_lexer.specs.Locality.{IsGrammar};
 
-use crate::entry::fill::Record;
+use crate::entry::fill::FromToken;
 use crate::entry::stepper::Stepper;
-use crate::relex::front::{Bound, Damage, Measured, follow, kept_front};
+use crate::relex::front::{Damage, Measured, TokenStart, follow, kept_front};
 use crate::token::Token;
 
 /// The greatest offset that a token boundary may have. No text is longer, even if a `usize` has 32 bits.
@@ -164,8 +164,8 @@ impl Relexed {
 /// In plain Rust:
 ///
 /// ```
-/// use rustc_lexer::lists::{Change, Relexing};
-/// use rustc_lexer::{Bound, FrontmatterAllowed, Steps, Token, tokenize};
+/// use rustc_lexer::incremental::{Change, Relexing};
+/// use rustc_lexer::{FrontmatterAllowed, Steps, Token, TokenStart, tokenize};
 ///
 /// let (old, new) = ("let ab = cd;", "let abc = cd;");
 /// let mut tokens: Vec<Token> = tokenize(old, FrontmatterAllowed::No).collect();
@@ -173,7 +173,7 @@ impl Relexed {
 /// let change = Change { start: 6, old_stop: 6, new_stop: 7 };
 ///
 /// let mut steps = Steps::new();
-/// let mut relexing = Relexing::begin(new, &tokens, change, Bound::default());
+/// let mut relexing = Relexing::begin(new, &tokens, change, TokenStart::default());
 /// let mut lexed = Vec::new();
 /// while let Some(token) = relexing.next(&mut steps, new, &tokens, change) {
 ///     lexed.push(token);
@@ -187,11 +187,11 @@ impl Relexed {
 #[derive(Clone, Copy, Debug, PartialEq, Eq)]
 pub struct Relexing {
     /// How many of the old tokens stay at the front, and where they end.
-    pub front: Bound,
+    pub front: TokenStart,
     /// How many tokens were lexed.
     pub lexed: usize,
     /// A boundary of the old tokens. Once lexing meets it, the tokens after it stay.
-    pub back: Bound,
+    pub back: TokenStart,
     /// Where the last token that was lexed ends, in bytes from the start of the present text.
     pub at: usize,
     /// Whether `at` is that boundary of the old tokens.
@@ -204,7 +204,7 @@ impl Relexing {
     ///
     /// The text must have at most `u32::MAX` bytes, and [`change.may_make(text)`](Change::may_make) must be true. This
     /// is not tested: otherwise the result means nothing, or the call panics.
-    pub fn begin<T: Measured>(text: &str, old: &[T], change: Change, near: Bound) -> Relexing
+    pub fn begin<T: Measured>(text: &str, old: &[T], change: Change, near: TokenStart) -> Relexing
         requires fits { Fits text.now }
         requires change { IsChange text.now change }
         ensures may_go_on { MayGoOn text.now (length old.now) result }
@@ -231,8 +231,8 @@ impl Relexing {
         ensures { IsTrue result ↔ MayGoOn text.now old_count self.now }
     {
         text.is_char_boundary(self.at)
-            && self.back.number <= old_count
-            && self.front.number <= self.back.number
+            && self.back.index <= old_count
+            && self.front.index <= self.back.index
             && self.back.offset <= MOST
             && self.lexed <= self.at
     }
@@ -306,7 +306,7 @@ impl Relexing {
     /// `change` are those that were passed to `begin`.
     ///
     /// They are the tokens that as many calls of `next` return.
-    pub fn fill<S: Stepper, T: Measured, R: Record>(
+    pub fn fill<S: Stepper, T: Measured, R: FromToken>(
         &mut self,
         stepper: &mut S,
         text: &str,
@@ -346,7 +346,7 @@ impl Relexing {
             let Some(token) = self.next(stepper, text, old, change) else {
                 break;
             };
-            buffer[count] = R::of(token);
+            buffer[count] = R::from_token(token);
             count += 1;
         }
         count
@@ -354,7 +354,7 @@ impl Relexing {
 
     /// Lexes many tokens at once, and writes them into the buffer: as many as there is room for, or up to the next
     /// place where they may meet the old ones. Returns how many.
-    pub(crate) fn block<S: Stepper, T: Measured, R: Record>(
+    pub(crate) fn block<S: Stepper, T: Measured, R: FromToken>(
         &mut self,
         stepper: &mut S,
         text: &str,
@@ -426,12 +426,12 @@ impl Relexing {
 
     /// Returns the counts of the edit, once the old tokens are met. `old_count` is how many tokens `begin` was passed.
     pub fn counts(&self, old_count: usize) -> Relexed
-        requires number { self.now.back.number ≤ old_count }
+        requires number { self.now.back.index ≤ old_count }
         ensures counts { result
             ≡ record {
-              kept_front = self.now.front.number;
+              kept_front = self.now.front.index;
               lexed = self.now.lexed;
-              kept_back = old_count - self.now.back.number;
+              kept_back = old_count - self.now.back.index;
             } }
         ensures exact { (first : List ℕ → Token) (before lengths insert text : List ℕ)
             (change : Change)
@@ -442,9 +442,9 @@ impl Relexing {
             × IsWhole (tokens_by first before) (tokens_by first text) self.now }
     {
         Relexed {
-            kept_front: self.front.number,
+            kept_front: self.front.index,
             lexed: self.lexed,
-            kept_back: old_count - self.back.number,
+            kept_back: old_count - self.back.index,
         }
     }
 }

@@ -11,25 +11,26 @@ use rustc_literal_escaper::erased::EscapeError;
 /// A fault of a token. Its `Display` writes a sentence about it.
 ///
 /// [`fault_of`](crate::fault_of) never returns `InLiteral`, since a literal may have many such faults:
-/// [`inside`](crate::inside) returns the text that has them, for the calls of `rustc_literal_escaper`.
+/// [`literal_contents`](crate::literal_contents) returns the text that has them, for the calls of
+/// `rustc_literal_escaper`.
 #[derive(Clone, Copy, Debug, PartialEq, Eq)]
 #[non_exhaustive]
 #[derive(Hash)]
 pub enum Fault {
     /// Nothing closes a block comment.
-    OpenComment,
+    UnterminatedBlockComment,
     /// White space comes before the dashes of a frontmatter.
-    FrontmatterSpace,
+    WhitespaceBeforeFrontmatter,
     /// The first line of a frontmatter has more on it than is allowed.
-    FrontmatterInfostring,
+    InvalidInfostring,
     /// No line closes a frontmatter.
-    OpenFrontmatter,
+    UnclosedFrontmatter,
     /// White space comes before the dashes that close a frontmatter.
-    FrontmatterIndent,
+    WhitespaceBeforeFrontmatterClose,
     /// A frontmatter opens and closes with these numbers of dashes.
-    FrontmatterDashes { opening: u32, closing: u32 },
+    FrontmatterCloseMismatch { opening: u32, closing: u32 },
     /// The last line of a frontmatter has more on it than dashes.
-    FrontmatterWords,
+    ExtraAfterFrontmatterClose,
     /// A name holds an emoji.
     InvalidName,
     /// A name comes right before a quote or a hash.
@@ -48,23 +49,23 @@ pub enum Fault {
     /// No digit follows the letter of an exponent.
     EmptyExponent,
     /// Nothing closes a character.
-    OpenCharacter,
+    UnterminatedChar,
     /// Nothing closes a byte.
-    OpenByte,
+    UnterminatedByte,
     /// Nothing closes a string.
-    OpenString,
+    UnterminatedString,
     /// There is neither a hash nor a quote where a raw string should begin.
-    RawStarter,
+    InvalidRawStarter,
     /// Nothing closes a raw string, and no hash follows a quote in it.
-    OpenRawString { expected: u32 },
+    UnterminatedRawString { expected: u32 },
     /// Nothing closes a raw string. Too few hashes follow the quote that ends at byte `end` of it.
-    FewHashes { expected: u32, found: u32, end: u32 },
+    TooFewHashes { expected: u32, found: u32, end: u32 },
     /// A raw string has more than 255 hashes on each side.
-    ManyHashes { found: u32 },
+    TooManyHashes { found: u32 },
     /// Something is wrong between the quotes of a literal.
     InLiteral(EscapeError),
     /// A number of base 2 or 8 has a digit that its base does not have.
-    WrongDigit,
+    InvalidDigit,
     /// A number of another base than ten has a point or an exponent.
     FloatOfBase,
     /// The word after `r#` or `'r#` is `self`, `Self`, `super`, `crate` or `_`.
@@ -72,13 +73,13 @@ pub enum Fault {
     /// The suffix of a literal is `_`.
     UnderscoreSuffix,
     /// A doc comment holds a carriage return that no newline follows.
-    DocReturn,
+    BareCarriageReturnInDocComment,
     /// A frontmatter holds a carriage return that no newline follows.
-    FrontmatterReturn,
+    BareCarriageReturnInFrontmatter,
     /// A frontmatter has more than 255 dashes on each side.
-    ManyDashes { found: u32 },
+    TooManyDashes { found: u32 },
     /// A comment or a literal holds a character that turns the direction of text.
-    TextDirection,
+    TextDirectionCodepoint,
 }
 
 impl Fault {
@@ -86,13 +87,13 @@ impl Fault {
     #[must_use]
     pub fn number(self) -> u8 {
         match self {
-            Fault::OpenComment => 1,
-            Fault::FrontmatterSpace => 2,
-            Fault::FrontmatterInfostring => 3,
-            Fault::OpenFrontmatter => 4,
-            Fault::FrontmatterIndent => 5,
-            Fault::FrontmatterDashes { .. } => 6,
-            Fault::FrontmatterWords => 7,
+            Fault::UnterminatedBlockComment => 1,
+            Fault::WhitespaceBeforeFrontmatter => 2,
+            Fault::InvalidInfostring => 3,
+            Fault::UnclosedFrontmatter => 4,
+            Fault::WhitespaceBeforeFrontmatterClose => 5,
+            Fault::FrontmatterCloseMismatch { .. } => 6,
+            Fault::ExtraAfterFrontmatterClose => 7,
             Fault::InvalidName => 8,
             Fault::UnknownPrefix => 9,
             Fault::UnknownLifetimePrefix => 10,
@@ -101,22 +102,22 @@ impl Fault {
             Fault::UnknownCharacter => 13,
             Fault::EmptyNumber => 14,
             Fault::EmptyExponent => 15,
-            Fault::OpenCharacter => 16,
-            Fault::OpenByte => 17,
-            Fault::OpenString => 18,
-            Fault::RawStarter => 19,
-            Fault::OpenRawString { .. } => 20,
-            Fault::FewHashes { .. } => 21,
-            Fault::ManyHashes { .. } => 22,
+            Fault::UnterminatedChar => 16,
+            Fault::UnterminatedByte => 17,
+            Fault::UnterminatedString => 18,
+            Fault::InvalidRawStarter => 19,
+            Fault::UnterminatedRawString { .. } => 20,
+            Fault::TooFewHashes { .. } => 21,
+            Fault::TooManyHashes { .. } => 22,
             Fault::InLiteral(_) => 23,
-            Fault::WrongDigit => 24,
+            Fault::InvalidDigit => 24,
             Fault::FloatOfBase => 25,
             Fault::RawKeyword => 26,
             Fault::UnderscoreSuffix => 27,
-            Fault::DocReturn => 28,
-            Fault::FrontmatterReturn => 29,
-            Fault::ManyDashes { .. } => 30,
-            Fault::TextDirection => 31,
+            Fault::BareCarriageReturnInDocComment => 28,
+            Fault::BareCarriageReturnInFrontmatter => 29,
+            Fault::TooManyDashes { .. } => 30,
+            Fault::TextDirectionCodepoint => 31,
         }
     }
 }
@@ -135,15 +136,15 @@ fn kind_fault(kind: TokenKind, text: &str) -> Option<Fault> {
     match kind {
         TokenKind::BlockComment {
             terminated: false, ..
-        } => Some(Fault::OpenComment),
+        } => Some(Fault::UnterminatedBlockComment),
         TokenKind::Frontmatter {
             has_invalid_preceding_whitespace: true,
             ..
-        } => Some(Fault::FrontmatterSpace),
+        } => Some(Fault::WhitespaceBeforeFrontmatter),
         TokenKind::Frontmatter {
             invalid_infostring, ..
         } => match end_fault(text) {
-            None if invalid_infostring => Some(Fault::FrontmatterInfostring),
+            None if invalid_infostring => Some(Fault::InvalidInfostring),
             fault => fault,
         },
         TokenKind::InvalidIdent => Some(Fault::InvalidName),
@@ -169,11 +170,11 @@ fn literal_fault(kind: LiteralKind, text: &str) -> Option<Fault> {
             empty_exponent: true,
             ..
         } => Some(Fault::EmptyExponent),
-        LiteralKind::Char { terminated: false } => Some(Fault::OpenCharacter),
-        LiteralKind::Byte { terminated: false } => Some(Fault::OpenByte),
+        LiteralKind::Char { terminated: false } => Some(Fault::UnterminatedChar),
+        LiteralKind::Byte { terminated: false } => Some(Fault::UnterminatedByte),
         LiteralKind::Str { terminated: false }
         | LiteralKind::ByteStr { terminated: false }
-        | LiteralKind::CStr { terminated: false } => Some(Fault::OpenString),
+        | LiteralKind::CStr { terminated: false } => Some(Fault::UnterminatedString),
         LiteralKind::RawStr { n_hashes: None } => raw_fault(text, 1),
         LiteralKind::RawByteStr { n_hashes: None } | LiteralKind::RawCStr { n_hashes: None } => {
             raw_fault(text, 2)
@@ -189,32 +190,38 @@ fn raw_fault(text: &str, prefix_len: u32) -> Option<Fault> {
     }
     match validate_raw_str(text, prefix_len) {
         Ok(()) => None,
-        Err(RawStrError::InvalidStarter { .. }) => Some(Fault::RawStarter),
+        Err(RawStrError::InvalidStarter { .. }) => Some(Fault::InvalidRawStarter),
         Err(RawStrError::NoTerminator {
             expected,
             found,
             possible_terminator_offset: Some(end),
-        }) => Some(Fault::FewHashes {
+        }) => Some(Fault::TooFewHashes {
             expected,
             found,
             end,
         }),
-        Err(RawStrError::NoTerminator { expected, .. }) => Some(Fault::OpenRawString { expected }),
-        Err(RawStrError::TooManyDelimiters { found }) => Some(Fault::ManyHashes { found }),
+        Err(RawStrError::NoTerminator { expected, .. }) => {
+            Some(Fault::UnterminatedRawString { expected })
+        }
+        Err(RawStrError::TooManyDelimiters { found }) => Some(Fault::TooManyHashes { found }),
     }
 }
 
-const OPEN_COMMENT: &str = "nothing closes this comment";
+const UNTERMINATED_BLOCK_COMMENT: &str = "nothing closes this comment";
 
-const FRONTMATTER_SPACE: &str = "white space comes before this frontmatter, which begins its line";
+const WHITESPACE_BEFORE_FRONTMATTER: &str =
+    "white space comes before this frontmatter, which begins its line";
 
-const FRONTMATTER_INFOSTRING: &str = "the first line of this frontmatter holds more than a name";
+const INVALID_INFOSTRING: &str = "the first line of this frontmatter holds more than a name";
 
-const OPEN_FRONTMATTER: &str = "nothing closes this frontmatter: a line of as many dashes would";
+const UNCLOSED_FRONTMATTER: &str =
+    "nothing closes this frontmatter: a line of as many dashes would";
 
-const FRONTMATTER_INDENT: &str = "white space comes before the dashes that close this frontmatter";
+const WHITESPACE_BEFORE_FRONTMATTER_CLOSE: &str =
+    "white space comes before the dashes that close this frontmatter";
 
-const FRONTMATTER_WORDS: &str = "the last line of this frontmatter holds more than dashes";
+const EXTRA_AFTER_FRONTMATTER_CLOSE: &str =
+    "the last line of this frontmatter holds more than dashes";
 
 const INVALID_NAME: &str = "this name holds an emoji";
 
@@ -232,17 +239,17 @@ const EMPTY_NUMBER: &str = "this number has no digits";
 
 const EMPTY_EXPONENT: &str = "the exponent has no digits";
 
-const OPEN_CHARACTER: &str = "nothing closes this character";
+const UNTERMINATED_CHAR: &str = "nothing closes this character";
 
-const OPEN_BYTE: &str = "nothing closes this byte";
+const UNTERMINATED_BYTE: &str = "nothing closes this byte";
 
-const OPEN_STRING: &str = "nothing closes this string";
+const UNTERMINATED_STRING: &str = "nothing closes this string";
 
-const RAW_STARTER: &str = "no quote follows: a raw string begins with hashes and a quote";
+const INVALID_RAW_STARTER: &str = "no quote follows: a raw string begins with hashes and a quote";
 
 const OPEN_PLAIN_RAW_STRING: &str = "nothing closes this raw string: a quote would";
 
-const WRONG_DIGIT: &str = "this number has a digit that its base does not have";
+const INVALID_DIGIT: &str = "this number has a digit that its base does not have";
 
 const FLOAT_OF_BASE: &str = "only a decimal number has a point or an exponent";
 
@@ -250,23 +257,26 @@ const RAW_KEYWORD: &str = "this word cannot be a raw name";
 
 const UNDERSCORE_SUFFIX: &str = "an underscore alone is no suffix";
 
-const DOC_RETURN: &str = "a doc comment cannot hold a carriage return that no newline follows";
+const BARE_CARRIAGE_RETURN_IN_DOC_COMMENT: &str =
+    "a doc comment cannot hold a carriage return that no newline follows";
 
-const FRONTMATTER_RETURN: &str =
+const BARE_CARRIAGE_RETURN_IN_FRONTMATTER: &str =
     "a frontmatter cannot hold a carriage return that no newline follows";
 
-const TEXT_DIRECTION: &str =
+const TEXT_DIRECTION_CODEPOINT: &str =
     "a character here turns the direction of text, so that code looks other than it is";
 
 impl fmt::Display for Fault {
     fn fmt(&self, f: &mut fmt::Formatter) -> fmt::Result {
         match self {
-            Fault::OpenComment => f.write_str(OPEN_COMMENT),
-            Fault::FrontmatterSpace => f.write_str(FRONTMATTER_SPACE),
-            Fault::FrontmatterInfostring => f.write_str(FRONTMATTER_INFOSTRING),
-            Fault::OpenFrontmatter => f.write_str(OPEN_FRONTMATTER),
-            Fault::FrontmatterIndent => f.write_str(FRONTMATTER_INDENT),
-            Fault::FrontmatterWords => f.write_str(FRONTMATTER_WORDS),
+            Fault::UnterminatedBlockComment => f.write_str(UNTERMINATED_BLOCK_COMMENT),
+            Fault::WhitespaceBeforeFrontmatter => f.write_str(WHITESPACE_BEFORE_FRONTMATTER),
+            Fault::InvalidInfostring => f.write_str(INVALID_INFOSTRING),
+            Fault::UnclosedFrontmatter => f.write_str(UNCLOSED_FRONTMATTER),
+            Fault::WhitespaceBeforeFrontmatterClose => {
+                f.write_str(WHITESPACE_BEFORE_FRONTMATTER_CLOSE)
+            }
+            Fault::ExtraAfterFrontmatterClose => f.write_str(EXTRA_AFTER_FRONTMATTER_CLOSE),
             Fault::InvalidName => f.write_str(INVALID_NAME),
             Fault::UnknownPrefix => f.write_str(UNKNOWN_PREFIX),
             Fault::UnknownLifetimePrefix => f.write_str(UNKNOWN_LIFETIME_PREFIX),
@@ -275,26 +285,30 @@ impl fmt::Display for Fault {
             Fault::UnknownCharacter => f.write_str(UNKNOWN_CHARACTER),
             Fault::EmptyNumber => f.write_str(EMPTY_NUMBER),
             Fault::EmptyExponent => f.write_str(EMPTY_EXPONENT),
-            Fault::OpenCharacter => f.write_str(OPEN_CHARACTER),
-            Fault::OpenByte => f.write_str(OPEN_BYTE),
-            Fault::OpenString => f.write_str(OPEN_STRING),
-            Fault::RawStarter => f.write_str(RAW_STARTER),
+            Fault::UnterminatedChar => f.write_str(UNTERMINATED_CHAR),
+            Fault::UnterminatedByte => f.write_str(UNTERMINATED_BYTE),
+            Fault::UnterminatedString => f.write_str(UNTERMINATED_STRING),
+            Fault::InvalidRawStarter => f.write_str(INVALID_RAW_STARTER),
             Fault::InLiteral(error) => error.fmt(f),
-            Fault::WrongDigit => f.write_str(WRONG_DIGIT),
+            Fault::InvalidDigit => f.write_str(INVALID_DIGIT),
             Fault::FloatOfBase => f.write_str(FLOAT_OF_BASE),
             Fault::RawKeyword => f.write_str(RAW_KEYWORD),
             Fault::UnderscoreSuffix => f.write_str(UNDERSCORE_SUFFIX),
-            Fault::DocReturn => f.write_str(DOC_RETURN),
-            Fault::FrontmatterReturn => f.write_str(FRONTMATTER_RETURN),
-            Fault::TextDirection => f.write_str(TEXT_DIRECTION),
-            Fault::OpenRawString { expected } if *expected == 0 => {
+            Fault::BareCarriageReturnInDocComment => {
+                f.write_str(BARE_CARRIAGE_RETURN_IN_DOC_COMMENT)
+            }
+            Fault::BareCarriageReturnInFrontmatter => {
+                f.write_str(BARE_CARRIAGE_RETURN_IN_FRONTMATTER)
+            }
+            Fault::TextDirectionCodepoint => f.write_str(TEXT_DIRECTION_CODEPOINT),
+            Fault::UnterminatedRawString { expected } if *expected == 0 => {
                 f.write_str(OPEN_PLAIN_RAW_STRING)
             }
-            Fault::OpenRawString { expected } => write!(
+            Fault::UnterminatedRawString { expected } => write!(
                 f,
                 "nothing closes this raw string: a quote and {expected} # would"
             ),
-            Fault::FewHashes {
+            Fault::TooFewHashes {
                 expected,
                 found,
                 end,
@@ -302,15 +316,15 @@ impl fmt::Display for Fault {
                 f,
                 "a quote and {expected} # would close this raw string; at byte {end} it has {found}"
             ),
-            Fault::FrontmatterDashes { opening, closing } => write!(
+            Fault::FrontmatterCloseMismatch { opening, closing } => write!(
                 f,
                 "this frontmatter opens with {opening} dashes and closes with {closing}"
             ),
-            Fault::ManyHashes { found } => write!(
+            Fault::TooManyHashes { found } => write!(
                 f,
                 "a raw string has at most 255 hashes on each side, and this one {found}"
             ),
-            Fault::ManyDashes { found } => write!(
+            Fault::TooManyDashes { found } => write!(
                 f,
                 "a frontmatter has at most 255 dashes on each side, and this one {found}"
             ),

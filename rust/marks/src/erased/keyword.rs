@@ -3,9 +3,9 @@
 
 use rustc_lexer::erased::Edition;
 
-/// How far a word is a keyword.
+/// The kind of a keyword: how far a word is one.
 #[derive(Clone, Copy, Debug, PartialEq, Eq, Hash)]
-pub enum Keyword {
+pub enum KeywordKind {
     /// Nowhere a name, like `while`.
     Strict,
     /// Nowhere a name, since Rust keeps it for later, like `yield`.
@@ -14,28 +14,28 @@ pub enum Keyword {
     Weak,
 }
 
-/// Returns how far a word is a keyword in an edition, by the chapter
+/// Returns the kind of keyword that a word is in an edition, by the chapter
 /// [Keywords](https://doc.rust-lang.org/reference/keywords.html) of the Rust Reference. Returns `None` if it is none.
 ///
 /// The word is the text of a token. A raw identifier, like `r#while`, is no keyword, and the lifetime `'static` is a weak
 /// one.
 ///
 /// ```
-/// use marks::{Edition, Keyword, keyword_in};
+/// use marks::{Edition, KeywordKind, keyword_kind};
 ///
-/// assert_eq!(keyword_in("async", Edition::E2015), None);
-/// assert_eq!(keyword_in("async", Edition::E2018), Some(Keyword::Strict));
-/// assert_eq!(keyword_in("gen", Edition::E2024), Some(Keyword::Reserved));
-/// assert_eq!(keyword_in("union", Edition::E2024), Some(Keyword::Weak));
+/// assert_eq!(keyword_kind("async", Edition::E2015), None);
+/// assert_eq!(keyword_kind("async", Edition::E2018), Some(KeywordKind::Strict));
+/// assert_eq!(keyword_kind("gen", Edition::E2024), Some(KeywordKind::Reserved));
+/// assert_eq!(keyword_kind("union", Edition::E2024), Some(KeywordKind::Weak));
 /// ```
 #[must_use]
-pub fn keyword_in(word: &str, edition: Edition) -> Option<Keyword> {
+pub fn keyword_kind(word: &str, edition: Edition) -> Option<KeywordKind> {
     if is_strict(word, edition) {
-        Some(Keyword::Strict)
+        Some(KeywordKind::Strict)
     } else if is_reserved(word, edition) {
-        Some(Keyword::Reserved)
+        Some(KeywordKind::Reserved)
     } else if WEAK.contains(&word) {
-        Some(Keyword::Weak)
+        Some(KeywordKind::Weak)
     } else {
         None
     }

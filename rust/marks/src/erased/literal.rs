@@ -3,8 +3,8 @@
 
 use crate::erased::class::Class;
 use crate::erased::fault::Fault;
+use crate::erased::format::Format;
 use crate::erased::part::{write_in_class, write_with_fault};
-use crate::erased::style::Style;
 use core::fmt;
 use core::ops::Range;
 use memchr::{memchr, memrchr};
@@ -49,13 +49,13 @@ pub fn mode_of(kind: TokenKind) -> Option<Mode> {
 /// of the range that this call returns.
 ///
 /// ```
-/// use marks::inside;
+/// use marks::literal_contents;
 /// use rustc_lexer::{FrontmatterAllowed, tokenize};
 /// use rustc_literal_escaper::{Mode, check_for_errors};
 ///
 /// let text = r#"b"a\q"suffix"#;
 /// let token = tokenize(text, FrontmatterAllowed::No).next().unwrap();
-/// let (mode, range) = inside(token.kind, text).unwrap();
+/// let (mode, range) = literal_contents(token.kind, text).unwrap();
 /// assert_eq!((mode, range.clone()), (Mode::ByteStr, 2..5));
 ///
 /// check_for_errors(&text[range.clone()], mode, |wrong, _| {
@@ -63,7 +63,7 @@ pub fn mode_of(kind: TokenKind) -> Option<Mode> {
 /// });
 /// ```
 #[must_use]
-pub fn inside(kind: TokenKind, text: &str) -> Option<(Mode, Range<usize>)> {
+pub fn literal_contents(kind: TokenKind, text: &str) -> Option<(Mode, Range<usize>)> {
     let mode = mode_of(kind)?;
     let (start, end) = between_quotes(mode, text)?;
     Some((mode, start..end))
@@ -83,18 +83,18 @@ fn between_quotes(mode: Mode, text: &str) -> Option<(usize, usize)> {
 
 /// Writes a closed literal: its escapes in their class, its faults between their marks, and the rest as text.
 pub fn write_literal<W: fmt::Write>(
-    style: Style,
+    format: Format,
     mode: Mode,
     text: &str,
     output: &mut W,
 ) -> fmt::Result {
     let Some((start, end)) = between_quotes(mode, text) else {
-        return write_in_class(style, Class::Text, text, output);
+        return write_in_class(format, Class::Text, text, output);
     };
     if is_single(mode) {
-        write_single(style, mode, text, start, end, output)
+        write_single(format, mode, text, start, end, output)
     } else {
-        write_string(style, mode, text, start, end, output)
+        write_string(format, mode, text, start, end, output)
     }
 }
 
@@ -120,7 +120,7 @@ fn last_place(byte: u8, text: &str) -> usize {
 
 /// Writes a literal between single quotes. The text between them goes from the place `begin` to `close`.
 fn write_single<W: fmt::Write>(
-    style: Style,
+    format: Format,
     mode: Mode,
     text: &str,
     begin: usize,
@@ -128,8 +128,8 @@ fn write_single<W: fmt::Write>(
     output: &mut W,
 ) -> fmt::Result {
     let look = single_look(mode, &text[begin..close]);
-    let shown = write_stretch(style, look, text, 0, begin, close, output)?;
-    write_in_class(style, Class::Text, &text[shown..], output)
+    let shown = write_stretch(format, look, text, 0, begin, close, output)?;
+    write_in_class(format, Class::Text, &text[shown..], output)
 }
 
 /// Returns the look of the text between single quotes, or `None` if it is plain.
@@ -151,7 +151,7 @@ fn single_error(mode: Mode, inside: &str) -> Option<EscapeError> {
 
 /// Writes a literal between double quotes. The text between them goes from the place `begin` to `close`.
 fn write_string<W: fmt::Write>(
-    style: Style,
+    format: Format,
     mode: Mode,
     text: &str,
     begin: usize,
@@ -166,9 +166,9 @@ fn write_string<W: fmt::Write>(
             continue;
         }
         let end = begin + range.end;
-        shown = write_skipped(style, text, shown, at, start, output)?;
+        shown = write_skipped(format, text, shown, at, start, output)?;
         shown = write_stretch(
-            style,
+            format,
             look_of(mode, element),
             text,
             shown,
@@ -178,13 +178,13 @@ fn write_string<W: fmt::Write>(
         )?;
         at = end;
     }
-    shown = write_skipped(style, text, shown, at, close, output)?;
-    write_in_class(style, Class::Text, &text[shown..], output)
+    shown = write_skipped(format, text, shown, at, close, output)?;
+    write_in_class(format, Class::Text, &text[shown..], output)
 }
 
 /// Writes the text between two elements: nothing, or a line end that is skipped.
 fn write_skipped<W: fmt::Write>(
-    style: Style,
+    format: Format,
     text: &str,
     shown: usize,
     at: usize,
@@ -192,7 +192,7 @@ fn write_skipped<W: fmt::Write>(
     output: &mut W,
 ) -> Result<usize, fmt::Error> {
     if at < start {
-        write_stretch(style, Some(Look::Escape), text, shown, at, start, output)
+        write_stretch(format, Some(Look::Escape), text, shown, at, start, output)
     } else {
         Ok(shown)
     }
@@ -201,7 +201,7 @@ fn write_skipped<W: fmt::Write>(
 /// Writes a stretch that is not plain, and before it the plain text that is not written yet. Returns the place up
 /// to which all is written.
 fn write_stretch<W: fmt::Write>(
-    style: Style,
+    format: Format,
     look: Option<Look>,
     text: &str,
     shown: usize,
@@ -212,17 +212,22 @@ fn write_stretch<W: fmt::Write>(
     let Some(look) = look else {
         return Ok(shown);
     };
-    write_in_class(style, Class::Text, &text[shown..start], output)?;
-    write_look(style, look, &text[start..end], output)?;
+    write_in_class(format, Class::Text, &text[shown..start], output)?;
+    write_look(format, look, &text[start..end], output)?;
     Ok(end)
 }
 
 /// Writes a stretch between its marks.
-fn write_look<W: fmt::Write>(style: Style, look: Look, text: &str, output: &mut W) -> fmt::Result {
+fn write_look<W: fmt::Write>(
+    format: Format,
+    look: Look,
+    text: &str,
+    output: &mut W,
+) -> fmt::Result {
     match look {
-        Look::Escape => write_in_class(style, Class::Escape, text, output),
+        Look::Escape => write_in_class(format, Class::Escape, text, output),
         Look::Wrong(error) => {
-            write_with_fault(style, Fault::InLiteral(error), Class::Text, text, output)
+            write_with_fault(format, Fault::InLiteral(error), Class::Text, text, output)
         }
     }
 }

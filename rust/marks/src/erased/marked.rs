@@ -3,10 +3,10 @@
 
 use crate::erased::class::{Class, class_of};
 use crate::erased::fault::fault_of;
+use crate::erased::format::Format;
 use crate::erased::literal::{mode_of, write_literal};
 use crate::erased::part::{write_in_class, write_with_fault};
 use crate::erased::screen::split_first;
-use crate::erased::style::Style;
 use core::fmt;
 use rustc_lexer::erased::{Edition, TokenKind, tokenize_document, tokenize_in};
 
@@ -16,16 +16,16 @@ use rustc_lexer::erased::{Edition, TokenKind, tokenize_document, tokenize_in};
 /// sentence at each token that has a fault.
 ///
 /// Without the marks the output is the text, but for symbols in place of control characters, like `␛`, that are no
-/// tabs and no line ends, unless the style is `Raw`. In a page the text is the part outside of the tags, with its
+/// tabs and no line ends, unless the format is `Raw`. In a page the text is the part outside of the tags, with its
 /// entities undone.
 pub fn write_marked<W: fmt::Write>(
-    style: Style,
+    format: Format,
     edition: Edition,
     text: &str,
     output: &mut W,
 ) -> fmt::Result {
     let begin = mark_len(text);
-    write_document(style, edition, &text[..begin], &text[begin..], output)
+    write_document(format, edition, &text[..begin], &text[begin..], output)
 }
 
 /// Returns the length of a byte order mark at the start of a text, or 0.
@@ -38,19 +38,19 @@ fn mark_len(text: &str) -> usize {
 
 /// Writes a byte order mark, which may be empty, and a document behind it with marks.
 fn write_document<W: fmt::Write>(
-    style: Style,
+    format: Format,
     edition: Edition,
     mark: &str,
     text: &str,
     output: &mut W,
 ) -> fmt::Result {
     let tokens = tokenize_document(text, edition);
-    write_in_class(style, Class::Plain, mark, output)?;
+    write_in_class(format, Class::Plain, mark, output)?;
     let mut start = text.len() - tokens.as_str().len();
-    write_in_class(style, Class::Comment, &text[..start], output)?;
+    write_in_class(format, Class::Comment, &text[..start], output)?;
     for token in tokens {
         let end = start + token.len as usize;
-        write_token(style, edition, token.kind, &text[start..end], output)?;
+        write_token(format, edition, token.kind, &text[start..end], output)?;
         start = end;
     }
     Ok(())
@@ -61,7 +61,7 @@ fn write_document<W: fmt::Write>(
 ///
 /// So the visible part of a long text can be written without the rest.
 pub fn write_first_tokens<W: fmt::Write>(
-    style: Style,
+    format: Format,
     edition: Edition,
     count: usize,
     text: &str,
@@ -75,7 +75,7 @@ pub fn write_first_tokens<W: fmt::Write>(
             break;
         };
         let end = start + token.len as usize;
-        write_token(style, edition, token.kind, &text[start..end], output)?;
+        write_token(format, edition, token.kind, &text[start..end], output)?;
         start = end;
         left -= 1;
     }
@@ -85,7 +85,7 @@ pub fn write_first_tokens<W: fmt::Write>(
 /// Writes a token between its marks. If the token has a fault, its first line is also between the marks of the
 /// fault. In a literal without a fault of its own, each escape and each stretch that is wrong has marks around it.
 fn write_token<W: fmt::Write>(
-    style: Style,
+    format: Format,
     edition: Edition,
     kind: TokenKind,
     text: &str,
@@ -93,10 +93,10 @@ fn write_token<W: fmt::Write>(
 ) -> fmt::Result {
     let class = class_of(kind, text, edition);
     if let Some(fault) = fault_of(kind, text) {
-        return write_with_fault(style, fault, class, text, output);
+        return write_with_fault(format, fault, class, text, output);
     }
     match mode_of(kind) {
-        None => write_in_class(style, class, text, output),
-        Some(mode) => write_literal(style, mode, text, output),
+        None => write_in_class(format, class, text, output),
+        Some(mode) => write_literal(format, mode, text, output),
     }
 }

@@ -4,25 +4,25 @@
 use crate::erased::class::Class;
 use crate::erased::escape::write_escaped;
 use crate::erased::fault::Fault;
+use crate::erased::format::{Format, class_close, class_open, close_fault, open_fault};
 use crate::erased::screen::write_seen;
-use crate::erased::style::{Style, class_close, class_open, close_fault, open_fault};
 use core::fmt;
 use memchr::memchr2;
 
 /// Writes a part with a fault: its first line between the marks of the fault, and all of it between those of its
 /// class.
 pub fn write_with_fault<W: fmt::Write>(
-    style: Style,
+    format: Format,
     fault: Fault,
     class: Class,
     text: &str,
     output: &mut W,
 ) -> fmt::Result {
     let end = first_line(text);
-    open_fault(style, fault, output)?;
-    write_in_class(style, class, &text[..end], output)?;
-    close_fault(style, fault, output)?;
-    write_in_class(style, class, &text[end..], output)
+    open_fault(format, fault, output)?;
+    write_in_class(format, class, &text[..end], output)?;
+    close_fault(format, fault, output)?;
+    write_in_class(format, class, &text[end..], output)
 }
 
 /// Returns how many bytes come before the first newline or carriage return.
@@ -32,7 +32,7 @@ fn first_line(text: &str) -> usize {
 
 /// Writes a part of the text between the marks of its class. Writes nothing if the part is empty.
 pub fn write_in_class<W: fmt::Write>(
-    style: Style,
+    format: Format,
     class: Class,
     text: &str,
     output: &mut W,
@@ -40,21 +40,21 @@ pub fn write_in_class<W: fmt::Write>(
     if text.is_empty() {
         return Ok(());
     }
-    output.write_str(class_open(style, class))?;
-    write_shown(style, class, text, output)?;
-    output.write_str(class_close(style, class))
+    output.write_str(class_open(format, class))?;
+    write_shown(format, class, text, output)?;
+    output.write_str(class_close(format, class))
 }
 
 /// Writes a part of the text: in a page with entities, elsewhere with symbols for control characters or raw.
 fn write_shown<W: fmt::Write>(
-    style: Style,
+    format: Format,
     class: Class,
     text: &str,
     output: &mut W,
 ) -> fmt::Result {
-    match style {
-        Style::Html => write_escaped(text, output),
-        Style::Colours | Style::NoColours => write_seen(class, text, output),
-        Style::Raw => output.write_str(text),
+    match format {
+        Format::Html => write_escaped(text, output),
+        Format::Colours | Format::NoColours => write_seen(class, text, output),
+        Format::Raw => output.write_str(text),
     }
 }

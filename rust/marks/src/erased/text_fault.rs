@@ -25,7 +25,7 @@ pub fn text_fault(kind: TokenKind, text: &str) -> Option<Fault> {
 fn comment_fault(doc_style: Option<DocStyle>, text: &str) -> Option<Fault> {
     match doc_style {
         None => direction_fault(text),
-        Some(_) if has_bare_return(text.as_bytes()) => Some(Fault::DocReturn),
+        Some(_) if has_bare_return(text.as_bytes()) => Some(Fault::BareCarriageReturnInDocComment),
         Some(_) => direction_fault(text),
     }
 }
@@ -33,11 +33,11 @@ fn comment_fault(doc_style: Option<DocStyle>, text: &str) -> Option<Fault> {
 /// Returns what is wrong in a frontmatter, or `None` if nothing is.
 fn frontmatter_fault(text: &str) -> Option<Fault> {
     if has_bare_return(text.as_bytes()) {
-        return Some(Fault::FrontmatterReturn);
+        return Some(Fault::BareCarriageReturnInFrontmatter);
     }
     let dashes = run_of(b"-", text.as_bytes());
     if dashes > 255 {
-        return Some(Fault::ManyDashes {
+        return Some(Fault::TooManyDashes {
             found: dashes as u32,
         });
     }
@@ -68,7 +68,7 @@ fn direction_fault(text: &str) -> Option<Fault> {
         return None;
     }
     if has_turn(text) {
-        return Some(Fault::TextDirection);
+        return Some(Fault::TextDirectionCodepoint);
     }
     None
 }
@@ -133,7 +133,7 @@ fn digit_fault(these: &[u8], digits: &[u8]) -> Option<Fault> {
     if run_of(these, digits) == digits.len() {
         return None;
     }
-    Some(Fault::WrongDigit)
+    Some(Fault::InvalidDigit)
 }
 
 /// Returns what is wrong with the suffix of a literal, or `None` if nothing is.

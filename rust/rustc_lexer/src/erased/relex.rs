@@ -21,7 +21,7 @@ mod settle;
 pub use body_change::BodyChange;
 pub use edit::Edit;
 pub use edit_list::{EditStop, Stopped};
-pub use front::{Bound, Measured};
+pub use front::{Measured, TokenStart};
 pub use head::Head;
 pub use joined::{JoinError, JoinedText, is_seam};
 pub use lexed::{Lexed, LexedDocument, LexedText};

@@ -279,8 +279,8 @@ macro_rules! kept {
                     let wanted =
                         (past > 0 && past < bounds.len()).then(|| (past - 1, bounds[past - 1]));
                     let told = self
-                        .token_at(offset)
-                        .map(|bound| (bound.number, bound.offset));
+                        .token_start_at(offset)
+                        .map(|bound| (bound.index, bound.offset));
                     assert_eq!(told, wanted, "token at {offset}: {context}");
                     let piece = self
                         .piece_at(offset)
@@ -302,7 +302,11 @@ kept!(LexedText, part, |held, text, _, bounds| {
     assert_eq!(held.settled(), settled, "{text:?}");
 });
 kept!(LexedDocument, document, |held, text, layout, bounds| {
-    let told = (held.shebang_len(), held.body().number, held.body().offset);
+    let told = (
+        held.shebang_len(),
+        held.body_start().index,
+        held.body_start().offset,
+    );
     assert_eq!(
         told,
         (layout.start, layout.head, bounds[layout.head]),

@@ -2,26 +2,26 @@
 //! Finds the token at an offset.
 
 use crate::erased::token::CToken;
-use rustc_lexer::erased::Bound;
+use rustc_lexer::erased::TokenStart;
 
 /// Finds the token that contains the byte at `offset`, and writes its number and where it begins. Returns whether
 /// there is one. If there is none, the two numbers stay.
 ///
 /// The search begins at the two numbers that the caller gives: those of any boundary of the tokens. It reads the
 /// lengths of the tokens between there and the offset. If the two are no boundary, the answer means nothing.
-pub fn rustc_lexer_token_at(
+pub fn rustc_lexer_token_start_at(
     tokens: &[CToken],
     offset: usize,
     number: &mut usize,
     start: &mut usize,
 ) -> bool {
-    let near = Bound {
-        number: *number,
+    let near = TokenStart {
+        index: *number,
         offset: *start,
     };
     match token_around(tokens, near, offset) {
         Some(at) => {
-            *number = at.number;
+            *number = at.index;
             *start = at.offset;
             true
         }
@@ -30,21 +30,21 @@ pub fn rustc_lexer_token_at(
 }
 
 /// Returns the token that contains the byte at `offset`, by its number and its start. The search begins at `near`.
-fn token_around(tokens: &[CToken], near: Bound, offset: usize) -> Option<Bound> {
-    if near.number > tokens.len() {
+fn token_around(tokens: &[CToken], near: TokenStart, offset: usize) -> Option<TokenStart> {
+    if near.index > tokens.len() {
         return None;
     }
     let mut at = walk_back(tokens, near, offset);
     if offset < at.offset {
         return None;
     }
-    while at.number < tokens.len() {
-        let len = tokens[at.number].len as usize;
+    while at.index < tokens.len() {
+        let len = tokens[at.index].len as usize;
         if offset - at.offset < len {
             return Some(at);
         }
-        at = Bound {
-            number: at.number + 1,
+        at = TokenStart {
+            index: at.index + 1,
             offset: at.offset + len,
         };
     }
@@ -52,13 +52,13 @@ fn token_around(tokens: &[CToken], near: Bound, offset: usize) -> Option<Bound> 
 }
 
 /// Returns the last boundary up to `near` that is not past the offset, or the first boundary.
-fn walk_back(tokens: &[CToken], near: Bound, offset: usize) -> Bound {
+fn walk_back(tokens: &[CToken], near: TokenStart, offset: usize) -> TokenStart {
     let mut at = near;
-    while at.number > 0 && offset < at.offset {
-        let number = at.number - 1;
-        at = Bound {
-            number,
-            offset: at.offset.saturating_sub(tokens[number].len as usize),
+    while at.index > 0 && offset < at.offset {
+        let index = at.index - 1;
+        at = TokenStart {
+            index,
+            offset: at.offset.saturating_sub(tokens[index].len as usize),
         };
     }
     at

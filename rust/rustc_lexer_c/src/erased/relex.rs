@@ -3,7 +3,7 @@
 
 use crate::erased::status::{OK, Refusal, refuse, text_of, utf8_text_of};
 use crate::erased::token::CToken;
-use rustc_lexer::erased::{Bound, Change, Edition, Measured, Relexing, Steps};
+use rustc_lexer::erased::{Change, Edition, Measured, Relexing, Steps, TokenStart};
 
 /// An edit that was made, by its places in bytes. It took out what was from `start` up to `old_stop` in the old
 /// text, and put in what is from `start` up to `new_stop` in the present text.
@@ -128,8 +128,8 @@ pub(crate) fn change_of(edit: &CEdit) -> Change {
 
 /// Returns where to begin or to go on, or `None` if no call left these numbers.
 fn standing(text: &str, old: &[CToken], change: Change, relexing: &CRelexing) -> Option<Relexing> {
-    let front = Bound {
-        number: relexing.kept_front,
+    let front = TokenStart {
+        index: relexing.kept_front,
         offset: relexing.front_offset,
     };
     if relexing.stage == STAGE_BEGIN {
@@ -141,8 +141,8 @@ fn standing(text: &str, old: &[CToken], change: Change, relexing: &CRelexing) ->
     let at = Relexing {
         front,
         lexed: relexing.lexed,
-        back: Bound {
-            number: old.len() - relexing.kept_back,
+        back: TokenStart {
+            index: old.len() - relexing.kept_back,
             offset: relexing.back_offset,
         },
         at: relexing.at,
@@ -154,10 +154,10 @@ fn standing(text: &str, old: &[CToken], change: Change, relexing: &CRelexing) ->
 /// Returns how far the text is relexed, as numbers.
 fn relexing_numbers(at: &Relexing, text: &str, old_count: usize) -> CRelexing {
     CRelexing {
-        kept_front: at.front.number,
+        kept_front: at.front.index,
         front_offset: at.front.offset,
         lexed: at.lexed,
-        kept_back: old_count - at.back.number,
+        kept_back: old_count - at.back.index,
         back_offset: at.back.offset,
         at: at.at,
         stage: if at.is_over(text) {

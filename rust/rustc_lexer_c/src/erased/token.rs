@@ -1,7 +1,7 @@
 // Made by tools/erase from crates/rustc_lexer_c/src/token.rt: edit that file.
 //! Tokens as numbers.
 
-use rustc_lexer::erased::{DocStyle, LiteralKind, Record, Token, TokenKind};
+use rustc_lexer::erased::{DocStyle, FromToken, LiteralKind, Token, TokenKind};
 
 /// A token in the form that C sees: its kind, the fields of the kind as one byte each, and its length. A byte
 /// without a field is 0.
@@ -26,9 +26,9 @@ pub struct CToken {
 }
 
 /// The record of a token is its numbers.
-impl Record for CToken {
+impl FromToken for CToken {
     #[inline(always)]
-    fn of(token: Token) -> CToken {
+    fn from_token(token: Token) -> CToken {
         if token.kind.has_fields() {
             return token_numbers(token);
         }

@@ -6,4 +6,4 @@ use Rattle.highlight_run.proofs.run.print.Goals as goal
 pub returns : goal.returns
 returns c =
     contents_after_writes _ (λ s. string_bytes s) (λ w bs v e. e) _ _ _ c.in_ok-write_text.ensures
-    ∙ ap (λ (xs : List ℕ). xs ++ printed c.args.style c.args.edition c.args.text.now) c.new-made.ensures.bytes
+    ∙ ap (λ (xs : List ℕ). xs ++ printed c.args.format c.args.edition c.args.text.now) c.new-made.ensures.bytes

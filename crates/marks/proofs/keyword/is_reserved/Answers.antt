@@ -1,4 +1,4 @@
-use Rattle.marks.specs.declared.keyword.Keyword.TheVariants.{Reserved}
+use Rattle.marks.specs.declared.keyword.KeywordKind.TheVariants.{Reserved}
 use Rattle.marks.proofs.KeywordLemmas.{◌&◌, has_not}
 use Rattle.marks.proofs.keyword.is_reserved.Goals as goal
 

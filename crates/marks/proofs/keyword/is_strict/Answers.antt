@@ -1,4 +1,4 @@
-use Rattle.marks.specs.declared.keyword.Keyword.TheVariants.{Strict}
+use Rattle.marks.specs.declared.keyword.KeywordKind.TheVariants.{Strict}
 use Rattle.marks.proofs.KeywordLemmas.{◌&◌, has_not}
 use Rattle.marks.proofs.keyword.is_strict.Goals as goal
 

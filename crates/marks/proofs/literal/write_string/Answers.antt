@@ -26,7 +26,7 @@ loop-range-preserved-then-start-at g c =
       order = inv.order;
       high = inv.high;
       places = at.1;
-      left = λ w more. inv.left w (writes_told g.W.Write.write_str_gives c.args.style c.args.mode c.args.text.now c.args.begin c.loop-range.at c.args.close c.loop-range.shown c.loop-range.range-iterator c.next.new.self _ c.loop-range.output w
+      left = λ w more. inv.left w (writes_told g.W.Write.write_str_gives c.args.format c.args.mode c.args.text.now c.args.begin c.loop-range.at c.args.close c.loop-range.shown c.loop-range.range-iterator c.next.new.self _ c.loop-range.output w
           c.in-Some.ensures.steps c.if-start-at.true more);
     }
 
@@ -65,7 +65,7 @@ loop-range-preserved g c =
       order = c.in_ok-shown-2.ensures.0.1;
       high = at.0.high;
       places = at.1;
-      left = λ w more. inv.left w (writes_item g.W.Write.write_str_gives c.args.style c.args.mode c.args.text.now c.args.begin c.loop-range.at c.args.close c.loop-range.shown c.in_ok-shown.shown c.in_ok-shown-2.shown
+      left = λ w more. inv.left w (writes_item g.W.Write.write_str_gives c.args.format c.args.mode c.args.text.now c.args.begin c.loop-range.at c.args.close c.loop-range.shown c.in_ok-shown.shown c.in_ok-shown-2.shown
           c.loop-range.range-iterator c.next.new.self _ c.look_of.result c.loop-range.output c.write_skipped.new.output c.write_stretch.new.output w
           c.in-Some.ensures.steps (let no = c.if-start-at.false in omega arith) c.look_of.ensures c.in_ok-shown.ensures.1 c.in_ok-shown-2.ensures.1 more);
     }

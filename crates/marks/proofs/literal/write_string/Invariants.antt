@@ -14,6 +14,6 @@ invariant-loop-range g l = record {
   order : l.shown ≤ l.at;
   high : l.at ≤ l.close;
   places : ArePlaced (between l.begin l.close l.text) l.range-iterator;
-  left : (w : _) → WritesInCalls g.W.Write.write_str_gives l.output (with_marks l.style (parts_from l.shown (drop l.shown l.text) (stretches_from l.mode l.begin l.at l.close l.range-iterator))) w
-      → WritesInCalls g.W.Write.write_str_gives l.initial.output (with_marks l.style (parts_from 0 l.text (string_stretches l.mode l.begin l.close l.text))) w;
+  left : (w : _) → WritesInCalls g.W.Write.write_str_gives l.output (with_marks l.format (parts_from l.shown (drop l.shown l.text) (stretches_from l.mode l.begin l.at l.close l.range-iterator))) w
+      → WritesInCalls g.W.Write.write_str_gives l.initial.output (with_marks l.format (parts_from 0 l.text (string_stretches l.mode l.begin l.close l.text))) w;
 }

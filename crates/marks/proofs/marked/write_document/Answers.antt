@@ -18,7 +18,7 @@ loop-token-preserved g c =
     let piece = piece_is c.args.text.now at.rest c.range-in-loop-token.result.now c.loop-token.start c.in-Some.token.len c.range-in-loop-token.ensures.value c.loop-token.invariant.place.1 in
     record {
       place = stands_past c.args.text.now c.loop-token.start at past c.in-Some.token c.loop-token.invariant.place step;
-      left = λ w more. c.loop-token.invariant.left w (writes_token g.W.Write.write_str_gives c.args.style c.args.edition c.loop-token.output c.write_token.new.output w at.rest past.rest c.range-in-loop-token.result.now (tokens_left at) (tokens_left past) c.in-Some.token
+      left = λ w more. c.loop-token.invariant.left w (writes_token g.W.Write.write_str_gives c.args.format c.args.edition c.loop-token.output c.write_token.new.output w at.rest past.rest c.range-in-loop-token.result.now (tokens_left at) (tokens_left past) c.in-Some.token
           step.first step.rest piece c.in_ok-write_token.ensures more);
     }
 
@@ -33,7 +33,7 @@ loop-token-init g c =
     let line : c.range.result.now ≡ take (shebang_len text) text = c.range.ensures.value ∙ ap (λ (n : ℕ). take n text) (let e : length text - length c.as_str.result.now - 0 ≡ shebang_len text = omega (arith, begins) in e) in
     record {
       place = document_offset text c.as_str.result.now c.into_iter-token-iterator.result tokens.ensures.boundary rest left;
-      left = λ w more. writes_past g.W.Write.write_str_gives c.args.style c.args.edition c.args.output.now c.write_in_class.new.output c.write_in_class-2.new.output w c.args.mark.now text c.in_ok-write_in_class.ensures
-          (subst (λ (bs : List ℕ). WritesInCalls g.W.Write.write_str_gives c.write_in_class.new.output (with_marks c.args.style (Own Comment bs ∷ [])) c.write_in_class-2.new.output) line c.in_ok-write_in_class-2.ensures)
-          (subst (λ (s : State). WritesInCalls g.W.Write.write_str_gives c.write_in_class-2.new.output (marked_tokens c.args.style c.args.edition s.rest (tokens_left s)) w) state more);
+      left = λ w more. writes_past g.W.Write.write_str_gives c.args.format c.args.edition c.args.output.now c.write_in_class.new.output c.write_in_class-2.new.output w c.args.mark.now text c.in_ok-write_in_class.ensures
+          (subst (λ (bs : List ℕ). WritesInCalls g.W.Write.write_str_gives c.write_in_class.new.output (with_marks c.args.format (Own Comment bs ∷ [])) c.write_in_class-2.new.output) line c.in_ok-write_in_class-2.ensures)
+          (subst (λ (s : State). WritesInCalls g.W.Write.write_str_gives c.write_in_class-2.new.output (marked_tokens c.args.format c.args.edition s.rest (tokens_left s)) w) state more);
     }

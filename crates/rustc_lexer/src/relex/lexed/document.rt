@@ -4,7 +4,7 @@ ghost use Rattle.rustc_lexer.specs.Document as spec;
 ghost use Rattle.rustc_lexer.specs.Tokens.{tokens_by};
 
 use crate::entry::stepper::Stepper;
-use crate::relex::front::Bound;
+use crate::relex::front::TokenStart;
 use crate::relex::head::Whole;
 use crate::relex::lexed::Lexed;
 
@@ -19,14 +19,14 @@ impl<S: Stepper> Lexed<S, Whole> {
 
     /// Returns where the body begins, in bytes, and how many tokens come before it: those up to and
     /// including the frontmatter, or none if there is no frontmatter.
-    pub fn body(&self) -> Bound
-        ensures number { result.number ≡ length (spec.head_tokens self.now.text) }
+    pub fn body_start(&self) -> TokenStart
+        ensures number { result.index ≡ length (spec.head_tokens self.now.text) }
         ensures offset { result.offset ≡ spec.body_start self.now.text }
-        ensures tokens { drop result.number self.now.tokens
+        ensures tokens { drop result.index self.now.tokens
             ≡ tokens_by (S.grammar self.now.stepper) (drop result.offset self.now.text) }
     {
-        Bound {
-            number: self.kept.head.count(),
+        TokenStart {
+            index: self.kept.head.count(),
             offset: self.kept.head.body,
         }
     }

@@ -3,7 +3,7 @@ ghost use Rattle.rustc_lexer.specs.Locality.{IsSettled, StaysUpTo};
 ghost use Rattle.rustc_lexer.specs.Tokens.{tokens_by};
 
 use crate::entry::stepper::Stepper;
-use crate::relex::front::{Bound, kept_front};
+use crate::relex::front::{TokenStart, kept_front};
 use crate::relex::head::Part;
 use crate::relex::lexed::Lexed;
 
@@ -18,8 +18,8 @@ impl<S: Stepper> Lexed<S, Part> {
     {
         let text = self.text();
         let tokens = self.tokens();
-        let end = Bound {
-            number: tokens.len(),
+        let end = TokenStart {
+            index: tokens.len(),
             offset: text.len(),
         };
         kept_front(text, tokens, text.len(), end).offset

@@ -8,4 +8,4 @@ invariant-loop-at l = (l.at.offset ≤ l.offset)
     × ((first : ℕ) (ts : List Token) → ArePlaced l.tokens first ts l.fn.near → ArePlaced l.tokens first ts l.at)
 
 abbrev pub decreases-loop-at : goal.decreases-loop-at
-decreases-loop-at l = length l.tokens - l.at.number
+decreases-loop-at l = length l.tokens - l.at.index

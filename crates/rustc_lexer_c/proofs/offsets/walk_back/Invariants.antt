@@ -4,8 +4,8 @@ use Rattle.rustc_lexer_c.specs.Offsets.{ArePlaced}
 use Rattle.rustc_lexer_c.proofs.offsets.walk_back.Given as goal
 
 abbrev pub invariant-loop-at : goal.invariant-loop-at
-invariant-loop-at l = (l.at.number ≤ length l.tokens)
+invariant-loop-at l = (l.at.index ≤ length l.tokens)
     × ((first : ℕ) (ts : List Token) → ArePlaced l.tokens first ts l.fn.near → ArePlaced l.tokens first ts l.at)
 
 abbrev pub decreases-loop-at : goal.decreases-loop-at
-decreases-loop-at l = l.at.number
+decreases-loop-at l = l.at.index

@@ -10,13 +10,13 @@ use core::iter::Iterator;
 /// In plain Rust this one is the kind alone:
 ///
 /// ```
-/// use rustc_lexer::{FrontmatterAllowed, Record, Token, TokenKind, tokenize};
+/// use rustc_lexer::{FromToken, FrontmatterAllowed, Token, TokenKind, tokenize};
 ///
 /// #[derive(Clone, Copy, Debug, PartialEq)]
 /// struct Kind(TokenKind);
 ///
-/// impl Record for Kind {
-///     fn of(token: Token) -> Kind {
+/// impl FromToken for Kind {
+///     fn from_token(token: Token) -> Kind {
 ///         Kind(token.kind)
 ///     }
 /// }
@@ -25,15 +25,15 @@ use core::iter::Iterator;
 /// assert_eq!(tokenize("a+b", FrontmatterAllowed::No).fill(&mut kinds), 3);
 /// assert_eq!(kinds[1], Kind(TokenKind::Plus));
 /// ```
-pub trait Record: Copy {
+pub trait FromToken: Copy {
     /// Returns the form of a token.
-    fn of(token: Token) -> Self;
+    fn from_token(token: Token) -> Self;
 }
 
 /// A token in its own form.
-impl Record for Token {
+impl FromToken for Token {
     #[inline(always)]
-    fn of(token: Token) -> Token {
+    fn from_token(token: Token) -> Token {
         token
     }
 }
@@ -43,7 +43,7 @@ impl<'a> Tokens<'a> {
     /// The number is less than the length of the buffer only if no token is left.
     ///
     /// They are the tokens that as many calls of `next` return.
-    pub fn fill<R: Record>(&mut self, buffer: &mut [R]) -> usize {
+    pub fn fill<R: FromToken>(&mut self, buffer: &mut [R]) -> usize {
         // The loop takes from a copy, which stays in registers.
         let mut tokens = self.copy();
         tokens.begin();
@@ -52,7 +52,7 @@ impl<'a> Tokens<'a> {
             let Some(token) = tokens.next() else {
                 break;
             };
-            buffer[count] = R::of(token);
+            buffer[count] = R::from_token(token);
             count += 1;
         }
         *self = tokens;

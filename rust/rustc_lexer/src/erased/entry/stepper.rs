@@ -2,7 +2,7 @@
 //! Steppers: they lex by a grammar, one token at a time or many at once.
 
 use crate::erased::edition::{Edition, token_in};
-use crate::erased::entry::fill::Record;
+use crate::erased::entry::fill::FromToken;
 use crate::erased::entry::tally::Tally;
 use crate::erased::entry::tokenize_in;
 use crate::erased::token::Token;
@@ -40,12 +40,12 @@ pub trait Stepper {
     ///
     /// This default takes one step after another. A stepper that can find many tokens at once has a body of its
     /// own.
-    fn fill<R: Record>(&mut self, text: &str, end: usize, buffer: &mut [R]) -> (usize, usize) {
+    fn fill<R: FromToken>(&mut self, text: &str, end: usize, buffer: &mut [R]) -> (usize, usize) {
         let mut written = 0;
         let mut at = 0;
         while written < buffer.len() && at < end {
             let token = self.step(&text[at..]);
-            buffer[written] = R::of(token);
+            buffer[written] = R::from_token(token);
             written += 1;
             at += token.len as usize;
         }
@@ -88,21 +88,21 @@ impl Stepper for Steps {
         token_in(rest, self.edition)
     }
 
-    fn fill<R: Record>(&mut self, text: &str, end: usize, buffer: &mut [R]) -> (usize, usize) {
+    fn fill<R: FromToken>(&mut self, text: &str, end: usize, buffer: &mut [R]) -> (usize, usize) {
         let mut tokens = tokenize_in(text, self.edition);
         let past_end = text.len() - end;
         let mut count = 0;
         while count < buffer.len() && tokens.left() > past_end {
             // Most tokens are told: a branch of their own is faster.
             if let Some(token) = tokens.told() {
-                buffer[count] = R::of(token);
+                buffer[count] = R::from_token(token);
                 count += 1;
                 continue;
             }
             let Some(token) = tokens.next() else {
                 break;
             };
-            buffer[count] = R::of(token);
+            buffer[count] = R::from_token(token);
             count += 1;
         }
         self.tally.tick_by(count);

@@ -1,7 +1,7 @@
 // Made by tools/erase from crates/rustc_lexer/src/relex/checkpoints.rt: edit that file.
 //! Bounds that are remembered, so that a search begins near its target.
 
-use crate::erased::relex::front::{Bound, FIRST};
+use crate::erased::relex::front::{FIRST, TokenStart};
 
 /// How many token boundaries are remembered. It is odd: then different multiples of a power of two, if there are at most
 /// so many in a row, leave different remainders.
@@ -11,7 +11,7 @@ const COUNT: usize = 63;
 /// `COUNT`.
 #[derive(Clone, Copy)]
 pub(crate) struct Checkpoints {
-    bounds: [Bound; COUNT],
+    bounds: [TokenStart; COUNT],
 }
 
 impl Checkpoints {
@@ -26,7 +26,7 @@ impl Checkpoints {
     ///
     /// A share has its place by the offset at which it begins. When a text has grown so that two shares become one, this
     /// is the place of the first of the two, and what comes at the end gets the places of the others.
-    pub(crate) fn remember(&mut self, bound: Bound, len: usize) {
+    pub(crate) fn remember(&mut self, bound: TokenStart, len: usize) {
         let share = (len / COUNT + 1).next_power_of_two();
         let start = bound.offset / share * share;
         self.bounds[start % COUNT] = bound;
@@ -36,7 +36,7 @@ impl Checkpoints {
     pub(crate) fn joined(&self, more: &Checkpoints, len: usize) -> Checkpoints {
         let mut all = *more;
         for bound in &self.bounds {
-            if bound.number > 0 {
+            if bound.index > 0 {
                 all.remember(*bound, len);
             }
         }
@@ -44,7 +44,7 @@ impl Checkpoints {
     }
 
     /// Returns the checkpoint that is nearest to `offset`.
-    pub(crate) fn nearest(&self, offset: usize) -> Bound {
+    pub(crate) fn nearest(&self, offset: usize) -> TokenStart {
         let mut nearest = self.bounds[0];
         for bound in &self.bounds {
             if bound.offset.abs_diff(offset) < nearest.offset.abs_diff(offset) {
@@ -55,10 +55,10 @@ impl Checkpoints {
     }
 
     /// Returns the last checkpoint that has at most `number` tokens before it, or the first boundary of the list.
-    pub(crate) fn before_number(&self, number: usize) -> Bound {
+    pub(crate) fn before_number(&self, number: usize) -> TokenStart {
         let mut last = FIRST;
         for bound in &self.bounds {
-            if last.number < bound.number && bound.number <= number {
+            if last.index < bound.index && bound.index <= number {
                 last = *bound;
             }
         }
@@ -67,7 +67,7 @@ impl Checkpoints {
 
     /// Returns the checkpoints after an edit. The edit keeps the tokens up to `kept`, and those from `met` on,
     /// which is then `now`. A checkpoint in between becomes `kept`.
-    pub(crate) fn after(&self, kept: Bound, met: Bound, now: Bound) -> Checkpoints {
+    pub(crate) fn after(&self, kept: TokenStart, met: TokenStart, now: TokenStart) -> Checkpoints {
         let mut bounds = [kept; COUNT];
         for (i, bound) in self.bounds.iter().enumerate() {
             bounds[i] = move_bound(*bound, kept, met, now);
@@ -78,12 +78,12 @@ impl Checkpoints {
 
 /// Returns the boundary after an edit. The edit keeps the tokens up to `kept`, and those from `met` on, which is then
 /// `now`.
-fn move_bound(bound: Bound, kept: Bound, met: Bound, now: Bound) -> Bound {
-    if bound.number <= kept.number {
+fn move_bound(bound: TokenStart, kept: TokenStart, met: TokenStart, now: TokenStart) -> TokenStart {
+    if bound.index <= kept.index {
         bound
-    } else if bound.number >= met.number {
-        Bound {
-            number: bound.number - met.number + now.number,
+    } else if bound.index >= met.index {
+        TokenStart {
+            index: bound.index - met.index + now.index,
             offset: bound.offset - met.offset + now.offset,
         }
     } else {

@@ -66,8 +66,8 @@ pub(crate) fn put_tokens(
     at: Relexing,
     lexed: Vec<Token>,
 ) -> Result<(), AllocError> {
-    let from = old_count + at.front.number;
-    let to = old_count + at.back.number;
+    let from = old_count + at.front.index;
+    let to = old_count + at.back.index;
     match head {
         None => replace(tokens, from, to, lexed),
         Some(head) => {

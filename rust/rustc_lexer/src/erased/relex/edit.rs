@@ -4,7 +4,7 @@ use crate::support::{String, Vec};
 
 use crate::erased::entry::stepper::Stepper;
 use crate::erased::relex::checkpoints::Checkpoints;
-use crate::erased::relex::front::Bound;
+use crate::erased::relex::front::TokenStart;
 use crate::erased::relex::relexing::{Change, Relexing};
 use crate::erased::token::{Token, TokenKind};
 use crate::support::{AllocError, Global};
@@ -51,7 +51,7 @@ pub(crate) fn relex<S: Stepper>(
     alloc: Global,
     stepper: &mut S,
     old: &[Token],
-    near: Bound,
+    near: TokenStart,
     text: &str,
     change: Change,
     lexed_bounds: &mut Checkpoints,
@@ -75,9 +75,9 @@ pub(crate) fn relex<S: Stepper>(
 }
 
 /// Returns where the last token ends that was lexed.
-fn end_of(at: Relexing) -> Bound {
-    Bound {
-        number: at.front.number + at.lexed,
+fn end_of(at: Relexing) -> TokenStart {
+    TokenStart {
+        index: at.front.index + at.lexed,
         offset: at.at,
     }
 }
@@ -96,7 +96,7 @@ pub(crate) fn past_edit(
         return moved;
     }
     let mut all = moved.joined(lexed_bounds, len);
-    if at.front.number == 0 {
+    if at.front.index == 0 {
         return all;
     }
     all.remember(at.front, len);

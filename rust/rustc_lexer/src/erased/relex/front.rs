@@ -18,18 +18,18 @@ impl Measured for Token {
     }
 }
 
-/// A token boundary: how many tokens come before it, and its offset.
+/// Where a token begins, or the last one ends: its index and its offset.
 #[derive(Clone, Copy, Debug, PartialEq, Eq, Default, PartialOrd, Ord, Hash)]
-pub struct Bound {
-    /// How many tokens come before it.
-    pub number: usize,
+pub struct TokenStart {
+    /// How many tokens come before it: the index of the one that begins there.
+    pub index: usize,
     /// Its offset, in bytes from the start of the text.
     pub offset: usize,
 }
 
 /// The first boundary, which each list has.
-pub(crate) const FIRST: Bound = Bound {
-    number: 0,
+pub(crate) const FIRST: TokenStart = TokenStart {
+    index: 0,
     offset: 0,
 };
 
@@ -56,19 +56,19 @@ fn stand_before(text: &str, from: usize, to: usize) -> bool {
 }
 
 /// Returns the last boundary up to `from` that is at least two characters before `start`, or the first boundary.
-fn walk_back<T: Measured>(text: &str, tokens: &[T], start: usize, from: Bound) -> Bound {
-    if from.number > tokens.len() {
+fn walk_back<T: Measured>(text: &str, tokens: &[T], start: usize, from: TokenStart) -> TokenStart {
+    if from.index > tokens.len() {
         return FIRST;
     }
     let mut at = from;
-    while at.number > 0 {
+    while at.index > 0 {
         if stand_before(text, at.offset, start) {
             return at;
         }
-        let number = at.number - 1;
-        at = Bound {
-            number,
-            offset: at.offset.saturating_sub(tokens[number].len() as usize),
+        let index = at.index - 1;
+        at = TokenStart {
+            index,
+            offset: at.offset.saturating_sub(tokens[index].len() as usize),
         };
     }
     FIRST
@@ -80,13 +80,13 @@ pub(crate) fn kept_front<T: Measured>(
     text: &str,
     tokens: &[T],
     start: usize,
-    near: Bound,
-) -> Bound {
+    near: TokenStart,
+) -> TokenStart {
     let mut at = walk_back(text, tokens, start, near);
-    while at.number < tokens.len() {
-        let next = Bound {
-            number: at.number + 1,
-            offset: at.offset + tokens[at.number].len() as usize,
+    while at.index < tokens.len() {
+        let next = TokenStart {
+            index: at.index + 1,
+            offset: at.offset + tokens[at.index].len() as usize,
         };
         if !stand_before(text, next.offset, start) {
             break;
@@ -97,12 +97,12 @@ pub(crate) fn kept_front<T: Measured>(
 }
 
 /// Returns the first boundary from `from` on that is not before `target`, or the last boundary.
-fn next_bound<T: Measured>(tokens: &[T], from: Bound, target: usize) -> Bound {
+fn next_bound<T: Measured>(tokens: &[T], from: TokenStart, target: usize) -> TokenStart {
     let mut at = from;
-    while at.number < tokens.len() && at.offset < target {
-        at = Bound {
-            number: at.number + 1,
-            offset: at.offset + tokens[at.number].len() as usize,
+    while at.index < tokens.len() && at.offset < target {
+        at = TokenStart {
+            index: at.index + 1,
+            offset: at.offset + tokens[at.index].len() as usize,
         };
     }
     at
@@ -111,7 +111,7 @@ fn next_bound<T: Measured>(tokens: &[T], from: Bound, target: usize) -> Bound {
 /// A position in the old tokens, and whether the new tokens meet it.
 #[derive(Clone, Copy)]
 pub(crate) struct Meeting {
-    pub at: Bound,
+    pub at: TokenStart,
     pub met: bool,
 }
 
@@ -130,7 +130,7 @@ pub(crate) struct Damage {
 /// always is one, the last one, so no length is read there.
 pub(crate) fn follow<T: Measured>(
     tokens: &[T],
-    from: Bound,
+    from: TokenStart,
     offset: usize,
     damage: Damage,
 ) -> Meeting {
@@ -143,8 +143,8 @@ pub(crate) fn follow<T: Measured>(
     let target = offset - damage.added + damage.removed;
     if offset == damage.end {
         return Meeting {
-            at: Bound {
-                number: tokens.len(),
+            at: TokenStart {
+                index: tokens.len(),
                 offset: target,
             },
             met: true,

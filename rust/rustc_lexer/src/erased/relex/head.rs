@@ -14,7 +14,7 @@ use crate::support::AllocError;
 /// an edit of the document changes in its body, and [`Relexing`](crate::Relexing) lexes that again.
 ///
 /// ```
-/// use rustc_lexer::lists::{Change, Head};
+/// use rustc_lexer::incremental::{Change, Head};
 ///
 /// let (old, new) = ("#!/bin/sh\nlet a;", "#!/bin/sh\nlet ab;");
 /// // A `b` was inserted at 15.

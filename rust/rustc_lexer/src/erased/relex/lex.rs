@@ -4,7 +4,7 @@ use crate::support::Vec;
 
 use crate::erased::entry::stepper::Stepper;
 use crate::erased::relex::checkpoints::Checkpoints;
-use crate::erased::relex::front::Bound;
+use crate::erased::relex::front::TokenStart;
 use crate::erased::token::{Token, TokenKind};
 use crate::support::AllocError;
 
@@ -25,8 +25,8 @@ pub(crate) fn lex_all<S: Stepper>(
     }; BUFFER_LEN];
     let mut offset = 0;
     while offset < text.len() {
-        let number = tokens.len() - old_count;
-        checkpoints.remember(Bound { number, offset }, offset);
+        let index = tokens.len() - old_count;
+        checkpoints.remember(TokenStart { index, offset }, offset);
         let (count, bytes) = stepper.fill(&text[offset..], text.len() - offset, &mut buffer);
         make_room(tokens, count, offset, text.len() - offset)?;
         tokens.extend_from_slice(&buffer[..count])?;

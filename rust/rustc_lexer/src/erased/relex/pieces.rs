@@ -17,8 +17,8 @@ pub struct Piece<'a> {
 
 /// An iterator over the pieces of a text.
 ///
-/// `pieces`, `pieces_of` and `pieces_in` of a [`LexedText`](crate::LexedText) and of a document return it. Each piece
-/// begins where the one before it ends, and its text is the part of the text that its token takes.
+/// `pieces`, `pieces_of_tokens` and `pieces_in_bytes` of a [`LexedText`](crate::LexedText) and of a document return it.
+/// Each piece begins where the one before it ends, and its text is the part of the text that its token takes.
 /// Pieces can be taken from either end.
 #[derive(Clone)]
 #[must_use]

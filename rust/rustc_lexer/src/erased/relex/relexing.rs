@@ -1,9 +1,9 @@
 // Made by tools/erase from crates/rustc_lexer/src/relex/relexing.rt: edit that file.
 //! Lexes again what an edit changed, on lists that the caller holds.
 
-use crate::erased::entry::fill::Record;
+use crate::erased::entry::fill::FromToken;
 use crate::erased::entry::stepper::Stepper;
-use crate::erased::relex::front::{Bound, Damage, Measured, follow, kept_front};
+use crate::erased::relex::front::{Damage, Measured, TokenStart, follow, kept_front};
 use crate::erased::token::Token;
 
 /// The greatest offset that a token boundary may have. No text is longer, even if a `usize` has 32 bits.
@@ -134,8 +134,8 @@ impl Relexed {
 /// In plain Rust:
 ///
 /// ```
-/// use rustc_lexer::lists::{Change, Relexing};
-/// use rustc_lexer::{Bound, FrontmatterAllowed, Steps, Token, tokenize};
+/// use rustc_lexer::incremental::{Change, Relexing};
+/// use rustc_lexer::{FrontmatterAllowed, Steps, Token, TokenStart, tokenize};
 ///
 /// let (old, new) = ("let ab = cd;", "let abc = cd;");
 /// let mut tokens: Vec<Token> = tokenize(old, FrontmatterAllowed::No).collect();
@@ -143,7 +143,7 @@ impl Relexed {
 /// let change = Change { start: 6, old_stop: 6, new_stop: 7 };
 ///
 /// let mut steps = Steps::new();
-/// let mut relexing = Relexing::begin(new, &tokens, change, Bound::default());
+/// let mut relexing = Relexing::begin(new, &tokens, change, TokenStart::default());
 /// let mut lexed = Vec::new();
 /// while let Some(token) = relexing.next(&mut steps, new, &tokens, change) {
 ///     lexed.push(token);
@@ -157,11 +157,11 @@ impl Relexed {
 #[derive(Clone, Copy, Debug, PartialEq, Eq, Hash)]
 pub struct Relexing {
     /// How many of the old tokens stay at the front, and where they end.
-    pub front: Bound,
+    pub front: TokenStart,
     /// How many tokens were lexed.
     pub lexed: usize,
     /// A boundary of the old tokens. Once lexing meets it, the tokens after it stay.
-    pub back: Bound,
+    pub back: TokenStart,
     /// Where the last token that was lexed ends, in bytes from the start of the present text.
     pub at: usize,
     /// Whether `at` is that boundary of the old tokens.
@@ -174,7 +174,7 @@ impl Relexing {
     ///
     /// The text must have at most `u32::MAX` bytes, and [`change.may_make(text)`](Change::may_make) must be true. This
     /// is not tested: otherwise the result means nothing, or the call panics.
-    pub fn begin<T: Measured>(text: &str, old: &[T], change: Change, near: Bound) -> Relexing {
+    pub fn begin<T: Measured>(text: &str, old: &[T], change: Change, near: TokenStart) -> Relexing {
         let front = kept_front(text, old, change.start, near);
         let to = follow(old, front, front.offset, change.damage(text));
         Relexing {
@@ -191,8 +191,8 @@ impl Relexing {
     #[must_use]
     pub fn may_go_on(&self, text: &str, old_count: usize) -> bool {
         text.is_char_boundary(self.at)
-            && self.back.number <= old_count
-            && self.front.number <= self.back.number
+            && self.back.index <= old_count
+            && self.front.index <= self.back.index
             && self.back.offset <= MOST
             && self.lexed <= self.at
     }
@@ -234,7 +234,7 @@ impl Relexing {
     /// `change` are those that were passed to `begin`.
     ///
     /// They are the tokens that as many calls of `next` return.
-    pub fn fill<S: Stepper, T: Measured, R: Record>(
+    pub fn fill<S: Stepper, T: Measured, R: FromToken>(
         &mut self,
         stepper: &mut S,
         text: &str,
@@ -247,7 +247,7 @@ impl Relexing {
             let Some(token) = self.next(stepper, text, old, change) else {
                 break;
             };
-            buffer[count] = R::of(token);
+            buffer[count] = R::from_token(token);
             count += 1;
         }
         count
@@ -255,7 +255,7 @@ impl Relexing {
 
     /// Lexes many tokens at once, and writes them into the buffer: as many as there is room for, or up to the next
     /// place where they may meet the old ones. Returns how many.
-    pub(crate) fn block<S: Stepper, T: Measured, R: Record>(
+    pub(crate) fn block<S: Stepper, T: Measured, R: FromToken>(
         &mut self,
         stepper: &mut S,
         text: &str,
@@ -298,9 +298,9 @@ impl Relexing {
     #[must_use]
     pub fn counts(&self, old_count: usize) -> Relexed {
         Relexed {
-            kept_front: self.front.number,
+            kept_front: self.front.index,
             lexed: self.lexed,
-            kept_back: old_count - self.back.number,
+            kept_back: old_count - self.back.index,
         }
     }
 }

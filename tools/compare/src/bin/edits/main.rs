@@ -2,7 +2,7 @@
 //! `cargo run --release --bin edits -- FILE [ROUNDS]`, on Linux with 64 bits. Edited are the file's first 970,000 bytes.
 //! Times are the least of all rounds, those of single edits by the clock, of what takes longer by the processor's time.
 
-use marks::{Edition, Style, class_of, keyword_in, write_marked};
+use marks::{Edition, Format, class_of, keyword_kind, write_marked};
 use rustc_lexer::{
     Edit, FrontmatterAllowed, JoinedText, LexedDocument, LexedText, Piece, TokenKind, tokenize,
 };
@@ -153,8 +153,8 @@ fn written(text: &str, whole: f64, rounds: usize) {
     words.retain(|piece| piece.token.kind == TokenKind::Ident);
     let push = |joined: &mut JoinedText| pieces.iter().for_each(|piece| joined.push(piece.text));
     let class = |piece: &Piece| drop(black_box(class_of(piece.token.kind, piece.text)));
-    let keyword = |piece: &Piece| drop(black_box(keyword_in(piece.text, Edition::E2024)));
-    let html = |page: &mut String| write_marked(Style::Html, Edition::E2024, text, page).unwrap();
+    let keyword = |piece: &Piece| drop(black_box(keyword_kind(piece.text, Edition::E2024)));
+    let html = |page: &mut String| write_marked(Format::Html, Edition::E2024, text, page).unwrap();
     let page = || String::with_capacity(8 * text.len());
     for (what, time, count) in [
         (
@@ -168,7 +168,7 @@ fn written(text: &str, whole: f64, rounds: usize) {
             count,
         ),
         (
-            "`keyword_in` of an identifier",
+            "`keyword_kind` of an identifier",
             least(rounds, || (), |_| words.iter().for_each(keyword)),
             words.len(),
         ),

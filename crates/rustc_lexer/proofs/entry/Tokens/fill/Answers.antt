@@ -18,15 +18,15 @@ places-preserved g c =
       past = past_more s at past c.places.count token inv.past inv.left inv.rest takes;
       left = left_more s at past c.places.count token inv.past inv.left inv.rest takes;
       rest = rest_more s at past c.places.count token inv.past inv.left inv.rest takes;
-      written = one_written g.R.Record.written (tokens_left s) (tokens_left past) c.args.buffer.now c.places.buffer c.places.count token inv.written
-          (next_is s at past c.places.count token inv.past inv.left inv.rest takes) fits c.of.result c.of.ensures;
+      written = one_written g.R.FromToken.written (tokens_left s) (tokens_left past) c.args.buffer.now c.places.buffer c.places.count token inv.written
+          (next_is s at past c.places.count token inv.past inv.left inv.rest takes) fits c.from_token.result c.from_token.ensures;
     }
 
 pub returns-in_default-clause-count : goal.returns-in_default-clause-count
 returns-in_default-clause-count g c = grind (arith, common_steps, rules, all_written, none_more)
 
 pub returns-in_default-clause-tokens : goal.returns-in_default-clause-tokens
-returns-in_default-clause-tokens g c = whole_buffer g.R.Record.written (tokens_left c.args.self.now) c.args.buffer.now c.places.buffer c.places.count c.places.invariant.written
+returns-in_default-clause-tokens g c = whole_buffer g.R.FromToken.written (tokens_left c.args.self.now) c.args.buffer.now c.places.buffer c.places.count c.places.invariant.written
 
 pub returns-after-places-clause-tokens : goal.returns-after-places-clause-tokens
-returns-after-places-clause-tokens g c = whole_buffer g.R.Record.written (tokens_left c.args.self.now) c.args.buffer.now c.places.buffer c.places.count c.places.invariant.written
+returns-after-places-clause-tokens g c = whole_buffer g.R.FromToken.written (tokens_left c.args.self.now) c.args.buffer.now c.places.buffer c.places.count c.places.invariant.written

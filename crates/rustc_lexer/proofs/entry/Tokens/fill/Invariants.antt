@@ -8,7 +8,7 @@ invariant-places g l = record {
   past : l.tokens ≡ state_past l.count l.fn.self;
   left : tokens_left l.tokens ≡ drop l.count (tokens_left l.fn.self);
   rest : l.tokens.rest ≡ drop (bound (tokens_left l.fn.self) l.count) l.fn.self.rest;
-  written : IsWritten g.R.Record.written (tokens_left l.fn.self) l.fn.buffer l.buffer l.count;
+  written : IsWritten g.R.FromToken.written (tokens_left l.fn.self) l.fn.buffer l.buffer l.count;
 }
 
 abbrev pub decreases-places : goal.decreases-places

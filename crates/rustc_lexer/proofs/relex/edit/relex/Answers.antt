@@ -1,5 +1,5 @@
 use Rattle.std.proofs.Common.{◌≡◌, ◌+◌, ◌∷◌, ◌++◌, List, ℕ, length, map, drop, take, refl, sym, ap, ◌∙◌, subst, arith, length-append, length-take-le, []}
-use Rattle.rustc_lexer.specs.declared.relex.front.Bound.{Bound}
+use Rattle.rustc_lexer.specs.declared.relex.front.TokenStart.{TokenStart}
 use Rattle.rustc_lexer.specs.declared.relex.relexing.Relexing.{Relexing}
 use Rattle.rustc_lexer.specs.{Token}
 use Rattle.rustc_lexer.specs.Classes.{IsText}
@@ -28,7 +28,7 @@ returns-in_default-clause-lexed g c = λ before insert is near.
       stands = to_stands law before _ insert _ c.args.change is end last.0;
       met = last.1;
       lexed = ap (λ (a : Relexing). a.lexed) same ∙ (c.begin-at.ensures.none ∙ sym (ap (λ (ts : List Token). length ts) none));
-      tokens_are = subst (λ (a : Relexing). drop a.front.number new ≡ c.new-tokens.result.items ++ drop (known a) new) (sym same) (all_lexed new at c.new-tokens.result.items none c.begin-at.ensures.none);
+      tokens_are = subst (λ (a : Relexing). drop a.front.index new ≡ c.new-tokens.result.items ++ drop (known a) new) (sym same) (all_lexed new at c.new-tokens.result.items none c.begin-at.ensures.none);
     }
 
 pub returns-in_err-push-clause-few : goal.returns-in_err-push-clause-few
@@ -110,7 +110,7 @@ left-preserved g c =
           let here = ap (λ (f : List ℕ → Token). tokens_by f (drop at.at text)) inv.grammar ∙ goes.1 in (
             stands,
             more_lexed (tokens_by first text) left c.left.tokens.items block at past count steps.front steps.lexed so.1 here written.front ∙ ap (λ (ts : List Token). ts ++ drop (known past) (tokens_by first text)) (sym items),
-            λ are. c.remember.ensures (tokens_by first text) (so.2 are) (subst (λ (b : Bound). IsBound (tokens_by first text) b) (sym c.end_of.ensures) (stands.inside, stands.offset)),
+            λ are. c.remember.ensures (tokens_by first text) (so.2 are) (subst (λ (b : TokenStart). IsBound (tokens_by first text) b) (sym c.end_of.ensures) (stands.inside, stands.offset)),
           );
     }
 

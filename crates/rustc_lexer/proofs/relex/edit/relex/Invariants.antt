@@ -17,7 +17,7 @@ invariant-left g l = record {
   lexed : l.at.lexed ≡ length l.tokens.items;
   stands : (before insert : List ℕ) → IsMadeOf (g.S.Stepper.grammar l.fn.stepper) before (map (λ (t : Token). t.len) l.old) l.change insert l.text → IsBound (tokens_by (g.S.Stepper.grammar l.fn.stepper) before) l.fn.near
       → Stands (g.S.Stepper.grammar l.fn.stepper) before l.change l.text l.at
-      × (drop l.at.front.number (tokens_by (g.S.Stepper.grammar l.fn.stepper) l.text) ≡ l.tokens.items ++ drop (known l.at) (tokens_by (g.S.Stepper.grammar l.fn.stepper) l.text))
+      × (drop l.at.front.index (tokens_by (g.S.Stepper.grammar l.fn.stepper) l.text) ≡ l.tokens.items ++ drop (known l.at) (tokens_by (g.S.Stepper.grammar l.fn.stepper) l.text))
       × (AreBounds (tokens_by (g.S.Stepper.grammar l.fn.stepper) l.text) l.fn.lexed_bounds → AreBounds (tokens_by (g.S.Stepper.grammar l.fn.stepper) l.text) l.lexed_bounds);
 }
 

@@ -12,12 +12,12 @@ returns-clause-followed g c = λ ts are from before last.
     let same : c.args.offset - c.args.damage.added + c.args.damage.removed ≡ target = omega arith in
     let has = c.next_bound-at.ensures.bound ts are from (λ k less. let b = before k less in omega arith) in
     let many = as_many g.T.Measured.bytes c.args.tokens.now ts are in
-    let reached : at.number < length ts → target ≤ bound ts at.number = λ few. let r : target ≤ at.offset = (let h = has.2 (omega (arith, many)) in omega arith) in let p : at.offset ≡ bound ts at.number = has.0.1 in omega arith in
+    let reached : at.index < length ts → target ≤ bound ts at.index = λ few. let r : target ≤ at.offset = (let h = has.2 (omega (arith, many)) in omega arith) in let p : at.offset ≡ bound ts at.index = has.0.1 in omega arith in
     record {
       bound_is = has.0;
       below = λ k less. let b = has.1 k less in omega arith;
       reached = λ _ few. (let h = has.2 (omega (arith, many)) in omega arith);
-      met_is = ap (λ n. eqb at.offset n) same ∙ (ap (λ n. eqb n target) has.0.1 ∙ (sym (is_bound-decide ts at.number target has.0.0 (λ k less. let b = has.1 k less in omega arith) reached) ∙
+      met_is = ap (λ n. eqb at.offset n) same ∙ (ap (λ n. eqb n target) has.0.1 ∙ (sym (is_bound-decide ts at.index target has.0.0 (λ k less. let b = has.1 k less in omega arith) reached) ∙
           ap (λ b. b && is_bound ts target) (sym (le-leb c.args.damage.past c.args.offset (omega arith)))));
     }
 

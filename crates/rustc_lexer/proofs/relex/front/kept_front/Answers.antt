@@ -11,7 +11,7 @@ loop-at-init g c = (
   c.walk_back-at.ensures.before,
   λ old ts is near.
       let from = c.walk_back-at.ensures.bound old ts is near in
-      kept_from old ts c.args.start c.walk_back-at.result.number c.walk_back-at.result.offset is.utf8 is.cuts from.0.0 from.0.1 from.1,
+      kept_from old ts c.args.start c.walk_back-at.result.index c.walk_back-at.result.offset is.utf8 is.cuts from.0.0 from.0.1 from.1,
 )
 
 pub loop-at-preserved : goal.loop-at-preserved
@@ -21,7 +21,7 @@ loop-at-preserved g c = (
   stood_before _ _ _ c.stand_before.ensures.late c.if-not-stand_before.false,
   λ old ts is near.
       let at = c.loop-at.invariant.3 old ts is near in
-      let number = c.loop-at.at.number in
+      let number = c.loop-at.at.index in
       let few = c.loop-at-test.true in
       let long = as_long g.T.Measured.bytes c.args.tokens.now ts is.lengths_are number _ _ c.len.ensures c.index-tokens-at.is few in
       let same : c.loop-at.at.offset + c.len.result ≡ c.loop-at.at.offset + (get_or ts number no_token).len = ap (λ n. c.loop-at.at.offset + n) long in
@@ -35,12 +35,12 @@ pub returns-after-loop-at-clause-front : goal.returns-after-loop-at-clause-front
 returns-after-loop-at-clause-front g c = λ old ts is near.
     let at = c.loop-at.invariant.3 old ts is near in
     let all = c.loop-at-test.false in
-    (kept_end old ts c.args.start c.loop-at.at.number c.loop-at.at.offset at (omega (arith, as_many g.T.Measured.bytes c.args.tokens.now ts is.lengths_are)), (at.number_bound, at.offset_is), at.two)
+    (kept_end old ts c.args.start c.loop-at.at.index c.loop-at.at.offset at (omega (arith, as_many g.T.Measured.bytes c.args.tokens.now ts is.lengths_are)), (at.number_bound, at.offset_is), at.two)
 
 pub returns-then-not-stand_before-clause-front : goal.returns-then-not-stand_before-clause-front
 returns-then-not-stand_before-clause-front g c = λ old ts is near.
     let at = c.loop-at.invariant.3 old ts is near in
-    let number = c.loop-at.at.number in
+    let number = c.loop-at.at.index in
     let few = c.loop-at-test.true in
     let long = as_long g.T.Measured.bytes c.args.tokens.now ts is.lengths_are number _ _ c.len.ensures c.index-tokens-at.is few in
     let same : c.loop-at.at.offset + c.len.result ≡ c.loop-at.at.offset + (get_or ts number no_token).len = ap (λ n. c.loop-at.at.offset + n) long in

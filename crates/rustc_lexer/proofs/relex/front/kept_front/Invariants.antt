@@ -6,10 +6,10 @@ use Rattle.rustc_lexer.proofs.FrontLemmas.{IsKept}
 use Rattle.rustc_lexer.proofs.relex.front.kept_front.Given as goal
 
 abbrev pub invariant-loop-at : goal.invariant-loop-at
-invariant-loop-at g l = (l.at.number ≤ length l.tokens)
+invariant-loop-at g l = (l.at.index ≤ length l.tokens)
     × IsCharBoundary l.text l.at.offset
     × (l.at.offset ≤ l.start)
-    × ((old : List ℕ) (ts : List Token) → IsFront old ts (map g.T.Measured.bytes l.tokens) l.text l.start → IsBound ts l.fn.near → IsKept old ts l.start l.at.number l.at.offset)
+    × ((old : List ℕ) (ts : List Token) → IsFront old ts (map g.T.Measured.bytes l.tokens) l.text l.start → IsBound ts l.fn.near → IsKept old ts l.start l.at.index l.at.offset)
 
 abbrev pub decreases-loop-at : goal.decreases-loop-at
-decreases-loop-at g l = length l.tokens - l.at.number
+decreases-loop-at g l = length l.tokens - l.at.index

@@ -6,7 +6,7 @@ use Rattle.rustc_lexer.proofs.relex.front.next_bound.Goals as goal
 
 pub loop-at-preserved : goal.loop-at-preserved
 loop-at-preserved g c =
-    let number = c.loop-at.at.number in
+    let number = c.loop-at.at.index in
     let few = c.loop-at-test.true in (
       omega arith,
       omega arith,

@@ -14,7 +14,7 @@ pub returns-then-stand_before-clause-bound : goal.returns-then-stand_before-clau
 returns-then-stand_before-clause-bound g c = λ old ts is from.
     let at = c.loop-at.invariant.1 old ts is from in (
       at,
-      λ some. let there = is.cuts c.loop-at.at.number at.0 in
+      λ some. let there = is.cuts c.loop-at.at.index at.0 in
           sym (stand_alike old c.args.text.now c.loop-at.at.offset c.args.start c.stand_before.result is.utf8 c.utf8.text is.same c.requires.boundary.0 (rw at.1 there) c.stand_before.ensures.late c.stand_before.ensures.two)
           ∙ c.if-stand_before.true,
     )
@@ -24,10 +24,10 @@ loop-at-preserved g c = (
   omega arith,
   λ old ts is from.
       let at = c.loop-at.invariant.1 old ts is from in
-      let number = c.loop-at.at.number in
+      let number = c.loop-at.at.index in
       let some : 0 < number = c.loop-at-test.true in
       let few : number - 1 < length c.args.tokens.now = omega arith in
-      let long = as_long g.T.Measured.bytes c.args.tokens.now ts is.lengths_are (number - 1) _ _ c.len.ensures c.index-tokens-number.is few in
+      let long = as_long g.T.Measured.bytes c.args.tokens.now ts is.lengths_are (number - 1) _ _ c.len.ensures c.index-tokens-index.is few in
       let back = back_place ts number c.loop-at.at.offset no_token at.1 some at.0 in
       (back.0, c.saturating_sub.ensures ∙ (ap (λ n. c.loop-at.at.offset - n) long ∙ back.1)),
 )

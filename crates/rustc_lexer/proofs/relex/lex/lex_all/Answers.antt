@@ -24,8 +24,8 @@ left-init g c =
       c.new-checkpoints.ensures _,
     )
 
-pub overflow_sub-number : goal.overflow_sub-number
-overflow_sub-number g c = omega (arith, grown c.args.tokens.now.items c.left.tokens.items c.left.invariant.0)
+pub overflow_sub-index : goal.overflow_sub-index
+overflow_sub-index g c = omega (arith, grown c.args.tokens.now.items c.left.tokens.items c.left.invariant.0)
 
 pub range_from-requires : goal.range_from-requires
 range_from-requires g c =

@@ -2,7 +2,7 @@
 //! The head of a document that is kept with its tokens.
 
 use crate::erased::entry::stepper::Stepper;
-use crate::erased::relex::front::Bound;
+use crate::erased::relex::front::TokenStart;
 use crate::erased::relex::head::Whole;
 use crate::erased::relex::lexed::Lexed;
 
@@ -14,9 +14,9 @@ impl<S: Stepper> Lexed<S, Whole> {
 
     /// Returns where the body begins, in bytes, and how many tokens come before it: those up to and
     /// including the frontmatter, or none if there is no frontmatter.
-    pub fn body(&self) -> Bound {
-        Bound {
-            number: self.kept.head.count(),
+    pub fn body_start(&self) -> TokenStart {
+        TokenStart {
+            index: self.kept.head.count(),
             offset: self.kept.head.body,
         }
     }

@@ -2,7 +2,7 @@
 //! A kept text that grows at its end, like a stream.
 
 use crate::erased::entry::stepper::Stepper;
-use crate::erased::relex::front::{Bound, kept_front};
+use crate::erased::relex::front::{TokenStart, kept_front};
 use crate::erased::relex::head::Part;
 use crate::erased::relex::lexed::Lexed;
 
@@ -14,8 +14,8 @@ impl<S: Stepper> Lexed<S, Part> {
     pub fn settled(&self) -> usize {
         let text = self.text();
         let tokens = self.tokens();
-        let end = Bound {
-            number: tokens.len(),
+        let end = TokenStart {
+            index: tokens.len(),
             offset: text.len(),
         };
         kept_front(text, tokens, text.len(), end).offset

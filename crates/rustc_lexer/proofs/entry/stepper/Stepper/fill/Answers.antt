@@ -20,8 +20,8 @@ places-preserved g c =
     let buffer : c.places.written < length c.places.buffer = omega arith in
     let token : c.step-token.result ≡ first (drop c.places.at text) = stepped text c.places.at c.step-token.ensures.token inv.grammar c.range_from.ensures.value in
     record {
-      written = one_written g.R.Record.written (tokens_by first text) _ c.args.buffer.now c.places.buffer c.places.written (first (drop c.places.at text)) inv.written
-          (next_token law text is c.places.written c.places.at inv.offset more) buffer c.of.result (c.of.ensures ∙ ap g.R.Record.written token);
+      written = one_written g.R.FromToken.written (tokens_by first text) _ c.args.buffer.now c.places.buffer c.places.written (first (drop c.places.at text)) inv.written
+          (next_token law text is c.places.written c.places.at inv.offset more) buffer c.from_token.result (c.from_token.ensures ∙ ap g.R.FromToken.written token);
       begun = begun_more (tokens_by first text) c.places.written c.places.at c.args.end inv.offset (omega arith) inv.begun;
       offset = ap (λ (t : Token). c.places.at + t.len) token ∙ next_offset law text is c.places.written c.places.at inv.offset more;
       count = omega (arith, c.step-token.ensures.count, inv.count);
@@ -30,7 +30,7 @@ places-preserved g c =
     }
 
 pub returns-else-at-end-clause-filled : goal.returns-else-at-end-clause-filled
-returns-else-at-end-clause-filled g c = written_to g.R.Record.written c.args.end (tokens_by (g.Self.Stepper.grammar c.args.self.now) c.args.text.now) c.args.buffer.now c.places.buffer c.places.written c.places.at c.places.invariant.written c.places.invariant.offset c.places.invariant.begun (λ _. omega arith)
+returns-else-at-end-clause-filled g c = written_to g.R.FromToken.written c.args.end (tokens_by (g.Self.Stepper.grammar c.args.self.now) c.args.text.now) c.args.buffer.now c.places.buffer c.places.written c.places.at c.places.invariant.written c.places.invariant.offset c.places.invariant.begun (λ _. omega arith)
 
 pub returns-after-places-clause-filled : goal.returns-after-places-clause-filled
-returns-after-places-clause-filled g c = written_to g.R.Record.written c.args.end (tokens_by (g.Self.Stepper.grammar c.args.self.now) c.args.text.now) c.args.buffer.now c.places.buffer c.places.written c.places.at c.places.invariant.written c.places.invariant.offset c.places.invariant.begun (λ more. omega arith)
+returns-after-places-clause-filled g c = written_to g.R.FromToken.written c.args.end (tokens_by (g.Self.Stepper.grammar c.args.self.now) c.args.text.now) c.args.buffer.now c.places.buffer c.places.written c.places.at c.places.invariant.written c.places.invariant.offset c.places.invariant.begun (λ more. omega arith)

@@ -13,13 +13,13 @@ use Rattle.rustc_lexer.proofs.entry.stepper.StepsStepper.fill.Goals.{then-places
 
 pub places-preserved-in-Some : goal.places-preserved-in-Some
 places-preserved-in-Some g c =
-    filled_more g.R.Record.written _ c.args.text.now c.args.end c.args.buffer.now c.places.buffer c.places.count _ _ c.in-Some.token _ record { utf8 = c.utf8.text; fits = c.requires.fits } c.requires.inside c.places.invariant (omega arith) (omega arith) c.in-Some.ensures c.of.ensures
+    filled_more g.R.FromToken.written _ c.args.text.now c.args.end c.args.buffer.now c.places.buffer c.places.count _ _ c.in-Some.token _ record { utf8 = c.utf8.text; fits = c.requires.fits } c.requires.inside c.places.invariant (omega arith) (omega arith) c.in-Some.ensures c.from_token.ensures
 
 pub places-preserved : goal.places-preserved
 places-preserved g c =
     let same : State = c.told.new.self in
-    let here = subst (λ (s : State). IsFilling g.R.Record.written c.args.self.now.edition c.args.text.now c.args.end c.args.buffer.now c.places.buffer c.places.count s) (sym c.in_default.ensures) c.places.invariant in
-    filled_more g.R.Record.written _ c.args.text.now c.args.end c.args.buffer.now c.places.buffer c.places.count same _ c.in-Some-next.token _ record { utf8 = c.utf8.text; fits = c.requires.fits } c.requires.inside here (omega (arith, ap (λ (s : State). length s.rest) c.in_default.ensures)) (omega arith) c.in-Some-next.ensures.steps c.of-in-places.ensures
+    let here = subst (λ (s : State). IsFilling g.R.FromToken.written c.args.self.now.edition c.args.text.now c.args.end c.args.buffer.now c.places.buffer c.places.count s) (sym c.in_default.ensures) c.places.invariant in
+    filled_more g.R.FromToken.written _ c.args.text.now c.args.end c.args.buffer.now c.places.buffer c.places.count same _ c.in-Some-next.token _ record { utf8 = c.utf8.text; fits = c.requires.fits } c.requires.inside here (omega (arith, ap (λ (s : State). length s.rest) c.in_default.ensures)) (omega arith) c.in-Some-next.ensures.steps c.from_token-in-places.ensures
 
 pub returns-clause-filled : goal.returns-clause-filled
 returns-clause-filled g c =
@@ -40,7 +40,7 @@ returns-clause-filled g c =
           let none = ap (λ (ts : List Token). length ts) w.in_default-next.ensures.steps.0 in
           λ more. absurd (omega (arith, some, none))
     ] in
-    written_to g.R.Record.written c.args.end (tokens_by first text) c.args.buffer.now c.places.buffer count at inv.written refl inv.begun done
+    written_to g.R.FromToken.written c.args.end (tokens_by first text) c.args.buffer.now c.places.buffer count at inv.written refl inv.begun done
 
 pub returns-clause-bytes : goal.returns-clause-bytes
 returns-clause-bytes g c = grind (arith, common_steps, rules, stands, edition_grammar, else-places-test, length-drop)

@@ -7,7 +7,7 @@ use Rattle.rustc_lexer.proofs.relex.lexed.Lexed.piece_at.Goals as goal
 pub overflow_cast-start : goal.overflow_cast-start
 overflow_cast-start g c =
     let is = c.in_ok-at.ensures.token in
-    omega (arith, is.start, fits_seen (g.S.Stepper.law c.self.inside.kept.stepper) g.E.Extent.whole (string_bytes c.self.inside.kept.text) c.self.inside.kept.tokens.items c.self.inside.kept.head c.self.inside.kept.checkpoints c.self.invariant c.args.self.now (ap (λ h. h.text) c.self.view_is) (ap (λ h. h.tokens) c.self.view_is) c.in_ok-at.at.number (omega (arith, is.number)))
+    omega (arith, is.start, fits_seen (g.S.Stepper.law c.self.inside.kept.stepper) g.E.Extent.whole (string_bytes c.self.inside.kept.text) c.self.inside.kept.tokens.items c.self.inside.kept.head c.self.inside.kept.checkpoints c.self.invariant c.args.self.now (ap (λ h. h.text) c.self.view_is) (ap (λ h. h.tokens) c.self.view_is) c.in_ok-at.at.index (omega (arith, is.number)))
 
 pub overflow_cast-end : goal.overflow_cast-end
 overflow_cast-end g c = omega (arith, ap length c.as_str-text.ensures.value, (kept_cuts (g.S.Stepper.law c.self.inside.kept.stepper) g.E.Extent.whole (string_bytes c.self.inside.kept.text) c.self.inside.kept.tokens.items c.self.inside.kept.head c.self.inside.kept.checkpoints c.self.invariant).0)
@@ -18,7 +18,7 @@ invariant_of-pieces g c =
     let text = c.as_str-text.ensures.value ∙ ap (λ h. h.text) c.self.view_is in
     let tokens = c.as_slice.ensures.value ∙ ap (λ h. h.tokens) c.self.view_is in
     let all = cut_seen (g.S.Stepper.law c.self.inside.kept.stepper) g.E.Extent.whole (string_bytes c.self.inside.kept.text) c.self.inside.kept.tokens.items c.self.inside.kept.head c.self.inside.kept.checkpoints c.self.invariant c.args.self.now (ap (λ h. h.text) c.self.view_is) (ap (λ h. h.tokens) c.self.view_is) in
-    rw (text, tokens) (cut_part _ _ _ _ _ _ c.in_ok-at.at.number (length c.args.self.now.tokens) (omega (arith, is.number)) (omega arith) is.start all.2 all)
+    rw (text, tokens) (cut_part _ _ _ _ _ _ c.in_ok-at.at.index (length c.args.self.now.tokens) (omega (arith, is.number)) (omega arith) is.start all.2 all)
 
 pub returns-clause-piece : goal.returns-clause-piece
 returns-clause-piece g c =

@@ -50,9 +50,9 @@ returns g c =
     let count : ℕ = c.fill-count.result.0 in
     let bytes : ℕ = c.fill-count.result.1 in
     let end : ℕ = c.least_meeting-end.result - at.at in
-    let filled : IsFilledTo g.R.Record.written end (tokens_by first (drop at.at text)) c.args.buffer.now c.fill-count.new.buffer count = subst (λ (l : List ℕ). IsFilledTo g.R.Record.written end (tokens_by first l) c.args.buffer.now c.fill-count.new.buffer count) c.range_from.ensures.value c.fill-count.ensures.filled in
+    let filled : IsFilledTo g.R.FromToken.written end (tokens_by first (drop at.at text)) c.args.buffer.now c.fill-count.new.buffer count = subst (λ (l : List ℕ). IsFilledTo g.R.FromToken.written end (tokens_by first l) c.args.buffer.now c.fill-count.new.buffer count) c.range_from.ensures.value c.fill-count.ensures.filled in
     let bytes_is : bytes ≡ bound (tokens_by first (drop at.at text)) count = c.fill-count.ensures.bytes ∙ ap (λ (l : List ℕ). bound (tokens_by first l) count) c.range_from.ensures.value in
-    let some = some_filled g.R.Record.written end (tokens_by first (drop at.at text)) c.args.buffer.now c.fill-count.new.buffer count filled c.requires.room (let past = c.least_meeting-end.ensures.past in omega arith) in
+    let some = some_filled g.R.FromToken.written end (tokens_by first (drop at.at text)) c.args.buffer.now c.fill-count.new.buffer count filled c.requires.room (let past = c.least_meeting-end.ensures.past in omega arith) in
     let fewer = block_count law text (drop at.at text) is at.at may.boundary refl count bytes filled.few bytes_is in
     let stays : at.at + bytes < change.new_stop → to.at ≡ at.back = λ early. c.follow-to.ensures.stays (rw c.damage.ensures early) in
     record {

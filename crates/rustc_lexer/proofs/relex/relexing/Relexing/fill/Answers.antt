@@ -34,8 +34,8 @@ places-preserved g c =
       number = c.in-Some.ensures.number ∙ inv.number;
       count = omega (arith, c.in-Some.ensures.step.2, inv.count);
       steps = step_more law text is c.args.change.new_stop begin at boundary c.places.count inv.steps token past step;
-      written = one_written g.R.Record.written (tokens_by first (drop begin.at text)) _ c.args.buffer.now c.places.buffer c.places.count token inv.written
-          (next_left law text is c.args.change.new_stop begin at boundary c.places.count inv.steps token past step) (let less = c.places-test.true in omega arith) c.of.result c.of.ensures;
+      written = one_written g.R.FromToken.written (tokens_by first (drop begin.at text)) _ c.args.buffer.now c.places.buffer c.places.count token inv.written
+          (next_left law text is c.args.change.new_stop begin at boundary c.places.count inv.steps token past step) (let less = c.places-test.true in omega arith) c.from_token.result c.from_token.ensures;
       begins = λ _. elim (cases_lt 0 c.places.count) [
         | inl some ↦ inv.begins some
         | inr none ↦ (let e : c.places.count ≡ 0 = omega arith in ap (is_over text) (sym (inv.steps.none e)) ∙ c.in-Some.ensures.step.3)

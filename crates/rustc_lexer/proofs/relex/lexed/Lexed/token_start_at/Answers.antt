@@ -1,7 +1,7 @@
 use Rattle.std.proofs.Common.{length, ap, ◌∙◌, arith, string_bytes}
 use Rattle.rustc_lexer.proofs.LexedLemmas.{end_seen, fits_seen, start_seen}
 use Rattle.rustc_lexer.proofs.OffsetLemmas.{answered}
-use Rattle.rustc_lexer.proofs.relex.lexed.Lexed.token_at.Goals as goal
+use Rattle.rustc_lexer.proofs.relex.lexed.Lexed.token_start_at.Goals as goal
 
 pub token_around-requires-clause-near : goal.token_around-requires-clause-near
 token_around-requires-clause-near g c =

@@ -4,7 +4,7 @@ use Rattle.rustc_lexer.specs.declared.token.TokenKind.{TokenKind}
 use Rattle.rustc_lexer.specs.Kinds.{has_fields, kind_entry}
 use Rattle.rustc_lexer_c.specs.declared.token.CToken.{CToken}
 use Rattle.rustc_lexer_c.specs.Numbers.{first_of as first_byte, second_of, third_of, token_numbers}
-use Rattle.rustc_lexer_c.proofs.token.CTokenRecord.of.Goals as goal
+use Rattle.rustc_lexer_c.proofs.token.CTokenFromToken.from_token.Goals as goal
 
 abbrev bare : TokenKind → ℕ → CToken
 bare kind len = record { kind = (kind_entry kind).0; first = 0; second = 0; third = 0; suffix_start = 0; len = len }

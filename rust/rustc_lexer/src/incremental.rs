@@ -9,8 +9,8 @@
 //! The list has the tokens of the body, which is what follows the shebang line and the frontmatter.
 //!
 //! ```
-//! use rustc_lexer::lists::{Change, Head, Relexing};
-//! use rustc_lexer::{Bound, Edition, Steps, Token, tokenize_document};
+//! use rustc_lexer::incremental::{Change, Head, Relexing};
+//! use rustc_lexer::{Edition, Steps, Token, TokenStart, tokenize_document};
 //!
 //! struct File {
 //!     text: String,
@@ -26,7 +26,7 @@
 //!         let change = self.head.change_to(head, change).change;
 //!         let text = &self.text[head.body..];
 //!         let mut steps = Steps::new();
-//!         let mut relexing = Relexing::begin(text, &self.body, change, Bound::default());
+//!         let mut relexing = Relexing::begin(text, &self.body, change, TokenStart::default());
 //!         let mut lexed = Vec::new();
 //!         while let Some(token) = relexing.next(&mut steps, text, &self.body, change) {
 //!             lexed.push(token);

@@ -3,7 +3,7 @@ use Rattle.std.proofs.Common.{rules}
 use Rattle.std.proofs.Common.{ap, ◌∙◌, arith, length-drop, length-take-le, string_bytes}
 use Rattle.rustc_lexer.proofs.LexedLemmas.{cut_seen, start_seen}
 use Rattle.rustc_lexer.proofs.PieceLemmas.{cut_part, length-pieces, pieces-part}
-use Rattle.rustc_lexer.proofs.relex.lexed.Lexed.pieces_of.Goals as goal
+use Rattle.rustc_lexer.proofs.relex.lexed.Lexed.pieces_of_tokens.Goals as goal
 
 pub offset_of-start-requires : goal.offset_of-start-requires
 offset_of-start-requires g c = record {

@@ -1,5 +1,5 @@
 use Rattle.marks.proofs.LiteralMarkLemmas.{strings_marked}
-use Rattle.marks.proofs.literal.inside.Goals as goal
+use Rattle.marks.proofs.literal.literal_contents.Goals as goal
 
 pub returns-clause-marks : goal.returns-clause-marks
 returns-clause-marks c =

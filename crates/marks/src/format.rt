@@ -9,9 +9,9 @@ use crate::class::Class;
 use crate::fault::Fault;
 use std::fmt;
 
-/// The style of the marks.
+/// The format of the marks.
 #[derive(Clone, Copy, Debug, PartialEq, Eq)]
-pub enum Style {
+pub enum Format {
     /// Tags of a page.
     Html,
     /// Escape sequences for the colours of a terminal.
@@ -23,11 +23,11 @@ pub enum Style {
 }
 
 /// Returns the mark before a token of a class.
-pub fn class_open(style: Style, class: Class) -> &'static str
-    ensures { result.now ≡ class_open style class }
+pub fn class_open(format: Format, class: Class) -> &'static str
+    ensures { result.now ≡ class_open format class }
 {
-    match style {
-        Style::Html => match class {
+    match format {
+        Format::Html => match class {
             Class::Plain => "",
             Class::Comment => "<span class=\"comment\">",
             Class::Doc => "<span class=\"doc\">",
@@ -38,7 +38,7 @@ pub fn class_open(style: Style, class: Class) -> &'static str
             Class::Number => "<span class=\"number\">",
             Class::Lifetime => "<span class=\"lifetime\">",
         },
-        Style::Colours => match class {
+        Format::Colours => match class {
             Class::Plain => "",
             Class::Comment => "\x1b[90m",
             Class::Doc => "\x1b[36m",
@@ -49,41 +49,41 @@ pub fn class_open(style: Style, class: Class) -> &'static str
             Class::Number => "\x1b[36m",
             Class::Lifetime => "\x1b[33m",
         },
-        Style::NoColours | Style::Raw => "",
+        Format::NoColours | Format::Raw => "",
     }
 }
 
 /// Returns the mark after a token of a class.
-pub fn class_close(style: Style, class: Class) -> &'static str
-    ensures { result.now ≡ class_close style class }
+pub fn class_close(format: Format, class: Class) -> &'static str
+    ensures { result.now ≡ class_close format class }
 {
-    match (style, class) {
-        (_, Class::Plain) | (Style::NoColours | Style::Raw, _) => "",
-        (Style::Html, _) => "</span>",
-        (Style::Colours, _) => "\x1b[0m",
+    match (format, class) {
+        (_, Class::Plain) | (Format::NoColours | Format::Raw, _) => "",
+        (Format::Html, _) => "</span>",
+        (Format::Colours, _) => "\x1b[0m",
     }
 }
 
 /// Writes the mark before the first line of a token with a fault. In a page it is a tag with the sentence.
-pub fn open_fault<W: fmt::Write>(style: Style, fault: Fault, output: &mut W) -> fmt::Result
+pub fn open_fault<W: fmt::Write>(format: Format, fault: Fault, output: &mut W) -> fmt::Result
     ensures { OnOk result
-        (WritesInCalls W.write_str_gives output.old (fault_open style fault) output.new) }
+        (WritesInCalls W.write_str_gives output.old (fault_open format fault) output.new) }
 {
-    match style {
-        Style::Html => write!(output, "<mark title=\"{fault}\">"),
-        Style::Colours => output.write_str("\x1b[4;31m"),
-        Style::NoColours | Style::Raw => Ok(()),
+    match format {
+        Format::Html => write!(output, "<mark title=\"{fault}\">"),
+        Format::Colours => output.write_str("\x1b[4;31m"),
+        Format::NoColours | Format::Raw => Ok(()),
     }
 }
 
 /// Writes the mark after the first line of a token with a fault. In a terminal it has the sentence.
-pub fn close_fault<W: fmt::Write>(style: Style, fault: Fault, output: &mut W) -> fmt::Result
+pub fn close_fault<W: fmt::Write>(format: Format, fault: Fault, output: &mut W) -> fmt::Result
     ensures { OnOk result
-        (WritesInCalls W.write_str_gives output.old (fault_close style fault) output.new) }
+        (WritesInCalls W.write_str_gives output.old (fault_close format fault) output.new) }
 {
-    match style {
-        Style::Html => output.write_str("</mark>"),
-        Style::Colours => write!(output, "\x1b[0;31m [<- {fault}]\x1b[0m"),
-        Style::NoColours | Style::Raw => write!(output, " [<- {fault}]"),
+    match format {
+        Format::Html => output.write_str("</mark>"),
+        Format::Colours => write!(output, "\x1b[0;31m [<- {fault}]\x1b[0m"),
+        Format::NoColours | Format::Raw => write!(output, " [<- {fault}]"),
     }
 }
