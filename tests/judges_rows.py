@@ -76,6 +76,10 @@ LAYERS = [
     (f"{LEXER}/src/kernels.rt", "\n}\n", "\n    use crate::entry::tokenize;\n}\n", "kernels uses entry, which does not stand below it"),
     (f"{LEXER}/src/kernels.rt", "\nuse ", "\nuse crate::{token, entry::tokenize};\nuse ", "kernels uses entry, which does not stand below it"),
     (f"{LEXER}/src/relex/head.rt", "\nuse ", "\nuse crate::relex::{edit, kept};\nuse ", "relex/head uses relex/kept, which does not stand below it"),
+    (f"{LEXER}/src/relex/edit.rt", "\nuse ", "\nghost use Rattle.rustc_lexer.specs.laws.LanguageRuns.{planted};\nuse ", "relex/edit.rt names specs.laws.LanguageRuns"),
+    (f"{LEXER}/src/relex/edit.rt", "\nuse ", "\nghost use Rattle.rustc_lexer.specs.{laws.LanguageRuns.planted};\nuse ", "relex/edit.rt names specs"),
+    (f"{LEXER}/src/relex/edit.rt", "\nuse ", "\n#[tactic(auto, using(crate::proofs::lemmas::tokens::Runs::planted))]\nuse ", "relex/edit.rt names proofs.lemmas.tokens.Runs"),
+    (f"{LEXER}/proofs/lemmas/edits/Bounds.antt", "\nuse ", "\nuse Rattle.rustc_lexer.proofs.scan.planted.{it}\nuse ", "Bounds.antt names proofs.scan.planted"),
 ]
 CLAIM = [
     (f"{LEXER}/src/shebang.rt", "{ result ≡ shebang input.now }", "{ result ≡ spec.line_len input.now }", "a public clause names spec of specs/means.Shebang"),
@@ -87,7 +91,7 @@ CLAIM = [
     (f"{SPECS}/Classes.antt", "\nuse ", "\nuse Rattle.rustc_lexer.specs.Tokens.{tokens_of}\nuse ", "is of the grammar and needs Tokens"),
     (f"{SPECS}/Lib.antt", "\npub mod", "\nabbrev pub planted : Type 1\npub mod", "has more than files and types"),
     ("crates/ends/src/fault.rt", "\nuse ", "\nghost use Rattle.rustc_lexer.specs.means.Shebang.{line_len};\nuse ", "crates/ends/src/fault.rt names means.Shebang"),
-    ("crates/ends/specs/Fault.antt", "\nuse ", "\nuse Rattle.rustc_lexer.proofs.ShebangLemmas.{planted}\nuse ", "in a form that may hide some"),
+    ("crates/ends/specs/Fault.antt", "\nuse ", "\nuse Rattle.rustc_lexer.proofs.lemmas.tokens.Shebang.{planted}\nuse ", "in a form that may hide some"),
     ("docs/notes/PROMISES.md", "| `looks_no_further` |", "| `planted` |", "docs/notes/PROMISES.md lists the laws"),
     ("docs/notes/CLAIM.md", "specs/Answers.antt)", "specs/Planted.antt)", "docs/notes/CLAIM.md lacks Answers"),
     ("docs/notes/CLAIM.md", "specs/Answers.antt)", "specs/Planted.antt)", "which no public contract reaches"),

@@ -10,10 +10,10 @@ use Rattle.rustc_lexer.specs.Kept.{Placed, pieces_from}
 use Rattle.rustc_lexer.specs.means.Relexing.{IsBodyMeeting, kept_front}
 use Rattle.rustc_lexer.specs.Locality.{has_two, IsGrammar}
 use Rattle.rustc_lexer.specs.Classes.{IsText}
-use Rattle.rustc_lexer.proofs.EditLemmas.{IsEdited, edited, has_two-before, bound-take, met_rest, same_rest}
-use Rattle.rustc_lexer.proofs.LayoutLemmas.{body_by_part}
-use Rattle.rustc_lexer.proofs.PieceLemmas.{drop-pieces, length-pieces, take-pieces}
-use Rattle.rustc_lexer.proofs.RelexedLemmas.{front_same, kept_two}
+use Rattle.rustc_lexer.proofs.lemmas.edits.FrontAndBack.{IsEdited, edited, has_two-before, bound-take, met_rest, same_rest}
+use Rattle.rustc_lexer.proofs.lemmas.edits.Layouts.{body_by_part}
+use Rattle.rustc_lexer.proofs.lemmas.edits.Pieces.{drop-pieces, length-pieces, take-pieces}
+use Rattle.rustc_lexer.proofs.lemmas.edits.OneAnswer.{front_same, kept_two}
 use Rattle.examples.specs.Repaint.{changed, moved, shown_after}
 
 -- ---- the pieces of two texts

@@ -10,8 +10,8 @@ use Rattle.rustc_lexer.specs.State.{State}
 use Rattle.rustc_lexer.specs.Tokens.{bound, tokens_left, tokens_of}
 use Rattle.rustc_lexer.specs.means.Tokens.{IsFilled}
 use Rattle.rustc_lexer.specs.laws.Tokens.{bounds, tokens-nil}
-use Rattle.rustc_lexer.proofs.BlockLemmas.{filled_front, IsFront}
-use Rattle.rustc_lexer.proofs.EditLemmas.{bound-take}
+use Rattle.rustc_lexer.proofs.lemmas.edits.Blocks.{filled_front, IsFront}
+use Rattle.rustc_lexer.proofs.lemmas.edits.FrontAndBack.{bound-take}
 use Rattle.lexdump_run.specs.Listing.{line_text, listing_from}
 
 -- the lines of some tokens, and then those of the others

@@ -27,7 +27,7 @@ use Rattle.rustc_lexer.specs.laws.LanguageFrontmatter.{fence-length, run-fence}
 use Rattle.rustc_lexer.specs.laws.LanguageRuns as runs
 use Rattle.rustc_lexer.specs.laws.LanguageRuns.{none-among, start-word_start, word_start-no_space}
 use Rattle.rustc_lexer.specs.laws.Reach.{run_all}
-use Rattle.rustc_lexer.proofs.PartLemmas.{continue_part}
+use Rattle.rustc_lexer.proofs.lemmas.tokens.ClassParts.{continue_part}
 use Rattle.marks.specs.declared.fault.Fault.{Fault}
 use Rattle.marks.specs.declared.fault.Fault.TheVariants.{WhitespaceBeforeFrontmatter, UnclosedFrontmatter, FrontmatterCloseMismatch, ExtraAfterFrontmatterClose}
 use Rattle.rustc_literal_escaper.specs.Grammar.{is_newline}

@@ -50,7 +50,7 @@ pub fn is_horizontal_whitespace(c: char) -> bool
 ///
 /// Rust Reference, [Identifiers](https://doc.rust-lang.org/reference/identifiers.html).
 #[inline]
-#[tactic(auto, using(crate::proofs::PartLemmas::start_lemmas, std::proofs::lemmas::Grind::common_steps))]
+#[tactic(auto, using(crate::proofs::lemmas::tokens::ClassParts::start_lemmas, std::proofs::lemmas::Grind::common_steps))]
 pub fn is_id_start(c: char) -> bool
     ensures { result ≡ Classes.is_id_start c }
 {

@@ -58,7 +58,7 @@ impl<'a> Model for Cursor<'a> {
 impl<'a> Cursor<'a> {
     /// Creates a cursor at the start of the text, which may have at most `u32::MAX` bytes.
     #[inline]
-    #[tactic(auto, using(crate::proofs::AdvanceLemmas::at_start, std::proofs::lemmas::Grind::common_steps))]
+    #[tactic(auto, using(crate::proofs::lemmas::tokens::Advance::at_start, std::proofs::lemmas::Grind::common_steps))]
     pub fn new(input: &'a str, frontmatter_allowed: FrontmatterAllowed) -> Cursor<'a>
         requires fits { Fits input.now }
         ensures { result

@@ -84,7 +84,7 @@ impl FromStr for Edition {
 
     ghost from_str_gives = { λ word read. result_ok read ≡ edition_of word };
 
-    #[tactic(auto, using(crate::proofs::EditionLemmas::year_words, std::proofs::lemmas::Grind::common_steps))]
+    #[tactic(auto, using(crate::proofs::lemmas::tokens::Editions::year_words, std::proofs::lemmas::Grind::common_steps))]
     fn from_str(word: &str) -> Result<Edition, UnknownEdition> {
         match word {
             "2015" => Ok(Edition::E2015),

@@ -61,7 +61,7 @@ pub fn tokenize<'a>(input: &'a str, frontmatter_allowed: FrontmatterAllowed) -> 
 ///
 /// `docs/EDITIONS.md` has a table of the tokens that differ in other editions. The loop at [`tokenize`] shows how to
 /// use the iterator.
-#[tactic(auto, using(crate::specs::laws::Edition::edition_grammar, crate::proofs::SettledLemmas::local, std::proofs::lemmas::Grind::common_steps))]
+#[tactic(auto, using(crate::specs::laws::Edition::edition_grammar, crate::proofs::lemmas::edits::Settled::local, std::proofs::lemmas::Grind::common_steps))]
 pub fn tokenize_in<'a>(text: &'a str, edition: Edition) -> EditionTokens<'a>
     requires fits { Fits text.now }
     ensures reads { ReadsAs No edition text.now result }
@@ -147,7 +147,7 @@ impl<'a> Tokens<'a> {
     /// A caller that stops can go on later: it passes [`as_str`](Tokens::as_str), this answer and the edition to
     /// [`tokenize_as`].
     #[inline(always)]
-    #[tactic(auto, using(crate::proofs::BufferLemmas::mode_held, std::proofs::lemmas::Grind::common_steps))]
+    #[tactic(auto, using(crate::proofs::lemmas::tokens::Buffers::mode_held, std::proofs::lemmas::Grind::common_steps))]
     pub fn frontmatter_allowed(&self) -> FrontmatterAllowed
         ensures { self.now.mode ≡ mode_in result (mode_edition self.now.mode) }
     {

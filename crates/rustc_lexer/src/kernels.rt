@@ -109,7 +109,7 @@ fn stops_within<C: ByteClass>(bytes: &[u8], len: usize) -> u64
 
 /// Returns a mask. Bit k is set unless bytes k - 1 and k both belong to a word or are both white space.
 #[inline(always)]
-#[tactic(auto, using(crate::proofs::BitLemmas::bit_lemmas, std::proofs::lemmas::Grind::common_steps))]
+#[tactic(auto, using(crate::proofs::lemmas::tokens::Bits::bit_lemmas, std::proofs::lemmas::Grind::common_steps))]
 fn run_edges(words: u64, spaces: u64) -> u64
     ensures first { bit result 0 ≡ false }
     ensures later { (k : ℕ) → suc k < 64 → bit result (suc k)
@@ -134,7 +134,7 @@ fn ends_within(bytes: &[u8], len: usize) -> u64
 /// Returns where the runs of words and of white space end in the next 64 bytes, or in those that are left. Returns no
 /// ends if fewer than 16 are left.
 #[inline(never)]
-#[tactic(auto, using(crate::proofs::EndsLemmas::no_ends, std::proofs::lemmas::Grind::common_steps))]
+#[tactic(auto, using(crate::proofs::lemmas::tokens::RunEnds::no_ends, std::proofs::lemmas::Grind::common_steps))]
 pub(crate) fn ends_of_runs(bytes: &[u8]) -> u64
     ensures { IsEnds bytes.now result }
 {

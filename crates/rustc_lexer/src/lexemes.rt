@@ -53,7 +53,7 @@ pub(crate) fn choose_token(text: &str) -> Token
 /// Returns the kind of the token that begins with `first`, and the text after the token. `tail` is the text after
 /// `first`.
 #[inline(always)]
-#[tactic(auto, using(crate::proofs::FamilyLemmas::by_family, std::proofs::lemmas::Grind::common_steps))]
+#[tactic(auto, using(crate::proofs::lemmas::tokens::Families::by_family, std::proofs::lemmas::Grind::common_steps))]
 fn past_first(first: char, tail: &str) -> (TokenKind, &str)
     requires fits { length tail.now + 1 < 2 ^ 32 }
     requires no_hash { spec.family_of first ≢ Hash }

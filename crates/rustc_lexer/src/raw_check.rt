@@ -14,7 +14,7 @@ use crate::token::RawStrError;
 ///
 /// [`validate_raw_str`](crate::validate_raw_str) requires this of its text.
 #[inline]
-#[tactic(auto, using(crate::proofs::RawReadLemmas::starts_is, std::proofs::lemmas::Grind::common_steps))]
+#[tactic(auto, using(crate::proofs::lemmas::tokens::RawRead::starts_is, std::proofs::lemmas::Grind::common_steps))]
 pub fn starts_raw(input: &str, prefix_len: u32) -> bool
     ensures { IsTrue result ↔ StartsRaw input.now prefix_len }
 {
@@ -36,7 +36,7 @@ pub fn starts_raw(input: &str, prefix_len: u32) -> bool
 /// validate_raw_str("r##\"abc\"#", 1) // NoTerminator { expected: 2, found: 1, possible_terminator_offset: Some(8) }
 /// ```
 #[inline]
-#[tactic(auto, using(crate::proofs::RawReadLemmas::prefix_fits, std::proofs::lemmas::Grind::common_steps))]
+#[tactic(auto, using(crate::proofs::lemmas::tokens::RawRead::prefix_fits, std::proofs::lemmas::Grind::common_steps))]
 pub fn validate_raw_str(input: &str, prefix_len: u32) -> Result<(), RawStrError>
     requires fits { Fits input.now }
     requires raw { StartsRaw input.now prefix_len }

@@ -69,7 +69,7 @@ pub(crate) fn next_is<F: Fn(char) -> bool>(rest: &str, test: F) -> bool
 
 /// Returns whether the text begins with a character of ASCII, as its first byte determines.
 #[inline(always)]
-#[tactic(auto, using(crate::proofs::FindLemmas::begins_small, std::proofs::lemmas::Grind::common_steps))]
+#[tactic(auto, using(crate::proofs::lemmas::tokens::ByteSearch::begins_small, std::proofs::lemmas::Grind::common_steps))]
 pub(crate) fn begins_with(rest: &str, byte: u8) -> bool
     requires { byte < 128 }
     ensures { result ≡ begins (byte ∷ []) (chars rest.now) }

@@ -23,7 +23,7 @@ use crate::token::{FrontmatterAllowed, TokenKind};
 /// let line = strip_shebang("#!/bin/sh\nfn"); // Some(9)
 /// let attribute = strip_shebang("#![no_std]"); // None
 /// ```
-#[tactic(auto, using(crate::proofs::ShebangLemmas::shebang_lemmas, std::proofs::lemmas::Grind::common_steps))]
+#[tactic(auto, using(crate::proofs::lemmas::tokens::Shebang::shebang_lemmas, std::proofs::lemmas::Grind::common_steps))]
 pub fn strip_shebang(input: &str) -> Option<usize>
     requires fits { Fits input.now }
     ensures line { result ≡ shebang input.now }

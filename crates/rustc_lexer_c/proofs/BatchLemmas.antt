@@ -11,7 +11,7 @@ use Rattle.rustc_lexer.specs.LanguageText.{Mode, mode_edition, mode_in}
 use Rattle.rustc_lexer.specs.Classes.{IsText}
 use Rattle.rustc_lexer.specs.State.{State}
 use Rattle.rustc_lexer.specs.laws.Tokens.{partitions}
-use Rattle.rustc_lexer.proofs.FillLemmas.{past_fill, Leaves}
+use Rattle.rustc_lexer.proofs.lemmas.tokens.Fill.{past_fill, Leaves}
 use Rattle.rustc_lexer_c.specs.declared.batch.CPlace.{CPlace}
 use Rattle.rustc_lexer_c.specs.declared.token.CToken.{CToken}
 use Rattle.rustc_lexer_c.specs.Batch.{IsBatch, allowed_of, allowed_number, mode_number, state_at, state_past}

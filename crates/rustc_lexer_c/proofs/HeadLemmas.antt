@@ -13,9 +13,9 @@ use Rattle.rustc_lexer.specs.Locality.{IsGrammar}
 use Rattle.rustc_lexer.specs.Relexing.{IsChange, IsEditOf, IsMadeOf, IsBodyChange, IsHeadOf}
 use Rattle.rustc_lexer.specs.Tokens.{tokens_by}
 use Rattle.rustc_lexer.specs.laws.Edition.{edition_grammar}
-use Rattle.rustc_lexer.proofs.BodyChangeLemmas.{is_head}
-use Rattle.rustc_lexer.proofs.DocumentHead.{front_of}
-use Rattle.rustc_lexer.proofs.RelexingLemmas.{made_change}
+use Rattle.rustc_lexer.proofs.lemmas.edits.BodyChanges.{is_head}
+use Rattle.rustc_lexer.proofs.lemmas.heads.ByTokens.{front_of}
+use Rattle.rustc_lexer.proofs.lemmas.edits.ByLengths.{made_change}
 use Rattle.rustc_lexer_c.specs.declared.head.CHead.{CHead}
 use Rattle.rustc_lexer_c.specs.declared.relex.CEdit.{CEdit}
 use Rattle.rustc_lexer_c.specs.Head.{FindsHead, frontmatter_of, head_numbers, head_of, numbers_of_head, two_of}

@@ -5,8 +5,8 @@ use Rattle.rustc_lexer.specs.declared.relex.front.TokenStart.{TokenStart}
 use Rattle.rustc_lexer.specs.declared.token.Token.{Token}
 use Rattle.rustc_lexer.specs.Offsets.{ContainsByte}
 use Rattle.rustc_lexer.specs.Tokens.{bound}
-use Rattle.rustc_lexer.proofs.LengthLemmas.{as_many, no_token}
-use Rattle.rustc_lexer.proofs.OffsetLemmas.{ahead_is, back_is}
+use Rattle.rustc_lexer.proofs.lemmas.edits.Lengths.{as_many, no_token}
+use Rattle.rustc_lexer.proofs.lemmas.edits.Offsets.{ahead_is, back_is}
 use Rattle.rustc_lexer_c.specs.declared.token.CToken.{CToken}
 use Rattle.rustc_lexer_c.specs.Offsets.{ArePlaced}
 

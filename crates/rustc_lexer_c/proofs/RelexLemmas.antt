@@ -15,10 +15,10 @@ use Rattle.rustc_lexer.specs.Relexing.{IsMadeOf, IsUnderWay, IsWhole, MayGoOn, T
 use Rattle.rustc_lexer.specs.means.Relexing.{relexed_of}
 use Rattle.rustc_lexer.specs.Locality.{IsGrammar}
 use Rattle.rustc_lexer.specs.laws.Edition.{edition_grammar}
-use Rattle.rustc_lexer.proofs.LayoutLemmas.{part_by_body}
-use Rattle.rustc_lexer.proofs.RelexedLemmas.{relexed_is}
-use Rattle.rustc_lexer.proofs.RelexingLemmas.{over_met, few_lexed, counts_met}
-use Rattle.rustc_lexer.proofs.UnderWayLemmas.{to_stands}
+use Rattle.rustc_lexer.proofs.lemmas.edits.Layouts.{part_by_body}
+use Rattle.rustc_lexer.proofs.lemmas.edits.OneAnswer.{relexed_is}
+use Rattle.rustc_lexer.proofs.lemmas.edits.ByLengths.{over_met, few_lexed, counts_met}
+use Rattle.rustc_lexer.proofs.lemmas.edits.UnderWay.{to_stands}
 use Rattle.rustc_lexer_c.specs.declared.relex.CEdit.{CEdit}
 use Rattle.rustc_lexer_c.specs.declared.relex.CRelexing.{CRelexing}
 use Rattle.rustc_lexer_c.specs.declared.token.CToken.{CToken}

@@ -158,7 +158,7 @@ static RANGES: [(char, char); 148] = [
 ];
 
 /// Returns whether the character is an emoji outside ASCII.
-#[tactic(auto, using(crate::proofs::EmojiLemmas::in_ascii, std::proofs::lemmas::Grind::common_steps))]
+#[tactic(auto, using(crate::proofs::lemmas::tokens::Emoji::in_ascii, std::proofs::lemmas::Grind::common_steps))]
 pub(crate) fn is_emoji(c: char) -> bool
     ensures { result ≡ Tables.is_emoji c }
 {

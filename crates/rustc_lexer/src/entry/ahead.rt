@@ -74,7 +74,7 @@ impl Ahead {
 /// Returns the ends of runs after an offset, and the offset of the first byte that they cover: the ends that are known,
 /// or else those of the next 64 bytes.
 #[inline(always)]
-#[tactic(auto, using(crate::proofs::ClassifiedLemmas::found_at, crate::proofs::ClassifiedLemmas::left_is, std::proofs::lemmas::Grind::common_steps))]
+#[tactic(auto, using(crate::proofs::lemmas::tokens::Classified::found_at, crate::proofs::lemmas::tokens::Classified::left_is, std::proofs::lemmas::Grind::common_steps))]
 fn ends_ahead(text: &str, at: usize, block: usize, ends: u64) -> (usize, u64)
     requires inside { at ≤ length text.now }
     requires behind { block ≤ at }

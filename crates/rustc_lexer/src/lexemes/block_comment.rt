@@ -26,7 +26,7 @@ pub(crate) fn block_comment(body: &str) -> (TokenKind, &str)
 
 /// Returns the doc style of the block comment with this body.
 #[inline(always)]
-#[tactic(auto, using(crate::proofs::FindLemmas::begins_two, std::proofs::lemmas::Grind::common_steps))]
+#[tactic(auto, using(crate::proofs::lemmas::tokens::ByteSearch::begins_two, std::proofs::lemmas::Grind::common_steps))]
 fn block_doc_style(body: &str) -> Option<DocStyle>
     ensures { result ≡ spec.block_doc_style (chars body.now) }
 {

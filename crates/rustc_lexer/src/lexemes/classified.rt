@@ -20,7 +20,7 @@ pub(crate) fn ends_after(ends: u64, offset: usize) -> u64
 
 /// Returns the ends of runs without the lowest one.
 #[inline(always)]
-#[tactic(auto, using(crate::proofs::BitLemmas::bit_lemmas, std::proofs::lemmas::Grind::common_steps))]
+#[tactic(auto, using(crate::proofs::lemmas::tokens::Bits::bit_lemmas, std::proofs::lemmas::Grind::common_steps))]
 pub(crate) fn past_lowest(ends: u64) -> u64
     requires { ends ≢ 0 }
     ensures gone { (low k : ℕ) → IsLowest ends low → k ≤ low → bit result k ≡ false }

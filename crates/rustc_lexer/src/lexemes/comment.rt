@@ -35,7 +35,7 @@ fn line_comment(body: &str) -> (TokenKind, &str)
 
 /// Returns the doc style of the line comment with this body.
 #[inline(always)]
-#[tactic(auto, using(crate::proofs::FindLemmas::begins_two, std::proofs::lemmas::Grind::common_steps))]
+#[tactic(auto, using(crate::proofs::lemmas::tokens::ByteSearch::begins_two, std::proofs::lemmas::Grind::common_steps))]
 fn line_doc_style(body: &str) -> Option<DocStyle>
     ensures { result ≡ spec.line_doc_style (chars body.now) }
 {

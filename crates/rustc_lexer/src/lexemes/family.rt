@@ -1,5 +1,5 @@
 //! Families of tokens, which the first character of a token chooses, and the kinds that a byte tells.
-#![tactic(auto, using(crate::proofs::FamilyLemmas::table, std::proofs::lemmas::Grind::common_steps))]
+#![tactic(auto, using(crate::proofs::lemmas::tokens::Families::table, std::proofs::lemmas::Grind::common_steps))]
 
 ghost use Rattle.std.specs.Prelude.{◌≡◌, ◌<◌, ◌≤◌, MatchOption};
 ghost use Rattle.rustc_lexer.specs.declared.lexemes.family.Family.TheVariants.{Symbol};
@@ -139,7 +139,7 @@ pub(crate) fn family_of_byte(first: u8) -> Option<Family>
 }
 
 /// Returns the family that a character outside ASCII chooses.
-#[tactic(auto, using(crate::proofs::FamilyLemmas::wide_word, std::proofs::lemmas::Grind::common_steps))]
+#[tactic(auto, using(crate::proofs::lemmas::tokens::Families::wide_word, std::proofs::lemmas::Grind::common_steps))]
 fn family_past_ascii(first: char) -> Family
     requires { 128 ≤ first }
     ensures { result ≡ spec.family_of first }

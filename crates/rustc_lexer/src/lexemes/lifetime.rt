@@ -43,7 +43,7 @@ pub(crate) fn lifetime_or_char(tail: &str) -> (TokenKind, &str)
 ///
 /// There is no branch on which of the two it is, which is hard to predict.
 #[inline(always)]
-#[tactic(auto, using(crate::proofs::ShortCharLemmas::short_cut, crate::proofs::ShortCharLemmas::byte_le, std::proofs::lemmas::Grind::common_steps))]
+#[tactic(auto, using(crate::proofs::lemmas::tokens::ShortChars::short_cut, crate::proofs::lemmas::tokens::ShortChars::byte_le, std::proofs::lemmas::Grind::common_steps))]
 fn past_short_char(tail: &str) -> Option<&str>
     ensures { IfSome result (λ left. (is_character_at (chars tail.now) ≡ true)
         × ((true, left.now) ≡ scanned single_quoted_string tail.now)

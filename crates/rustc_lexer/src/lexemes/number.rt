@@ -1,5 +1,5 @@
 //! Numbers.
-#![tactic(auto, using(crate::proofs::NumberLemmas::number_lemmas, std::proofs::lemmas::Grind::common_steps))]
+#![tactic(auto, using(crate::proofs::lemmas::tokens::Numbers::number_lemmas, std::proofs::lemmas::Grind::common_steps))]
 
 ghost use Rattle.std.specs.Prelude.{◌≡◌, ◌+◌, ◌<◌, ◌^◌, false, length, slice_index};
 ghost use Rattle.std.specs.Char.{is_ascii_digit, is_ascii_hexdigit};
@@ -232,7 +232,7 @@ fn eat_hexadecimal_digits(rest: &str) -> DigitRun<'_>
 
 /// Returns whether a digit is next.
 #[inline(always)]
-#[tactic(auto, using(crate::proofs::NumberLemmas::digit_first, std::proofs::lemmas::Grind::common_steps))]
+#[tactic(auto, using(crate::proofs::lemmas::tokens::Numbers::digit_first, std::proofs::lemmas::Grind::common_steps))]
 fn begins_digit(rest: &str) -> bool
     ensures { result ≡ is_ascii_digit (slice_index (chars rest.now) 0) }
 {

@@ -101,7 +101,7 @@ impl Checkpoints {
 
 /// Returns the boundary after an edit. The edit keeps the tokens up to `kept`, and those from `met` on, which is then
 /// `now`.
-#[tactic(auto, using(crate::proofs::CheckpointLemmas::front_stays, crate::proofs::CheckpointLemmas::kept_stays, std::proofs::lemmas::Grind::common_steps))]
+#[tactic(auto, using(crate::proofs::lemmas::edits::Checkpoints::front_stays, crate::proofs::lemmas::edits::Checkpoints::kept_stays, std::proofs::lemmas::Grind::common_steps))]
 fn move_bound(bound: TokenStart, kept: TokenStart, met: TokenStart, now: TokenStart) -> TokenStart
     requires { IsMovable met now bound }
     ensures { (old new : List Token) → IsReplaced old new kept met now → IsBound old bound

@@ -5,7 +5,7 @@ ghost use Rattle.std.specs.Prelude.{◌-◌, ◌≤◌, ℕ, length, IsCharBound
 ghost use Rattle.rustc_lexer.specs.means.Relexing.{IsSameBack, IsSameFront};
 
 /// Returns the length of the longest front that both texts have. It ends between characters.
-#[tactic(auto, using(crate::proofs::CommonLemmas::front_lemmas, std::proofs::lemmas::Grind::common_steps))]
+#[tactic(auto, using(crate::proofs::lemmas::edits::InCommon::front_lemmas, std::proofs::lemmas::Grind::common_steps))]
 pub(crate) fn common_front(old: &str, new: &str) -> usize
     ensures front { IsSameFront old.now new.now result }
     ensures old_boundary { IsCharBoundary old.now result }

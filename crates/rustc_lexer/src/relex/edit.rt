@@ -53,7 +53,7 @@ pub(crate) fn accepts(text: &str, start: usize, stop: usize, insert: &str) -> bo
 }
 
 /// Replaces the bytes from `start` up to `stop` with `insert`. The text already has room for it.
-#[tactic(auto, using(crate::proofs::EditLemmas::put_is, std::proofs::lemmas::Grind::common_steps))]
+#[tactic(auto, using(crate::proofs::lemmas::edits::FrontAndBack::put_is, std::proofs::lemmas::Grind::common_steps))]
 pub(crate) fn put_in_place(text: &mut String, start: usize, stop: usize, insert: &str)
     requires inside { IsInside (string_bytes text.old) start stop }
     requires room { string_len text.old + length insert.now ≤ string_capacity text.old }

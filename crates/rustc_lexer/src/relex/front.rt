@@ -2,7 +2,7 @@
 //!
 //! The functions here read only the lengths of the old tokens. They may be called with any lengths. What they
 //! promise holds for lengths that are those of a text's tokens.
-#![tactic(auto, using(crate::proofs::EditLemmas::edit_lemmas, std::proofs::lemmas::Grind::common_steps))]
+#![tactic(auto, using(crate::proofs::lemmas::edits::FrontAndBack::edit_lemmas, std::proofs::lemmas::Grind::common_steps))]
 
 ghost use Rattle.std.specs.Prelude.{◌≡◌, ◌+◌, ◌-◌, ◌*◌, ◌<◌, ◌≤◌, ◌^◌, List, length, map, ℕ, true, false, IsCharBoundary, max};
 ghost use Rattle.rustc_lexer.specs.{Token};

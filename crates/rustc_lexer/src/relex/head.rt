@@ -110,7 +110,7 @@ impl Extent for Part {
 
 impl Head {
     /// Returns the head of a document. The text may have at most `u32::MAX` bytes, which is not tested.
-    #[tactic(auto, using(crate::proofs::BodyChangeLemmas::is_head, std::proofs::lemmas::Grind::common_steps))]
+    #[tactic(auto, using(crate::proofs::lemmas::edits::BodyChanges::is_head, std::proofs::lemmas::Grind::common_steps))]
     pub fn find(text: &str) -> Head
         requires fits { Fits text.now }
         ensures head { spec.IsHeadOf text.now result }

@@ -66,7 +66,7 @@ impl<'a> Iterator for Pieces<'a> {
     }
 
     /// Returns how many pieces are left, as the lower and as the upper bound.
-    #[tactic(auto, using(crate::proofs::PieceLemmas::as_many_left, std::proofs::lemmas::Grind::common_steps))]
+    #[tactic(auto, using(crate::proofs::lemmas::edits::Pieces::as_many_left, std::proofs::lemmas::Grind::common_steps))]
     fn size_hint(&self) -> (usize, Option<usize>)
         ensures lower { IsWithinCount result.0 (at_most (length self.now)) }
         ensures upper { IfSome result.1 (UpTo (at_most (length self.now))) }
@@ -98,7 +98,7 @@ impl<'a> DoubleEndedIterator for Pieces<'a> {
 
 impl<'a> ExactSizeIterator for Pieces<'a> {
     /// Returns how many pieces are left.
-    #[tactic(auto, using(crate::proofs::PieceLemmas::as_many_left, std::proofs::lemmas::Grind::common_steps))]
+    #[tactic(auto, using(crate::proofs::lemmas::edits::Pieces::as_many_left, std::proofs::lemmas::Grind::common_steps))]
     fn len(&self) -> usize {
         self.tokens.len()
     }

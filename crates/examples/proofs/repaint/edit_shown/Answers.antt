@@ -1,7 +1,7 @@
 use Rattle.std.proofs.Common.{sym, ◌∙◌, arith, subst, rules}
 use Rattle.std.proofs.lemmas.Grind.{common_steps}
 use Rattle.rustc_lexer.specs.Classes.{IsText}
-use Rattle.rustc_lexer.proofs.BoundLemmas.{tokens_le_bytes}
+use Rattle.rustc_lexer.proofs.lemmas.edits.Bounds.{tokens_le_bytes}
 use Rattle.examples.proofs.RepaintLemmas.{enough_for}
 use Rattle.examples.proofs.repaint.edit_shown.Goals as goal
 

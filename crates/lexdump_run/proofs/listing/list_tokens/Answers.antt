@@ -2,7 +2,7 @@ use Rattle.std.proofs.Common.{◌<◌, length, refl, ap, subst, rules, arith, le
 use Rattle.rustc_lexer.specs.Classes.{IsText}
 use Rattle.rustc_lexer.specs.LanguageText.{mode_in}
 use Rattle.rustc_lexer.specs.Tokens.{bound, tokens_left, tokens_of}
-use Rattle.rustc_lexer.proofs.FillLemmas.{past_fill}
+use Rattle.rustc_lexer.proofs.lemmas.tokens.Fill.{past_fill}
 use Rattle.lexdump_run.specs.Listing.{listing}
 use Rattle.lexdump_run.proofs.ListingLemmas.{buffer-split}
 use Rattle.lexdump_run.proofs.PushLemmas.{went_first, pushes_stopped}

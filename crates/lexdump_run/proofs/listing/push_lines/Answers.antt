@@ -1,7 +1,7 @@
 use Rattle.std.proofs.Common.{ap}
 use Rattle.std.proofs.lemmas.List.{drop_more}
 use Rattle.lexdump_run.specs.Listing.{listing_from}
-use Rattle.rustc_lexer.proofs.PieceLemmas.{end_fits, end_more}
+use Rattle.rustc_lexer.proofs.lemmas.edits.Pieces.{end_fits, end_more}
 use Rattle.lexdump_run.proofs.PushLemmas.{went_first, pushes_stopped}
 use Rattle.lexdump_run.proofs.listing.push_lines.Goals as goal
 

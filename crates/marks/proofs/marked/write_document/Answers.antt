@@ -3,7 +3,7 @@ use Rattle.std.specs.Fmt.{WritesInCalls}
 use Rattle.rustc_lexer.specs.Document.{shebang_len}
 use Rattle.rustc_lexer.specs.State.{State}
 use Rattle.rustc_lexer.specs.Tokens.{tokens_left}
-use Rattle.rustc_lexer.proofs.PlaceLemmas.{document_offset, document_start, piece_is, stands_past}
+use Rattle.rustc_lexer.proofs.lemmas.tokens.Places.{document_offset, document_start, piece_is, stands_past}
 use Rattle.marks.specs.declared.class.Class.TheVariants.{Comment}
 use Rattle.marks.specs.Marked.{marked_tokens}
 use Rattle.marks.specs.Part.{Own, with_marks}

@@ -1,5 +1,5 @@
 use Rattle.std.proofs.Common.{◌∙◌}
-use Rattle.rustc_lexer.proofs.EditionLemmas.{boundary-of, first_newer, first_oldest}
+use Rattle.rustc_lexer.proofs.lemmas.tokens.Editions.{boundary-of, first_newer, first_oldest}
 use Rattle.rustc_lexer.proofs.edition.choose_in.Goals as goal
 
 pub returns-in-E2024-clause-token : goal.returns-in-E2024-clause-token

@@ -3,7 +3,7 @@ use Rattle.std.proofs.Math.Bool.{not-not}
 use Rattle.std.specs.Str.{chars}
 use Rattle.rustc_lexer.specs.Tables.{is_emoji}
 use Rattle.rustc_lexer.specs.means.Scan.{next_is}
-use Rattle.rustc_lexer.proofs.IdentLemmas.{has_emoji, len, word_all}
+use Rattle.rustc_lexer.proofs.lemmas.tokens.Identifiers.{has_emoji, len, word_all}
 use Rattle.rustc_lexer.specs.laws.Past.{chars-past}
 use Rattle.rustc_lexer.proofs.edition.holds_emoji.Goals as goal
 

@@ -5,10 +5,10 @@ use Rattle.std.proofs.lemmas.Option.{none-some}
 use Rattle.std.proofs.lemmas.Str.{IsCharBoundary-start}
 use Rattle.rustc_lexer.specs.Classes.{IsText}
 use Rattle.rustc_lexer.specs.LanguageText.{Mode, mode_in}
-use Rattle.rustc_lexer.proofs.TextLemmas.{suffixes, texts}
+use Rattle.rustc_lexer.proofs.lemmas.tokens.KindsOfTexts.{suffixes, texts}
 use Rattle.rustc_lexer.specs.laws.Tokens.{partitions}
-use Rattle.rustc_lexer.proofs.TokensLemmas.{restarts}
-use Rattle.rustc_lexer.proofs.BitLemmas.{bit-zero}
+use Rattle.rustc_lexer.proofs.lemmas.tokens.Tokens.{restarts}
+use Rattle.rustc_lexer.proofs.lemmas.tokens.Bits.{bit-zero}
 use Rattle.rustc_lexer.proofs.entry.tokenize_as.Goals as goal
 
 pub returns : goal.returns

@@ -1,5 +1,5 @@
 use Rattle.std.proofs.Common.{◌∷◌, ◌-◌, length}
-use Rattle.rustc_lexer.proofs.SearchLemmas.{IsPast}
+use Rattle.rustc_lexer.proofs.lemmas.tokens.Search.{IsPast}
 use Rattle.rustc_lexer.proofs.frontmatter.find_pattern.Given as goal
 
 abbrev pub invariant-places : goal.invariant-places

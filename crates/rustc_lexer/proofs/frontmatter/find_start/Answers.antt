@@ -1,5 +1,5 @@
 use Rattle.std.proofs.lemmas.List.{take_rest}
-use Rattle.rustc_lexer.proofs.SearchLemmas.{start_none, start_some}
+use Rattle.rustc_lexer.proofs.lemmas.tokens.Search.{start_none, start_some}
 use Rattle.rustc_lexer.proofs.frontmatter.find_start.Goals as goal
 
 pub returns-in-Some : goal.returns-in-Some

@@ -1,6 +1,6 @@
 use Rattle.std.proofs.Common.{arith, rules}
 use Rattle.std.proofs.lemmas.Grind.{common_steps}
-use Rattle.rustc_lexer.proofs.PairLemmas.{apart_pattern}
+use Rattle.rustc_lexer.proofs.lemmas.tokens.Pairs.{apart_pattern}
 use Rattle.rustc_lexer.proofs.frontmatter.skip_front.Goals as goal
 
 pub returns-in-Some-clause-left : goal.returns-in-Some-clause-left

@@ -1,5 +1,5 @@
 use Rattle.std.proofs.Common.{arith}
-use Rattle.rustc_lexer.proofs.EndsLemmas.{are_ends}
+use Rattle.rustc_lexer.proofs.lemmas.tokens.RunEnds.{are_ends}
 use Rattle.rustc_lexer.proofs.kernels.ends_within.Goals as goal
 
 pub returns : goal.returns

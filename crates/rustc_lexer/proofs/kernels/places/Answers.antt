@@ -1,7 +1,7 @@
 use Rattle.std.proofs.Common.{◌==◌, arith, w8}
 use Rattle.std.proofs.lemmas.Simd.{bitmask_splat, length-chunk}
 use Rattle.memchr.specs.Find.{is_byte}
-use Rattle.rustc_lexer.proofs.PairLemmas.{few, in_front}
+use Rattle.rustc_lexer.proofs.lemmas.tokens.Pairs.{few, in_front}
 use Rattle.rustc_lexer.proofs.kernels.places.Goals as goal
 
 pub returns-clause-few : goal.returns-clause-few

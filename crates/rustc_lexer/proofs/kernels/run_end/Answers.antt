@@ -1,6 +1,6 @@
 use Rattle.std.proofs.Common.{sym, ap, ◌∙◌, arith}
 use lib.Count.{count_trailing_zeros}
-use Rattle.rustc_lexer.proofs.KernelLemmas.{run_bound, run_stops}
+use Rattle.rustc_lexer.proofs.lemmas.tokens.Kernels.{run_bound, run_stops}
 use Rattle.rustc_lexer.proofs.kernels.run_end.Goals as goal
 
 pub returns-clause-value : goal.returns-clause-value

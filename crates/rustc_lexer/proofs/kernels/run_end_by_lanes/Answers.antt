@@ -1,7 +1,7 @@
 use Rattle.std.proofs.Common.{rules, arith}
 use Rattle.std.proofs.lemmas.Grind.{common_steps}
 use Rattle.std.proofs.lemmas.List.{take_rest}
-use Rattle.rustc_lexer.proofs.KernelLemmas.{run_bound, run_through, run_stops}
+use Rattle.rustc_lexer.proofs.lemmas.tokens.Kernels.{run_bound, run_through, run_stops}
 use Rattle.rustc_lexer.proofs.kernels.run_end_by_lanes.Goals as goal
 
 pub returns-then-stops-ne0 : goal.returns-then-stops-ne0

@@ -1,7 +1,7 @@
 use Rattle.std.proofs.Common.{arith, ◌+◌, bit_and}
 use Rattle.std.proofs.lemmas.List.{take_rest}
 use Rattle.std.proofs.lemmas.Nat.{and_le_l}
-use Rattle.rustc_lexer.proofs.PairLemmas.{apart_on, apart_to, near}
+use Rattle.rustc_lexer.proofs.lemmas.tokens.Pairs.{apart_on, apart_to, near}
 use Rattle.rustc_lexer.proofs.kernels.skip_apart.Goals as goal
 
 pub returns-then-found-ne0-clause-apart : goal.returns-then-found-ne0-clause-apart

@@ -1,5 +1,5 @@
 use Rattle.std.proofs.Common.{◌≤◌, ◌-◌, length}
-use Rattle.rustc_lexer.proofs.PairLemmas.{AreApart}
+use Rattle.rustc_lexer.proofs.lemmas.tokens.Pairs.{AreApart}
 use Rattle.rustc_lexer.proofs.kernels.skip_apart.Given as goal
 
 abbrev pub invariant-looks : goal.invariant-looks

@@ -2,7 +2,7 @@ use Rattle.std.proofs.Common.{ℕ, List, map, take, ap, ◌∙◌, arith}
 use Rattle.std.proofs.lemmas.List.{take_rest}
 use lib.Lanes.{mask_l}
 use Rattle.rustc_lexer.specs.means.ByteRuns.{outside}
-use Rattle.rustc_lexer.proofs.StopLemmas.{looked_last, looked_on}
+use Rattle.rustc_lexer.proofs.lemmas.tokens.Stops.{looked_last, looked_on}
 use Rattle.rustc_lexer.proofs.kernels.stops_within.Goals as goal
 
 pub looks-init : goal.looks-init

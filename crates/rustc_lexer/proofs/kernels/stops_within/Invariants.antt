@@ -1,5 +1,5 @@
 use Rattle.std.proofs.Common.{◌-◌}
-use Rattle.rustc_lexer.proofs.StopLemmas.{Looked}
+use Rattle.rustc_lexer.proofs.lemmas.tokens.Stops.{Looked}
 use Rattle.rustc_lexer.proofs.kernels.stops_within.Given as goal
 
 abbrev pub invariant-looks : goal.invariant-looks

@@ -1,6 +1,6 @@
 use Rattle.std.proofs.Common.{arith}
 use Rattle.std.proofs.lemmas.Str.{IsCharBoundary-start}
-use Rattle.rustc_lexer.proofs.LexemeLemmas.{left-le, made, token-at_end}
+use Rattle.rustc_lexer.proofs.lemmas.tokens.Lexemes.{left-le, made, token-at_end}
 use Rattle.rustc_lexer.proofs.lexemes.choose_token.Goals as goal
 
 pub past_first-kind-requires-clause-no_hash : goal.past_first-kind-requires-clause-no_hash

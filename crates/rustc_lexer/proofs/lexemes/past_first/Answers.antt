@@ -1,6 +1,6 @@
 use Rattle.std.proofs.Common.{sym, ap, ◌∙◌, inl, inr}
 use Rattle.rustc_lexer.specs.declared.lexemes.family.Family.TheVariants.{Symbol}
-use Rattle.rustc_lexer.proofs.FamilyLemmas.{by_family}
+use Rattle.rustc_lexer.proofs.lemmas.tokens.Families.{by_family}
 use Rattle.rustc_lexer.specs.laws.Scan.{scanned-gives}
 use Rattle.rustc_lexer.proofs.lexemes.past_first.Goals as goal
 

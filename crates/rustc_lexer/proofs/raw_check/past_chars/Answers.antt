@@ -3,7 +3,7 @@ use Rattle.std.proofs.Common.{rules}
 use Rattle.std.proofs.Common.{◌≡◌, refl, sym, ap, ◌∙◌, arith}
 use Rattle.rustc_lexer.specs.means.Scan.{past}
 use Rattle.rustc_lexer.specs.laws.Past.{past-zero, past-past, IsUtf8-past}
-use Rattle.rustc_lexer.proofs.RawReadLemmas.{past-end}
+use Rattle.rustc_lexer.proofs.lemmas.tokens.RawRead.{past-end}
 use Rattle.rustc_lexer.proofs.raw_check.past_chars.Goals as goal
 
 pub chars-init : goal.chars-init

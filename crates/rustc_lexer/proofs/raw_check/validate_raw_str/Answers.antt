@@ -1,6 +1,6 @@
 use Rattle.std.proofs.Common.{sym, ap, ◌∙◌}
 use Rattle.rustc_lexer.specs.means.Raw.{checked}
-use Rattle.rustc_lexer.proofs.RawReadLemmas.{check_is}
+use Rattle.rustc_lexer.proofs.lemmas.tokens.RawRead.{check_is}
 use Rattle.rustc_lexer.proofs.raw_check.validate_raw_str.Goals as goal
 
 pub returns-in-Ok : goal.returns-in-Ok

@@ -1,6 +1,6 @@
 use Rattle.std.proofs.Common.{sym, ◌∙◌}
 use Rattle.memchr.specs.Find.{is_byte}
-use Rattle.rustc_lexer.proofs.FindLemmas.{found_at, found_nowhere, up_to, byte_small}
+use Rattle.rustc_lexer.proofs.lemmas.tokens.ByteSearch.{found_at, found_nowhere, up_to, byte_small}
 use Rattle.rustc_lexer.proofs.scan.eat_until.Goals as goal
 
 pub returns-in-Some-clause-past : goal.returns-in-Some-clause-past

@@ -1,6 +1,6 @@
 use Rattle.std.proofs.Common.{sym, ◌∙◌}
 use Rattle.memchr.specs.Find.{is_byte2}
-use Rattle.rustc_lexer.proofs.FindLemmas.{found_at, found_nowhere, up_to, byte2_small}
+use Rattle.rustc_lexer.proofs.lemmas.tokens.ByteSearch.{found_at, found_nowhere, up_to, byte2_small}
 use Rattle.rustc_lexer.proofs.scan.eat_until_either.Goals as goal
 
 pub returns-in-Some-clause-past : goal.returns-in-Some-clause-past

@@ -1,6 +1,6 @@
 use Rattle.std.proofs.Common.{sym, refl, arith, ◌∙◌}
 use Rattle.rustc_lexer.specs.laws.Past.{IsUtf8-cut}
-use Rattle.rustc_lexer.proofs.RunLemmas.{run_on, run_ends, run_at_end}
+use Rattle.rustc_lexer.proofs.lemmas.tokens.Runs.{run_on, run_ends, run_at_end}
 use Rattle.rustc_lexer.proofs.scan.eat_while.Goals as goal
 
 pub chars-init : goal.chars-init

@@ -3,9 +3,9 @@ use Rattle.std.proofs.Common.{arith, rules}
 use Rattle.std.proofs.lemmas.Bool.{not-true}
 use Rattle.rustc_lexer.specs.means.ByteRuns.{is_space_byte}
 use Rattle.rustc_lexer.specs.Classes.{is_whitespace}
-use Rattle.rustc_lexer.proofs.BridgeLemmas.{may_cut, goes_on}
-use Rattle.rustc_lexer.proofs.PartLemmas.{space_part}
-use Rattle.rustc_lexer.proofs.SpaceLemmas.{space_stops_here}
+use Rattle.rustc_lexer.proofs.lemmas.tokens.AsciiRuns.{may_cut, goes_on}
+use Rattle.rustc_lexer.proofs.lemmas.tokens.ClassParts.{space_part}
+use Rattle.rustc_lexer.proofs.lemmas.tokens.WhiteSpace.{space_stops_here}
 use Rattle.rustc_lexer.proofs.scan.eat_whitespace.Goals as goal
 
 pub range_from-left-requires : goal.range_from-left-requires

@@ -1,6 +1,6 @@
 use Rattle.std.proofs.Common.{None, Some, ap, sym, ◌∙◌, arith, get_or, List, ℕ, ◌-◌}
 use Rattle.std.proofs.lemmas.Str.Pattern.{find_char}
-use Rattle.rustc_lexer.proofs.ShebangLemmas.{no_newline, with_return, without_return, at_front}
+use Rattle.rustc_lexer.proofs.lemmas.tokens.Shebang.{no_newline, with_return, without_return, at_front}
 use Rattle.rustc_lexer.proofs.shebang.line_len.Goals.{else-newline-gt0-via-then-newline-gt0+else-as_bytes-newline-eq13, else-newline-gt0-via-else-newline-gt0}
 use Rattle.rustc_lexer.proofs.shebang.line_len.Goals as goal
 

@@ -1,4 +1,4 @@
-use Rattle.rustc_lexer.proofs.GuardedLemmas.{closed_read}
+use Rattle.rustc_lexer.proofs.lemmas.tokens.Guarded.{closed_read}
 use Rattle.rustc_lexer.proofs.cursor.guarded.guarded_body.Goals as goal
 
 pub returns-then-end-clause-read : goal.returns-then-end-clause-read

@@ -1,5 +1,5 @@
 use Rattle.std.proofs.Common.{arith}
-use Rattle.rustc_lexer.proofs.GuardedLemmas.{hash_boundary, no_string, string_boundary, string_here}
+use Rattle.rustc_lexer.proofs.lemmas.tokens.Guarded.{hash_boundary, no_string, string_boundary, string_here}
 use Rattle.rustc_lexer.proofs.cursor.guarded.string_past.Goals as goal
 
 pub range_from-requires : goal.range_from-requires

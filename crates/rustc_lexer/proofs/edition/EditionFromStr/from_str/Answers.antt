@@ -1,5 +1,5 @@
 use Rattle.std.proofs.Common.{rules}
-use Rattle.rustc_lexer.proofs.EditionLemmas.{word_2015, word_2018, word_2021, word_2024}
+use Rattle.rustc_lexer.proofs.lemmas.tokens.Editions.{word_2015, word_2018, word_2021, word_2024}
 use Rattle.rustc_lexer.proofs.edition.EditionFromStr.from_str.Goals as goal
 
 pub returns-in_default : goal.returns-in_default

@@ -2,7 +2,7 @@ use Rattle.std.proofs.lemmas.Grind.{common_steps}
 use Rattle.std.proofs.Common.{rules}
 use Rattle.std.proofs.Common.{◌<◌, length, arith}
 use Rattle.rustc_lexer.specs.Tokens.{tokens_left}
-use Rattle.rustc_lexer.proofs.BufferLemmas.{all_written, none_more, one_written, next_is, past_more, left_more, rest_more, whole_buffer}
+use Rattle.rustc_lexer.proofs.lemmas.tokens.Buffers.{all_written, none_more, one_written, next_is, past_more, left_more, rest_more, whole_buffer}
 use Rattle.rustc_lexer.proofs.entry.Tokens.fill.Goals as goal
 
 pub places-preserved : goal.places-preserved

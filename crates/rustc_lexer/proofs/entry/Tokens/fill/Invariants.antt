@@ -1,6 +1,6 @@
 use Rattle.std.proofs.Common.{◌≡◌, ◌-◌, drop, length}
 use Rattle.rustc_lexer.specs.Tokens.{state_past, bound, tokens_left}
-use Rattle.rustc_lexer.proofs.BufferLemmas.{IsWritten}
+use Rattle.rustc_lexer.proofs.lemmas.tokens.Buffers.{IsWritten}
 use Rattle.rustc_lexer.proofs.entry.Tokens.fill.Given as goal
 
 abbrev pub invariant-places : goal.invariant-places

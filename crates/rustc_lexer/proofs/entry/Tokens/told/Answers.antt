@@ -1,4 +1,4 @@
-use Rattle.rustc_lexer.proofs.ClassifiedLemmas.{told}
+use Rattle.rustc_lexer.proofs.lemmas.tokens.Classified.{told}
 use Rattle.rustc_lexer.proofs.entry.Tokens.told.Goals as goal
 
 pub returns : goal.returns

@@ -10,8 +10,8 @@ use Rattle.rustc_lexer.specs.laws.State.{state}
 use Rattle.rustc_lexer.specs.means.Edition.{first_token_in}
 use Rattle.rustc_lexer.specs.means.Taking.{token_at}
 use Rattle.rustc_lexer.specs.means.Quick.{BeginsWithNoHash}
-use Rattle.rustc_lexer.proofs.TokensLemmas.{goes, none_left, takes_own}
-use Rattle.rustc_lexer.proofs.ClassifiedLemmas.{left_is, left_none, left_some, left_utf8, still, takes_at, takes_told}
+use Rattle.rustc_lexer.proofs.lemmas.tokens.Tokens.{goes, none_left, takes_own}
+use Rattle.rustc_lexer.proofs.lemmas.tokens.Classified.{left_is, left_none, left_some, left_utf8, still, takes_at, takes_told}
 use Rattle.rustc_lexer.proofs.entry.TokensIterator.next.Goals as goal
 
 pub returns-in-Some : goal.returns-in-Some

@@ -1,4 +1,4 @@
-use Rattle.rustc_lexer.proofs.BlockCommentLoop.{comment}
+use Rattle.rustc_lexer.proofs.lemmas.tokens.BlockCommentLoop.{comment}
 use Rattle.rustc_lexer.proofs.lexemes.block_comment.block_comment.Goals as goal
 
 pub returns : goal.returns

@@ -1,7 +1,7 @@
 use Rattle.std.proofs.Common.{◌+◌, ◌<◌, ◌≤◌, suc, length}
 use denote.Text.{Utf8}
 use denote.Shadow.{shadow}
-use Rattle.rustc_lexer.proofs.BlockCommentLoop.{Commenting}
+use Rattle.rustc_lexer.proofs.lemmas.tokens.BlockCommentLoop.{Commenting}
 use Rattle.rustc_lexer.proofs.lexemes.block_comment.past_comment.Given as goal
 
 abbrev pub invariant-comment : goal.invariant-comment

@@ -1,5 +1,5 @@
 use Rattle.std.proofs.Common.{sym, ◌∙◌, arith}
-use Rattle.rustc_lexer.proofs.BitLemmas.{after-gone, after-others, bit-above, bit-zero}
+use Rattle.rustc_lexer.proofs.lemmas.tokens.Bits.{after-gone, after-others, bit-above, bit-zero}
 use Rattle.rustc_lexer.proofs.lexemes.classified.ends_after.Goals as goal
 
 pub returns-then-offset-lt64-clause-gone : goal.returns-then-offset-lt64-clause-gone

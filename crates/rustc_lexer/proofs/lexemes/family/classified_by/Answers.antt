@@ -1,4 +1,4 @@
-use Rattle.rustc_lexer.proofs.EndsLemmas.{classified_table}
+use Rattle.rustc_lexer.proofs.lemmas.tokens.RunEnds.{classified_table}
 use Rattle.rustc_lexer.proofs.lexemes.family.classified_by.Goals as goal
 
 pub returns : goal.returns

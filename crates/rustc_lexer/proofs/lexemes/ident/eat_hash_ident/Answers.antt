@@ -1,4 +1,4 @@
-use Rattle.rustc_lexer.proofs.IdentLemmas.{hash_ident-none, hash_ident-by, past-hash_ident}
+use Rattle.rustc_lexer.proofs.lemmas.tokens.Identifiers.{hash_ident-none, hash_ident-by, past-hash_ident}
 use Rattle.rustc_lexer.proofs.lexemes.ident.eat_hash_ident.Goals as goal
 
 pub returns-in_err-first : goal.returns-in_err-first

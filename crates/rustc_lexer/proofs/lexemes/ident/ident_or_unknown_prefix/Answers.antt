@@ -4,8 +4,8 @@ use Rattle.std.proofs.Common.{Bool, if◌then◌else◌, sym, ap, ◌∙◌}
 use Rattle.rustc_lexer.specs.{TokenKind, Ident, UnknownPrefix}
 use Rattle.rustc_lexer.specs.Tables.{is_emoji}
 use Rattle.rustc_lexer.specs.Classes.{ends_prefix}
-use Rattle.rustc_lexer.proofs.IdentLemmas.{ident_or_unknown_prefix-invalid, ident_or_unknown_prefix-valid}
-use Rattle.rustc_lexer.proofs.QuickLemmas.{ident_or_unknown_prefix_ends}
+use Rattle.rustc_lexer.proofs.lemmas.tokens.Identifiers.{ident_or_unknown_prefix-invalid, ident_or_unknown_prefix-valid}
+use Rattle.rustc_lexer.proofs.lemmas.tokens.Quick.{ident_or_unknown_prefix_ends}
 use Rattle.rustc_lexer.proofs.lexemes.ident.ident_or_unknown_prefix.Goals as goal
 
 pub returns-then-ends_word : goal.returns-then-ends_word

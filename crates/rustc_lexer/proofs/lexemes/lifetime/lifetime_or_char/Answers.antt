@@ -1,9 +1,9 @@
 use Rattle.std.proofs.Common.{sym, arith, refl}
 use Rattle.rustc_lexer.specs.{Char}
 use Rattle.rustc_lexer.specs.means.Quoted.{char_body, single_quoted_string}
-use Rattle.rustc_lexer.proofs.LifetimeLemmas.{first-length, pick-name, at_char}
-use Rattle.rustc_lexer.proofs.LiteralLemmas.{with-suffix}
-use Rattle.rustc_lexer.proofs.QuotedLemmas.{body-read}
+use Rattle.rustc_lexer.proofs.lemmas.tokens.Lifetimes.{first-length, pick-name, at_char}
+use Rattle.rustc_lexer.proofs.lemmas.tokens.Literals.{with-suffix}
+use Rattle.rustc_lexer.proofs.lemmas.tokens.Quoted.{body-read}
 use Rattle.rustc_lexer.proofs.lexemes.lifetime.lifetime_or_char.Goals as goal
 
 pub lifetime-requires : goal.lifetime-requires

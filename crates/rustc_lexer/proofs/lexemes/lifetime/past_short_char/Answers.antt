@@ -1,5 +1,5 @@
 use Rattle.std.proofs.Common.{◌+◌, ap, arith, length-drop}
-use Rattle.rustc_lexer.proofs.ShortCharLemmas.{short_char}
+use Rattle.rustc_lexer.proofs.lemmas.tokens.ShortChars.{short_char}
 use Rattle.rustc_lexer.proofs.lexemes.lifetime.past_short_char.Goals as goal
 
 pub returns-then-bytes-offset-eq39 : goal.returns-then-bytes-offset-eq39

@@ -1,5 +1,5 @@
 use Rattle.std.proofs.Common.{refl}
-use Rattle.rustc_lexer.proofs.NumberLemmas.{digits-is}
+use Rattle.rustc_lexer.proofs.lemmas.tokens.Numbers.{digits-is}
 use Rattle.rustc_lexer.proofs.lexemes.number.eat_decimal_digits.Goals as goal
 use Rattle.std.specs.Char.{is_ascii_digit}
 use Rattle.rustc_lexer.specs.means.Number.{is_underscore}

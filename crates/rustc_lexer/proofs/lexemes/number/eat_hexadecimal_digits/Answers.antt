@@ -1,5 +1,5 @@
 use Rattle.std.proofs.Common.{refl, ap, ◌∙◌}
-use Rattle.rustc_lexer.proofs.NumberLemmas.{digits-is}
+use Rattle.rustc_lexer.proofs.lemmas.tokens.Numbers.{digits-is}
 use Rattle.rustc_lexer.proofs.lexemes.number.eat_hexadecimal_digits.Goals as goal
 use Rattle.std.specs.Char.{is_ascii_hexdigit}
 use Rattle.rustc_lexer.specs.means.Number.{is_underscore}

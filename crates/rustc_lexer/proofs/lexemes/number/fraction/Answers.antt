@@ -4,7 +4,7 @@ use Rattle.std.specs.Str.{chars}
 use Rattle.rustc_lexer.specs.{Float}
 use Rattle.rustc_lexer.specs.means.Number.{optional_exponent, fraction, fraction_digits, or_underscore}
 use Rattle.rustc_lexer.specs.means.Scan.{gives, next_is, run}
-use Rattle.rustc_lexer.proofs.NumberLemmas.{next_is-first}
+use Rattle.rustc_lexer.proofs.lemmas.tokens.Numbers.{next_is-first}
 use Rattle.rustc_lexer.specs.laws.Scan.{scanned-and_then, scanned-gives, scanned-yes, scanned-no}
 use Rattle.rustc_lexer.proofs.lexemes.number.fraction.Goals as goal
 

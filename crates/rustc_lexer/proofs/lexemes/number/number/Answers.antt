@@ -1,6 +1,6 @@
 use Rattle.std.proofs.Common.{refl, ap, ◌∙◌}
 use Rattle.rustc_lexer.specs.means.Number.{with_suffix, number_kind, number_body}
-use Rattle.rustc_lexer.proofs.LiteralLemmas.{with-suffix}
+use Rattle.rustc_lexer.proofs.lemmas.tokens.Literals.{with-suffix}
 use Rattle.rustc_lexer.specs.laws.Scan.{scanned-shorter, scanned-read_as}
 use Rattle.rustc_lexer.proofs.lexemes.number.number.Goals as goal
 

@@ -1,6 +1,6 @@
 use Rattle.std.proofs.Common.{sym, ap, ◌∙◌}
 use Rattle.rustc_lexer.specs.{Int}
-use Rattle.rustc_lexer.proofs.NumberLemmas.{pick-empty}
+use Rattle.rustc_lexer.proofs.lemmas.tokens.Numbers.{pick-empty}
 use Rattle.rustc_lexer.proofs.lexemes.number.number_kind.Goals as goal
 
 pub returns-then-empty_int : goal.returns-then-empty_int

@@ -1,7 +1,7 @@
 use Rattle.std.proofs.Common.{refl, sym, ◌∙◌, arith}
-use Rattle.rustc_lexer.proofs.EditionLemmas.{first_by, guard_by}
-use Rattle.rustc_lexer.proofs.HashLemmas.{no_hash, no_hash-empty, no_hash-wide, prefix_first, hash_alone, hash_older}
-use Rattle.rustc_lexer.proofs.QuickLemmas.{word_first, space_first, symbol_by}
+use Rattle.rustc_lexer.proofs.lemmas.tokens.Editions.{first_by, guard_by}
+use Rattle.rustc_lexer.proofs.lemmas.tokens.Hashes.{no_hash, no_hash-empty, no_hash-wide, prefix_first, hash_alone, hash_older}
+use Rattle.rustc_lexer.proofs.lemmas.tokens.Quick.{word_first, space_first, symbol_by}
 use Rattle.rustc_lexer.proofs.lexemes.quick.quick_token.Goals as goal
 use Rattle.rustc_lexer.proofs.lexemes.quick.quick_token.Goals.{else-reserves_guards-via-then-reserves_guards+else-begins_guarded, else-reserves_guards-via-else-reserves_guards}
 

@@ -5,7 +5,7 @@ use Rattle.memchr.specs.Find.{is_byte2}
 use Rattle.rustc_lexer.specs.means.Quoted.{at_double_quote, double_quoted_string, is_backslash}
 use Rattle.rustc_lexer.specs.means.Scan.{past, run_len}
 use Rattle.rustc_lexer.specs.laws.Scan.{scanned-shorter}
-use Rattle.rustc_lexer.proofs.QuotedLoop.{Seeking, seek-start, seek-on, seek-run, seek-closed, seek-end, run_fails}
+use Rattle.rustc_lexer.proofs.lemmas.tokens.QuotedLoop.{Seeking, seek-start, seek-on, seek-run, seek-closed, seek-end, run_fails}
 use Rattle.rustc_lexer.proofs.lexemes.quoted.double_quoted_string.Goals as goal
 
 abbrev plain : ℕ → Bool

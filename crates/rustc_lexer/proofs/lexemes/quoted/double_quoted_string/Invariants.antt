@@ -2,7 +2,7 @@ use Rattle.std.proofs.Common.{false, length}
 use denote.Text.{Utf8}
 use denote.Shadow.{shadow}
 use Rattle.rustc_lexer.specs.means.Quoted.{at_double_quote}
-use Rattle.rustc_lexer.proofs.QuotedLoop.{Seeking}
+use Rattle.rustc_lexer.proofs.lemmas.tokens.QuotedLoop.{Seeking}
 use Rattle.rustc_lexer.proofs.lexemes.quoted.double_quoted_string.Given as goal
 
 abbrev pub invariant-quoted : goal.invariant-quoted

@@ -1,8 +1,8 @@
 use Rattle.std.proofs.Common.{◌+◌, ◌-◌, length, ap, ◌∙◌}
 use Rattle.rustc_lexer.specs.{Literal}
 use Rattle.rustc_lexer.specs.means.Quoted.{quoted_body, quoted_kind, quoted_string}
-use Rattle.rustc_lexer.proofs.LiteralLemmas.{with-suffix, no-suffix}
-use Rattle.rustc_lexer.proofs.QuotedLemmas.{body-read}
+use Rattle.rustc_lexer.proofs.lemmas.tokens.Literals.{with-suffix, no-suffix}
+use Rattle.rustc_lexer.proofs.lemmas.tokens.Quoted.{body-read}
 use Rattle.rustc_lexer.proofs.lexemes.quoted.quoted_literal.Goals as goal
 
 pub returns-then-terminated : goal.returns-then-terminated

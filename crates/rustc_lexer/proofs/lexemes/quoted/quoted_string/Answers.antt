@@ -1,6 +1,6 @@
 use Rattle.std.proofs.Common.{inl, inr}
 use Rattle.rustc_lexer.specs.means.Quoted.{single_quoted_string, double_quoted_string}
-use Rattle.rustc_lexer.proofs.QuotedLemmas.{string-after}
+use Rattle.rustc_lexer.proofs.lemmas.tokens.Quoted.{string-after}
 use Rattle.rustc_lexer.proofs.lexemes.quoted.quoted_string.Goals as goal
 
 pub returns-in-BSingle-clause-read : goal.returns-in-BSingle-clause-read

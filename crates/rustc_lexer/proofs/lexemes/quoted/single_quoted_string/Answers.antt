@@ -3,7 +3,7 @@ use Rattle.std.specs.Str.{chars}
 use Rattle.std.proofs.lemmas.Bool.{eq-eqb, ne_eqb}
 use Rattle.rustc_lexer.specs.means.Quoted.{at_single_stop, single_quoted_string}
 use Rattle.rustc_lexer.specs.laws.Scan.{scanned-shorter}
-use Rattle.rustc_lexer.proofs.QuotedLoop.{seek-start, seek-on, seek-closed, seek-open, seek-end, when-escaped, when-plain, to-plain, to-next, single-closed, single-lone, single-free}
+use Rattle.rustc_lexer.proofs.lemmas.tokens.QuotedLoop.{seek-start, seek-on, seek-closed, seek-open, seek-end, when-escaped, when-plain, to-plain, to-next, single-closed, single-lone, single-free}
 use Rattle.rustc_lexer.proofs.lexemes.quoted.single_quoted_string.Goals as goal
 
 pub loop-c-init : goal.loop-c-init

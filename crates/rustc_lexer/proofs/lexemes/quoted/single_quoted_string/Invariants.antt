@@ -2,7 +2,7 @@ use Rattle.std.proofs.Common.{length}
 use denote.Text.{Utf8}
 use denote.Shadow.{shadow}
 use Rattle.rustc_lexer.specs.means.Quoted.{at_single_stop}
-use Rattle.rustc_lexer.proofs.QuotedLoop.{Seeking}
+use Rattle.rustc_lexer.proofs.lemmas.tokens.QuotedLoop.{Seeking}
 use Rattle.rustc_lexer.proofs.lexemes.quoted.single_quoted_string.Given as goal
 
 abbrev pub invariant-loop-c : goal.invariant-loop-c

@@ -1,4 +1,4 @@
-use Rattle.rustc_lexer.proofs.QuotedLoop.{lone-found}
+use Rattle.rustc_lexer.proofs.lemmas.tokens.QuotedLoop.{lone-found}
 use Rattle.rustc_lexer.proofs.lexemes.quoted.strip_lone.Goals as goal
 
 pub returns : goal.returns

@@ -1,6 +1,6 @@
 use Rattle.std.proofs.Common.{List, ℕ}
 use denote.Bor.{Bor}
-use Rattle.rustc_lexer.proofs.RawLemmas.{past_quote-is}
+use Rattle.rustc_lexer.proofs.lemmas.tokens.Raw.{past_quote-is}
 use Rattle.rustc_lexer.proofs.lexemes.raw.past_quote.Goals as goal
 
 pub returns : goal.returns

@@ -1,4 +1,4 @@
-use Rattle.rustc_lexer.proofs.RawReadLemmas.{no_starter, bad_starter, past_opening}
+use Rattle.rustc_lexer.proofs.lemmas.tokens.RawRead.{no_starter, bad_starter, past_opening}
 use Rattle.rustc_lexer.proofs.lexemes.raw.raw_double_quoted_string.Goals as goal
 
 pub returns-in-Some : goal.returns-in-Some

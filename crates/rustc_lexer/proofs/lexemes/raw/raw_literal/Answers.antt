@@ -1,4 +1,4 @@
-use Rattle.rustc_lexer.proofs.RawReadLemmas.{left_le, refused_literal}
+use Rattle.rustc_lexer.proofs.lemmas.tokens.RawRead.{left_le, refused_literal}
 use Rattle.rustc_lexer.proofs.lexemes.raw.raw_literal.Goals as goal
 
 pub overflow_sub-suffix_start : goal.overflow_sub-suffix_start

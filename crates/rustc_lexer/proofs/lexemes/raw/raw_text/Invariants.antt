@@ -1,7 +1,7 @@
 use Rattle.std.proofs.Common.{length}
 use denote.Text.{Utf8}
 use denote.Shadow.{shadow}
-use Rattle.rustc_lexer.proofs.RawLemmas.{Searching}
+use Rattle.rustc_lexer.proofs.lemmas.tokens.Raw.{Searching}
 use Rattle.rustc_lexer.proofs.lexemes.raw.raw_text.Given as goal
 
 abbrev pub invariant-loop-tail : goal.invariant-loop-tail

@@ -1,4 +1,4 @@
-use Rattle.rustc_lexer.proofs.CheckpointLemmas.{back_moves}
+use Rattle.rustc_lexer.proofs.lemmas.edits.Checkpoints.{back_moves}
 use Rattle.rustc_lexer.proofs.relex.checkpoints.move_bound.Goals as goal
 
 pub returns-then-bound-met : goal.returns-then-bound-met

@@ -1,5 +1,5 @@
 use Rattle.std.proofs.Common.{arith, IsCharBoundary}
-use Rattle.rustc_lexer.proofs.CommonLemmas.{front_less, shorter, some_front}
+use Rattle.rustc_lexer.proofs.lemmas.edits.InCommon.{front_less, shorter, some_front}
 use Rattle.rustc_lexer.proofs.relex.common.common_front.Goals as goal
 
 pub overflow_sub-front : goal.overflow_sub-front

@@ -1,6 +1,6 @@
 use Rattle.std.proofs.Common.{subst, sym}
 use Rattle.rustc_lexer.specs.means.Checkpoints.{IsReplaced}
-use Rattle.rustc_lexer.proofs.CheckpointLemmas.{kept_stays}
+use Rattle.rustc_lexer.proofs.lemmas.edits.Checkpoints.{kept_stays}
 use Rattle.rustc_lexer.proofs.relex.edit.past_edit.Goals as goal
 
 pub returns-then-at-le-BUFFER_LEN : goal.returns-then-at-le-BUFFER_LEN

@@ -6,12 +6,12 @@ use Rattle.rustc_lexer.specs.Classes.{IsText}
 use Rattle.rustc_lexer.specs.Tokens.{tokens_by}
 use Rattle.rustc_lexer.specs.Offsets.{IsBound}
 use Rattle.rustc_lexer.specs.Relexing.{IsMadeOf, IsUnderWay, known}
-use Rattle.rustc_lexer.proofs.BlockLemmas.{front_of}
-use Rattle.rustc_lexer.proofs.EditLemmas.{IfErr-always}
-use Rattle.rustc_lexer.proofs.ManyLemmas.{block_count, more_lexed}
-use Rattle.rustc_lexer.proofs.RelexStepLemmas.{step_of}
-use Rattle.rustc_lexer.proofs.RelexingLemmas.{few_lexed, all_lexed, one_lexed}
-use Rattle.rustc_lexer.proofs.UnderWayLemmas.{of_stands, to_stands}
+use Rattle.rustc_lexer.proofs.lemmas.edits.Blocks.{front_of}
+use Rattle.rustc_lexer.proofs.lemmas.edits.FrontAndBack.{IfErr-always}
+use Rattle.rustc_lexer.proofs.lemmas.edits.ManyTokens.{block_count, more_lexed}
+use Rattle.rustc_lexer.proofs.lemmas.edits.Steps.{step_of}
+use Rattle.rustc_lexer.proofs.lemmas.edits.ByLengths.{few_lexed, all_lexed, one_lexed}
+use Rattle.rustc_lexer.proofs.lemmas.edits.UnderWay.{of_stands, to_stands}
 use Rattle.rustc_lexer.proofs.relex.edit.relex.Goals as goal
 
 pub returns-in_default-clause-lexed : goal.returns-in_default-clause-lexed

@@ -1,8 +1,8 @@
 use Rattle.std.proofs.Common.{sym, ap, ◌∙◌, arith, ◌+◌, ◌-◌, ◌≡◌, ◌≤◌, ◌<◌, ◌&&◌, eqb, le-leb, length}
 use Rattle.rustc_lexer.specs.Tokens.{bound}
 use Rattle.rustc_lexer.specs.means.Relexing.{old_stop_of}
-use Rattle.rustc_lexer.proofs.BoundLemmas.{is_bound, is_bound-decide, is_bound-intro}
-use Rattle.rustc_lexer.proofs.LengthLemmas.{as_many}
+use Rattle.rustc_lexer.proofs.lemmas.edits.Bounds.{is_bound, is_bound-decide, is_bound-intro}
+use Rattle.rustc_lexer.proofs.lemmas.edits.Lengths.{as_many}
 use Rattle.rustc_lexer.proofs.relex.front.follow.Goals as goal
 
 pub returns-clause-followed : goal.returns-clause-followed

@@ -1,7 +1,7 @@
 use Rattle.std.proofs.Common.{sym, ap, ◌∙◌, arith, ◌+◌, ◌≡◌, ◌<◌, length, get_or}
 use Rattle.rustc_lexer.specs.Locality.{has_two}
-use Rattle.rustc_lexer.proofs.FrontLemmas.{kept_from, kept_more, kept_here, kept_end, next_offset}
-use Rattle.rustc_lexer.proofs.LengthLemmas.{as_many, as_long, no_token, stand_alike, stood_before}
+use Rattle.rustc_lexer.proofs.lemmas.edits.KeptFront.{kept_from, kept_more, kept_here, kept_end, next_offset}
+use Rattle.rustc_lexer.proofs.lemmas.edits.Lengths.{as_many, as_long, no_token, stand_alike, stood_before}
 use Rattle.rustc_lexer.proofs.relex.front.kept_front.Goals as goal
 
 pub loop-at-init : goal.loop-at-init

@@ -2,7 +2,7 @@ use Rattle.std.proofs.Common.{length, map, List, ℕ, ◌≤◌, ◌-◌, IsChar
 use Rattle.rustc_lexer.specs.{Token}
 use Rattle.rustc_lexer.specs.Offsets.{IsBound}
 use Rattle.rustc_lexer.specs.means.Relexing.{IsFront}
-use Rattle.rustc_lexer.proofs.FrontLemmas.{IsKept}
+use Rattle.rustc_lexer.proofs.lemmas.edits.KeptFront.{IsKept}
 use Rattle.rustc_lexer.proofs.relex.front.kept_front.Given as goal
 
 abbrev pub invariant-loop-at : goal.invariant-loop-at

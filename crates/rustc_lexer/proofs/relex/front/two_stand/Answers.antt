@@ -1,5 +1,5 @@
 use Rattle.std.proofs.Common.{sym, is_some, ap, ◌∙◌}
-use Rattle.rustc_lexer.proofs.EditLemmas.{two_chars}
+use Rattle.rustc_lexer.proofs.lemmas.edits.FrontAndBack.{two_chars}
 use Rattle.rustc_lexer.proofs.relex.front.two_stand.Goals as goal
 
 pub returns-in-Some : goal.returns-in-Some

@@ -4,7 +4,7 @@ use Rattle.rustc_lexer.specs.Joined.{IsSeparated, MayTouch}
 use Rattle.rustc_lexer.specs.laws.Edition.{edition_grammar}
 use Rattle.rustc_lexer.specs.Answers.{first_in}
 use Rattle.rustc_lexer.specs.means.Joined.{IsSure}
-use Rattle.rustc_lexer.proofs.JoinedLemmas.{put_by, put_is, between_boundary, by_both, by_one, end_boundary, front_part, rest_fits}
+use Rattle.rustc_lexer.proofs.lemmas.joined.Joined.{put_by, put_is, between_boundary, by_both, by_one, end_boundary, front_part, rest_fits}
 use Rattle.rustc_lexer.proofs.relex.joined.append.Goals as goal
 use Rattle.rustc_lexer.proofs.relex.joined.append.Goals.{then-is_seam, else-is_seam}
 

@@ -1,5 +1,5 @@
 use Rattle.std.proofs.Common.{[], codes, string_bytes}
-use Rattle.rustc_lexer.proofs.JoinedLemmas.{joined_touching, joined_spaced, joined_on_a_line, left_same, stay_apart}
+use Rattle.rustc_lexer.proofs.lemmas.joined.Joined.{joined_touching, joined_spaced, joined_on_a_line, left_same, stay_apart}
 use Rattle.rustc_lexer.proofs.relex.joined.append_separated.Goals as goal
 
 pub returns-then-append-clause-joined : goal.returns-then-append-clause-joined

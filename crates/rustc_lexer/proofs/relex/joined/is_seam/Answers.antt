@@ -3,8 +3,8 @@ use Rattle.rustc_lexer.specs.{Token}
 use Rattle.rustc_lexer.specs.Classes.{IsText}
 use Rattle.rustc_lexer.specs.laws.Edition.{edition_grammar}
 use Rattle.rustc_lexer.specs.laws.Same.{is_same, same_token, token_same}
-use Rattle.rustc_lexer.proofs.SureLemmas.{tail-decides}
-use Rattle.rustc_lexer.proofs.JoinedLemmas.{alike_more, alike_no_more, alike_place, alike_rises, alike_whole}
+use Rattle.rustc_lexer.proofs.lemmas.joined.Sure.{tail-decides}
+use Rattle.rustc_lexer.proofs.lemmas.joined.Joined.{alike_more, alike_no_more, alike_place, alike_rises, alike_whole}
 use Rattle.rustc_lexer.proofs.relex.joined.is_seam.Goals as goal
 
 pub range-requires-clause-start_boundary : goal.range-requires-clause-start_boundary

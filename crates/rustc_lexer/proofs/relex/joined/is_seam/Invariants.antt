@@ -1,6 +1,6 @@
 use Rattle.std.proofs.Common.{length, take, ◌-◌}
 use Rattle.rustc_lexer.specs.Answers.{first_in}
-use Rattle.rustc_lexer.proofs.JoinedLemmas.{AreAlike}
+use Rattle.rustc_lexer.proofs.lemmas.joined.Joined.{AreAlike}
 use Rattle.rustc_lexer.proofs.relex.joined.is_seam.Given as goal
 
 abbrev pub invariant-loop-offset : goal.invariant-loop-offset

@@ -1,5 +1,5 @@
 use Rattle.std.proofs.Common.{arith, length-drop}
-use Rattle.rustc_lexer.proofs.SureLemmas.{near}
+use Rattle.rustc_lexer.proofs.lemmas.joined.Sure.{near}
 use Rattle.rustc_lexer.proofs.relex.joined.stays.Goals as goal
 
 pub range_from-requires : goal.range_from-requires

@@ -1,4 +1,4 @@
-use Rattle.rustc_lexer.proofs.SureLemmas.{sure_place_in}
+use Rattle.rustc_lexer.proofs.lemmas.joined.Sure.{sure_place_in}
 use Rattle.rustc_lexer.proofs.relex.joined.sure_before.Goals as goal
 
 pub two_stand-requires-clause-from_boundary : goal.two_stand-requires-clause-from_boundary

@@ -1,7 +1,7 @@
 use Rattle.std.proofs.Common.{◌+◌, arith, length-drop}
 use Rattle.rustc_lexer.specs.Classes.{IsText}
 use Rattle.rustc_lexer.specs.laws.Edition.{edition_grammar}
-use Rattle.rustc_lexer.proofs.SureLemmas.{sure_on, sure_place}
+use Rattle.rustc_lexer.proofs.lemmas.joined.Sure.{sure_on, sure_place}
 use Rattle.rustc_lexer.proofs.relex.joined.sure_later.Goals as goal
 
 pub range_from-requires : goal.range_from-requires

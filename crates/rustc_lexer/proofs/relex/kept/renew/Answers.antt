@@ -4,12 +4,12 @@ use Rattle.rustc_lexer.specs.declared.relex.relexing.Relexed.{Relexed}
 use Rattle.rustc_lexer.specs.{Token}
 use Rattle.rustc_lexer.specs.means.Document.{document_by, head_by}
 use Rattle.rustc_lexer.specs.means.Checkpoints.{AreBounds}
-use Rattle.rustc_lexer.proofs.DocumentEditLemmas.{body_put, made_read, near_behind, new_are, behind_are, new_behind, renewed_by, bounds_move, counted_all, counted_front, counted_back, counted_few}
-use Rattle.rustc_lexer.proofs.KeptEdits.{few_by, left_back, put_text, refused, relexed_by, steps_by}
-use Rattle.rustc_lexer.proofs.LayoutLemmas.{body_by_part}
-use Rattle.rustc_lexer.proofs.LexedLemmas.{tokens_are}
-use Rattle.rustc_lexer.proofs.RelexingLemmas.{few_lexed, made_change}
-use Rattle.rustc_lexer.proofs.UnderWayLemmas.{of_stands}
+use Rattle.rustc_lexer.proofs.lemmas.edits.DocumentEdits.{body_put, made_read, near_behind, new_are, behind_are, new_behind, renewed_by, bounds_move, counted_all, counted_front, counted_back, counted_few}
+use Rattle.rustc_lexer.proofs.lemmas.edits.KeptEdits.{few_by, left_back, put_text, refused, relexed_by, steps_by}
+use Rattle.rustc_lexer.proofs.lemmas.edits.Layouts.{body_by_part}
+use Rattle.rustc_lexer.proofs.lemmas.edits.KeptTexts.{tokens_are}
+use Rattle.rustc_lexer.proofs.lemmas.edits.ByLengths.{few_lexed, made_change}
+use Rattle.rustc_lexer.proofs.lemmas.edits.UnderWay.{of_stands}
 use Rattle.rustc_lexer.proofs.relex.kept.renew.Goals as goal
 
 pub relex-requires-clause-change : goal.relex-requires-clause-change

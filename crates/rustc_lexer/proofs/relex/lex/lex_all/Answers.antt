@@ -3,8 +3,8 @@ use Rattle.std.proofs.lemmas.List.{append-nil, drop-append-le, drop_all}
 use Rattle.rustc_lexer.specs.{Token}
 use Rattle.rustc_lexer.specs.Tokens.{bound, tokens_by}
 use Rattle.rustc_lexer.specs.Classes.{IsText}
-use Rattle.rustc_lexer.proofs.BlockLemmas.{block_more}
-use Rattle.rustc_lexer.proofs.ProgressLemmas.{IsLexedTo, lexed_offset, lexed_whole}
+use Rattle.rustc_lexer.proofs.lemmas.edits.Blocks.{block_more}
+use Rattle.rustc_lexer.proofs.lemmas.tokens.Progress.{IsLexedTo, lexed_offset, lexed_whole}
 use Rattle.rustc_lexer.proofs.relex.lex.lex_all.Goals as goal
 
 -- a list that grew behind its old items is not shorter than these

@@ -1,5 +1,5 @@
 use Rattle.rustc_lexer.specs.laws.Edition.{first_token_grammar}
-use Rattle.rustc_lexer.proofs.SettledLemmas.{local}
+use Rattle.rustc_lexer.proofs.lemmas.edits.Settled.{local}
 use Rattle.rustc_lexer.proofs.relex.settle.settled.Goals as goal
 
 pub returns-clause-local : goal.returns-clause-local

@@ -2,8 +2,8 @@ use Rattle.std.proofs.Common.{rules}
 use Rattle.std.proofs.Common.{sym, ◌∙◌, refl, arith}
 use Rattle.std.proofs.lemmas.Grind.{common_steps}
 use Rattle.rustc_lexer.specs.Classes.{IsText}
-use Rattle.rustc_lexer.proofs.ProgressLemmas.{lexed_offset, stepped}
-use Rattle.rustc_lexer.proofs.SettledLemmas.{sure_next, sure_end, sure_stop, next_boundary}
+use Rattle.rustc_lexer.proofs.lemmas.tokens.Progress.{lexed_offset, stepped}
+use Rattle.rustc_lexer.proofs.lemmas.edits.Settled.{sure_next, sure_end, sure_stop, next_boundary}
 use Rattle.rustc_lexer.proofs.relex.settle.settled_by.Goals as goal
 
 pub range_from-requires : goal.range_from-requires

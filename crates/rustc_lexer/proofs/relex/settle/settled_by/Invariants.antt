@@ -1,5 +1,5 @@
 use Rattle.std.proofs.Common.{length, ◌-◌, ◌≡◌}
-use Rattle.rustc_lexer.proofs.SettledLemmas.{IsSureTo}
+use Rattle.rustc_lexer.proofs.lemmas.edits.Settled.{IsSureTo}
 use Rattle.rustc_lexer.proofs.relex.settle.settled_by.Given as goal
 
 abbrev pub invariant-loop-offset : goal.invariant-loop-offset

@@ -3,7 +3,7 @@ use Rattle.rustc_lexer.specs.{Token}
 use Rattle.rustc_lexer.specs.Locality.{IsSettled}
 use Rattle.rustc_lexer.specs.Tokens.{tokens_by}
 use Rattle.rustc_lexer.specs.laws.Edition.{edition_grammar}
-use Rattle.rustc_lexer.proofs.SettledLemmas.{stays}
+use Rattle.rustc_lexer.proofs.lemmas.edits.Settled.{stays}
 use Rattle.rustc_lexer.proofs.relex.settle.settled_in.Goals as goal
 
 pub returns-clause-settled : goal.returns-clause-settled

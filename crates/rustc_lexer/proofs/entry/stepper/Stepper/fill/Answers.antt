@@ -2,8 +2,8 @@ use Rattle.std.proofs.Common.{◌≡◌, ◌+◌, ◌<◌, List, ℕ, length, dr
 use Rattle.rustc_lexer.specs.{Token}
 use Rattle.rustc_lexer.specs.Classes.{IsText}
 use Rattle.rustc_lexer.specs.Tokens.{tokens_by}
-use Rattle.rustc_lexer.proofs.BufferLemmas.{begun_more, one_written, stands, next_token, next_offset, written_to}
-use Rattle.rustc_lexer.proofs.ProgressLemmas.{stepped}
+use Rattle.rustc_lexer.proofs.lemmas.tokens.Buffers.{begun_more, one_written, stands, next_token, next_offset, written_to}
+use Rattle.rustc_lexer.proofs.lemmas.tokens.Progress.{stepped}
 use Rattle.rustc_lexer.proofs.entry.stepper.Stepper.fill.Goals as goal
 
 pub range_from-requires : goal.range_from-requires

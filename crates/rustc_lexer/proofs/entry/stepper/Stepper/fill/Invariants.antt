@@ -1,6 +1,6 @@
 use Rattle.std.proofs.Common.{◌≡◌, ◌+◌, ◌-◌, ◌<◌, ℕ, length}
 use Rattle.rustc_lexer.specs.Tokens.{bound, tokens_by}
-use Rattle.rustc_lexer.proofs.BufferLemmas.{IsWritten}
+use Rattle.rustc_lexer.proofs.lemmas.tokens.Buffers.{IsWritten}
 use Rattle.rustc_lexer.proofs.entry.stepper.Stepper.fill.Given as goal
 
 abbrev pub invariant-places : goal.invariant-places

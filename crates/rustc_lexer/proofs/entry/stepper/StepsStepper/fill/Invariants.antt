@@ -1,5 +1,5 @@
 use Rattle.std.proofs.Common.{◌-◌, length}
-use Rattle.rustc_lexer.proofs.BufferLemmas.{IsFilling}
+use Rattle.rustc_lexer.proofs.lemmas.tokens.Buffers.{IsFilling}
 use Rattle.rustc_lexer.proofs.entry.stepper.StepsStepper.fill.Given as goal
 
 abbrev pub invariant-places : goal.invariant-places

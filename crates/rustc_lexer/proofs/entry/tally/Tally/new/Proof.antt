@@ -1,5 +1,5 @@
 -- `new` makes a value of no bytes, whose count is 0.
-use Rattle.rustc_lexer.proofs.TallyWalk.{[], ◌∷◌, refl, proved, Fml, ftrue, Val, vstruct, vcons, vnil, ‵, ◌⊛◌, ◌$◌, ◌∵◌, !, qed, done, keep, use0, suffices, enter, no_more, and_then, returns, alloc_all, pass_all, free_all, look_at, get, sets, agg, makes_shadow, type_at, nothing, Stays, says, ends_at}
+use Rattle.rustc_lexer.proofs.lemmas.tokens.TallyWalk.{[], ◌∷◌, refl, proved, Fml, ftrue, Val, vstruct, vcons, vnil, ‵, ◌⊛◌, ◌$◌, ◌∵◌, !, qed, done, keep, use0, suffices, enter, no_more, and_then, returns, alloc_all, pass_all, free_all, look_at, get, sets, agg, makes_shadow, type_at, nothing, Stays, says, ends_at}
 use Rattle.rustc_lexer.specs.contracts.entry.tally.Tally.new as f
 use Rattle.rustc_lexer.proofs.entry.tally.Tally.new.Statement.{statement}
 use Rattle.rustc_lexer.proofs.entry.tally.Tally.new.Code as code

@@ -1,5 +1,5 @@
 -- `tick_by` runs nothing: the borrow is opened, and closed at the later count.
-use Rattle.rustc_lexer.proofs.TallyWalk.{[], ◌∷◌, ◌+◌, refl, proved, ftrue, flft, fsep, named, vunit, w64, ‵, ◌⊛◌, ◌$◌, ◌∵◌, !, qed, done, move, keep, split, join, feq_i, fsplit3, suffices, frame, group, enter, of_opd, unit_lit, returns, alloc_all, pass_all, free_all, look_at, sets, Is, MutRef, mut_vals, mut_Tells, uint_vals, uint_Tells, uint_Makes, usize, yes, plain, nothing, opens, owned, closes, Stays, walk_of, says, stay_none, stay_ref, Goes-none, Goes-ref, ends_at}
+use Rattle.rustc_lexer.proofs.lemmas.tokens.TallyWalk.{[], ◌∷◌, ◌+◌, refl, proved, ftrue, flft, fsep, named, vunit, w64, ‵, ◌⊛◌, ◌$◌, ◌∵◌, !, qed, done, move, keep, split, join, feq_i, fsplit3, suffices, frame, group, enter, of_opd, unit_lit, returns, alloc_all, pass_all, free_all, look_at, sets, Is, MutRef, mut_vals, mut_Tells, uint_vals, uint_Tells, uint_Makes, usize, yes, plain, nothing, opens, owned, closes, Stays, walk_of, says, stay_none, stay_ref, Goes-none, Goes-ref, ends_at}
 use Rattle.rustc_lexer.specs.contracts.entry.tally.Tally.tick_by as f
 use Rattle.rustc_lexer.proofs.entry.tally.Tally.tick_by.Statement.{statement}
 use Rattle.rustc_lexer.proofs.entry.tally.Tally.tick_by.Code as code

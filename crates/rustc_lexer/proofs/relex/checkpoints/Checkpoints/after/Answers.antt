@@ -1,6 +1,6 @@
 use Rattle.std.proofs.lemmas.List.Elements.{All-replicate}
 use Rattle.rustc_lexer.specs.Offsets.{IsBound}
-use Rattle.rustc_lexer.proofs.CheckpointLemmas.{kept_stays}
+use Rattle.rustc_lexer.proofs.lemmas.edits.Checkpoints.{kept_stays}
 use Rattle.rustc_lexer.proofs.relex.checkpoints.Checkpoints.after.Goals as goal
 
 pub loop-i-init : goal.loop-i-init

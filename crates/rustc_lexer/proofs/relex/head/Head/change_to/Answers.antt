@@ -1,7 +1,7 @@
 use Rattle.std.proofs.Common.{sym, subst}
 use Rattle.rustc_lexer.specs.declared.relex.relexing.Change.{Change}
 use Rattle.rustc_lexer.specs.Relexing.{IsInBody}
-use Rattle.rustc_lexer.proofs.BodyChangeLemmas.{body_is, in_body}
+use Rattle.rustc_lexer.proofs.lemmas.edits.BodyChanges.{body_is, in_body}
 use Rattle.rustc_lexer.proofs.relex.head.Head.change_to.Goals as goal
 
 pub returns-clause-body : goal.returns-clause-body

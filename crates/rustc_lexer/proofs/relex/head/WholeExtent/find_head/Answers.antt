@@ -1,4 +1,4 @@
-use Rattle.rustc_lexer.proofs.HeadLemmas.{head-front, head-spaced, head-none, front-boundary, spaced-boundary}
+use Rattle.rustc_lexer.proofs.lemmas.heads.Ends.{head-front, head-spaced, head-none, front-boundary, spaced-boundary}
 use Rattle.rustc_lexer.proofs.relex.head.WholeExtent.find_head.Goals as goal
 
 pub returns-in-Some-clause-head : goal.returns-in-Some-clause-head

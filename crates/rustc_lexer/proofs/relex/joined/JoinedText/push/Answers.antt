@@ -4,8 +4,8 @@ use Rattle.rustc_lexer.specs.Answers.{first_in, tokens_of}
 use Rattle.rustc_lexer.specs.Joined.{AreClosed, AreInseparable, IsJoined, Joined, RunsOn}
 use Rattle.rustc_lexer.specs.LanguageText.{part}
 use Rattle.rustc_lexer.specs.means.Joined.{IsSure}
-use Rattle.rustc_lexer.proofs.SureLemmas.{grown, joined-only}
-use Rattle.rustc_lexer.proofs.SeparatorLemmas.{runs-on}
+use Rattle.rustc_lexer.proofs.lemmas.joined.Sure.{grown, joined-only}
+use Rattle.rustc_lexer.proofs.lemmas.joined.Separators.{runs-on}
 use Rattle.rustc_lexer.proofs.relex.joined.JoinedText.push.Goals as goal
 
 pub returns-then-not-append_separated-clause-closed : goal.returns-then-not-append_separated-clause-closed

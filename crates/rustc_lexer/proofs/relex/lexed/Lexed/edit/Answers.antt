@@ -3,9 +3,9 @@ use Rattle.std.proofs.lemmas.Grind.{common_steps}
 use Rattle.rustc_lexer.specs.Classes.{IsText}
 use Rattle.rustc_lexer.specs.Edits.{IsEdit, apply}
 use Rattle.rustc_lexer.specs.Kept.{IsEdited}
-use Rattle.rustc_lexer.proofs.EditLemmas.{put_back}
-use Rattle.rustc_lexer.proofs.KeptEdits.{few_none, put_by, put_text, refused}
-use Rattle.rustc_lexer.proofs.RelexingLemmas.{made_for, made_change}
+use Rattle.rustc_lexer.proofs.lemmas.edits.FrontAndBack.{put_back}
+use Rattle.rustc_lexer.proofs.lemmas.edits.KeptEdits.{few_none, put_by, put_text, refused}
+use Rattle.rustc_lexer.proofs.lemmas.edits.ByLengths.{made_for, made_change}
 use Rattle.rustc_lexer.proofs.relex.lexed.Lexed.edit.Goals as goal
 
 -- what was taken out is put back

@@ -1,8 +1,8 @@
 use Rattle.std.proofs.Common.{rules, List, ℕ, length, refl, subst, get_or}
 use Rattle.rustc_lexer.specs.declared.relex.edit_list.EditStop.TheVariants.{Range, TooLong}
 use Rattle.rustc_lexer.specs.Edits.{IsRefusedOn}
-use Rattle.rustc_lexer.proofs.EditListLemmas.{none}
-use Rattle.rustc_lexer.proofs.MadeLemmas.{kept_more, kept_none, kept_refused, made_more, made_none, made_refused, made_stop}
+use Rattle.rustc_lexer.proofs.lemmas.edits.Lists.{none}
+use Rattle.rustc_lexer.proofs.lemmas.edits.ListsSoFar.{kept_more, kept_none, kept_refused, made_more, made_none, made_refused, made_stop}
 use Rattle.rustc_lexer.proofs.relex.lexed.Lexed.make.Goals as goal
 
 pub list-init : goal.list-init

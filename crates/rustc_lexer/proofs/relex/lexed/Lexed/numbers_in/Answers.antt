@@ -1,5 +1,5 @@
 use Rattle.std.proofs.Common.{arith}
-use Rattle.rustc_lexer.proofs.OffsetLemmas.{touched_from}
+use Rattle.rustc_lexer.proofs.lemmas.edits.Offsets.{touched_from}
 use Rattle.rustc_lexer.proofs.relex.lexed.Lexed.numbers_in.Goals as goal
 
 pub returns : goal.returns

@@ -1,8 +1,8 @@
 use Rattle.std.proofs.Common.{◌≡◌, List, slice_range, refl, ap, ◌∙◌, arith, string_bytes}
 use Rattle.rustc_lexer.specs.{Token}
 use Rattle.rustc_lexer.specs.Tokens.{bound}
-use Rattle.rustc_lexer.proofs.LexedLemmas.{fits_seen}
-use Rattle.rustc_lexer.proofs.PieceLemmas.{bound-part}
+use Rattle.rustc_lexer.proofs.lemmas.edits.KeptTexts.{fits_seen}
+use Rattle.rustc_lexer.proofs.lemmas.edits.Pieces.{bound-part}
 use Rattle.rustc_lexer.proofs.relex.lexed.Lexed.offset_of.Goals as goal
 
 pub overflow_cast-start : goal.overflow_cast-start

@@ -1,7 +1,7 @@
 use Rattle.std.proofs.Common.{length, refl, ap, ◌∙◌, arith, string_bytes}
-use Rattle.rustc_lexer.proofs.KeptLemmas.{kept_cuts}
-use Rattle.rustc_lexer.proofs.LexedLemmas.{cut_seen, fits_seen}
-use Rattle.rustc_lexer.proofs.PieceLemmas.{cut_part, piece_is, piece_some}
+use Rattle.rustc_lexer.proofs.lemmas.edits.KeptBounds.{kept_cuts}
+use Rattle.rustc_lexer.proofs.lemmas.edits.KeptTexts.{cut_seen, fits_seen}
+use Rattle.rustc_lexer.proofs.lemmas.edits.Pieces.{cut_part, piece_is, piece_some}
 use Rattle.rustc_lexer.proofs.relex.lexed.Lexed.piece_at.Goals as goal
 
 pub overflow_cast-start : goal.overflow_cast-start

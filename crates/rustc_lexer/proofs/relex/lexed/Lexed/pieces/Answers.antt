@@ -1,7 +1,7 @@
 use Rattle.std.proofs.Common.{length, ap, ◌∙◌, arith, string_bytes}
 use Rattle.rustc_lexer.specs.Kept.{pieces_from, start_in}
-use Rattle.rustc_lexer.proofs.KeptLemmas.{kept_cuts, offset_fits, start_is}
-use Rattle.rustc_lexer.proofs.PieceLemmas.{length-pieces}
+use Rattle.rustc_lexer.proofs.lemmas.edits.KeptBounds.{kept_cuts, offset_fits, start_is}
+use Rattle.rustc_lexer.proofs.lemmas.edits.Pieces.{length-pieces}
 use Rattle.rustc_lexer.proofs.relex.lexed.Lexed.pieces.Goals as goal
 
 pub overflow_cast-start : goal.overflow_cast-start

@@ -1,6 +1,6 @@
 use Rattle.std.proofs.Common.{length, ap, ◌∙◌, arith, string_bytes}
-use Rattle.rustc_lexer.proofs.LexedLemmas.{end_seen, fits_seen, start_seen}
-use Rattle.rustc_lexer.proofs.OffsetLemmas.{answered}
+use Rattle.rustc_lexer.proofs.lemmas.edits.KeptTexts.{end_seen, fits_seen, start_seen}
+use Rattle.rustc_lexer.proofs.lemmas.edits.Offsets.{answered}
 use Rattle.rustc_lexer.proofs.relex.lexed.Lexed.token_start_at.Goals as goal
 
 pub token_around-requires-clause-near : goal.token_around-requires-clause-near

@@ -1,6 +1,6 @@
 use Rattle.std.proofs.Common.{rules, arith}
 use Rattle.std.proofs.lemmas.Grind.{common_steps}
-use Rattle.rustc_lexer.proofs.LexedLemmas.{heads_are, tokens_are}
+use Rattle.rustc_lexer.proofs.lemmas.edits.KeptTexts.{heads_are, tokens_are}
 use Rattle.rustc_lexer.proofs.relex.lexed.Lexed.with_string.Goals as goal
 
 pub returns-clause-from_scratch : goal.returns-clause-from_scratch

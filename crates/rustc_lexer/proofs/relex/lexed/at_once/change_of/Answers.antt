@@ -1,7 +1,7 @@
 use Rattle.std.proofs.Common.{◌≡◌, ◌+◌, length, take, take_all, arith, refl, sym}
 use Rattle.std.proofs.lemmas.Grind.{common_steps}
 use Rattle.std.proofs.lemmas.Str.{IsCharBoundary-start, IsUtf8-nil}
-use Rattle.rustc_lexer.proofs.AtOnceLemmas.{at_once_short, at_once_valid, first_start, insert_end, insert_utf8, last-more, made-more, next-of, order-more, order-take, plus_one, some_are}
+use Rattle.rustc_lexer.proofs.lemmas.edits.AtOnce.{at_once_short, at_once_valid, first_start, insert_end, insert_utf8, last-more, made-more, next-of, order-more, order-take, plus_one, some_are}
 use Rattle.rustc_lexer.specs.Edits.{AreAtOnce, AreInOrder, start_of_first, with_all}
 use Rattle.rustc_lexer.proofs.relex.lexed.at_once.change_of.Goals as goal
 use Rattle.rustc_lexer.proofs.relex.lexed.at_once.change_of.Goals.{then-edit-change-via-then-edit-change, then-edit-change-via-else-edit-change+then-not-contains_range}

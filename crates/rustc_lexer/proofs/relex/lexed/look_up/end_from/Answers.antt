@@ -1,4 +1,4 @@
-use Rattle.rustc_lexer.proofs.PieceLemmas.{end_fits, end_more}
+use Rattle.rustc_lexer.proofs.lemmas.edits.Pieces.{end_fits, end_more}
 use Rattle.rustc_lexer.proofs.relex.lexed.look_up.end_from.Goals as goal
 
 pub overflow_add-end : goal.overflow_add-end

@@ -1,6 +1,6 @@
 use Rattle.std.proofs.Common.{sym, ◌∙◌, arith, length-append}
 use Rattle.std.proofs.lemmas.Grind.{common_steps}
-use Rattle.rustc_lexer.proofs.PieceLemmas.{cut_edges, cut_front, last_piece}
+use Rattle.rustc_lexer.proofs.lemmas.edits.Pieces.{cut_edges, cut_front, last_piece}
 use Rattle.rustc_lexer.proofs.relex.pieces.PiecesDoubleEndedIterator.next_back.Goals as goal
 
 pub overflow_sub-start : goal.overflow_sub-start

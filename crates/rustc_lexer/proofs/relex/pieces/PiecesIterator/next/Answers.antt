@@ -1,5 +1,5 @@
 use Rattle.std.proofs.Common.{arith}
-use Rattle.rustc_lexer.proofs.PieceLemmas.{cut_edges, cut_tail}
+use Rattle.rustc_lexer.proofs.lemmas.edits.Pieces.{cut_edges, cut_tail}
 use Rattle.rustc_lexer.proofs.relex.pieces.PiecesIterator.next.Goals as goal
 
 pub overflow_add-end : goal.overflow_add-end

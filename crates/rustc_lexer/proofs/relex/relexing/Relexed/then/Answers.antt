@@ -1,7 +1,7 @@
 use Rattle.std.proofs.Common.{◌+◌, ◌<◌, ◌^◌, ◌≡◌, arith, rules}
 use Rattle.std.proofs.lemmas.Grind.{common_steps}
 use Rattle.rustc_lexer.specs.Edits.{count_after}
-use Rattle.rustc_lexer.proofs.EditListLemmas.{kept_then}
+use Rattle.rustc_lexer.proofs.lemmas.edits.Lists.{kept_then}
 use Rattle.rustc_lexer.proofs.relex.relexing.Relexed.then.Goals as goal
 
 pub returns-clause-kept : goal.returns-clause-kept

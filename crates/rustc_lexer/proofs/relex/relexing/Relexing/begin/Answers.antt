@@ -2,8 +2,8 @@ use Rattle.std.proofs.Common.{subst, arith}
 use Rattle.rustc_lexer.specs.declared.relex.front.Damage.{Damage}
 use Rattle.rustc_lexer.specs.Tokens.{tokens_by}
 use Rattle.rustc_lexer.specs.means.Relexing.{IsFollowed, old_stop_of}
-use Rattle.rustc_lexer.proofs.RelexingLemmas.{damage_stop, end_last, made_front, stands_first, front_below}
-use Rattle.rustc_lexer.proofs.UnderWayLemmas.{of_stands}
+use Rattle.rustc_lexer.proofs.lemmas.edits.ByLengths.{damage_stop, end_last, made_front, stands_first, front_below}
+use Rattle.rustc_lexer.proofs.lemmas.edits.UnderWay.{of_stands}
 use Rattle.rustc_lexer.proofs.relex.relexing.Relexing.begin.Goals as goal
 
 pub returns-clause-under_way : goal.returns-clause-under_way

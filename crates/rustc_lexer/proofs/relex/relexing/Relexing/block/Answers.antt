@@ -4,10 +4,10 @@ use Rattle.rustc_lexer.specs.{Token}
 use Rattle.rustc_lexer.specs.Classes.{IsText}
 use Rattle.rustc_lexer.specs.Tokens.{IsFilledTo, bound, tokens_by}
 use Rattle.rustc_lexer.specs.means.Relexing.{IsFollowed, old_stop_of}
-use Rattle.rustc_lexer.proofs.ManyLemmas.{block_boundary, block_count, block_inside, some_filled, stands_many}
-use Rattle.rustc_lexer.proofs.RelexingLemmas.{below_later, damage_stop, end_last, not_over}
-use Rattle.rustc_lexer.proofs.RelexStepLemmas.{left_at}
-use Rattle.rustc_lexer.proofs.UnderWayLemmas.{of_stands, to_stands}
+use Rattle.rustc_lexer.proofs.lemmas.edits.ManyTokens.{block_boundary, block_count, block_inside, some_filled, stands_many}
+use Rattle.rustc_lexer.proofs.lemmas.edits.ByLengths.{below_later, damage_stop, end_last, not_over}
+use Rattle.rustc_lexer.proofs.lemmas.edits.Steps.{left_at}
+use Rattle.rustc_lexer.proofs.lemmas.edits.UnderWay.{of_stands, to_stands}
 use Rattle.rustc_lexer.proofs.relex.relexing.Relexing.block.Goals as goal
 
 pub range_from-requires : goal.range_from-requires

@@ -1,10 +1,10 @@
 use Rattle.std.proofs.Common.{ap, subst, sym, ◌∙◌, ◌-◌, ℕ}
 use Rattle.rustc_lexer.specs.declared.relex.relexing.Relexed.{Relexed}
 use Rattle.rustc_lexer.specs.Edits.{IsRelexed, part_by}
-use Rattle.rustc_lexer.proofs.LayoutLemmas.{part_by_body}
-use Rattle.rustc_lexer.proofs.RelexedLemmas.{relexed_is}
-use Rattle.rustc_lexer.proofs.RelexingLemmas.{counts_met}
-use Rattle.rustc_lexer.proofs.UnderWayLemmas.{to_stands}
+use Rattle.rustc_lexer.proofs.lemmas.edits.Layouts.{part_by_body}
+use Rattle.rustc_lexer.proofs.lemmas.edits.OneAnswer.{relexed_is}
+use Rattle.rustc_lexer.proofs.lemmas.edits.ByLengths.{counts_met}
+use Rattle.rustc_lexer.proofs.lemmas.edits.UnderWay.{to_stands}
 use Rattle.rustc_lexer.proofs.relex.relexing.Relexing.counts.Goals as goal
 
 pub returns-clause-exact : goal.returns-clause-exact

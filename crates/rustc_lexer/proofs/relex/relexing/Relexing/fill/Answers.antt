@@ -6,9 +6,9 @@ use Rattle.rustc_lexer.specs.{Token}
 use Rattle.rustc_lexer.specs.Classes.{IsText}
 use Rattle.rustc_lexer.specs.Relexing.{IsMadeOf, IsUnderWay, is_over}
 use Rattle.rustc_lexer.specs.Tokens.{tokens_by}
-use Rattle.rustc_lexer.proofs.BufferLemmas.{none_written, one_written}
-use Rattle.rustc_lexer.proofs.RelexStepLemmas.{IsStepTo, step_of, left_at, next_left, no_step, step_more}
-use Rattle.rustc_lexer.proofs.UnderWayLemmas.{to_stands}
+use Rattle.rustc_lexer.proofs.lemmas.tokens.Buffers.{none_written, one_written}
+use Rattle.rustc_lexer.proofs.lemmas.edits.Steps.{IsStepTo, step_of, left_at, next_left, no_step, step_more}
+use Rattle.rustc_lexer.proofs.lemmas.edits.UnderWay.{to_stands}
 use Rattle.rustc_lexer.proofs.relex.relexing.Relexing.fill.Goals as goal
 
 pub places-init : goal.places-init

@@ -1,5 +1,5 @@
-use Rattle.rustc_lexer.proofs.RelexingLemmas.{over_met}
-use Rattle.rustc_lexer.proofs.UnderWayLemmas.{to_stands}
+use Rattle.rustc_lexer.proofs.lemmas.edits.ByLengths.{over_met}
+use Rattle.rustc_lexer.proofs.lemmas.edits.UnderWay.{to_stands}
 use Rattle.rustc_lexer.proofs.relex.relexing.Relexing.is_over.Goals as goal
 
 pub returns-else-self-clause-met : goal.returns-else-self-clause-met

@@ -5,9 +5,9 @@ use Rattle.rustc_lexer.specs.declared.relex.front.Damage.{Damage}
 use Rattle.rustc_lexer.specs.Tokens.{tokens_by}
 use Rattle.rustc_lexer.specs.means.Relexing.{IsFollowed, old_stop_of}
 use Rattle.rustc_lexer.specs.Classes.{IsText}
-use Rattle.rustc_lexer.proofs.RelexStepLemmas.{one_step}
-use Rattle.rustc_lexer.proofs.RelexingLemmas.{damage_stop, end_last, stands_next, gives_next, below_later, not_over, step_offset}
-use Rattle.rustc_lexer.proofs.UnderWayLemmas.{of_stands, to_stands}
+use Rattle.rustc_lexer.proofs.lemmas.edits.Steps.{one_step}
+use Rattle.rustc_lexer.proofs.lemmas.edits.ByLengths.{damage_stop, end_last, stands_next, gives_next, below_later, not_over, step_offset}
+use Rattle.rustc_lexer.proofs.lemmas.edits.UnderWay.{of_stands, to_stands}
 use Rattle.rustc_lexer.proofs.relex.relexing.Relexing.next.Goals as goal
 
 pub range_from-requires : goal.range_from-requires

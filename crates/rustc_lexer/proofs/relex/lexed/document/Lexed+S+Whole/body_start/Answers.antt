@@ -1,6 +1,6 @@
 use Rattle.std.proofs.lemmas.Grind.{common_steps}
 use Rattle.std.proofs.Common.{arith, rules}
-use Rattle.rustc_lexer.proofs.DocumentPage.{end_is, front_is}
+use Rattle.rustc_lexer.proofs.lemmas.edits.DocumentPage.{end_is, front_is}
 use Rattle.rustc_lexer.proofs.relex.lexed.document.Lexed+S+Whole.body_start.Goals as goal
 
 pub returns-clause-number : goal.returns-clause-number

@@ -1,7 +1,7 @@
 use Rattle.std.proofs.lemmas.Grind.{common_steps}
 use Rattle.std.proofs.Common.{rules, arith}
-use Rattle.rustc_lexer.proofs.DocumentTokens.{shebang-boundary}
-use Rattle.rustc_lexer.proofs.HeadLemmas.{head-shebang}
+use Rattle.rustc_lexer.proofs.lemmas.heads.DocumentTokens.{shebang-boundary}
+use Rattle.rustc_lexer.proofs.lemmas.heads.Ends.{head-shebang}
 use Rattle.rustc_lexer.proofs.relex.lexed.document.Lexed+S+Whole.shebang_len.Goals as goal
 
 pub returns : goal.returns

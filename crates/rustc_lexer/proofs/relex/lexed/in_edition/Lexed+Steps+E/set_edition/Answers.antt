@@ -1,7 +1,7 @@
 use Rattle.std.proofs.Common.{sym, ap, ◌∙◌}
 use Rattle.rustc_lexer.specs.Kept.{tokens_in}
-use Rattle.rustc_lexer.proofs.EditLemmas.{OnOk-map}
-use Rattle.rustc_lexer.proofs.LexedLemmas.{edition_are, tokens_are}
+use Rattle.rustc_lexer.proofs.lemmas.edits.FrontAndBack.{OnOk-map}
+use Rattle.rustc_lexer.proofs.lemmas.edits.KeptTexts.{edition_are, tokens_are}
 use Rattle.rustc_lexer.proofs.relex.lexed.in_edition.Lexed+Steps+E.set_edition.Goals as goal
 
 pub returns-clause-from_scratch : goal.returns-clause-from_scratch

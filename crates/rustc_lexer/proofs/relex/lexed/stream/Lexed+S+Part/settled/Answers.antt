@@ -3,7 +3,7 @@ use Rattle.rustc_lexer.specs.{Token}
 use Rattle.rustc_lexer.specs.Classes.{IsText}
 use Rattle.rustc_lexer.specs.Locality.{IsSettled}
 use Rattle.rustc_lexer.specs.Tokens.{tokens_by}
-use Rattle.rustc_lexer.proofs.SettledLemmas.{cuts_by, settled_by_front, stays}
+use Rattle.rustc_lexer.proofs.lemmas.edits.Settled.{cuts_by, settled_by_front, stays}
 use Rattle.rustc_lexer.proofs.relex.lexed.stream.Lexed+S+Part.settled.Goals as goal
 
 pub returns-clause-settled : goal.returns-clause-settled

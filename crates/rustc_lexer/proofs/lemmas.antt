@@ -1,0 +1,4 @@
+pub mod edits
+pub mod heads
+pub mod joined
+pub mod tokens

@@ -1,0 +1,154 @@
+-- Edits that are made at once: one more of them.
+use Rattle.std.proofs.Common.{◌≡◌, Bool, ℕ, zero, suc, ◌+◌, ◌-◌, ◌^◌, ◌<◌, ◌≤◌, min, List, [], ◌∷◌, ◌++◌, length, take, drop, reverse, get_or, refl, sym, ap, ◌∙◌, subst, arith, IsUtf8, IsCharBoundary, append_assoc, length-append, length-drop, length-take-le, take-take}
+use Rattle.std.proofs.lemmas.List.{append-nil, reverse-append, take-append-drop, take-append-le}
+use Rattle.std.proofs.Math.Seq.{drop-append_seam, take-add}
+use Rattle.std.proofs.lemmas.Str.{IsCharBoundary-start, IsUtf8-append, IsUtf8-between, IsUtf8-past_char, IsUtf8-take}
+use Rattle.std.proofs.Math.Utf8.{encode, encodes}
+use Rattle.std.proofs.lemmas.Grind.{common_steps}
+use Rattle.rustc_lexer.specs.declared.relex.edit.Edit.{Edit}
+use Rattle.rustc_lexer.specs.Edits.{AreAtOnce, AreInOrder, IsInside, applied, apply, apply_list, start_of_first, stop_of_last, with_all}
+use Rattle.rustc_lexer.specs.declared.relex.checkpoints.Checkpoints.{Checkpoints}
+use Rattle.rustc_lexer.specs.declared.relex.head.Head.{Head}
+use Rattle.rustc_lexer.specs.declared.relex.relexing.Change.{Change}
+use Rattle.rustc_lexer.specs.{Token}
+use Rattle.rustc_lexer.specs.Classes.{IsText}
+use Rattle.rustc_lexer.specs.means.Document.{AreKeptOf, IsPut, edit_change}
+use Rattle.rustc_lexer.proofs.lemmas.edits.Lists.{none}
+use Rattle.rustc_lexer.proofs.lemmas.edits.KeptEdits.{put_by}
+
+pub plus_one : (n : ℕ) → n + 1 ≡ suc n
+plus_one n = omega arith
+
+pub order-more : (text : List ℕ) (from : ℕ) (es : List Edit) (n : ℕ) → n < length es → AreInOrder text from (take n es) → stop_of_last from (take n es) ≤ (get_or es n none).start → IsInside text (get_or es n none).start (get_or es n none).stop → AreInOrder text from (take (suc n) es)
+order-more text from [] n few are after inside = absurd (omega arith)
+order-more text from (e ∷ es) zero few are after inside = (after, inside, tt)
+order-more text from (e ∷ es) (suc n) few are after inside = (are.0, are.1, order-more text e.stop es n (omega arith) are.2 after inside)
+
+pub last-more : (from : ℕ) (es : List Edit) (n : ℕ) → n < length es → stop_of_last from (take (suc n) es) ≡ (get_or es n none).stop
+last-more from [] n few = absurd (omega arith)
+last-more from (e ∷ es) zero few = refl
+last-more from (e ∷ es) (suc n) few = last-more e.stop es n (omega arith)
+
+pub next-of : (text : List ℕ) (from : ℕ) (es : List Edit) (n : ℕ) → n < length es → AreInOrder text from (take (suc n) es) → (stop_of_last from (take n es) ≤ (get_or es n none).start) × IsInside text (get_or es n none).start (get_or es n none).stop
+next-of text from [] n few are = absurd (omega arith)
+next-of text from (e ∷ es) zero few are = (are.0, are.1)
+next-of text from (e ∷ es) (suc n) few are = next-of text e.stop es n (omega arith) are.2
+
+pub some_are : (es : List Edit) → (es ≡ [] → ⊥) → 0 < length es
+some_are [] some = absurd (some refl)
+some_are (e ∷ es) some = omega arith
+
+pub first_start : (es : List Edit) → (es ≡ [] → ⊥) → (get_or es 0 none).start ≡ start_of_first es
+first_start [] some = absurd (some refl)
+first_start (e ∷ es) some = refl
+
+pub all-more : (text : List ℕ) (from : ℕ) (es : List Edit) (n : ℕ) → n < length es → with_all text from (take (suc n) es) ≡ with_all text from (take n es) ++ (take ((get_or es n none).start - stop_of_last from (take n es)) (drop (stop_of_last from (take n es)) text) ++ (get_or es n none).insert.now)
+all-more text from [] n few = absurd (omega arith)
+all-more text from (e ∷ es) zero few = grind (arith, common_steps, append-nil)
+all-more text from (e ∷ es) (suc n) few = grind (arith, common_steps, all-more text e.stop es n (omega arith), append_assoc)
+
+-- one more of them: what they make so far is a text, and its length stops at the greatest number
+pub made-more : (text : List ℕ) (es : List Edit) (n last len next : ℕ) → n < length es → IsUtf8 text → IsUtf8 (with_all text 0 (take n es)) → last ≡ stop_of_last 0 (take n es) → IsCharBoundary text last → len ≡ min (2 ^ 64 - 1) (length (with_all text 0 (take n es)))
+    → last ≤ (get_or es n none).start → IsInside text (get_or es n none).start (get_or es n none).stop → IsUtf8 (get_or es n none).insert.now → next ≡ min (2 ^ 64 - 1) (len + ((get_or es n none).start - last) + length (get_or es n none).insert.now)
+    → IsUtf8 (with_all text 0 (take (suc n) es)) × (next ≡ min (2 ^ 64 - 1) (length (with_all text 0 (take (suc n) es))))
+made-more text es n last len next few is are last_is boundary len_is after inside insert next_is =
+    let e : Edit = get_or es n none in
+    let between : List ℕ = take (e.start - last) (drop last text) in
+    let more : with_all text 0 (take (suc n) es) ≡ with_all text 0 (take n es) ++ (between ++ e.insert.now) = rw last_is (all-more text 0 es n few) in
+    let size : length between ≡ e.start - last = length-take-le (e.start - last) (drop last text) (omega (arith, length-drop last text, inside.start_le_stop, inside.stop_inside)) in (
+      subst IsUtf8 (sym more) (IsUtf8-append _ _ are (IsUtf8-append _ _ (IsUtf8-between text last e.start is after boundary inside.start_boundary) insert)),
+      omega (arith, next_is, len_is, size, ap (λ (xs : List ℕ). length xs) more, length-append (with_all text 0 (take n es)) (between ++ e.insert.now), length-append between e.insert.now),
+    )
+
+pub order-take : (text : List ℕ) (from : ℕ) (es : List Edit) (n : ℕ) → AreInOrder text from es → AreInOrder text from (take n es)
+order-take text from es zero are = tt
+order-take text from [] (suc n) are = tt
+order-take text from (e ∷ es) (suc n) are = (are.0, are.1, order-take text e.stop es n are.2)
+
+-- where the last one ends
+order_end : (text : List ℕ) (from : ℕ) (es : List Edit) → AreInOrder text from es → from ≤ length text → IsCharBoundary text from → (from ≤ stop_of_last from es) × (stop_of_last from es ≤ length text) × IsCharBoundary text (stop_of_last from es)
+order_end text from [] are few boundary = (omega arith, few, boundary)
+order_end text from (e ∷ es) are few boundary =
+    let end = order_end text e.stop es are.2 are.1.stop_inside are.1.stop_boundary in
+    (omega (arith, end.0, are.0, are.1.start_le_stop), end.1, end.2)
+
+order_inside : (text : List ℕ) (es : List Edit) → (es ≡ [] → ⊥) → AreInOrder text 0 es → IsInside text (start_of_first es) (stop_of_last 0 es)
+order_inside text [] some are = absurd (some refl)
+order_inside text (e ∷ es) some are =
+    let end = order_end text e.stop es are.2 are.1.stop_inside are.1.stop_boundary in
+    record { start_le_stop = omega (arith, end.0, are.1.start_le_stop); stop_inside = end.1; start_boundary = are.1.start_boundary; stop_boundary = end.2 }
+
+-- all that they make begins with the text in front of the first
+from_first : (text : List ℕ) (es : List Edit) → (es ≡ [] → ⊥) → with_all text 0 es ≡ take (start_of_first es) text ++ with_all text (start_of_first es) es
+from_first text [] some = absurd (some refl)
+from_first text (e ∷ es) some = grind (arith, common_steps)
+
+pub applied_is : (text : List ℕ) (es : List Edit) → (es ≡ [] → ⊥) → with_all text 0 es ++ drop (stop_of_last 0 es) text ≡ apply text (start_of_first es) (stop_of_last 0 es) (with_all text (start_of_first es) es)
+unfolding apply
+applied_is text es some = grind (arith, common_steps, from_first text es some, append_assoc)
+
+apply-last : (text : List ℕ) (es : List Edit) (e : Edit) → apply_list text (es ++ (e ∷ [])) ≡ applied (apply_list text es) e
+apply-last text [] e = refl
+apply-last text (f ∷ es) e = apply-last (applied text f) es e
+
+-- what is behind an edit, and what it inserts, put behind the text in front of it
+put_before : (text rest : List ℕ) (from : ℕ) (e : Edit) → from ≤ e.start → IsInside text e.start e.stop → apply (take e.stop text ++ rest) e.start e.stop e.insert.now ≡ take from text ++ (take (e.start - from) (drop from text) ++ (e.insert.now ++ rest))
+unfolding apply
+put_before text rest from e after inside =
+    let size : length (take e.stop text) ≡ e.stop = length-take-le e.stop text inside.stop_inside in
+    let front : take e.start (take e.stop text ++ rest) ≡ take e.start text = take-append-le e.start (take e.stop text) rest (omega (arith, size, inside.start_le_stop)) ∙ take-take e.start e.stop text inside.start_le_stop in
+    let back : drop e.stop (take e.stop text ++ rest) ≡ rest = subst (λ n. drop n (take e.stop text ++ rest) ≡ rest) size (drop-append_seam (take e.stop text) rest) in
+    let all : take e.start text ≡ take from text ++ take (e.start - from) (drop from text) = ap (λ n. take n text) (omega (arith, after)) ∙ take-add from (e.start - from) text in
+    rw (front, back, all) (append_assoc (take from text) (take (e.start - from) (drop from text)) (e.insert.now ++ rest))
+
+-- one after another, from the last to the first, they make the same text
+backwards : (text : List ℕ) (from : ℕ) (es : List Edit) → AreInOrder text from es → from ≤ length text → apply_list text (reverse es) ≡ take from text ++ (with_all text from es ++ drop (stop_of_last from es) text)
+backwards text from [] are few = sym (take-append-drop from text)
+backwards text from (e ∷ es) are few =
+    let end : List ℕ = drop (stop_of_last e.stop es) text in
+    let behind : apply_list text (reverse es) ≡ take e.stop text ++ (with_all text e.stop es ++ end) = backwards text e.stop es are.2 are.1.stop_inside in
+    let last : apply_list text (reverse (e ∷ es)) ≡ applied (apply_list text (reverse es)) e = ap (λ (xs : List Edit). apply_list text xs) (reverse-append (e ∷ []) es) ∙ apply-last text (reverse es) e in
+    let put = put_before text (with_all text e.stop es ++ end) from e are.0 are.1 in
+    last ∙ ap (λ (xs : List ℕ). applied xs e) behind ∙ put ∙ ap (λ (xs : List ℕ). take from text ++ xs) (grind (arith, common_steps, append_assoc))
+
+pub none_by_one : (text : List ℕ) (es : List Edit) → length es ≡ 0 → text ≡ apply_list text (reverse es)
+none_by_one text [] none = refl
+none_by_one text (e ∷ es) none = absurd (omega arith)
+
+pub one_by_one : (text : List ℕ) (es : List Edit) → (es ≡ [] → ⊥) → AreInOrder text 0 es → apply text (start_of_first es) (stop_of_last 0 es) (with_all text (start_of_first es) es) ≡ apply_list text (reverse es)
+one_by_one text es some are = sym (applied_is text es some) ∙ sym (backwards text 0 es are (omega arith))
+
+-- what follows a text in a text is one
+rest_encoded : (cs ys : List ℕ) → IsUtf8 (encodes cs ++ ys) → IsUtf8 ys
+rest_encoded [] ys is = is
+rest_encoded (c ∷ cs) ys is = rest_encoded cs ys (IsUtf8-past_char (encodes (c ∷ cs) ++ ys) (encodes cs ++ ys) c is (append_assoc (encode c) (encodes cs) ys))
+
+pub insert_utf8 : (text : List ℕ) (es : List Edit) → (es ≡ [] → ⊥) → IsUtf8 text → AreInOrder text 0 es → IsUtf8 (with_all text 0 es) → IsUtf8 (with_all text (start_of_first es) es)
+insert_utf8 text es some is are all =
+    let front = IsUtf8-take text (start_of_first es) is (order_inside text es some are).start_boundary in
+    rest_encoded front.0 (with_all text (start_of_first es) es) (rw front.1.1 (subst IsUtf8 (from_first text es some) all))
+
+-- where what they insert ends
+pub insert_end : (text : List ℕ) (es : List Edit) → (es ≡ [] → ⊥) → AreInOrder text 0 es → length (with_all text 0 es) ≡ start_of_first es + length (with_all text (start_of_first es) es)
+insert_end text es some are =
+    let inside = order_inside text es some are in
+    omega (arith, ap (λ (xs : List ℕ). length xs) (from_first text es some), length-append (take (start_of_first es) text) (with_all text (start_of_first es) es), length-take-le (start_of_first es) text (omega (arith, inside.start_le_stop, inside.stop_inside)))
+
+pub at_once_valid : (text : List ℕ) (es : List Edit) → (es ≡ [] → ⊥) → AreInOrder text 0 es → length (with_all text 0 es) + (length text - stop_of_last 0 es) < 2 ^ 32 → AreAtOnce text es
+at_once_valid text es some are short =
+    let inside = order_inside text es some are in
+    (are, record { inside = inside; short = omega (arith, short, insert_end text es some are, inside.start_le_stop, inside.stop_inside) })
+
+pub at_once_short : (text : List ℕ) (es : List Edit) → (es ≡ [] → ⊥) → AreAtOnce text es → length (with_all text 0 es) + (length text - stop_of_last 0 es) < 2 ^ 32
+at_once_short text es some are = omega (arith, are.1.short, insert_end text es some are.0, are.1.inside.start_le_stop, are.1.inside.stop_inside)
+
+pub at_once_none : (text : List ℕ) (es : List Edit) → length es ≡ 0 → IsText text → AreAtOnce text es
+at_once_none text [] none is =
+    let start = IsCharBoundary-start text is.utf8 in
+    (tt, record { inside = record { start_le_stop = omega arith; stop_inside = omega arith; start_boundary = start; stop_boundary = start }; short = omega (arith, is.fits) })
+at_once_none text (e ∷ es) none is = absurd (omega arith)
+
+-- all that they make is the text that the one edit makes
+pub put_at_once : {whole : Bool} {first : List ℕ → Token} {before made : List ℕ} (es : List Edit) {edit : Change} {tokens : List Token} {head : Head} {checkpoints : Checkpoints} → (es ≡ [] → ⊥) → AreKeptOf whole first before tokens head checkpoints → IsUtf8 (with_all before (start_of_first es) es) → AreAtOnce before es
+    → edit ≡ edit_change (start_of_first es) (stop_of_last 0 es) (with_all before (start_of_first es) es) → made ≡ with_all before 0 es ++ drop (stop_of_last 0 es) before → IsPut whole first before (with_all before (start_of_first es) es) edit made tokens head checkpoints
+put_at_once {before = before} es some kept utf8 valid edit_is made_is = rw edit_is (put_by kept utf8 valid.1 (made_is ∙ applied_is before es some) refl)

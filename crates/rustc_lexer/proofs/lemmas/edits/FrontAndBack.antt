@@ -1,0 +1,216 @@
+-- What an edit keeps: the front by locality, the back by a bound that both texts have.
+use Rattle.std.proofs.Common.{◌≡◌, ℕ, zero, suc, ◌+◌, ◌-◌, ◌*◌, ◌<◌, ◌≤◌, true, false, true≢false, List, [], ◌∷◌, ◌++◌, length, take, drop, cond, refl, sym, ap, ◌∙◌, subst, arith, length-drop, length-append, drop-drop, take-take, take-append-drop, take-add, take_at, drop_at, length-take-le, IsUtf8, IsCharBoundary, chars, leb-true, le-leb, leb, is_some, slice_get, encode_utf8, slice_range, append_assoc, Result, IfErr, OnOk, OnErr}
+use Rattle.std.specs.List.{count_by, replace_range}
+use Rattle.std.proofs.lemmas.Bool.{false_from_ne_true}
+use Rattle.std.proofs.lemmas.List.{drop-take, take-append-le}
+use Rattle.std.proofs.lemmas.Grind.{common_steps}
+use Rattle.std.proofs.lemmas.Str.{chars_past_char, chars-nil, IsUtf8-append, IsUtf8-take, IsUtf8-drop, IsUtf8-between, IsCharBoundary-from_drop, chars-append, length-encode, len_utf8_bounds, encodes-chars}
+use Rattle.std.proofs.Math.Utf8.{encodes}
+use Rattle.rustc_lexer.specs.{Token}
+use Rattle.rustc_lexer.specs.Locality.{AgreePast, IsGrammar, has_two}
+use Rattle.rustc_lexer.specs.Classes.{IsText}
+use Rattle.rustc_lexer.specs.Tokens.{bound, tokens_by}
+use Rattle.rustc_lexer.specs.Edits.{apply, ends_from, IsEdit}
+use Rattle.rustc_lexer.specs.laws.Cuts.{IsCutAt, at_bound, tokens_local, look}
+use Rattle.rustc_lexer.proofs.lemmas.edits.Bounds.{count-cons}
+
+-- what holds anyway holds of an error
+pub IfErr-always : {T E : Type 0} {P : Type 0} (r : Result T E) → P → IfErr r (λ _. P)
+IfErr-always r w1 = grind (arith, common_steps)
+
+-- the edited text: its parts
+pub record IsEdited (text : List ℕ) (start stop : ℕ) (insert new : List ℕ) : Type 0 where
+  pub len : length new + (stop - start) ≡ length text + length insert
+  pub front : take start new ≡ take start text
+  pub back : drop (start + length insert) new ≡ drop stop text
+  pub text_is : IsText new
+
+pub edited : (text : List ℕ) (start stop : ℕ) (insert : List ℕ) → IsText text → IsUtf8 insert → IsEdit text start stop insert → IsEdited text start stop insert (apply text start stop insert)
+unfolding apply
+edited text start stop insert is its edit =
+    let a : start ≤ stop = edit.inside.start_le_stop in
+    let b : stop ≤ length text = edit.inside.stop_inside in
+    let first : length (take start text) ≡ start = length-take-le start text (omega arith) in
+    let long : length (take start text ++ (insert ++ drop stop text)) ≡ start + (length insert + (length text - stop)) = omega (arith, length-append (take start text) (insert ++ drop stop text), length-append insert (drop stop text), length-drop stop text, first) in
+    record {
+      len = omega (arith, long);
+      front = take_at (take start text) (insert ++ drop stop text) start first;
+      back = sym (drop-drop (length insert) start (take start text ++ (insert ++ drop stop text))) ∙ (ap (drop (length insert)) (drop_at (take start text) (insert ++ drop stop text) start first) ∙ drop_at insert (drop stop text) (length insert) refl);
+      text_is = record {
+        utf8 = IsUtf8-append _ _ (IsUtf8-take text start is.utf8 edit.inside.start_boundary) (IsUtf8-append _ _ its (IsUtf8-drop text stop is.utf8 edit.inside.stop_boundary));
+        fits = omega (arith, long, edit.short);
+      };
+    }
+
+-- two characters or more decide what a text shows
+pub look-enough : (xs ys zs : List ℕ) → IsUtf8 xs → 2 ≤ length (chars xs) → look (xs ++ ys) ≡ look (xs ++ zs)
+look-enough xs ys zs is two = grind (arith, common_steps, chars-append xs ys is, chars-append xs zs is, take-append-le 2 (chars xs) (chars ys) two, take-append-le 2 (chars xs) (chars zs) two)
+
+positive : (n : ℕ) (xs : List ℕ) → 2 ≤ length (chars (take n xs)) → 0 < n
+positive zero xs h = absurd (let none : length (chars []) ≡ 0 = ap length chars-nil in omega arith)
+positive (suc n) xs h = omega arith
+
+pub has_two-before : (text : List ℕ) (offset start : ℕ) → has_two text offset start ≡ true → offset < start
+unfolding has_two
+has_two-before text offset start two = grind (arith, common_steps, positive, leb-true)
+
+pub has_two-count : (text : List ℕ) (offset to : ℕ) → has_two text offset to ≡ true → 2 ≤ length (chars (take (to - offset) (drop offset text)))
+unfolding has_two
+has_two-count text offset to two = leb-true 2 (length (chars (take (to - offset) (drop offset text)))) two
+
+pub has_two-intro : (text : List ℕ) (offset to : ℕ) → 2 ≤ length (chars (take (to - offset) (drop offset text))) → has_two text offset to ≡ true
+unfolding has_two
+has_two-intro text offset to two = le-leb 2 (length (chars (take (to - offset) (drop offset text)))) two
+
+-- where two characters stand before the edit, both texts agree
+pub has_two-agree : (text new : List ℕ) (offset start : ℕ) → IsUtf8 (take (start - offset) (drop offset text)) → take start new ≡ take start text → has_two text offset start ≡ true → AgreePast offset text new
+unfolding has_two
+has_two-agree text new offset start is same two =
+    let middle : List ℕ = take (start - offset) (drop offset text) in
+    let enough : 2 ≤ length (chars middle) = leb-true 2 (length (chars middle)) two in
+    let before : offset < start = (let some = positive (start - offset) (drop offset text) enough in omega arith) in
+    let there : start ≡ offset + (start - offset) = omega arith in
+    let below : take offset text ≡ take offset new = sym (take-take offset start text (omega arith)) ∙ (ap (take offset) (sym same) ∙ take-take offset start new (omega arith)) in
+    let its_middle : take (start - offset) (drop offset new) ≡ middle =
+    sym (drop-take offset (start - offset) new) ∙ (ap (λ n. drop offset (take n new)) (sym there) ∙ (ap (drop offset) same ∙ (ap (λ n. drop offset (take n text)) there ∙ drop-take offset (start - offset) text))) in
+    let here : look (middle ++ drop (start - offset) (drop offset text)) ≡ look (middle ++ drop (start - offset) (drop offset new)) = look-enough _ _ _ is enough in
+    record {
+      below = below;
+      past = sym (ap look (take-append-drop (start - offset) (drop offset text))) ∙ (here ∙ (ap (λ xs. look (xs ++ drop (start - offset) (drop offset new))) (sym its_middle) ∙ ap look (take-append-drop (start - offset) (drop offset new))));
+    }
+
+pub bound-take : (k : ℕ) (ts : List Token) → bound (take k ts) k ≡ bound ts k
+bound-take zero ts = refl
+bound-take (suc k) [] = refl
+bound-take (suc k) (t ∷ ts) = ap (λ n. t.len + n) (bound-take k ts)
+
+pub bound-same : (k : ℕ) (ts us : List Token) → take k ts ≡ take k us → bound ts k ≡ bound us k
+bound-same k ts us e = sym (bound-take k ts) ∙ (ap (λ xs. bound xs k) e ∙ bound-take k us)
+
+module _ {first : List ℕ → Token} (law : IsGrammar first) (text : List ℕ) (start stop : ℕ) (insert new : List ℕ) (is : IsText text) (edit : IsEdit text start stop insert) (ed : IsEdited text start stop insert new) where
+  pub start_inside : start + length insert ≤ length new
+  start_inside = let a = edit.inside.start_le_stop in let b = edit.inside.stop_inside in let l = ed.len in omega arith
+
+  -- the kept front
+  pub kept_same : (k : ℕ) → k ≤ length (tokens_by first text) → (0 < k → has_two text (bound (tokens_by first text) k) start ≡ true) → take k (tokens_by first new) ≡ take k (tokens_by first text)
+  kept_same zero few two = refl
+  kept_same (suc k) few two =
+      let offset : ℕ = bound (tokens_by first text) (suc k) in
+      let cut : IsCutAt first text (tokens_by first text) (suc k) = at_bound law (suc k) text is in
+      let has : has_two text offset start ≡ true = two (omega arith) in
+      let before : offset < start = has_two-before text offset start has in
+      let middle : IsUtf8 (take (start - offset) (drop offset text)) = IsUtf8-between text offset start is.utf8 (omega arith) (IsCharBoundary-from_drop text offset cut.inside cut.past.utf8) edit.inside.start_boundary in
+      tokens_local law (suc k) text new is ed.text_is few (has_two-agree text new offset start middle ed.front has)
+
+  -- past the edit both texts have the same rest
+  pub same_rest : (p : ℕ) → start + length insert ≤ p → drop p new ≡ drop (p - (start + length insert) + stop) text
+  same_rest p past =
+      let n : ℕ = p - (start + length insert) in
+      let here : start + length insert + n ≡ p = omega arith in
+      let there : stop + n ≡ n + stop = omega arith in
+      ap (λ q. drop q new) (sym here) ∙ (sym (drop-drop n (start + length insert) new) ∙ (ap (drop n) ed.back ∙ (drop-drop n stop text ∙ ap (λ q. drop q text) there)))
+
+  -- the meeting: from a bound past the edit that, moved back, is a bound of the old text, the tokens are the old ones
+  pub met_rest : (j i : ℕ) → start + length insert ≤ bound (tokens_by first new) j → bound (tokens_by first text) i ≡ bound (tokens_by first new) j - (start + length insert) + stop → drop j (tokens_by first new) ≡ drop i (tokens_by first text)
+  met_rest j i past met = grind (arith, common_steps, at_bound, same_rest)
+
+  -- the new tokens: those up to the meeting, and the old ones past it
+  pub met_whole : (j i : ℕ) → start + length insert ≤ bound (tokens_by first new) j → bound (tokens_by first text) i ≡ bound (tokens_by first new) j - (start + length insert) + stop → take j (tokens_by first new) ++ drop i (tokens_by first text) ≡ tokens_by first new
+  met_whole j i past met = ap (λ ts. take j (tokens_by first new) ++ ts) (sym (met_rest j i past met)) ∙ take-append-drop j (tokens_by first new)
+
+drop_of-take : (p n : ℕ) (xs : List ℕ) → drop p (take n xs) ≡ take (n - p) (drop p xs)
+drop_of-take zero n xs = grind (arith, common_steps)
+drop_of-take (suc p) zero xs = grind (arith, common_steps)
+drop_of-take (suc p) (suc n) [] = grind (arith, common_steps)
+drop_of-take (suc p) (suc n) (x ∷ xs) = grind (arith, common_steps, drop_of-take p n xs)
+
+-- what stands from an offset up to another is in the text up to that one
+pub has_two-same : (text other : List ℕ) (offset to : ℕ) → take to text ≡ take to other → has_two text offset to ≡ has_two other offset to
+unfolding has_two
+has_two-same text other offset to same = grind (arith, common_steps, drop_of-take offset to text, same, drop_of-take offset to other)
+
+pub has_two-late : (text : List ℕ) (offset to : ℕ) → to ≤ offset → has_two text offset to ≡ false
+has_two-late text offset to late = grind (arith, common_steps, has_two-before)
+
+-- an offset before another has no fewer characters past it
+pub has_two-mono : (text : List ℕ) (offset later to : ℕ) → IsUtf8 text → offset ≤ later → IsCharBoundary text offset → IsCharBoundary text later → has_two text later to ≡ true → has_two text offset to ≡ true
+has_two-mono text offset later to is le b c two =
+    let before : later < to = has_two-before text later to two in
+    let whole : to - offset ≡ (later - offset) + (to - later) = omega arith in
+    let next : offset + (later - offset) ≡ later = omega arith in
+    let xs : List ℕ = take (later - offset) (drop offset text) in
+    let ys : List ℕ = take (to - later) (drop later text) in
+    let split : take (to - offset) (drop offset text) ≡ xs ++ ys =
+    ap (λ n. take n (drop offset text)) whole ∙ (take-add (later - offset) (to - later) (drop offset text) ∙
+    ap (λ zs. xs ++ take (to - later) zs) (drop-drop (later - offset) offset text ∙ ap (λ n. drop n text) next)) in
+    let enough = has_two-count text later to two in
+    has_two-intro text offset to (rw (split, chars-append xs ys (IsUtf8-between text offset later is le b c)) (omega (arith, length-append (chars xs) (chars ys), enough)))
+
+-- how many of the tokens end at least two characters before `to`; the first begins at `from`
+abbrev pub kept_front_from : List ℕ → ℕ → ℕ → List Token → ℕ
+kept_front_from text to from [] = 0
+kept_front_from text to from (t ∷ ts) = cond (has_two text (from + t.len) to) 1 0 + kept_front_from text to (from + t.len) ts
+
+pub kept_front_by : (text : List ℕ) (to from : ℕ) (ts : List Token) → count_by (λ end. has_two text end to) (ends_from from ts) ≡ kept_front_from text to from ts
+kept_front_by text to from [] = refl
+kept_front_by text to from (t ∷ ts) = grind (arith, common_steps, count-cons, kept_front_by text to (from + t.len) ts)
+
+-- the tokens past one that ends too late end too late
+pub front-none : (text : List ℕ) (to from : ℕ) (ts : List Token) → IsUtf8 text → ((k : ℕ) → k ≤ length ts → IsCharBoundary text (from + bound ts k)) → has_two text from to ≡ false → kept_front_from text to from ts ≡ 0
+front-none text to from [] is cuts out = refl
+front-none text to from (t ∷ ts) is cuts out =
+    let e0 : from + 0 ≡ from = omega arith in
+    let e1 : from + (t.len + 0) ≡ from + t.len = omega arith in
+    let here : IsCharBoundary text from = subst (IsCharBoundary text) e0 (cuts 0 (omega arith)) in
+    let next : IsCharBoundary text (from + t.len) = subst (IsCharBoundary text) e1 (cuts 1 (omega arith)) in
+    let none : has_two text (from + t.len) to ≡ false = false_from_ne_true (has_two text (from + t.len) to) (λ e. true≢false (sym (has_two-mono text from (from + t.len) to is (omega arith) here next e) ∙ out)) in
+    let rest : kept_front_from text to (from + t.len) ts ≡ 0 = front-none text to (from + t.len) ts is (λ k few. let e : from + (t.len + bound ts k) ≡ from + t.len + bound ts k = omega arith in subst (IsCharBoundary text) e (cuts (suc k) (omega arith))) none in
+    rw (none, rest) refl
+
+-- whether a second character stands past the first
+pub two_chars : (text : List ℕ) (from to : ℕ) (bs rest : List ℕ) (c : ℕ) → bs ≡ take (to - from) (drop from text) → IsUtf8 bs → bs ≡ encode_utf8 c ++ rest → is_some (slice_get (chars rest) 0) ≡ has_two text from to
+unfolding has_two
+two_chars text from to bs rest c e is split =
+    count (chars rest) ∙ sym (ap (λ xs. leb 2 (length (chars xs))) (sym e) ∙ ap (λ xs. leb 2 (length xs)) (chars_past_char bs rest c is split))
+  where
+    count : (cs : List ℕ) → is_some (slice_get cs 0) ≡ leb 2 (suc (length cs))
+    count [] = refl
+    count (x ∷ xs) = sym (le-leb 2 (suc (suc (length xs))) (omega arith))
+
+length-encodes : (cs : List ℕ) → length (encodes cs) ≤ 4 * length cs
+length-encodes [] = omega arith
+length-encodes (c ∷ cs) = omega (arith, length-append (encode_utf8 c) (encodes cs), length-encode c, (len_utf8_bounds c).1, length-encodes cs)
+
+-- a character has four bytes at most, so eight bytes hold two characters
+pub has_two-long : (text : List ℕ) (offset to : ℕ) → IsUtf8 text → IsCharBoundary text offset → IsCharBoundary text to → 8 ≤ to - offset → has_two text offset to ≡ true
+has_two-long text offset to is from until long =
+    let xs : List ℕ = take (to - offset) (drop offset text) in
+    let inside : to ≤ length text = until.0 in
+    let its : IsUtf8 xs = IsUtf8-between text offset to is (omega arith) from until in
+    let bytes : length xs ≡ to - offset = length-take-le (to - offset) (drop offset text) (omega (arith, length-drop offset text)) in
+    let enough : 2 ≤ length (chars xs) = omega (arith, bytes, ap length (encodes-chars xs its), length-encodes (chars xs)) in
+    has_two-intro text offset to enough
+
+-- what is put in place, where there is room for it
+pub put_is : {E : Type 0} (result : Result Unit E) (text insert new : List ℕ) (start stop len room : ℕ) → len + length insert ≤ room
+    → OnOk result (new ≡ replace_range text start stop insert) → OnErr result (room < len + length insert) → new ≡ apply text start stop insert
+unfolding apply
+put_is result text insert new start stop len room w8 w9 w10 = grind (arith, common_steps, append_assoc)
+
+-- a text is what stands before, inside and behind a range of it
+pub three_parts : (text : List ℕ) (start stop : ℕ) → start ≤ stop → take start text ++ (slice_range text start stop ++ drop stop text) ≡ text
+three_parts text start stop less =
+    let turned : stop ≡ start + (stop - start) = omega arith in
+    ap (λ back. take start text ++ (slice_range text start stop ++ back)) (ap (λ n. drop n text) turned ∙ sym (drop-drop (stop - start) start text))
+    ∙ (ap (λ rest. take start text ++ rest) (take-append-drop (stop - start) (drop start text)) ∙ take-append-drop start text)
+
+-- what was taken out is put back
+pub put_back : (text : List ℕ) (start stop : ℕ) (insert : List ℕ) → IsText text → IsUtf8 insert → IsEdit text start stop insert
+    → apply (apply text start stop insert) start (start + length insert) (slice_range text start stop) ≡ text
+unfolding apply
+put_back text start stop insert is its edit = grind (arith, common_steps, edited, three_parts)
+
+pub OnOk-map : {X Y : Type 0} {P Q : Type 0} (r : Result X Y) → (P → Q) → OnOk r P → OnOk r Q
+OnOk-map r w1 w2 = grind (arith, common_steps)
+
+pub ruleset edit_lemmas = (has_two-late, has_two-long)

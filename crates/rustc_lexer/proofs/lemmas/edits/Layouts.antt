@@ -1,0 +1,91 @@
+-- What an edit keeps, by all tokens of a text and by those of its body.
+use Rattle.std.proofs.Common.{◌≡◌, ◌⊎◌, inl, inr, ℕ, ◌+◌, ◌-◌, ◌≤◌, List, [], ◌∷◌, ◌++◌, length, refl, sym, ap, ◌∙◌, arith, length-append}
+use Rattle.std.proofs.Math.Seq.{drop-append_seam}
+use Rattle.std.proofs.lemmas.Bool.{cases_lt, eqb-false, eqb-true}
+use Rattle.std.proofs.lemmas.Grind.{common_steps}
+use Rattle.rustc_lexer.specs.{Token}
+use Rattle.rustc_lexer.specs.declared.relex.relexing.Relexed.{Relexed}
+use Rattle.rustc_lexer.specs.Edits.{body_in, IsMeeting, IsRelexed, KeepsHead, Layout, part_by, offset_in}
+use Rattle.rustc_lexer.specs.Tokens.{bound}
+use Rattle.rustc_lexer.specs.laws.Same.{same_token, token_same}
+use Rattle.rustc_lexer.specs.means.Relexing.{IsBodyMeeting, IsBodyRelexed}
+use Rattle.rustc_lexer.proofs.lemmas.edits.KeptFront.{bound-shift}
+
+pub offset-behind : (of : Layout) (k : ℕ) → offset_in of (length of.head + k) ≡ body_in of + bound of.body k
+offset-behind of k = grind (arith, common_steps, drop-append_seam, bound-shift)
+
+-- ---- a text without a head
+
+abbrev bare : List Token → Layout
+bare tokens = record { start = 0; head = []; body = tokens }
+
+module _ {old new : List Token} {old_stop new_stop number back : ℕ} where
+  pub part_meets : IsBodyMeeting old new old_stop new_stop number back → IsMeeting (bare old) (bare new) old_stop new_stop number back
+  part_meets m = grind (arith, common_steps)
+
+  pub body_meets : IsMeeting (bare old) (bare new) old_stop new_stop number back → IsBodyMeeting old new old_stop new_stop number back
+  body_meets m = grind (arith, common_steps)
+
+module _ (first : List ℕ → Token) (text : List ℕ) (start stop : ℕ) (insert : List ℕ) (r : Relexed) where
+  pub part_by_body : IsBodyRelexed first text start stop insert r → IsRelexed (part_by first) text start stop insert r
+  part_by_body is = record {
+    kept = λ k. omega (arith, is.front);
+    changed = λ none. absurd (none (omega arith, refl, refl));
+    meeting = part_meets is.meeting;
+    none_before = λ number back more less m. is.none_before number back more less (body_meets m);
+  }
+
+  pub body_by_part : IsRelexed (part_by first) text start stop insert r → IsBodyRelexed first text start stop insert r
+  body_by_part is = record {
+    front = omega (arith, is.kept (omega arith, refl, refl));
+    meeting = body_meets is.meeting;
+    none_before = λ number back more less m. is.none_before number back more less (part_meets m);
+  }
+
+-- ---- a text with a head: the bodies meet where all tokens do, as `more` is how far both bodies begin past the edit
+
+module _ (old new : Layout) (stop new_stop more body_stop new_body_stop : ℕ) (old_more : body_stop + body_in old ≡ stop + more) (new_more : new_body_stop + body_in new ≡ new_stop + more)
+    (least : (other : ℕ) → body_in old ≤ stop + other → body_in new ≤ new_stop + other → more ≤ other) where
+  pub meets : (number back : ℕ) → IsBodyMeeting old.body new.body body_stop new_body_stop number back → IsMeeting old new stop new_stop (length new.head + number) back
+  meets number back m = grind (arith, common_steps, m.past_edit, m.same_offset, offset-behind new number, offset-behind old m.old_number, length-append)
+
+  pub meets_behind : (number back : ℕ) → IsMeeting old new stop new_stop number back → IsBodyMeeting old.body new.body body_stop new_body_stop (number - length new.head) back
+  meets_behind number back m =
+      let old_head = m.past_old_head in
+      let past = m.past_edit in
+      let same = m.same_offset in
+      let n : length new.head + (number - length new.head) ≡ number = omega (arith, m.past_head) in
+      let i : length old.head + (m.old_number - length old.head) ≡ m.old_number = omega arith in
+      let at : offset_in new number ≡ body_in new + bound new.body (number - length new.head) = ap (offset_in new) (sym n) ∙ offset-behind new (number - length new.head) in
+      let old_at : offset_in old m.old_number ≡ body_in old + bound old.body (m.old_number - length old.head) = ap (offset_in old) (sym i) ∙ offset-behind old (m.old_number - length old.head) in
+      let far : more ≤ offset_in new number - new_stop = least (offset_in new number - new_stop) (omega (arith, same, past, old_at)) (omega (arith, past, at)) in
+      record {
+        number_inside = (let few = m.number_inside in omega (arith, few, length-append new.head new.body));
+        past_edit = omega (arith, far, past, at, new_more);
+        old_number = m.old_number - length old.head;
+        back_is = omega (arith, m.back_is, old_head, length-append old.head old.body);
+        same_offset = omega (arith, at, old_at, same, old_more, new_more);
+      }
+
+-- ---- whether the head is kept
+
+abbrev pub Decided : Type 0 → Type 0
+Decided P = P ⊎ (P → ⊥)
+
+all : {P Q R : Type 0} → Decided P → Decided Q → Decided R → Decided (P × Q × R)
+all w0 w1 w2 = grind (arith, common_steps)
+
+numbers : (a b : ℕ) → Decided (a ≡ b)
+numbers a b = grind (arith, common_steps, eqb-true, eqb-false)
+
+at_most : (a b : ℕ) → Decided (a ≤ b)
+at_most a b = grind (arith, common_steps, cases_lt)
+
+tokens : (xs ys : List Token) → Decided (xs ≡ ys)
+tokens [] [] = inl refl
+tokens [] (y ∷ ys) = inr (λ e. omega (arith, ap (λ (ts : List Token). length ts) e))
+tokens (x ∷ xs) [] = inr (λ e. omega (arith, ap (λ (ts : List Token). length ts) e))
+tokens (x ∷ xs) (y ∷ ys) = grind (arith, common_steps, same_token, all, token_same, tokens xs ys)
+
+pub keeps_head : (old new : Layout) (start : ℕ) → Decided (KeepsHead old new start)
+keeps_head old new start = all (at_most (body_in old) start) (numbers old.start new.start) (tokens old.head new.head)

@@ -1,0 +1,143 @@
+-- An edit of a whole document: the counts of its body give its own, and there are some.
+use Rattle.std.proofs.Common.{◌≡◌, ℕ, max, ◌+◌, ◌-◌, ◌<◌, ◌≤◌, Bool, true, false, true≢false, List, [], ◌∷◌, length, map, drop, refl, sym, ap, ap₂, ◌∙◌, subst, arith, drop-drop, IsCharBoundary, IsUtf8}
+use Rattle.std.proofs.Math.Nat.{le-max_left, le-max_right, max-le}
+use Rattle.std.specs.List.{count_by}
+use Rattle.std.proofs.lemmas.Grind.{common_steps}
+use Rattle.rustc_lexer.specs.{Token}
+use Rattle.rustc_lexer.specs.declared.relex.relexing.{Change.Change, Relexed.Relexed}
+use Rattle.rustc_lexer.specs.Classes.{IsText}
+use Rattle.rustc_lexer.specs.Document.{body_start, head_tokens, whole_by}
+use Rattle.rustc_lexer.specs.Edits.{apply, body_in, ends_from, IsEdit, IsMeeting, IsRelexed, KeepsHead, Layout}
+use Rattle.rustc_lexer.specs.Locality.{has_two, IsGrammar}
+use Rattle.rustc_lexer.specs.Relexing.{IsMadeOf}
+use Rattle.rustc_lexer.specs.Tokens.{bound, tokens_by}
+use Rattle.rustc_lexer.specs.means.Document.{body_change, body_insert}
+use Rattle.rustc_lexer.specs.means.Relexing.{IsBodyMeeting, IsBodyRelexed, kept_front}
+use Rattle.rustc_lexer.proofs.lemmas.edits.DocumentEdits.{relexed-front}
+use Rattle.rustc_lexer.proofs.lemmas.edits.BodyEdits.{made_body}
+use Rattle.rustc_lexer.proofs.lemmas.edits.DocumentPage.{ahead, At, body_at, body_by, end_is}
+use Rattle.rustc_lexer.proofs.lemmas.edits.FrontAndBack.{edited, kept_front_by, kept_front_from}
+use Rattle.rustc_lexer.proofs.lemmas.edits.Layouts.{meets, meets_behind}
+
+-- ---- the front, by offsets of the text and of what follows an offset
+
+pub two_behind : (text : List ℕ) (from end to : ℕ) → has_two (drop from text) end (to - from) ≡ has_two text (from + end) to
+unfolding has_two
+two_behind text from end to = grind (arith, common_steps, drop-drop)
+
+front_behind : (text : List ℕ) (from at to : ℕ) (tokens : List Token) → kept_front_from (drop from text) (to - from) at tokens ≡ kept_front_from text to (from + at) tokens
+front_behind text from at to [] = refl
+front_behind text from at to (t ∷ ts) = grind (arith, common_steps, two_behind, front_behind text from (at + t.len) to ts)
+
+fronts : (text : List ℕ) (from to : ℕ) (tokens : List Token) → kept_front (drop from text) tokens (to - from) ≡ count_by (λ end. has_two text end to) (ends_from from tokens)
+fronts text from to tokens =
+    let here : from + 0 ≡ from = omega arith in
+    kept_front_by (drop from text) (to - from) 0 tokens ∙ (front_behind text from 0 to tokens ∙ (ap (λ n. kept_front_from text to n tokens) here ∙ sym (kept_front_by text to from tokens)))
+
+-- ---- an edit
+
+module _ {first : List ℕ → Token} (law : IsGrammar first) (text insert : List ℕ) (start stop : ℕ) (is : IsText text) (its : IsUtf8 insert) (edit : IsEdit text start stop insert) where
+  abbrev made : List ℕ
+  made = apply text start stop insert
+
+  pub made_is : IsText made
+  made_is = (edited text start stop insert is its edit).text_is
+
+  abbrev old : Layout
+  old = whole_by first text
+
+  abbrev new : Layout
+  new = whole_by first made
+
+  abbrev from : ℕ
+  from = body_start text
+
+  abbrev to : ℕ
+  to = body_start made
+
+  abbrev whole : Change
+  whole = record { start = start; old_stop = stop; new_stop = start + length insert }
+
+  abbrev change : Bool → Change
+  change kept = body_change kept from to whole
+
+  abbrev put : Bool → List ℕ
+  put kept = body_insert kept (change kept) insert (drop to made)
+
+  abbrev Ahead : Bool → Type 0
+  Ahead kept = kept ≡ true → (from ≡ to) × (from ≤ start)
+
+  body_made : (kept : Bool) → Ahead kept → IsMadeOf first (drop from text) (map (λ (t : Token). t.len) (tokens_by first (drop from text))) (change kept) (put kept) (drop to made)
+  body_made kept same =
+      let old_at = subst (λ n. IsCharBoundary text n) (end_is text is) (ahead text is).boundary in
+      let now_at = subst (λ n. IsCharBoundary made n) (end_is made made_is) (ahead made made_is).boundary in
+      made_body law text insert made start stop is its edit refl from to old_at now_at (tokens_by first (drop from text)) refl (drop to made) refl kept same
+
+  -- boundaries of the body's edit, by the new body and the end of its change
+  module _ (kept : Bool) (same : Ahead kept) (number back : ℕ) where
+    abbrev Meeting : List ℕ → ℕ → Type 0
+    Meeting body end = IsBodyMeeting old.body (tokens_by first body) (change kept).old_stop end number back
+
+    of_edit : Meeting (apply (drop from text) (change kept).start (change kept).old_stop (put kept)) ((change kept).start + length (put kept)) → Meeting (drop to made) (change kept).new_stop
+    of_edit m = grind (arith, common_steps, body_made)
+
+    to_edit : Meeting (drop to made) (change kept).new_stop → Meeting (apply (drop from text) (change kept).start (change kept).old_stop (put kept)) ((change kept).start + length (put kept))
+    to_edit m = grind (arith, common_steps, (body_made kept same).edit_of, ((body_made kept same).edit_of).new_stop, ((body_made kept same).edit_of).made, m)
+
+  same_end : KeepsHead old new start → from ≡ to
+  same_end k = body_by text ∙ (ap₂ (λ n (ts : List Token). n + bound ts (length ts)) k.1 k.2 ∙ sym (body_by made))
+
+  -- how far the body's change goes past the edit
+  abbrev more : Bool → ℕ
+  more true = 0
+  more false = max (from - stop) (to - (start + length insert))
+
+  record IsPast (kept : Bool) : Type 0 where
+    pub old_more : (change kept).old_stop + body_in old ≡ stop + more kept
+    pub new_more : (change kept).new_stop + body_in new ≡ start + length insert + more kept
+    pub least : (other : ℕ) → body_in old ≤ stop + other → body_in new ≤ start + length insert + other → more kept ≤ other
+
+  past : (kept : Bool) → Ahead kept → IsPast kept
+  past kept w1 = grind (arith, common_steps, body_at, le-max_left, le-max_right, max-le)
+
+  module _ (kept : Bool) (same : Ahead kept) (r x : Relexed) (is_body : IsBodyRelexed first (drop from text) (change kept).start (change kept).old_stop (put kept) x) (sum : r.kept_front + r.lexed ≡ length new.head + (x.kept_front + x.lexed)) (back_is : r.kept_back ≡ x.kept_back) where
+    meeting : IsMeeting old new stop (start + length insert) (r.kept_front + r.lexed) r.kept_back
+    meeting =
+        let p = past kept same in
+        let there = of_edit kept same _ _ is_body.meeting in
+        let all = meets old new stop (start + length insert) (more kept) (change kept).old_stop (change kept).new_stop p.old_more p.new_more p.least _ _ there in
+        subst (IsMeeting old new stop (start + length insert) (r.kept_front + r.lexed)) (sym back_is) (subst (λ n. IsMeeting old new stop (start + length insert) n x.kept_back) (sym sum) all)
+
+    none_before : (number back : ℕ) → (length new.head ≤ number → x.kept_front ≤ number - length new.head) → number < r.kept_front + r.lexed → IsMeeting old new stop (start + length insert) number back → ⊥
+    none_before number back near less m =
+        let p = past kept same in
+        let head = m.past_head in
+        let body = meets_behind old new stop (start + length insert) (more kept) (change kept).old_stop (change kept).new_stop p.old_more p.new_more p.least number back m in
+        is_body.none_before (number - length new.head) back (near head) (omega (arith, sum, head, less)) (to_edit kept same _ _ body)
+
+  -- the counts of the body give those of the document
+  pub relexed_as : (kept : Bool) → (kept ≡ true → KeepsHead old new start) → (kept ≡ false → KeepsHead old new start → ⊥) → (r : Relexed) → At first text insert start stop is made_is kept from to (head_tokens text) (head_tokens made) r → IsRelexed (whole_by first) text start stop insert r
+  relexed_as true stays changes r (x, is_body, counts) =
+      let k = stays refl in
+      let begin = body_at first text in
+      let heads : length old.head ≡ length new.head = ap (λ (ts : List Token). length ts) k.2 in
+      let front : r.kept_front ≡ length old.head + x.kept_front = ap (λ (c : Relexed). c.kept_front) counts in
+      let lexed : r.lexed ≡ x.lexed = ap (λ (c : Relexed). c.lexed) counts in
+      let here : Ahead true = λ e. (same_end k, omega (arith, begin, k.0)) in
+      record {
+        kept = λ again. front ∙ ap (λ n. length old.head + n) (is_body.front ∙ (fronts text from start old.body ∙ ap (λ n. count_by (λ end. has_two text end start) (ends_from n old.body)) (sym begin)));
+        changed = λ none. absurd (none k);
+        meeting = meeting true here r x is_body (omega (arith, front, lexed, heads)) (ap (λ (c : Relexed). c.kept_back) counts);
+        none_before = λ number back near less m. none_before true here r x is_body (omega (arith, front, lexed, heads)) (ap (λ (c : Relexed). c.kept_back) counts) number back (λ head. omega (arith, near, front, heads)) less m;
+      }
+  relexed_as false stays changes r (x, is_body, counts) =
+      let none : x.kept_front ≡ 0 = relexed-front is_body in
+      let front : r.kept_front ≡ x.kept_front = ap (λ (c : Relexed). c.kept_front) counts in
+      let lexed : r.lexed ≡ length new.head + x.lexed = ap (λ (c : Relexed). c.lexed) counts in
+      let here : Ahead false = λ e. absurd (true≢false (sym e)) in
+      record {
+        kept = λ k. absurd (changes refl k);
+        changed = λ gone. front ∙ none;
+        meeting = meeting false here r x is_body (omega (arith, front, lexed)) (ap (λ (c : Relexed). c.kept_back) counts);
+        none_before = λ number back near less m. none_before false here r x is_body (omega (arith, front, lexed)) (ap (λ (c : Relexed). c.kept_back) counts) number back (λ head. omega (arith, none)) less m;
+      }

@@ -1,0 +1,4 @@
+pub mod Apart
+pub mod Joined
+pub mod Separators
+pub mod Sure

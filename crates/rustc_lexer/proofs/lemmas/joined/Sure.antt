@@ -1,0 +1,178 @@
+-- A text that grows at its end: what comes past a bound that is sure decides whether its tokens stay, and that bound moves on.
+use Rattle.std.proofs.Common.{◌≡◌, ◌↔◌, ℕ, zero, suc, ◌+◌, ◌-◌, ◌^◌, ◌<◌, ◌≤◌, true, List, ◌++◌, codes, length, take, drop, refl, sym, ap, ◌∙◌, subst, arith, length-append, length-drop, length-take, length-take-le, take-append-drop, drop-drop, take_all, chars, IsUtf8, IsCharBoundary}
+use Rattle.std.proofs.lemmas.Grind.{common_steps}
+use Rattle.std.proofs.lemmas.List.{drop-take}
+use Rattle.std.proofs.lemmas.Str.{IsCharBoundary-from_drop, IsUtf8-append, IsUtf8-between, IsUtf8-drop, IsUtf8-take, chars-append}
+use Rattle.rustc_lexer.specs.{Edition, Token}
+use Rattle.rustc_lexer.specs.Answers.{first_in}
+use Rattle.rustc_lexer.specs.Classes.{IsText}
+use Rattle.rustc_lexer.specs.Joined as the
+use Rattle.rustc_lexer.specs.Joined.{IsJoined, MayTouch, TailDecides}
+use Rattle.rustc_lexer.specs.Locality.{AgreePast, IsGrammar, IsSettled, has_two}
+use Rattle.rustc_lexer.specs.Partition.{bound, tokens_by}
+use Rattle.rustc_lexer.specs.laws.Cuts.{IsCutAt, at_bound, tokens_local}
+use Rattle.rustc_lexer.specs.laws.Edition.{edition_grammar}
+use Rattle.rustc_lexer.specs.means.Joined.{IsSure}
+use Rattle.rustc_lexer.proofs.lemmas.edits.FrontAndBack.{bound-same, has_two-agree, has_two-before, has_two-count, has_two-intro, has_two-same}
+use Rattle.rustc_lexer.proofs.lemmas.edits.KeptFront.{bound-shift}
+use Rattle.rustc_lexer.proofs.lemmas.joined.Joined.{IsSplit, drop-front, near_touch, sure_split, sure_stays}
+
+pub sure_start : (edition : Edition) (text : List ℕ) → IsSure (first_in edition) text 0
+sure_start edition text = record { number = 0; few = omega arith; offset_is = refl; two = λ some. absurd (omega (arith, some)) }
+
+module _ {first : List ℕ → Token} (law : IsGrammar first) where
+  pub sure_place : (text : List ℕ) (from : ℕ) → IsText text → IsSure first text from → IsCharBoundary text from
+  sure_place text from is at =
+      let cut : IsCutAt first text (tokens_by first text) at.number = at_bound law at.number text is in
+      subst (IsCharBoundary text) at.offset_is (IsCharBoundary-from_drop text (bound (tokens_by first text) at.number) cut.inside cut.past.utf8)
+
+  -- two characters past an offset stay there
+  two_more : (text more : List ℕ) (from : ℕ) → IsText text → IsCharBoundary text from → has_two text from (length text) ≡ true → has_two (text ++ more) from (length (text ++ more)) ≡ true
+  two_more text more from is cut two =
+      let rest : List ℕ = drop from text in
+      let size : length rest ≡ length text - from = length-drop from text in
+      let all : take (length text - from) rest ≡ rest = take_all (length text - from) rest (omega (arith, size)) in
+      let enough : 2 ≤ length (chars rest) = subst (λ (xs : List ℕ). 2 ≤ length (chars xs)) all (has_two-count text from (length text) two) in
+      let its : drop from (text ++ more) ≡ rest ++ more = drop-front from text more cut.0 in
+      let its_all : take (length (text ++ more) - from) (drop from (text ++ more)) ≡ rest ++ more =
+      take_all (length (text ++ more) - from) (drop from (text ++ more)) (omega (arith, length-drop from (text ++ more))) ∙ its in
+      let long : 2 ≤ length (chars (rest ++ more)) = omega (arith, enough, ap length (chars-append rest more (IsUtf8-drop text from is.utf8 cut)), length-append (chars rest) (chars more)) in
+      has_two-intro (text ++ more) from (length (text ++ more)) (subst (λ (xs : List ℕ). 2 ≤ length (chars xs)) (sym its_all) long)
+
+  sure_grown : (text more : List ℕ) (from : ℕ) → IsText text → IsText (text ++ more) → IsSure first text from → IsSure first (text ++ more) from
+  sure_grown text more from is whole at =
+      let k : ℕ = at.number in
+      let same : take k (tokens_by first (text ++ more)) ≡ take k (tokens_by first text) = sure_stays law text more from k is whole at.few at.offset_is at.two in
+      record {
+        number = k;
+        few = (let few = at.few in omega (arith, ap length same, length-take k (tokens_by first (text ++ more)), length-take k (tokens_by first text)));
+        offset_is = bound-same k (tokens_by first (text ++ more)) (tokens_by first text) same ∙ at.offset_is;
+        two = λ some. two_more text more from is (sure_place text from is at) (at.two some);
+      }
+
+  -- what is sure in a text is so in one that ends before, but two characters later
+  pub sure_cut : (text : List ℕ) (from at : ℕ) → IsText text → IsCharBoundary text at → IsSure first text from → has_two text from at ≡ true → IsSure first (take at text) from
+  sure_cut text from at is cut here two =
+      let k : ℕ = here.number in
+      let left : List ℕ = take at text in
+      let size : length left ≡ at = length-take-le at text cut.0 in
+      let left_is : IsText left = record { utf8 = IsUtf8-take text at is.utf8 cut; fits = omega (arith, size, cut.0, is.fits) } in
+      let short : take at left ≡ take at text = take_all at left (omega (arith, size)) in
+      let middle : IsUtf8 (take (at - from) (drop from text)) = IsUtf8-between text from at is.utf8 (omega (arith, has_two-before text from at two)) (sure_place text from is here) cut in
+      let past : AgreePast (bound (tokens_by first text) k) text left = subst (λ (p : ℕ). AgreePast p text left) (sym here.offset_is) (has_two-agree text left from at middle short two) in
+      let same : take k (tokens_by first left) ≡ take k (tokens_by first text) = tokens_local law k text left is left_is here.few past in
+      record {
+        number = k;
+        few = (let few = here.few in omega (arith, ap length same, length-take k (tokens_by first left), length-take k (tokens_by first text)));
+        offset_is = bound-same k (tokens_by first left) (tokens_by first text) same ∙ here.offset_is;
+        two = λ some. subst (λ (n : ℕ). has_two left from n ≡ true) (sym size) (has_two-same left text from at short ∙ two);
+      }
+
+  -- the bound of the end of a text is one of the text
+  pub sure_on : (text : List ℕ) (from more : ℕ) → IsText text → IsSure first text from → IsSettled (drop from text) (tokens_by first (drop from text)) more → IsSure first text (from + more)
+  sure_on text from more is at settled =
+      let k : ℕ = at.number in
+      let j : ℕ = settled.at_bound.0 in
+      let tokens : List Token = tokens_by first text in
+      let cut : IsCutAt first text tokens k = at_bound law k text is in
+      let rest : drop k tokens ≡ tokens_by first (drop from text) = cut.rest ∙ ap (λ (p : ℕ). tokens_by first (drop p text)) at.offset_is in
+      let few : j ≤ length (tokens_by first (drop from text)) = settled.at_bound.1 in
+      let place : bound (drop k tokens) j ≡ more = ap (λ (ts : List Token). bound ts j) rest ∙ settled.at_bound.2 in
+      record {
+        number = k + j;
+        few = (let here = at.few in omega (arith, few, ap length rest, length-drop k tokens));
+        offset_is = omega (arith, bound-shift tokens k j, place, at.offset_is);
+        two = two more refl;
+      }
+    where
+      two : (n : ℕ) → n ≡ more → 0 < from + more → has_two text (from + more) (length text) ≡ true
+      two zero e some =
+          let none : from + more ≡ from = omega arith in
+          subst (λ (p : ℕ). has_two text p (length text) ≡ true) (sym none) (at.two (omega arith))
+      two (suc n) e some =
+          let count = has_two-count (drop from text) more (length (drop from text)) (settled.two (omega arith)) in
+          let size : length (drop from text) - more ≡ length text - (from + more) = omega (arith, length-drop from text) in
+          let same : take (length (drop from text) - more) (drop more (drop from text)) ≡ take (length text - (from + more)) (drop (from + more) text) = ap (λ (m : ℕ). take m (drop more (drop from text))) size ∙ ap (take (length text - (from + more))) (drop-drop more from text) in
+          has_two-intro text (from + more) (length text) (subst (λ (xs : List ℕ). 2 ≤ length (chars xs)) same count)
+
+module _ (edition : Edition) where
+  abbrev law : IsGrammar (first_in edition)
+  law = edition_grammar edition
+
+  abbrev first : List ℕ → Token
+  first = first_in edition
+
+  pub sure_place_in : (text : List ℕ) (from : ℕ) → IsText text → IsSure first text from → IsCharBoundary text from
+  sure_place_in = sure_place law
+
+  pub sure_cut_in : (text : List ℕ) (from at : ℕ) → IsText text → IsCharBoundary text at → IsSure first text from → has_two text from at ≡ true → IsSure first (take at text) from
+  sure_cut_in = sure_cut law
+
+  -- ---- what comes past a bound decides
+
+  pub tail-decides : (text : List ℕ) (at : ℕ) → IsText text → IsCharBoundary text at → TailDecides edition (take at text) (drop at text)
+  tail-decides text at is cut =
+      let left : List ℕ = take at text in
+      let left_is : IsText left = record { utf8 = IsUtf8-take text at is.utf8 cut; fits = omega (arith, length-take at text, is.fits) } in
+      λ k few two. near_touch law left (drop at text) (bound (tokens_by first left) k) (tokens_by first (drop at text))
+      (sure_split law left (drop at text) (bound (tokens_by first left) k) left_is (subst IsText (sym (take-append-drop at text)) is) record { number = k; few = few; offset_is = refl; two = λ some. two })
+
+  pub record IsNear (text : List ℕ) (sure at : ℕ) : Type 0 where
+    pub inside : sure ≤ at
+    pub boundary : IsCharBoundary text sure
+    pub at_boundary : IsCharBoundary (drop sure text) (at - sure)
+    pub touch : MayTouch edition (take (at - sure) (drop sure text)) (drop (at - sure) (drop sure text)) ↔ MayTouch edition (take at text) (drop at text)
+
+  pub near : (text : List ℕ) (sure at : ℕ) → IsText text → IsCharBoundary text at → IsSure first (take at text) sure → IsNear text sure at
+  near text sure at is cut here =
+      let left : List ℕ = take at text in
+      let right : List ℕ = drop at text in
+      let left_is : IsText left = record { utf8 = IsUtf8-take text at is.utf8 cut; fits = omega (arith, length-take at text, is.fits) } in
+      let whole : left ++ right ≡ text = take-append-drop at text in
+      let split : IsSplit first left right sure = sure_split law left right sure left_is (subst IsText (sym whole) is) here in
+      let touch = near_touch law left right sure (tokens_by first right) split in
+      let few : sure ≤ at = (let i = split.inside in omega (arith, length-take-le at text cut.0)) in
+      let sum : sure + (at - sure) ≡ at = omega arith in
+      let past : drop sure text ≡ drop sure left ++ right = ap (drop sure) (sym whole) ∙ drop-front sure left right split.inside in
+      let front : take (at - sure) (drop sure text) ≡ drop sure left = sym (ap (λ (n : ℕ). drop sure (take n text)) (sym sum) ∙ drop-take sure (at - sure) text) in
+      let back : drop (at - sure) (drop sure text) ≡ right = drop-drop (at - sure) sure text ∙ ap (λ (n : ℕ). drop n text) sum in
+      let right_utf8 : IsUtf8 right = IsUtf8-drop text at is.utf8 cut in
+      let utf8 : IsUtf8 (drop sure text) = subst IsUtf8 (sym past) (IsUtf8-append (drop sure left) right (IsUtf8-drop left sure left_is.utf8 (sure_place law left sure left_is here)) right_utf8) in
+      record {
+        inside = few;
+        boundary = IsCharBoundary-from_drop text sure (omega (arith, few, cut.0)) utf8;
+        at_boundary = IsCharBoundary-from_drop (drop sure text) (at - sure) (omega (arith, few, cut.0, length-drop sure text)) (subst IsUtf8 (sym back) right_utf8);
+        touch = rw (front, back) (touch.1, touch.0);
+      }
+
+  -- ---- a text past a piece
+
+  -- what a piece adds to a text
+  record IsMore (text piece new : List ℕ) : Type 0 where
+    more : List ℕ
+    new_is : new ≡ text ++ more
+    short : length more ≤ length piece + 1
+
+  joined_more : {text piece new : List ℕ} → IsJoined edition text piece new → IsMore text piece new
+  joined_more {piece = piece} (the.touching touch) = record { more = piece; new_is = refl; short = omega arith }
+  joined_more {piece = piece} (the.spaced apart parted) = record { more = codes " " ++ piece; new_is = refl; short = omega arith }
+  joined_more {piece = piece} (the.on_a_line apart spaced parted) = record { more = codes "\n" ++ piece; new_is = refl; short = omega arith }
+
+  -- no other text is joined so
+  pub joined-only : {text piece one other : List ℕ} → IsJoined edition text piece one → IsJoined edition text piece other → other ≡ one
+  joined-only w0 w1 = grind (arith, common_steps)
+
+  -- what was sure is so in the new text
+  pub record IsGrown (new : List ℕ) (from : ℕ) : Type 0 where
+    pub is : IsText new
+    pub sure : IsSure first new from
+
+  pub grown : (text held piece new : List ℕ) (from : ℕ) → IsText text → IsSure first text from → held ≡ text → length text + (length piece + 1) < 2 ^ 32 → IsJoined edition held piece new → IsUtf8 new → IsGrown new from
+  grown text held piece new from is at same room joined utf8 =
+      let m : IsMore held piece new = joined_more joined in
+      let whole : new ≡ text ++ m.more = m.new_is ∙ ap (λ (xs : List ℕ). xs ++ m.more) same in
+      let new_is : IsText new = record { utf8 = utf8; fits = omega (arith, m.short, room, ap length whole, length-append text m.more) } in
+      record {
+        is = new_is;
+        sure = subst (λ (xs : List ℕ). IsSure first xs from) (sym whole) (sure_grown law text m.more from is (subst IsText whole new_is) at);
+      }

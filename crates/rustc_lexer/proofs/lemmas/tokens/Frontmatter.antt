@@ -1,0 +1,73 @@
+-- How a frontmatter opens, by the token that is there otherwise.
+use Rattle.std.proofs.Common.{◌≡◌, ℕ, ◌==◌, true, false, List, [], ◌∷◌, drop, refl, sym, ap, ◌∙◌, arith}
+use Rattle.std.specs.List.{starts_with}
+use Rattle.std.specs.Str.{chars, IsUtf8}
+use Rattle.std.proofs.lemmas.Bool.{eqb-true}
+use Rattle.std.proofs.lemmas.Grind.{common_steps}
+use Rattle.unicode_ident.proofs.Computing.{unicode_ident}
+use Rattle.rustc_lexer.specs.{Edition, Token, Minus, Whitespace}
+use Rattle.rustc_lexer.specs.Classes.{is_whitespace}
+use Rattle.rustc_lexer.specs.FrontmatterGrammar.{fence}
+use Rattle.rustc_lexer.specs.Tables.{emoji_ranges, is_emoji}
+use Rattle.rustc_lexer.specs.declared.lexemes.family.Family.TheVariants.{Symbol}
+use Rattle.rustc_lexer.specs.means.Edition.{first_token_in}
+use Rattle.rustc_lexer.specs.means.Frontmatter.{is_dash, opens, spaces_len}
+use Rattle.rustc_lexer.specs.means.Lexeme.{first_token, lexeme, past_first, read_by}
+use Rattle.rustc_lexer.specs.means.Scan.{begins, bytes_of, past}
+use Rattle.rustc_lexer.specs.laws.Choice.{by_either}
+use Rattle.rustc_lexer.specs.laws.Frontmatter.{opens-other}
+use Rattle.rustc_lexer.specs.laws.LanguageClosing.{begins-encode}
+use Rattle.rustc_lexer.specs.laws.LanguageRuns.{chooses, chooses-space}
+use Rattle.rustc_lexer.specs.laws.Past.{past-drop}
+use Rattle.rustc_lexer.proofs.lemmas.tokens.Editions.{older}
+use Rattle.rustc_lexer.proofs.lemmas.tokens.Search.{starts-begins}
+
+-- the token of a text that begins with white space, and with a dash
+lexeme-space : (c : ℕ) (s : List ℕ) → is_whitespace c ≡ true → lexeme (c ∷ s) ≡ (Whitespace, spaces_len (c ∷ s))
+lexeme-space c s e = rw (chooses-space c e, e) refl
+
+chooses-dash : past_first 45 ≡ read_by Symbol 45
+unfolding unicode_ident is_emoji emoji_ranges
+chooses-dash = chooses 45 Symbol refl
+
+lexeme-dash : (s : List ℕ) → lexeme (45 ∷ s) ≡ (Minus, 1)
+lexeme-dash s = rw chooses-dash refl
+
+opens-none : (s : List ℕ) → begins (fence 3) (drop (spaces_len s) s) ≡ false → opens s ≡ false
+opens-none s none = rw none refl
+
+module _ (edition : Edition) (text : List ℕ) (is : IsUtf8 text) where
+  token-space : (c : ℕ) (s : List ℕ) → chars text ≡ c ∷ s → is_whitespace c ≡ true → first_token_in edition text ≡ record { kind = Whitespace; len = bytes_of (spaces_len (chars text)) (chars text) }
+  unfolding first_token
+  token-space c s e w = grind (arith, common_steps, lexeme-space, older)
+
+  token-dash : (s : List ℕ) → chars text ≡ 45 ∷ s → first_token_in edition text ≡ record { kind = Minus; len = bytes_of 1 (chars text) }
+  unfolding first_token
+  token-dash s e = grind (arith, common_steps, lexeme-dash, older)
+
+  -- dashes in bytes and in characters
+  dashes : (n : ℕ) → starts_with (λ x y. x == y) (drop (bytes_of n (chars text)) text) (fence 3) ≡ begins (fence 3) (drop n (chars text))
+  unfolding past
+  dashes n =
+      starts-begins (drop (bytes_of n (chars text)) text) (fence 3) _ refl
+      ∙ (ap (begins (fence 3)) (sym (past-drop n text is)) ∙ begins-encode (fence 3) (drop n (chars text)) refl)
+
+  by_first : (cs : List ℕ) (token : Token) → chars text ≡ cs → token ≡ first_token_in edition text → (token.kind ≡ Whitespace → starts_with (λ x y. x == y) (drop token.len text) (fence 3) ≡ false) → (token.kind ≡ Minus → starts_with (λ x y. x == y) text (fence 3) ≡ false) → opens cs ≡ false
+  by_first [] token e is_first no_space no_dash = refl
+  by_first (c ∷ s) token e is_first no_space no_dash = by_either (is_whitespace c)
+      (λ w.
+      let at : token ≡ record { kind = Whitespace; len = bytes_of (spaces_len (chars text)) (chars text) } = is_first ∙ token-space c s e w in
+      let none = no_space (ap (λ (t : Token). t.kind) at) in
+      let len : token.len ≡ bytes_of (spaces_len (chars text)) (chars text) = ap (λ (t : Token). t.len) at in
+      let begins_none : begins (fence 3) (drop (spaces_len (chars text)) (chars text)) ≡ false = sym (dashes (spaces_len (chars text))) ∙ (ap (λ n. starts_with (λ x y. x == y) (drop n text) (fence 3)) (sym len) ∙ none) in
+      opens-none (c ∷ s) (ap (λ (cs : List ℕ). begins (fence 3) (drop (spaces_len cs) cs)) (sym e) ∙ begins_none))
+      (λ w. by_either (is_dash c)
+      (λ d.
+      let at : chars text ≡ 45 ∷ s = e ∙ ap (λ (b : ℕ). b ∷ s) (eqb-true c 45 d) in
+      let none = no_dash (ap (λ (t : Token). t.kind) (is_first ∙ token-dash s at)) in
+      let begins_none : begins (fence 3) (chars text) ≡ false = sym (dashes 0) ∙ none in
+      opens-none (c ∷ s) (rw w (ap (begins (fence 3)) (sym e) ∙ begins_none)))
+      (λ d. opens-other (c ∷ s) (rw (d, w) refl)))
+
+  pub opens_not : (token : Token) → token ≡ first_token_in edition text → (token.kind ≡ Whitespace → starts_with (λ x y. x == y) (drop token.len text) (fence 3) ≡ false) → (token.kind ≡ Minus → starts_with (λ x y. x == y) text (fence 3) ≡ false) → opens (chars text) ≡ false
+  opens_not token is_first no_space no_dash = by_first (chars text) token refl is_first no_space no_dash

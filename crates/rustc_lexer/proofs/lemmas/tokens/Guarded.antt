@@ -1,0 +1,119 @@
+-- Guarded strings: what is taken of a text.
+use Rattle.std.proofs.Common.{◌≡◌, ℕ, suc, ◌+◌, ◌-◌, ◌≤◌, min, Bool, true, false, if◌then◌else◌, List, [], ◌∷◌, length, drop, drop-drop, sym, ap, ◌∙◌, arith, subst, Option, Some, None}
+use Rattle.std.specs.Str.{chars, IsUtf8, IsCharBoundary}
+use Rattle.std.proofs.lemmas.Str.{IsCharBoundary-from_drop}
+use Rattle.std.proofs.lemmas.Grind.{common_steps}
+use Rattle.rustc_lexer.specs.{GuardedStr}
+use Rattle.rustc_lexer.specs.means.Guarded.{closing_len, guarded_body, string_past, guarded_by, take_guarded}
+use Rattle.rustc_lexer.specs.means.Literal.{suffix_len}
+use Rattle.rustc_lexer.specs.means.Quoted.{double_quoted_string}
+use Rattle.rustc_lexer.specs.means.Raw.{hash_run, is_quote}
+use Rattle.rustc_lexer.specs.means.Scan.{begins, bytes_of, next_is, past, scanned}
+use Rattle.rustc_lexer.specs.LanguageText.{Mode}
+use Rattle.rustc_lexer.specs.State.{State}
+use Rattle.rustc_lexer.specs.laws.Past.{past-past, past-drop, chars-past, IsUtf8-past, length-past}
+use Rattle.rustc_lexer.proofs.lemmas.tokens.ByteSearch.{begins-byte}
+use Rattle.rustc_lexer.proofs.lemmas.tokens.Raw.{hash_bytes}
+use Rattle.rustc_lexer.specs.laws.State.{state}
+
+-- some of the hashes at the front
+module _ (rest : List ℕ) (is : IsUtf8 rest) (n : ℕ) (few : n ≤ hash_run (chars rest)) where
+  hash_bytes_are : bytes_of n (chars rest) ≡ n
+  hash_bytes_are = hash_bytes n (chars rest) few
+
+  pub hash_cut : drop n rest ≡ past n rest
+  hash_cut = sym (past-drop n rest is ∙ ap (λ (m : ℕ). drop m rest) hash_bytes_are)
+
+  pub hash_boundary : IsCharBoundary rest n
+  hash_boundary = IsCharBoundary-from_drop rest n (let l = length-past n rest is in let b = hash_bytes_are in omega arith) (subst IsUtf8 (sym hash_cut) (IsUtf8-past n rest is))
+
+-- a string that is closed, with the hashes and the suffix after its quote
+module _ (body left mid end : List ℕ) (n : ℕ) (closed : Bool) (is : IsUtf8 body) (read : (closed, left) ≡ scanned double_quoted_string body)
+    (cut : mid ≡ past (min n (hash_run (chars left))) left) (suffix : end ≡ past (suffix_len (chars mid)) mid) where
+  abbrev q : ℕ
+  q = (double_quoted_string (chars body)).1
+
+  abbrev ahead : List ℕ
+  ahead = drop q (chars body)
+
+  abbrev m : ℕ
+  m = min n (hash_run ahead)
+
+  left_is : left ≡ past q body
+  left_is = ap (λ (r : Bool × List ℕ). r.1) read
+
+  left_chars : chars left ≡ ahead
+  left_chars = ap chars left_is ∙ chars-past q body is
+
+  mid_is : mid ≡ past (q + m) body
+  mid_is = cut ∙ (ap (λ (s : List ℕ). past (min n (hash_run s)) left) left_chars ∙ (ap (past m) left_is ∙ past-past m q body is))
+
+  mid_chars : chars mid ≡ drop m ahead
+  mid_chars = ap chars mid_is ∙ (chars-past (q + m) body is ∙ sym (drop-drop m q (chars body)))
+
+  end_is : end ≡ past (q + closing_len n ahead) body
+  end_is = grind (arith, common_steps, mid_chars, mid_is, past-past)
+
+  pub closed_read : closed ≡ true → (true, end) ≡ scanned (guarded_body n) body
+  closed_read t = grind (arith, common_steps, end_is)
+
+-- what follows the n hashes at the front
+module _ (rest front : List ℕ) (n : ℕ) (is : IsUtf8 rest) (count : n ≡ hash_run (chars rest)) (cut : front ≡ drop n rest) where
+  front_is : front ≡ past n rest
+  front_is = cut ∙ hash_cut rest is n (omega arith)
+
+  quote_next : next_is is_quote (drop n (chars rest)) ≡ begins (34 ∷ []) (chars front)
+  quote_next = sym (ap (next_is is_quote) (ap chars front_is ∙ chars-past n rest is)) ∙ begins-byte 34 (chars front)
+
+  abbrev body_read : Bool × ℕ
+  body_read = guarded_body n (drop (suc n) (chars rest))
+
+  abbrev chosen : Bool → Option (Bool × ℕ)
+  chosen b = if b then Some (body_read.0, bytes_of (suc n + body_read.1) (chars rest)) else None
+
+  pub no_string : begins (34 ∷ []) (chars front) ≡ false → None ≡ string_past n (chars rest)
+  no_string e = sym (ap chosen (quote_next ∙ e))
+
+  module _ (body left : List ℕ) (closed : Bool) (body_cut : body ≡ past 1 front) (read : (closed, left) ≡ scanned (guarded_body n) body) where
+    one : n + 1 ≡ suc n
+    one = omega arith
+
+    body_is : body ≡ past (n + 1) rest
+    body_is = body_cut ∙ (ap (past 1) front_is ∙ past-past 1 n rest is)
+
+    body_chars : chars body ≡ drop (suc n) (chars rest)
+    body_chars = ap chars body_is ∙ (chars-past (n + 1) rest is ∙ ap (λ (k : ℕ). drop k (chars rest)) one)
+
+    read_is : ◌≡◌ {A = Bool × List ℕ} (closed, left) (body_read.0, past body_read.1 body)
+    read_is = read ∙ ap (λ (ds : List ℕ). let r : Bool × List ℕ = ((guarded_body n ds).0, past (guarded_body n ds).1 body) in r) body_chars
+
+    left_at : left ≡ past ((n + 1) + body_read.1) rest
+    left_at = ap (λ (r : Bool × List ℕ). r.1) read_is ∙ (ap (past body_read.1) body_is ∙ past-past body_read.1 (n + 1) rest is)
+
+    taken_is : bytes_of ((n + 1) + body_read.1) (chars rest) ≡ length rest - length left
+    taken_is = let l = length-past ((n + 1) + body_read.1) rest is in let m = ap length left_at in omega arith
+
+    pub string_boundary : IsCharBoundary rest (length rest - length left)
+    string_boundary =
+        IsCharBoundary-from_drop rest (length rest - length left) (omega arith) (subst IsUtf8 (past-drop ((n + 1) + body_read.1) rest is ∙ ap (λ (k : ℕ). drop k rest) taken_is) (IsUtf8-past ((n + 1) + body_read.1) rest is))
+
+    pub string_here : begins (34 ∷ []) (chars front) ≡ true → Some (closed, length rest - length left) ≡ string_past n (chars rest)
+    string_here e = grind (arith, common_steps, read_is, taken_is, quote_next)
+
+-- a cursor with bytes pending before what is left, where n hashes are next
+module _ (pending : ℕ) (left : List ℕ) (mode : Mode) (s : State) (rest : List ℕ) (view : state pending left mode ≡ s) (offset : rest ≡ s.rest) (n : ℕ) (count : n ≡ hash_run (chars rest)) where
+  here : rest ≡ left
+  here = offset ∙ sym (ap (λ (x : State). x.rest) view)
+
+  abbrev here_is : State
+  here_is = state pending rest mode
+
+  guarded-is : (o : Option (Bool × ℕ)) → o ≡ string_past n (chars rest) → take_guarded s ≡ guarded_by n o here_is
+  unfolding take_guarded
+  guarded-is o read = grind (arith, common_steps)
+
+  pub none_here : None ≡ string_past n (chars rest) → take_guarded s ≡ (None, state (pending + n) (drop n left) mode)
+  none_here read = guarded-is None read ∙ ap (λ (xs : List ℕ). let r : Option GuardedStr × State = (None, state (pending + n) (drop n xs) mode) in r) here
+
+  pub some_here : (closed : Bool) (t : ℕ) → Some (closed, t) ≡ string_past n (chars rest) → take_guarded s ≡ (Some record { n_hashes = n; terminated = closed; token_len = pending + t }, state 0 (drop t left) mode)
+  some_here closed t read = grind (arith, common_steps, guarded-is (Some (closed, t)) read, here)

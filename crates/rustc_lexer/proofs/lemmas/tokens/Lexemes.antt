@@ -1,0 +1,44 @@
+-- The token of a text whose first character is known.
+use Rattle.std.proofs.lemmas.Grind.{common_steps}
+use Rattle.std.proofs.Common.{◌≡◌, ℕ, ◌+◌, ◌-◌, ◌≤◌, [], ◌∷◌, List, length, sym, ap, ◌∙◌, arith, subst}
+use Rattle.std.specs.Str.{chars, IsUtf8, IsCharBoundary}
+use Rattle.std.proofs.lemmas.Str.{IsCharBoundary-from_drop}
+use Rattle.rustc_lexer.specs.{Token, TokenKind, Eof}
+use Rattle.rustc_lexer.specs.means.Lexeme.{past_first, lexeme, first_token}
+use Rattle.rustc_lexer.specs.means.Quick.{IsFirstToken}
+use Rattle.rustc_lexer.specs.means.Scan.{bytes_of, past, scanned}
+use Rattle.rustc_lexer.specs.State.{HasSuffixWithin}
+use Rattle.rustc_lexer.specs.laws.Past.{past-past, past-drop, IsUtf8-past, length-past}
+use Rattle.rustc_lexer.proofs.lemmas.tokens.Kinds.{first_token-suffix}
+
+-- the token, once what follows the first character is known
+module _ (text tail rest : List ℕ) (c : ℕ) (kind : TokenKind) (is : IsUtf8 text) (cs : chars text ≡ c ∷ chars tail) (e : tail ≡ past 1 text) (f : (kind, rest) ≡ scanned (past_first c) tail) where
+  taken : ℕ
+  taken = (past_first c (chars tail)).1
+
+  left : rest ≡ past (1 + taken) text
+  unfolding taken
+  left = ap (λ (r : TokenKind × List ℕ). r.1) f ∙ (ap (past taken) e ∙ past-past taken 1 text is)
+
+  bytes : bytes_of (1 + taken) (chars text) + length rest ≡ length text
+  bytes = ap (λ xs. bytes_of (1 + taken) (chars text) + length xs) left ∙ length-past (1 + taken) text is
+
+  pub left-le : length rest ≤ length text
+  left-le = let b = bytes in omega arith
+
+  boundary : IsCharBoundary text (length text - length rest)
+  boundary =
+      let cut : bytes_of (1 + taken) (chars text) ≡ length text - length rest = let b = bytes in omega arith in
+      let front : bytes_of (1 + taken) (chars text) ≤ length text = let b = bytes in omega arith in
+      subst (IsCharBoundary text) cut (IsCharBoundary-from_drop text _ front (subst (λ (xs : List ℕ). IsUtf8 xs) (past-drop (1 + taken) text is) (IsUtf8-past (1 + taken) text is)))
+
+  token-is : record { kind = kind; len = length text - length rest } ≡ first_token text
+  unfolding first_token taken
+  token-is = grind (arith, common_steps, taken, bytes)
+
+  pub made : IsFirstToken text record { kind = kind; len = length text - length rest }
+  made = record { token = token-is; inside = omega (arith, left-le); boundary = boundary; suffix = subst (λ (t : Token). HasSuffixWithin t) (sym token-is) (first_token-suffix text) }
+
+pub token-at_end : (text : List ℕ) → chars text ≡ [] → record { kind = Eof; len = 0 } ≡ first_token text
+unfolding first_token
+token-at_end text e = ap (λ (ds : List ℕ). let t : Token = record { kind = (lexeme ds).0; len = bytes_of (lexeme ds).1 ds } in t) (sym e)

@@ -1,0 +1,101 @@
+-- Three bytes that stand together, looked for at 16 places at a time.
+use Rattle.std.proofs.Common.{◌≡◌, ℕ, zero, suc, ◌+◌, ◌-◌, ◌<◌, ◌≤◌, ◌^◌, ◌==◌, ◌&&◌, Bool, false, true≢false, List, [], ◌∷◌, map, length, drop, get_or, refl, sym, ap, ap₂, ◌∙◌, subst, arith, bit_and, inl, inr}
+use Rattle.std.proofs.Math.Bool.{and-false}
+use Rattle.std.proofs.lemmas.Bool.{cases_lt}
+use Rattle.std.proofs.lemmas.List.{get_or-drop, get_or-map, length-map}
+use Rattle.std.proofs.lemmas.Simd.{length-chunk, get_or-chunk, mask_l-lt}
+use Rattle.std.proofs.lemmas.Nat.Bits.{bit_at_above}
+use Rattle.std.proofs.lemmas.Grind.{common_steps}
+use lib.Count.{count_trailing_zeros}
+use lib.Lanes.{chunk, mask_l}
+use Rattle.memchr.specs.Find.{is_byte}
+use Rattle.rustc_lexer.specs.means.Ends.{bit}
+use Rattle.rustc_lexer.specs.means.Frontmatter.{first}
+use Rattle.rustc_lexer.specs.means.Least.{more, one_more}
+use Rattle.rustc_lexer.specs.means.Scan.{begins}
+use Rattle.rustc_lexer.specs.laws.Choice.{by_either}
+use Rattle.rustc_lexer.specs.laws.Least.{more-zero, offset-on, one_more-more}
+use Rattle.rustc_lexer.proofs.lemmas.tokens.Bits.{bit-and, bit-mask_l, bit-zero, lowest_is}
+
+-- a mask of the first w bytes
+pub few : (p : ℕ → Bool) (bytes : List ℕ) (mask : ℕ) → 16 ≤ length bytes → mask ≡ mask_l (map p (chunk 0 16 bytes)) → mask < 2 ^ 16
+few p bytes mask inside e =
+    let long : length (map p (chunk 0 16 bytes)) ≡ 16 = length-map (chunk 0 16 bytes) p ∙ length-chunk 0 16 bytes (omega arith) in
+    subst (λ n. mask < 2 ^ n) long (subst (λ m. m < 2 ^ length (map p (chunk 0 16 bytes))) (sym e) (mask_l-lt (map p (chunk 0 16 bytes))))
+
+pub in_front : (p : ℕ → Bool) (bytes : List ℕ) (w mask : ℕ) → w ≤ length bytes → mask ≡ mask_l (map p (chunk 0 w bytes)) → (i : ℕ) → i < w → bit mask i ≡ p (get_or bytes i 0)
+in_front p bytes w mask inside e i l = grind (arith, common_steps, bit-mask_l, get_or-map, length-chunk, get_or-chunk)
+
+abbrev pub three_at : ℕ → ℕ → ℕ → List ℕ → ℕ → Bool
+three_at one two three bytes k = (is_byte one (get_or bytes k 0) && is_byte two (get_or bytes (suc k) 0)) && is_byte three (get_or bytes (suc (suc k)) 0)
+
+abbrev pub AreApart : ℕ → ℕ → ℕ → List ℕ → ℕ → Type 0
+AreApart one two three bytes n = (k : ℕ) → k < n → three_at one two three bytes k ≡ false
+
+above : (x i : ℕ) → x < 2 ^ 16 → 16 ≤ i → bit x i ≡ false
+unfolding bit
+above x i small far = ap (λ n. n == 1) (bit_at_above x 16 i small far)
+
+pub near : (x : ℕ) → 0 < x → x < 2 ^ 16 → count_trailing_zeros 64 x < 16
+near x some small =
+    let low = lowest_is x some (omega (arith, small)) in
+    elim (cases_lt (count_trailing_zeros 64 x) 16) [
+      | inl less ↦ less
+      | inr far ↦ absurd (true≢false (sym low.set ∙ above x _ small far))
+    ]
+
+-- a bit of a mask of 16 places from `from` on
+bit_at : (byte mask from : ℕ) (bytes side : List ℕ) → side ≡ drop from bytes → ((k : ℕ) → k < 16 → bit mask k ≡ is_byte byte (get_or side k 0)) → (j place : ℕ) → j < 16 → from + j ≡ place → bit mask j ≡ is_byte byte (get_or bytes place 0)
+bit_at byte mask from bytes side side_is are j place l e = are j l ∙ ap (is_byte byte) (ap (λ (xs : List ℕ). get_or xs j 0) side_is ∙ (get_or-drop from bytes j 0 ∙ ap (λ k. get_or bytes k 0) e))
+
+-- a look at 16 places from `end` on
+module _ (one two three : ℕ) (bytes : List ℕ) (end ones twos threes : ℕ) (so : AreApart one two three bytes end) (left right last : List ℕ) (left_is : left ≡ drop end bytes) (right_is : right ≡ drop (end + 1) bytes) (last_is : last ≡ drop (end + 2) bytes)
+    (ones_are : (k : ℕ) → k < 16 → bit ones k ≡ is_byte one (get_or left k 0)) (twos_are : (k : ℕ) → k < 16 → bit twos k ≡ is_byte two (get_or right k 0)) (threes_are : (k : ℕ) → k < 16 → bit threes k ≡ is_byte three (get_or last k 0)) where
+  abbrev found : ℕ
+  found = bit_and (bit_and ones twos) threes
+
+  looked : (j : ℕ) → j < 16 → bit found j ≡ three_at one two three bytes (end + j)
+  looked j l =
+      bit-and (bit_and ones twos) threes j ∙ ap₂ (λ a b. a && b)
+      (bit-and ones twos j ∙ ap₂ (λ a b. a && b) (bit_at one ones end bytes left left_is ones_are j (end + j) l refl) (bit_at two twos (end + 1) bytes right right_is twos_are j (suc (end + j)) l (omega arith)))
+      (bit_at three threes (end + 2) bytes last last_is threes_are j (suc (suc (end + j))) l (omega arith))
+
+  up_to : (n : ℕ) → n ≤ 16 → ((j : ℕ) → j < n → bit found j ≡ false) → AreApart one two three bytes (end + n)
+  up_to n few none k l = elim (cases_lt k end) [
+    | inl before ↦ so k before
+    | inr past ↦ let e : end + (k - end) ≡ k = omega arith in ap (three_at one two three bytes) (sym e) ∙ (sym (looked (k - end) (omega arith)) ∙ none (k - end) (omega arith))
+  ]
+
+  pub apart_on : found ≡ 0 → AreApart one two three bytes (end + 16)
+  apart_on e = up_to 16 (omega arith) (λ j l. ap (λ m. bit m j) e ∙ bit-zero j)
+
+  pub apart_to : 0 < found → found < 2 ^ 16 → AreApart one two three bytes (end + count_trailing_zeros 64 found)
+  apart_to some small =
+      let low = lowest_is found some (omega (arith, small)) in
+      let less = near found some small in
+      up_to _ (omega arith) low.least
+
+-- where the three stand apart, nothing begins with them
+three_none : (c one two three : ℕ) (ds s : List ℕ) → three_at one two three (c ∷ s) 0 ≡ false → begins (one ∷ two ∷ three ∷ ds) (c ∷ s) ≡ false
+three_none c one two three ds [] e = and-false (c == one)
+three_none c one two three ds (d ∷ []) e = ap (λ b. (c == one) && b) (and-false (d == two)) ∙ and-false (c == one)
+three_none c one two three ds (d ∷ f ∷ s) e = by_either (c == one)
+    (λ t. by_either (d == two)
+    (λ u. by_either (f == three)
+    (λ v. absurd (true≢false (sym (rw (t, u, v) refl) ∙ e)))
+    (λ v. rw (t, u, v) refl))
+    (λ u. rw (t, u) refl))
+    (λ t. rw t refl)
+
+pub apart_first : (one two three : ℕ) (ds s : List ℕ) (n : ℕ) → n ≤ length s → AreApart one two three s n → first (one ∷ two ∷ three ∷ ds) s ≡ more n (first (one ∷ two ∷ three ∷ ds) (drop n s))
+apart_first one two three ds s zero le apart = more-zero (first (one ∷ two ∷ three ∷ ds) s)
+apart_first one two three ds [] (suc n) le apart = absurd (omega arith)
+apart_first one two three ds (c ∷ s) (suc n) le apart =
+    offset-on (begins (one ∷ two ∷ three ∷ ds)) c s (three_none c one two three ds s (apart 0 (omega arith)))
+    ∙ (ap one_more (apart_first one two three ds s n (omega arith) (λ k l. apart (suc k) (omega arith))) ∙ one_more-more n (first (one ∷ two ∷ three ∷ ds) (drop n s)))
+
+-- the same of a pattern by its second and third byte
+pub apart_pattern : (one two three : ℕ) (others s : List ℕ) (n : ℕ) → 1 < length others → get_or others 0 0 ≡ two → get_or others 1 0 ≡ three → n ≤ length s → AreApart one two three s n → first (one ∷ others) s ≡ more n (first (one ∷ others) (drop n s))
+apart_pattern one two three [] s n some e g le apart = absurd (omega arith)
+apart_pattern one two three (d ∷ []) s n some e g le apart = absurd (omega arith)
+apart_pattern one two three (d ∷ f ∷ ds) s n some e g le apart = apart_first one d f ds s n le (subst (λ b. AreApart one b f s n) (sym e) (subst (λ b. AreApart one two b s n) (sym g) apart))

@@ -1,0 +1,96 @@
+-- A character that a quote closes right behind one character of ASCII, or behind a backslash and one.
+use Rattle.std.proofs.Common.{◌≡◌, ℕ, ◌+◌, ◌-◌, ◌≤◌, ◌<◌, ◌==◌, Bool, true, false, List, [], ◌∷◌, ◌++◌, length, drop, codes, refl, sym, ap, ◌∙◌, arith, subst, slice_index}
+use Rattle.std.specs.Int.{from_bool}
+use Rattle.std.specs.Str.{chars, IsUtf8, IsCharBoundary}
+use Rattle.std.proofs.lemmas.Bool.{eqb-true, lt-leb}
+use Rattle.std.proofs.lemmas.Str.{encode_ascii, IsCharBoundary-from_drop}
+use Rattle.std.proofs.Math.Bool.{or-true}
+use Rattle.std.proofs.lemmas.Grind.{common_steps}
+use Rattle.unicode_ident.proofs.IdentLemmas.{is_xid_start-ascii}
+use Rattle.rustc_lexer.specs.Tables.{is_emoji}
+use Rattle.rustc_lexer.specs.means.Lifetime.{is_name_start, is_character_at}
+use Rattle.rustc_lexer.specs.means.Quoted.{at_single_stop, is_lone, single_quoted_string}
+use Rattle.rustc_lexer.specs.means.Scan.{begins, past, scanned}
+use Rattle.rustc_lexer.specs.laws.Choice.{by_either}
+use Rattle.rustc_lexer.proofs.lemmas.tokens.AsciiRuns.{chars-ascii, IsUtf8-ascii}
+use Rattle.rustc_lexer.specs.laws.Past.{past-one, past-two}
+use Rattle.rustc_lexer.proofs.lemmas.tokens.QuotedLoop.{Seeking, seek-start, seek-on, seek-closed, single-lone, single-free}
+
+pub past-ascii : (b : ℕ) (bs : List ℕ) → IsUtf8 (b ∷ bs) → b < 128 → bs ≡ past 1 (b ∷ bs)
+past-ascii b bs is small = sym (past-one (b ∷ bs) bs b is (ap (λ (xs : List ℕ). xs ++ bs) (sym (encode_ascii b small))))
+
+backslash-no_name : is_name_start 92 ≡ false
+unfolding is_emoji
+backslash-no_name = grind (arith, common_steps, is_xid_start-ascii, lt-leb)
+
+-- what is left past the quote
+pub record ShortChar (text left : List ℕ) : Type 0 where
+  pub utf8 : IsUtf8 left
+  pub character : is_character_at (chars text) ≡ true
+  pub read : (true, left) ≡ scanned single_quoted_string text
+
+-- one character and a quote
+lone : (b : ℕ) (left : List ℕ) → IsUtf8 (b ∷ 39 ∷ left) → b < 128 → (b == 92) ≡ false → ShortChar (b ∷ 39 ∷ left) left
+lone b left is small other =
+    let inner : IsUtf8 (39 ∷ left) = IsUtf8-ascii b (39 ∷ left) is small in
+    let last : IsUtf8 left = IsUtf8-ascii 39 left inner (omega arith) in
+    let reads : chars (b ∷ 39 ∷ left) ≡ b ∷ 39 ∷ chars left = chars-ascii b (39 ∷ left) is small ∙ ap (λ cs. b ∷ cs) (chars-ascii 39 left inner (omega arith)) in
+    let is_it : is_lone (chars (b ∷ 39 ∷ left)) ≡ true = rw (reads, other) refl in
+    record {
+      utf8 = last;
+      character = rw reads refl;
+      read = single-lone (b ∷ 39 ∷ left) left is_it (past-two (b ∷ 39 ∷ left) (39 ∷ left) left is (past-ascii b (39 ∷ left) is small) (past-ascii 39 left inner (omega arith)));
+    }
+
+-- a backslash, one character and a quote
+escaped : (e : ℕ) (left : List ℕ) → IsUtf8 (92 ∷ e ∷ 39 ∷ left) → e < 128 → ShortChar (92 ∷ e ∷ 39 ∷ left) left
+escaped e left is small =
+    let text : List ℕ = 92 ∷ e ∷ 39 ∷ left in
+    let one : IsUtf8 (e ∷ 39 ∷ left) = IsUtf8-ascii 92 (e ∷ 39 ∷ left) is (omega arith) in
+    let two : IsUtf8 (39 ∷ left) = IsUtf8-ascii e (39 ∷ left) one small in
+    let last : IsUtf8 left = IsUtf8-ascii 39 left two (omega arith) in
+    let reads : chars text ≡ 92 ∷ chars (e ∷ 39 ∷ left) = chars-ascii 92 (e ∷ 39 ∷ left) is (omega arith) in
+    let reads_one : chars (e ∷ 39 ∷ left) ≡ e ∷ chars (39 ∷ left) = chars-ascii e (39 ∷ left) one small in
+    let reads_two : chars (39 ∷ left) ≡ 39 ∷ chars left = chars-ascii 39 left two (omega arith) in
+    let start : Seeking 39 at_single_stop text text false = seek-start 39 at_single_stop text is in
+    let past_slash : Seeking 39 at_single_stop text (e ∷ 39 ∷ left) true =
+    seek-on 39 at_single_stop text text (e ∷ 39 ∷ left) false 92 start reads (past-ascii 92 (e ∷ 39 ∷ left) is (omega arith)) true refl refl in
+    let past_escaped : Seeking 39 at_single_stop text (39 ∷ left) false =
+    seek-on 39 at_single_stop text (e ∷ 39 ∷ left) (39 ∷ left) true e past_slash reads_one (past-ascii e (39 ∷ left) one small) false refl refl in
+    let found = seek-closed 39 at_single_stop text (39 ∷ left) left false 39 past_escaped reads_two (past-ascii 39 left two (omega arith)) refl refl in
+    record {
+      utf8 = last;
+      character = rw (reads, backslash-no_name) (or-true (begins (codes "'") (chars (e ∷ 39 ∷ left))));
+      read = found ∙ single-free text (rw reads refl);
+    }
+
+module _ (text bytes : List ℕ) (offset : ℕ) (is : IsUtf8 text) (same : bytes ≡ text) (some : 3 ≤ length bytes) (offset_is : offset ≡ 1 + from_bool (slice_index bytes 0 == 92)) (small : slice_index bytes (offset - 1) < 128) (quote : slice_index bytes offset ≡ 39) where
+  pub short_char : ShortChar text (drop (offset + 1) text)
+  short_char = subst (λ s. ShortChar s (drop (offset + 1) s)) same (by_text bytes (subst IsUtf8 (sym same) is) some offset_is small quote)
+    where
+      by_text : (s : List ℕ) → IsUtf8 s → 3 ≤ length s → offset ≡ 1 + from_bool (slice_index s 0 == 92) → slice_index s (offset - 1) < 128 → slice_index s offset ≡ 39 → ShortChar s (drop (offset + 1) s)
+      by_text [] u l p m q = absurd (omega arith)
+      by_text (b ∷ []) u l p m q = absurd (omega arith)
+      by_text (b ∷ c ∷ []) u l p m q = absurd (omega arith)
+      by_text (b ∷ c ∷ d ∷ ds) u l p m q = by_either (b == 92)
+          (λ e.
+          let at : offset ≡ 2 = p ∙ ap (λ (t : Bool). 1 + from_bool t) e in
+          let slash : b ≡ 92 = eqb-true b 92 e in
+          let first : c < 128 = subst (λ n. slice_index (b ∷ c ∷ d ∷ ds) (n - 1) < 128) at m in
+          let closes : d ≡ 39 = subst (λ n. slice_index (b ∷ c ∷ d ∷ ds) n ≡ 39) at q in
+          subst (λ n. ShortChar (b ∷ c ∷ d ∷ ds) (drop (n + 1) (b ∷ c ∷ d ∷ ds))) (sym at)
+          (subst (λ x. ShortChar (x ∷ c ∷ d ∷ ds) ds) (sym slash)
+          (subst (λ x. ShortChar (92 ∷ c ∷ x ∷ ds) ds) (sym closes) (escaped c ds (subst (λ x. IsUtf8 (92 ∷ c ∷ x ∷ ds)) closes (subst (λ x. IsUtf8 (x ∷ c ∷ d ∷ ds)) slash u)) first))))
+          (λ e.
+          let at : offset ≡ 1 = p ∙ ap (λ (t : Bool). 1 + from_bool t) e in
+          let first : b < 128 = subst (λ n. slice_index (b ∷ c ∷ d ∷ ds) (n - 1) < 128) at m in
+          let closes : c ≡ 39 = subst (λ n. slice_index (b ∷ c ∷ d ∷ ds) n ≡ 39) at q in
+          subst (λ n. ShortChar (b ∷ c ∷ d ∷ ds) (drop (n + 1) (b ∷ c ∷ d ∷ ds))) (sym at)
+          (subst (λ x. ShortChar (b ∷ x ∷ d ∷ ds) (d ∷ ds)) (sym closes) (lone b (d ∷ ds) (subst (λ x. IsUtf8 (b ∷ x ∷ d ∷ ds)) closes u) first e)))
+
+  pub short_cut : offset + 1 ≤ length text → IsCharBoundary text (offset + 1)
+  short_cut le = IsCharBoundary-from_drop text (offset + 1) le short_char.utf8
+
+pub byte_le : (b : Bool) → from_bool b ≤ 1
+byte_le true = omega arith
+byte_le false = omega arith
