@@ -30,7 +30,7 @@ unless_given (Some x) options = None
 
 -- a page or raw text, of which only one may stand
 abbrev pub in_form : Options → Format → Option Options
-in_form options format = unless_given options.form record options { form = Some style }
+in_form options format = unless_given options.form record options { form = Some format }
 
 abbrev pub in_edition : Options → Edition → Option Options
 in_edition options edition =
