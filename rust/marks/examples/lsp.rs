@@ -1,6 +1,6 @@
 //! Keeps a document as a language server does: takes changes by positions in UTF-16, and answers with semantic tokens,
-//! all of them, what changed since the last answer, or those in view. `cargo run -p verified-marks --example lsp -- FILE` prints
-//! all, and what each line of standard input changes: LINE CHARACTER LINE CHARACTER TEXT.
+//! all of them, what changed since the last answer, or those in view. `cargo run -p verified-marks --example lsp -- FILE`
+//! prints all, and what each line of standard input changes: LINE CHARACTER LINE CHARACTER TEXT.
 
 use marks::{Class, Edition, KeywordKind, class_of, keyword_kind};
 use rustc_lexer::{EditError, LexedDocument, Piece, Pieces, Relexed};
@@ -85,11 +85,8 @@ impl Document {
     /// Returns where the last part begins that is shown of the tokens before this one.
     fn place_before(&self, number: usize) -> Option<usize> {
         let shown = self.counts[..number].iter().rposition(|&count| count > 0)?;
-        Some(
-            parts(self.lexed.pieces_of_tokens(shown..).next()?)
-                .last()?
-                .start,
-        )
+        let last = self.lexed.pieces_of_tokens(shown..).next()?;
+        Some(parts(last).last()?.start)
     }
 
     /// Returns the numbers of all tokens that have a part in the range, like the lines in view.
