@@ -152,7 +152,13 @@ fn written(text: &str, whole: f64, rounds: usize) {
     let (mut words, count) = (pieces.clone(), pieces.len());
     words.retain(|piece| piece.token.kind == TokenKind::Ident);
     let push = |joined: &mut JoinedText| pieces.iter().for_each(|piece| joined.push(piece.text));
-    let class = |piece: &Piece| drop(black_box(class_of(piece.token.kind, piece.text, Edition::E2024)));
+    let class = |piece: &Piece| {
+        drop(black_box(class_of(
+            piece.token.kind,
+            piece.text,
+            Edition::E2024,
+        )))
+    };
     let keyword = |piece: &Piece| drop(black_box(keyword_kind(piece.text, Edition::E2024)));
     let html = |page: &mut String| write_marked(Format::Html, Edition::E2024, text, page).unwrap();
     let page = || String::with_capacity(8 * text.len());
