@@ -235,6 +235,7 @@ BODIES = [
     ("tests/wrong_bodies --linked marks", [HELD, ("tools/over_libraries", None, SHELL + "echo only=1 proved=1\n")], "since their lines are kept; rattle-kit-"),
     ("tests/wrong_bodies --linked --draw=3", [HELD, ("tools/over_libraries", None, SHELL + "echo only=1 proved=1\n")], "0 of 10 refused by name: 0 of those always tried, 0 new or changed, 10 drawn by 3"),
     ("tests/wrong_bodies planted", [], "planted is no crate with wrong bodies"),
+    ("tests/wrong_bodies --take < said", [("said", None, "marks/mark_is_not_closed: 0 refused at marks::planted, a\n")], "0 lines taken"),
     ("tests/wrong_bodies --changed ends", [PROVES_ALL, ("crates/ends/src/fault.rt", "{ result ≡ status_of fault.now }", "{ result ≡ 0 }")], "ends/closed_pipe_is_a_failure: NOT REFUSED"),
     ("tests/wrong_bodies --changed ends", [PROVES_ALL, ("tests/wrong_bodies.kept", "logic ", "logic 0")], "ends/closed_pipe_is_a_failure: NOT REFUSED"),
     ("tests/wrong_bodies --changed ends", [PROVES_ALL, ("tests/wrong_bodies.kept", "contracts ", "contracts 0")], "ends/closed_pipe_is_a_failure: NOT REFUSED"),
