@@ -1,12 +1,11 @@
 -- A whole document: its tokens; its head, which is a shebang line and a frontmatter; and its body,
 -- which is the rest.
-use Rattle.std.specs.Prelude.{ℕ, suc, ◌+◌, List, ◌++◌, take, drop, Bool, true, false, unwrap_or}
+use Rattle.std.specs.Prelude.{ℕ, suc, ◌+◌, List, take, drop, Bool, true, false, unwrap_or}
 use Rattle.std.specs.{List.position, Option.option_map_or}
 use Rattle.rustc_lexer.specs.{Edition, Token, TokenKind, Frontmatter}
 use Rattle.rustc_lexer.specs.Answers.{shebang, tokens_of}
 use Rattle.rustc_lexer.specs.LanguageText.{newest, source}
-use Rattle.rustc_lexer.specs.Edits.{Layout}
-use Rattle.rustc_lexer.specs.Partition.{bound, tokens_by}
+use Rattle.rustc_lexer.specs.Partition.{Layout, bound, tokens_by, tokens_in}
 
 -- the length of the shebang line, or 0
 abbrev pub shebang_len : List ℕ → ℕ
@@ -50,4 +49,4 @@ whole_by first text =
     }
 
 abbrev pub document_tokens_by : (List ℕ → Token) → List ℕ → List Token
-document_tokens_by first text = (whole_by first text).head ++ (whole_by first text).body
+document_tokens_by first text = tokens_in (whole_by first text)

@@ -1,10 +1,10 @@
 -- What edits make of a text, and which of its tokens they keep.
-use Rattle.std.specs.Prelude.{ℕ, ◌+◌, ◌-◌, ◌<◌, ◌≤◌, ◌^◌, List, [], ◌∷◌, ◌++◌, length, take, drop, min, IsCharBoundary, ◌≡◌, slice_get, IfSome, codes, decimal, count_by}
+use Rattle.std.specs.Prelude.{ℕ, ◌+◌, ◌-◌, ◌<◌, ◌≤◌, ◌^◌, List, [], ◌∷◌, ◌++◌, length, take, drop, IsCharBoundary, ◌≡◌, slice_get, IfSome, codes, decimal, count_by}
 use Rattle.rustc_lexer.specs.declared.relex.{edit.Edit.Edit, edit_list.EditStop.EditStop, relexing.Relexed.Relexed}
 use Rattle.rustc_lexer.specs.declared.relex.edit_list.EditStop.TheVariants.{Range, TooLong, Memory}
 use Rattle.rustc_lexer.specs.{Token}
 use Rattle.rustc_lexer.specs.Locality.{has_two}
-use Rattle.rustc_lexer.specs.Partition.{bound, tokens_by}
+use Rattle.rustc_lexer.specs.Partition.{Layout, bound, tokens_by, tokens_in}
 
 -- ---- one edit
 
@@ -30,13 +30,6 @@ abbrev pub ends_from : ℕ → List Token → List ℕ
 ends_from from [] = []
 ends_from from (t ∷ ts) = (from + t.len) ∷ ends_from (from + t.len) ts
 
--- the tokens of a text: those of its head, which a whole document may have and a part of one has
--- not, and those of its body, which is the rest. The first of them begins at `start`
-pub record Layout : Type 0 where
-  pub start : ℕ
-  pub head : List Token
-  pub body : List Token
-
 -- the tokens of a part of a document, lexed by a grammar
 abbrev pub part_by : (List ℕ → Token) → List ℕ → Layout
 part_by first text = record { start = 0; head = []; body = tokens_by first text }
@@ -44,7 +37,7 @@ part_by first text = record { start = 0; head = []; body = tokens_by first text 
 -- the offset of token boundary k, where the tokens of the head count too, and that of the start of
 -- the body
 abbrev pub offset_in : Layout → ℕ → ℕ
-offset_in of k = of.start + bound (of.head ++ of.body) k
+offset_in of k = of.start + bound (tokens_in of) k
 
 abbrev pub body_in : Layout → ℕ
 body_in of = offset_in of (length of.head)
@@ -58,12 +51,12 @@ KeepsHead old new start = (body_in old ≤ start) × (old.start ≡ new.start) �
 -- Neither is in a head. The new boundary is not before `new_stop`, the end of the inserted text,
 -- and is as far past it as the old one is past `old_stop`, the end of the removed text
 pub record IsMeeting (old new : Layout) (old_stop new_stop number back : ℕ) : Type 0 where
-  pub number_inside : number ≤ length (new.head ++ new.body)
+  pub number_inside : number ≤ length (tokens_in new)
   pub past_edit : new_stop ≤ offset_in new number
   pub past_head : length new.head ≤ number
   pub old_number : ℕ
   pub past_old_head : length old.head ≤ old_number
-  pub back_is : old_number + back ≡ length (old.head ++ old.body)
+  pub back_is : old_number + back ≡ length (tokens_in old)
   pub same_offset : offset_in new number + old_stop ≡ offset_in old old_number + new_stop
 
 -- the counts of an edit. It keeps the tokens of the head, and of the body those that end at least
@@ -135,22 +128,16 @@ AreStepped layout text (e ∷ es) before after =
     × (between + (length (layout (applied text e)).head - r.kept_front) ≡ before + r.lexed))
     × AreStepped layout (applied text e) es between after
 
--- `front` is the least that each of the edits keeps there, or so many as before them, and so is
--- `back`
-abbrev pub AreLeast : (List ℕ → Layout) → List ℕ → List Edit → ℕ → ℕ → ℕ → ℕ → Type 0
-AreLeast layout text [] front_before back_before front back =
-    (front ≡ front_before) × (back ≡ back_before)
-AreLeast layout text (e ∷ es) front_before back_before front back =
-    (r : Relexed) × IsRelexed layout text e.start e.stop e.insert.now r × AreLeast layout
-    (applied text e) es (min front_before r.kept_front) (min back_before r.kept_back) front back
+-- the counts of each of the edits, in order
+abbrev pub AreRelexed : (List ℕ → Layout) → List ℕ → List Edit → List Relexed → Type 0
+AreRelexed layout text [] counts = counts ≡ []
+AreRelexed layout text (e ∷ es) [] = ⊥
+AreRelexed layout text (e ∷ es) (r ∷ rs) =
+    IsRelexed layout text e.start e.stop e.insert.now r × AreRelexed layout (applied text e) es rs
 
--- the counts of a list of edits: of the tokens that the list found, as many as `old`, it keeps
--- those that each edit keeps, at the back so many as are then left. With no edit that is all of
--- them in front
-abbrev pub IsRelexedList : (List ℕ → Layout) → List ℕ → List Edit → ℕ → ℕ → Relexed → Type 0
-IsRelexedList layout text edits old new r =
-    (back : ℕ) × AreLeast layout text edits old old r.kept_front back
-    × (r.kept_back ≡ min back (min new old - r.kept_front))
+-- the greatest number of which it is true
+abbrev pub IsGreatest : (ℕ → Type 0) → ℕ → Type 0
+IsGreatest Holds n = Holds n × ((m : ℕ) → Holds m → m ≤ n)
 
 -- the index of the edit that was refused
 abbrev pub stop_at : EditStop → ℕ

@@ -1,11 +1,12 @@
 -- A text that is kept with its tokens: what its edits do, and its pieces.
-use Rattle.std.specs.Prelude.{ℕ, ◌+◌, ◌-◌, ◌<◌, ◌≤◌, ◌^◌, List, [], ◌∷◌, ◌++◌, length, take, drop, ◌≡◌, Option, Some, None, Bool, true, false, Result, Ok, Err, IfOk, IfErr, OnOk, OnErr}
+use Rattle.std.specs.Prelude.{ℕ, ◌+◌, ◌-◌, ◌<◌, ◌≤◌, ◌^◌, List, [], ◌∷◌, ◌++◌, length, take, drop, ◌≡◌, Option, Some, None, Bool, true, false, Result, Ok, Err, IfOk, IfErr, OnOk, OnErr, All}
 use Rattle.rustc_lexer.specs.declared.relex.{edit.Edit.Edit, edit_list.EditStop.EditStop, edit_list.Stopped.Stopped, pieces.Piece.Piece, relexing.Relexed.Relexed}
 use Rattle.rustc_lexer.specs.{Edition, Token}
-use Rattle.rustc_lexer.specs.Document.{document_tokens, document_tokens_by, shebang_len, whole_by}
-use Rattle.rustc_lexer.specs.Edits.{AreEdits, AreStepped, IsRelexed, IsRelexedList, IsStop, IsStopStepped, Layout, apply, apply_list, part_by, stop_at}
+use Rattle.rustc_lexer.specs.Document.{document_tokens, shebang_len, whole_by}
+use Rattle.rustc_lexer.specs.Edits.{AreEdits, AreStepped, AreRelexed, IsGreatest, IsRelexed, IsStop, IsStopStepped, apply, apply_list, part_by, stop_at}
 use Rattle.rustc_lexer.specs.LanguageText.{part}
-use Rattle.rustc_lexer.specs.Tokens.{tokens_by, tokens_of}
+use Rattle.rustc_lexer.specs.Partition.{Layout, tokens_in}
+use Rattle.rustc_lexer.specs.Tokens.{tokens_of}
 
 -- ---- a whole document, or a part of one
 
@@ -14,14 +15,10 @@ abbrev pub start_in : Bool → List ℕ → ℕ
 start_in true = shebang_len
 start_in false = λ text. 0
 
--- the tokens by a grammar, with those of the head apart
+-- where its tokens are, by a grammar
 abbrev pub layout_in : Bool → (List ℕ → Token) → List ℕ → Layout
 layout_in true = whole_by
 layout_in false = part_by
-
-abbrev pub tokens_in : Bool → (List ℕ → Token) → List ℕ → List Token
-tokens_in true = document_tokens_by
-tokens_in false = tokens_by
 
 -- the tokens in an edition
 abbrev pub edition_tokens_in : Bool → Edition → List ℕ → List Token
@@ -42,22 +39,22 @@ pub record AreKept (old new : List Token) (r : Relexed) : Type 0 where
   pub front : take r.kept_front new ≡ take r.kept_front old
   pub back : drop (r.kept_front + r.lexed) new ≡ drop (length old - r.kept_back) old
 
--- what an edit does to a kept text. `first` is the grammar of a stepper, `year` the number that
--- names it, and `steps` how many steps the stepper took
-pub record IsEdited {S E : Type 0} (first : S → List ℕ → Token) (year steps : S → ℕ) (whole : Bool)
-    (old : Held S) (start stop : ℕ) (insert : List ℕ) (result : Result Relexed E) (new : Held S) :
-    Type 0 where
+-- what an edit does to a kept text. `layout` tells where the tokens of a text are, by the grammar
+-- of the old stepper. `first` is the grammar of a stepper, and `steps` how many steps it took. Of
+-- two editions that lex alike, only `year`, the number that names a grammar, tells which one stays
+pub record IsEdited {S E : Type 0} (first : S → List ℕ → Token) (year steps : S → ℕ)
+    (layout : List ℕ → Layout) (old : Held S) (start stop : ℕ) (insert : List ℕ)
+    (result : Result Relexed E) (new : Held S) : Type 0 where
   -- what text and tokens are afterwards
   pub text : OnOk result (new.text ≡ apply old.text start stop insert)
-  pub from_scratch : new.tokens ≡ tokens_in whole (first old.stepper) new.text
+  pub from_scratch : new.tokens ≡ tokens_in (layout new.text)
   -- which tokens stay, and how many were lexed
-  pub relexed : IfOk result
-      (IsRelexed (layout_in whole (first old.stepper)) old.text start stop insert)
+  pub relexed : IfOk result (IsRelexed layout old.text start stop insert)
   pub kept : IfOk result (AreKept old.tokens new.tokens)
   -- how many steps the stepper took: the tokens of a new head take none. It keeps its grammar
   pub count : IfOk result
-      (λ r. steps new.stepper + (length (layout_in whole (first old.stepper) new.text).head -
-      r.kept_front) ≡ steps old.stepper + r.lexed)
+      (λ r. steps new.stepper + (length (layout new.text).head - r.kept_front)
+      ≡ steps old.stepper + r.lexed)
   pub grammar : first new.stepper ≡ first old.stepper
   pub number : year new.stepper ≡ year old.stepper
   pub rose : steps old.stepper ≤ steps new.stepper
@@ -65,42 +62,47 @@ pub record IsEdited {S E : Type 0} (first : S → List ℕ → Token) (year step
   pub same_text : OnErr result (new.text ≡ old.text)
   pub same_tokens : OnErr result (new.tokens ≡ old.tokens)
   pub few : OnErr result
-      ((r : Relexed) × IsRelexed (layout_in whole (first old.stepper)) old.text start stop insert r
+      ((r : Relexed) × IsRelexed layout old.text start stop insert r
       × (steps new.stepper
-      + (length (layout_in whole (first old.stepper) (apply old.text start stop insert)).head -
-      r.kept_front) ≤ steps old.stepper + r.lexed))
+      + (length (layout (apply old.text start stop insert)).head - r.kept_front)
+      ≤ steps old.stepper + r.lexed))
 
--- what a list of edits does to a kept text, up to the first that is refused
-pub record AreMade {S T : Type 0} (first : S → List ℕ → Token) (year steps : S → ℕ) (whole : Bool)
-    (old : Held S) (edits : List Edit) (result : Result T EditStop) (new : Held S) : Type 0 where
+-- what a list of edits does to a kept text, up to the first that is refused. As for one edit,
+-- `year` tells which of two editions that lex alike stays
+pub record AreMade {S T : Type 0} (first : S → List ℕ → Token) (year steps : S → ℕ)
+    (layout : List ℕ → Layout) (old : Held S) (edits : List Edit) (result : Result T EditStop)
+    (new : Held S) : Type 0 where
   pub accepted : OnOk result (AreEdits old.text edits)
   pub text : OnOk result (new.text ≡ apply_list old.text edits)
-  pub from_scratch : new.tokens ≡ tokens_in whole (first old.stepper) new.text
+  pub from_scratch : new.tokens ≡ tokens_in (layout new.text)
   -- the stepper keeps its grammar, and counts the steps of all edits
   pub grammar : first new.stepper ≡ first old.stepper
   pub number : year new.stepper ≡ year old.stepper
   pub count : OnOk result
-      (AreStepped (layout_in whole (first old.stepper)) old.text edits (steps old.stepper)
-      (steps new.stepper))
+      (AreStepped layout old.text edits (steps old.stepper) (steps new.stepper))
   -- if an edit is refused, the edits before it were made
   pub stop : IfErr result (λ e. IsStop e new.text edits)
   pub stop_accepted : IfErr result (λ e. AreEdits old.text (take (stop_at e) edits))
   pub stop_text : IfErr result (λ e. new.text ≡ apply_list old.text (take (stop_at e) edits))
   pub stop_count : IfErr result
-      (λ e. IsStopStepped e (layout_in whole (first old.stepper)) old.text edits (steps old.stepper)
-      (steps new.stepper))
+      (λ e. IsStopStepped e layout old.text edits (steps old.stepper) (steps new.stepper))
 
 -- why a list of edits stopped
 abbrev pub reason : Result Relexed Stopped → Result Relexed EditStop
 reason (Ok r) = Ok r
 reason (Err stopped) = Err stopped.stop
 
--- which tokens stay through all of the edits
-pub record AreKeptThrough {S : Type 0} (first : S → List ℕ → Token) (whole : Bool) (old : Held S)
+-- which tokens stay through all of the edits: in front the most that each of them keeps, and at the
+-- back the most that each keeps and that do not reach into those, before or after
+pub record AreKeptThrough {S : Type 0} (layout : List ℕ → Layout) (old : Held S)
     (edits : List Edit) (new : Held S) (r : Relexed) : Type 0 where
-  pub least : IsRelexedList (layout_in whole (first old.stepper)) old.text edits (length old.tokens)
-      (length new.tokens) r
-  pub apart : r.kept_front + r.kept_back ≤ length old.tokens
+  pub each : List Relexed
+  pub each_is : AreRelexed layout old.text edits each
+  pub most_front : IsGreatest
+      (λ n. (n ≤ length old.tokens) × All (λ (c : Relexed). n ≤ c.kept_front) each) r.kept_front
+  pub most_back : IsGreatest
+      (λ n. (r.kept_front + n ≤ length old.tokens) × (r.kept_front + n ≤ length new.tokens)
+      × All (λ (c : Relexed). n ≤ c.kept_back) each) r.kept_back
   pub kept : AreKept old.tokens new.tokens r
 
 -- ---- pieces

@@ -1,6 +1,6 @@
 -- The tokens into which a grammar cuts a text, and their boundaries. A grammar is a function that
 -- returns the first token of each text.
-use Rattle.std.specs.Prelude.{ℕ, zero, suc, ◌≡◌, ◌+◌, ◌<◌, ◌≤◌, List, [], ◌∷◌, length, drop, All, IsCharBoundary}
+use Rattle.std.specs.Prelude.{ℕ, zero, suc, ◌≡◌, ◌+◌, ◌<◌, ◌≤◌, List, [], ◌∷◌, ◌++◌, length, drop, All, IsCharBoundary}
 use Rattle.rustc_lexer.specs.{Token}
 
 -- the first `count` tokens of a text
@@ -27,3 +27,14 @@ pub record Partitions (text : List ℕ) (tokens : List Token) : Type 0 where
   pub not_empty : All (λ t. 0 < t.len) tokens
   pub boundaries : (k : ℕ) → k ≤ length tokens → IsCharBoundary text (bound tokens k)
   pub whole : bound tokens (length tokens) ≡ length text
+
+-- where the tokens of a text are: the first begins at `start`, and those of the head, which a whole
+-- document may have and a part of one has not, come before those of the body, which is the rest
+pub record Layout : Type 0 where
+  pub start : ℕ
+  pub head : List Token
+  pub body : List Token
+
+-- all of them
+abbrev pub tokens_in : Layout → List Token
+tokens_in of = of.head ++ of.body

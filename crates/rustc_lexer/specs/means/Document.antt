@@ -8,8 +8,8 @@ use Rattle.rustc_lexer.specs.{Token}
 use Rattle.rustc_lexer.specs.Classes.{IsText}
 use Rattle.rustc_lexer.specs.Document.{shebang_len}
 pub use Rattle.rustc_lexer.specs.Relexing.{front_tokens, tokens_of_head}
-use Rattle.rustc_lexer.specs.Edits.{IsEdit, IsRelexed, Layout, apply}
-use Rattle.rustc_lexer.specs.Partition.{tokens_by}
+use Rattle.rustc_lexer.specs.Edits.{IsEdit, IsRelexed, apply}
+use Rattle.rustc_lexer.specs.Partition.{Layout, tokens_by}
 use Rattle.rustc_lexer.specs.means.Checkpoints.{AreBounds}
 use Rattle.rustc_lexer.specs.means.Frontmatter.{frontmatter, opens, spaces_len}
 use Rattle.rustc_lexer.specs.means.Relexing.{IsRenewed}

@@ -1,10 +1,21 @@
 -- Means, by how it is read: how far a list of edits was made.
-use Rattle.std.specs.Prelude.{ℕ, ◌≡◌, ◌-◌, ◌≤◌, Bool, List, length, take, drop}
+use Rattle.std.specs.Prelude.{ℕ, ◌≡◌, ◌-◌, ◌≤◌, List, [], ◌∷◌, length, take, drop, min}
 use Rattle.rustc_lexer.specs.declared.relex.edit.Edit.{Edit}
 use Rattle.rustc_lexer.specs.declared.relex.lexed.edits.Made.{Made}
+use Rattle.rustc_lexer.specs.declared.relex.relexing.Relexed.{Relexed}
 use Rattle.rustc_lexer.specs.{Token}
-use Rattle.rustc_lexer.specs.Edits.{AreEdits, AreLeast, AreStepped, apply_list}
-use Rattle.rustc_lexer.specs.Kept.{Held, layout_in, tokens_in}
+use Rattle.rustc_lexer.specs.Edits.{AreEdits, AreStepped, IsRelexed, applied, apply_list}
+use Rattle.rustc_lexer.specs.Kept.{Held}
+use Rattle.rustc_lexer.specs.Partition.{Layout, tokens_in}
+
+-- `front` is the least that each of the edits keeps there, or so many as before them, and so is
+-- `back`
+abbrev pub AreLeast : (List ℕ → Layout) → List ℕ → List Edit → ℕ → ℕ → ℕ → ℕ → Type 0
+AreLeast layout text [] front_before back_before front back =
+    (front ≡ front_before) × (back ≡ back_before)
+AreLeast layout text (e ∷ es) front_before back_before front back =
+    (r : Relexed) × IsRelexed layout text e.start e.stop e.insert.now r × AreLeast layout
+    (applied text e) es (min front_before r.kept_front) (min back_before r.kept_back) front back
 
 -- so many of the tokens stay at the front, and so many at the back
 pub record StayAtEnds (old new : List Token) (front back : ℕ) : Type 0 where
@@ -16,20 +27,21 @@ pub record StayAtEnds (old new : List Token) (front back : ℕ) : Type 0 where
   pub same_back : drop (length new - back) new ≡ drop (length old - back) old
 
 -- what the first `made.count` edits of a list do to a kept text
-pub record AreMadeTo {S : Type 0} (first : S → List ℕ → Token) (year steps : S → ℕ) (whole : Bool)
-    (old : Held S) (edits : List Edit) (made : Made) (new : Held S) : Type 0 where
+pub record AreMadeTo {S : Type 0} (first : S → List ℕ → Token) (year steps : S → ℕ)
+    (layout : List ℕ → Layout) (old : Held S) (edits : List Edit) (made : Made) (new : Held S) :
+    Type 0 where
   pub few : made.count ≤ length edits
   pub accepted : AreEdits old.text (take made.count edits)
   pub text : new.text ≡ apply_list old.text (take made.count edits)
-  pub from_scratch : new.tokens ≡ tokens_in whole (first old.stepper) new.text
+  pub from_scratch : new.tokens ≡ tokens_in (layout new.text)
   pub grammar : first new.stepper ≡ first old.stepper
   pub number : year new.stepper ≡ year old.stepper
-  pub count : AreStepped (layout_in whole (first old.stepper)) old.text (take made.count edits)
-      (steps old.stepper) (steps new.stepper)
+  pub count : AreStepped layout old.text (take made.count edits) (steps old.stepper)
+      (steps new.stepper)
 
 -- each of them keeps at least so many of its tokens at the ends
-pub record AreKeptTo {S : Type 0} (first : S → List ℕ → Token) (whole : Bool) (old : Held S)
-    (edits : List Edit) (made : Made) (new : Held S) : Type 0 where
+pub record AreKeptTo {S : Type 0} (layout : List ℕ → Layout) (old : Held S) (edits : List Edit)
+    (made : Made) (new : Held S) : Type 0 where
   pub stay : StayAtEnds old.tokens new.tokens made.front made.back
-  pub least : AreLeast (layout_in whole (first old.stepper)) old.text (take made.count edits)
-      (length old.tokens) (length old.tokens) made.front made.back
+  pub least : AreLeast layout old.text (take made.count edits) (length old.tokens)
+      (length old.tokens) made.front made.back

@@ -5,7 +5,7 @@ ghost use Rattle.std.specs.String.{string_bytes};
 ghost use Rattle.rustc_lexer.specs.Classes.{Fits};
 ghost use Rattle.rustc_lexer.specs.means.Document as means;
 ghost use Rattle.rustc_lexer.specs.Tokens.{tokens_by};
-ghost use Rattle.rustc_lexer.specs.Kept.{IsEdited};
+ghost use Rattle.rustc_lexer.specs.Kept.{IsEdited, layout_in};
 ghost use Rattle.rustc_lexer.specs.means.Checkpoints.{AreBounds};
 
 use crate::entry::stepper::Stepper;
@@ -51,7 +51,7 @@ pub(crate) fn renew<S: Stepper, E: Extent>(
         → let left = means.text_left result (string_bytes kept.new.text) before in
         means.AreKeptOf E.whole (S.grammar kept.new.stepper) left
         kept.new.tokens.items kept.new.head kept.new.checkpoints
-        × IsEdited S.grammar S.number S.count E.whole
+        × IsEdited S.grammar S.number S.count (layout_in E.whole (S.grammar kept.old.stepper))
         (record { text = before; tokens = kept.old.tokens.items; stepper = kept.old.stepper })
         edit.start edit.old_stop insert result
         (record { text = left; tokens = kept.new.tokens.items; stepper = kept.new.stepper }) }

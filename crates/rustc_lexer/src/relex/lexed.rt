@@ -3,7 +3,8 @@ ghost use Rattle.std.specs.Prelude.{◌≡◌, ◌+◌, ◌↔◌, IfOk, IsTrue,
 ghost use Rattle.std.specs.String.{string_bytes};
 ghost use Rattle.rustc_lexer.specs.Classes.{Fits, IsText};
 ghost use Rattle.rustc_lexer.specs.Edits.{IsEdit};
-ghost use Rattle.rustc_lexer.specs.Kept.{IsEdited, layout_in, tokens_in};
+ghost use Rattle.rustc_lexer.specs.Kept.{IsEdited, layout_in};
+ghost use Rattle.rustc_lexer.specs.Partition.{tokens_in};
 
 use crate::entry::stepper::Stepper;
 use crate::relex::edit::{accepts, put_in_place};
@@ -73,7 +74,7 @@ impl<S: Stepper, E: Extent> Lexed<S, E> {
         requires fits { Fits text.now }
         ensures text { IfOk result (λ l. l.text ≡ text.now) }
         ensures from_scratch { IfOk result
-            (λ l. l.tokens ≡ tokens_in E.whole (S.grammar l.stepper) text.now) }
+            (λ l. l.tokens ≡ tokens_in (layout_in E.whole (S.grammar l.stepper) text.now)) }
         ensures grammar { IfOk result (λ l. S.grammar l.stepper ≡ S.grammar stepper) }
         ensures number { IfOk result (λ l. S.number l.stepper ≡ S.number stepper) }
         ensures count { IfOk result
@@ -90,7 +91,7 @@ impl<S: Stepper, E: Extent> Lexed<S, E> {
         requires fits { Fits (string_bytes text) }
         ensures text { IfOk result (λ l. l.text ≡ string_bytes text) }
         ensures from_scratch { IfOk result
-            (λ l. l.tokens ≡ tokens_in E.whole (S.grammar l.stepper) (string_bytes text)) }
+            (λ l. l.tokens ≡ tokens_in (layout_in E.whole (S.grammar l.stepper) (string_bytes text))) }
         ensures grammar { IfOk result (λ l. S.grammar l.stepper ≡ S.grammar stepper) }
         ensures number { IfOk result (λ l. S.number l.stepper ≡ S.number stepper) }
         ensures count { IfOk result
@@ -126,7 +127,7 @@ impl<S: Stepper, E: Extent> Lexed<S, E> {
     pub fn tokens(&self) -> &[Token]
         ensures tokens { result.now ≡ self.now.tokens }
         ensures from_scratch { result.now
-            ≡ tokens_in E.whole (S.grammar self.now.stepper) self.now.text }
+            ≡ tokens_in (layout_in E.whole (S.grammar self.now.stepper) self.now.text) }
     {
         self.kept.tokens.as_slice()
     }
@@ -162,7 +163,7 @@ impl<S: Stepper, E: Extent> Lexed<S, E> {
         ensures text { self.new.text ≡ self.old.text }
         ensures is_text { IsText self.new.text }
         ensures from_scratch { self.new.tokens
-            ≡ tokens_in E.whole (S.grammar self.new.stepper) self.new.text }
+            ≡ tokens_in (layout_in E.whole (S.grammar self.new.stepper) self.new.text) }
         ensures grammar { OnOk result (S.grammar self.new.stepper ≡ S.grammar stepper) }
         ensures number { OnOk result (S.number self.new.stepper ≡ S.number stepper) }
         ensures count { OnOk result
@@ -186,7 +187,7 @@ impl<S: Stepper, E: Extent> Lexed<S, E> {
         requires fits { Fits (string_bytes text.old) }
         ensures text { OnOk result (self.new.text ≡ string_bytes text.old) }
         ensures from_scratch { self.new.tokens
-            ≡ tokens_in E.whole (S.grammar self.new.stepper) self.new.text }
+            ≡ tokens_in (layout_in E.whole (S.grammar self.new.stepper) self.new.text) }
         ensures grammar { S.grammar self.new.stepper ≡ S.grammar self.old.stepper }
         ensures number { S.number self.new.stepper ≡ S.number self.old.stepper }
         ensures same { OnErr result ((self.new.text ≡ self.old.text) × (text.new ≡ text.old)) }
@@ -217,7 +218,8 @@ impl<S: Stepper, E: Extent> Lexed<S, E> {
     /// before.
     pub fn edit(&mut self, start: usize, stop: usize, insert: &str) -> Result<Relexed, AllocError>
         requires accepted { IsEdit self.old.text start stop insert.now }
-        ensures { IsEdited S.grammar S.number S.count E.whole self.old start stop insert.now result
+        ensures { IsEdited S.grammar S.number S.count
+            (layout_in E.whole (S.grammar self.old.stepper)) self.old start stop insert.now result
             self.new }
     {
         let removed = String::from_str(self.kept.alloc, &self.kept.text[start..stop])?;

@@ -11,7 +11,8 @@ use Rattle.rustc_lexer.specs.Document.{whole_by}
 use Rattle.rustc_lexer.specs.Edits.{apply, IsEdit, IsRelexed, KeepsHead, part_by}
 use Rattle.rustc_lexer.specs.Locality.{IsGrammar}
 use Rattle.rustc_lexer.specs.means.Document.{AreKeptOf, IsPut, TakesFew, HeadStays, body_change, edit_change, body_insert, counted, document_by, head_by, head_of, text_left, tokens_of_head}
-use Rattle.rustc_lexer.specs.Kept.{Held, IsEdited, layout_in, tokens_in}
+use Rattle.rustc_lexer.specs.Kept.{Held, IsEdited, layout_in}
+use Rattle.rustc_lexer.specs.Partition.{Layout, tokens_in}
 use Rattle.rustc_lexer.specs.means.Relexing.{IsBodyRelexed, relexed_of}
 use Rattle.rustc_lexer.proofs.lemmas.edits.DocumentEdits.{IsBodyEdit, body_edit, relexed-front}
 use Rattle.rustc_lexer.proofs.lemmas.edits.DocumentPage.{At, ahead, at_same, end_is, from_page, front_is, to_page}
@@ -111,13 +112,13 @@ left_back (Ok x) made before err = absurd (true≢false (sym err))
 left_back (Err e) made before err = refl
 
 -- an edit that is refused: the text is put back, and all else is as it was
-pub refused : {S E : Type 0} {first : S → List ℕ → Token} {year steps : S → ℕ} {whole : Bool} {text left insert : List ℕ} {start stop : ℕ} {tokens now : List Token} {stepper then : S} (r : Result Relexed E) → IsErr r → IsText text → tokens ≡ document_by (head_by whole) (first stepper) text
+pub refused : {S E : Type 0} {first : S → List ℕ → Token} {year steps : S → ℕ} (whole : Bool) {text left insert : List ℕ} {start stop : ℕ} {tokens now : List Token} {stepper then : S} (r : Result Relexed E) → IsErr r → IsText text → tokens ≡ document_by (head_by whole) (first stepper) text
     → left ≡ text → now ≡ tokens → first then ≡ first stepper → year then ≡ year stepper → steps stepper ≤ steps then → TakesFew (layout_in whole (first stepper)) text start stop insert (steps stepper) (steps then)
-    → IsEdited first year steps whole (record { text = text; tokens = tokens; stepper = stepper }) start stop insert r (record { text = left; tokens = now; stepper = then })
-refused (Ok x) err is scratch left_is now_is grammar number rose few = absurd (true≢false (sym err))
-refused {first = first} {whole = whole} {text = text} {stepper = stepper} (Err e) err is scratch left_is now_is grammar number rose few = record {
+    → IsEdited first year steps (layout_in whole (first stepper)) (record { text = text; tokens = tokens; stepper = stepper }) start stop insert r (record { text = left; tokens = now; stepper = then })
+refused whole (Ok x) err is scratch left_is now_is grammar number rose few = absurd (true≢false (sym err))
+refused {first = first} whole {text = text} {stepper = stepper} (Err e) err is scratch left_is now_is grammar number rose few = record {
   text = search rules;
-  from_scratch = now_is ∙ (scratch ∙ (tokens_are whole (first stepper) text is ∙ ap (tokens_in whole (first stepper)) (sym left_is)));
+  from_scratch = now_is ∙ (scratch ∙ (tokens_are whole (first stepper) text is ∙ ap (λ xs. tokens_in (layout_in whole (first stepper) xs)) (sym left_is)));
   relexed = search rules;
   kept = search rules;
   count = search rules;
@@ -130,7 +131,7 @@ refused {first = first} {whole = whole} {text = text} {stepper = stepper} (Err e
 }
 
 -- one that is made is so whatever its errors are
-pub made_as : {S A B : Type 0} {first : S → List ℕ → Token} {year steps : S → ℕ} {whole : Bool} {old new : Held S} {start stop : ℕ} {insert : List ℕ} {r : Relexed} → IsEdited {E = A} first year steps whole old start stop insert (Ok r) new → IsEdited {E = B} first year steps whole old start stop insert (Ok r) new
+pub made_as : {S A B : Type 0} {first : S → List ℕ → Token} {year steps : S → ℕ} {layout : List ℕ → Layout} {old new : Held S} {start stop : ℕ} {insert : List ℕ} {r : Relexed} → IsEdited {E = A} first year steps layout old start stop insert (Ok r) new → IsEdited {E = B} first year steps layout old start stop insert (Ok r) new
 made_as is = record {
   text = is.text;
   from_scratch = is.from_scratch;

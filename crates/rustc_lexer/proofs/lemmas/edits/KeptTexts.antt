@@ -8,7 +8,8 @@ use Rattle.rustc_lexer.specs.declared.relex.head.Head.{Head}
 use Rattle.rustc_lexer.specs.{Edition, Token}
 use Rattle.rustc_lexer.specs.Answers.{first_in}
 use Rattle.rustc_lexer.specs.Classes.{IsText}
-use Rattle.rustc_lexer.specs.Kept.{Held, edition_tokens_in, layout_in, start_in, tokens_in}
+use Rattle.rustc_lexer.specs.Kept.{Held, edition_tokens_in, layout_in, start_in}
+use Rattle.rustc_lexer.specs.Partition.{tokens_in}
 use Rattle.rustc_lexer.specs.Locality.{IsGrammar}
 use Rattle.rustc_lexer.specs.Tokens.{bound}
 use Rattle.rustc_lexer.specs.means.Document.{AreKeptOf, document_by, head_by, tokens_of_head}
@@ -17,7 +18,7 @@ use Rattle.rustc_lexer.proofs.lemmas.edits.DocumentPage.{front_is, past_law}
 use Rattle.rustc_lexer.proofs.lemmas.heads.DocumentTokens.{document_law, shebang-boundary}
 use Rattle.rustc_lexer.proofs.lemmas.edits.KeptBounds.{end_is, kept_cuts, offset_fits, start_is}
 
-pub tokens_are : (whole : Bool) (first : List ℕ → Token) (text : List ℕ) → IsText text → document_by (head_by whole) first text ≡ tokens_in whole first text
+pub tokens_are : (whole : Bool) (first : List ℕ → Token) (text : List ℕ) → IsText text → document_by (head_by whole) first text ≡ tokens_in (layout_in whole first text)
 tokens_are whole first text w3 = grind (arith, common_steps, past_law)
 
 pub heads_are : (whole : Bool) (first : List ℕ → Token) (text : List ℕ) → IsText text → tokens_of_head (head_by whole text) ≡ (layout_in whole first text).head

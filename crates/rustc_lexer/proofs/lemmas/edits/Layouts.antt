@@ -5,7 +5,8 @@ use Rattle.std.proofs.lemmas.Bool.{cases_lt, eqb-false, eqb-true}
 use Rattle.std.proofs.lemmas.Grind.{common_steps}
 use Rattle.rustc_lexer.specs.{Token}
 use Rattle.rustc_lexer.specs.declared.relex.relexing.Relexed.{Relexed}
-use Rattle.rustc_lexer.specs.Edits.{body_in, IsMeeting, IsRelexed, KeepsHead, Layout, part_by, offset_in}
+use Rattle.rustc_lexer.specs.Edits.{body_in, IsMeeting, IsRelexed, KeepsHead, part_by, offset_in}
+use Rattle.rustc_lexer.specs.Partition.{Layout}
 use Rattle.rustc_lexer.specs.Tokens.{bound}
 use Rattle.rustc_lexer.specs.laws.Same.{same_token, token_same}
 use Rattle.rustc_lexer.specs.means.Relexing.{IsBodyMeeting, IsBodyRelexed}

@@ -1,6 +1,8 @@
 -- A list of edits, one edit at a time.
 use Rattle.std.proofs.Common.{◌≡◌, ℕ, zero, suc, ◌+◌, ◌-◌, ◌<◌, ◌≤◌, min, List, [], ◌∷◌, length, take, drop, get_or, refl, sym, ap, ◌∙◌, subst, arith, length-drop, length-take-le, drop-drop, Option, IfSome}
+use Rattle.std.specs.List.{All}
 use Rattle.std.proofs.lemmas.List.{length-take}
+use Rattle.std.proofs.lemmas.List.Elements.{All-cons, All-head, All-nil, All-tail}
 use Rattle.std.proofs.lemmas.Option.{slice_get-get_or}
 use Rattle.std.proofs.lemmas.Grind.{common_steps}
 use Rattle.rustc_lexer.specs.{Token}
@@ -9,9 +11,10 @@ use Rattle.rustc_lexer.specs.declared.relex.edit.Edit.{Edit}
 use Rattle.rustc_lexer.specs.declared.relex.edit_list.EditStop.{EditStop}
 use Rattle.rustc_lexer.specs.declared.relex.edit_list.EditStop.TheVariants.{Memory}
 use Rattle.rustc_lexer.specs.declared.relex.relexing.Relexed.{Relexed}
-use Rattle.rustc_lexer.specs.Edits.{IsEdit, IsRelexed, Layout, applied, apply, apply_list, count_after, AreEdits, AreLeast, AreStepped, IsRefusedOn, IsStop, IsStopStepped, stop_at}
+use Rattle.rustc_lexer.specs.Edits.{IsEdit, IsRelexed, applied, apply, apply_list, count_after, AreEdits, AreRelexed, AreStepped, IsGreatest, IsRefusedOn, IsStop, IsStopStepped, stop_at}
 use Rattle.rustc_lexer.specs.Kept.{AreKept}
-use Rattle.rustc_lexer.specs.means.EditList.{StayAtEnds}
+use Rattle.rustc_lexer.specs.Partition.{Layout}
+use Rattle.rustc_lexer.specs.means.EditList.{AreLeast, StayAtEnds}
 
 pub apply-next : (text : List ℕ) (es : List Edit) (n : ℕ) (d : Edit) → n < length es → apply_list text (take (suc n) es) ≡ applied (apply_list text (take n es)) (get_or es n d)
 apply-next text [] n d few = absurd (omega arith)
@@ -40,41 +43,56 @@ most_of layout text start stop insert before after few =
     (before + few.0.lexed - own, (few.0, few.1, omega (arith, at_most)), omega (arith, at_most))
 
 -- one more edit takes its steps more
-module _ (layout : (List ℕ → Token) → List ℕ → Layout) (first : List ℕ → Token) where
+module _ (layout : List ℕ → Layout) where
   abbrev IsSteppedBy : List ℕ → Edit → ℕ → ℕ → Type 0
-  IsSteppedBy text e before after = IsStepped (layout first) text e.start e.stop e.insert.now before after
+  IsSteppedBy text e before after = IsStepped layout text e.start e.stop e.insert.now before after
 
-  stepped-next : (text : List ℕ) (es : List Edit) (n : ℕ) (d : Edit) (before between after : ℕ) → n < length es → AreStepped (layout first) text (take n es) before between → IsSteppedBy (apply_list text (take n es)) (get_or es n d) between after → AreStepped (layout first) text (take (suc n) es) before after
+  stepped-next : (text : List ℕ) (es : List Edit) (n : ℕ) (d : Edit) (before between after : ℕ) → n < length es → AreStepped layout text (take n es) before between → IsSteppedBy (apply_list text (take n es)) (get_or es n d) between after → AreStepped layout text (take (suc n) es) before after
   stepped-next text [] n d before between after few are is = absurd (omega arith)
   stepped-next text (e ∷ es) zero d before between after few are is = (after, subst (λ (k : ℕ). IsSteppedBy text e k after) are is, refl)
   stepped-next text (e ∷ es) (suc n) d before between after few are is = (are.0, are.1, stepped-next (applied text e) es n d are.0 between after (omega arith) are.2 is)
 
-  pub stepped-more : (then : List ℕ → Token) (text now : List ℕ) (es : List Edit) (n before between after : ℕ) → n < length es → now ≡ apply_list text (take n es) → then ≡ first → AreStepped (layout first) text (take n es) before between
-      → IsStepped (layout then) now (get_or es n none).start (get_or es n none).stop (get_or es n none).insert.now between after → AreStepped (layout first) text (take (n + 1) es) before after
-  stepped-more then text now es n before between after few is same are one =
+  pub stepped-more : (text now : List ℕ) (es : List Edit) (n before between after : ℕ) → n < length es → now ≡ apply_list text (take n es) → AreStepped layout text (take n es) before between
+      → IsStepped layout now (get_or es n none).start (get_or es n none).stop (get_or es n none).insert.now between after → AreStepped layout text (take (n + 1) es) before after
+  stepped-more text now es n before between after few is are one =
       let e : Edit = get_or es n none in
       let more : suc n ≡ n + 1 = omega arith in
-      let here : IsSteppedBy (apply_list text (take n es)) e between after = subst (λ f. IsStepped (layout f) (apply_list text (take n es)) e.start e.stop e.insert.now between after) same (subst (λ xs. IsStepped (layout then) xs e.start e.stop e.insert.now between after) is one) in
-      subst (λ k. AreStepped (layout first) text (take k es) before after) more (stepped-next text es n none before between after few are here)
+      let here : IsSteppedBy (apply_list text (take n es)) e between after = subst (λ xs. IsStepped layout xs e.start e.stop e.insert.now between after) is one in
+      subst (λ k. AreStepped layout text (take k es) before after) more (stepped-next text es n none before between after few are here)
 
   -- where memory is refused, the steps are at most those of one edit more
-  pub stop-stepped : (then : List ℕ → Token) (text now : List ℕ) (es : List Edit) (n before between after : ℕ) → n < length es → now ≡ apply_list text (take n es) → then ≡ first → AreStepped (layout first) text (take n es) before between → between ≤ after
-      → (r : Relexed) × IsRelexed (layout then) now (get_or es n none).start (get_or es n none).stop (get_or es n none).insert.now r × (after + (length (layout then (applied now (get_or es n none))).head - r.kept_front) ≤ between + r.lexed) → IsStopStepped (Memory n) (layout first) text es before after
-  stop-stepped then text now es n before between after few is same are rose at_most =
-      let most = most_of (layout then) now (get_or es n none).start (get_or es n none).stop (get_or es n none).insert.now between after at_most in
-      (between, most.0, are, rose, stepped-more then text now es n before between most.0 few is same are most.1, most.2)
+  pub stop-stepped : (text now : List ℕ) (es : List Edit) (n before between after : ℕ) → n < length es → now ≡ apply_list text (take n es) → AreStepped layout text (take n es) before between → between ≤ after
+      → (r : Relexed) × IsRelexed layout now (get_or es n none).start (get_or es n none).stop (get_or es n none).insert.now r × (after + (length (layout (applied now (get_or es n none))).head - r.kept_front) ≤ between + r.lexed) → IsStopStepped (Memory n) layout text es before after
+  stop-stepped text now es n before between after few is are rose at_most =
+      let most = most_of layout now (get_or es n none).start (get_or es n none).stop (get_or es n none).insert.now between after at_most in
+      (between, most.0, are, rose, stepped-more text now es n before between most.0 few is are most.1, most.2)
 
 -- one more edit keeps no more
-module _ (layout : (List ℕ → Token) → List ℕ → Layout) (first : List ℕ → Token) (r : Relexed) where
-  least-next : (text : List ℕ) (es : List Edit) (n : ℕ) (d : Edit) (f b front back next_front next_back : ℕ) → n < length es → next_front ≡ min front r.kept_front → next_back ≡ min back r.kept_back → AreLeast (layout first) text (take n es) f b front back
-      → IsRelexed (layout first) (apply_list text (take n es)) (get_or es n d).start (get_or es n d).stop (get_or es n d).insert.now r → AreLeast (layout first) text (take (suc n) es) f b next_front next_back
+module _ (layout : List ℕ → Layout) (r : Relexed) where
+  least-next : (text : List ℕ) (es : List Edit) (n : ℕ) (d : Edit) (f b front back next_front next_back : ℕ) → n < length es → next_front ≡ min front r.kept_front → next_back ≡ min back r.kept_back → AreLeast layout text (take n es) f b front back
+      → IsRelexed layout (apply_list text (take n es)) (get_or es n d).start (get_or es n d).stop (get_or es n d).insert.now r → AreLeast layout text (take (suc n) es) f b next_front next_back
   least-next text [] n d f b front back next_front next_back few front_is back_is are is = absurd (omega arith)
   least-next text (e ∷ es) zero d f b front back next_front next_back few front_is back_is are is = grind (arith, common_steps)
   least-next text (e ∷ es) (suc n) d f b front back next_front next_back few front_is back_is are is = grind (arith, common_steps, least-next (applied text e) es n d (min f are.0.kept_front) (min b are.0.kept_back) front back next_front next_back (omega arith) front_is back_is are.2 is)
 
-  pub least-more : (then : List ℕ → Token) (text now : List ℕ) (es : List Edit) (n f b front back next_front next_back : ℕ) → n < length es → now ≡ apply_list text (take n es) → then ≡ first → next_front ≡ min front r.kept_front → next_back ≡ min back r.kept_back → AreLeast (layout first) text (take n es) f b front back
-      → IsRelexed (layout then) now (get_or es n none).start (get_or es n none).stop (get_or es n none).insert.now r → AreLeast (layout first) text (take (n + 1) es) f b next_front next_back
-  least-more then text now es n f b front back next_front next_back few is same front_is back_is are one = grind (arith, common_steps, least-next)
+  pub least-more : (text now : List ℕ) (es : List Edit) (n f b front back next_front next_back : ℕ) → n < length es → now ≡ apply_list text (take n es) → next_front ≡ min front r.kept_front → next_back ≡ min back r.kept_back → AreLeast layout text (take n es) f b front back
+      → IsRelexed layout now (get_or es n none).start (get_or es n none).stop (get_or es n none).insert.now r → AreLeast layout text (take (n + 1) es) f b next_front next_back
+  least-more text now es n f b front back next_front next_back few is front_is back_is are one = grind (arith, common_steps, least-next)
+
+-- the least of some numbers is the greatest that is at most each of them
+greatest-next : (read : Relexed → ℕ) (r : Relexed) (rs : List Relexed) (most n : ℕ) → IsGreatest (λ n. (n ≤ min most (read r)) × All (λ (c : Relexed). n ≤ read c) rs) n → IsGreatest (λ n. (n ≤ most) × All (λ (c : Relexed). n ≤ read c) (r ∷ rs)) n
+greatest-next read r rs most n is = (
+  (omega (arith, is.0.0), All-cons (λ (c : Relexed). n ≤ read c) r rs (omega (arith, is.0.0)) is.0.1),
+  λ m holds. is.1 m (omega (arith, holds.0, All-head (λ (c : Relexed). m ≤ read c) r rs holds.1), All-tail (λ (c : Relexed). m ≤ read c) r rs holds.1),
+)
+
+pub greatest-of : (layout : List ℕ → Layout) (text : List ℕ) (es : List Edit) (f b front back : ℕ) → AreLeast layout text es f b front back
+    → (each : List Relexed) × AreRelexed layout text es each × IsGreatest (λ n. (n ≤ f) × All (λ (c : Relexed). n ≤ c.kept_front) each) front × IsGreatest (λ n. (n ≤ b) × All (λ (c : Relexed). n ≤ c.kept_back) each) back
+greatest-of layout text [] f b front back are =
+    ([], refl, ((omega (arith, are.0), All-nil (λ (c : Relexed). front ≤ c.kept_front)), λ m holds. omega (arith, are.0, holds.0)), ((omega (arith, are.1), All-nil (λ (c : Relexed). back ≤ c.kept_back)), λ m holds. omega (arith, are.1, holds.0)))
+greatest-of layout text (e ∷ es) f b front back are =
+    let later = greatest-of layout (applied text e) es (min f are.0.kept_front) (min b are.0.kept_back) front back are.2 in
+    (are.0 ∷ later.0, (are.1, later.1), greatest-next (λ c. c.kept_front) are.0 later.0 f front later.2, greatest-next (λ c. c.kept_back) are.0 later.0 b back later.3)
 
 edits-next : (text : List ℕ) (es : List Edit) (n : ℕ) (d : Edit) → n < length es → AreEdits text (take n es) → IsEdit (apply_list text (take n es)) (get_or es n d).start (get_or es n d).stop (get_or es n d).insert.now → AreEdits text (take (suc n) es)
 edits-next text [] n d few are is = absurd (omega arith)

@@ -7,9 +7,10 @@ use Rattle.rustc_lexer.specs.{Token}
 use Rattle.rustc_lexer.specs.declared.relex.relexing.{Change.Change, Relexed.Relexed}
 use Rattle.rustc_lexer.specs.Classes.{IsText}
 use Rattle.rustc_lexer.specs.Document.{body_start, head_tokens, whole_by}
-use Rattle.rustc_lexer.specs.Edits.{apply, body_in, ends_from, IsEdit, IsMeeting, IsRelexed, KeepsHead, Layout}
+use Rattle.rustc_lexer.specs.Edits.{apply, body_in, ends_from, IsEdit, IsMeeting, IsRelexed, KeepsHead}
 use Rattle.rustc_lexer.specs.Locality.{has_two, IsGrammar}
 use Rattle.rustc_lexer.specs.Relexing.{IsMadeOf}
+use Rattle.rustc_lexer.specs.Partition.{Layout}
 use Rattle.rustc_lexer.specs.Tokens.{bound, tokens_by}
 use Rattle.rustc_lexer.specs.means.Document.{body_change, body_insert}
 use Rattle.rustc_lexer.specs.means.Relexing.{IsBodyMeeting, IsBodyRelexed, kept_front}

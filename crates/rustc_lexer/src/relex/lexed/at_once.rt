@@ -7,7 +7,7 @@ ghost use Rattle.rustc_lexer.specs.Edits.{AreAtOnce, AreInOrder, IsStopAtOnce, a
 ghost use Rattle.rustc_lexer.specs.Edits.{with_all};
 ghost use Rattle.rustc_lexer.specs.Classes.{Fits};
 ghost use Rattle.rustc_lexer.specs.means.Document.{edit_change};
-ghost use Rattle.rustc_lexer.specs.Kept.{IsEdited};
+ghost use Rattle.rustc_lexer.specs.Kept.{IsEdited, layout_in};
 
 use crate::entry::stepper::Stepper;
 use crate::relex::edit::{Edit, contains_range};
@@ -30,7 +30,8 @@ impl<S: Stepper, E: Extent> Lexed<S, E> {
         ensures none { edits.now ≡ []
             → (self.new ≡ self.old) × (result ≡ Ok (all_stay (length self.old.tokens))) }
         ensures edit { (edits.now ≡ [] → ⊥) → AreAtOnce self.old.text edits.now
-            → IsEdited {E = EditStop} S.grammar S.number S.count E.whole self.old
+            → IsEdited {E = EditStop} S.grammar S.number S.count
+            (layout_in E.whole (S.grammar self.old.stepper)) self.old
             (start_of_first edits.now) (stop_of_last 0 edits.now)
             (with_all self.old.text (start_of_first edits.now) edits.now) result self.new }
         ensures one_by_one { OnOk result (self.new.text ≡ apply_list self.old.text (reverse edits.now)) }

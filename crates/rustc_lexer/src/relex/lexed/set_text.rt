@@ -2,7 +2,7 @@
 ghost use Rattle.std.specs.Prelude.{◌≡◌, List, Ok, OnOk, ℕ, length};
 ghost use Rattle.rustc_lexer.specs.Classes.{Fits};
 ghost use Rattle.rustc_lexer.specs.Edits.{IsNarrowest, all_stay};
-ghost use Rattle.rustc_lexer.specs.Kept.{IsEdited};
+ghost use Rattle.rustc_lexer.specs.Kept.{IsEdited, layout_in};
 
 use crate::entry::stepper::Stepper;
 use crate::relex::common::{common_back, common_front};
@@ -24,8 +24,9 @@ impl<S: Stepper, E: Extent> Lexed<S, E> {
             → (self.new ≡ self.old) × (result ≡ Ok (all_stay (length self.old.tokens))) }
         ensures edit { (self.old.text ≡ text.now → ⊥) → (start stop : ℕ) × (insert : List ℕ)
             × IsNarrowest self.old.text text.now start stop insert
-            × IsEdited S.grammar S.number S.count E.whole self.old start stop insert
-            result self.new }
+            × IsEdited S.grammar S.number S.count
+            (layout_in E.whole (S.grammar self.old.stepper)) self.old start stop insert result
+            self.new }
     {
         let old = self.text();
         if old == text {

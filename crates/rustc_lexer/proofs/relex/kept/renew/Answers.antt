@@ -98,7 +98,7 @@ returns-in_err-lexed-clause-renewed g c before insert p =
     let near = near_behind c.args.kept.now.tokens.items c.args.kept.now.checkpoints b.n_is b.old_body p.kept.4 c.nearest-near.ensures in
     let few = few_by law g.E.Extent.whole p.kept.0 p.utf8 p.valid b _ _ (c.in_err-lexed.ensures.few _ _ made near) in
     let back = left_back c.from_residual.result (string_bytes c.args.kept.now.text) before c.from_residual.ensures.0 in
-    (rw (back, c.relex.ensures.grammar) p.kept, refused c.from_residual.result c.from_residual.ensures.0 p.kept.0 p.kept.1 back refl c.relex.ensures.grammar c.relex.ensures.number c.relex.ensures.rose few)
+    (rw (back, c.relex.ensures.grammar) p.kept, refused g.E.Extent.whole c.from_residual.result c.from_residual.ensures.0 p.kept.0 p.kept.1 back refl c.relex.ensures.grammar c.relex.ensures.number c.relex.ensures.rose few)
 
 pub returns-in_err-put_tokens-clause-renewed : goal.returns-in_err-put_tokens-clause-renewed
 returns-in_err-put_tokens-clause-renewed g c before insert p =
@@ -111,4 +111,4 @@ returns-in_err-put_tokens-clause-renewed g c before insert p =
     let few = few_by law g.E.Extent.whole p.kept.0 p.utf8 p.valid b _ _ (omega (arith, l.lexed, c.in_ok-lexed.ensures.count, steps)) in
     let r = c.from_residual-in_err-put_tokens in
     let back = left_back r.result (string_bytes c.args.kept.now.text) before r.ensures.0 in
-    (rw (back, c.relex.ensures.grammar, c.in_err-put_tokens.ensures.same) p.kept, refused r.result r.ensures.0 p.kept.0 p.kept.1 back c.in_err-put_tokens.ensures.same c.relex.ensures.grammar c.relex.ensures.number c.relex.ensures.rose few)
+    (rw (back, c.relex.ensures.grammar, c.in_err-put_tokens.ensures.same) p.kept, refused g.E.Extent.whole r.result r.ensures.0 p.kept.0 p.kept.1 back c.in_err-put_tokens.ensures.same c.relex.ensures.grammar c.relex.ensures.number c.relex.ensures.rose few)

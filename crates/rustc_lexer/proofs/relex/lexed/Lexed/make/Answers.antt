@@ -25,13 +25,14 @@ returns-else-contains_range-clause-made g c =
 
 pub returns-in-Err-clause-made : goal.returns-in-Err-clause-made
 returns-in-Err-clause-made g c =
-    made_refused c.list.invariant.made c.list-test.true (rw c.text-text.ensures.text at (c.if-not-accepts.ensures.0 refl)) c.in-Err.ensures
+    made_refused c.list.invariant.made c.list-test.true (rw c.text-text.ensures.text at (c.if-not-accepts.ensures.0 refl)) (rw c.list.invariant.made.grammar at c.in-Err.ensures)
 
 pub returns-in-Err-clause-kept : goal.returns-in-Err-clause-kept
 returns-in-Err-clause-kept g c =
-    kept_refused c.list.invariant.made c.list-test.true (rw c.text-text.ensures.text at (c.if-not-accepts.ensures.0 refl)) c.list.invariant.kept c.in-Err.ensures
+    kept_refused c.list.invariant.made c.list-test.true (rw c.text-text.ensures.text at (c.if-not-accepts.ensures.0 refl)) c.list.invariant.kept (rw c.list.invariant.made.grammar at c.in-Err.ensures)
 
 pub list-preserved : goal.list-preserved
 list-preserved g c =
     let is = rw c.text-text.ensures.text at (c.if-not-accepts.ensures.0 refl) in
-    record { made = made_more c.list.invariant.made c.list-test.true is c.more.result c.in-Ok.ensures c.more.ensures.count c.more.ensures.front c.more.ensures.back; kept = kept_more c.list.invariant.made c.list-test.true is c.more.result c.list.invariant.kept c.in-Ok.ensures c.more.ensures.count c.more.ensures.front c.more.ensures.back }
+    let edited = rw c.list.invariant.made.grammar at c.in-Ok.ensures in
+    record { made = made_more c.list.invariant.made c.list-test.true is c.more.result edited c.more.ensures.count c.more.ensures.front c.more.ensures.back; kept = kept_more c.list.invariant.made c.list-test.true is c.more.result c.list.invariant.kept edited c.more.ensures.count c.more.ensures.front c.more.ensures.back }

@@ -1,11 +1,12 @@
 use Rattle.std.proofs.Common.{length, ◌-◌}
+use Rattle.rustc_lexer.specs.Kept.{layout_in}
 use Rattle.rustc_lexer.specs.means.EditList.{AreKeptTo, AreMadeTo}
 use Rattle.rustc_lexer.proofs.relex.lexed.Lexed.make.Given as goal
 
 abbrev pub invariant-list : goal.invariant-list
 invariant-list g l = record {
-  made : AreMadeTo g.S.Stepper.grammar g.S.Stepper.number g.S.Stepper.count g.E.Extent.whole l.fn.self l.edits l.made l.self;
-  kept : AreKeptTo g.S.Stepper.grammar g.E.Extent.whole l.fn.self l.edits l.made l.self;
+  made : AreMadeTo g.S.Stepper.grammar g.S.Stepper.number g.S.Stepper.count (layout_in g.E.Extent.whole (g.S.Stepper.grammar l.fn.self.stepper)) l.fn.self l.edits l.made l.self;
+  kept : AreKeptTo (layout_in g.E.Extent.whole (g.S.Stepper.grammar l.fn.self.stepper)) l.fn.self l.edits l.made l.self;
 }
 
 abbrev pub decreases-list : goal.decreases-list
