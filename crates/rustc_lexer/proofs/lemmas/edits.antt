@@ -6,10 +6,9 @@ pub mod Bounds
 pub mod ByLengths
 pub mod Checkpoints
 pub mod DocumentEdits
-pub mod DocumentPage
-pub mod DocumentPieces
 pub mod FromTheFront
 pub mod FrontAndBack
+pub mod Heads
 pub mod InCommon
 pub mod KeptBounds
 pub mod KeptEdits

@@ -1,3 +1,4 @@
 pub mod ByTokens
 pub mod DocumentTokens
 pub mod Ends
+pub mod Heads

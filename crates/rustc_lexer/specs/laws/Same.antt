@@ -91,6 +91,9 @@ decided_same answer a b decided = (λ t. same_token a b (sym decided ∙ t), λ 
 heads_by : (E : Option Token → Option Token → Bool) → ((x y : Option Token) → E x y ≡ true → x ≡ y) → (a b : Head) → (a.shebang_len == b.shebang_len && (a.space_len == b.space_len && (E a.frontmatter b.frontmatter && a.body == b.body))) ≡ true → a ≡ b
 heads_by E tells a b e = grind (arith, common_steps, and_parts, eqb-true)
 
-pub decided_head : (answer : Bool) (a b : Head) → answer ≡ head.ghosts.eq a b → IsTrue answer ↔ (a ≡ b)
+abbrev pub is_same_head : Head → Head → Bool
+is_same_head a b = head.ghosts.eq a b
+
+pub decided_head : (answer : Bool) (a b : Head) → answer ≡ is_same_head a b → IsTrue answer ↔ (a ≡ b)
 decided_head answer a b decided =
     (λ t. heads_by (option_eq is_same) (option-tells is_same (record { tells = same_token })) a b (sym decided ∙ t), λ e. decided ∙ (ap (head.ghosts.eq a) (sym e) ∙ equal.laws-law.refl a))

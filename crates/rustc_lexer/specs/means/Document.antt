@@ -9,9 +9,10 @@ use Rattle.rustc_lexer.specs.Classes.{IsText}
 use Rattle.rustc_lexer.specs.Document.{shebang_len}
 pub use Rattle.rustc_lexer.specs.Relexing.{front_tokens, tokens_of_head}
 use Rattle.rustc_lexer.specs.Edits.{IsEdit, IsRelexed, apply}
-use Rattle.rustc_lexer.specs.Partition.{Layout, tokens_by}
+use Rattle.rustc_lexer.specs.Partition.{Layout, bound, tokens_by, tokens_in}
 use Rattle.rustc_lexer.specs.means.Checkpoints.{AreBounds}
 use Rattle.rustc_lexer.specs.means.Frontmatter.{frontmatter, opens, spaces_len}
+use Rattle.rustc_lexer.specs.means.Pieces.{AreBoundariesFrom}
 use Rattle.rustc_lexer.specs.means.Relexing.{IsRenewed}
 use Rattle.rustc_lexer.specs.means.Scan.{past}
 
@@ -43,21 +44,29 @@ head_at n rest =
 unfoldable pub head_of : List ℕ → Head
 head_of text = head_at (shebang_len text) (drop (shebang_len text) text)
 
--- the head of a whole document, or that of a part of one, which has none
-abbrev pub head_by : Bool → List ℕ → Head
-head_by true = head_of
-head_by false = λ text. record { shebang_len = 0; space_len = 0; frontmatter = None; body = 0 }
+-- where the tokens of a text with this head are, by a grammar
+abbrev pub by_head : Head → (List ℕ → Token) → List ℕ → Layout
+by_head head first text =
+    record {
+      start = head.shebang_len;
+      head = tokens_of_head head;
+      body = tokens_by first (drop head.body text);
+    }
 
--- the tokens of a text, if `heads` says what its head is: those of the head, and those of the text
--- after it
-abbrev pub document_by : (List ℕ → Head) → (List ℕ → Token) → List ℕ → List Token
-document_by heads first text =
-    tokens_of_head (heads text) ++ tokens_by first (drop (heads text).body text)
+-- it is the head of the text, if `layout` tells where the tokens are by a grammar
+pub record IsHeadIn (layout : (List ℕ → Token) → List ℕ → Layout) (text : List ℕ) (head : Head) :
+    Type 0 where
+  pub layout_is : (first : List ℕ → Token) → layout first text ≡ by_head head first text
+  pub bare : head.frontmatter ≡ None → head.space_len ≡ 0
+  pub ends : head.body
+      ≡ head.shebang_len + bound (tokens_of_head head) (length (tokens_of_head head))
+  pub cuts : AreBoundariesFrom text head.shebang_len (tokens_of_head head)
 
 -- what is kept with a text: its tokens, its head, and boundaries of the tokens of its body
-abbrev pub AreKeptOf : Bool → (List ℕ → Token) → List ℕ → List Token → Head → Checkpoints → Type 0
-AreKeptOf whole first text tokens head checkpoints =
-    IsText text × (tokens ≡ document_by (head_by whole) first text) × (head ≡ head_by whole text)
+abbrev pub AreKeptOf : ((List ℕ → Token) → List ℕ → Layout) → (List ℕ → Token) → List ℕ → List Token
+    → Head → Checkpoints → Type 0
+AreKeptOf layout first text tokens head checkpoints =
+    IsText text × (tokens ≡ tokens_in (layout first text)) × IsHeadIn layout text head
     × IsCharBoundary text head.body
     × AreBounds (drop (length (tokens_of_head head)) tokens) checkpoints
 
@@ -67,9 +76,9 @@ edit_change start stop insert =
     record { start = start; old_stop = stop; new_stop = start + length insert }
 
 -- the text is `made` by a valid edit, and what is kept with it is still that of the text `before`
-pub record IsPut (whole : Bool) (first : List ℕ → Token) (before insert : List ℕ) (edit : Change)
+pub record IsPut (layout : (List ℕ → Token) → List ℕ → Layout) (first : List ℕ → Token) (before insert : List ℕ) (edit : Change)
     (made : List ℕ) (tokens : List Token) (head : Head) (checkpoints : Checkpoints) : Type 0 where
-  pub kept : AreKeptOf whole first before tokens head checkpoints
+  pub kept : AreKeptOf layout first before tokens head checkpoints
   pub utf8 : IsUtf8 insert
   pub valid : IsEdit before edit.start edit.old_stop insert
   pub offsets : edit ≡ edit_change edit.start edit.old_stop insert
@@ -110,11 +119,6 @@ counted false old new r =
 -- what an edit inserts into the body
 abbrev pub body_insert : Bool → Change → List ℕ → List ℕ → List ℕ
 body_insert kept change insert body = if kept then insert else take change.new_stop body
-
--- the head is the same after the edit, and ends before it
-abbrev pub HeadStays : (List ℕ → Head) → List ℕ → ℕ → ℕ → List ℕ → Type 0
-HeadStays heads text start stop insert =
-    (heads text ≡ heads (apply text start stop insert)) × ((heads text).body ≤ start)
 
 -- how many steps it took from `before` on is at most what the edit takes
 abbrev pub TakesFew : (List ℕ → Layout) → List ℕ → ℕ → ℕ → List ℕ → ℕ → ℕ → Type 0

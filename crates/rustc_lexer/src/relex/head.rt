@@ -2,6 +2,7 @@
 ghost use Rattle.std.specs.Prelude.{◌≡◌, ◌++◌, Bool, OnOk, false, length, true};
 ghost use Rattle.std.specs.Str.{IsCharBoundary};
 ghost use Rattle.rustc_lexer.specs.Classes.{Fits};
+ghost use Rattle.rustc_lexer.specs.Kept.{layout_in};
 ghost use Rattle.rustc_lexer.specs.Relexing as spec;
 ghost use Rattle.rustc_lexer.specs.means.Document as means;
 
@@ -48,7 +49,7 @@ pub trait Extent: Copy {
     /// Finds the head of a text.
     fn find_head(text: &str) -> Head
         requires fits { Fits text.now }
-        ensures head { result ≡ means.head_by whole text.now }
+        ensures head { means.IsHeadIn (layout_in whole) text.now result }
         ensures boundary { IsCharBoundary text.now result.body };
 }
 
@@ -110,7 +111,7 @@ impl Extent for Part {
 
 impl Head {
     /// Returns the head of a document. The text may have at most `u32::MAX` bytes, which is not tested.
-    #[tactic(auto, using(crate::proofs::lemmas::edits::BodyChanges::is_head, std::proofs::lemmas::Grind::common_steps))]
+    #[tactic(auto, using(crate::proofs::lemmas::edits::Heads::is_page, std::proofs::lemmas::Grind::common_steps))]
     pub fn find(text: &str) -> Head
         requires fits { Fits text.now }
         ensures head { spec.IsHeadOf text.now result }

@@ -40,16 +40,16 @@ pub(crate) fn renew<S: Stepper, E: Extent>(
     edit: Change,
 ) -> Result<Relexed, AllocError>
     requires fits { Fits (string_bytes kept.old.text) }
-    requires put { (before insert : List ℕ) × means.IsPut E.whole (S.grammar kept.old.stepper)
+    requires put { (before insert : List ℕ) × means.IsPut (layout_in E.whole) (S.grammar kept.old.stepper)
         before insert edit (string_bytes kept.old.text)
         kept.old.tokens.items kept.old.head kept.old.checkpoints }
     ensures text { kept.new.text ≡ kept.old.text }
     ensures renewed { (before insert : List ℕ)
-        → means.IsPut E.whole (S.grammar kept.old.stepper)
+        → means.IsPut (layout_in E.whole) (S.grammar kept.old.stepper)
         before insert edit (string_bytes kept.old.text)
         kept.old.tokens.items kept.old.head kept.old.checkpoints
         → let left = means.text_left result (string_bytes kept.new.text) before in
-        means.AreKeptOf E.whole (S.grammar kept.new.stepper) left
+        means.AreKeptOf (layout_in E.whole) (S.grammar kept.new.stepper) left
         kept.new.tokens.items kept.new.head kept.new.checkpoints
         × IsEdited S.grammar S.number S.count (layout_in E.whole (S.grammar kept.old.stepper))
         (record { text = before; tokens = kept.old.tokens.items; stepper = kept.old.stepper })

@@ -53,7 +53,7 @@ pub type LexedDocument<S> = Lexed<S, Whole>;
 
 impl<S: Stepper, E: Extent> Model for Lexed<S, E> {
     ghost use Rattle.std.specs.String.{string_bytes};
-    ghost use Rattle.rustc_lexer.specs.Kept.{Held};
+    ghost use Rattle.rustc_lexer.specs.Kept.{Held, layout_in};
     ghost use Rattle.rustc_lexer.specs.means.Document.{AreKeptOf};
 
     ghost Value = { Held S };
@@ -64,7 +64,7 @@ impl<S: Stepper, E: Extent> Model for Lexed<S, E> {
       stepper = a.kept.stepper;
     } };
 
-    ghost invariant = { λ a. AreKeptOf E.whole (S.grammar a.kept.stepper) (string_bytes a.kept.text)
+    ghost invariant = { λ a. AreKeptOf (layout_in E.whole) (S.grammar a.kept.stepper) (string_bytes a.kept.text)
         a.kept.tokens.items a.kept.head a.kept.checkpoints };
 }
 

@@ -1,5 +1,5 @@
 -- Edits that are made at once: one more of them.
-use Rattle.std.proofs.Common.{◌≡◌, Bool, ℕ, zero, suc, ◌+◌, ◌-◌, ◌^◌, ◌<◌, ◌≤◌, min, List, [], ◌∷◌, ◌++◌, length, take, drop, reverse, get_or, refl, sym, ap, ◌∙◌, subst, arith, IsUtf8, IsCharBoundary, append_assoc, length-append, length-drop, length-take-le, take-take}
+use Rattle.std.proofs.Common.{◌≡◌, ℕ, zero, suc, ◌+◌, ◌-◌, ◌^◌, ◌<◌, ◌≤◌, min, List, [], ◌∷◌, ◌++◌, length, take, drop, reverse, get_or, refl, sym, ap, ◌∙◌, subst, arith, IsUtf8, IsCharBoundary, append_assoc, length-append, length-drop, length-take-le, take-take}
 use Rattle.std.proofs.lemmas.List.{append-nil, reverse-append, take-append-drop, take-append-le}
 use Rattle.std.proofs.Math.Seq.{drop-append_seam, take-add}
 use Rattle.std.proofs.lemmas.Str.{IsCharBoundary-start, IsUtf8-append, IsUtf8-between, IsUtf8-past_char, IsUtf8-take}
@@ -12,6 +12,7 @@ use Rattle.rustc_lexer.specs.declared.relex.head.Head.{Head}
 use Rattle.rustc_lexer.specs.declared.relex.relexing.Change.{Change}
 use Rattle.rustc_lexer.specs.{Token}
 use Rattle.rustc_lexer.specs.Classes.{IsText}
+use Rattle.rustc_lexer.specs.Partition.{Layout}
 use Rattle.rustc_lexer.specs.means.Document.{AreKeptOf, IsPut, edit_change}
 use Rattle.rustc_lexer.proofs.lemmas.edits.Lists.{none}
 use Rattle.rustc_lexer.proofs.lemmas.edits.KeptEdits.{put_by}
@@ -149,6 +150,6 @@ at_once_none text [] none is =
 at_once_none text (e ∷ es) none is = absurd (omega arith)
 
 -- all that they make is the text that the one edit makes
-pub put_at_once : {whole : Bool} {first : List ℕ → Token} {before made : List ℕ} (es : List Edit) {edit : Change} {tokens : List Token} {head : Head} {checkpoints : Checkpoints} → (es ≡ [] → ⊥) → AreKeptOf whole first before tokens head checkpoints → IsUtf8 (with_all before (start_of_first es) es) → AreAtOnce before es
-    → edit ≡ edit_change (start_of_first es) (stop_of_last 0 es) (with_all before (start_of_first es) es) → made ≡ with_all before 0 es ++ drop (stop_of_last 0 es) before → IsPut whole first before (with_all before (start_of_first es) es) edit made tokens head checkpoints
+pub put_at_once : {layout : (List ℕ → Token) → List ℕ → Layout} {first : List ℕ → Token} {before made : List ℕ} (es : List Edit) {edit : Change} {tokens : List Token} {head : Head} {checkpoints : Checkpoints} → (es ≡ [] → ⊥) → AreKeptOf layout first before tokens head checkpoints → IsUtf8 (with_all before (start_of_first es) es) → AreAtOnce before es
+    → edit ≡ edit_change (start_of_first es) (stop_of_last 0 es) (with_all before (start_of_first es) es) → made ≡ with_all before 0 es ++ drop (stop_of_last 0 es) before → IsPut layout first before (with_all before (start_of_first es) es) edit made tokens head checkpoints
 put_at_once {before = before} es some kept utf8 valid edit_is made_is = rw edit_is (put_by kept utf8 valid.1 (made_is ∙ applied_is before es some) refl)

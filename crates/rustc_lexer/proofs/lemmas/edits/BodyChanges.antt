@@ -1,6 +1,6 @@
 -- What an edit of a document is to its body, by the tokens of the grammar.
 use Rattle.std.proofs.lemmas.Grind.{common_steps}
-use Rattle.std.proofs.Common.{◌≡◌, ℕ, ◌+◌, ◌-◌, ◌≤◌, Bool, true, false, true≢false, List, length, map, max, drop, refl, sym, ap, ap₂, ◌∙◌, subst, arith, IsCharBoundary, IsUtf8, IsTrue, ◌↔◌}
+use Rattle.std.proofs.Common.{◌≡◌, ℕ, ◌+◌, ◌-◌, ◌≤◌, Bool, true, false, List, length, map, max, drop, refl, sym, ap, ◌∙◌, subst, arith, IsUtf8, IsTrue, ◌↔◌}
 use Rattle.rustc_lexer.specs.{Token}
 use Rattle.rustc_lexer.specs.declared.relex.head.Head.{Head}
 use Rattle.rustc_lexer.specs.declared.relex.relexing.{Change.Change, Relexed.Relexed}
@@ -9,88 +9,69 @@ use Rattle.rustc_lexer.specs.Document.{body_start, head_tokens, whole_by}
 use Rattle.rustc_lexer.specs.Edits.{apply, IsEdit, IsRelexed, KeepsHead, part_by}
 use Rattle.rustc_lexer.specs.Locality.{IsGrammar}
 use Rattle.rustc_lexer.specs.Relexing.{IsEditOf, IsMadeOf, IsBodyChange, IsHeadOf, IsInBody}
+use Rattle.rustc_lexer.specs.Partition.{Layout}
 use Rattle.rustc_lexer.specs.Tokens.{tokens_by}
-use Rattle.rustc_lexer.specs.means.Document.{body_change, body_insert, counted, head_of, HeadStays}
-use Rattle.rustc_lexer.specs.means.Relexing.{IsBodyRelexed}
-use Rattle.rustc_lexer.proofs.lemmas.edits.BodyEdits.{made_body}
-use Rattle.rustc_lexer.proofs.lemmas.edits.DocumentPage.{ahead, end_is, from_page, front_is, same-parts, to_page}
+use Rattle.rustc_lexer.specs.means.Document.{body_change, body_insert, by_head, counted, IsHeadIn, tokens_of_head}
+use Rattle.rustc_lexer.proofs.lemmas.edits.Heads.{head_kept, keeps_head, whole_head}
 use Rattle.rustc_lexer.proofs.lemmas.edits.FrontAndBack.{edited}
-use Rattle.rustc_lexer.proofs.lemmas.heads.Ends.{head-shebang}
 use Rattle.rustc_lexer.proofs.lemmas.edits.Layouts.{body_by_part}
-use Rattle.rustc_lexer.proofs.lemmas.edits.WholeEdits.{relexed_as}
+use Rattle.rustc_lexer.proofs.lemmas.edits.WholeEdits.{body_made, relexed_as}
 
-module _ (text : List ℕ) (is : IsText text) where
-  pub is_head : IsHeadOf text (head_of text)
-  is_head = record { shebang_is = head-shebang text; tokens_are = front_is text is; bare = (ahead text is).bare; end_is = end_is text is }
-
-  -- there is no other head
-  pub head_is : (head : Head) → IsHeadOf text head → head ≡ head_of text
-  head_is head h =
-      grind (arith, common_steps, same-parts head.space_len (head_of text).space_len head.frontmatter (head_of text).frontmatter h.bare (ahead text is).bare (h.tokens_are ∙ sym (front_is text is)), h.shebang_is, head-shebang text, h.end_is, end_is text is)
-
-module _ {first : List ℕ → Token} (law : IsGrammar first) (text insert : List ℕ) (edit : Change) (is : IsText text) (its : IsUtf8 insert) (fine : IsEdit text edit.start edit.old_stop insert) (sum : edit.new_stop ≡ edit.start + length insert) where
+module _ {first : List ℕ → Token} (law : IsGrammar first) (text insert : List ℕ) (edit : Change) (is : IsText text) (its : IsUtf8 insert) (fine : IsEdit text edit.start edit.old_stop insert) where
   abbrev made : List ℕ
   made = apply text edit.start edit.old_stop insert
-
-  now_is : IsText made
-  now_is = (edited text edit.start edit.old_stop insert is its fine).text_is
 
   abbrev whole : Change
   whole = record { start = edit.start; old_stop = edit.old_stop; new_stop = edit.start + length insert }
 
-  whole_is : edit ≡ whole
-  whole_is = ap (λ (p : ℕ). let ch : Change = record { start = edit.start; old_stop = edit.old_stop; new_stop = p } in ch) sum
+  module _ (old now : Head) (kept : Bool) (old_head : IsHeadOf text old) (now_head : IsHeadOf made now) (decided : IsTrue kept ↔ ((old ≡ now) × (old.body ≤ edit.start))) where
+    old_is : IsHeadIn whole_by text old
+    old_is = whole_head text is old old_head
 
-  module _ (old now : Head) (kept : Bool) (change : Change) (old_head : IsHeadOf text old) (now_head : IsHeadOf made now) (decided : IsTrue kept ↔ ((old ≡ now) × (old.body ≤ edit.start))) (change_is : change ≡ body_change kept old.body now.body edit) where
-    here : change ≡ body_change kept (body_start text) (body_start made) whole
-    here = change_is ∙ (ap₂ (λ from to. body_change kept from to edit) old_head.end_is now_head.end_is ∙ ap (body_change kept (body_start text) (body_start made)) whole_is)
-
-    stays : kept ≡ true → HeadStays head_of text edit.start edit.old_stop insert
-    stays e = (sym (head_is text is old old_head) ∙ ((decided.0 e).0 ∙ head_is made now_is now now_head), (let p = (decided.0 e).1 in omega (arith, p, ap (λ (h : Head). h.body) (head_is text is old old_head))))
-
-    stayed : HeadStays head_of text edit.start edit.old_stop insert → kept ≡ true
-    stayed k = decided.1 (head_is text is old old_head ∙ (k.0 ∙ sym (head_is made now_is now now_head)), (let p = k.1 in omega (arith, p, ap (λ (h : Head). h.body) (head_is text is old old_head))))
+    now_is : IsHeadIn whole_by made now
+    now_is = whole_head made (edited text edit.start edit.old_stop insert is its fine).text_is now now_head
 
     abbrev body : List ℕ
-    body = drop (body_start text) text
+    body = drop old.body text
 
-    abbrev new_body : List ℕ
-    new_body = drop (body_start made) made
+    abbrev change : Change
+    change = body_change kept old.body now.body whole
 
-    ends_at : kept ≡ true → (body_start text ≡ body_start made) × (body_start text ≤ edit.start)
-    ends_at e = (sym old_head.end_is ∙ (ap (λ (h : Head). h.body) (decided.0 e).0 ∙ now_head.end_is), (let p = (decided.0 e).1 in omega (arith, p, old_head.end_is)))
-
-    made_here : IsMadeOf first body (map (λ (t : Token). t.len) (tokens_by first body)) change (body_insert kept change insert new_body) new_body
-    made_here =
-        let old_at = subst (λ n. IsCharBoundary text n) (end_is text is) (ahead text is).boundary in
-        let now_at = subst (λ n. IsCharBoundary made n) (end_is made now_is) (ahead made now_is).boundary in
-        subst (λ (ch : Change). IsMadeOf first body (map (λ (t : Token). t.len) (tokens_by first body)) ch (body_insert kept ch insert new_body) new_body) (sym here)
-        (made_body law text insert made edit.start edit.old_stop is its fine refl (body_start text) (body_start made) old_at now_at (tokens_by first body) refl new_body refl kept ends_at)
+    abbrev put : List ℕ
+    put = body_insert kept change insert (drop now.body made)
 
     keeps_here : IsTrue kept ↔ KeepsHead (whole_by first text) (whole_by first made) edit.start
-    keeps_here = (λ k. to_page first text insert edit.start edit.old_stop is now_is (stays k), λ s. stayed (from_page first text insert edit.start edit.old_stop is now_is s))
+    keeps_here =
+        subst (λ (of : Layout). IsTrue kept ↔ KeepsHead of (whole_by first made) edit.start) (sym (old_is.layout_is first))
+        (subst (λ (of : Layout). IsTrue kept ↔ KeepsHead (by_head old first text) of edit.start) (sym (now_is.layout_is first))
+        (λ k. keeps_head old_is now_is first edit.start (decided.0 k), λ s. decided.1 (head_kept old_is now_is first edit.start s)))
 
-    counts_here : (r : Relexed) → IsRelexed (part_by first) body change.start change.old_stop (body_insert kept change insert new_body) r
-        → IsRelexed (whole_by first) text edit.start edit.old_stop insert (counted kept (length (head_tokens text)) (length (head_tokens made)) r)
-    counts_here r x =
-        let there = subst (λ (ch : Change). IsBodyRelexed first body ch.start ch.old_stop (body_insert kept ch insert new_body) r) here (body_by_part first body change.start change.old_stop _ r x) in
-        relexed_as law text insert edit.start edit.old_stop is its fine kept keeps_here.0 (λ e k. true≢false (sym (keeps_here.1 k) ∙ e)) _ (r, there, refl)
+    made_here : IsMadeOf first (drop (body_start text) text) (map (λ (t : Token). t.len) (tokens_by first (drop (body_start text) text))) change put (drop (body_start made) made)
+    made_here =
+        subst (λ n. IsMadeOf first (drop n text) (map (λ (t : Token). t.len) (tokens_by first (drop n text))) change put (drop (body_start made) made)) old_head.end_is
+        (subst (λ n. IsMadeOf first body (map (λ (t : Token). t.len) (tokens_by first body)) change put (drop n made)) now_head.end_is
+        (body_made law text insert edit.start edit.old_stop is its fine old now old_is now_is kept (λ e. let same = decided.0 e in (ap (λ (h : Head). h.body) same.0, same.1))))
+
+    abbrev Counted : Bool → List Token → List Token → Relexed → Type 0
+    Counted k fronts new_fronts r = IsRelexed (whole_by first) text edit.start edit.old_stop insert (counted k (length fronts) (length new_fronts) r)
+
+    counts_here : (k : Bool) → kept ≡ k → (r : Relexed) → IsRelexed (part_by first) (drop (body_start text) text) change.start change.old_stop put r → Counted k (head_tokens text) (head_tokens made) r
+    counts_here k e r x =
+        let there = subst (λ n. IsRelexed (part_by first) (drop n text) change.start change.old_stop put r) (sym old_head.end_is) x in
+        let all = relexed_as law text insert edit.start edit.old_stop is its fine old now old_is now_is kept decided r (body_by_part first body change.start change.old_stop put r there) in
+        subst (λ k. Counted k (head_tokens text) (head_tokens made) r) e (subst (λ ts. Counted kept ts (head_tokens made) r) old_head.tokens_are (subst (λ ts. Counted kept (tokens_of_head old) ts r) now_head.tokens_are all))
 
     body_here : IsBodyChange first text edit insert made kept change
-    body_here = record {
-      keeps = keeps_here;
-      put = _;
-      made_of = made_here;
-      counts_kept = λ e r x. subst (λ (b : Bool). IsRelexed (whole_by first) text edit.start edit.old_stop insert (counted b (length (head_tokens text)) (length (head_tokens made)) r)) e (counts_here r x);
-      counts_new = λ e r x. subst (λ (b : Bool). IsRelexed (whole_by first) text edit.start edit.old_stop insert (counted b (length (head_tokens text)) (length (head_tokens made)) r)) e (counts_here r x);
-    }
+    body_here = record { keeps = keeps_here; put = put; made_of = made_here; counts_kept = counts_here true; counts_new = counts_here false }
 
 pub body_is : {first : List ℕ → Token} (law : IsGrammar first) (before insert text : List ℕ) (edit : Change) (old now : Head) (kept : Bool) (change : Change) → IsEditOf before edit insert text → IsHeadOf before old → IsHeadOf text now
     → IsTrue kept ↔ ((old ≡ now) × (old.body ≤ edit.start)) → change ≡ body_change kept old.body now.body edit → IsBodyChange first before edit insert text kept change
 body_is {first} law before insert text edit old now kept change e old_head now_head decided change_is =
     let there : IsHeadOf (apply before edit.start edit.old_stop insert) now = subst (λ (bytes : List ℕ). IsHeadOf bytes now) e.made now_head in
-    subst (λ (bytes : List ℕ). IsBodyChange first before edit insert bytes kept change) (sym e.made)
-    (body_here law before insert edit e.is_text e.inserted e.is_edit e.new_stop old now kept change old_head there decided change_is)
+    let whole_is = ap (λ (p : ℕ). let ch : Change = record { start = edit.start; old_stop = edit.old_stop; new_stop = p } in ch) e.new_stop in
+    subst (λ (ch : Change). IsBodyChange first before edit insert text kept ch) (sym (change_is ∙ ap (body_change kept old.body now.body) whole_is))
+    (subst (λ (bytes : List ℕ). IsBodyChange first before edit insert bytes kept (body_change kept old.body now.body (record { start = edit.start; old_stop = edit.old_stop; new_stop = edit.start + length insert }))) (sym e.made)
+    (body_here law before insert edit e.is_text e.inserted e.is_edit old now kept old_head there decided))
 
 -- what the change is, by its places
 pub in_body : (kept : Bool) (from to : ℕ) (edit : Change) → (kept ≡ true → (from ≤ edit.start) × (edit.start ≤ edit.old_stop) × (edit.start ≤ edit.new_stop)) → IsInBody kept from to edit (body_change kept from to edit)

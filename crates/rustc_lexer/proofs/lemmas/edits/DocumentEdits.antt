@@ -1,5 +1,5 @@
 -- An edit of a document: what is put in place of its old tokens.
-use Rattle.std.proofs.Common.{◌≡◌, ℕ, ◌+◌, ◌-◌, ◌<◌, ◌≤◌, ◌^◌, Bool, true, false, List, [], ◌∷◌, ◌++◌, length, map, take, drop, refl, sym, ap, ap₂, ◌∙◌, subst, arith, length-drop, length-append, drop-drop, take-add, IsUtf8, IsCharBoundary, IsTrue, ◌↔◌, Option}
+use Rattle.std.proofs.Common.{◌≡◌, ℕ, ◌+◌, ◌-◌, ◌<◌, ◌≤◌, ◌^◌, Bool, true, false, List, [], ◌∷◌, ◌++◌, length, map, take, drop, refl, sym, ap, ap₂, ◌∙◌, subst, arith, length-drop, length-append, drop-drop, take-add, IsUtf8, IsTrue, ◌↔◌, Option}
 use Rattle.std.specs.List.{All, Contains}
 use Rattle.std.proofs.lemmas.List.{take_rest}
 use Rattle.std.proofs.lemmas.List.Elements.{All-contains}
@@ -13,7 +13,8 @@ use Rattle.rustc_lexer.specs.declared.relex.relexing.Relexed.{Relexed}
 use Rattle.rustc_lexer.specs.declared.relex.relexing.Relexing.{Relexing}
 use Rattle.rustc_lexer.specs.{Token}
 use Rattle.rustc_lexer.specs.Classes.{IsText}
-use Rattle.rustc_lexer.specs.means.Document.{body_change, edit_change, body_insert, counted, document_by, head_by, head_put, head_unless, IsPut, IsRenewedBehind, tokens_of_head}
+use Rattle.rustc_lexer.specs.means.Document.{body_change, edit_change, body_insert, counted, head_put, head_unless, IsHeadIn, IsPut, IsRenewedBehind, tokens_of_head}
+use Rattle.rustc_lexer.specs.Partition.{Layout, tokens_in}
 use Rattle.rustc_lexer.specs.Edits.{apply, IsEdit}
 use Rattle.rustc_lexer.specs.Offsets.{IsBound}
 use Rattle.rustc_lexer.specs.Relexing.{IsMadeOf}
@@ -23,14 +24,15 @@ use Rattle.rustc_lexer.specs.means.Checkpoints.{AreBounds, IsMovable, IsReplaced
 use Rattle.rustc_lexer.specs.means.Relexing.{IsBodyRelexed, IsLexed, IsRenewed, kept_front}
 use Rattle.rustc_lexer.proofs.lemmas.edits.Bounds.{tokens_le_bytes}
 use Rattle.rustc_lexer.proofs.lemmas.edits.BodyEdits.{made_body}
+use Rattle.rustc_lexer.proofs.lemmas.edits.Heads.{all_are, boundary_of}
 use Rattle.rustc_lexer.proofs.lemmas.edits.FrontAndBack.{has_two-late, kept_front_from, kept_front_by}
 use Rattle.rustc_lexer.proofs.lemmas.edits.PutInPlace.{renewed_all, renewed_are, renewed_back, renewed_bounds, renewed_front}
 
 -- what is known of an edit of a document, whose old head has n tokens
-pub record IsBodyEdit (heads : List ℕ → Head) (first : List ℕ → Token) (text made insert : List ℕ) (start stop : ℕ) (old now : Head) (kept : Bool) (n : ℕ) (tokens : List Token) (body : List ℕ) (change : Change) : Type 0 where
+pub record IsBodyEdit (layout : (List ℕ → Token) → List ℕ → Layout) (first : List ℕ → Token) (text made insert : List ℕ) (start stop : ℕ) (old now : Head) (kept : Bool) (n : ℕ) (tokens : List Token) (body : List ℕ) (change : Change) : Type 0 where
   pub made_is : made ≡ apply text start stop insert
-  pub old_is : old ≡ heads text
-  pub now_is : now ≡ heads made
+  pub old_is : IsHeadIn layout text old
+  pub now_is : IsHeadIn layout made now
   pub decided : IsTrue kept ↔ ((old ≡ now) × (old.body ≤ start))
   pub n_is : n ≡ length (tokens_of_head old)
   pub body_is : body ≡ drop now.body made
@@ -40,12 +42,12 @@ pub record IsBodyEdit (heads : List ℕ → Head) (first : List ℕ → Token) (
   pub inside : n ≤ length tokens
   pub made_of : IsMadeOf first (drop old.body text) (map (λ (t : Token). t.len) (drop n tokens)) change (body_insert kept change insert body) body
 
-pub body_edit : (heads : List ℕ → Head) {first : List ℕ → Token} (law : IsGrammar first) {text made insert : List ℕ} {start stop : ℕ} {old now : Head} {kept : Bool} {n : ℕ} {tokens : List Token} {body : List ℕ} {change : Change}
-    → IsText text → IsUtf8 insert → IsEdit text start stop insert → made ≡ apply text start stop insert → old ≡ heads text → IsCharBoundary text old.body → now ≡ heads made → IsCharBoundary made now.body
-    → IsTrue kept ↔ ((old ≡ now) × (old.body ≤ start)) → n ≡ length (tokens_of_head old) → tokens ≡ document_by heads first text → body ≡ drop now.body made → change ≡ body_change kept old.body now.body (edit_change start stop insert)
-    → IsBodyEdit heads first text made insert start stop old now kept n tokens body change
-body_edit heads {first} law {text} {made} {insert} {start} {stop} {old} {now} {kept} {n} {tokens} {body} {change} is its edit e old_is old_at now_is now_at decided n_is scratch body_is change_is =
-    let all : tokens ≡ tokens_of_head old ++ tokens_by first (drop old.body text) = scratch ∙ ap (λ (h : Head). tokens_of_head h ++ tokens_by first (drop h.body text)) (sym old_is) in
+pub body_edit : {layout : (List ℕ → Token) → List ℕ → Layout} {first : List ℕ → Token} (law : IsGrammar first) {text made insert : List ℕ} {start stop : ℕ} {old now : Head} {kept : Bool} {n : ℕ} {tokens : List Token} {body : List ℕ} {change : Change}
+    → IsText text → IsUtf8 insert → IsEdit text start stop insert → made ≡ apply text start stop insert → IsHeadIn layout text old → IsHeadIn layout made now
+    → IsTrue kept ↔ ((old ≡ now) × (old.body ≤ start)) → n ≡ length (tokens_of_head old) → tokens ≡ tokens_in (layout first text) → body ≡ drop now.body made → change ≡ body_change kept old.body now.body (edit_change start stop insert)
+    → IsBodyEdit layout first text made insert start stop old now kept n tokens body change
+body_edit {layout} {first} law {text} {made} {insert} {start} {stop} {old} {now} {kept} {n} {tokens} {body} {change} is its edit e old_is now_is decided n_is scratch body_is change_is =
+    let all : tokens ≡ tokens_of_head old ++ tokens_by first (drop old.body text) = scratch ∙ all_are old_is first in
     let behind : drop n tokens ≡ tokens_by first (drop old.body text) = ap₂ drop n_is all ∙ drop-append_seam (tokens_of_head old) (tokens_by first (drop old.body text)) in
     record {
       made_is = e;
@@ -58,14 +60,14 @@ body_edit heads {first} law {text} {made} {insert} {start} {stop} {old} {now} {k
       old_body = behind;
       old_front = ap₂ take n_is all ∙ take-append_seam (tokens_of_head old) (tokens_by first (drop old.body text));
       inside = omega (arith, n_is, ap length all, length-append (tokens_of_head old) (tokens_by first (drop old.body text)));
-      made_of = rw change_is (made_body law text insert made start stop is its edit e old.body now.body old_at now_at (drop n tokens) behind body body_is kept (λ t. (ap (λ (h : Head). h.body) (decided.0 t).0, (decided.0 t).1)));
+      made_of = rw change_is (made_body law text insert made start stop is its edit e old.body now.body (boundary_of old_is) (boundary_of now_is) (drop n tokens) behind body body_is kept (λ t. (ap (λ (h : Head). h.body) (decided.0 t).0, (decided.0 t).1)));
     }
 
-pub body_put : (whole : Bool) {first : List ℕ → Token} (law : IsGrammar first) {before insert bytes made : List ℕ} {edit : Change} {old now : Head} {checkpoints : Checkpoints} {kept : Bool} {n : ℕ} {tokens : List Token} {body : List ℕ} {change : Change}
-    → IsPut whole first before insert edit bytes tokens old checkpoints → made ≡ bytes → now ≡ head_by whole made → IsCharBoundary made now.body → IsTrue kept ↔ ((old ≡ now) × (old.body ≤ edit.start)) → n ≡ length (tokens_of_head old) → body ≡ drop now.body made → change ≡ body_change kept old.body now.body edit
-    → IsBodyEdit (head_by whole) first before made insert edit.start edit.old_stop old now kept n tokens body change
-body_put whole law {old = old} {now = now} {kept = kept} p made_is now_is now_at decided n_is body_is change_is =
-    body_edit (head_by whole) law p.kept.0 p.utf8 p.valid (made_is ∙ p.made_is) p.kept.2 p.kept.3 now_is now_at decided n_is p.kept.1 body_is (change_is ∙ ap (body_change kept old.body now.body) p.offsets)
+pub body_put : {layout : (List ℕ → Token) → List ℕ → Layout} {first : List ℕ → Token} (law : IsGrammar first) {before insert bytes made : List ℕ} {edit : Change} {old now : Head} {checkpoints : Checkpoints} {kept : Bool} {n : ℕ} {tokens : List Token} {body : List ℕ} {change : Change}
+    → IsPut layout first before insert edit bytes tokens old checkpoints → made ≡ bytes → IsHeadIn layout made now → IsTrue kept ↔ ((old ≡ now) × (old.body ≤ edit.start)) → n ≡ length (tokens_of_head old) → body ≡ drop now.body made → change ≡ body_change kept old.body now.body edit
+    → IsBodyEdit layout first before made insert edit.start edit.old_stop old now kept n tokens body change
+body_put law {old = old} {now = now} {kept = kept} p made_is now_is decided n_is body_is change_is =
+    body_edit law p.kept.0 p.utf8 p.valid (made_is ∙ p.made_is) p.kept.2 now_is decided n_is p.kept.1 body_is (change_is ∙ ap (body_change kept old.body now.body) p.offsets)
 
 -- the lengths are those of the tokens that are read
 pub made_read : {first : List ℕ → Token} {text : List ℕ} (tokens read : List Token) (n : ℕ) {change : Change} {insert body : List ℕ} → read ≡ tokens → IsMadeOf first text (map (λ (t : Token). t.len) (drop n tokens)) change insert body → IsMadeOf first text (map (λ (t : Token). t.len) (take (length read - n) (drop n read))) change insert body
@@ -90,7 +92,7 @@ relexed-front {first} {text} is = is.front ∙ kept_none text (tokens_by first t
 pub near_behind : (tokens : List Token) {all : List Token} {near : TokenStart} {n m : ℕ} (checkpoints : Checkpoints) → n ≡ m → drop n tokens ≡ all → AreBounds (drop m tokens) checkpoints → Contains checkpoints.bounds near → IsBound all near
 near_behind tokens {all} {near} {n} {m} checkpoints same e are is = grind (arith, common_steps, All-contains)
 
-module _ {heads : List ℕ → Head} {first : List ℕ → Token} (law : IsGrammar first) {text made insert : List ℕ} {start stop : ℕ} {old now : Head} {kept : Bool} {n : ℕ} {tokens : List Token} {body : List ℕ} {change : Change} (b : IsBodyEdit heads first text made insert start stop old now kept n tokens body change)
+module _ {layout : (List ℕ → Token) → List ℕ → Layout} {first : List ℕ → Token} (law : IsGrammar first) {text made insert : List ℕ} {start stop : ℕ} {old now : Head} {kept : Bool} {n : ℕ} {tokens : List Token} {body : List ℕ} {change : Change} (b : IsBodyEdit layout first text made insert start stop old now kept n tokens body change)
     {head : Option Head} {new : List Token} {at : Relexing} (head_is : head ≡ head_unless kept now) (r : IsRenewedBehind first (drop old.body text) change body n tokens head new at) where
   abbrev put : List ℕ
   put = body_insert kept change insert body
@@ -117,8 +119,8 @@ module _ {heads : List ℕ → Head} {first : List ℕ → Token} (law : IsGramm
   behind_are = renewed_are law b.old_body whole_made whole_renewed
 
   -- they are the tokens of the changed document
-  pub new_are : new ≡ document_by heads first made
-  new_are = new_is ∙ (ap (λ ts. tokens_of_head now ++ ts) (behind_are ∙ ap (tokens_by first) b.body_is) ∙ ap (λ (h : Head). tokens_of_head h ++ tokens_by first (drop h.body made)) b.now_is)
+  pub new_are : new ≡ tokens_in (layout first made)
+  new_are = new_is ∙ (ap (λ ts. tokens_of_head now ++ ts) (behind_are ∙ ap (tokens_by first) b.body_is) ∙ sym (all_are b.now_is first))
 
   pub new_behind : drop (length (tokens_of_head now)) new ≡ r.behind
   new_behind = ap (drop (length (tokens_of_head now))) new_is ∙ drop-append_seam (tokens_of_head now) r.behind

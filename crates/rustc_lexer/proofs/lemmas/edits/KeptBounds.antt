@@ -1,7 +1,9 @@
 -- Where the bounds are of the tokens that are kept with a text.
-use Rattle.std.proofs.Common.{◌≡◌, ℕ, ◌+◌, ◌^◌, ◌<◌, ◌≤◌, Bool, true, false, List, ◌++◌, length, drop, refl, sym, ap, ◌∙◌, subst, arith, length-append, length-drop}
+use Rattle.std.proofs.Common.{◌≡◌, ℕ, ◌+◌, ◌-◌, ◌^◌, ◌<◌, ◌≤◌, List, ◌++◌, length, take, drop, sym, ap, ◌∙◌, subst, arith, length-append, length-drop, inl, inr, IsCharBoundary}
 use Rattle.std.proofs.Math.Seq.{drop-append_seam}
-use Rattle.std.proofs.lemmas.Str.{IsUtf8-drop}
+use Rattle.std.proofs.lemmas.Bool.{cases_lt}
+use Rattle.std.proofs.lemmas.List.{take-append-le}
+use Rattle.std.proofs.lemmas.Str.{IsCharBoundary-from_rest, IsUtf8-drop}
 use Rattle.std.proofs.lemmas.Grind.{common_steps}
 use Rattle.rustc_lexer.specs.declared.relex.checkpoints.Checkpoints.{Checkpoints}
 use Rattle.rustc_lexer.specs.declared.relex.front.TokenStart.{TokenStart}
@@ -12,41 +14,31 @@ use Rattle.rustc_lexer.specs.Offsets.{IsBound}
 use Rattle.rustc_lexer.specs.means.Checkpoints.{IsBoundFrom}
 use Rattle.rustc_lexer.specs.Locality.{IsGrammar}
 use Rattle.rustc_lexer.specs.Tokens.{bound, tokens_by}
-use Rattle.rustc_lexer.specs.means.Document.{AreKeptOf, document_by, head_by, tokens_of_head}
-use Rattle.rustc_lexer.specs.Kept.{start_in}
-use Rattle.rustc_lexer.specs.means.Pieces.{AreBoundariesFrom, AreCut}
+use Rattle.rustc_lexer.specs.means.Document.{AreKeptOf, tokens_of_head}
+use Rattle.rustc_lexer.specs.Partition.{Layout}
+use Rattle.rustc_lexer.specs.means.Pieces.{AreCut}
 use Rattle.rustc_lexer.proofs.lemmas.edits.Bounds.{bound-last, bound_mono}
-use Rattle.rustc_lexer.proofs.lemmas.heads.ByTokens.{bound-append, front_of}
-use Rattle.rustc_lexer.proofs.lemmas.edits.DocumentPieces.{document_cuts}
+use Rattle.rustc_lexer.proofs.lemmas.heads.ByTokens.{bound-append}
+use Rattle.rustc_lexer.proofs.lemmas.edits.FromTheFront.{cuts}
+use Rattle.rustc_lexer.proofs.lemmas.edits.FrontAndBack.{bound-same}
+use Rattle.rustc_lexer.proofs.lemmas.edits.Heads.{all_are as tokens_are}
 use Rattle.rustc_lexer.proofs.lemmas.edits.KeptFront.{bound-shift}
-use Rattle.rustc_lexer.proofs.lemmas.heads.Ends.{head-shebang}
-use Rattle.rustc_lexer.proofs.lemmas.edits.Pieces.{cuts_whole}
 
--- a head ends where its tokens do
-abbrev Ends : Head → Type 0
-Ends head = head.body ≡ head.shebang_len + bound (tokens_of_head head) (length (tokens_of_head head))
-
-head_ends : (whole : Bool) (text : List ℕ) → Ends (head_by whole text)
-head_ends true text = (front_of text).ends ∙ ap (λ n. n + bound (tokens_of_head (head_by true text)) (length (tokens_of_head (head_by true text)))) (sym (head-shebang text))
-head_ends false text = refl
-
--- the tokens begin where the shebang line ends
-pub start_is : (whole : Bool) (text : List ℕ) (head : Head) → head ≡ head_by whole text → head.shebang_len ≡ start_in whole text
-start_is true text head e = ap (λ (h : Head). h.shebang_len) e ∙ head-shebang text
-start_is false text head e = ap (λ (h : Head). h.shebang_len) e
-
-module _ {first : List ℕ → Token} (law : IsGrammar first) (whole : Bool) (text : List ℕ) (tokens : List Token) (head : Head) (checkpoints : Checkpoints) (are : AreKeptOf whole first text tokens head checkpoints) where
+module _ {first : List ℕ → Token} (law : IsGrammar first) {layout : (List ℕ → Token) → List ℕ → Layout} (text : List ℕ) (tokens : List Token) (head : Head) (checkpoints : Checkpoints) (are : AreKeptOf layout first text tokens head checkpoints) where
   abbrev fronts : List Token
   fronts = tokens_of_head head
 
   abbrev body : List ℕ
   body = drop head.body text
 
+  body_text : IsText body
+  body_text = let fits = are.0.fits in record { utf8 = IsUtf8-drop text head.body are.0.utf8 are.3; fits = omega (arith, length-drop head.body text) }
+
   all_are : tokens ≡ fronts ++ tokens_by first body
-  all_are = are.1 ∙ ap (λ (h : Head). tokens_of_head h ++ tokens_by first (drop h.body text)) (sym are.2)
+  all_are = are.1 ∙ tokens_are are.2 first
 
   body_at : (k : ℕ) → head.body + bound (drop (length fronts) tokens) k ≡ head.shebang_len + bound tokens (length fronts + k)
-  body_at k = grind (arith, common_steps, head_ends, all_are, bound-append, bound-shift)
+  body_at k = grind (arith, common_steps, are.2.ends, all_are, bound-append, bound-shift)
 
   -- a bound of the body's tokens is one of all
   pub near_at : (near : TokenStart) (n : ℕ) → n ≡ length fronts → IsBound (drop (length fronts) tokens) near → head.body + near.offset ≡ head.shebang_len + bound tokens (n + near.index)
@@ -60,20 +52,34 @@ module _ {first : List ℕ → Token} (law : IsGrammar first) (whole : Bool) (te
   pub end_is : head.shebang_len + bound tokens (length tokens) ≡ length text
   end_is =
       let n : ℕ = length (tokens_by first body) in
-      let fits = are.0.fits in
-      let is : IsText body = record { utf8 = IsUtf8-drop text head.body are.0.utf8 are.3; fits = omega (arith, length-drop head.body text) } in
       let behind : drop (length fronts) tokens ≡ tokens_by first body = ap (drop (length fronts)) all_are ∙ drop-append_seam fronts (tokens_by first body) in
-      let last : bound (drop (length fronts) tokens) n ≡ length body = ap (λ ts. bound ts n) behind ∙ bound-last law body is in
+      let last : bound (drop (length fronts) tokens) n ≡ length body = ap (λ ts. bound ts n) behind ∙ bound-last law body body_text in
       let all : length tokens ≡ length fronts + n = ap length all_are ∙ length-append fronts (tokens_by first body) in
       omega (arith, ap (bound tokens) all, body_at n, last, length-drop head.body text, are.3.0)
 
   pub offset_fits : (k : ℕ) → k ≤ length tokens → head.shebang_len + bound tokens k < 2 ^ 32
   offset_fits k few = let fits = are.0.fits in omega (arith, bound_mono tokens k (length tokens) few, end_is)
 
+  cut_front : (k : ℕ) → k ≤ length fronts → IsCharBoundary text (head.shebang_len + bound tokens k)
+  cut_front k few =
+      let same = bound-same k fronts tokens (sym (ap (take k) all_are ∙ take-append-le k fronts (tokens_by first body) few)) in
+      subst (λ n. IsCharBoundary text (head.shebang_len + n)) same (are.2.cuts k few)
+
+  cut_back : (j : ℕ) → length fronts + j ≤ length tokens → IsCharBoundary text (head.shebang_len + bound tokens (length fronts + j))
+  cut_back j few =
+      let behind : drop (length fronts) tokens ≡ tokens_by first body = ap (drop (length fronts)) all_are ∙ drop-append_seam fronts (tokens_by first body) in
+      let there = cuts law body body_text j (omega (arith, few, ap length all_are, length-append fronts (tokens_by first body))) in
+      let offset : head.body + bound (tokens_by first body) j ≡ head.shebang_len + bound tokens (length fronts + j) = omega (arith, body_at j, ap (λ ts. bound ts j) behind) in
+      subst (IsCharBoundary text) offset (IsCharBoundary-from_rest text head.body (bound (tokens_by first body) j) are.3.0 there)
+
   -- the tokens cut the text between characters
   pub kept_cuts : AreCut text head.shebang_len (length text) tokens
-  kept_cuts = (are.0.fits, subst (λ n. AreBoundariesFrom text n tokens) (sym (start_is whole text head are.2)) (by_extent whole are.1), sym end_is)
+  kept_cuts = (are.0.fits, by_front, sym end_is)
     where
-      by_extent : (w : Bool) → tokens ≡ document_by (head_by w) first text → AreBoundariesFrom text (start_in w text) tokens
-      by_extent true e = document_cuts law text tokens are.0 e
-      by_extent false e = cuts_whole law text tokens are.0 e
+      by_front : (k : ℕ) → k ≤ length tokens → IsCharBoundary text (head.shebang_len + bound tokens k)
+      by_front k few = elim (cases_lt k (length fronts)) [
+        | inl less ↦ cut_front k (omega arith)
+        | inr more ↦
+            let same : length fronts + (k - length fronts) ≡ k = omega arith in
+            subst (λ n. IsCharBoundary text (head.shebang_len + bound tokens n)) same (cut_back (k - length fronts) (omega arith))
+      ]

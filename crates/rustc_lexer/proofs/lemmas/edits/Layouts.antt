@@ -1,14 +1,12 @@
 -- What an edit keeps, by all tokens of a text and by those of its body.
-use Rattle.std.proofs.Common.{◌≡◌, ◌⊎◌, inl, inr, ℕ, ◌+◌, ◌-◌, ◌≤◌, List, [], ◌∷◌, ◌++◌, length, refl, sym, ap, ◌∙◌, arith, length-append}
+use Rattle.std.proofs.Common.{◌≡◌, ℕ, ◌+◌, ◌-◌, ◌≤◌, List, [], length, refl, sym, ap, ◌∙◌, arith, length-append}
 use Rattle.std.proofs.Math.Seq.{drop-append_seam}
-use Rattle.std.proofs.lemmas.Bool.{cases_lt, eqb-false, eqb-true}
 use Rattle.std.proofs.lemmas.Grind.{common_steps}
 use Rattle.rustc_lexer.specs.{Token}
 use Rattle.rustc_lexer.specs.declared.relex.relexing.Relexed.{Relexed}
-use Rattle.rustc_lexer.specs.Edits.{body_in, IsMeeting, IsRelexed, KeepsHead, part_by, offset_in}
+use Rattle.rustc_lexer.specs.Edits.{body_in, IsMeeting, IsRelexed, part_by, offset_in}
 use Rattle.rustc_lexer.specs.Partition.{Layout}
 use Rattle.rustc_lexer.specs.Tokens.{bound}
-use Rattle.rustc_lexer.specs.laws.Same.{same_token, token_same}
 use Rattle.rustc_lexer.specs.means.Relexing.{IsBodyMeeting, IsBodyRelexed}
 use Rattle.rustc_lexer.proofs.lemmas.edits.KeptFront.{bound-shift}
 
@@ -67,26 +65,3 @@ module _ (old new : Layout) (stop new_stop more body_stop new_body_stop : ℕ) (
         back_is = omega (arith, m.back_is, old_head, length-append old.head old.body);
         same_offset = omega (arith, at, old_at, same, old_more, new_more);
       }
-
--- ---- whether the head is kept
-
-abbrev pub Decided : Type 0 → Type 0
-Decided P = P ⊎ (P → ⊥)
-
-all : {P Q R : Type 0} → Decided P → Decided Q → Decided R → Decided (P × Q × R)
-all w0 w1 w2 = grind (arith, common_steps)
-
-numbers : (a b : ℕ) → Decided (a ≡ b)
-numbers a b = grind (arith, common_steps, eqb-true, eqb-false)
-
-at_most : (a b : ℕ) → Decided (a ≤ b)
-at_most a b = grind (arith, common_steps, cases_lt)
-
-tokens : (xs ys : List Token) → Decided (xs ≡ ys)
-tokens [] [] = inl refl
-tokens [] (y ∷ ys) = inr (λ e. omega (arith, ap (λ (ts : List Token). length ts) e))
-tokens (x ∷ xs) [] = inr (λ e. omega (arith, ap (λ (ts : List Token). length ts) e))
-tokens (x ∷ xs) (y ∷ ys) = grind (arith, common_steps, same_token, all, token_same, tokens xs ys)
-
-pub keeps_head : (old new : Layout) (start : ℕ) → Decided (KeepsHead old new start)
-keeps_head old new start = all (at_most (body_in old) start) (numbers old.start new.start) (tokens old.head new.head)

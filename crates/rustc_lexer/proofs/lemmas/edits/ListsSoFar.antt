@@ -1,6 +1,6 @@
 -- How far a list of edits was made: one edit more, and one that is refused.
 use Rattle.std.proofs.lemmas.Grind.{common_steps}
-use Rattle.std.proofs.Common.{◌≡◌, ℕ, ◌+◌, ◌-◌, ◌<◌, Bool, List, length, take, drop, get_or, min, refl, sym, ap, ◌∙◌, subst, arith, Ok, Err}
+use Rattle.std.proofs.Common.{◌≡◌, ℕ, ◌+◌, ◌-◌, ◌<◌, List, length, take, drop, get_or, min, refl, sym, ◌∙◌, subst, arith, Ok, Err}
 use Rattle.rustc_lexer.specs.{Token}
 use Rattle.rustc_lexer.specs.declared.relex.edit.Edit.{Edit}
 use Rattle.rustc_lexer.specs.declared.relex.edit_list.EditStop.{EditStop}

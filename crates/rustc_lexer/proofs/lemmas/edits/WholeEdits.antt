@@ -1,23 +1,23 @@
--- An edit of a whole document: the counts of its body give its own, and there are some.
-use Rattle.std.proofs.Common.{◌≡◌, ℕ, max, ◌+◌, ◌-◌, ◌<◌, ◌≤◌, Bool, true, false, true≢false, List, [], ◌∷◌, length, map, drop, refl, sym, ap, ap₂, ◌∙◌, subst, arith, drop-drop, IsCharBoundary, IsUtf8}
+-- An edit of a text with its head: the counts of its body give its own.
+use Rattle.std.proofs.Common.{◌≡◌, ℕ, max, ◌+◌, ◌-◌, ◌<◌, ◌≤◌, Bool, true, false, true≢false, List, [], ◌∷◌, length, map, drop, refl, sym, ap, ◌∙◌, subst, arith, drop-drop, IsTrue, IsUtf8, ◌↔◌}
 use Rattle.std.proofs.Math.Nat.{le-max_left, le-max_right, max-le}
 use Rattle.std.specs.List.{count_by}
 use Rattle.std.proofs.lemmas.Grind.{common_steps}
 use Rattle.rustc_lexer.specs.{Token}
+use Rattle.rustc_lexer.specs.declared.relex.head.Head.{Head}
 use Rattle.rustc_lexer.specs.declared.relex.relexing.{Change.Change, Relexed.Relexed}
 use Rattle.rustc_lexer.specs.Classes.{IsText}
-use Rattle.rustc_lexer.specs.Document.{body_start, head_tokens, whole_by}
-use Rattle.rustc_lexer.specs.Edits.{apply, body_in, ends_from, IsEdit, IsMeeting, IsRelexed, KeepsHead}
+use Rattle.rustc_lexer.specs.Edits.{apply, body_in, ends_from, IsEdit, IsMeeting, IsRelexed, IsRelexedTo, KeepsHead}
 use Rattle.rustc_lexer.specs.Locality.{has_two, IsGrammar}
 use Rattle.rustc_lexer.specs.Relexing.{IsMadeOf}
 use Rattle.rustc_lexer.specs.Partition.{Layout}
-use Rattle.rustc_lexer.specs.Tokens.{bound, tokens_by}
-use Rattle.rustc_lexer.specs.means.Document.{body_change, body_insert}
+use Rattle.rustc_lexer.specs.Tokens.{tokens_by}
+use Rattle.rustc_lexer.specs.means.Document.{body_change, body_insert, by_head, counted, IsHeadIn, tokens_of_head}
 use Rattle.rustc_lexer.specs.means.Relexing.{IsBodyMeeting, IsBodyRelexed, kept_front}
 use Rattle.rustc_lexer.proofs.lemmas.edits.DocumentEdits.{relexed-front}
 use Rattle.rustc_lexer.proofs.lemmas.edits.BodyEdits.{made_body}
-use Rattle.rustc_lexer.proofs.lemmas.edits.DocumentPage.{ahead, At, body_at, body_by, end_is}
-use Rattle.rustc_lexer.proofs.lemmas.edits.FrontAndBack.{edited, kept_front_by, kept_front_from}
+use Rattle.rustc_lexer.proofs.lemmas.edits.FrontAndBack.{kept_front_by, kept_front_from}
+use Rattle.rustc_lexer.proofs.lemmas.edits.Heads.{body_at, boundary_of, head_kept, keeps_head}
 use Rattle.rustc_lexer.proofs.lemmas.edits.Layouts.{meets, meets_behind}
 
 -- ---- the front, by offsets of the text and of what follows an offset
@@ -37,24 +37,21 @@ fronts text from to tokens =
 
 -- ---- an edit
 
-module _ {first : List ℕ → Token} (law : IsGrammar first) (text insert : List ℕ) (start stop : ℕ) (is : IsText text) (its : IsUtf8 insert) (edit : IsEdit text start stop insert) where
+module _ {first : List ℕ → Token} (law : IsGrammar first) {layout : (List ℕ → Token) → List ℕ → Layout} (text insert : List ℕ) (start stop : ℕ) (is : IsText text) (its : IsUtf8 insert) (edit : IsEdit text start stop insert) (was now : Head) (was_is : IsHeadIn layout text was) (now_is : IsHeadIn layout (apply text start stop insert) now) where
   abbrev made : List ℕ
   made = apply text start stop insert
 
-  pub made_is : IsText made
-  made_is = (edited text start stop insert is its edit).text_is
-
   abbrev old : Layout
-  old = whole_by first text
+  old = by_head was first text
 
   abbrev new : Layout
-  new = whole_by first made
+  new = by_head now first made
 
   abbrev from : ℕ
-  from = body_start text
+  from = was.body
 
   abbrev to : ℕ
-  to = body_start made
+  to = now.body
 
   abbrev whole : Change
   whole = record { start = start; old_stop = stop; new_stop = start + length insert }
@@ -68,11 +65,8 @@ module _ {first : List ℕ → Token} (law : IsGrammar first) (text insert : Lis
   abbrev Ahead : Bool → Type 0
   Ahead kept = kept ≡ true → (from ≡ to) × (from ≤ start)
 
-  body_made : (kept : Bool) → Ahead kept → IsMadeOf first (drop from text) (map (λ (t : Token). t.len) (tokens_by first (drop from text))) (change kept) (put kept) (drop to made)
-  body_made kept same =
-      let old_at = subst (λ n. IsCharBoundary text n) (end_is text is) (ahead text is).boundary in
-      let now_at = subst (λ n. IsCharBoundary made n) (end_is made made_is) (ahead made made_is).boundary in
-      made_body law text insert made start stop is its edit refl from to old_at now_at (tokens_by first (drop from text)) refl (drop to made) refl kept same
+  pub body_made : (kept : Bool) → Ahead kept → IsMadeOf first (drop from text) (map (λ (t : Token). t.len) (tokens_by first (drop from text))) (change kept) (put kept) (drop to made)
+  body_made kept same = made_body law text insert made start stop is its edit refl from to (boundary_of was_is) (boundary_of now_is) (tokens_by first (drop from text)) refl (drop to made) refl kept same
 
   -- boundaries of the body's edit, by the new body and the end of its change
   module _ (kept : Bool) (same : Ahead kept) (number back : ℕ) where
@@ -85,9 +79,6 @@ module _ {first : List ℕ → Token} (law : IsGrammar first) (text insert : Lis
     to_edit : Meeting (drop to made) (change kept).new_stop → Meeting (apply (drop from text) (change kept).start (change kept).old_stop (put kept)) ((change kept).start + length (put kept))
     to_edit m = grind (arith, common_steps, (body_made kept same).edit_of, ((body_made kept same).edit_of).new_stop, ((body_made kept same).edit_of).made, m)
 
-  same_end : KeepsHead old new start → from ≡ to
-  same_end k = body_by text ∙ (ap₂ (λ n (ts : List Token). n + bound ts (length ts)) k.1 k.2 ∙ sym (body_by made))
-
   -- how far the body's change goes past the edit
   abbrev more : Bool → ℕ
   more true = 0
@@ -99,7 +90,7 @@ module _ {first : List ℕ → Token} (law : IsGrammar first) (text insert : Lis
     pub least : (other : ℕ) → body_in old ≤ stop + other → body_in new ≤ start + length insert + other → more kept ≤ other
 
   past : (kept : Bool) → Ahead kept → IsPast kept
-  past kept w1 = grind (arith, common_steps, body_at, le-max_left, le-max_right, max-le)
+  past kept w1 = grind (arith, common_steps, body_at was_is first, body_at now_is first, le-max_left, le-max_right, max-le)
 
   module _ (kept : Bool) (same : Ahead kept) (r x : Relexed) (is_body : IsBodyRelexed first (drop from text) (change kept).start (change kept).old_stop (put kept) x) (sum : r.kept_front + r.lexed ≡ length new.head + (x.kept_front + x.lexed)) (back_is : r.kept_back ≡ x.kept_back) where
     meeting : IsMeeting old new stop (start + length insert) (r.kept_front + r.lexed) r.kept_back
@@ -116,29 +107,39 @@ module _ {first : List ℕ → Token} (law : IsGrammar first) (text insert : Lis
         let body = meets_behind old new stop (start + length insert) (more kept) (change kept).old_stop (change kept).new_stop p.old_more p.new_more p.least number back m in
         is_body.none_before (number - length new.head) back (near head) (omega (arith, sum, head, less)) (to_edit kept same _ _ body)
 
-  -- the counts of the body give those of the document
-  pub relexed_as : (kept : Bool) → (kept ≡ true → KeepsHead old new start) → (kept ≡ false → KeepsHead old new start → ⊥) → (r : Relexed) → At first text insert start stop is made_is kept from to (head_tokens text) (head_tokens made) r → IsRelexed (whole_by first) text start stop insert r
-  relexed_as true stays changes r (x, is_body, counts) =
+  abbrev At : Bool → Relexed → Type 0
+  At kept x = IsBodyRelexed first (drop from text) (change kept).start (change kept).old_stop (put kept) x
+
+  abbrev all_of : Bool → Relexed → Relexed
+  all_of kept x = counted kept (length (tokens_of_head was)) (length (tokens_of_head now)) x
+
+  relexed_to : (kept : Bool) → (kept ≡ true → KeepsHead old new start) → (kept ≡ false → KeepsHead old new start → ⊥) → (x : Relexed) → At kept x → IsRelexedTo old new text start stop (start + length insert) (all_of kept x)
+  relexed_to true stays changes x is_body =
       let k = stays refl in
-      let begin = body_at first text in
+      let begin = body_at was_is first in
       let heads : length old.head ≡ length new.head = ap (λ (ts : List Token). length ts) k.2 in
-      let front : r.kept_front ≡ length old.head + x.kept_front = ap (λ (c : Relexed). c.kept_front) counts in
-      let lexed : r.lexed ≡ x.lexed = ap (λ (c : Relexed). c.lexed) counts in
-      let here : Ahead true = λ e. (same_end k, omega (arith, begin, k.0)) in
+      let here : Ahead true = λ e. let same = head_kept was_is now_is first start k in (ap (λ (h : Head). h.body) same.0, same.1) in
+      let sum : length old.head + x.kept_front + x.lexed ≡ length new.head + (x.kept_front + x.lexed) = omega (arith, heads) in
       record {
-        kept = λ again. front ∙ ap (λ n. length old.head + n) (is_body.front ∙ (fronts text from start old.body ∙ ap (λ n. count_by (λ end. has_two text end start) (ends_from n old.body)) (sym begin)));
+        kept = λ again. ap (λ n. length old.head + n) (is_body.front ∙ (fronts text from start old.body ∙ ap (λ n. count_by (λ end. has_two text end start) (ends_from n old.body)) (sym begin)));
         changed = λ none. absurd (none k);
-        meeting = meeting true here r x is_body (omega (arith, front, lexed, heads)) (ap (λ (c : Relexed). c.kept_back) counts);
-        none_before = λ number back near less m. none_before true here r x is_body (omega (arith, front, lexed, heads)) (ap (λ (c : Relexed). c.kept_back) counts) number back (λ head. omega (arith, near, front, heads)) less m;
+        meeting = meeting true here (all_of true x) x is_body sum refl;
+        none_before = λ number back near less m. none_before true here (all_of true x) x is_body sum refl number back (λ head. omega (arith, near, heads)) less m;
       }
-  relexed_as false stays changes r (x, is_body, counts) =
+  relexed_to false stays changes x is_body =
       let none : x.kept_front ≡ 0 = relexed-front is_body in
-      let front : r.kept_front ≡ x.kept_front = ap (λ (c : Relexed). c.kept_front) counts in
-      let lexed : r.lexed ≡ length new.head + x.lexed = ap (λ (c : Relexed). c.lexed) counts in
       let here : Ahead false = λ e. absurd (true≢false (sym e)) in
+      let sum : x.kept_front + (length new.head + x.lexed) ≡ length new.head + (x.kept_front + x.lexed) = omega arith in
       record {
         kept = λ k. absurd (changes refl k);
-        changed = λ gone. front ∙ none;
-        meeting = meeting false here r x is_body (omega (arith, front, lexed)) (ap (λ (c : Relexed). c.kept_back) counts);
-        none_before = λ number back near less m. none_before false here r x is_body (omega (arith, front, lexed)) (ap (λ (c : Relexed). c.kept_back) counts) number back (λ head. omega (arith, none)) less m;
+        changed = λ gone. none;
+        meeting = meeting false here (all_of false x) x is_body sum refl;
+        none_before = λ number back near less m. none_before false here (all_of false x) x is_body sum refl number back (λ head. omega (arith, none)) less m;
       }
+
+  -- the counts of the body give those of all
+  pub relexed_as : (kept : Bool) → IsTrue kept ↔ ((was ≡ now) × (was.body ≤ start)) → (x : Relexed) → At kept x → IsRelexed (layout first) text start stop insert (all_of kept x)
+  relexed_as kept decided x is_body =
+      let to_is = relexed_to kept (λ e. keeps_head was_is now_is first start (decided.0 e)) (λ none k. true≢false (sym (decided.1 (head_kept was_is now_is first start k)) ∙ none)) x is_body in
+      subst (λ (of : Layout). IsRelexedTo of (layout first made) text start stop (start + length insert) (all_of kept x)) (sym (was_is.layout_is first))
+      (subst (λ (of : Layout). IsRelexedTo old of text start stop (start + length insert) (all_of kept x)) (sym (now_is.layout_is first)) to_is)

@@ -8,7 +8,8 @@ use Rattle.std.proofs.lemmas.Str.{chars-nil, IsUtf8-drop, IsCharBoundary-before_
 use Rattle.rustc_lexer.specs.{Edition, Token, TokenKind, Eof, Whitespace}
 use Rattle.rustc_lexer.specs.Classes.{is_whitespace, IsText, bytes}
 use Rattle.rustc_lexer.specs.Document.{shebang_len, document_tokens}
-use Rattle.rustc_lexer.specs.means.Document.{document_by, head_of, front_tokens}
+use Rattle.rustc_lexer.specs.means.Document.{by_head, head_of, front_tokens}
+use Rattle.rustc_lexer.specs.Partition.{tokens_in}
 use Rattle.rustc_lexer.specs.Answers.{shebang}
 use Rattle.rustc_lexer.specs.Language as the
 use Rattle.rustc_lexer.specs.LanguageCalls as calls
@@ -186,7 +187,7 @@ module _ (edition : Edition) where
     rest_text : IsText rest
     rest_text = record { utf8 = IsUtf8-drop text start is.utf8 at; fits = let f = is.fits in omega (arith, length-drop start text) }
 
-    by_front : (a : Bool) → opens (chars rest) ≡ a → (b : Bool) → opens (chars past_space) ≡ b → document_by head_of (first_token_in edition) text ≡ document_tokens edition text
+    by_front : (a : Bool) → opens (chars rest) ≡ a → (b : Bool) → opens (chars past_space) ≡ b → tokens_in (by_head (head_of text) (first_token_in edition) text) ≡ document_tokens edition text
     unfolding head_of
     by_front true e b f = rw e (ap (λ xs. frontmatter rest ∷ read_tokens (part edition) xs) (sym (drop-drop (frontmatter rest).len start text)) ∙ sym (with-front rest rest_text e))
     by_front false e true f =
@@ -196,7 +197,7 @@ module _ (edition : Edition) where
         rw (e, f) (ap (λ xs. front_tokens m (Some (frontmatter past_space)) ++ read_tokens (part edition) xs) turned ∙ sym (with-spaced rest past_space rest_text refl e f))
     by_front false e false f = rw (e, f) (sym (without-front rest past_space rest_text refl e f))
 
-    pub document_law : document_by head_of (first_token_in edition) text ≡ document_tokens edition text
+    pub document_law : tokens_in (by_head (head_of text) (first_token_in edition) text) ≡ document_tokens edition text
     document_law = by_front (opens (chars rest)) refl (opens (chars past_space)) refl
 
 -- ---- where a shebang line ends

@@ -2,12 +2,13 @@ use Rattle.std.proofs.Common.{◌≡◌, ◌+◌, ◌-◌, take, length-drop, Li
 use Rattle.std.proofs.lemmas.List.{length-map, take_rest}
 use Rattle.rustc_lexer.specs.declared.relex.relexing.Relexed.{Relexed}
 use Rattle.rustc_lexer.specs.{Token}
-use Rattle.rustc_lexer.specs.means.Document.{document_by, head_by}
+use Rattle.rustc_lexer.specs.Kept.{layout_in}
+use Rattle.rustc_lexer.specs.Partition.{tokens_in}
+use Rattle.rustc_lexer.specs.means.Document.{IsHeadIn}
 use Rattle.rustc_lexer.specs.means.Checkpoints.{AreBounds}
 use Rattle.rustc_lexer.proofs.lemmas.edits.DocumentEdits.{body_put, made_read, near_behind, new_are, behind_are, new_behind, renewed_by, bounds_move, counted_all, counted_front, counted_back, counted_few}
 use Rattle.rustc_lexer.proofs.lemmas.edits.KeptEdits.{few_by, left_back, put_text, refused, relexed_by, steps_by}
 use Rattle.rustc_lexer.proofs.lemmas.edits.Layouts.{body_by_part}
-use Rattle.rustc_lexer.proofs.lemmas.edits.KeptTexts.{tokens_are}
 use Rattle.rustc_lexer.proofs.lemmas.edits.ByLengths.{few_lexed, made_change}
 use Rattle.rustc_lexer.proofs.lemmas.edits.UnderWay.{of_stands}
 use Rattle.rustc_lexer.proofs.relex.kept.renew.Goals as goal
@@ -16,14 +17,14 @@ pub relex-requires-clause-change : goal.relex-requires-clause-change
 relex-requires-clause-change g c =
     let p = c.requires.put.2 in
     let law = g.S.Stepper.law c.args.kept.now.stepper in
-    let b = body_put g.E.Extent.whole law p c.as_str-made.ensures.value c.find_head-now.ensures.head c.find_head-now.ensures.boundary c.keeps_head-stays.ensures c.count-old_count.ensures c.range_from-body.ensures.value c.body_change-change.ensures in
+    let b = body_put law p c.as_str-made.ensures.value c.find_head-now.ensures.head c.keeps_head-stays.ensures c.count-old_count.ensures c.range_from-body.ensures.value c.body_change-change.ensures in
     made_change (g.S.Stepper.law c.args.kept.now.stepper) _ _ _ _ _ b.made_of
 
 pub past_edit-kept-requires-clause-movable : goal.past_edit-kept-requires-clause-movable
 past_edit-kept-requires-clause-movable g c =
     let p = c.requires.put.2 in
     let law = g.S.Stepper.law c.args.kept.now.stepper in
-    let b = body_put g.E.Extent.whole law p c.as_str-made.ensures.value c.find_head-now.ensures.head c.find_head-now.ensures.boundary c.keeps_head-stays.ensures c.count-old_count.ensures c.range_from-body.ensures.value c.body_change-change.ensures in
+    let b = body_put law p c.as_str-made.ensures.value c.find_head-now.ensures.head c.keeps_head-stays.ensures c.count-old_count.ensures c.range_from-body.ensures.value c.body_change-change.ensures in
     let made = made_read c.args.kept.now.tokens.items c.as_slice.result.now c.count-old_count.result c.as_slice.ensures.value b.made_of in
     let near = near_behind c.args.kept.now.tokens.items c.args.kept.now.checkpoints b.n_is b.old_body p.kept.4 c.nearest-near.ensures in
     let l = c.in_ok-lexed.ensures.lexed _ _ made near in
@@ -34,7 +35,7 @@ pub counted-requires-clause-front : goal.counted-requires-clause-front
 counted-requires-clause-front g c =
     let p = c.requires.put.2 in
     let law = g.S.Stepper.law c.args.kept.now.stepper in
-    let b = body_put g.E.Extent.whole law p c.as_str-made.ensures.value c.find_head-now.ensures.head c.find_head-now.ensures.boundary c.keeps_head-stays.ensures c.count-old_count.ensures c.range_from-body.ensures.value c.body_change-change.ensures in
+    let b = body_put law p c.as_str-made.ensures.value c.find_head-now.ensures.head c.keeps_head-stays.ensures c.count-old_count.ensures c.range_from-body.ensures.value c.body_change-change.ensures in
     let made = made_read c.args.kept.now.tokens.items c.as_slice.result.now c.count-old_count.result c.as_slice.ensures.value b.made_of in
     let near = near_behind c.args.kept.now.tokens.items c.args.kept.now.checkpoints b.n_is b.old_body p.kept.4 c.nearest-near.ensures in
     let l = c.in_ok-lexed.ensures.lexed _ _ made near in
@@ -49,7 +50,7 @@ counted-requires-clause-front g c =
 pub returns-clause-renewed : goal.returns-clause-renewed
 returns-clause-renewed g c before insert p =
     let law = g.S.Stepper.law c.args.kept.now.stepper in
-    let b = body_put g.E.Extent.whole law p c.as_str-made.ensures.value c.find_head-now.ensures.head c.find_head-now.ensures.boundary c.keeps_head-stays.ensures c.count-old_count.ensures c.range_from-body.ensures.value c.body_change-change.ensures in
+    let b = body_put law p c.as_str-made.ensures.value c.find_head-now.ensures.head c.keeps_head-stays.ensures c.count-old_count.ensures c.range_from-body.ensures.value c.body_change-change.ensures in
     let made = made_read c.args.kept.now.tokens.items c.as_slice.result.now c.count-old_count.result c.as_slice.ensures.value b.made_of in
     let near = near_behind c.args.kept.now.tokens.items c.args.kept.now.checkpoints b.n_is b.old_body p.kept.4 c.nearest-near.ensures in
     let l = c.in_ok-lexed.ensures.lexed _ _ made near in
@@ -66,18 +67,18 @@ returns-clause-renewed g c before insert p =
     let moved = bounds_move law b c.new_head-new_head.ensures r c.args.kept.now.checkpoints b.n_is p.kept.4 in (
       (
         put_text p,
-        new_are law b c.new_head-new_head.ensures r ∙ ap₂ (document_by (head_by g.E.Extent.whole)) (sym c.relex.ensures.grammar) text,
-        c.find_head-now.ensures.head ∙ ap (head_by g.E.Extent.whole) text,
+        new_are law b c.new_head-new_head.ensures r ∙ ap₂ (λ first xs. tokens_in (layout_in g.E.Extent.whole first xs)) (sym c.relex.ensures.grammar) text,
+        subst (λ (xs : List ℕ). IsHeadIn (layout_in g.E.Extent.whole) xs c.find_head-now.result) text c.find_head-now.ensures.head,
         subst (λ (xs : List ℕ). IsCharBoundary xs c.find_head-now.result.body) text c.find_head-now.ensures.boundary,
         subst (λ (ts : List Token). AreBounds ts c.past_edit-kept.result) (sym (new_behind law b c.new_head-new_head.ensures r)) (c.past_edit-kept.ensures _ _ moved.1 (subst (λ k. AreBounds (drop k c.args.kept.now.tokens.items) c.args.kept.now.checkpoints) (sym b.n_is) p.kept.4) (subst (λ (ts : List Token). AreBounds ts c.relex.new.lexed_bounds) (sym (behind_are law b c.new_head-new_head.ensures r)) (c.in_ok-lexed.ensures.bounds _ _ made near (c.new-lexed_bounds.ensures _)))),
       ),
       record {
         text = p.made_is;
-        from_scratch = new_are law b c.new_head-new_head.ensures r ∙ (ap (document_by (head_by g.E.Extent.whole) (g.S.Stepper.grammar c.args.kept.now.stepper)) text ∙ tokens_are g.E.Extent.whole (g.S.Stepper.grammar c.args.kept.now.stepper) (string_bytes c.args.kept.now.text) (put_text p));
-        relexed = rw (c.counted.ensures, c.count-old_count.ensures, c.count.ensures) (relexed_by law g.E.Extent.whole p.kept.0 p.utf8 p.valid b c.counts.result found);
+        from_scratch = new_are law b c.new_head-new_head.ensures r ∙ ap (λ xs. tokens_in (layout_in g.E.Extent.whole (g.S.Stepper.grammar c.args.kept.now.stepper) xs)) text;
+        relexed = rw (c.counted.ensures, c.count-old_count.ensures, c.count.ensures) (relexed_by law p.kept.0 p.utf8 p.valid b c.counts.result found);
         kept = record { all = subst (λ (x : Relexed). x.kept_front + x.lexed + x.kept_back ≡ length c.put_tokens.new.tokens.items) (sym c.counted.ensures) (counted_all law b c.new_head-new_head.ensures r _ c.count.ensures size c.counts.ensures.counts); front = subst (λ (x : Relexed). take x.kept_front c.put_tokens.new.tokens.items ≡ take x.kept_front c.args.kept.now.tokens.items) (sym c.counted.ensures) (counted_front law b c.new_head-new_head.ensures r _ c.count.ensures size c.counts.ensures.counts); back = subst (λ (x : Relexed). drop (x.kept_front + x.lexed) c.put_tokens.new.tokens.items ≡ drop (length c.args.kept.now.tokens.items - x.kept_back) c.args.kept.now.tokens.items) (sym c.counted.ensures) (counted_back law b c.new_head-new_head.ensures r _ c.count.ensures size c.counts.ensures.counts) };
         count = (
-            let steps = steps_by law g.E.Extent.whole p.kept.0 p.utf8 p.valid b c.counts.result found in
+            let steps = steps_by law p.kept.0 p.utf8 p.valid b c.counts.result found in
             let lexed = ap (λ (x : Relexed). x.lexed) c.counts.ensures.counts in
             let all = rw (sym c.count-old_count.ensures, sym c.count.ensures, sym p.made_is) at steps in
             rw c.counted.ensures (omega (arith, all, lexed, l.lexed, c.in_ok-lexed.ensures.count)));
@@ -93,22 +94,22 @@ returns-clause-renewed g c before insert p =
 pub returns-in_err-lexed-clause-renewed : goal.returns-in_err-lexed-clause-renewed
 returns-in_err-lexed-clause-renewed g c before insert p =
     let law = g.S.Stepper.law c.args.kept.now.stepper in
-    let b = body_put g.E.Extent.whole law p c.as_str-made.ensures.value c.find_head-now.ensures.head c.find_head-now.ensures.boundary c.keeps_head-stays.ensures c.count-old_count.ensures c.range_from-body.ensures.value c.body_change-change.ensures in
+    let b = body_put law p c.as_str-made.ensures.value c.find_head-now.ensures.head c.keeps_head-stays.ensures c.count-old_count.ensures c.range_from-body.ensures.value c.body_change-change.ensures in
     let made = made_read c.args.kept.now.tokens.items c.as_slice.result.now c.count-old_count.result c.as_slice.ensures.value b.made_of in
     let near = near_behind c.args.kept.now.tokens.items c.args.kept.now.checkpoints b.n_is b.old_body p.kept.4 c.nearest-near.ensures in
-    let few = few_by law g.E.Extent.whole p.kept.0 p.utf8 p.valid b _ _ (c.in_err-lexed.ensures.few _ _ made near) in
+    let few = few_by law p.kept.0 p.utf8 p.valid b _ _ (c.in_err-lexed.ensures.few _ _ made near) in
     let back = left_back c.from_residual.result (string_bytes c.args.kept.now.text) before c.from_residual.ensures.0 in
-    (rw (back, c.relex.ensures.grammar) p.kept, refused g.E.Extent.whole c.from_residual.result c.from_residual.ensures.0 p.kept.0 p.kept.1 back refl c.relex.ensures.grammar c.relex.ensures.number c.relex.ensures.rose few)
+    (rw (back, c.relex.ensures.grammar) p.kept, refused c.from_residual.result c.from_residual.ensures.0 p.kept.1 back refl c.relex.ensures.grammar c.relex.ensures.number c.relex.ensures.rose few)
 
 pub returns-in_err-put_tokens-clause-renewed : goal.returns-in_err-put_tokens-clause-renewed
 returns-in_err-put_tokens-clause-renewed g c before insert p =
     let law = g.S.Stepper.law c.args.kept.now.stepper in
-    let b = body_put g.E.Extent.whole law p c.as_str-made.ensures.value c.find_head-now.ensures.head c.find_head-now.ensures.boundary c.keeps_head-stays.ensures c.count-old_count.ensures c.range_from-body.ensures.value c.body_change-change.ensures in
+    let b = body_put law p c.as_str-made.ensures.value c.find_head-now.ensures.head c.keeps_head-stays.ensures c.count-old_count.ensures c.range_from-body.ensures.value c.body_change-change.ensures in
     let made = made_read c.args.kept.now.tokens.items c.as_slice.result.now c.count-old_count.result c.as_slice.ensures.value b.made_of in
     let near = near_behind c.args.kept.now.tokens.items c.args.kept.now.checkpoints b.n_is b.old_body p.kept.4 c.nearest-near.ensures in
     let l = c.in_ok-lexed.ensures.lexed _ _ made near in
     let steps = few_lexed law _ _ _ _ c.body_change-change.result b.made_of c.in_ok-lexed.at l.stands in
-    let few = few_by law g.E.Extent.whole p.kept.0 p.utf8 p.valid b _ _ (omega (arith, l.lexed, c.in_ok-lexed.ensures.count, steps)) in
+    let few = few_by law p.kept.0 p.utf8 p.valid b _ _ (omega (arith, l.lexed, c.in_ok-lexed.ensures.count, steps)) in
     let r = c.from_residual-in_err-put_tokens in
     let back = left_back r.result (string_bytes c.args.kept.now.text) before r.ensures.0 in
-    (rw (back, c.relex.ensures.grammar, c.in_err-put_tokens.ensures.same) p.kept, refused g.E.Extent.whole r.result r.ensures.0 p.kept.0 p.kept.1 back c.in_err-put_tokens.ensures.same c.relex.ensures.grammar c.relex.ensures.number c.relex.ensures.rose few)
+    (rw (back, c.relex.ensures.grammar, c.in_err-put_tokens.ensures.same) p.kept, refused r.result r.ensures.0 p.kept.1 back c.in_err-put_tokens.ensures.same c.relex.ensures.grammar c.relex.ensures.number c.relex.ensures.rose few)

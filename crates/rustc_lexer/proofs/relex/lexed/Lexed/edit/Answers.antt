@@ -52,8 +52,8 @@ returns g c =
 
 pub returns-in_err-removed : goal.returns-in_err-removed
 returns-in_err-removed g c =
-    subst (λ h. IsEdited g.S.Stepper.grammar g.S.Stepper.number g.S.Stepper.count (layout_in g.E.Extent.whole (g.S.Stepper.grammar h.stepper)) h c.args.start c.args.stop c.args.insert.now c.from_residual.result h) c.self.view_is (refused g.E.Extent.whole c.from_residual.result c.from_residual.ensures.0 c.self.invariant.0 c.self.invariant.1 refl refl refl refl (omega arith) (few_none (g.S.Stepper.law c.self.inside.kept.stepper) g.E.Extent.whole _ _ _ _ _ c.self.invariant.0 c.utf8.insert (subst (λ h. IsEdit h.text c.args.start c.args.stop c.args.insert.now) (sym c.self.view_is) c.requires.accepted)))
+    subst (λ h. IsEdited g.S.Stepper.grammar g.S.Stepper.number g.S.Stepper.count (layout_in g.E.Extent.whole (g.S.Stepper.grammar h.stepper)) h c.args.start c.args.stop c.args.insert.now c.from_residual.result h) c.self.view_is (refused c.from_residual.result c.from_residual.ensures.0 c.self.invariant.1 refl refl refl refl (omega arith) (few_none (g.S.Stepper.law c.self.inside.kept.stepper) g.E.Extent.whole _ _ _ _ _ c.self.invariant.0 c.utf8.insert (subst (λ h. IsEdit h.text c.args.start c.args.stop c.args.insert.now) (sym c.self.view_is) c.requires.accepted)))
 
 pub returns-in_err-reserve : goal.returns-in_err-reserve
 returns-in_err-reserve g c =
-    subst (λ h. IsEdited g.S.Stepper.grammar g.S.Stepper.number g.S.Stepper.count (layout_in g.E.Extent.whole (g.S.Stepper.grammar h.stepper)) h c.args.start c.args.stop c.args.insert.now c.from_residual-in_err-reserve.result (record { text = string_bytes c.reserve.new.self; tokens = c.self.inside.kept.tokens.items; stepper = c.self.inside.kept.stepper })) c.self.view_is (refused g.E.Extent.whole c.from_residual-in_err-reserve.result c.from_residual-in_err-reserve.ensures.0 c.self.invariant.0 c.self.invariant.1 c.reserve.ensures.bytes refl refl refl (omega arith) (few_none (g.S.Stepper.law c.self.inside.kept.stepper) g.E.Extent.whole _ _ _ _ _ c.self.invariant.0 c.utf8.insert (subst (λ h. IsEdit h.text c.args.start c.args.stop c.args.insert.now) (sym c.self.view_is) c.requires.accepted)))
+    subst (λ h. IsEdited g.S.Stepper.grammar g.S.Stepper.number g.S.Stepper.count (layout_in g.E.Extent.whole (g.S.Stepper.grammar h.stepper)) h c.args.start c.args.stop c.args.insert.now c.from_residual-in_err-reserve.result (record { text = string_bytes c.reserve.new.self; tokens = c.self.inside.kept.tokens.items; stepper = c.self.inside.kept.stepper })) c.self.view_is (refused c.from_residual-in_err-reserve.result c.from_residual-in_err-reserve.ensures.0 c.self.invariant.1 c.reserve.ensures.bytes refl refl refl (omega arith) (few_none (g.S.Stepper.law c.self.inside.kept.stepper) g.E.Extent.whole _ _ _ _ _ c.self.invariant.0 c.utf8.insert (subst (λ h. IsEdit h.text c.args.start c.args.stop c.args.insert.now) (sym c.self.view_is) c.requires.accepted)))

@@ -15,7 +15,7 @@ pub returns-in_default-clause-edit : goal.returns-in_default-clause-edit
 returns-in_default-clause-edit g c some valid =
     let seen : c.text-text.result.now ≡ string_bytes c.self.inside.kept.text = c.text-text.ensures.text ∙ sym (ap (λ h. h.text) c.self.view_is) in
     let few = few_none (g.S.Stepper.law c.self.inside.kept.stepper) g.E.Extent.whole _ _ _ _ _ c.self.invariant.0 (rw seen at c.in_ok-edit.ensures.utf8) (rw seen at c.in_ok-edit.ensures.valid).1 in
-    subst (λ h. IsEdited {E = EditStop} g.S.Stepper.grammar g.S.Stepper.number g.S.Stepper.count (layout_in g.E.Extent.whole (g.S.Stepper.grammar h.stepper)) h (start_of_first c.args.edits.now) (stop_of_last 0 c.args.edits.now) (with_all h.text (start_of_first c.args.edits.now) c.args.edits.now) (Err (Memory (length c.args.edits.now - 1))) h) c.self.view_is (refused g.E.Extent.whole (Err (Memory (length c.args.edits.now - 1))) refl c.self.invariant.0 c.self.invariant.1 refl refl refl refl (omega arith) few)
+    subst (λ h. IsEdited {E = EditStop} g.S.Stepper.grammar g.S.Stepper.number g.S.Stepper.count (layout_in g.E.Extent.whole (g.S.Stepper.grammar h.stepper)) h (start_of_first c.args.edits.now) (stop_of_last 0 c.args.edits.now) (with_all h.text (start_of_first c.args.edits.now) c.args.edits.now) (Err (Memory (length c.args.edits.now - 1))) h) c.self.view_is (refused (Err (Memory (length c.args.edits.now - 1))) refl c.self.invariant.1 refl refl refl refl (omega arith) few)
 
 pub renew-requires-clause-put : goal.renew-requires-clause-put
 renew-requires-clause-put g c =
@@ -50,7 +50,7 @@ returns-in-Err-clause-edit g c some valid =
     let seen : c.text-text.result.now ≡ string_bytes c.self.inside.kept.text = c.text-text.ensures.text ∙ sym (ap (λ h. h.text) c.self.view_is) in
     let p = put_at_once c.args.edits.now some c.self.invariant (rw seen at c.in_ok-edit.ensures.utf8) (rw seen at c.in_ok-edit.ensures.valid) (rw seen at c.in_ok-edit.ensures.change) (ap string_bytes c.replace-before.ensures.after ∙ (rw seen at c.in-Ok.ensures)) in
     let is = rw (rw seen at c.in_ok-edit.ensures.change) at (c.in-Err.ensures.renewed _ _ p).1 in
-    subst (λ h. IsEdited {E = EditStop} g.S.Stepper.grammar g.S.Stepper.number g.S.Stepper.count (layout_in g.E.Extent.whole (g.S.Stepper.grammar h.stepper)) h (start_of_first c.args.edits.now) (stop_of_last 0 c.args.edits.now) (with_all h.text (start_of_first c.args.edits.now) c.args.edits.now) (Err (Memory (length c.args.edits.now - 1))) (record { text = string_bytes c.replace-before.result; tokens = c.renew.new.kept.tokens.items; stepper = c.renew.new.kept.stepper })) c.self.view_is (refused g.E.Extent.whole (Err (Memory (length c.args.edits.now - 1))) refl c.self.invariant.0 c.self.invariant.1 (ap string_bytes c.replace-before.ensures.value) is.same_tokens is.grammar is.number is.rose is.few)
+    subst (λ h. IsEdited {E = EditStop} g.S.Stepper.grammar g.S.Stepper.number g.S.Stepper.count (layout_in g.E.Extent.whole (g.S.Stepper.grammar h.stepper)) h (start_of_first c.args.edits.now) (stop_of_last 0 c.args.edits.now) (with_all h.text (start_of_first c.args.edits.now) c.args.edits.now) (Err (Memory (length c.args.edits.now - 1))) (record { text = string_bytes c.replace-before.result; tokens = c.renew.new.kept.tokens.items; stepper = c.renew.new.kept.stepper })) c.self.view_is (refused (Err (Memory (length c.args.edits.now - 1))) refl c.self.invariant.1 (ap string_bytes c.replace-before.ensures.value) is.same_tokens is.grammar is.number is.rose is.few)
 
 pub returns-then-is_empty-clause-one_by_one : goal.returns-then-is_empty-clause-one_by_one
 returns-then-is_empty-clause-one_by_one g c = none_by_one c.args.self.now.text c.args.edits.now (search rules)

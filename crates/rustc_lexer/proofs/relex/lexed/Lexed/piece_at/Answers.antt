@@ -10,7 +10,7 @@ overflow_cast-start g c =
     omega (arith, is.start, fits_seen (g.S.Stepper.law c.self.inside.kept.stepper) g.E.Extent.whole (string_bytes c.self.inside.kept.text) c.self.inside.kept.tokens.items c.self.inside.kept.head c.self.inside.kept.checkpoints c.self.invariant c.args.self.now (ap (λ h. h.text) c.self.view_is) (ap (λ h. h.tokens) c.self.view_is) c.in_ok-at.at.index (omega (arith, is.number)))
 
 pub overflow_cast-end : goal.overflow_cast-end
-overflow_cast-end g c = omega (arith, ap length c.as_str-text.ensures.value, (kept_cuts (g.S.Stepper.law c.self.inside.kept.stepper) g.E.Extent.whole (string_bytes c.self.inside.kept.text) c.self.inside.kept.tokens.items c.self.inside.kept.head c.self.inside.kept.checkpoints c.self.invariant).0)
+overflow_cast-end g c = omega (arith, ap length c.as_str-text.ensures.value, (kept_cuts (g.S.Stepper.law c.self.inside.kept.stepper) (string_bytes c.self.inside.kept.text) c.self.inside.kept.tokens.items c.self.inside.kept.head c.self.inside.kept.checkpoints c.self.invariant).0)
 
 pub invariant_of-pieces : goal.invariant_of-pieces
 invariant_of-pieces g c =

@@ -1,13 +1,13 @@
 use Rattle.std.proofs.Common.{rules, arith}
 use Rattle.std.proofs.lemmas.Grind.{common_steps}
-use Rattle.rustc_lexer.proofs.lemmas.edits.KeptTexts.{heads_are, tokens_are}
+use Rattle.rustc_lexer.proofs.lemmas.edits.Heads.{all_are, heads_are}
 use Rattle.rustc_lexer.proofs.relex.lexed.Lexed.set_stepper.Goals as goal
 
 pub returns-in_err-tokens-clause-from_scratch : goal.returns-in_err-tokens-clause-from_scratch
-returns-in_err-tokens-clause-from_scratch g c = grind (arith, common_steps, rules, tokens_are)
+returns-in_err-tokens-clause-from_scratch g c = grind (arith, common_steps, rules, all_are)
 
 pub returns-clause-from_scratch : goal.returns-clause-from_scratch
-returns-clause-from_scratch g c = grind (arith, common_steps, rules, tokens_are)
+returns-clause-from_scratch g c = grind (arith, common_steps, rules, all_are)
 
 pub returns-clause-count : goal.returns-clause-count
 returns-clause-count g c = grind (arith, common_steps, rules, heads_are)

@@ -1,10 +1,10 @@
 use Rattle.std.proofs.lemmas.Grind.{common_steps}
 use Rattle.std.proofs.Common.{arith, rules}
-use Rattle.rustc_lexer.proofs.lemmas.edits.DocumentPage.{end_is, front_is}
+use Rattle.rustc_lexer.proofs.lemmas.edits.Heads.{is_page}
 use Rattle.rustc_lexer.proofs.relex.lexed.document.Lexed+S+Whole.body_start.Goals as goal
 
 pub returns-clause-number : goal.returns-clause-number
-returns-clause-number g c = grind (arith, common_steps, rules, front_is)
+returns-clause-number g c = grind (arith, common_steps, rules, is_page)
 
 pub returns-clause-offset : goal.returns-clause-offset
-returns-clause-offset g c = grind (arith, common_steps, rules, end_is)
+returns-clause-offset g c = grind (arith, common_steps, rules, is_page)

@@ -1,8 +1,7 @@
 use Rattle.std.proofs.lemmas.Grind.{common_steps}
 use Rattle.std.proofs.Common.{rules, arith}
-use Rattle.rustc_lexer.proofs.lemmas.heads.DocumentTokens.{shebang-boundary}
-use Rattle.rustc_lexer.proofs.lemmas.heads.Ends.{head-shebang}
+use Rattle.rustc_lexer.proofs.lemmas.edits.Heads.{is_page, start_inside}
 use Rattle.rustc_lexer.proofs.relex.lexed.document.Lexed+S+Whole.shebang_len.Goals as goal
 
 pub returns : goal.returns
-returns g c = grind (arith, common_steps, rules, head-shebang, shebang-boundary)
+returns g c = grind (arith, common_steps, rules, is_page, start_inside)

@@ -1,7 +1,7 @@
 use Rattle.std.proofs.lemmas.Grind.{common_steps}
 use Rattle.std.proofs.Common.{arith, rules}
-use Rattle.rustc_lexer.proofs.lemmas.edits.KeptTexts.{edition_are, tokens_are}
+use Rattle.rustc_lexer.proofs.lemmas.edits.Heads.{edition_are}
 use Rattle.rustc_lexer.proofs.relex.lexed.in_edition.Lexed+Steps+E.new_in.Goals as goal
 
 pub returns-clause-from_scratch : goal.returns-clause-from_scratch
-returns-clause-from_scratch g c = grind (arith, common_steps, rules, edition_are, tokens_are)
+returns-clause-from_scratch g c = grind (arith, common_steps, rules, edition_are)

@@ -1,0 +1,98 @@
+-- The head of a text, by where the tokens of the text are.
+use Rattle.std.proofs.Common.{◌≡◌, ℕ, zero, suc, ◌+◌, ◌≤◌, Bool, true, false, List, [], length, refl, sym, ap, ap₂, ◌∙◌, subst, arith, drop, length-take-le, Option, None, IsCharBoundary}
+use Rattle.std.proofs.lemmas.Grind.{common_steps}
+use Rattle.std.proofs.lemmas.Str.{IsCharBoundary-start}
+use Rattle.rustc_lexer.specs.{Edition, Token}
+use Rattle.rustc_lexer.specs.declared.relex.head.Head.{Head}
+use Rattle.rustc_lexer.specs.Answers.{first_in}
+use Rattle.rustc_lexer.specs.Classes.{IsText}
+use Rattle.rustc_lexer.specs.Document.{body_start, head_tokens, shebang_len, whole_by}
+use Rattle.rustc_lexer.specs.Edits.{body_in, KeepsHead, part_by}
+use Rattle.rustc_lexer.specs.Kept.{edition_tokens_in, layout_in, start_in}
+use Rattle.rustc_lexer.specs.LanguageText.{newest}
+use Rattle.rustc_lexer.specs.Partition.{Layout, tokens_in}
+use Rattle.rustc_lexer.specs.Relexing.{IsHeadOf}
+use Rattle.rustc_lexer.specs.Tokens.{bound, tokens_by}
+use Rattle.rustc_lexer.specs.means.Document.{by_head, front_tokens, head_of, IsHeadIn, tokens_of_head}
+use Rattle.rustc_lexer.proofs.lemmas.edits.FrontAndBack.{bound-take}
+use Rattle.rustc_lexer.proofs.lemmas.heads.ByTokens.{bound-append}
+use Rattle.rustc_lexer.proofs.lemmas.heads.Heads.{found, head_cuts, in_edition, some_head}
+
+-- ---- the head of a document
+
+body_by : (text : List ℕ) → body_start text ≡ shebang_len text + bound (head_tokens text) (length (head_tokens text))
+body_by text = grind (arith, common_steps, length-take-le, bound-take)
+
+pub whole_head : (text : List ℕ) → IsText text → (head : Head) → IsHeadOf text head → IsHeadIn whole_by text head
+whole_head text is head h =
+    let end = h.end_is ∙ (body_by text ∙ ap₂ (λ n (ts : List Token). n + bound ts (length ts)) (sym h.shebang_is) (sym h.tokens_are)) in
+    record {
+      layout_is = λ first i. record { start = sym h.shebang_is i; head = sym h.tokens_are i; body = tokens_by first (drop (sym h.end_is i) text) };
+      bare = h.bare;
+      ends = end;
+      cuts = λ k few. subst (IsCharBoundary text) (ap₂ (λ n (ts : List Token). n + bound ts k) (sym h.shebang_is) (sym h.tokens_are)) (head_cuts text is k (omega (arith, few, ap (λ (ts : List Token). length ts) h.tokens_are)));
+    }
+
+pub found_head : (text : List ℕ) → IsText text → (head : Head) → head ≡ head_of text → IsHeadIn whole_by text head
+found_head text is head e = whole_head text is head (found text is head e)
+
+pub is_page : (text : List ℕ) (head : Head) → IsHeadIn whole_by text head → IsHeadOf text head
+is_page text head h =
+    let start : head.shebang_len ≡ shebang_len text = sym (ap (λ (l : Layout). l.start) (h.layout_is (first_in newest))) in
+    let tokens : tokens_of_head head ≡ head_tokens text = sym (ap (λ (l : Layout). l.head) (h.layout_is (first_in newest))) in
+    record { shebang_is = start; tokens_are = tokens; bare = h.bare; end_is = h.ends ∙ (ap₂ (λ n (ts : List Token). n + bound ts (length ts)) start tokens ∙ sym (body_by text)) }
+
+-- ---- the head of a text, a whole document or a part of one
+
+none_cut : (text : List ℕ) → IsText text → (k : ℕ) → k ≤ 0 → IsCharBoundary text (0 + bound [] k)
+none_cut text is zero few = IsCharBoundary-start text is.utf8
+none_cut text is (suc k) few = absurd (omega arith)
+
+pub part_head : (text : List ℕ) → IsText text → IsHeadIn part_by text (record { shebang_len = 0; space_len = 0; frontmatter = None; body = 0 })
+part_head text is = record { layout_is = λ first. refl; bare = λ none. refl; ends = refl; cuts = none_cut text is }
+
+pub head_in : (whole : Bool) (text : List ℕ) → IsText text → (head : Head) × IsHeadIn (layout_in whole) text head
+head_in true text is = let some = some_head text is in (some.0, whole_head text is some.0 some.1)
+head_in false text is = (_, part_head text is)
+
+-- the tokens begin where the shebang line ends
+pub start_is : (whole : Bool) (text : List ℕ) (head : Head) → IsHeadIn (layout_in whole) text head → head.shebang_len ≡ start_in whole text
+start_is true text head h = (is_page text head h).shebang_is
+start_is false text head h = sym (ap (λ (l : Layout). l.start) (h.layout_is (first_in newest)))
+
+pub edition_are : (whole : Bool) (edition : Edition) (text : List ℕ) → IsText text → tokens_in (layout_in whole (first_in edition) text) ≡ edition_tokens_in whole edition text
+edition_are true edition text is = in_edition text is edition
+edition_are false edition text is = refl
+
+module _ {layout : (List ℕ → Token) → List ℕ → Layout} {text : List ℕ} {head : Head} (h : IsHeadIn layout text head) where
+  pub boundary_of : IsCharBoundary text head.body
+  boundary_of = subst (IsCharBoundary text) (sym h.ends) (h.cuts (length (tokens_of_head head)) (omega arith))
+
+  pub start_inside : head.shebang_len ≤ length text
+  start_inside = omega (arith, (h.cuts 0 (omega arith)).0)
+
+  pub all_are : (first : List ℕ → Token) → tokens_in (layout first text) ≡ tokens_in (by_head head first text)
+  all_are first = ap tokens_in (h.layout_is first)
+
+  pub heads_are : (first : List ℕ → Token) → length (layout first text).head ≡ length (tokens_of_head head)
+  heads_are first = ap (λ (l : Layout). length l.head) (h.layout_is first)
+
+  -- the body begins where the tokens of the head end
+  pub body_at : (first : List ℕ → Token) → body_in (by_head head first text) ≡ head.body
+  body_at first = ap (λ n. head.shebang_len + n) (bound-append (tokens_of_head head) (tokens_by first (drop head.body text))) ∙ sym h.ends
+
+-- ---- whether the head stays
+
+-- the tokens tell the head
+same-parts : (s s' : ℕ) (f f' : Option Token) → (f ≡ None → s ≡ 0) → (f' ≡ None → s' ≡ 0) → front_tokens s f ≡ front_tokens s' f' → (s ≡ s') × (f ≡ f')
+same-parts s s' f f' w4 w5 w6 = grind (arith, common_steps)
+
+module _ {layout : (List ℕ → Token) → List ℕ → Layout} {text made : List ℕ} {old now : Head} (old_is : IsHeadIn layout text old) (now_is : IsHeadIn layout made now) (first : List ℕ → Token) (start : ℕ) where
+  pub keeps_head : (old ≡ now) × (old.body ≤ start) → KeepsHead (by_head old first text) (by_head now first made) start
+  keeps_head s = (omega (arith, s.1, body_at old_is first), ap (λ (h : Head). h.shebang_len) s.0, ap tokens_of_head s.0)
+
+  pub head_kept : KeepsHead (by_head old first text) (by_head now first made) start → (old ≡ now) × (old.body ≤ start)
+  head_kept k =
+      let parts = same-parts old.space_len now.space_len old.frontmatter now.frontmatter old_is.bare now_is.bare k.2 in
+      let end = old_is.ends ∙ (ap₂ (λ n (ts : List Token). n + bound ts (length ts)) k.1 k.2 ∙ sym now_is.ends) in
+      ((λ i. record { shebang_len = k.1 i; space_len = parts.0 i; frontmatter = parts.1 i; body = end i }), omega (arith, k.0, body_at old_is first))

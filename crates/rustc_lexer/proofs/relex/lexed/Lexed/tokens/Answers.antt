@@ -1,7 +1,0 @@
-use Rattle.std.proofs.Common.{rules, arith}
-use Rattle.std.proofs.lemmas.Grind.{common_steps}
-use Rattle.rustc_lexer.proofs.lemmas.edits.KeptTexts.{tokens_are}
-use Rattle.rustc_lexer.proofs.relex.lexed.Lexed.tokens.Goals as goal
-
-pub returns-clause-from_scratch : goal.returns-clause-from_scratch
-returns-clause-from_scratch g c = grind (arith, common_steps, rules, tokens_are)
