@@ -58,7 +58,7 @@ first = first_in newest
 made_fine : (before insert text : List ℕ) (edit : Change) → IsEditOf before edit insert text → IsChange text edit
 made_fine before insert text edit e =
     let made : IsMadeOf first before (map (λ (t : Token). t.len) (tokens_by first before)) edit insert text = record { edit_of = e; lengths_are = refl } in
-    made_change (edition_grammar newest) before _ insert text edit made
+    made_change (edition_grammar newest) made
 
 -- what `change_to` promises of each text before
 abbrev pub Changes : CHead → CEdit → Head → Bool → Change → Type 0
@@ -79,7 +79,7 @@ module _ (text : List ℕ) (is : IsText text) (edit : CEdit) (c : CHead) (body :
     pub refused_body : ¬ (IsChange (drop now.body text) change) → FindsHead text edit c c body body kept kept 6
     refused_body not = refused_with (λ before insert e same.
         let b = all first before insert text (edition_grammar newest) e (of_old before insert e same) is_now in
-        not (subst (λ (n : ℕ). IsChange (drop n text) change) (sym is_now.end_is) (made_change (edition_grammar newest) _ _ _ _ change b.made_of)))
+        not (subst (λ (n : ℕ). IsChange (drop n text) change) (sym is_now.end_is) (made_change (edition_grammar newest) b.made_of)))
 
     pub found : IsChange text (change_of edit) → IsChange (drop now.body text) change → FindsHead text edit c (numbers_of_head now) body (record { start = change.start; old_stop = change.old_stop; new_stop = change.new_stop }) kept (bool_number keeps) 0
     found fine may = record {

@@ -12,13 +12,10 @@ use Rattle.rustc_lexer.specs.LanguageText.{part}
 use Rattle.rustc_lexer.specs.Edits.{IsRelexed, part_by}
 use Rattle.rustc_lexer.specs.Relexing.{known}
 use Rattle.rustc_lexer.specs.Relexing.{IsMadeOf, IsUnderWay, IsWhole, MayGoOn, TakesSteps, is_over}
-use Rattle.rustc_lexer.specs.means.Relexing.{relexed_of}
 use Rattle.rustc_lexer.specs.Locality.{IsGrammar}
 use Rattle.rustc_lexer.specs.laws.Edition.{edition_grammar}
-use Rattle.rustc_lexer.proofs.lemmas.edits.Layouts.{part_by_body}
 use Rattle.rustc_lexer.proofs.lemmas.edits.OneAnswer.{relexed_is}
-use Rattle.rustc_lexer.proofs.lemmas.edits.ByLengths.{over_met, few_lexed, counts_met}
-use Rattle.rustc_lexer.proofs.lemmas.edits.UnderWay.{to_stands}
+use Rattle.rustc_lexer.proofs.lemmas.edits.UnderWay.{over_met, few_lexed, counts_met}
 use Rattle.rustc_lexer_c.specs.declared.relex.CEdit.{CEdit}
 use Rattle.rustc_lexer_c.specs.declared.relex.CRelexing.{CRelexing}
 use Rattle.rustc_lexer_c.specs.declared.token.CToken.{CToken}
@@ -47,7 +44,7 @@ module _ (edition : Edition) (text : List ℕ) (old : List CToken) (change : CEd
 
   pub over_is : (before insert : List ℕ) → IsMadeOf first before lens (change_of change) insert text → IsUnderWay first before (change_of change) text at → is_over text at ≡ at.met
   over_is before insert is stands =
-      let law = edition_grammar edition in grind (arith, common_steps, over_met law before lens insert text (change_of change) is at (to_stands law before lens insert text (change_of change) is at stands))
+      let law = edition_grammar edition in grind (arith, common_steps, over_met law is stands)
 
   pub batch_is : count ≤ length buffer → TakesSteps first text (change_of change).new_stop begin count at → filled ≡ map token_numbers (take count (tokens_by first (drop begin.at text))) ++ drop count buffer → MayGoOn text (length old) at → (count < length buffer → is_over text at ≡ true) → begin.lexed ≡ lexed_before c
       → (c.stage ≢ 0 → begin.front ≡ front_of c)
@@ -64,14 +61,16 @@ module _ (edition : Edition) (text : List ℕ) (old : List CToken) (change : CEd
     relexed = λ before insert is passed.
         let law = edition_grammar edition in
         let so = stands before insert is (begun first before insert law is passed) in
-        let at_stands = to_stands law before lens insert text (change_of change) is at so.0 in
-        let found : IsRelexed (part_by first) before change.start change.old_stop insert (relexed_of first before change.start change.old_stop insert) = part_by_body first before change.start change.old_stop insert _ (relexed_is law before is.edit_of.is_text change.start change.old_stop insert is.edit_of.inserted is.edit_of.is_edit) in
+        let e = is.edit_of in
+        let found = relexed_is law before e.is_text change.start change.old_stop insert e.inserted e.is_edit in
+        let met = counts_met law is so.0 in
         let lexed = steps.lexed in
         let over = over_is before insert is so.0 in
         let same = relex_back text (length old) at may.number over in
         let number = ap (λ b. b.index) steps.front in
         let at_begin : known begin ≡ at.front.index + lexed_before c = omega arith in
         let many : length lens ≡ length old = length-map old (λ (t : CToken). t.len) in
+        let all : length (tokens_by first before) ≡ length old = sym (length-map (tokens_by first before) (λ (t : Token). t.len)) ∙ (ap (λ (ns : List ℕ). length ns) (sym is.lengths_are) ∙ many) in
         let left : tokens_by first (drop begin.at text) ≡ drop (at.front.index + lexed_before c) (tokens_of (part edition) text) = so.1 ∙ ap (λ n. drop n (tokens_of (part edition) text)) at_begin in
         let filled_is = tokens ∙ ap (λ (ts : List Token). map token_numbers (take count ts) ++ drop count buffer) left in
         let back : length old - (length old - at.back.index) ≡ at.back.index = (let few = may.number in omega arith) in
@@ -82,12 +81,8 @@ module _ (edition : Edition) (text : List ℕ) (old : List CToken) (change : CEd
           };
           tokens = filled_is;
           more = written_more (tokens_of (part edition) text) at.front.index (lexed_before c) count at.lexed buffer filled (omega arith) so.0.inside filled_is;
-          few = (relexed_of first before change.start change.old_stop insert, found, few_lexed law before lens insert text (change_of change) is at at_stands);
-          counts = λ e.
-              let met = counts_met law before lens insert text (change_of change) is at at_stands (grind (arith, common_steps)) in
-              subst (IsRelexed (part_by first) before change.start change.old_stop insert) (met.1 ∙ ap (λ (n : ℕ). let r : Relexed = record { kept_front = at.front.index; lexed = at.lexed; kept_back = n - at.back.index } in r) (sym met.0 ∙ many)) found;
-          list = λ e are.
-              let met = counts_met law before lens insert text (change_of change) is at at_stands (grind (arith, common_steps)) in
-              list_whole (tokens_by first before) (tokens_by first text) at (length old - (length old - at.back.index)) old back are met.2;
+          few = (found.0, found.1, few_lexed law is so.0 found.0 found.1);
+          counts = λ e. subst (λ (n : ℕ). let r : Relexed = record { kept_front = at.front.index; lexed = at.lexed; kept_back = n - at.back.index } in IsRelexed (part_by first) before change.start change.old_stop insert r) all (met (grind (arith, common_steps))).0;
+          list = λ e are. list_whole (tokens_by first before) (tokens_by first text) at (length old - (length old - at.back.index)) old back are (met (grind (arith, common_steps))).1;
         };
   }

@@ -6,7 +6,6 @@ pub mod Bounds
 pub mod ByLengths
 pub mod Checkpoints
 pub mod DocumentEdits
-pub mod FromTheFront
 pub mod FrontAndBack
 pub mod Heads
 pub mod InCommon
@@ -19,7 +18,6 @@ pub mod Lengths
 pub mod Lists
 pub mod ListsSoFar
 pub mod ManyTokens
-pub mod Meeting
 pub mod Offsets
 pub mod OneAnswer
 pub mod Pieces

@@ -1,6 +1,5 @@
 -- Means, by how it is read: the parts of relexing.
-use Rattle.std.specs.Prelude.{ℕ, zero, suc, ◌+◌, ◌-◌, ◌<◌, ◌≤◌, ◌&&◌, Bool, cond, nat_le, nat_lt, nat_eq, count_by, max, map, IsCharBoundary, ◌≡◌, ◌++◌, ◌∷◌, true, List, length, take, drop}
-use Rattle.std.specs.List.{list_any}
+use Rattle.std.specs.Prelude.{ℕ, ◌+◌, ◌-◌, ◌<◌, ◌≤◌, Bool, count_by, max, map, IsCharBoundary, ◌≡◌, ◌↔◌, ◌++◌, true, List, length, take, drop}
 use Rattle.std.specs.Str.{IsUtf8}
 use Rattle.rustc_lexer.specs.declared.relex.front.TokenStart.{TokenStart}
 use Rattle.rustc_lexer.specs.declared.relex.front.Damage.{Damage}
@@ -11,7 +10,7 @@ use Rattle.rustc_lexer.specs.{Token}
 use Rattle.rustc_lexer.specs.Partition.{bound, tokens_by}
 use Rattle.rustc_lexer.specs.Offsets.{IsBound}
 use Rattle.rustc_lexer.specs.Edits.{apply, ends_from}
-use Rattle.rustc_lexer.specs.Relexing.{known}
+use Rattle.rustc_lexer.specs.Relexing.{IsUnderWay, known}
 use Rattle.rustc_lexer.specs.Locality.{has_two}
 
 -- ---- what an edit of a text without a head keeps
@@ -40,64 +39,6 @@ pub record IsBodyRelexed (first : List ℕ → Token) (text : List ℕ) (start s
       → IsBodyMeeting (tokens_by first text) (tokens_by first (apply text start stop insert)) stop
       (start + length insert) number back → ⊥
 
--- ---- the same by a search for the meeting
-
--- whether an offset of the new text is not before the end of the edit, which is `new_stop` there
--- and `old_stop` in the old text, and, moved back by the edit, is a boundary of the old tokens
-abbrev pub meets_at : List Token → ℕ → ℕ → ℕ → Bool
-meets_at old old_stop new_stop offset =
-    nat_le new_stop offset && list_any (nat_eq (offset - new_stop + old_stop)) (0 ∷ ends_from 0 old)
-
--- the first number from j on that passes the test, or j + n if none of the n numbers from j on does
-abbrev pub least_from : (ℕ → Bool) → ℕ → ℕ → ℕ
-least_from test zero j = j
-least_from test (suc n) j = cond (test j) j (least_from test n (suc j))
-
--- the number of the boundary of the new tokens at which lexing from boundary k on meets the old
--- ones
-unfoldable pub meet : List Token → List Token → ℕ → ℕ → ℕ → ℕ
-meet old new old_stop new_stop k =
-    least_from (λ j. meets_at old old_stop new_stop (bound new j)) (length new - k) k
-
--- the counts of an edit: how many old tokens it keeps at the front and at the back, and how many it
--- lexes
-unfoldable pub relexed_of : (List ℕ → Token) → List ℕ → ℕ → ℕ → List ℕ → Relexed
-relexed_of first text start stop insert =
-    let old : List Token = tokens_by first text in
-    let new : List Token = tokens_by first (apply text start stop insert) in
-    let new_stop : ℕ = start + length insert in
-    let k : ℕ = kept_front text old start in
-    let j : ℕ = meet old new stop new_stop k in
-    record {
-      kept_front = k;
-      lexed = j - k;
-      kept_back = count_by (nat_lt (bound new j - new_stop + stop)) (ends_from 0 old);
-    }
-
--- relexing is at a boundary of the new tokens, not before the end of the kept front and not after
--- the meeting point. `back` is a boundary of the old tokens. It is the end of the kept front as
--- long as relexing is before the end of the edit. After that it is the first boundary that is not
--- before the present offset, moved back by the edit, or the last boundary
-pub record Stands (first : List ℕ → Token) (old : List ℕ) (change : Change) (text : List ℕ)
-    (at : Relexing) : Type 0 where
-  pub front_number : at.front.index ≡ kept_front old (tokens_by first old) change.start
-  pub front_bound : IsBound (tokens_by first old) at.front
-  pub front_same : take at.front.index (tokens_by first old)
-      ≡ take at.front.index (tokens_by first text)
-  pub inside : known at ≤ length (tokens_by first text)
-  pub offset : at.at ≡ bound (tokens_by first text) (known at)
-  pub not_past : known at
-      ≤ meet (tokens_by first old) (tokens_by first text) change.old_stop change.new_stop
-      at.front.index
-  pub met_is : at.met ≡ meets_at (tokens_by first old) change.old_stop change.new_stop at.at
-  pub back_bound : IsBound (tokens_by first old) at.back
-  pub not_begun : at.at < change.new_stop → at.back ≡ at.front
-  pub below : (k : ℕ) → k < at.back.index
-      → bound (tokens_by first old) k + change.new_stop
-      < max change.new_stop at.at + change.old_stop
-  pub reached : change.new_stop ≤ at.at → at.back.index < length (tokens_by first old)
-      → at.at - change.new_stop + change.old_stop ≤ at.back.offset
-
 -- ---- the parts
 
 -- each boundary of the tokens is inside the text, between characters
@@ -120,16 +61,7 @@ pub record IsFront (old : List ℕ) (tokens : List Token) (lengths text : List �
 -- what a change did to the text that it made
 abbrev pub damage_of : List ℕ → Change → Damage
 damage_of text change =
-    record {
-      past = change.new_stop;
-      added = change.new_stop - change.start;
-      removed = change.old_stop - change.start;
-      end = length text;
-    }
-
--- the end of the change in the old text
-abbrev pub old_stop_of : Damage → ℕ
-old_stop_of damage = damage.past - damage.added + damage.removed
+    record { past = change.new_stop; old_stop = change.old_stop; end = length text }
 
 -- the last boundary of the tokens, and no other, is at this offset
 abbrev pub IsLast : List Token → ℕ → Type 0
@@ -138,19 +70,19 @@ IsLast tokens offset =
     × ((k : ℕ) → k < length tokens → bound tokens k < offset)
 
 -- the old tokens were followed to boundary `back` for an offset of the new text, and `met` says
--- whether that offset meets the old tokens
+-- whether that offset meets them there
 pub record IsFollowed (old : List Token) (old_stop new_stop offset : ℕ) (back : TokenStart) (met : Bool)
     : Type 0 where
   pub bound_is : IsBound old back
-  pub below : (k : ℕ) → k < back.index → bound old k + new_stop < max new_stop offset + old_stop
+  pub passed : (k : ℕ) → k < back.index → bound old k + new_stop < max new_stop offset + old_stop
   pub reached : new_stop ≤ offset → back.index < length old
-      → offset - new_stop + old_stop ≤ back.offset
-  pub met_is : met ≡ meets_at old old_stop new_stop offset
+      → offset + old_stop ≤ back.offset + new_stop
+  pub met_is : (met ≡ true) ↔ ((new_stop ≤ offset) × (offset + old_stop ≡ back.offset + new_stop))
 
 -- relexing has met the old tokens, and these are the tokens that were lexed for it
 pub record IsLexed (first : List ℕ → Token) (old : List ℕ) (change : Change) (text : List ℕ)
     (tokens : List Token) (at : Relexing) : Type 0 where
-  pub stands : Stands first old change text at
+  pub under_way : IsUnderWay first old change text at
   pub met : at.met ≡ true
   pub lexed : at.lexed ≡ length tokens
   pub tokens_are : drop at.front.index (tokens_by first text)

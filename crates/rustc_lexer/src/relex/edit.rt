@@ -2,15 +2,16 @@
 ghost use Rattle.std.specs.Prelude.{◌≡◌, ◌+◌, ◌-◌, ◌^◌, ◌<◌, ◌≤◌, ◌↔◌, IsTrue, IfOk, IfErr, List, ℕ, length, map};
 ghost use Rattle.std.specs.List.{All};
 ghost use Rattle.std.specs.String.{string_bytes, string_capacity, string_len};
+ghost use Rattle.rustc_lexer.specs.declared.relex.relexing.Relexed.{Relexed};
 ghost use Rattle.rustc_lexer.specs.{Token};
 ghost use Rattle.rustc_lexer.specs.Classes.{Fits};
 ghost use Rattle.rustc_lexer.specs.Tokens.{tokens_by};
-ghost use Rattle.rustc_lexer.specs.Edits.{IsEdit, IsInside, apply};
+ghost use Rattle.rustc_lexer.specs.Edits.{IsEdit, IsInside, IsRelexed, apply, part_by};
 ghost use Rattle.rustc_lexer.specs.Offsets.{IsBound};
 ghost use Rattle.rustc_lexer.specs.Relexing.{known};
 ghost use Rattle.rustc_lexer.specs.Relexing.{IsChange, IsMadeOf, MayGoOn};
 ghost use Rattle.rustc_lexer.specs.means.Checkpoints.{AreBounds, IsMovable, IsReplaced, end_of};
-ghost use Rattle.rustc_lexer.specs.means.Relexing.{IsLexed, relexed_of};
+ghost use Rattle.rustc_lexer.specs.means.Relexing.{IsLexed};
 
 use crate::entry::stepper::Stepper;
 use crate::relex::checkpoints::Checkpoints;
@@ -109,9 +110,9 @@ pub(crate) fn relex<S: Stepper>(
         → IsMadeOf (S.grammar stepper.old) before (map (λ (t : Token). t.len) old.now)
         change insert text.now
         → IsBound (tokens_by (S.grammar stepper.old) before) near
-        → S.count stepper.new
-        ≤ S.count stepper.old
-        + (relexed_of (S.grammar stepper.old) before change.start change.old_stop insert).lexed) }
+        → (r : Relexed)
+        → IsRelexed (part_by (S.grammar stepper.old)) before change.start change.old_stop insert r
+        → S.count stepper.new ≤ S.count stepper.old + r.lexed) }
 {
     let mut tokens = Vec::new(alloc);
     let mut at = Relexing::begin(text, old, change, near);

@@ -9,7 +9,7 @@ ghost use Rattle.rustc_lexer.specs.{Token};
 ghost use Rattle.rustc_lexer.specs.Offsets.{IsBound};
 ghost use Rattle.rustc_lexer.specs.Locality.{has_two};
 ghost use Rattle.rustc_lexer.specs.Tokens.{bound};
-ghost use Rattle.rustc_lexer.specs.means.Relexing.{IsFollowed, IsFront, IsLast, HasLengths, kept_front, old_stop_of};
+ghost use Rattle.rustc_lexer.specs.means.Relexing.{IsFollowed, IsFront, IsLast, HasLengths, kept_front};
 
 use crate::token::Token;
 
@@ -167,13 +167,12 @@ pub(crate) struct Meeting {
     pub met: bool,
 }
 
-/// The effect of an edit on the text. The edit ends at `past` in the new text, where it replaced `removed` bytes
-/// with `added` bytes. The new text ends at `end`.
+/// The effect of an edit on the text. The edit ends at `past` in the new text, and at `old_stop` in the old one. The
+/// new text ends at `end`.
 #[derive(Clone, Copy)]
 pub(crate) struct Damage {
     pub past: usize,
-    pub added: usize,
-    pub removed: usize,
+    pub old_stop: usize,
     pub end: usize,
 }
 
@@ -188,8 +187,7 @@ pub(crate) fn follow<T: Measured>(
 ) -> Meeting
     requires number { from.index ≤ length tokens.now }
     requires small { from.offset < 2 ^ 63 }
-    requires added_le { damage.added ≤ damage.past }
-    requires offset_fits { offset + damage.removed < 2 ^ 34 }
+    requires offset_fits { offset + damage.old_stop < 2 ^ 34 }
 
     // It is not before `from`, and is among the old tokens.
     ensures number { result.at.index ≤ length tokens.now }
@@ -203,9 +201,9 @@ pub(crate) fn follow<T: Measured>(
     // After it, how far exactly they are followed, and whether they are met there.
     ensures followed { (ts : List Token) → HasLengths ts (map T.bytes tokens.now) → IsBound ts from
         → ((k : ℕ) → k < from.index
-        → bound ts k + damage.past < max damage.past offset + old_stop_of damage)
-        → (offset ≡ damage.end → IsLast ts (offset - damage.past + old_stop_of damage))
-        → IsFollowed ts (old_stop_of damage) damage.past offset result.at result.met }
+        → bound ts k + damage.past < max damage.past offset + damage.old_stop)
+        → (offset ≡ damage.end → IsLast ts (offset - damage.past + damage.old_stop))
+        → IsFollowed ts damage.old_stop damage.past offset result.at result.met }
 {
     if offset < damage.past {
         return Meeting {
@@ -213,7 +211,7 @@ pub(crate) fn follow<T: Measured>(
             met: false,
         };
     }
-    let target = offset - damage.added + damage.removed;
+    let target = offset - damage.past + damage.old_stop;
     if offset == damage.end {
         return Meeting {
             at: TokenStart {

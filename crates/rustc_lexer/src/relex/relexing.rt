@@ -48,14 +48,11 @@ impl Change {
 
     /// Returns what the change did to the text that it made.
     fn damage(self, text: &str) -> Damage
-        requires old { self.start ≤ self.old_stop }
-        requires new { self.start ≤ self.new_stop }
         ensures { result ≡ damage_of text.now self }
     {
         Damage {
             past: self.new_stop,
-            added: self.new_stop - self.start,
-            removed: self.old_stop - self.start,
+            old_stop: self.old_stop,
             end: text.len(),
         }
     }

@@ -21,7 +21,7 @@ use Rattle.rustc_lexer.specs.Relexing.{IsMadeOf}
 use Rattle.rustc_lexer.specs.Locality.{IsGrammar}
 use Rattle.rustc_lexer.specs.Tokens.{tokens_by}
 use Rattle.rustc_lexer.specs.means.Checkpoints.{AreBounds, IsMovable, IsReplaced, end_of}
-use Rattle.rustc_lexer.specs.means.Relexing.{IsBodyRelexed, IsLexed, IsRenewed, kept_front}
+use Rattle.rustc_lexer.specs.means.Relexing.{IsBodyRelexed, IsLexed, kept_front}
 use Rattle.rustc_lexer.proofs.lemmas.edits.Bounds.{tokens_le_bytes}
 use Rattle.rustc_lexer.proofs.lemmas.edits.BodyEdits.{made_body}
 use Rattle.rustc_lexer.proofs.lemmas.edits.Heads.{all_are, boundary_of}
@@ -94,21 +94,6 @@ near_behind tokens {all} {near} {n} {m} checkpoints same e are is = grind (arith
 
 module _ {layout : (List ℕ → Token) → List ℕ → Layout} {first : List ℕ → Token} (law : IsGrammar first) {text made insert : List ℕ} {start stop : ℕ} {old now : Head} {kept : Bool} {n : ℕ} {tokens : List Token} {body : List ℕ} {change : Change} (b : IsBodyEdit layout first text made insert start stop old now kept n tokens body change)
     {head : Option Head} {new : List Token} {at : Relexing} (head_is : head ≡ head_unless kept now) (r : IsRenewedBehind first (drop old.body text) change body n tokens head new at) where
-  abbrev put : List ℕ
-  put = body_insert kept change insert body
-
-  abbrev whole : Change
-  whole = record { start = change.start; old_stop = change.old_stop; new_stop = change.start + length put }
-
-  whole_is : change ≡ whole
-  whole_is = ap (λ (p : ℕ). let ch : Change = record { start = change.start; old_stop = change.old_stop; new_stop = p } in ch) b.made_of.edit_of.new_stop
-
-  whole_made : IsMadeOf first (drop old.body text) (map (λ (t : Token). t.len) (drop n tokens)) whole put body
-  whole_made = subst (λ (ch : Change). IsMadeOf first (drop old.body text) (map (λ (t : Token). t.len) (drop n tokens)) ch put body) whole_is b.made_of
-
-  whole_renewed : IsRenewed first (drop old.body text) whole body (drop n tokens) r.behind at
-  whole_renewed = subst (λ (ch : Change). IsRenewed first (drop old.body text) ch body (drop n tokens) r.behind at) whole_is r.renewed
-
   head_are : head_put (take n tokens) head ≡ tokens_of_head now
   head_are = grind (arith, common_steps)
 
@@ -116,7 +101,7 @@ module _ {layout : (List ℕ → Token) → List ℕ → Layout} {first : List �
   new_is = r.now_is ∙ ap (λ ts. ts ++ r.behind) head_are
 
   pub behind_are : r.behind ≡ tokens_by first body
-  behind_are = renewed_are law b.old_body whole_made whole_renewed
+  behind_are = renewed_are law b.old_body b.made_of r.renewed
 
   -- they are the tokens of the changed document
   pub new_are : new ≡ tokens_in (layout first made)
@@ -127,18 +112,18 @@ module _ {layout : (List ℕ → Token) → List ℕ → Layout} {first : List �
 
   pub bounds_move : (checkpoints : Checkpoints) {m : ℕ} → n ≡ m → AreBounds (drop m tokens) checkpoints → All (IsMovable at.back (end_of at)) checkpoints.bounds × IsReplaced (drop n tokens) r.behind at.front at.back (end_of at)
   bounds_move checkpoints same are =
-      renewed_bounds law b.old_body whole_made whole_renewed checkpoints (subst (λ k. AreBounds (drop k tokens) checkpoints) (sym same) are)
+      renewed_bounds law b.old_body b.made_of r.renewed checkpoints (subst (λ k. AreBounds (drop k tokens) checkpoints) (sym same) are)
 
   -- where the head does not stay, nothing is kept before the edit
   front_none : kept ≡ false → at.front.index ≡ 0
   front_none e =
       let zero_start : change.start ≡ 0 = ap (λ (ch : Change). ch.start) b.change_is ∙ ap (λ (k : Bool). (body_change k old.body now.body (edit_change start stop insert)).start) e in
-      r.renewed.lexed_is.stands.front_number ∙ (ap (kept_front (drop old.body text) (tokens_by first (drop old.body text))) zero_start ∙ kept_none (drop old.body text) (tokens_by first (drop old.body text)))
+      r.renewed.lexed_is.under_way.front ∙ (ap (kept_front (drop old.body text) (tokens_by first (drop old.body text))) zero_start ∙ kept_none (drop old.body text) (tokens_by first (drop old.body text)))
 
   module _ (counts : Relexed) {m c : ℕ} (m_is : m ≡ length (tokens_of_head now)) (c_is : c ≡ length tokens - n) (counts_are : counts ≡ record { kept_front = at.front.index; lexed = at.lexed; kept_back = c - at.back.index }) where
     sizes : (at.front.index + at.lexed + (c - at.back.index) ≡ length r.behind) × (length new ≡ m + length r.behind) × (c ≡ length (drop n tokens))
     sizes =
-        grind (arith, common_steps, length-drop, whole_made, whole_renewed, new_is, length-append, renewed_all law b.old_body whole_made whole_renewed)
+        grind (arith, common_steps, length-drop, new_is, length-append, renewed_all law b.old_body b.made_of r.renewed)
 
     same_count : kept ≡ true → n ≡ m
     same_count e = b.n_is ∙ (ap (λ (h : Head). length (tokens_of_head h)) (b.decided.0 e).0 ∙ sym m_is)
@@ -153,11 +138,11 @@ module _ {layout : (List ℕ → Token) → List ℕ → Layout} {first : List �
         by_kept : (k : Bool) → kept ≡ k → take (counted k n m (record { kept_front = at.front.index; lexed = at.lexed; kept_back = c - at.back.index })).kept_front new ≡ take (counted k n m (record { kept_front = at.front.index; lexed = at.lexed; kept_back = c - at.back.index })).kept_front tokens
         by_kept true e =
             let number : n + at.front.index ≡ length (tokens_of_head now) + at.front.index = omega (arith, same_count e, m_is) in
-            ap₂ take number new_is ∙ (take-append-add (tokens_of_head now) r.behind at.front.index ∙ (ap₂ (λ xs ys. xs ++ ys) (sym (b.old_front ∙ ap tokens_of_head (b.decided.0 e).0)) (renewed_front law b.old_body whole_made whole_renewed) ∙ sym (take-add n at.front.index tokens)))
+            ap₂ take number new_is ∙ (take-append-add (tokens_of_head now) r.behind at.front.index ∙ (ap₂ (λ xs ys. xs ++ ys) (sym (b.old_front ∙ ap tokens_of_head (b.decided.0 e).0)) (renewed_front law b.old_body b.made_of r.renewed) ∙ sym (take-add n at.front.index tokens)))
         by_kept false e = rw (front_none e) refl
 
     back_with : (k : ℕ) → k ≡ length (tokens_of_head now) + (at.front.index + at.lexed) → drop k new ≡ drop (length tokens - (c - at.back.index)) tokens
-    back_with k e = grind (arith, common_steps, sizes, new_is, drop-append-add, renewed_back, whole_made, whole_renewed, drop-drop)
+    back_with k e = grind (arith, common_steps, sizes, new_is, drop-append-add, renewed_back law b.old_body b.made_of r.renewed, drop-drop)
 
     pub counted_back : drop ((counted kept n m counts).kept_front + (counted kept n m counts).lexed) new ≡ drop (length tokens - (counted kept n m counts).kept_back) tokens
     counted_back = grind (arith, common_steps, back_with, same_count)

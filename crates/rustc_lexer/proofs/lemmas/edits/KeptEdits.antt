@@ -7,16 +7,17 @@ use Rattle.rustc_lexer.specs.declared.relex.checkpoints.Checkpoints.{Checkpoints
 use Rattle.rustc_lexer.specs.declared.relex.head.Head.{Head}
 use Rattle.rustc_lexer.specs.declared.relex.relexing.{Change.Change, Relexed.Relexed}
 use Rattle.rustc_lexer.specs.Classes.{IsText}
-use Rattle.rustc_lexer.specs.Edits.{apply, IsEdit, IsRelexed}
+use Rattle.rustc_lexer.specs.Edits.{apply, IsEdit, IsRelexed, part_by}
 use Rattle.rustc_lexer.specs.Locality.{IsGrammar}
 use Rattle.rustc_lexer.specs.means.Document.{AreKeptOf, IsHeadIn, IsPut, TakesFew, body_change, edit_change, body_insert, counted, text_left, tokens_of_head}
 use Rattle.rustc_lexer.specs.Kept.{Held, IsEdited, layout_in}
 use Rattle.rustc_lexer.specs.Partition.{Layout, tokens_in}
 use Rattle.rustc_lexer.specs.laws.Same.{decided_head, is_same_head}
-use Rattle.rustc_lexer.specs.means.Relexing.{IsBodyRelexed, relexed_of}
+use Rattle.rustc_lexer.specs.means.Relexing.{IsBodyRelexed}
 use Rattle.rustc_lexer.proofs.lemmas.edits.DocumentEdits.{IsBodyEdit, body_edit, relexed-front}
 use Rattle.rustc_lexer.proofs.lemmas.edits.FrontAndBack.{edited}
 use Rattle.rustc_lexer.proofs.lemmas.edits.Heads.{head_in, heads_are}
+use Rattle.rustc_lexer.proofs.lemmas.edits.Layouts.{body_by_part}
 use Rattle.rustc_lexer.proofs.lemmas.edits.OneAnswer.{relexed_is}
 use Rattle.rustc_lexer.proofs.lemmas.edits.WholeEdits.{relexed_as}
 
@@ -53,11 +54,12 @@ module _ {first : List ℕ → Token} (law : IsGrammar first) {layout : (List �
           omega (arith, heads, relexed-front (subst (λ m. IsBodyRelexed first (drop old.body text) m change.old_stop (body_insert kept change insert body) x) start_is found))
 
   -- an edit that is refused takes no more steps than it would have
-  pub few_by : (before after : ℕ) → after ≤ before + (relexed_of first (drop old.body text) change.start change.old_stop (body_insert kept change insert body)).lexed → TakesFew (layout first) text start stop insert before after
+  pub few_by : (before after : ℕ) → ((x : Relexed) → IsRelexed (part_by first) (drop old.body text) change.start change.old_stop (body_insert kept change insert body) x → after ≤ before + x.lexed) → TakesFew (layout first) text start stop insert before after
   few_by before after few =
-      let x : Relexed = relexed_of first (drop old.body text) change.start change.old_stop (body_insert kept change insert body) in
-      let found = relexed_is law (drop old.body text) b.made_of.edit_of.is_text change.start change.old_stop (body_insert kept change insert body) b.made_of.edit_of.inserted b.made_of.edit_of.is_edit in
-      (all_of x, relexed_by x found, omega (arith, few, steps_by x found))
+      let of = b.made_of.edit_of in
+      let counts = relexed_is law (drop old.body text) of.is_text change.start change.old_stop (body_insert kept change insert body) of.inserted of.is_edit in
+      let found = body_by_part _ _ _ _ _ _ counts.1 in
+      (all_of counts.0, relexed_by counts.0 found, omega (arith, few counts.0 counts.1, steps_by counts.0 found))
 
 -- whether the head stays
 stays_by : (old now : Head) (start : ℕ) (same : Bool) → IsTrue same ↔ (old ≡ now) → IsTrue (nat_le old.body start && same) ↔ ((old ≡ now) × (old.body ≤ start))
@@ -70,7 +72,7 @@ few_none {first} law whole text insert start stop before is its edit =
     let now = head_in whole (apply text start stop insert) (edited text start stop insert is its edit).text_is in
     let stays = stays_by old.0 now.0 start (is_same_head old.0 now.0) (decided_head _ old.0 now.0 refl) in
     let b = body_edit {layout = layout_in whole} law {text = text} {made = apply text start stop insert} {insert = insert} is its edit refl old.1 now.1 stays refl refl refl refl in
-    few_by law is its edit b before before (omega arith)
+    few_by law is its edit b before before (λ x counts. omega arith)
 
 -- the text is made by an edit of what is kept
 pub put_by : {layout : (List ℕ → Token) → List ℕ → Layout} {first : List ℕ → Token} {before insert made reserved : List ℕ} {start stop : ℕ} {tokens : List Token} {head : Head} {checkpoints : Checkpoints} → AreKeptOf layout first before tokens head checkpoints → IsUtf8 insert → IsEdit before start stop insert → made ≡ apply reserved start stop insert → reserved ≡ before

@@ -15,7 +15,7 @@ offset-behind of k = grind (arith, common_steps, drop-append_seam, bound-shift)
 
 -- ---- a text without a head
 
-abbrev bare : List Token → Layout
+abbrev pub bare : List Token → Layout
 bare tokens = record { start = 0; head = []; body = tokens }
 
 module _ {old new : List Token} {old_stop new_stop number back : ℕ} where

@@ -1,56 +1,45 @@
--- What an edit keeps: there is one answer, and the search for the meeting finds it.
-use Rattle.std.proofs.Common.{◌≡◌, ℕ, zero, suc, ◌+◌, ◌-◌, ◌<◌, ◌≤◌, Bool, true, false, true≢false, cond, ◌&&◌, List, [], ◌∷◌, length, take, refl, sym, ap, ◌∙◌, subst, arith, length-take, ltb, leb-true, le-leb, inl, inr, eq-or-lt_of_le, IsUtf8, IsCharBoundary}
-use Rattle.std.proofs.lemmas.Bool.{and_parts, cases_Bool}
-use Rattle.std.specs.List.{count_by}
-use Rattle.std.proofs.lemmas.Grind.{common_steps}
+-- What an edit keeps: there are counts of it.
+use Rattle.std.proofs.Common.{◌≡◌, ◌⊎◌, ℕ, zero, suc, ◌+◌, ◌-◌, ◌<◌, ◌≤◌, Bool, true, false, cond, List, [], ◌∷◌, length, take, refl, sym, ap, subst, arith, length-take, inl, inr, eq-or-lt_of_le, IsUtf8, IsCharBoundary}
+use Rattle.rustc_lexer.specs.declared.relex.relexing.Relexed.{Relexed}
 use Rattle.rustc_lexer.specs.{Token}
 use Rattle.rustc_lexer.specs.Classes.{IsText}
-use Rattle.rustc_lexer.specs.Edits.{IsEdit, apply, ends_from}
+use Rattle.rustc_lexer.specs.Edits.{IsEdit, IsMeeting, IsRelexed, apply, part_by}
 use Rattle.rustc_lexer.specs.Locality.{IsGrammar, has_two}
 use Rattle.rustc_lexer.specs.Tokens.{bound, tokens_by}
-use Rattle.rustc_lexer.specs.means.Relexing.{IsBodyMeeting, IsBodyRelexed, kept_front, least_from, meet, meets_at, relexed_of}
-use Rattle.rustc_lexer.proofs.lemmas.edits.Bounds.{bound-last, ends_past-at, is_bound, is_bound-elim, is_bound-intro, least_from_ge, rises}
+use Rattle.rustc_lexer.specs.means.Relexing.{kept_front}
+use Rattle.rustc_lexer.proofs.lemmas.edits.Bounds.{bound-last, cuts}
 use Rattle.rustc_lexer.proofs.lemmas.edits.FrontAndBack.{IsEdited, edited, front-none, kept_front_by, kept_front_from, kept_same, start_inside}
-use Rattle.rustc_lexer.proofs.lemmas.edits.FromTheFront.{cuts}
+use Rattle.rustc_lexer.proofs.lemmas.edits.Layouts.{Decided, all, at_most, bare, numbers}
 
--- ---- the search for the first number that passes
+-- ---- the first number at which texts meet
 
--- it ends at one that does, if the last one does
-pub least_from-passes : (test : ℕ → Bool) (n k : ℕ) → test (k + n) ≡ true → test (least_from test n k) ≡ true
-least_from-passes test zero k pass = let e : k + 0 ≡ k = omega arith in subst (λ m. test m ≡ true) e pass
-least_from-passes test (suc n) k pass = grind (arith, common_steps, cases_Bool, least_from-passes test n (suc k) (subst (λ m. test m ≡ true) (omega arith) pass))
+-- the first number from k on of which something holds
+pub record IsFirst (P : ℕ → Type 0) (k j : ℕ) : Type 0 where
+  pub from : k ≤ j
+  pub holds : P j
+  pub none_before : (i : ℕ) → k ≤ i → i < j → P i → ⊥
 
--- and none before it does
-pub least_from-none : (test : ℕ → Bool) (n k i : ℕ) → k ≤ i → i < least_from test n k → test i ≡ false
-least_from-none test zero k i le less = absurd (omega arith)
-least_from-none test (suc n) k i le less = elim (cases_Bool (test k)) [
-  | inl hit ↦ let here : least_from test (suc n) k ≡ k = rw hit refl in absurd (omega arith)
-  | inr miss ↦
-      let on : least_from test (suc n) k ≡ least_from test n (suc k) = rw miss refl in
-      elim (eq-or-lt_of_le le) [ inl same ↦ subst (λ m. test m ≡ false) same miss | inr more ↦ least_from-none test n (suc k) i more (omega arith) ]
-]
+pub first_or_none : (P : ℕ → Type 0) → ((j : ℕ) → Decided (P j)) → (n k : ℕ) → ((j : ℕ) × (j < k + n) × IsFirst P k j) ⊎ ((i : ℕ) → k ≤ i → i < k + n → P i → ⊥)
+first_or_none P decided zero k = inr (λ i le less p. absurd (omega arith))
+first_or_none P decided (suc n) k = by_first (decided k) (first_or_none P decided n (suc k))
+  where
+    past : {i : ℕ} → (P k → ⊥) → k ≤ i → P i → suc k ≤ i
+    past none le p = elim (eq-or-lt_of_le le) [ inl same ↦ absurd (none (subst P (sym same) p)) | inr more ↦ more ]
 
-pub least_from-le : (test : ℕ → Bool) (n k : ℕ) → least_from test n k ≤ k + n
-least_from-le test zero k = omega arith
-least_from-le test (suc n) k = elim (cases_Bool (test k)) [ inl hit ↦ rw hit (omega arith) | inr miss ↦ rw miss (omega (arith, least_from-le test n (suc k))) ]
-
--- it passes, if it is not past the last
-pub least_from-hit : (test : ℕ → Bool) (n k : ℕ) → least_from test n k < k + n → test (least_from test n k) ≡ true
-least_from-hit test zero k less = absurd (omega arith)
-least_from-hit test (suc n) k less = elim (cases_Bool (test k)) [
-  | inl hit ↦ rw hit hit
-  | inr miss ↦ let on : least_from test (suc n) k ≡ least_from test n (suc k) = rw miss refl in rw miss (least_from-hit test n (suc k) (omega arith))
-]
-
--- ---- a meeting passes the test of the search, and what passes it is one
+    by_first : Decided (P k) → ((j : ℕ) × (j < suc k + n) × IsFirst P (suc k) j) ⊎ ((i : ℕ) → suc k ≤ i → i < suc k + n → P i → ⊥) → ((j : ℕ) × (j < k + suc n) × IsFirst P k j) ⊎ ((i : ℕ) → k ≤ i → i < k + suc n → P i → ⊥)
+    by_first (inl now) later = inl (k, omega arith, record { from = omega arith; holds = now; none_before = λ i le less p. absurd (omega arith) })
+    by_first (inr none) (inl at) = let is = at.2 in inl (at.0, omega (arith, at.1), record { from = omega (arith, is.from); holds = is.holds; none_before = λ i le less p. is.none_before i (past none le p) less p })
+    by_first (inr none) (inr all) = inr (λ i le less p. all i (past none le p) (omega (arith, less)) p)
 
 module _ (old new : List Token) (stop new_stop number : ℕ) where
-  pub meeting-passes : {back : ℕ} → IsBodyMeeting old new stop new_stop number back → meets_at old stop new_stop (bound new number) ≡ true
-  meeting-passes m = grind (arith, common_steps, is_bound, le-leb, is_bound-intro, m.past_edit)
+  abbrev At : ℕ → Type 0
+  At i = (number ≤ length new) × (new_stop ≤ bound new number) × (bound new number + stop ≡ bound old i + new_stop)
 
-  pub passes-meeting : number ≤ length new → meets_at old stop new_stop (bound new number) ≡ true
-      → (i : ℕ) × (bound old i ≡ bound new number - new_stop + stop) × (i ≤ length old) × IsBodyMeeting old new stop new_stop number (length old - i)
-  passes-meeting few hit = grind (arith, common_steps, and_parts, is_bound-elim, leb-true)
+  pub meets_or_not : Decided ((back : ℕ) × IsMeeting (bare old) (bare new) stop new_stop number back)
+  meets_or_not = elim (first_or_none At (λ i. all (at_most _ _) (at_most _ _) (numbers _ _)) (suc (length old)) 0) [
+    | inl at ↦ let m = at.2.holds in inl (length old - at.0, record { number_inside = m.0; past_edit = omega (arith, m.1); past_head = omega arith; old_number = at.0; past_old_head = omega arith; back_is = omega (arith, at.1); same_offset = omega (arith, m.2) })
+    | inr none ↦ inr (λ m. none m.1.old_number (omega arith) (omega (arith, m.1.back_is)) (m.1.number_inside, omega (arith, m.1.past_edit), omega (arith, m.1.same_offset)))
+  ]
 
 -- ---- the kept front
 
@@ -98,10 +87,6 @@ module _ {first : List ℕ → Token} (law : IsGrammar first) (text : List ℕ) 
   abbrev kept : ℕ
   kept = kept_front text old start
 
-  -- whether the new tokens meet the old ones at a bound
-  abbrev test : ℕ → Bool
-  test = λ m. meets_at old stop new_stop (bound new m)
-
   ed : IsEdited text start stop insert new_text
   ed = edited text start stop insert is its edit
 
@@ -116,29 +101,30 @@ module _ {first : List ℕ → Token} (law : IsGrammar first) (text : List ℕ) 
   kept_new = let few = kept_two.0 in let long : length (take kept new) ≡ length (take kept old) = ap length front_same in omega (arith, length-take kept new, length-take kept old)
 
   -- both ends meet
-  end_passes : test (kept + (length new - kept)) ≡ true
-  end_passes =
-      let all : kept + (length new - kept) ≡ length new = omega (arith, kept_new) in
-      let last : bound new (length new) ≡ length new_text = bound-last law new_text ed.text_is in
-      let past : new_stop ≤ bound new (length new) = omega (arith, start_inside law text start stop insert new_text is edit ed) in
-      let there : bound old (length old) ≡ bound new (length new) - new_stop + stop = omega (arith, ed.len, edit.inside.start_le_stop, edit.inside.stop_inside, bound-last law text is) in
-      subst (λ m. test m ≡ true) (sym all) (
-      ap (λ (b : Bool). b && is_bound old (bound new (length new) - new_stop + stop)) (le-leb new_stop (bound new (length new)) past)
-      ∙ is_bound-intro old (length old) (bound new (length new) - new_stop + stop) there)
+  ends_meet : (back : ℕ) × IsMeeting (part_by first text) (part_by first new_text) stop new_stop (length new) back
+  ends_meet = (0, record {
+    number_inside = omega arith;
+    past_edit = omega (arith, bound-last law new_text ed.text_is, start_inside law text start stop insert new_text is edit ed);
+    past_head = omega arith;
+    old_number = length old;
+    past_old_head = omega arith;
+    back_is = omega arith;
+    same_offset = omega (arith, bound-last law new_text ed.text_is, bound-last law text is, ed.len, edit.inside.start_le_stop, edit.inside.stop_inside);
+  })
 
-  -- what the search finds is what an edit keeps
-  pub relexed_is : IsBodyRelexed first text start stop insert (relexed_of first text start stop insert)
-  unfolding relexed_of meet
-  relexed_is =
-      let j : ℕ = least_from test (length new - kept) kept in
-      let few : j ≤ length new = (let le = least_from-le test (length new - kept) kept in omega (arith, kept_new)) in
-      let more : kept ≤ j = least_from_ge test (length new - kept) kept in
-      let here : kept + (j - kept) ≡ j = omega arith in
-      let at = passes-meeting old new stop new_stop j few (least_from-passes test (length new - kept) kept end_passes) in
-      let back : count_by (ltb (bound new j - new_stop + stop)) (ends_from 0 old) ≡ length old - at.0 = ap (λ p. count_by (ltb p) (ends_from 0 old)) (sym at.1) ∙ ends_past-at old at.0 at.2 (rises law text is) in
-      let meets : IsBodyMeeting old new stop new_stop j (count_by (ltb (bound new j - new_stop + stop)) (ends_from 0 old)) = subst (IsBodyMeeting old new stop new_stop j) (sym back) at.3 in
-      record {
-        front = refl;
-        meeting = subst (λ n. IsBodyMeeting old new stop new_stop n (count_by (ltb (bound new j - new_stop + stop)) (ends_from 0 old))) (sym here) meets;
-        none_before = λ number back le less m. true≢false (sym (meeting-passes old new stop new_stop number m) ∙ least_from-none test (length new - kept) kept number le (omega arith));
-      }
+  -- so there are counts of it
+  pub relexed_is : (r : Relexed) × IsRelexed (part_by first) text start stop insert r
+  relexed_is = elim (first_or_none (λ j. (back : ℕ) × IsMeeting (part_by first text) (part_by first new_text) stop new_stop j back) (meets_or_not old new stop new_stop) (suc (length new - kept)) kept) [
+    | inl at ↦
+        let is = at.2 in
+        let e : at.0 ≡ kept + (at.0 - kept) = omega (arith, is.from) in (
+          record { kept_front = kept; lexed = at.0 - kept; kept_back = is.holds.0 },
+          record {
+            kept = λ k. omega arith;
+            changed = λ none. absurd (none (omega arith, refl, refl));
+            meeting = subst (λ n. IsMeeting (part_by first text) (part_by first new_text) stop new_stop n is.holds.0) e is.holds.1;
+            none_before = λ number back le less m. is.none_before number le (omega (arith, less, e)) (back, m);
+          },
+        )
+    | inr none ↦ absurd (none (length new) kept_new (omega (arith, kept_new)) ends_meet)
+  ]

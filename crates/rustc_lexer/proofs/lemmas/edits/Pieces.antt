@@ -13,7 +13,7 @@ use Rattle.rustc_lexer.specs.Locality.{IsGrammar}
 use Rattle.rustc_lexer.proofs.lemmas.edits.Bounds.{bound-end, bound_mono}
 use Rattle.rustc_lexer.proofs.lemmas.edits.FrontAndBack.{bound-same, bound-take}
 use Rattle.rustc_lexer.proofs.lemmas.edits.KeptFront.{bound-next, bound-shift}
-use Rattle.rustc_lexer.proofs.lemmas.edits.FromTheFront.{cuts}
+use Rattle.rustc_lexer.proofs.lemmas.edits.Bounds.{cuts}
 
 -- the tokens that are left begin and end between characters
 pub cut_edges : (text : List ℕ) (start end : ℕ) (tokens : List Token) → AreCut text start end tokens → IsCharBoundary text start × IsCharBoundary text end

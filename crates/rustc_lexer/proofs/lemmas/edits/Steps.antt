@@ -2,24 +2,14 @@
 use Rattle.std.proofs.Common.{◌≡◌, ℕ, ◌+◌, ◌<◌, false, List, ◌∷◌, length, drop, inl, inr, refl, sym, ap, ◌∙◌, subst, arith, drop-drop, length-drop, IsCharBoundary}
 use Rattle.std.proofs.lemmas.Bool.{cases_lt}
 use Rattle.std.proofs.lemmas.Str.{IsUtf8-drop}
-use Rattle.rustc_lexer.specs.means.Relexing.{Stands}
 use Rattle.std.proofs.lemmas.Grind.{common_steps}
-use Rattle.rustc_lexer.specs.declared.relex.relexing.Change.{Change}
 use Rattle.rustc_lexer.specs.declared.relex.relexing.Relexing.{Relexing}
 use Rattle.rustc_lexer.specs.{Token}
 use Rattle.rustc_lexer.specs.Tokens.{bound, tokens_by}
 use Rattle.rustc_lexer.specs.Classes.{IsText}
-use Rattle.rustc_lexer.specs.Relexing.{known}
-use Rattle.rustc_lexer.specs.Relexing.{IsMadeOf, TakesSteps, is_over}
+use Rattle.rustc_lexer.specs.Relexing.{TakesSteps, is_over}
 use Rattle.rustc_lexer.specs.Locality.{IsGrammar}
 use Rattle.rustc_lexer.proofs.lemmas.tokens.Buffers.{next_offset, next_token, over}
-use Rattle.rustc_lexer.specs.laws.Cuts.{at_bound}
-use Rattle.rustc_lexer.proofs.lemmas.edits.ByLengths.{made_text}
-
--- the tokens that are still to come are those of the text that is left
-pub left_at : {first : List ℕ → Token} (law : IsGrammar first) (before lengths insert text : List ℕ) (change : Change) (is : IsMadeOf first before lengths change insert text) (at : Relexing) (stands : Stands first before change text at) → tokens_by first (drop at.at text) ≡ drop (known at) (tokens_by first text)
-left_at {first} law before lengths insert text change is at stands =
-    grind (arith, common_steps, at_bound law (known at) text (made_text law before lengths insert text change is), (at_bound law (known at) text (made_text law before lengths insert text change is)).rest, stands.offset)
 
 -- no step
 pub no_step : (first : List ℕ → Token) (text : List ℕ) (past : ℕ) (at : Relexing) → TakesSteps first text past at 0 at

@@ -1,82 +1,206 @@
--- Where relexing stands, in the words of callers and by the search for the meeting.
-use Rattle.std.proofs.Common.{◌≡◌, ℕ, ◌-◌, ◌≤◌, Bool, true, false, true≢false, List, length, take, refl, sym, ap, ◌∙◌, arith, inl, inr}
+-- Relexing is under way: from its beginning, past tokens, to the meeting.
+use Rattle.std.proofs.Common.{◌≡◌, ◌↔◌, ℕ, ◌+◌, ◌-◌, ◌<◌, ◌≤◌, Bool, true, false, true≢false, eqb, eqb-true, List, ◌∷◌, ◌++◌, length, take, drop, refl, sym, ap, ◌∙◌, ap₂, suc, subst, arith, inl, inr, length-drop, drop-drop, take-append-drop, take_at, max, eq-or-lt_of_le}
 use Rattle.std.proofs.lemmas.Bool.{cases_lt}
-use Rattle.rustc_lexer.specs.declared.relex.relexing.{Change.Change, Relexing.Relexing}
+use Rattle.std.proofs.lemmas.Grind.{common_steps}
+use Rattle.rustc_lexer.specs.declared.relex.front.{Meeting.Meeting, TokenStart.TokenStart}
+use Rattle.rustc_lexer.specs.declared.relex.relexing.{Change.Change, Relexed.Relexed, Relexing.Relexing}
 use Rattle.rustc_lexer.specs.{Token}
-use Rattle.rustc_lexer.specs.Edits.{apply}
-use Rattle.rustc_lexer.specs.Relexing.{known}
-use Rattle.rustc_lexer.specs.Locality.{IsGrammar}
-use Rattle.rustc_lexer.specs.Relexing.{IsMadeOf, IsUnderWay}
+use Rattle.rustc_lexer.specs.Classes.{IsText}
+use Rattle.rustc_lexer.specs.Edits.{IsMeeting, IsRelexed, IsRelexedTo, part_by}
+use Rattle.rustc_lexer.specs.Locality.{IsGrammar, has_two}
+use Rattle.rustc_lexer.specs.Offsets.{IsBound}
+use Rattle.rustc_lexer.specs.Relexing.{IsMadeOf, IsUnderWay, IsWhole, TakesSteps, known}
 use Rattle.rustc_lexer.specs.Tokens.{bound, tokens_by}
-use Rattle.rustc_lexer.specs.means.Relexing.{least_from, meet, meets_at, Stands}
-use Rattle.rustc_lexer.proofs.lemmas.edits.Layouts.{body_meets, part_meets}
-use Rattle.rustc_lexer.proofs.lemmas.edits.OneAnswer.{front_same, least_from-hit, least_from-none, meeting-passes, passes-meeting}
-use Rattle.rustc_lexer.proofs.lemmas.edits.ByLengths.{meet_ge}
+use Rattle.rustc_lexer.specs.means.Relexing.{IsFollowed, IsLexed, kept_front}
+use Rattle.rustc_lexer.specs.laws.Cuts.{at_bound, tokens-cons}
+use Rattle.rustc_lexer.proofs.lemmas.edits.Bounds.{bound-last, bound_mono, rises}
+use Rattle.rustc_lexer.proofs.lemmas.edits.ByLengths.{made_edited, text_end}
+use Rattle.rustc_lexer.proofs.lemmas.edits.FrontAndBack.{bound-same, has_two-before, met_rest}
+use Rattle.rustc_lexer.proofs.lemmas.edits.KeptFront.{bound-shift}
+use Rattle.rustc_lexer.proofs.lemmas.edits.Layouts.{bare}
+use Rattle.rustc_lexer.proofs.lemmas.edits.OneAnswer.{front_same, kept_new}
 
-module _ {first : List ℕ → Token} (law : IsGrammar first) (before lengths insert text : List ℕ) (change : Change) (is : IsMadeOf first before lengths change insert text) (at : Relexing) where
+module _ (old new : List Token) (old_stop new_stop number offset : ℕ) (back : TokenStart) (offset_is : offset ≡ bound new number) (bound_is : IsBound old back) where
+  meets_here : number ≤ length new → (new_stop ≤ offset) × (offset + old_stop ≡ back.offset + new_stop) → IsMeeting (bare old) (bare new) old_stop new_stop number (length old - back.index)
+  meets_here few here =
+      record { number_inside = few; past_edit = omega (arith, here.0, offset_is); past_head = omega arith; old_number = back.index; past_old_head = omega arith; back_is = omega (arith, bound_is.0); same_offset = omega (arith, here.1, offset_is, bound_is.1) }
+
+  -- of the old bounds, the new tokens can meet none but the one that was followed to
+  meets_there : ((k : ℕ) → k < back.index → bound old k + new_stop < max new_stop offset + old_stop) → (new_stop ≤ offset → back.index < length old → offset + old_stop ≤ back.offset + new_stop)
+      → (rest : ℕ) × IsMeeting (bare old) (bare new) old_stop new_stop number rest → (new_stop ≤ offset) × (offset + old_stop ≡ back.offset + new_stop)
+  meets_there passed reached (rest, m) = (omega (arith, m.past_edit, offset_is), elim (cases_lt m.old_number back.index) [
+    | inl less ↦ absurd (omega (arith, passed m.old_number less, m.same_offset, m.past_edit, offset_is))
+    | inr more ↦ elim (eq-or-lt_of_le more) [
+      | inl same ↦ omega (arith, offset_is, m.same_offset, bound_is.1, ap (bound old) same)
+      | inr past ↦ omega (arith, offset_is, m.same_offset, bound_is.1, bound_mono old back.index m.old_number more, reached (omega (arith, m.past_edit, offset_is)) (omega (arith, past, m.back_is)))
+    ]
+  ])
+
+  met_by : {met : Bool} → number ≤ length new → IsFollowed old old_stop new_stop offset back met → (met ≡ true) ↔ ((rest : ℕ) × IsMeeting (bare old) (bare new) old_stop new_stop number rest)
+  met_by few f = (λ hit. (length old - back.index, meets_here few (f.met_is.0 hit)), λ m. f.met_is.1 (meets_there f.passed f.reached m))
+
+-- no old token that has not been followed is met before an offset
+abbrev pub IsClear : Change → Relexing → ℕ → Type 0
+IsClear change at end = (offset : ℕ) → at.at < offset → offset < end → change.new_stop ≤ offset
+    → (change.new_stop ≤ at.at) × (offset + change.old_stop < at.back.offset + change.new_stop)
+
+module _ {first : List ℕ → Token} (law : IsGrammar first) {before lengths insert text : List ℕ} {change : Change} (is : IsMadeOf first before lengths change insert text) where
   abbrev old : List Token
   old = tokens_by first before
 
   abbrev new : List Token
   new = tokens_by first text
 
-  abbrev test : ℕ → Bool
-  test = λ m. meets_at old change.old_stop change.new_stop (bound new m)
+  abbrev Meets : ℕ → ℕ → Type 0
+  Meets = IsMeeting (part_by first before) (part_by first text) change.old_stop change.new_stop
 
-  pub of_stands : Stands first before change text at → IsUnderWay first before change text at
-  unfolding meet
-  of_stands s = record {
-    front = s.front_number;
-    front_bound = s.front_bound;
-    inside = s.inside;
-    offset = s.offset;
-    none_before = λ number back more less m.
-        true≢false (sym (meeting-passes old new change.old_stop change.new_stop number (body_meets m))
-        ∙ least_from-none test (length new - at.front.index) at.front.index number more (let far = s.not_past in omega (arith, far, less)));
-    met = (
-      λ hit. let m = passes-meeting old new change.old_stop change.new_stop (known at) s.inside (ap (meets_at old change.old_stop change.new_stop) (sym s.offset) ∙ (sym s.met_is ∙ hit)) in (length old - m.0, part_meets m.3),
-      λ m. s.met_is ∙ (ap (meets_at old change.old_stop change.new_stop) s.offset ∙ meeting-passes old new change.old_stop change.new_stop (known at) (body_meets m.1)),
-    );
-    back_bound = s.back_bound;
-    not_begun = s.not_begun;
-    passed = s.below;
-    reached = λ past few. let far = s.reached past few in omega (arith, past, far);
-  }
+  -- the old tokens of the kept front are the new ones
+  kept : (number : ℕ) → number ≡ kept_front before old change.start → (take number old ≡ take number new) × (number ≤ length new)
+  kept number e =
+      let of = is.edit_of in
+      let same = front_same law before of.is_text change.start change.old_stop insert of.inserted of.is_edit in
+      let few = kept_new law before of.is_text change.start change.old_stop insert of.inserted of.is_edit in
+      rw (e, of.made) (sym same, few)
 
-  pub to_stands : IsUnderWay first before change text at → Stands first before change text at
-  unfolding meet
-  to_stands u = record {
-    front_number = u.front;
-    front_bound = u.front_bound;
-    front_same = front;
-    inside = u.inside;
-    offset = u.offset;
-    not_past = not_past;
-    met_is = by_test (test (known at)) refl at.met refl ∙ ap (meets_at old change.old_stop change.new_stop) (sym u.offset);
-    back_bound = u.back_bound;
-    not_begun = u.not_begun;
-    below = u.passed;
-    reached = λ past few. let far = u.reached past few in omega (arith, past, far);
-  }
-    where
-      front : take at.front.index old ≡ take at.front.index new
-      front =
-          let e = is.edit_of in
-          let same = front_same law before e.is_text change.start change.old_stop insert e.inserted e.is_edit in
-          ap (λ n. take n old) u.front ∙ (sym same ∙ (ap (λ n. take n (tokens_by first (apply before change.start change.old_stop insert))) (sym u.front) ∙ ap (λ (bytes : List ℕ). take at.front.index (tokens_by first bytes)) (sym e.made)))
+  -- each bound before it is before the edit
+  pub front_below : (kept : TokenStart) → IsBound old kept → (0 < kept.index → has_two before kept.offset change.start ≡ true) → (k : ℕ) → k < kept.index → bound old k + change.new_stop < max change.new_stop kept.offset + change.old_stop
+  front_below kept at two k less =
+      omega (arith, bound_mono old k kept.index (omega arith), at.1, has_two-before before kept.offset change.start (two (omega arith)), is.edit_of.is_edit.inside.start_le_stop)
 
-      not_past : known at ≤ meet old new change.old_stop change.new_stop at.front.index
-      not_past = elim (cases_lt (least_from test (length new - at.front.index) at.front.index) (known at)) [
-        | inl less ↦
-            let j : ℕ = least_from test (length new - at.front.index) at.front.index in
-            let inside = u.inside in
-            let hit : test j ≡ true = least_from-hit test (length new - at.front.index) at.front.index (omega (arith, inside, less)) in
-            let m = passes-meeting old new change.old_stop change.new_stop j (omega (arith, inside, less)) hit in
-            absurd (u.none_before j (length old - m.0) (meet_ge old new change.old_stop change.new_stop at.front.index) less (part_meets m.3))
-        | inr more ↦ more
-      ]
+  pub begun : (front : TokenStart) (to : Meeting) → front.index ≡ kept_front before old change.start → IsBound old front → IsFollowed old change.old_stop change.new_stop front.offset to.at to.met → (front.offset < change.new_stop → to.at ≡ front)
+      → IsUnderWay first before change text record { front = front; lexed = 0; back = to.at; at = front.offset; met = to.met }
+  begun front to number at followed stays =
+      let same = kept front.index number in
+      let none : front.index ≡ front.index + 0 = omega arith in
+      let offset : front.offset ≡ bound new (front.index + 0) = at.1 ∙ (bound-same front.index old new same.0 ∙ ap (bound new) none) in
+      let inside : front.index + 0 ≤ length new = omega (arith, same.1) in
+      record {
+        front = number;
+        front_bound = at;
+        inside = inside;
+        offset = offset;
+        none_before = λ number back more less m. omega (arith, more, less);
+        met = met_by old new _ _ _ _ _ offset followed.bound_is inside followed;
+        back_bound = followed.bound_is;
+        not_begun = stays;
+        passed = followed.passed;
+        reached = followed.reached;
+      }
 
-      by_test : (t : Bool) → test (known at) ≡ t → (b : Bool) → at.met ≡ b → at.met ≡ test (known at)
-      by_test true e b f = let m = passes-meeting old new change.old_stop change.new_stop (known at) u.inside e in u.met.1 (length old - m.0, part_meets m.3) ∙ sym e
-      by_test false e true f = let m = u.met.0 f in absurd (true≢false (sym (meeting-passes old new change.old_stop change.new_stop (known at) (body_meets m.1)) ∙ e))
-      by_test false e false f = f ∙ sym e
+  -- the counts of an edit, by the text that it made
+  made_counts : (r : Relexed) → IsRelexed (part_by first) before change.start change.old_stop insert r ↔ IsRelexedTo (part_by first before) (part_by first text) before change.start change.old_stop change.new_stop r
+  made_counts r = (λ c. rw (is.edit_of.made, is.edit_of.new_stop) c, λ c. rw (sym is.edit_of.made, sym is.edit_of.new_stop) c)
+
+  module _ {at : Relexing} (u : IsUnderWay first before change text at) where
+    -- the tokens that are still to come are those of the text that is left
+    pub left_at : tokens_by first (drop at.at text) ≡ drop (known at) new
+    left_at = ap (λ n. tokens_by first (drop n text)) u.offset ∙ sym (at_bound law (known at) text (made_edited law is).text_is).rest
+
+    -- where the old tokens are not met, more text is left
+    pub more_left : at.met ≡ false → at.at < length text
+    more_left out = elim (cases_lt at.at (length text)) [
+      | inl less ↦ less
+      | inr over ↦ absurd (true≢false (sym (u.met.1 (0, record {
+        number_inside = u.inside;
+        past_edit = omega (arith, over, u.offset, (text_end law is).1);
+        past_head = omega arith;
+        old_number = length old;
+        past_old_head = omega arith;
+        back_is = omega arith;
+        same_offset = omega (arith, over, u.offset, (text_end law is).0, bound-last law text (made_edited law is).text_is, bound_mono new (known at) (length new) u.inside);
+      })) ∙ out))
+    ]
+
+    -- at the end of the text they are met
+    pub over_met : at.met ≡ false → eqb at.at (length text) ≡ at.met
+    over_met out = grind (arith, common_steps, more_left, eqb-true)
+
+    -- each bound that was passed is before a later offset too
+    pub below_later : (later : ℕ) → at.at ≤ later → (k : ℕ) → k < at.back.index → bound old k + change.new_stop < max change.new_stop later + change.old_stop
+    below_later later le k less = omega (arith, le, u.passed k less)
+
+    -- no more was lexed than the whole edit lexes
+    pub few_lexed : (r : Relexed) → IsRelexed (part_by first) before change.start change.old_stop insert r → at.lexed ≤ r.lexed
+    few_lexed r counts =
+        let c = (made_counts r).0 counts in
+        let front : r.kept_front ≡ at.front.index = omega (arith, c.kept (omega arith, refl, refl), u.front) in
+        elim (cases_lt r.lexed at.lexed) [
+          | inl less ↦ absurd (u.none_before (r.kept_front + r.lexed) r.kept_back (omega (arith, front)) (omega (arith, front, less)) c.meeting)
+          | inr more ↦ more
+        ]
+
+    -- at the meeting: the counts are those of the edit, and the new tokens are whole
+    pub counts_met : at.met ≡ true → IsRelexed (part_by first) before change.start change.old_stop insert (record { kept_front = at.front.index; lexed = at.lexed; kept_back = length old - at.back.index }) × IsWhole old new at
+    counts_met hit =
+        let here = meets_there old new _ _ _ _ _ u.offset u.back_bound u.passed u.reached (u.met.0 hit) in
+        let e = is.edit_of in
+        let rest : drop (known at) new ≡ drop at.back.index old = met_rest law before change.start change.old_stop insert text e.is_text e.is_edit (made_edited law is) (known at) at.back.index (omega (arith, e.new_stop, here.0, u.offset)) (omega (arith, e.new_stop, here.0, here.1, u.back_bound.1, u.offset)) in (
+          (made_counts _).1 record { kept = λ _. omega (arith, u.front); changed = λ none. absurd (none (omega arith, refl, refl)); meeting = meets_here old new _ _ _ _ _ u.offset u.back_bound u.inside here; none_before = u.none_before },
+          cc ((kept at.front.index u.front).0, rest, take-append-drop at.front.index new, take-append-drop at.lexed (drop at.front.index new), drop-drop at.lexed at.front.index new),
+        )
+
+    -- past so many tokens
+    module _ {count : ℕ} {past : Relexing} (steps : TakesSteps first text change.new_stop at count past) where
+      abbrev left : List Token
+      left = tokens_by first (drop at.at text)
+
+      known_past : known past ≡ known at + count
+      known_past = omega (arith, ap (λ (b : TokenStart). b.index) steps.front, steps.lexed)
+
+      inside_past : known past ≤ length new
+      inside_past = omega (arith, known_past, steps.inside, ap length left_at, length-drop (known at) new, u.inside)
+
+      shift : (k : ℕ) → bound new (known at + k) ≡ at.at + bound left k
+      shift k = omega (arith, bound-shift new (known at) k, u.offset, ap (λ (ts : List Token). bound ts k) left_at)
+
+      offset_past : past.at ≡ bound new (known past)
+      offset_past = omega (arith, steps.offset, shift count, ap (bound new) known_past)
+
+      -- it goes on, if it met no old token on the way
+      pub goes_on : at.met ≡ false → ((number back : ℕ) → known at < number → number < known past → Meets number back → ⊥) → IsFollowed old change.old_stop change.new_stop past.at past.back past.met → IsUnderWay first before change text past
+      goes_on out none followed = record {
+        front = ap (λ (b : TokenStart). b.index) steps.front ∙ u.front;
+        front_bound = subst (IsBound old) (sym steps.front) u.front_bound;
+        inside = inside_past;
+        offset = offset_past;
+        none_before = λ number back more less m. elim (cases_lt number (known at)) [
+          | inl early ↦ u.none_before number back (omega (arith, more, ap (λ (b : TokenStart). b.index) steps.front)) early m
+          | inr late ↦ elim (eq-or-lt_of_le late) [
+            | inl same ↦ true≢false (sym (u.met.1 (back, subst (λ n. Meets n back) (sym same) m)) ∙ out)
+            | inr later ↦ none number back later less m
+          ]
+        ];
+        met = met_by old new _ _ _ _ _ offset_past followed.bound_is inside_past followed;
+        back_bound = followed.bound_is;
+        not_begun = λ early. steps.same_back early ∙ (u.not_begun (omega (arith, early, steps.offset)) ∙ sym steps.front);
+        passed = followed.passed;
+        reached = followed.reached;
+      }
+
+      -- where it is clear up to an offset before which the tokens begin, none is met
+      pub none_between : (end : ℕ) → IsClear change at end → ((k : ℕ) → k < count → bound left k < end - at.at) → (number back : ℕ) → known at < number → number < known past → Meets number back → ⊥
+      none_between end clear begin number back more less m =
+          let k : ℕ = number - known at in
+          let here : known at + k ≡ number = omega (arith, more) in
+          let early : bound new number < end = omega (arith, begin k (omega (arith, more, less, known_past)), shift k, ap (bound new) here) in
+          let later : at.at < bound new number = omega (arith, u.offset, rises law text (made_edited law is).text_is (known at) (omega (arith, more, m.number_inside)), bound_mono new (suc (known at)) number more) in
+          let free = clear (bound new number) later early (omega (arith, m.past_edit)) in
+          elim (cases_lt m.old_number at.back.index) [
+            | inl below ↦ omega (arith, u.passed m.old_number below, free.0, m.same_offset, later)
+            | inr far ↦ omega (arith, u.back_bound.1, bound_mono old at.back.index m.old_number far, m.same_offset, free.1)
+          ]
+
+    -- the next token
+    pub gives_next : {token : Token} {past : Relexing} → at.met ≡ false → token ≡ first (drop at.at text) → TakesSteps first text change.new_stop at 1 past → drop (known at) new ≡ token ∷ drop (known past) new
+    gives_next {token} {past} out token_is steps =
+        let rest : List ℕ = drop at.at text in
+        let rest_is : IsText rest = subst (λ p. IsText (drop p text)) (sym u.offset) (at_bound law (known at) text (made_edited law is).text_is).past in
+        let cons = sym left_at ∙ tokens-cons law rest rest_is (omega (arith, more_left out, length-drop at.at text)) in
+        let behind : drop (known past) new ≡ tokens_by first (drop (first rest).len rest) = ap (λ n. drop n new) (known_past steps) ∙ (sym (drop-drop 1 (known at) new) ∙ ap (drop 1) cons) in
+        cons ∙ ap₂ (λ (t : Token) (ts : List Token). t ∷ ts) (sym token_is) (sym behind)
+
+  -- the tokens that were lexed for it, put between those that are kept, are the new ones
+  pub lexed_whole : {tokens : List Token} {at : Relexing} → IsLexed first before change text tokens at → take at.front.index old ++ (tokens ++ drop at.back.index old) ≡ new
+  lexed_whole {tokens} {at} l =
+      let lexed : take at.lexed (drop at.front.index new) ≡ tokens = ap (take at.lexed) l.tokens_are ∙ take_at tokens (drop (known at) new) at.lexed (sym l.lexed) in
+      ap (λ (ts : List Token). take at.front.index old ++ (ts ++ drop at.back.index old)) (sym lexed) ∙ (counts_met l.under_way l.met).1

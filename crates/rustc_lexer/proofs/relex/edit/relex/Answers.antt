@@ -5,13 +5,13 @@ use Rattle.rustc_lexer.specs.{Token}
 use Rattle.rustc_lexer.specs.Classes.{IsText}
 use Rattle.rustc_lexer.specs.Tokens.{tokens_by}
 use Rattle.rustc_lexer.specs.Offsets.{IsBound}
-use Rattle.rustc_lexer.specs.Relexing.{IsMadeOf, IsUnderWay, known}
+use Rattle.rustc_lexer.specs.Relexing.{GoesOn, known}
 use Rattle.rustc_lexer.proofs.lemmas.edits.Blocks.{front_of}
 use Rattle.rustc_lexer.proofs.lemmas.edits.FrontAndBack.{IfErr-always}
 use Rattle.rustc_lexer.proofs.lemmas.edits.ManyTokens.{block_count, more_lexed}
 use Rattle.rustc_lexer.proofs.lemmas.edits.Steps.{step_of}
-use Rattle.rustc_lexer.proofs.lemmas.edits.ByLengths.{few_lexed, all_lexed, one_lexed}
-use Rattle.rustc_lexer.proofs.lemmas.edits.UnderWay.{of_stands, to_stands}
+use Rattle.rustc_lexer.proofs.lemmas.edits.ByLengths.{all_lexed, one_lexed}
+use Rattle.rustc_lexer.proofs.lemmas.edits.UnderWay.{few_lexed}
 use Rattle.rustc_lexer.proofs.relex.edit.relex.Goals as goal
 
 pub returns-in_default-clause-lexed : goal.returns-in_default-clause-lexed
@@ -25,7 +25,7 @@ returns-in_default-clause-lexed g c = λ before insert is near.
     let none = c.new-tokens.ensures.items in
     let last = c.in_default.ensures.under_way before insert is (c.begin-at.ensures.under_way first before insert law is near) in
     record {
-      stands = to_stands law before _ insert _ c.args.change is end last.0;
+      under_way = last.0;
       met = last.1;
       lexed = ap (λ (a : Relexing). a.lexed) same ∙ (c.begin-at.ensures.none ∙ sym (ap (λ (ts : List Token). length ts) none));
       tokens_are = subst (λ (a : Relexing). drop a.front.index new ≡ c.new-tokens.result.items ++ drop (known a) new) (sym same) (all_lexed new at c.new-tokens.result.items none c.begin-at.ensures.none);
@@ -39,9 +39,9 @@ returns-in_err-push-clause-few g c =
     let past = c.next.new.self in
     let is_text : IsText c.args.text.now = record { utf8 = c.utf8.text; fits = c.requires.fits } in
     let step = step_of law c.args.text.now is_text c.args.change.new_stop _ at c.in-Some.token _ past c.begin-at.ensures.may_go_on.boundary c.in-Some.ensures.step in
-    IfErr-always c.from_residual.result (λ before insert is near.
+    IfErr-always c.from_residual.result (λ before insert is near r counts.
     let next = c.in-Some.ensures.under_way before insert is (c.begin-at.ensures.under_way first before insert law is near) in
-    omega (arith, c.in-Some.ensures.step.2, step.lexed, few_lexed law before _ insert _ c.args.change is past (to_stands law before _ insert _ c.args.change is past next.0)))
+    omega (arith, c.in-Some.ensures.step.2, step.lexed, few_lexed law is next.0 r counts))
 
 pub left-init : goal.left-init
 left-init g c =
@@ -63,11 +63,11 @@ left-init g c =
       number = c.in-Some.ensures.number;
       count = omega (arith, c.in-Some.ensures.step.2, count, empty);
       lexed = omega (arith, step.lexed, count, empty, c.begin-at.ensures.none);
-      stands = λ before insert is near.
+      under_way = λ before insert is near.
           let next = c.in-Some.ensures.under_way before insert is (c.begin-at.ensures.under_way first before insert law is near) in
           let so = all_lexed (tokens_by first text) at c.new-tokens.result.items none c.begin-at.ensures.none in
           let pushed = one_lexed (tokens_by first text) at past c.new-tokens.result.items c.push.new.self.items token step.front so next.1 more in
-          (to_stands law before _ insert _ c.args.change is past next.0, pushed, λ are. are);
+          (next.0, pushed, λ are. are);
     }
 
 pub left-smaller : goal.left-smaller
@@ -102,15 +102,13 @@ left-preserved g c =
       number = c.block-count.ensures.number ∙ inv.number;
       count = omega (arith, c.block-count.ensures.count, inv.count, size, long, length-append c.left.tokens.items block);
       lexed = omega (arith, steps.lexed, inv.lexed, size, long, length-append c.left.tokens.items block);
-      stands = λ before insert is near.
-          let so = inv.stands before insert is near in
-          let Goes : (List ℕ → Token) → Type 0 = λ f. IsMadeOf f before (map (λ (t : Token). t.len) c.args.old.now) c.args.change insert text → IsUnderWay f before c.args.change text at → IsUnderWay f before c.args.change text past × (tokens_by f (drop at.at text) ≡ drop (known at) (tokens_by f text)) in
-          let goes = subst Goes inv.grammar (c.block-count.ensures.under_way before insert) is (of_stands law before _ insert _ c.args.change is at so.0) in
-          let stands = to_stands law before _ insert _ c.args.change is past goes.0 in
+      under_way = λ before insert is near.
+          let so = inv.under_way before insert is near in
+          let goes = subst (λ (f : List ℕ → Token). GoesOn f (map (λ (t : Token). t.len) c.args.old.now) text c.args.change at past) inv.grammar c.block-count.ensures.under_way before insert is so.0 in
           let here = ap (λ (f : List ℕ → Token). tokens_by f (drop at.at text)) inv.grammar ∙ goes.1 in (
-            stands,
+            goes.0,
             more_lexed (tokens_by first text) left c.left.tokens.items block at past count steps.front steps.lexed so.1 here written.front ∙ ap (λ (ts : List Token). ts ++ drop (known past) (tokens_by first text)) (sym items),
-            λ are. c.remember.ensures (tokens_by first text) (so.2 are) (subst (λ (b : TokenStart). IsBound (tokens_by first text) b) (sym c.end_of.ensures) (stands.inside, stands.offset)),
+            λ are. c.remember.ensures (tokens_by first text) (so.2 are) (subst (λ (b : TokenStart). IsBound (tokens_by first text) b) (sym c.end_of.ensures) (goes.0.inside, goes.0.offset)),
           );
     }
 
@@ -121,19 +119,18 @@ returns-in_err-extend_from_slice-clause-few g c =
     let inv = c.left.invariant in
     let at = c.left.at in
     let past = c.block-count.new.self in
-    IfErr-always c.from_residual-in_err-extend_from_slice.result (λ before insert is near.
-    let so = inv.stands before insert is near in
-    let Goes : (List ℕ → Token) → Type 0 = λ f. IsMadeOf f before (map (λ (t : Token). t.len) c.args.old.now) c.args.change insert text → IsUnderWay f before c.args.change text at → IsUnderWay f before c.args.change text past × (tokens_by f (drop at.at text) ≡ drop (known at) (tokens_by f text)) in
-    let goes = subst Goes inv.grammar (c.block-count.ensures.under_way before insert) is (of_stands law before _ insert _ c.args.change is at so.0) in
-    omega (arith, c.block-count.ensures.count, c.block-count.ensures.steps.lexed, inv.count, inv.lexed, few_lexed law before _ insert _ c.args.change is past (to_stands law before _ insert _ c.args.change is past goes.0)))
+    IfErr-always c.from_residual-in_err-extend_from_slice.result (λ before insert is near r counts.
+    let so = inv.under_way before insert is near in
+    let goes = subst (λ (f : List ℕ → Token). GoesOn f (map (λ (t : Token). t.len) c.args.old.now) text c.args.change at past) inv.grammar c.block-count.ensures.under_way before insert is so.0 in
+    omega (arith, c.block-count.ensures.count, c.block-count.ensures.steps.lexed, inv.count, inv.lexed, few_lexed law is goes.0 r counts))
 
 pub returns-clause-lexed : goal.returns-clause-lexed
 returns-clause-lexed g c = λ before insert is near.
     let law = g.S.Stepper.law c.args.stepper.now in
-    let so = c.left.invariant.stands before insert is near in
+    let so = c.left.invariant.under_way before insert is near in
     record {
-      stands = so.0;
-      met = sym (c.is_over.ensures.met (g.S.Stepper.grammar c.args.stepper.now) before _ insert c.args.change law is (of_stands law before _ insert _ c.args.change is c.left.at so.0)) ∙ c.left-test.false;
+      under_way = so.0;
+      met = sym (c.is_over.ensures.met (g.S.Stepper.grammar c.args.stepper.now) before _ insert c.args.change law is so.0) ∙ c.left-test.false;
       lexed = c.left.invariant.lexed;
       tokens_are = so.1;
     }

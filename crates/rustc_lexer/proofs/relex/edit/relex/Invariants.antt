@@ -3,9 +3,8 @@ use Rattle.rustc_lexer.specs.{Token}
 use Rattle.rustc_lexer.specs.Tokens.{tokens_by}
 use Rattle.rustc_lexer.specs.Offsets.{IsBound}
 use Rattle.rustc_lexer.specs.Relexing.{known}
-use Rattle.rustc_lexer.specs.Relexing.{IsMadeOf, MayGoOn}
+use Rattle.rustc_lexer.specs.Relexing.{IsMadeOf, IsUnderWay, MayGoOn}
 use Rattle.rustc_lexer.specs.means.Checkpoints.{AreBounds}
-use Rattle.rustc_lexer.specs.means.Relexing.{Stands}
 use Rattle.rustc_lexer.proofs.relex.edit.relex.Given as goal
 
 abbrev pub invariant-left : goal.invariant-left
@@ -15,8 +14,8 @@ invariant-left g l = record {
   number : g.S.Stepper.number l.stepper ≡ g.S.Stepper.number l.fn.stepper;
   count : g.S.Stepper.count l.stepper ≡ g.S.Stepper.count l.fn.stepper + length l.tokens.items;
   lexed : l.at.lexed ≡ length l.tokens.items;
-  stands : (before insert : List ℕ) → IsMadeOf (g.S.Stepper.grammar l.fn.stepper) before (map (λ (t : Token). t.len) l.old) l.change insert l.text → IsBound (tokens_by (g.S.Stepper.grammar l.fn.stepper) before) l.fn.near
-      → Stands (g.S.Stepper.grammar l.fn.stepper) before l.change l.text l.at
+  under_way : (before insert : List ℕ) → IsMadeOf (g.S.Stepper.grammar l.fn.stepper) before (map (λ (t : Token). t.len) l.old) l.change insert l.text → IsBound (tokens_by (g.S.Stepper.grammar l.fn.stepper) before) l.fn.near
+      → IsUnderWay (g.S.Stepper.grammar l.fn.stepper) before l.change l.text l.at
       × (drop l.at.front.index (tokens_by (g.S.Stepper.grammar l.fn.stepper) l.text) ≡ l.tokens.items ++ drop (known l.at) (tokens_by (g.S.Stepper.grammar l.fn.stepper) l.text))
       × (AreBounds (tokens_by (g.S.Stepper.grammar l.fn.stepper) l.text) l.fn.lexed_bounds → AreBounds (tokens_by (g.S.Stepper.grammar l.fn.stepper) l.text) l.lexed_bounds);
 }

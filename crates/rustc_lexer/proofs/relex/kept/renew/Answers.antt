@@ -9,8 +9,8 @@ use Rattle.rustc_lexer.specs.means.Checkpoints.{AreBounds}
 use Rattle.rustc_lexer.proofs.lemmas.edits.DocumentEdits.{body_put, made_read, near_behind, new_are, behind_are, new_behind, renewed_by, bounds_move, counted_all, counted_front, counted_back, counted_few}
 use Rattle.rustc_lexer.proofs.lemmas.edits.KeptEdits.{few_by, left_back, put_text, refused, relexed_by, steps_by}
 use Rattle.rustc_lexer.proofs.lemmas.edits.Layouts.{body_by_part}
-use Rattle.rustc_lexer.proofs.lemmas.edits.ByLengths.{few_lexed, made_change}
-use Rattle.rustc_lexer.proofs.lemmas.edits.UnderWay.{of_stands}
+use Rattle.rustc_lexer.proofs.lemmas.edits.ByLengths.{made_change}
+use Rattle.rustc_lexer.proofs.lemmas.edits.UnderWay.{few_lexed}
 use Rattle.rustc_lexer.proofs.relex.kept.renew.Goals as goal
 
 pub relex-requires-clause-change : goal.relex-requires-clause-change
@@ -18,7 +18,7 @@ relex-requires-clause-change g c =
     let p = c.requires.put.2 in
     let law = g.S.Stepper.law c.args.kept.now.stepper in
     let b = body_put law p c.as_str-made.ensures.value c.find_head-now.ensures.head c.keeps_head-stays.ensures c.count-old_count.ensures c.range_from-body.ensures.value c.body_change-change.ensures in
-    made_change (g.S.Stepper.law c.args.kept.now.stepper) _ _ _ _ _ b.made_of
+    made_change law b.made_of
 
 pub past_edit-kept-requires-clause-movable : goal.past_edit-kept-requires-clause-movable
 past_edit-kept-requires-clause-movable g c =
@@ -62,7 +62,7 @@ returns-clause-renewed g c before insert p =
     let read : take (length slice - n) (drop n slice) ≡ drop n old = take_rest slice n ∙ ap (drop n) c.as_slice.ensures.value in
     let size : length (take (length slice - n) (drop n slice)) ≡ length old - n = omega (arith, ap (λ (ts : List Token). length ts) read, length-drop n old) in
     let many : length (map (λ (t : Token). t.len) (drop n old)) ≡ length (take (length slice - n) (drop n slice)) = length-map (drop n old) (λ (t : Token). t.len) ∙ sym (ap (λ (ts : List Token). length ts) read) in
-    let exact = c.counts.ensures.exact _ _ _ _ _ _ law b.made_of many (of_stands law _ _ _ _ _ b.made_of _ l.stands) l.met in
+    let exact = c.counts.ensures.exact _ _ _ _ _ _ law b.made_of many l.under_way l.met in
     let found = body_by_part _ _ _ _ _ _ exact.0 in
     let moved = bounds_move law b c.new_head-new_head.ensures r c.args.kept.now.checkpoints b.n_is p.kept.4 in (
       (
@@ -108,8 +108,7 @@ returns-in_err-put_tokens-clause-renewed g c before insert p =
     let made = made_read c.args.kept.now.tokens.items c.as_slice.result.now c.count-old_count.result c.as_slice.ensures.value b.made_of in
     let near = near_behind c.args.kept.now.tokens.items c.args.kept.now.checkpoints b.n_is b.old_body p.kept.4 c.nearest-near.ensures in
     let l = c.in_ok-lexed.ensures.lexed _ _ made near in
-    let steps = few_lexed law _ _ _ _ c.body_change-change.result b.made_of c.in_ok-lexed.at l.stands in
-    let few = few_by law p.kept.0 p.utf8 p.valid b _ _ (omega (arith, l.lexed, c.in_ok-lexed.ensures.count, steps)) in
+    let few = few_by law p.kept.0 p.utf8 p.valid b _ _ (λ x counts. omega (arith, l.lexed, c.in_ok-lexed.ensures.count, few_lexed law b.made_of l.under_way x counts)) in
     let r = c.from_residual-in_err-put_tokens in
     let back = left_back r.result (string_bytes c.args.kept.now.text) before r.ensures.0 in
     (rw (back, c.relex.ensures.grammar, c.in_err-put_tokens.ensures.same) p.kept, refused r.result r.ensures.0 p.kept.1 back c.in_err-put_tokens.ensures.same c.relex.ensures.grammar c.relex.ensures.number c.relex.ensures.rose few)

@@ -36,7 +36,7 @@ returns-in-Ok g c =
 pub put_in_place-requires-in-Err-clause-inside : goal.put_in_place-requires-in-Err-clause-inside
 put_in_place-requires-in-Err-clause-inside g c =
     let p = put_by c.self.invariant c.utf8.insert (subst (λ h. IsEdit h.text c.args.start c.args.stop c.args.insert.now) (sym c.self.view_is) c.requires.accepted) c.put_in_place.ensures.text c.reserve.ensures.bytes in
-    (made_change (g.S.Stepper.law c.self.inside.kept.stepper) _ _ _ _ _ (made_for _ c.self.invariant.0 c.args.start c.args.stop c.args.insert.now c.utf8.insert p.valid _ _ refl (ap string_bytes c.renew.ensures.text ∙ p.made_is))).inserted
+    (made_change (g.S.Stepper.law c.self.inside.kept.stepper) (made_for _ c.self.invariant.0 c.args.start c.args.stop c.args.insert.now c.utf8.insert p.valid _ _ refl (ap string_bytes c.renew.ensures.text ∙ p.made_is))).inserted
 
 pub invariant_of-self-in-Err : goal.invariant_of-self-in-Err
 invariant_of-self-in-Err g c =

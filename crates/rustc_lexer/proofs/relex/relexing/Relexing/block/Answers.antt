@@ -1,13 +1,12 @@
-use Rattle.std.proofs.Common.{◌≡◌, ◌+◌, ◌-◌, ◌<◌, List, ℕ, length, drop, refl, ap, ◌∙◌, subst, arith}
-use Rattle.rustc_lexer.specs.declared.relex.front.Damage.{Damage}
+use Rattle.std.proofs.Common.{◌≡◌, ◌+◌, ◌-◌, List, ℕ, length, drop, refl, ap, ◌∙◌, subst, arith}
+use Rattle.rustc_lexer.specs.declared.relex.relexing.Relexing.{Relexing}
 use Rattle.rustc_lexer.specs.{Token}
 use Rattle.rustc_lexer.specs.Classes.{IsText}
 use Rattle.rustc_lexer.specs.Tokens.{IsFilledTo, bound, tokens_by}
-use Rattle.rustc_lexer.specs.means.Relexing.{IsFollowed, old_stop_of}
-use Rattle.rustc_lexer.proofs.lemmas.edits.ManyTokens.{block_boundary, block_count, block_inside, some_filled, stands_many}
-use Rattle.rustc_lexer.proofs.lemmas.edits.ByLengths.{below_later, damage_stop, end_last, not_over}
-use Rattle.rustc_lexer.proofs.lemmas.edits.Steps.{left_at}
-use Rattle.rustc_lexer.proofs.lemmas.edits.UnderWay.{of_stands, to_stands}
+use Rattle.rustc_lexer.specs.Relexing.{TakesSteps}
+use Rattle.rustc_lexer.proofs.lemmas.edits.ManyTokens.{block_boundary, block_count, block_inside, some_filled}
+use Rattle.rustc_lexer.proofs.lemmas.edits.ByLengths.{follows, not_over}
+use Rattle.rustc_lexer.proofs.lemmas.edits.UnderWay.{below_later, goes_on, left_at, none_between}
 use Rattle.rustc_lexer.proofs.relex.relexing.Relexing.block.Goals as goal
 
 pub range_from-requires : goal.range_from-requires
@@ -54,7 +53,16 @@ returns g c =
     let bytes_is : bytes ≡ bound (tokens_by first (drop at.at text)) count = c.fill-count.ensures.bytes ∙ ap (λ (l : List ℕ). bound (tokens_by first l) count) c.range_from.ensures.value in
     let some = some_filled g.R.FromToken.written end (tokens_by first (drop at.at text)) c.args.buffer.now c.fill-count.new.buffer count filled c.requires.room (let past = c.least_meeting-end.ensures.past in omega arith) in
     let fewer = block_count law text (drop at.at text) is at.at may.boundary refl count bytes filled.few bytes_is in
-    let stays : at.at + bytes < change.new_stop → to.at ≡ at.back = λ early. c.follow-to.ensures.stays (rw c.damage.ensures early) in
+    let past : Relexing = record { front = at.front; lexed = at.lexed + count; back = to.at; at = at.at + bytes; met = to.met } in
+    let steps : TakesSteps first text change.new_stop at count past = record {
+      inside = filled.few;
+      none = λ e. absurd (omega (arith, some, e));
+      front = refl;
+      lexed = refl;
+      offset = ap (λ n. at.at + n) bytes_is;
+      same_back = λ early. c.follow-to.ensures.stays (rw c.damage.ensures early);
+      not_met = λ more early. c.follow-to.ensures.early (rw c.damage.ensures early);
+    } in
     record {
       may_go_on = record {
         boundary = block_boundary law text (drop at.at text) is at.at may.boundary refl count bytes filled.few bytes_is;
@@ -66,26 +74,12 @@ returns g c =
       grammar = c.fill-count.ensures.grammar;
       number = c.fill-count.ensures.number;
       count = c.fill-count.ensures.count;
-      steps = record {
-        inside = filled.few;
-        none = λ e. absurd (omega (arith, some, e));
-        front = refl;
-        lexed = refl;
-        offset = ap (λ n. at.at + n) bytes_is;
-        same_back = stays;
-        not_met = λ more early. c.follow-to.ensures.early (rw c.damage.ensures early);
-      };
+      steps = steps;
       tokens = filled.tokens;
       some = some;
       buffer = filled.within;
-      under_way = λ before insert made begun.
-          let stands = to_stands law before _ insert text change made at begun in
+      under_way = λ before insert made under_way.
           let out = (not_over at.met at.at (length text) may.boundary.0 c.requires.going).0 in
-          let later = below_later law before _ insert text change made at stands (at.at + bytes) (omega arith) in
-          let ended = c.follow-to.ensures.followed (tokens_by first before) made.lengths_are stands.back_bound (rw c.damage.ensures (λ n less. let b = later n less in let e = damage_stop text change c.requires.change in omega arith)) (rw c.damage.ensures (end_last law before _ insert text change made (at.at + bytes))) in
-          let Followed : Damage → Type 0 = λ d. IsFollowed (tokens_by first before) (old_stop_of d) d.past (at.at + bytes) to.at to.met in
-          let followed = subst (λ n. IsFollowed (tokens_by first before) n change.new_stop (at.at + bytes) to.at to.met) (damage_stop text change c.requires.change) (subst Followed c.damage.ensures ended) in (
-            of_stands law before _ insert text change made _ (stands_many law before _ insert text change made at stands out count bytes c.least_meeting-end.result to c.least_meeting-end.ensures.none filled.few bytes_is filled.begun followed stays),
-            left_at law before _ insert text change made at stands,
-          );
+          let followed = follows law made (at.at + bytes) c.damage.ensures under_way.back_bound (below_later law made under_way (at.at + bytes) (omega arith)) (c.follow-to.ensures.followed (tokens_by first before)) in
+          (goes_on law made under_way steps out (none_between law made under_way steps c.least_meeting-end.result c.least_meeting-end.ensures.none filled.begun) followed, left_at law made under_way);
     }

@@ -7,8 +7,8 @@ use Rattle.rustc_lexer.specs.Classes.{IsText}
 use Rattle.rustc_lexer.specs.Relexing.{IsMadeOf, IsUnderWay, is_over}
 use Rattle.rustc_lexer.specs.Tokens.{tokens_by}
 use Rattle.rustc_lexer.proofs.lemmas.tokens.Buffers.{none_written, one_written}
-use Rattle.rustc_lexer.proofs.lemmas.edits.Steps.{IsStepTo, step_of, left_at, next_left, no_step, step_more}
-use Rattle.rustc_lexer.proofs.lemmas.edits.UnderWay.{to_stands}
+use Rattle.rustc_lexer.proofs.lemmas.edits.Steps.{IsStepTo, step_of, next_left, no_step, step_more}
+use Rattle.rustc_lexer.proofs.lemmas.edits.UnderWay.{left_at}
 use Rattle.rustc_lexer.proofs.relex.relexing.Relexing.fill.Goals as goal
 
 pub places-init : goal.places-init
@@ -47,10 +47,10 @@ places-preserved g c =
 
 pub returns-after-places-clause-under_way : goal.returns-after-places-clause-under_way
 returns-after-places-clause-under_way g c = λ before insert made begun.
-    (c.places.invariant.under_way before insert made begun, left_at (g.S.Stepper.law c.args.stepper.now) before _ insert c.args.text.now c.args.change made c.args.self.now (to_stands (g.S.Stepper.law c.args.stepper.now) before _ insert c.args.text.now c.args.change made c.args.self.now begun))
+    (c.places.invariant.under_way before insert made begun, left_at (g.S.Stepper.law c.args.stepper.now) made begun)
 
 pub returns-in_default-clause-under_way : goal.returns-in_default-clause-under_way
 returns-in_default-clause-under_way g c = λ before insert made begun. (
   subst (λ at. IsUnderWay (g.S.Stepper.grammar c.args.stepper.now) before c.args.change c.args.text.now at) (sym c.in_default.ensures.step.0) (c.places.invariant.under_way before insert made begun),
-  left_at (g.S.Stepper.law c.args.stepper.now) before _ insert c.args.text.now c.args.change made c.args.self.now (to_stands (g.S.Stepper.law c.args.stepper.now) before _ insert c.args.text.now c.args.change made c.args.self.now begun),
+  left_at (g.S.Stepper.law c.args.stepper.now) made begun,
 )

@@ -1,13 +1,11 @@
 use Rattle.std.proofs.lemmas.Grind.{common_steps}
 use Rattle.std.proofs.Common.{rules}
-use Rattle.std.proofs.Common.{ap, sym, refl, subst, ◌≡◌, ◌∙◌, arith, ◌+◌, ◌<◌, length, length-drop}
-use Rattle.rustc_lexer.specs.declared.relex.front.Damage.{Damage}
+use Rattle.std.proofs.Common.{ap, sym, refl, ◌∙◌, arith, ℕ, ◌+◌, length, length-drop}
 use Rattle.rustc_lexer.specs.Tokens.{tokens_by}
-use Rattle.rustc_lexer.specs.means.Relexing.{IsFollowed, old_stop_of}
 use Rattle.rustc_lexer.specs.Classes.{IsText}
 use Rattle.rustc_lexer.proofs.lemmas.edits.Steps.{one_step}
-use Rattle.rustc_lexer.proofs.lemmas.edits.ByLengths.{damage_stop, end_last, stands_next, gives_next, below_later, not_over, step_offset}
-use Rattle.rustc_lexer.proofs.lemmas.edits.UnderWay.{of_stands, to_stands}
+use Rattle.rustc_lexer.proofs.lemmas.edits.ByLengths.{follows, not_over, step_offset}
+use Rattle.rustc_lexer.proofs.lemmas.edits.UnderWay.{below_later, gives_next, goes_on}
 use Rattle.rustc_lexer.proofs.relex.relexing.Relexing.next.Goals as goal
 
 pub range_from-requires : goal.range_from-requires
@@ -17,8 +15,8 @@ pub step-token-requires-clause-not_empty : goal.step-token-requires-clause-not_e
 step-token-requires-clause-not_empty g c = grind (arith, common_steps, rules, not_over, length-drop)
 
 pub returns-then-is_over-clause-under_way : goal.returns-then-is_over-clause-under_way
-returns-then-is_over-clause-under_way g c = λ before insert is stands.
-    (stands, sym (c.is_over.ensures.met (g.S.Stepper.grammar c.args.stepper.now) before _ insert c.args.change (g.S.Stepper.law c.args.stepper.now) is stands) ∙ c.if-is_over.true)
+returns-then-is_over-clause-under_way g c = λ before insert is under_way.
+    (under_way, sym (c.is_over.ensures.met (g.S.Stepper.grammar c.args.stepper.now) before _ insert c.args.change (g.S.Stepper.law c.args.stepper.now) is under_way) ∙ c.if-is_over.true)
 
 pub returns-clause-may_go_on : goal.returns-clause-may_go_on
 returns-clause-may_go_on g c =
@@ -63,14 +61,10 @@ pub returns-clause-under_way : goal.returns-clause-under_way
 returns-clause-under_way g c = λ before insert is under_way.
     let law = g.S.Stepper.law c.args.stepper.now in
     let at = c.args.self.now in
-    let stands = to_stands law before _ insert _ c.args.change is at under_way in
-    let token = c.step-token.ensures.token ∙ ap (g.S.Stepper.grammar c.args.stepper.now) c.range_from.ensures.value in
+    let step = returns-clause-step g c in
     let out = sym (c.is_over.ensures.met (g.S.Stepper.grammar c.args.stepper.now) before _ insert c.args.change law is under_way) ∙ c.if-is_over.false in
-    let later = below_later law before _ insert _ c.args.change is at stands (at.at + c.step-token.result.len) (omega arith) in
-    let to = c.follow-to.ensures.followed (tokens_by (g.S.Stepper.grammar c.args.stepper.now) before) is.lengths_are stands.back_bound (rw c.damage.ensures (λ n less. let b = later n less in let e = damage_stop c.args.text.now c.args.change c.requires.change in omega arith)) (rw c.damage.ensures (end_last law before _ insert _ c.args.change is (at.at + c.step-token.result.len))) in
-    let Followed : Damage → Type 0 = λ d. IsFollowed (tokens_by (g.S.Stepper.grammar c.args.stepper.now) before) (old_stop_of d) d.past (at.at + c.step-token.result.len) c.follow-to.result.at c.follow-to.result.met in
-    let followed = subst (λ n. IsFollowed (tokens_by (g.S.Stepper.grammar c.args.stepper.now) before) n c.args.change.new_stop (at.at + c.step-token.result.len) c.follow-to.result.at c.follow-to.result.met) (damage_stop c.args.text.now c.args.change c.requires.change) (subst Followed c.damage.ensures to) in
-    let stays : at.at + c.step-token.result.len < c.args.change.new_stop → c.follow-to.result.at ≡ at.back = λ early. c.follow-to.ensures.stays (rw c.damage.ensures early) in (
-      of_stands law before _ insert _ c.args.change is _ (stands_next law before _ insert _ c.args.change is at stands c.step-token.result c.follow-to.result out token followed stays),
-      gives_next law before _ insert _ c.args.change is at stands c.step-token.result c.follow-to.result out token followed stays,
+    let later : ℕ = at.at + c.step-token.result.len in
+    let followed = follows law is later c.damage.ensures under_way.back_bound (below_later law is under_way later (omega arith)) (c.follow-to.ensures.followed (tokens_by (g.S.Stepper.grammar c.args.stepper.now) before)) in (
+      goes_on law is under_way step.1 out (λ number back more less m. omega (arith, more, less)) followed,
+      gives_next law is under_way out step.0 step.1,
     )
