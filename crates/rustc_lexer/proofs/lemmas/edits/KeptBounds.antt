@@ -17,9 +17,8 @@ use Rattle.rustc_lexer.specs.Tokens.{bound, tokens_by}
 use Rattle.rustc_lexer.specs.means.Document.{AreKeptOf, tokens_of_head}
 use Rattle.rustc_lexer.specs.Partition.{Layout}
 use Rattle.rustc_lexer.specs.means.Pieces.{AreCut}
-use Rattle.rustc_lexer.proofs.lemmas.edits.Bounds.{bound-last, bound_mono}
+use Rattle.rustc_lexer.proofs.lemmas.edits.Bounds.{bound-last, bound_mono, cuts}
 use Rattle.rustc_lexer.proofs.lemmas.heads.ByTokens.{bound-append}
-use Rattle.rustc_lexer.proofs.lemmas.edits.FromTheFront.{cuts}
 use Rattle.rustc_lexer.proofs.lemmas.edits.FrontAndBack.{bound-same}
 use Rattle.rustc_lexer.proofs.lemmas.edits.Heads.{all_are as tokens_are}
 use Rattle.rustc_lexer.proofs.lemmas.edits.KeptFront.{bound-shift}

@@ -1,5 +1,7 @@
 -- What an edit keeps: there are counts of it.
 use Rattle.std.proofs.Common.{◌≡◌, ◌⊎◌, ℕ, zero, suc, ◌+◌, ◌-◌, ◌<◌, ◌≤◌, Bool, true, false, cond, List, [], ◌∷◌, length, take, refl, sym, ap, subst, arith, length-take, inl, inr, eq-or-lt_of_le, IsUtf8, IsCharBoundary}
+use Rattle.std.proofs.lemmas.Bool.{cases_lt, eqb-false, eqb-true}
+use Rattle.std.proofs.lemmas.Grind.{common_steps}
 use Rattle.rustc_lexer.specs.declared.relex.relexing.Relexed.{Relexed}
 use Rattle.rustc_lexer.specs.{Token}
 use Rattle.rustc_lexer.specs.Classes.{IsText}
@@ -9,7 +11,21 @@ use Rattle.rustc_lexer.specs.Tokens.{bound, tokens_by}
 use Rattle.rustc_lexer.specs.means.Relexing.{kept_front}
 use Rattle.rustc_lexer.proofs.lemmas.edits.Bounds.{bound-last, cuts}
 use Rattle.rustc_lexer.proofs.lemmas.edits.FrontAndBack.{IsEdited, edited, front-none, kept_front_by, kept_front_from, kept_same, start_inside}
-use Rattle.rustc_lexer.proofs.lemmas.edits.Layouts.{Decided, all, at_most, bare, numbers}
+use Rattle.rustc_lexer.proofs.lemmas.edits.Layouts.{bare}
+
+-- ---- what is decided
+
+abbrev pub Decided : Type 0 → Type 0
+Decided P = P ⊎ (P → ⊥)
+
+all : {P Q R : Type 0} → Decided P → Decided Q → Decided R → Decided (P × Q × R)
+all w0 w1 w2 = grind (arith, common_steps)
+
+numbers : (a b : ℕ) → Decided (a ≡ b)
+numbers a b = grind (arith, common_steps, eqb-true, eqb-false)
+
+at_most : (a b : ℕ) → Decided (a ≤ b)
+at_most a b = grind (arith, common_steps, cases_lt)
 
 -- ---- the first number at which texts meet
 
