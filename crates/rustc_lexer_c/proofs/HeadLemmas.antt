@@ -13,8 +13,7 @@ use Rattle.rustc_lexer.specs.Locality.{IsGrammar}
 use Rattle.rustc_lexer.specs.Relexing.{IsChange, IsEditOf, IsMadeOf, IsBodyChange, IsHeadOf}
 use Rattle.rustc_lexer.specs.Tokens.{tokens_by}
 use Rattle.rustc_lexer.specs.laws.Edition.{edition_grammar}
-use Rattle.rustc_lexer.proofs.lemmas.heads.Heads.{is_head}
-use Rattle.rustc_lexer.proofs.lemmas.heads.ByTokens.{front_of}
+use Rattle.rustc_lexer.proofs.lemmas.heads.ByTokens.{front_of, is_head}
 use Rattle.rustc_lexer.proofs.lemmas.edits.ByLengths.{made_change}
 use Rattle.rustc_lexer_c.specs.declared.head.CHead.{CHead}
 use Rattle.rustc_lexer_c.specs.declared.relex.CEdit.{CEdit}

@@ -1,4 +1,3 @@
 pub mod ByTokens
 pub mod DocumentTokens
 pub mod Ends
-pub mod Heads

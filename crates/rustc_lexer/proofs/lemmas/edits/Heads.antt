@@ -13,10 +13,9 @@ use Rattle.rustc_lexer.specs.LanguageText.{newest}
 use Rattle.rustc_lexer.specs.Partition.{Layout, tokens_in}
 use Rattle.rustc_lexer.specs.Relexing.{IsHeadOf}
 use Rattle.rustc_lexer.specs.Tokens.{bound, tokens_by}
-use Rattle.rustc_lexer.specs.means.Document.{by_head, front_tokens, head_of, IsHeadIn, tokens_of_head}
+use Rattle.rustc_lexer.specs.means.Document.{by_head, front_tokens, IsHeadIn, tokens_of_head}
 use Rattle.rustc_lexer.proofs.lemmas.edits.FrontAndBack.{bound-take}
-use Rattle.rustc_lexer.proofs.lemmas.heads.ByTokens.{bound-append}
-use Rattle.rustc_lexer.proofs.lemmas.heads.Heads.{found, head_cuts, in_edition, some_head}
+use Rattle.rustc_lexer.proofs.lemmas.heads.ByTokens.{bound-append, head_cuts, in_edition, some_head}
 
 -- ---- the head of a document
 
@@ -32,9 +31,6 @@ whole_head text is head h =
       ends = end;
       cuts = λ k few. subst (IsCharBoundary text) (ap₂ (λ n (ts : List Token). n + bound ts k) (sym h.shebang_is) (sym h.tokens_are)) (head_cuts text is k (omega (arith, few, ap (λ (ts : List Token). length ts) h.tokens_are)));
     }
-
-pub found_head : (text : List ℕ) → IsText text → (head : Head) → head ≡ head_of text → IsHeadIn whole_by text head
-found_head text is head e = whole_head text is head (found text is head e)
 
 pub is_page : (text : List ℕ) (head : Head) → IsHeadIn whole_by text head → IsHeadOf text head
 is_page text head h =

@@ -36,11 +36,6 @@ cut_front text start end all tokens token e are =
     let same : (k : ℕ) → k ≤ length tokens → start + bound (tokens ++ token ∷ []) k ≡ start + bound tokens k = λ k few. ap (λ n. start + n) (bound-same k (tokens ++ token ∷ []) tokens (take-append-le k tokens (token ∷ []) few)) in
     (omega (arith, ends), (all.0, λ k few. subst (IsCharBoundary text) (same k few) (all.1 k (omega (arith, length-append tokens (token ∷ [])))), omega (arith, ends)))
 
-pub cuts_whole : {first : List ℕ → Token} (law : IsGrammar first) (text : List ℕ) (tokens : List Token) → IsText text → tokens ≡ tokens_by first text → AreBoundariesFrom text 0 tokens
-cuts_whole {first} law text tokens is e k few =
-    let here : AreBoundariesFrom text 0 (tokens_by first text) = λ k few. (let same : bound (tokens_by first text) k ≡ 0 + bound (tokens_by first text) k = omega arith in subst (IsCharBoundary text) same (cuts law text is k few)) in
-    subst (AreBoundariesFrom text 0) (sym e) here k few
-
 -- ---- the pieces of some of the tokens
 
 pub length-pieces : (text : List ℕ) (start : ℕ) (ts : List Token) → length (pieces_from text start ts) ≡ length ts

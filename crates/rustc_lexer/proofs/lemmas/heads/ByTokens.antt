@@ -1,21 +1,28 @@
--- The head of a document by its tokens: those up to the frontmatter.
-use Rattle.std.proofs.Common.{◌≡◌, ℕ, zero, suc, ◌+◌, ◌-◌, Bool, true, false, true≢false, List, [], ◌∷◌, ◌++◌, length, length-drop, drop, refl, sym, ap, ◌∙◌, arith, chars, Option, None, Some, IsCharBoundary}
+-- The head that is found in a document is the one that its tokens tell: those up to the frontmatter.
+use Rattle.std.proofs.Common.{◌≡◌, ℕ, zero, suc, ◌+◌, ◌-◌, ◌≤◌, Bool, true, false, true≢false, List, [], ◌∷◌, ◌++◌, length, length-drop, take, drop, refl, sym, ap, ap₂, ◌∙◌, subst, arith, chars, Option, None, Some, IsCharBoundary}
+use Rattle.std.proofs.Math.Seq.{take-append_seam}
 use Rattle.std.proofs.lemmas.Bool.{not-true}
 use Rattle.rustc_lexer.specs.{Edition, Token, TokenKind}
 use Rattle.rustc_lexer.specs.declared.relex.head.Head.{Head}
 use Rattle.rustc_lexer.specs.Classes.{IsText, bytes}
-use Rattle.rustc_lexer.specs.Document.{is_frontmatter, shebang_len, document_tokens, head_count}
+use Rattle.rustc_lexer.specs.Answers.{first_in}
+use Rattle.rustc_lexer.specs.Document.{is_frontmatter, shebang_len, document_tokens, head_count, head_tokens, whole_by}
 use Rattle.rustc_lexer.specs.means.Document.{front_tokens, head_of, tokens_of_head}
 use Rattle.rustc_lexer.specs.LanguageText as grammar
-use Rattle.rustc_lexer.specs.LanguageText.{AreTokens, IsTokenIn, Mode, is_source, mode_after, part, source}
-use Rattle.rustc_lexer.specs.Tokens.{bound}
+use Rattle.rustc_lexer.specs.LanguageText.{AreTokens, IsTokenIn, Mode, is_source, mode_after, newest, part, source}
+use Rattle.rustc_lexer.specs.Partition.{tokens_in}
+use Rattle.rustc_lexer.specs.Relexing.{IsHeadOf}
+use Rattle.rustc_lexer.specs.Tokens.{bound, tokens_by}
 use Rattle.rustc_lexer.specs.laws.Choice.{by_symbol}
 use Rattle.rustc_lexer.specs.laws.LanguageTokens.{language}
+use Rattle.rustc_lexer.specs.laws.Tokens.{partitions}
 use Rattle.rustc_lexer.specs.means.Frontmatter.{frontmatter, opens, spaces_len}
 use Rattle.rustc_lexer.specs.means.Scan.{past}
 use Rattle.rustc_lexer.specs.means.Tokens.{read_tokens}
 use Rattle.rustc_lexer.proofs.lemmas.heads.DocumentTokens.{document_law, shebang-boundary}
-use Rattle.std.proofs.lemmas.Str.{IsUtf8-drop}
+use Rattle.rustc_lexer.proofs.lemmas.heads.Ends.{front-boundary, spaced-boundary, head-shebang}
+use Rattle.std.proofs.lemmas.List.{length-take}
+use Rattle.std.proofs.lemmas.Str.{IsCharBoundary-from_rest, IsUtf8-drop}
 use Rattle.std.proofs.lemmas.Grind.{common_steps}
 
 -- ---- no token of a part is a frontmatter
@@ -39,10 +46,11 @@ part-none edition text is = no-front ((language text (part edition) is (read_tok
 
 -- ---- the head
 
--- what is known of one, and of where it ends
+-- what is known of one, and of where it ends. No white space stands where no frontmatter does
 pub record IsFrontOf (text : List ℕ) (head : Head) : Type 0 where
   pub is_one : (front : Token) → head.frontmatter ≡ Some front → is_frontmatter front.kind ≡ true
   pub ends : head.body ≡ shebang_len text + bound (tokens_of_head head) (length (tokens_of_head head))
+  pub bare : head.frontmatter ≡ None → head.space_len ≡ 0
 
 end_at : (n m : ℕ) (front : Token) → n + m + front.len ≡ n + bound (front_tokens m (Some front)) (length (front_tokens m (Some front)))
 end_at n zero front = omega arith
@@ -65,9 +73,9 @@ module _ (text : List ℕ) where
 
   by_front : (a : Bool) → opens (chars rest) ≡ a → (b : Bool) → opens (chars past_space) ≡ b → IsFrontOf text (head_of text)
   unfolding head_of frontmatter
-  by_front true e b f = rw e record { is_one = λ front same. some-front (frontmatter rest) front same refl; ends = omega arith }
-  by_front false e true f = rw (e, f) record { is_one = λ front same. some-front (frontmatter past_space) front same refl; ends = end_at (shebang_len text) (length rest - length past_space) (frontmatter past_space) }
-  by_front false e false f = rw (e, f) record { is_one = λ front same. absurd (let none : None ≡ Some front = same in cc); ends = omega arith }
+  by_front true e b f = rw e record { is_one = λ front same. some-front (frontmatter rest) front same refl; ends = omega arith; bare = λ none. refl }
+  by_front false e true f = rw (e, f) record { is_one = λ front same. some-front (frontmatter past_space) front same refl; ends = end_at (shebang_len text) (length rest - length past_space) (frontmatter past_space); bare = λ none. absurd (let no_front : Some (frontmatter past_space) ≡ None = none in cc) }
+  by_front false e false f = rw (e, f) record { is_one = λ front same. absurd (let none : None ≡ Some front = same in cc); ends = omega arith; bare = λ none. refl }
 
   pub front_of : IsFrontOf text (head_of text)
   front_of = by_front (opens (chars rest)) refl (opens (chars past_space)) refl
@@ -79,17 +87,58 @@ pub bound-append : (ts us : List Token) → bound (ts ++ us) (length ts) ≡ bou
 bound-append [] us = refl
 bound-append (t ∷ ts) us = ap (λ n. t.len + n) (bound-append ts us)
 
-module _ (edition : Edition) (text : List ℕ) (is : IsText text) (at : IsCharBoundary text (head_of text).body) where
-  pub head_whole : document_tokens edition text ≡ tokens_of_head (head_of text) ++ read_tokens (part edition) (drop (head_of text).body text)
-  head_whole = sym (document_law edition text is (shebang-boundary text is))
+-- the tokens of the head are cut where all are
+first_bounds : (k n : ℕ) (ts : List Token) → k ≤ length (take n ts) → bound ts k ≡ bound (take n ts) k
+first_bounds zero n ts few = refl
+first_bounds (suc k) zero ts few = absurd (omega arith)
+first_bounds (suc k) (suc n) [] few = refl
+first_bounds (suc k) (suc n) (t ∷ ts) few = ap (λ m. t.len + m) (first_bounds k n ts (omega arith))
 
-  body_text : IsText (drop (head_of text).body text)
-  body_text = record { utf8 = IsUtf8-drop text (head_of text).body is.utf8 at; fits = let f = is.fits in omega (arith, length-drop (head_of text).body text) }
+module _ (text : List ℕ) (is : IsText text) where
+  abbrev head : Head
+  head = head_of text
+
+  by_end : (a : Bool) → opens (chars (rest text)) ≡ a → (b : Bool) → opens (chars (past_space text)) ≡ b → IsCharBoundary text (head_of text).body
+  unfolding head_of
+  by_end true e b f = rw e (front-boundary text (rest text) (shebang_len text) is.utf8 (shebang-boundary text is) refl (frontmatter (rest text)) e refl)
+  by_end false e true f = rw (e, f) (spaced-boundary text (rest text) (shebang_len text) is.utf8 (shebang-boundary text is) refl (past_space text) refl (frontmatter (past_space text)) f refl)
+  by_end false e false f = rw (e, f) (shebang-boundary text is)
+
+  body_text : IsText (drop head.body text)
+  body_text = record { utf8 = IsUtf8-drop text head.body is.utf8 (by_end _ refl _ refl); fits = let f = is.fits in omega (arith, length-drop head.body text) }
+
+  abbrev all : List Token
+  all = document_tokens newest text
+
+  whole : all ≡ tokens_of_head head ++ read_tokens (part newest) (drop head.body text)
+  whole = sym (document_law newest text is (shebang-boundary text is))
 
   -- the tokens of the head are those up to the frontmatter
-  pub head_count-tokens : head_count (document_tokens edition text) ≡ length (tokens_of_head (head_of text))
-  head_count-tokens = ap head_count head_whole ∙ count-front (head_of text).space_len (head_of text).frontmatter _ (front_of text).is_one (part-none edition (drop (head_of text).body text) body_text)
+  count : head_count all ≡ length (tokens_of_head head)
+  count = ap head_count whole ∙ count-front head.space_len head.frontmatter _ (front_of text).is_one (part-none newest (drop head.body text) body_text)
 
-  -- where they end the body begins
-  pub head_end : (head_of text).body ≡ shebang_len text + bound (document_tokens edition text) (head_count (document_tokens edition text))
-  head_end = grind (arith, common_steps, head_whole, head_count-tokens, bound-append, front_of text)
+  pub is_head : IsHeadOf text (head_of text)
+  is_head = record {
+    shebang_is = head-shebang text;
+    tokens_are = sym (ap₂ take count whole ∙ take-append_seam (tokens_of_head head) _);
+    bare = (front_of text).bare;
+    end_is = grind (arith, common_steps, whole, count, bound-append, front_of text);
+  }
+
+  pub found : (head : Head) → head ≡ head_of text → IsHeadOf text head
+  found head e = subst (IsHeadOf text) (sym e) is_head
+
+  pub some_head : (head : Head) × IsHeadOf text head
+  some_head = (head_of text, is_head)
+
+  -- the tokens of a document in an edition
+  pub in_edition : (edition : Edition) → tokens_in (whole_by (first_in edition) text) ≡ document_tokens edition text
+  in_edition edition = sym (ap₂ (λ ts n. ts ++ tokens_by (first_in edition) (drop n text)) is_head.tokens_are is_head.end_is) ∙ document_law edition text is (shebang-boundary text is)
+
+  -- the tokens of the head are cut between characters
+  pub head_cuts : (k : ℕ) → k ≤ length (head_tokens text) → IsCharBoundary text (shebang_len text + bound (head_tokens text) k)
+  head_cuts k few =
+      let rest_text : IsText (rest text) = record { utf8 = IsUtf8-drop text (shebang_len text) is.utf8 (shebang-boundary text is); fits = let f = is.fits in omega (arith, length-drop (shebang_len text) text) } in
+      let same : bound all k ≡ bound (head_tokens text) k = first_bounds k (head_count all) all few in
+      IsCharBoundary-from_rest text (shebang_len text) (bound (head_tokens text) k) (shebang-boundary text is).0
+      (subst (IsCharBoundary (rest text)) same ((partitions (rest text) (source newest) rest_text).boundaries k (omega (arith, few, length-take (head_count all) all))))
