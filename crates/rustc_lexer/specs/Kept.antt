@@ -96,6 +96,7 @@ reason (Err stopped) = Err stopped.stop
 -- back the most that each keeps and that do not reach into those, before or after
 pub record AreKeptThrough {S : Type 0} (layout : List ℕ → Layout) (old : Held S)
     (edits : List Edit) (new : Held S) (r : Relexed) : Type 0 where
+  -- the counts of each edit
   pub each : List Relexed
   pub each_is : AreRelexed layout old.text edits each
   pub most_front : IsGreatest

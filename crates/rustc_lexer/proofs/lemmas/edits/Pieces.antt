@@ -4,16 +4,13 @@ use Rattle.std.proofs.lemmas.Grind.{common_steps}
 use Rattle.std.proofs.lemmas.List.{take-append-le}
 use Rattle.rustc_lexer.specs.declared.relex.{front.TokenStart.TokenStart, pieces.Piece.Piece}
 use Rattle.rustc_lexer.specs.{Token}
-use Rattle.rustc_lexer.specs.Tokens.{bound, tokens_by}
+use Rattle.rustc_lexer.specs.Tokens.{bound}
 use Rattle.rustc_lexer.specs.means.Pieces.{AreBoundariesFrom, AreCut}
 use Rattle.rustc_lexer.specs.Kept.{Placed, YieldsPiece, pieces_from, placed}
 use Rattle.rustc_lexer.specs.Offsets.{ContainsByte}
-use Rattle.rustc_lexer.specs.Classes.{IsText}
-use Rattle.rustc_lexer.specs.Locality.{IsGrammar}
 use Rattle.rustc_lexer.proofs.lemmas.edits.Bounds.{bound-end, bound_mono}
 use Rattle.rustc_lexer.proofs.lemmas.edits.FrontAndBack.{bound-same, bound-take}
 use Rattle.rustc_lexer.proofs.lemmas.edits.KeptFront.{bound-next, bound-shift}
-use Rattle.rustc_lexer.proofs.lemmas.edits.Bounds.{cuts}
 
 -- the tokens that are left begin and end between characters
 pub cut_edges : (text : List ℕ) (start end : ℕ) (tokens : List Token) → AreCut text start end tokens → IsCharBoundary text start × IsCharBoundary text end
