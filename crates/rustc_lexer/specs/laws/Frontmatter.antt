@@ -20,7 +20,7 @@ use Rattle.rustc_lexer.specs.means.Scan.{begins, bytes_of, next_is, past, run_le
 use Rattle.rustc_lexer.specs.means.Taking.{token_at}
 use Rattle.rustc_lexer.specs.laws.CharSteps.{bytes_of-add}
 use Rattle.rustc_lexer.specs.laws.Fences.{begins-enough, begins-few, begins-dashes}
-use Rattle.rustc_lexer.specs.laws.LanguageClosing.{closing-encode}
+use Rattle.rustc_lexer.specs.laws.LanguageClosing.{body-at, body-read, endings-patterns}
 use Rattle.rustc_lexer.specs.laws.LanguageFrontmatter.{fence-length, run-fence}
 use Rattle.rustc_lexer.specs.laws.Scan.{length-run}
 use Rattle.rustc_lexer.specs.laws.Past.{past-zero, split_past, past-past, past-drop, chars-past, IsUtf8-past, length-past}
@@ -137,8 +137,11 @@ unfolding frontmatter past_opening past
 frontmatter-cut text is e =
     let s : List ℕ = chars text in
     let n : ℕ = opening_len s in
-    let k : ℕ = closing_end (fence_len s) (drop n s) in
-    let end : bytes_of n s + closing_end (fence_len s) (past_opening text) ≡ bytes_of (n + k) s = ap (λ (m : ℕ). bytes_of n s + m) (closing-encode (fence_len s) (drop n s)) ∙ sym (bytes_of-add n k s) in
+    let b = body-at (endings (fence_len s)) (drop n s) (endings-patterns (fence_len s)) in
+    let k : ℕ = length b.body in
+    let front : take k (drop n s) ≡ b.body = ap (take k) (sym b.whole) ∙ take-append_seam b.body b.next in
+    let closes : closing_end (fence_len s) (past_opening text) ≡ bytes_of k (drop n s) = ap (λ (u : List ℕ). closing_end (fence_len s) (encode_utf8_all u)) (sym b.whole) ∙ (body-read (fence_len s) b.is ∙ ap (λ (u : List ℕ). length (encode_utf8_all u)) (sym front)) in
+    let end : bytes_of n s + closing_end (fence_len s) (past_opening text) ≡ bytes_of (n + k) s = omega (arith, closes, bytes_of-add n k s) in
     let inside : bytes_of (n + k) s ≤ length text = omega (arith, length-past (n + k) text is) in
     let some : 3 ≤ fence_len s = begins-dashes 3 (drop (spaces_len s) s) (and_parts (begins (fence 3) (drop (spaces_len s) s)) _ e).0 in
     let chars_some : 3 ≤ length s = omega (arith, run_len_le is_dash (drop (spaces_len s) s), length-drop (spaces_len s) s) in
