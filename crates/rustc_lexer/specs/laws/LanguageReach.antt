@@ -70,9 +70,7 @@ number-stays : {next : List ℕ} {kind : LiteralKind} (w : List ℕ) → HasDigi
 number-stays {next} {kind} w d is other e = subst (IsNumberBefore other kind) (sym d.whole) (number-alike d.first d.rest d.digit (subst (IsNumberBefore next kind) d.whole is) other e)
 
 double-alike : {next : List ℕ} {t : Bool} {w : List ℕ} → IsDoubleQuoted next t w → (other : List ℕ) → take 1 other ≡ take 1 next → IsDoubleQuoted other t w
-double-alike {next} (lit.closed q) other e = lit.closed q
-double-alike {next} (lit.unclosed none q) other e = lit.unclosed (ends next other e none) q
-double-alike {next} (lit.unclosed_escape none q) other e = lit.unclosed_escape (ends next other e none) q
+double-alike w0 other e = search (arith, ends, lit.closed, lit.unclosed, lit.unclosed_escape)
 
 -- two quotes that begin a text of which the first character is decided
 lone-alike : (w s u : List ℕ) → take 1 u ≡ take 1 s → SingleTo (codes "'") w → begins (codes "''") (w ++ s) ≡ false → begins (codes "''") (w ++ u) ≡ false
@@ -80,10 +78,7 @@ lone-alike w0 s u e q f = grind (arith, common_steps)
 
 -- past a quote, where one closes the text
 single-alike : {next : List ℕ} {t : Bool} {w : List ℕ} → IsSingleQuoted next t w → t ≡ true → (other : List ℕ) → take 1 other ≡ take 1 next → IsSingleQuoted other t w
-single-alike {next} (lit.one out) t other e = lit.one out
-single-alike {next} (lit.closed {w} q f) t other e = lit.closed q (lone-alike w next other e q f)
-single-alike {next} (lit.closed_line q) t other e = lit.closed_line q
-single-alike other t text e = absurd (cc t)
+single-alike w0 t other e = search (arith, lone-alike, lit.one, lit.closed, lit.closed_line)
 
 -- and where none does
 open-alike : {next : List ℕ} {t : Bool} {w : List ℕ} → IsSingleQuoted next t w → (other : List ℕ) → take 2 other ≡ take 2 next → IsSingleQuoted other t w
@@ -97,15 +92,10 @@ open-alike {next} (lit.unclosed_escape none q) other e = lit.unclosed_escape (en
 
 -- of what follows a raw string, at most the end matters
 pub raw-alike : {next : List ℕ} {o : Option ℕ} {w : List ℕ} → IsRaw next o w → (other : List ℕ) → (o ≡ None → next ≡ [] → other ≡ []) → IsRaw other o w
-raw-alike (lit.closed n w le lacks) other ended = lit.closed n w le lacks
-raw-alike (lit.too_many n w lt lacks) other ended = lit.too_many n w lt lacks
-raw-alike (lit.unclosed n w none lacks) other ended = lit.unclosed n w (ended refl none) lacks
-raw-alike (lit.no_quote n c out) other ended = lit.no_quote n c out
-raw-alike (lit.no_more n none) other ended = lit.no_more n (ended refl none)
+raw-alike w0 other ended = search (arith, lit.closed, lit.too_many, lit.unclosed, lit.no_quote, lit.no_more)
 
 pub suffix-alike : {next w : List ℕ} → IsSuffixBefore next w → (other : List ℕ) → take 1 other ≡ take 1 next → IsSuffixBefore other w
-suffix-alike {next} (lit.none stop) other e = lit.none (stops _ next other e stop)
-suffix-alike {next} (lit.some is stop) other e = lit.some is (stops _ next other e stop)
+suffix-alike w0 other e = grind (arith, common_steps, stops, lit.none, lit.some)
 
 -- a character behind a quote that one closes, and what follows
 closed-first : {next : List ℕ} {t : Bool} {w : List ℕ} → IsSingleQuoted next t w → t ≡ true → NextIsNot is_name_start w → (s : List ℕ) → NextIsNot is_name_start (w ++ s)

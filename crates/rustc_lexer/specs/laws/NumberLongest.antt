@@ -1,5 +1,5 @@
 -- The number that is read is the longest that stands at the front of its text.
-use Rattle.std.proofs.Common.{◌≡◌, ℕ, zero, suc, ◌+◌, ◌≤◌, ◌<◌, ◌==◌, ◌&&◌, ◌||◌, ◌⊎◌, inl, inr, not, Bool, true, false, true≢false, if◌then◌else◌, List, [], ◌∷◌, ◌++◌, length, get_or, take, drop, refl, sym, ap, ◌∙◌, subst, arith, codes, append_assoc, length-append, length-drop, take-append-drop, length-take-le}
+use Rattle.std.proofs.Common.{◌≡◌, ℕ, zero, suc, ◌+◌, ◌≤◌, ◌<◌, ◌==◌, ◌&&◌, ◌||◌, ◌⊎◌, inl, inr, not, Bool, true, false, true≢false, if◌then◌else◌, List, [], ◌∷◌, ◌++◌, length, take, drop, refl, sym, ap, ◌∙◌, subst, arith, codes, append_assoc, length-append, length-drop, take-append-drop, length-take-le}
 use Rattle.std.proofs.lemmas.Bool.{agree_below_at, and_parts, cases_lt, eqb-true, or_cases, or_right}
 use Rattle.std.proofs.lemmas.List.{append-nil}
 use Rattle.std.specs.Char.{is_ascii_digit, is_ascii_hexdigit}
@@ -321,7 +321,7 @@ tail-front {next} (of_both {base = base} {d = d} {e = e} ds digit are is) (suc (
     longer zero = subst Tail (sym (append-nil ds)) (Float base false, of_fraction digit are)
     longer (suc m) = let x = exponent-front is m in (x.0, of_both ds digit are x.1)
 
-pub form-front : {next : List ℕ} {kind : LiteralKind} {w : List ℕ} → HasNumberForm next kind w → (n : ℕ) → HasForm (drop (suc (suc n)) w ++ next) (take (suc (suc n)) w)
+form-front : {next : List ℕ} {kind : LiteralKind} {w : List ℕ} → HasNumberForm next kind w → (n : ℕ) → HasForm (drop (suc (suc n)) w ++ next) (take (suc (suc n)) w)
 form-front {next} (of_prefix {whole = w} is) n = whole-front is n (drop (suc (suc n)) w ++ next)
 form-front {next} (of_parts {whole = w} {tail = t} is past) n = elim (split (suc (suc n)) w t) [
   | inl e ↦ subst (HasForm (drop (suc (suc n)) (w ++ t) ++ next)) (sym e) (whole-front is n (drop (suc (suc n)) (w ++ t) ++ next))
@@ -329,7 +329,7 @@ form-front {next} (of_parts {whole = w} {tail = t} is past) n = elim (split (suc
 ]
 
 -- what follows matters only behind a dot
-pub form-alike : {next : List ℕ} {kind : LiteralKind} {w : List ℕ} → HasNumberForm next kind w → (other : List ℕ)
+form-alike : {next : List ℕ} {kind : LiteralKind} {w : List ℕ} → HasNumberForm next kind w → (other : List ℕ)
     → ((base : Base) (whole : List ℕ) → IsWholePart base false whole → w ≡ whole ++ (46 ∷ []) → next_is is_no_fraction other ≡ next_is is_no_fraction next) → HasNumberForm other kind w
 form-alike (of_prefix is) other same = of_prefix is
 form-alike (of_parts is nothing) other same = of_parts is nothing
@@ -339,11 +339,34 @@ form-alike (of_parts is (of_exponent no_digit e)) other same = of_parts is (of_e
 form-alike (of_parts is (of_both ds digit are e)) other same = of_parts is (of_both ds digit are e)
 
 -- the longer of two fronts of a text goes on with a character
-pub one-more : (w x other rest : List ℕ) → x ++ rest ≡ w ++ other → length w < length x → (c : ℕ) × (other ≡ c ∷ drop 1 other) × (take (suc (length w)) x ≡ w ++ (c ∷ [])) × (drop (suc (length w)) x ++ rest ≡ drop 1 other)
+one-more : (w x other rest : List ℕ) → x ++ rest ≡ w ++ other → length w < length x → (c : ℕ) × (other ≡ c ∷ drop 1 other) × (take (suc (length w)) x ≡ w ++ (c ∷ [])) × (drop (suc (length w)) x ++ rest ≡ drop 1 other)
 one-more [] [] other rest text lt = absurd (omega arith)
 one-more [] (c ∷ x) other rest text lt = let left : x ++ rest ≡ drop 1 other = ap (drop 1) text in (c, sym text ∙ ap (λ (xs : List ℕ). c ∷ xs) left, refl, left)
 one-more (d ∷ w) [] other rest text lt = absurd (omega arith)
 one-more (d ∷ w) (b ∷ x) other rest text lt = grind (arith, common_steps, one-more w x other rest (ap (drop 1) text) (omega arith))
+
+-- a number stays one before another text, where what may stand behind a dot does, and what could go on there could here
+pub number-before : {next : List ℕ} {kind : LiteralKind} (first : ℕ) (v : List ℕ) → IsNumberBefore next kind (first ∷ v) → (other : List ℕ) → next_is is_no_fraction other ≡ next_is is_no_fraction next
+    → ((c : ℕ) → other ≡ c ∷ drop 1 other → HasForm (drop 1 other) (first ∷ v ++ (c ∷ []))
+        → (next ≡ c ∷ drop 1 next) × ((base : Base) (whole : List ℕ) → IsWholePart base false whole → first ∷ v ++ (c ∷ []) ≡ whole ++ (46 ∷ []) → next_is is_no_fraction (drop 1 next) ≡ next_is is_no_fraction (drop 1 other)))
+    → IsNumberBefore other kind (first ∷ v)
+number-before {next} {kind} first v is other same goes_on = record {
+  form = form-alike is.form other (λ base whole part e. same);
+  longest = λ k x rest text form. elim (cases_lt (length w) (length x)) [ inl lt ↦ absurd (longer k x rest text form lt) | inr le ↦ le ];
+}
+  where
+    w : List ℕ
+    w = first ∷ v
+
+    longer : (k : LiteralKind) (x rest : List ℕ) → x ++ rest ≡ w ++ other → HasNumberForm rest k x → length w < length x → ⊥
+    longer k x rest text form lt =
+        let more = one-more w x other rest text lt in
+        let c : ℕ = more.0 in
+        let cut_off : HasForm (drop (suc (length w)) x ++ rest) (take (suc (length w)) x) = form-front form (length v) in
+        let there : HasForm (drop 1 other) (w ++ (c ∷ [])) = subst (λ (xs : List ℕ). HasForm xs (w ++ (c ∷ []))) more.3 (subst (HasForm (drop (suc (length w)) x ++ rest)) more.2 cut_off) in
+        let on = goes_on c more.1 there in
+        let here = form-alike there.1 (drop 1 next) on.1 in
+        omega (arith, is.longest there.0 (w ++ (c ∷ [])) (drop 1 next) (append_assoc w (c ∷ []) (drop 1 next) ∙ ap (λ (xs : List ℕ). w ++ xs) (sym on.0)) here, length-append w (c ∷ []))
 
 -- how far a number looks
 abbrev pub number_reach : LiteralKind → ℕ
@@ -363,17 +386,15 @@ whole-looks {next} {kind} base first v digit is whole =
 
 -- a number stays one before a text that begins alike
 pub number-alike : {next : List ℕ} {kind : LiteralKind} (first : ℕ) (v : List ℕ) → is_ascii_digit first ≡ true → IsNumberBefore next kind (first ∷ v) → (other : List ℕ) → take (number_reach kind) other ≡ take (number_reach kind) next → IsNumberBefore other kind (first ∷ v)
-number-alike {next} {kind} first v digit is other alike = record {
-  form = form-alike is.form other (λ base whole part e. decided_same 1 (number_reach kind) (next_is is_no_fraction) other next (next_is-decided is_no_fraction) (number-looks kind) alike);
-  longest = λ k x rest text form. elim (cases_lt (length w) (length x)) [ inl lt ↦ absurd (longer k x rest text form lt) | inr le ↦ le ];
-}
+number-alike {next} {kind} first v digit is other alike =
+    number-before first v is other (decided_same 1 (number_reach kind) (next_is is_no_fraction) other next (next_is-decided is_no_fraction) (number-looks kind) alike)
+    (λ c e there. (begins_so c next (sym (cut 1 (number_reach kind) other next (number-looks kind) alike) ∙ ap (take 1) e), dotted c))
   where
     w : List ℕ
     w = first ∷ v
 
     begins_so : (c : ℕ) (s : List ℕ) → take 1 s ≡ c ∷ [] → s ≡ c ∷ drop 1 s
-    begins_so c [] e = absurd (let no : 0 ≡ 1 = ap length e in omega arith)
-    begins_so c (d ∷ s) e = ap (λ (y : ℕ). y ∷ s) (ap (λ (xs : List ℕ). get_or xs 0 0) e)
+    begins_so c s e = grind (arith, common_steps)
 
     dotted : (c : ℕ) (base : Base) (whole : List ℕ) → IsWholePart base false whole → w ++ (c ∷ []) ≡ whole ++ (46 ∷ []) → next_is is_no_fraction (drop 1 next) ≡ next_is is_no_fraction (drop 1 other)
     dotted c base whole part e =
@@ -381,13 +402,3 @@ number-alike {next} {kind} first v digit is other alike = record {
         let same : whole ≡ w = sym (take-append_seam whole (46 ∷ [])) ∙ (ap (take (length whole)) (sym e) ∙ (ap (λ (n : ℕ). take n (w ++ (c ∷ []))) size ∙ take-append_seam w (c ∷ []))) in
         let far : 2 ≤ number_reach kind = whole-looks base first v digit is (subst (IsWholePart base false) same part) in
         decided_same 1 1 (next_is is_no_fraction) (drop 1 next) (drop 1 other) (next_is-decided is_no_fraction) (omega arith) (sym (cut_past 1 1 (number_reach kind) other next far alike))
-
-    longer : (k : LiteralKind) (x rest : List ℕ) → x ++ rest ≡ w ++ other → HasNumberForm rest k x → length w < length x → ⊥
-    longer k x rest text form lt =
-        let more = one-more w x other rest text lt in
-        let c : ℕ = more.0 in
-        let cut_off : HasForm (drop (suc (length w)) x ++ rest) (take (suc (length w)) x) = form-front form (length v) in
-        let there : HasForm (drop 1 other) (w ++ (c ∷ [])) = subst (λ (xs : List ℕ). HasForm xs (w ++ (c ∷ []))) more.3 (subst (HasForm (drop (suc (length w)) x ++ rest)) more.2 cut_off) in
-        let here = form-alike there.1 (drop 1 next) (dotted c) in
-        let goes_on : next ≡ c ∷ drop 1 next = begins_so c next (sym (cut 1 (number_reach kind) other next (number-looks kind) alike) ∙ ap (take 1) more.1) in
-        omega (arith, is.longest there.0 (w ++ (c ∷ [])) (drop 1 next) (append_assoc w (c ∷ []) (drop 1 next) ∙ ap (λ (xs : List ℕ). w ++ xs) (sym goes_on)) here, length-append w (c ∷ []))

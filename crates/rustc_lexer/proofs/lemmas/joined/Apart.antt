@@ -1,8 +1,9 @@
 -- White space parts tokens: a token that is closed stays one before any white space.
-use Rattle.std.proofs.Common.{◌≡◌, ℕ, suc, ◌<◌, ◌&&◌, not, codes, Bool, true, false, true≢false, List, [], ◌∷◌, ◌++◌, length, drop, take, refl, sym, ap, ◌∙◌, subst, arith, append_assoc, length-append, inl, inr, Option, is_some}
-use Rattle.std.proofs.lemmas.Bool.{and_parts, cases_lt, false_from_ne_true}
+use Rattle.std.proofs.Common.{◌≡◌, ℕ, ◌<◌, ◌==◌, ◌&&◌, not, codes, Bool, true, false, true≢false, List, [], ◌∷◌, ◌++◌, length, drop, refl, sym, ap, ◌∙◌, subst, arith, Option, is_some}
+use Rattle.std.proofs.lemmas.Bool.{and_parts, false_from_ne_true}
 use Rattle.std.specs.Char.{is_ascii_digit, is_ascii_hexdigit}
 use Rattle.std.specs.List.{list_all}
+use Rattle.std.proofs.lemmas.List.Folds.{list_all-append}
 use Rattle.std.proofs.lemmas.Grind.{common_steps}
 use Rattle.unicode_ident.proofs.Computing.{unicode_ident}
 use Rattle.rustc_lexer.specs.{Base, LiteralKind, TokenKind, Whitespace, LineComment, UnknownPrefix, UnknownPrefixLifetime, Edition}
@@ -20,7 +21,7 @@ use Rattle.rustc_lexer.specs.means.Scan.{begins, next_is}
 use Rattle.rustc_lexer.specs.laws.LanguageLiterals.{number-digit}
 use Rattle.rustc_lexer.specs.laws.LanguageReach.{raw-alike}
 use Rattle.rustc_lexer.specs.laws.LanguageRuns.{either-way, none-among}
-use Rattle.rustc_lexer.specs.laws.NumberLongest.{form-alike, form-front, one-more, HasForm}
+use Rattle.rustc_lexer.specs.laws.NumberLongest.{number-before}
 
 -- ---- white space is in no other class
 
@@ -59,30 +60,18 @@ in-solid p out c e = let none : is_whitespace c ≡ false = false_from_ne_true (
 
 all-solid : (p : ℕ → Bool) → IsSolid p → (cs : List ℕ) → list_all p cs ≡ true → list_all is_solid cs ≡ true
 all-solid p out [] all = refl
-all-solid p out (c ∷ cs) all = let both = and_parts (p c) (list_all p cs) all in rw (in-solid p out c both.0) (all-solid p out cs both.1)
+all-solid p out (c ∷ cs) all = grind (arith, common_steps, in-solid, and_parts, all-solid p out cs)
 
 -- ---- what changes
 
 -- behind the same front one text ended or had white space, and the other has white space
-pub record Changes (next other : List ℕ) : Type 0 where
-  pub front : List ℕ
-  pub before : List ℕ
-  pub after : List ℕ
-  pub text_is : next ≡ front ++ before
-  pub other_is : other ≡ front ++ after
-  pub stops : NextIsNot is_solid before
-  pub spaced : NextIs is_whitespace after
+pub data Changes : List ℕ → List ℕ → Type 0 where
+  here : {before after : List ℕ} → NextIsNot is_solid before → NextIs is_whitespace after → Changes before after
+  past : (c : ℕ) {next other : List ℕ} → Changes next other → Changes (c ∷ next) (c ∷ other)
 
-pub changes-past : (w next other : List ℕ) → Changes next other → Changes (w ++ next) (w ++ other)
-changes-past w next other ch = record {
-  front = w ++ ch.front;
-  before = ch.before;
-  after = ch.after;
-  text_is = ap (λ (s : List ℕ). w ++ s) ch.text_is ∙ sym (append_assoc w ch.front ch.before);
-  other_is = ap (λ (s : List ℕ). w ++ s) ch.other_is ∙ sym (append_assoc w ch.front ch.after);
-  stops = ch.stops;
-  spaced = ch.spaced;
-}
+pub changes-past : (w : List ℕ) {next other : List ℕ} → Changes next other → Changes (w ++ next) (w ++ other)
+changes-past [] ch = ch
+changes-past (c ∷ w) ch = past c (changes-past w ch)
 
 -- a class with no white space sees no change
 at-end : (p : ℕ → Bool) → IsSolid p → (before : List ℕ) → NextIsNot is_solid before → next_is p before ≡ false
@@ -91,42 +80,32 @@ at-end p w1 before w3 = grind (arith, common_steps)
 at-space : (p : ℕ → Bool) → IsSolid p → (after : List ℕ) → NextIs is_whitespace after → next_is p after ≡ false
 at-space p w1 after w3 = grind (arith, common_steps)
 
-same-front : (p : ℕ → Bool) → IsSolid p → (front before after : List ℕ) → NextIsNot is_solid before → NextIs is_whitespace after → next_is p (front ++ after) ≡ next_is p (front ++ before)
-same-front p out [] before after stops spaced = at-space p out after spaced ∙ sym (at-end p out before stops)
-same-front p out (c ∷ front) before after stops spaced = refl
-
-pub same : (p : ℕ → Bool) → IsSolid p → {next other : List ℕ} → Changes next other → next_is p other ≡ next_is p next
-same p out ch = ap (next_is p) ch.other_is ∙ (same-front p out ch.front ch.before ch.after ch.stops ch.spaced ∙ ap (next_is p) (sym ch.text_is))
+same : (p : ℕ → Bool) → IsSolid p → {next other : List ℕ} → Changes next other → next_is p other ≡ next_is p next
+same p out (here {before} {after} stops spaced) = at-space p out after spaced ∙ sym (at-end p out before stops)
+same p out (past c ch) = refl
 
 -- nor do characters that are none
-abbrev begins_then : (ℕ → Bool) → List ℕ → List ℕ → Bool
-begins_then p cs s = begins cs s && next_is p (drop (length cs) s)
-
 begins-solid : (c : ℕ) (cs s : List ℕ) → is_solid c ≡ true → NextIsNot is_solid s → begins (c ∷ cs) s ≡ false
 begins-solid c cs s w3 w4 = grind (arith, common_steps, false_from_ne_true)
 
 solid-space : (after : List ℕ) → NextIs is_whitespace after → NextIsNot is_solid after
 solid-space after w1 = grind (arith, common_steps)
 
-begins-front : (cs u before after : List ℕ) → list_all is_solid cs ≡ true → NextIsNot is_solid before → NextIsNot is_solid after → begins cs (u ++ after) ≡ begins cs (u ++ before)
-begins-front [] u before after solid stops spaced = refl
-begins-front (c ∷ cs) [] before after solid stops spaced = grind (arith, common_steps, and_parts, begins-solid)
-begins-front (c ∷ cs) (x ∷ u) before after solid stops spaced = grind (arith, common_steps, and_parts, begins-front cs u before after (and_parts (is_solid c) (list_all is_solid cs) solid).1 stops spaced)
+begins-same : (cs : List ℕ) → list_all is_solid cs ≡ true → {next other : List ℕ} → Changes next other → begins cs other ≡ begins cs next
+begins-same [] solid ch = refl
+begins-same (c ∷ cs) solid (here {before} {after} stops spaced) = grind (arith, common_steps, and_parts, begins-solid, solid-space)
+begins-same (c ∷ cs) solid (past d ch) = ap (λ (b : Bool). (d == c) && b) (begins-same cs (and_parts (is_solid c) (list_all is_solid cs) solid).1 ch)
 
-pub same-begins : (cs w : List ℕ) → list_all is_solid cs ≡ true → {next other : List ℕ} → Changes next other → begins cs (w ++ other) ≡ begins cs (w ++ next)
-same-begins cs w solid {next} {other} ch =
-    let past : Changes (w ++ next) (w ++ other) = changes-past w next other ch in
-    ap (begins cs) past.other_is ∙ (begins-front cs past.front past.before past.after solid past.stops (solid-space past.after past.spaced) ∙ ap (begins cs) (sym past.text_is))
+same-begins : (cs w : List ℕ) → list_all is_solid cs ≡ true → {next other : List ℕ} → Changes next other → begins cs (w ++ other) ≡ begins cs (w ++ next)
+same-begins cs w solid ch = begins-same cs solid (changes-past w ch)
 
-then-front : (p : ℕ → Bool) → IsSolid p → (cs u before after : List ℕ) → list_all is_solid cs ≡ true → NextIsNot is_solid before → NextIs is_whitespace after → begins_then p cs (u ++ after) ≡ begins_then p cs (u ++ before)
-then-front p out [] u before after solid stops spaced = same-front p out u before after stops spaced
-then-front p out (c ∷ cs) [] before after solid stops spaced = grind (arith, common_steps, and_parts, begins-solid, solid-space)
-then-front p out (c ∷ cs) (x ∷ u) before after solid stops spaced = grind (arith, common_steps, and_parts, then-front p out cs u before after (and_parts (is_solid c) (list_all is_solid cs) solid).1 stops spaced)
+ident-same : (cs : List ℕ) → list_all is_solid cs ≡ true → {next other : List ℕ} → Changes next other → begins_ident_after cs other ≡ begins_ident_after cs next
+ident-same [] solid ch = same is_id_start start-solid ch
+ident-same (c ∷ cs) solid (here {before} {after} stops spaced) = grind (arith, common_steps, and_parts, begins-solid, solid-space)
+ident-same (c ∷ cs) solid (past d ch) = grind (arith, common_steps, and_parts, ident-same cs (and_parts (is_solid c) (list_all is_solid cs) solid).1 ch)
 
-pub same-ident : (cs w : List ℕ) → list_all is_solid cs ≡ true → {next other : List ℕ} → Changes next other → begins_ident_after cs (w ++ other) ≡ begins_ident_after cs (w ++ next)
-same-ident cs w solid {next} {other} ch =
-    let past : Changes (w ++ next) (w ++ other) = changes-past w next other ch in
-    ap (begins_ident_after cs) past.other_is ∙ (then-front is_id_start start-solid cs past.front past.before past.after solid past.stops past.spaced ∙ ap (begins_ident_after cs) (sym past.text_is))
+same-ident : (cs w : List ℕ) → list_all is_solid cs ≡ true → {next other : List ℕ} → Changes next other → begins_ident_after cs (w ++ other) ≡ begins_ident_after cs (w ++ next)
+same-ident cs w solid ch = ident-same cs solid (changes-past w ch)
 
 -- ---- numbers
 
@@ -145,55 +124,25 @@ whole-solid w0 = grind (arith, common_steps, first-solid, solid-by, all-solid, d
 exponent-solid : {base : Base} {kind : LiteralKind} {t : List ℕ} → IsExponent base kind t → list_all is_solid t ≡ true
 exponent-solid w0 = grind (arith, common_steps, first-solid, solid-by, all-solid, digit-solid)
 
-both-solid : (v w : List ℕ) → list_all is_solid v ≡ true → list_all is_solid w ≡ true → list_all is_solid (v ++ w) ≡ true
-both-solid [] w a b = b
-both-solid (c ∷ v) w a b = let parts = and_parts (is_solid c) (list_all is_solid v) a in rw parts.0 (both-solid v w parts.1 b)
-
 tail-solid : {next : List ℕ} {base : Base} {kind : LiteralKind} {t : List ℕ} → IsTailBefore next base kind t → list_all is_solid t ≡ true
-tail-solid w0 = grind (arith, common_steps, first-solid, solid-by, all-solid, digit-solid, exponent-solid, both-solid)
+tail-solid w0 = grind (arith, common_steps, first-solid, solid-by, all-solid, digit-solid, exponent-solid, list_all-append)
 
 form-solid : {next : List ℕ} {kind : LiteralKind} {w : List ℕ} → HasNumberForm next kind w → list_all is_solid w ≡ true
-form-solid w0 = grind (arith, common_steps, whole-solid, both-solid, tail-solid)
+form-solid w0 = grind (arith, common_steps, whole-solid, list_all-append, tail-solid)
 
 last-solid : (w : List ℕ) (c : ℕ) → list_all is_solid (w ++ c ∷ []) ≡ true → is_solid c ≡ true
-last-solid [] c e = (and_parts (is_solid c) true e).0
-last-solid (d ∷ w) c e = last-solid w c (and_parts (is_solid d) (list_all is_solid (w ++ c ∷ [])) e).1
+last-solid w c e = grind (arith, common_steps, list_all-append, and_parts)
 
 -- where a character that is no white space comes next, the change is past it
-record ChangesPast (next other : List ℕ) (c : ℕ) : Type 0 where
-  rest : List ℕ
-  text_is : next ≡ c ∷ rest
-  changes : Changes rest (drop 1 other)
+next-solid : {next other : List ℕ} (c : ℕ) → Changes next other → other ≡ c ∷ drop 1 other → is_solid c ≡ true → (next ≡ c ∷ drop 1 next) × Changes (drop 1 next) (drop 1 other)
+next-solid {next} {other} c (here stops spaced) e solid = absurd (grind (arith, common_steps))
+next-solid c (past d {next} ch) e solid = (ap (λ (x : ℕ). x ∷ next) (let same : d ≡ c = cc in same), ch)
 
-changes-on : (front before after next other : List ℕ) (c : ℕ) → next ≡ front ++ before → other ≡ front ++ after → NextIsNot is_solid before → NextIs is_whitespace after → other ≡ c ∷ drop 1 other → is_solid c ≡ true → ChangesPast next other c
-changes-on [] before after next other c n o stops spaced e solid = absurd (grind (arith, common_steps, solid-space))
-changes-on (d ∷ front) before after next other c n o stops spaced e solid =
-    let first : d ∷ (front ++ after) ≡ c ∷ drop 1 other = sym o ∙ e in
-    let same : d ≡ c = cc in
-    record {
-      rest = front ++ before;
-      text_is = n ∙ ap (λ (x : ℕ). x ∷ (front ++ before)) same;
-      changes = record { front = front; before = before; after = after; text_is = refl; other_is = ap (drop 1) o; stops = stops; spaced = spaced };
-    }
-
-pub number-apart : {next : List ℕ} {kind : LiteralKind} (first : ℕ) (v : List ℕ) → IsNumberBefore next kind (first ∷ v) → (other : List ℕ) → Changes next other → IsNumberBefore other kind (first ∷ v)
-number-apart {next} {kind} first v is other ch = record {
-  form = form-alike is.form other (λ base whole part e. same is_no_fraction fraction-solid ch);
-  longest = λ k x rest text form. elim (cases_lt (length w) (length x)) [ inl lt ↦ absurd (longer k x rest text form lt) | inr le ↦ le ];
-}
-  where
-    w : List ℕ
-    w = first ∷ v
-
-    longer : (k : LiteralKind) (x rest : List ℕ) → x ++ rest ≡ w ++ other → HasNumberForm rest k x → length w < length x → ⊥
-    longer k x rest text form lt =
-        let more = one-more w x other rest text lt in
-        let c : ℕ = more.0 in
-        let cut_off : HasForm (drop (suc (length w)) x ++ rest) (take (suc (length w)) x) = form-front form (length v) in
-        let there : HasForm (drop 1 other) (w ++ (c ∷ [])) = subst (λ (xs : List ℕ). HasForm xs (w ++ (c ∷ []))) more.3 (subst (HasForm (drop (suc (length w)) x ++ rest)) more.2 cut_off) in
-        let past : ChangesPast next other c = changes-on ch.front ch.before ch.after next other c ch.text_is ch.other_is ch.stops ch.spaced more.1 (last-solid w c (form-solid there.1)) in
-        let here = form-alike there.1 past.rest (λ base whole part e. sym (same is_no_fraction fraction-solid past.changes)) in
-        omega (arith, is.longest there.0 (w ++ (c ∷ [])) past.rest (append_assoc w (c ∷ []) past.rest ∙ ap (λ (xs : List ℕ). w ++ xs) (sym past.text_is)) here, length-append w (c ∷ []))
+number-apart : {next : List ℕ} {kind : LiteralKind} {w : List ℕ} → IsNumberBefore next kind w → (other : List ℕ) → Changes next other → IsNumberBefore other kind w
+number-apart {next} {kind} is other ch =
+    let d = number-digit is in
+    subst (IsNumberBefore other kind) (sym d.whole) (number-before d.first d.rest (subst (IsNumberBefore next kind) d.whole is) other (same is_no_fraction fraction-solid ch)
+    (λ c e there. let more = next-solid c ch e (last-solid (d.first ∷ d.rest) c (form-solid there.1)) in (more.0, λ base whole part f. sym (same is_no_fraction fraction-solid more.1))))
 
 -- ---- literals
 
@@ -204,8 +153,7 @@ faulty-not : (t : Bool) → not t ≡ false → t ≡ true
 faulty-not t w1 = grind (arith, common_steps)
 
 double-apart : {next : List ℕ} {t : Bool} {w : List ℕ} → IsDoubleQuoted next t w → t ≡ true → (other : List ℕ) → IsDoubleQuoted other t w
-double-apart (lit.closed q) t other = lit.closed q
-double-apart is t other = absurd (cc t)
+double-apart w0 t other = grind (arith, common_steps, lit.closed)
 
 single-apart : {next : List ℕ} {t : Bool} {w : List ℕ} → IsSingleQuoted next t w → t ≡ true → (other : List ℕ) → Changes next other → IsSingleQuoted other t w
 single-apart (lit.one out) t other ch = lit.one out
@@ -220,20 +168,14 @@ suffix-apart : {next w : List ℕ} → IsSuffixBefore next w → (other : List �
 suffix-apart (lit.none stop) other ch = lit.none (same is_id_start start-solid ch ∙ stop)
 suffix-apart (lit.some is stop) other ch = lit.some is (same is_id_continue continue-solid ch ∙ stop)
 
+-- a literal that is closed, by what its parts are
+literal-by : {next other : List ℕ} {kind : LiteralKind} {takes : Bool} {w : List ℕ} → ((kind : LiteralKind) (w : List ℕ) → IsNumberBefore next kind w → IsNumberBefore other kind w) → ((t : Bool) (w : List ℕ) → IsSingleQuoted next t w → t ≡ true → IsSingleQuoted other t w)
+    → IsLiteralBefore next kind takes w → is_faulty kind ≡ false → IsLiteralBefore other kind takes w
+literal-by {next} {other} number single w0 good =
+    grind (arith, common_steps, number, single, double-apart, raw-apart, faulty-not, lit.number, lit.str, lit.byte_str, lit.c_str, lit.byte_char, lit.char_of_one, lit.char, lit.char_of_name, lit.raw_str, lit.raw_byte_str, lit.raw_c_str)
+
 literal-apart : {next : List ℕ} {kind : LiteralKind} {takes : Bool} {w : List ℕ} → IsLiteralBefore next kind takes w → is_faulty kind ≡ false → (other : List ℕ) → Changes next other → IsLiteralBefore other kind takes w
-literal-apart {next} (lit.number {kind} {w} is) good other ch =
-    let d = number-digit is in
-    lit.number (subst (IsNumberBefore other kind) (sym d.whole) (number-apart d.first d.rest (subst (IsNumberBefore next kind) d.whole is) other ch))
-literal-apart (lit.str {t} q) good other ch = lit.str (double-apart q (faulty-not t good) other)
-literal-apart (lit.byte_str {t} q) good other ch = lit.byte_str (double-apart q (faulty-not t good) other)
-literal-apart (lit.c_str {t} q) good other ch = lit.c_str (double-apart q (faulty-not t good) other)
-literal-apart (lit.byte_char {t} q) good other ch = lit.byte_char (single-apart q (faulty-not t good) other ch)
-literal-apart (lit.char_of_one out) good other ch = lit.char_of_one out
-literal-apart (lit.char {t} q stop) good other ch = lit.char (single-apart q (faulty-not t good) other ch) stop
-literal-apart (lit.char_of_name w start all) good other ch = lit.char_of_name w start all
-literal-apart (lit.raw_str {n} q free) good other ch = lit.raw_str (raw-apart q (faulty-not (is_some n) good) other) free
-literal-apart (lit.raw_byte_str {n} q) good other ch = lit.raw_byte_str (raw-apart q (faulty-not (is_some n) good) other)
-literal-apart (lit.raw_c_str {n} q) good other ch = lit.raw_c_str (raw-apart q (faulty-not (is_some n) good) other)
+literal-apart is good other ch = literal-by (λ kind w n. number-apart n other ch) (λ t w q e. single-apart q e other ch) is good
 
 -- ---- tokens
 
@@ -279,7 +221,7 @@ token-apart (the.unknown_prefix_lifetime {c} {w} start all hash free) some good 
 token-apart (the.raw_lifetime is stop) some good other ch go = the.raw_lifetime is (same is_id_continue continue-solid ch ∙ stop)
 token-apart (the.literal is) some good other ch go = the.literal (literal-apart is good other ch)
 token-apart {next} (the.literal_with {suffix = suffix} is suffix_is) some good other ch go =
-    the.literal_with (literal-apart is good (suffix ++ other) (changes-past suffix next other ch)) (suffix-apart suffix_is other ch)
+    the.literal_with (literal-apart is good (suffix ++ other) (changes-past suffix ch)) (suffix-apart suffix_is other ch)
 token-apart (the.slash stop) some good other ch go = the.slash (same (is_among (codes "/*")) (solid-by (is_among (codes "/*")) refl) ch ∙ stop)
 token-apart (the.pound stop) some good other ch go = the.pound (same (is_among (codes "\"#")) (solid-by (is_among (codes "\"#")) refl) ch ∙ stop)
 token-apart (the.guarded_prefix is) some good other ch go = the.guarded_prefix is

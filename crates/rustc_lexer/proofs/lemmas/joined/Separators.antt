@@ -21,7 +21,7 @@ use Rattle.rustc_lexer.specs.laws.Edition.{edition_grammar}
 use Rattle.rustc_lexer.specs.laws.LanguageFront.{Split, empty-text, split, split-same}
 use Rattle.rustc_lexer.specs.laws.LanguageIn.{Front, first-front, token-read-in}
 use Rattle.rustc_lexer.specs.means.Edition.{first_token_in, token}
-use Rattle.rustc_lexer.proofs.lemmas.joined.Apart.{Changes, Goes, in-apart, is_solid}
+use Rattle.rustc_lexer.proofs.lemmas.joined.Apart.{Changes, here as changed, Goes, changes-past, in-apart, is_solid}
 use Rattle.rustc_lexer.proofs.lemmas.edits.Bounds.{bound-last}
 use Rattle.rustc_lexer.proofs.lemmas.heads.ByTokens.{bound-append}
 use Rattle.rustc_lexer.proofs.lemmas.joined.Joined.{drop-front}
@@ -136,7 +136,7 @@ module _ (edition : Edition) where
       let rest_is : IsText (drop n left ++ next) = subst IsText cut (past_first law (left ++ next) is some) in
       let rest_tokens : Tokens (drop n left ++ next) ≡ front ++ Tokens next = ap Tokens (sym cut) ∙ rest-are (left ++ next) t (front ++ Tokens next) is tokens in
       let rest_size : bound front (length front) ≡ length (drop n left) = omega (arith, size, len, length-drop n left) in
-      let ch : Changes (chars (drop n (left ++ next))) (chars (drop n (left ++ other))) = record { front = chars (drop n left); before = chars next; after = chars other; text_is = shown; other_is = its_shown; stops = stops; spaced = spaced } in
+      let ch : Changes (chars (drop n (left ++ next))) (chars (drop n (left ++ other))) = rw (shown, its_shown) (changes-past (chars (drop n left)) (changed stops spaced)) in
       let goes : Goes t.kind (chars (drop n left) ++ chars next) (chars (drop n left) ++ chars other) = goes-here t front (drop n left) next other rest_is rest_utf8 rest_tokens rest_size go in
       let goes_here : Goes (first (left ++ next)).kind (chars (drop n (left ++ next))) (chars (drop n (left ++ other))) =
       subst (λ (k : TokenKind). Goes k (chars (drop n (left ++ next))) (chars (drop n (left ++ other)))) (ap (λ (x : Token). x.kind) (sym here))
