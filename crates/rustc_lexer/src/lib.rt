@@ -10,11 +10,12 @@ mod cursor;
 mod edition;
 mod entry;
 mod frontmatter;
+// What is by hand in plain Rust names its extents.
+pub(crate) mod head;
 mod kernels;
 mod lexemes;
 mod raw_check;
-// What is by hand in plain Rust names `relex::head`.
-pub(crate) mod relex;
+mod relex;
 mod scan;
 mod shebang;
 mod token;
@@ -28,12 +29,12 @@ pub use entry::{
     EditionTokens, FromToken, Stepper, Steps, Tokens, tokenize, tokenize_as, tokenize_document,
     tokenize_in,
 };
+pub use head::Head;
 pub use lexemes::ident::is_ident;
 pub use raw_check::{starts_raw, validate_raw_str};
 pub use relex::{
-    BodyChange, Change, Edit, EditStop, Head, JoinError, JoinedText, Lexed, LexedDocument,
-    LexedText, Measured, Piece, Pieces, Relexed, Relexing, Stopped, TokenStart, is_seam, settled,
-    settled_in,
+    BodyChange, Change, Edit, EditStop, JoinError, JoinedText, Lexed, LexedDocument, LexedText,
+    Measured, Piece, Pieces, Relexed, Relexing, Stopped, TokenStart, is_seam, settled, settled_in,
 };
 pub use shebang::strip_shebang;
 pub use token::{

@@ -6,8 +6,6 @@ mod document_edit;
 mod edit;
 mod edit_list;
 mod front;
-// What is by hand in plain Rust names its extents.
-pub(crate) mod head;
 mod joined;
 mod kept;
 mod lex;
@@ -21,7 +19,6 @@ pub use body_change::BodyChange;
 pub use edit::Edit;
 pub use edit_list::{EditStop, Stopped};
 pub use front::{Measured, TokenStart};
-pub use head::Head;
 pub use joined::{JoinError, JoinedText, is_seam};
 pub use lexed::{Lexed, LexedDocument, LexedText};
 pub use pieces::{Piece, Pieces};

@@ -114,7 +114,7 @@ impl Extent for Document {}
 
 mod sealed {
     use crate::edit_error::{EditError, try_fitting};
-    use crate::erased::relex::head::{self, Part, Whole};
+    use crate::erased::head::{self, Part, Whole};
     use crate::erased::{Edition, Lexed, Steps};
     use crate::support::Global;
 

@@ -348,7 +348,7 @@ one-more (d ∷ w) (b ∷ x) other rest text lt = grind (arith, common_steps, on
 -- a number stays one before another text, where what may stand behind a dot does, and what could go on there could here
 pub number-before : {next : List ℕ} {kind : LiteralKind} (first : ℕ) (v : List ℕ) → IsNumberBefore next kind (first ∷ v) → (other : List ℕ) → next_is is_no_fraction other ≡ next_is is_no_fraction next
     → ((c : ℕ) → other ≡ c ∷ drop 1 other → HasForm (drop 1 other) (first ∷ v ++ (c ∷ []))
-        → (next ≡ c ∷ drop 1 next) × ((base : Base) (whole : List ℕ) → IsWholePart base false whole → first ∷ v ++ (c ∷ []) ≡ whole ++ (46 ∷ []) → next_is is_no_fraction (drop 1 next) ≡ next_is is_no_fraction (drop 1 other)))
+    → (next ≡ c ∷ drop 1 next) × ((base : Base) (whole : List ℕ) → IsWholePart base false whole → first ∷ v ++ (c ∷ []) ≡ whole ++ (46 ∷ []) → next_is is_no_fraction (drop 1 next) ≡ next_is is_no_fraction (drop 1 other)))
     → IsNumberBefore other kind (first ∷ v)
 number-before {next} {kind} first v is other same goes_on = record {
   form = form-alike is.form other (λ base whole part e. same);

@@ -9,15 +9,15 @@ use denote.Enum.Compared.{Each, by}
 use denote.Enum.Declared.{Record, Choice, values_one}
 use denote.Struct.Field.{Field}
 use mathlib.Core.Bool.{beq}
-use Rattle.rustc_lexer.specs.contracts.relex.head.HeadEq.TheImpl.Laws as equal
-use Rattle.rustc_lexer.specs.contracts.relex.head.HeadPartialEq.TheImpl as head
+use Rattle.rustc_lexer.specs.contracts.head.HeadEq.TheImpl.Laws as equal
+use Rattle.rustc_lexer.specs.contracts.head.HeadPartialEq.TheImpl as head
 use Rattle.rustc_lexer.specs.contracts.token.DocStyle as doc_style
 use Rattle.rustc_lexer.specs.contracts.token.LiteralKindPartialEq.TheImpl as literal
 use Rattle.rustc_lexer.specs.contracts.token.TokenEq.TheImpl.Laws as token_equal
 use Rattle.rustc_lexer.specs.contracts.token.TokenKind as token_kind
 use Rattle.rustc_lexer.specs.contracts.token.TokenKindPartialEq.TheImpl as kind
 use Rattle.rustc_lexer.specs.contracts.token.TokenPartialEq.TheImpl as token
-use Rattle.rustc_lexer.specs.declared.relex.head.Head.{Head}
+use Rattle.rustc_lexer.specs.declared.head.Head.{Head}
 use Rattle.rustc_lexer.specs.{Token}
 
 -- what `==` answers

@@ -2,7 +2,7 @@
 use Rattle.std.specs.Prelude.{ℕ, ◌+◌, ◌-◌, ◌≤◌, ◌≡◌, if◌then◌else◌, List, ◌++◌, length, take, drop, max, chars, Option, Some, None, Result, Ok, Err, Bool, true, false, IsCharBoundary}
 use Rattle.std.specs.Str.{IsUtf8}
 use Rattle.rustc_lexer.specs.declared.relex.checkpoints.Checkpoints.{Checkpoints}
-use Rattle.rustc_lexer.specs.declared.relex.head.Head.{Head}
+use Rattle.rustc_lexer.specs.declared.head.Head.{Head}
 use Rattle.rustc_lexer.specs.declared.relex.relexing.{Change.Change, Relexed.Relexed, Relexing.Relexing}
 use Rattle.rustc_lexer.specs.{Token}
 use Rattle.rustc_lexer.specs.Classes.{IsText}

@@ -4,8 +4,8 @@ ghost use Rattle.rustc_lexer.specs.{Token};
 ghost use Rattle.rustc_lexer.specs.Locality.{IsGrammar};
 ghost use Rattle.rustc_lexer.specs.Relexing.{IsBodyChange, IsEditOf, IsHeadOf, IsInBody};
 
+use crate::head::Head;
 use crate::relex::document_edit::{body_change, keeps_head};
-use crate::relex::head::Head;
 use crate::relex::relexing::Change;
 
 /// What an edit of a document changes in its body.

@@ -2,7 +2,7 @@
 ghost use Rattle.std.specs.Prelude.{◌≡◌, ◌+◌, ◌-◌, ◌^◌, ◌<◌, ◌≤◌, ◌++◌, ◌↔◌, IsTrue, OnOk, OnErr, drop, length, take};
 ghost use Rattle.rustc_lexer.specs.means.Document as means;
 
-use crate::relex::head::Head;
+use crate::head::Head;
 use crate::relex::relexing::{Change, Relexed, Relexing};
 use crate::relex::replace::replace;
 use crate::token::Token;

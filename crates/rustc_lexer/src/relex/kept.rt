@@ -9,10 +9,10 @@ ghost use Rattle.rustc_lexer.specs.Kept.{IsEdited, layout_in};
 ghost use Rattle.rustc_lexer.specs.means.Checkpoints.{AreBounds};
 
 use crate::entry::stepper::Stepper;
+use crate::head::{Extent, Head};
 use crate::relex::checkpoints::Checkpoints;
 use crate::relex::document_edit::{body_change, counted, keeps_head, new_head, put_tokens};
 use crate::relex::edit::{past_edit, relex};
-use crate::relex::head::{Extent, Head};
 use crate::relex::lex::lex_all;
 use crate::relex::relexing::{Change, Relexed};
 use crate::token::Token;

@@ -7,8 +7,8 @@ ghost use Rattle.rustc_lexer.specs.Kept.{IsEdited, layout_in};
 ghost use Rattle.rustc_lexer.specs.Partition.{tokens_in};
 
 use crate::entry::stepper::Stepper;
+use crate::head::{Extent, Part, Whole};
 use crate::relex::edit::{accepts, put_in_place};
-use crate::relex::head::{Extent, Part, Whole};
 use crate::relex::kept::{Kept, lex_body, renew};
 use crate::relex::relexing::{Change, Relexed};
 use crate::token::Token;

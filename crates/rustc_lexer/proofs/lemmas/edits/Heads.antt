@@ -3,7 +3,7 @@ use Rattle.std.proofs.Common.{◌≡◌, ℕ, zero, suc, ◌+◌, ◌≤◌, Boo
 use Rattle.std.proofs.lemmas.Grind.{common_steps}
 use Rattle.std.proofs.lemmas.Str.{IsCharBoundary-start}
 use Rattle.rustc_lexer.specs.{Edition, Token}
-use Rattle.rustc_lexer.specs.declared.relex.head.Head.{Head}
+use Rattle.rustc_lexer.specs.declared.head.Head.{Head}
 use Rattle.rustc_lexer.specs.Answers.{first_in}
 use Rattle.rustc_lexer.specs.Classes.{IsText}
 use Rattle.rustc_lexer.specs.Document.{body_start, head_tokens, shebang_len, whole_by}

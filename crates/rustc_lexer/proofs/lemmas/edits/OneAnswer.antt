@@ -118,15 +118,18 @@ module _ {first : List ℕ → Token} (law : IsGrammar first) (text : List ℕ) 
 
   -- both ends meet
   ends_meet : (back : ℕ) × IsMeeting (part_by first text) (part_by first new_text) stop new_stop (length new) back
-  ends_meet = (0, record {
-    number_inside = omega arith;
-    past_edit = omega (arith, bound-last law new_text ed.text_is, start_inside law text start stop insert new_text is edit ed);
-    past_head = omega arith;
-    old_number = length old;
-    past_old_head = omega arith;
-    back_is = omega arith;
-    same_offset = omega (arith, bound-last law new_text ed.text_is, bound-last law text is, ed.len, edit.inside.start_le_stop, edit.inside.stop_inside);
-  })
+  ends_meet = (
+    0,
+    record {
+      number_inside = omega arith;
+      past_edit = omega (arith, bound-last law new_text ed.text_is, start_inside law text start stop insert new_text is edit ed);
+      past_head = omega arith;
+      old_number = length old;
+      past_old_head = omega arith;
+      back_is = omega arith;
+      same_offset = omega (arith, bound-last law new_text ed.text_is, bound-last law text is, ed.len, edit.inside.start_le_stop, edit.inside.stop_inside);
+    },
+  )
 
   -- so there are counts of it
   pub relexed_is : (r : Relexed) × IsRelexed (part_by first) text start stop insert r

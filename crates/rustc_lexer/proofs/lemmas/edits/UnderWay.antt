@@ -28,13 +28,16 @@ module _ (old new : List Token) (old_stop new_stop number offset : ℕ) (back : 
   -- of the old bounds, the new tokens can meet none but the one that was followed to
   meets_there : ((k : ℕ) → k < back.index → bound old k + new_stop < max new_stop offset + old_stop) → (new_stop ≤ offset → back.index < length old → offset + old_stop ≤ back.offset + new_stop)
       → (rest : ℕ) × IsMeeting (bare old) (bare new) old_stop new_stop number rest → (new_stop ≤ offset) × (offset + old_stop ≡ back.offset + new_stop)
-  meets_there passed reached (rest, m) = (omega (arith, m.past_edit, offset_is), elim (cases_lt m.old_number back.index) [
-    | inl less ↦ absurd (omega (arith, passed m.old_number less, m.same_offset, m.past_edit, offset_is))
-    | inr more ↦ elim (eq-or-lt_of_le more) [
-      | inl same ↦ omega (arith, offset_is, m.same_offset, bound_is.1, ap (bound old) same)
-      | inr past ↦ omega (arith, offset_is, m.same_offset, bound_is.1, bound_mono old back.index m.old_number more, reached (omega (arith, m.past_edit, offset_is)) (omega (arith, past, m.back_is)))
-    ]
-  ])
+  meets_there passed reached (rest, m) = (
+    omega (arith, m.past_edit, offset_is),
+    elim (cases_lt m.old_number back.index) [
+      | inl less ↦ absurd (omega (arith, passed m.old_number less, m.same_offset, m.past_edit, offset_is))
+      | inr more ↦ elim (eq-or-lt_of_le more) [
+        | inl same ↦ omega (arith, offset_is, m.same_offset, bound_is.1, ap (bound old) same)
+        | inr past ↦ omega (arith, offset_is, m.same_offset, bound_is.1, bound_mono old back.index m.old_number more, reached (omega (arith, m.past_edit, offset_is)) (omega (arith, past, m.back_is)))
+      ]
+    ],
+  )
 
   met_by : {met : Bool} → number ≤ length new → IsFollowed old old_stop new_stop offset back met → (met ≡ true) ↔ ((rest : ℕ) × IsMeeting (bare old) (bare new) old_stop new_stop number rest)
   met_by few f = (λ hit. (length old - back.index, meets_here few (f.met_is.0 hit)), λ m. f.met_is.1 (meets_there f.passed f.reached m))
@@ -100,15 +103,18 @@ module _ {first : List ℕ → Token} (law : IsGrammar first) {before lengths in
     pub more_left : at.met ≡ false → at.at < length text
     more_left out = elim (cases_lt at.at (length text)) [
       | inl less ↦ less
-      | inr over ↦ absurd (true≢false (sym (u.met.1 (0, record {
-        number_inside = u.inside;
-        past_edit = omega (arith, over, u.offset, (text_end law is).1);
-        past_head = omega arith;
-        old_number = length old;
-        past_old_head = omega arith;
-        back_is = omega arith;
-        same_offset = omega (arith, over, u.offset, (text_end law is).0, bound-last law text (made_edited law is).text_is, bound_mono new (known at) (length new) u.inside);
-      })) ∙ out))
+      | inr over ↦ absurd (true≢false (sym (u.met.1 (
+        0,
+        record {
+          number_inside = u.inside;
+          past_edit = omega (arith, over, u.offset, (text_end law is).1);
+          past_head = omega arith;
+          old_number = length old;
+          past_old_head = omega arith;
+          back_is = omega arith;
+          same_offset = omega (arith, over, u.offset, (text_end law is).0, bound-last law text (made_edited law is).text_is, bound_mono new (known at) (length new) u.inside);
+        },
+      )) ∙ out))
     ]
 
     -- at the end of the text they are met

@@ -3,7 +3,7 @@ use Rattle.std.proofs.Common.{◌≡◌, ℕ, zero, suc, ◌+◌, ◌-◌, ◌�
 use Rattle.std.proofs.Math.Seq.{take-append_seam}
 use Rattle.std.proofs.lemmas.Bool.{not-true}
 use Rattle.rustc_lexer.specs.{Edition, Token, TokenKind}
-use Rattle.rustc_lexer.specs.declared.relex.head.Head.{Head}
+use Rattle.rustc_lexer.specs.declared.head.Head.{Head}
 use Rattle.rustc_lexer.specs.Classes.{IsText, bytes}
 use Rattle.rustc_lexer.specs.Answers.{first_in}
 use Rattle.rustc_lexer.specs.Document.{is_frontmatter, shebang_len, document_tokens, head_count, head_tokens, whole_by}

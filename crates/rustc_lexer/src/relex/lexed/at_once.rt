@@ -10,9 +10,9 @@ ghost use Rattle.rustc_lexer.specs.means.Document.{edit_change};
 ghost use Rattle.rustc_lexer.specs.Kept.{IsEdited, layout_in};
 
 use crate::entry::stepper::Stepper;
+use crate::head::Extent;
 use crate::relex::edit::{Edit, contains_range};
 use crate::relex::edit_list::EditStop;
-use crate::relex::head::Extent;
 use crate::relex::kept::renew;
 use crate::relex::lexed::Lexed;
 use crate::relex::relexing::{Change, Relexed};

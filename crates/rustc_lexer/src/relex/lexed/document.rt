@@ -4,8 +4,8 @@ ghost use Rattle.rustc_lexer.specs.Document as spec;
 ghost use Rattle.rustc_lexer.specs.Tokens.{tokens_by};
 
 use crate::entry::stepper::Stepper;
+use crate::head::Whole;
 use crate::relex::front::TokenStart;
-use crate::relex::head::Whole;
 use crate::relex::lexed::Lexed;
 
 impl<S: Stepper> Lexed<S, Whole> {

@@ -6,9 +6,9 @@ ghost use Rattle.rustc_lexer.specs.Partition.{tokens_in};
 ghost use Rattle.rustc_lexer.specs.means.EditList.{AreKeptTo};
 
 use crate::entry::stepper::Stepper;
+use crate::head::Extent;
 use crate::relex::edit::{Edit, accepts, contains_range};
 use crate::relex::edit_list::{EditStop, Stopped};
-use crate::relex::head::Extent;
 use crate::relex::lexed::Lexed;
 use crate::relex::relexing::Relexed;
 

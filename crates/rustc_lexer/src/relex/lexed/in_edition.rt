@@ -7,7 +7,7 @@ ghost use Rattle.rustc_lexer.specs.LanguageText.{newest, year};
 
 use crate::edition::Edition;
 use crate::entry::stepper::{Stepper, Steps};
-use crate::relex::head::Extent;
+use crate::head::Extent;
 use crate::relex::lexed::Lexed;
 use std::alloc::{AllocError, Global};
 

@@ -6,8 +6,8 @@ ghost use Rattle.rustc_lexer.specs.Tokens.{bound};
 ghost use Rattle.rustc_lexer.specs.means.Checkpoints.{IsBoundFrom};
 
 use crate::entry::stepper::Stepper;
+use crate::head::Extent;
 use crate::relex::front::TokenStart;
-use crate::relex::head::Extent;
 use crate::relex::lexed::Lexed;
 use crate::relex::pieces::{Piece, Pieces};
 use crate::token::Token;

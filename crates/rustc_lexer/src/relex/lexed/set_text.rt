@@ -5,8 +5,8 @@ ghost use Rattle.rustc_lexer.specs.Edits.{IsNarrowest, all_stay};
 ghost use Rattle.rustc_lexer.specs.Kept.{IsEdited, layout_in};
 
 use crate::entry::stepper::Stepper;
+use crate::head::Extent;
 use crate::relex::common::{common_back, common_front};
-use crate::relex::head::Extent;
 use crate::relex::lexed::Lexed;
 use crate::relex::relexing::Relexed;
 use std::alloc::AllocError;

@@ -3,8 +3,8 @@ ghost use Rattle.rustc_lexer.specs.Locality.{IsSettled, StaysUpTo};
 ghost use Rattle.rustc_lexer.specs.Tokens.{tokens_by};
 
 use crate::entry::stepper::Stepper;
+use crate::head::Part;
 use crate::relex::front::{TokenStart, kept_front};
-use crate::relex::head::Part;
 use crate::relex::lexed::Lexed;
 
 impl<S: Stepper> Lexed<S, Part> {

@@ -1,8 +1,8 @@
 // Made by tools/erase from crates/rustc_lexer/src/relex/body_change.rt: edit that file.
 //! What an edit of a document changes in its body.
 
+use crate::erased::head::Head;
 use crate::erased::relex::document_edit::{body_change, keeps_head};
-use crate::erased::relex::head::Head;
 use crate::erased::relex::relexing::Change;
 
 /// What an edit of a document changes in its body.

@@ -2,7 +2,7 @@
 //! One edit of a document: what it changes in the body, and how the head counts.
 use crate::support::Vec;
 
-use crate::erased::relex::head::Head;
+use crate::erased::head::Head;
 use crate::erased::relex::relexing::{Change, Relexed, Relexing};
 use crate::erased::relex::replace::replace;
 use crate::erased::token::Token;

@@ -115,13 +115,12 @@ pub(crate) struct Meeting {
     pub met: bool,
 }
 
-/// The effect of an edit on the text. The edit ends at `past` in the new text, where it replaced `removed` bytes
-/// with `added` bytes. The new text ends at `end`.
+/// The effect of an edit on the text. The edit ends at `past` in the new text, and at `old_stop` in the old one. The
+/// new text ends at `end`.
 #[derive(Clone, Copy)]
 pub(crate) struct Damage {
     pub past: usize,
-    pub added: usize,
-    pub removed: usize,
+    pub old_stop: usize,
     pub end: usize,
 }
 
@@ -140,7 +139,7 @@ pub(crate) fn follow<T: Measured>(
             met: false,
         };
     }
-    let target = offset - damage.added + damage.removed;
+    let target = offset - damage.past + damage.old_stop;
     if offset == damage.end {
         return Meeting {
             at: TokenStart {

@@ -3,10 +3,10 @@
 use crate::support::{String, Vec};
 
 use crate::erased::entry::stepper::Stepper;
+use crate::erased::head::{Extent, Head};
 use crate::erased::relex::checkpoints::Checkpoints;
 use crate::erased::relex::document_edit::{body_change, counted, keeps_head, new_head, put_tokens};
 use crate::erased::relex::edit::{past_edit, relex};
-use crate::erased::relex::head::{Extent, Head};
 use crate::erased::relex::lex::lex_all;
 use crate::erased::relex::relexing::{Change, Relexed};
 use crate::erased::token::Token;

@@ -3,8 +3,8 @@
 use crate::support::String;
 
 use crate::erased::entry::stepper::Stepper;
+use crate::erased::head::{Extent, Part, Whole};
 use crate::erased::relex::edit::{accepts, put_in_place};
-use crate::erased::relex::head::{Extent, Part, Whole};
 use crate::erased::relex::kept::{Kept, lex_body, renew};
 use crate::erased::relex::relexing::{Change, Relexed};
 use crate::erased::token::Token;

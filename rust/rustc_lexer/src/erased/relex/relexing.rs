@@ -38,8 +38,7 @@ impl Change {
     fn damage(self, text: &str) -> Damage {
         Damage {
             past: self.new_stop,
-            added: self.new_stop - self.start,
-            removed: self.old_stop - self.start,
+            old_stop: self.old_stop,
             end: text.len(),
         }
     }

@@ -3,9 +3,9 @@
 use crate::support::String;
 
 use crate::erased::entry::stepper::Stepper;
+use crate::erased::head::Extent;
 use crate::erased::relex::edit::{Edit, contains_range};
 use crate::erased::relex::edit_list::EditStop;
-use crate::erased::relex::head::Extent;
 use crate::erased::relex::kept::renew;
 use crate::erased::relex::lexed::Lexed;
 use crate::erased::relex::relexing::{Change, Relexed};

@@ -2,8 +2,8 @@
 //! The head of a document that is kept with its tokens.
 
 use crate::erased::entry::stepper::Stepper;
+use crate::erased::head::Whole;
 use crate::erased::relex::front::TokenStart;
-use crate::erased::relex::head::Whole;
 use crate::erased::relex::lexed::Lexed;
 
 impl<S: Stepper> Lexed<S, Whole> {

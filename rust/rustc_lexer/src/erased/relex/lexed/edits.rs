@@ -2,9 +2,9 @@
 //! Several edits of a kept text, one after another.
 
 use crate::erased::entry::stepper::Stepper;
+use crate::erased::head::Extent;
 use crate::erased::relex::edit::{Edit, accepts, contains_range};
 use crate::erased::relex::edit_list::{EditStop, Stopped};
-use crate::erased::relex::head::Extent;
 use crate::erased::relex::lexed::Lexed;
 use crate::erased::relex::relexing::Relexed;
 

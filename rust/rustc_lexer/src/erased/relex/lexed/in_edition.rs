@@ -3,7 +3,7 @@
 
 use crate::erased::edition::Edition;
 use crate::erased::entry::stepper::{Stepper, Steps};
-use crate::erased::relex::head::Extent;
+use crate::erased::head::Extent;
 use crate::erased::relex::lexed::Lexed;
 use crate::support::{AllocError, Global};
 

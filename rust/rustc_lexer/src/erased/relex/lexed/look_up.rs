@@ -2,8 +2,8 @@
 //! From an offset to a token of a kept text, and the pieces of the text.
 
 use crate::erased::entry::stepper::Stepper;
+use crate::erased::head::Extent;
 use crate::erased::relex::front::TokenStart;
-use crate::erased::relex::head::Extent;
 use crate::erased::relex::lexed::Lexed;
 use crate::erased::relex::pieces::{Piece, Pieces};
 use crate::erased::token::Token;

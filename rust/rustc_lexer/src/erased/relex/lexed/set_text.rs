@@ -2,8 +2,8 @@
 //! Another text for a kept one, by one edit of what differs.
 
 use crate::erased::entry::stepper::Stepper;
+use crate::erased::head::Extent;
 use crate::erased::relex::common::{common_back, common_front};
-use crate::erased::relex::head::Extent;
 use crate::erased::relex::lexed::Lexed;
 use crate::erased::relex::relexing::Relexed;
 use crate::support::AllocError;

@@ -2,8 +2,8 @@
 //! A kept text that grows at its end, like a stream.
 
 use crate::erased::entry::stepper::Stepper;
+use crate::erased::head::Part;
 use crate::erased::relex::front::{TokenStart, kept_front};
-use crate::erased::relex::head::Part;
 use crate::erased::relex::lexed::Lexed;
 
 impl<S: Stepper> Lexed<S, Part> {

@@ -2,7 +2,7 @@ use Rattle.std.proofs.Common.{sym, subst}
 use Rattle.rustc_lexer.specs.declared.relex.relexing.Change.{Change}
 use Rattle.rustc_lexer.specs.Relexing.{IsInBody}
 use Rattle.rustc_lexer.proofs.lemmas.edits.BodyChanges.{body_is, in_body}
-use Rattle.rustc_lexer.proofs.relex.head.Head.change_to.Goals as goal
+use Rattle.rustc_lexer.proofs.head.Head.change_to.Goals as goal
 
 pub returns-clause-body : goal.returns-clause-body
 returns-clause-body c first before insert text law e old_head now_head = body_is law before insert text c.args.edit c.args.self c.args.now _ _ e old_head now_head c.keeps_head-keeps_head.ensures c.body_change.ensures

@@ -1,7 +1,7 @@
 use Rattle.rustc_lexer.proofs.lemmas.heads.Ends.{head-front, head-spaced, head-none, front-boundary, spaced-boundary}
 use Rattle.rustc_lexer.proofs.lemmas.edits.Heads.{whole_head}
 use Rattle.rustc_lexer.proofs.lemmas.heads.ByTokens.{found}
-use Rattle.rustc_lexer.proofs.relex.head.WholeExtent.find_head.Goals as goal
+use Rattle.rustc_lexer.proofs.head.WholeExtent.find_head.Goals as goal
 
 pub returns-in-Some-clause-head : goal.returns-in-Some-clause-head
 returns-in-Some-clause-head c = whole_head _ (record { utf8 = c.utf8.text; fits = c.requires.fits }) _ (found _ (record { utf8 = c.utf8.text; fits = c.requires.fits }) _ (head-front c.args.text.now _ _ c.shebang_len-shebang.ensures.len c.range_from-rest.ensures.value _ c.in-Some.ensures.0 c.in-Some.ensures.1))

@@ -1,4 +1,4 @@
-// Made by tools/erase from crates/rustc_lexer/src/relex/head.rt: edit that file.
+// Made by tools/erase from crates/rustc_lexer/src/head.rt: edit that file.
 //! The head of a document: the part before its body.
 use crate::support::Vec;
 
