@@ -10,7 +10,7 @@ use Rattle.rustc_lexer.specs.{Token}
 use Rattle.rustc_lexer.specs.Partition.{bound, tokens_by}
 use Rattle.rustc_lexer.specs.Offsets.{IsBound}
 use Rattle.rustc_lexer.specs.Edits.{apply, ends_from}
-use Rattle.rustc_lexer.specs.Relexing.{IsUnderWay, known}
+use Rattle.rustc_lexer.specs.Relexing.{IsUnderWay}
 use Rattle.rustc_lexer.specs.Locality.{has_two}
 
 -- ---- what an edit of a text without a head keeps
@@ -85,8 +85,7 @@ pub record IsLexed (first : List ℕ → Token) (old : List ℕ) (change : Chang
   pub under_way : IsUnderWay first old change text at
   pub met : at.met ≡ true
   pub lexed : at.lexed ≡ length tokens
-  pub tokens_are : drop at.front.index (tokens_by first text)
-      ≡ tokens ++ drop (known at) (tokens_by first text)
+  pub tokens_are : tokens ≡ take at.lexed (drop at.front.index (tokens_by first text))
 
 -- the tokens of the old text are replaced by those of the new one: the kept front and back stay,
 -- and the lexed tokens come in between

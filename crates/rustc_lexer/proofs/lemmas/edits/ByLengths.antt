@@ -1,15 +1,14 @@
 -- Relexing by the lengths of the old tokens: the texts before and after, and where a search of the old tokens ends.
-use Rattle.std.proofs.Common.{◌≡◌, ℕ, ◌+◌, ◌-◌, ◌<◌, ◌≤◌, Bool, false, ◌||◌, eqb, eq-eqb, List, [], ◌∷◌, ◌++◌, length, map, take, drop, sym, ap, ◌∙◌, subst, arith, length-drop, length-append, IsUtf8, drop-drop, length-take-le, append_assoc, eq-or-lt_of_le, IsCharBoundary, max}
+use Rattle.std.proofs.Common.{◌≡◌, ℕ, ◌+◌, ◌-◌, ◌<◌, ◌≤◌, Bool, false, ◌||◌, eqb, eq-eqb, List, ◌++◌, length, map, take, drop, sym, ap, ◌∙◌, subst, arith, length-drop, length-append, IsUtf8, drop-drop, length-take-le, append_assoc, eq-or-lt_of_le, IsCharBoundary, max}
 use Rattle.std.proofs.lemmas.Str.{IsUtf8-append, IsUtf8-drop, IsCharBoundary-at_seam, IsCharBoundary-from_drop}
 use Rattle.std.proofs.lemmas.Grind.{common_steps}
 use Rattle.rustc_lexer.specs.declared.relex.front.{Damage.Damage, TokenStart.TokenStart}
 use Rattle.rustc_lexer.specs.declared.relex.relexing.Change.{Change}
-use Rattle.rustc_lexer.specs.declared.relex.relexing.Relexing.{Relexing}
 use Rattle.rustc_lexer.specs.{Token}
 use Rattle.rustc_lexer.specs.Tokens.{bound, tokens_by}
 use Rattle.rustc_lexer.specs.Edits.{apply, IsEdit}
 use Rattle.rustc_lexer.specs.Offsets.{IsBound}
-use Rattle.rustc_lexer.specs.Relexing.{IsChange, IsMadeOf, known}
+use Rattle.rustc_lexer.specs.Relexing.{IsChange, IsMadeOf}
 use Rattle.rustc_lexer.specs.means.Relexing.{IsFollowed, IsFront, IsLast, damage_of}
 use Rattle.rustc_lexer.specs.Locality.{IsGrammar}
 use Rattle.rustc_lexer.specs.Classes.{IsText}
@@ -70,14 +69,6 @@ module _ {first : List ℕ → Token} (law : IsGrammar first) {before lengths in
 pub step_offset : {first : List ℕ → Token} (law : IsGrammar first) (text : List ℕ) (at : ℕ) (token : Token) → IsText text → IsCharBoundary text at → at < length text → token ≡ first (drop at text) → (0 < token.len) × IsCharBoundary text (at + token.len)
 step_offset {first} law text at token is cut more token_is =
     grind (arith, length-drop at text, token_is, (ap (λ (t : Token). t.len) token_is), drop-drop token.len at text, IsUtf8-drop, IsCharBoundary-from_drop)
-
--- where nothing was lexed, all tokens past the front are left
-pub all_lexed : (new : List Token) (at : Relexing) (items : List Token) → items ≡ [] → at.lexed ≡ 0 → drop at.front.index new ≡ items ++ drop (known at) new
-all_lexed new at items none zero_lexed = grind (arith, common_steps)
-
--- and where one token more was lexed, those that are left are the ones behind it
-pub one_lexed : (new : List Token) (at past : Relexing) (items more : List Token) (token : Token) → past.front ≡ at.front → drop at.front.index new ≡ items ++ drop (known at) new → drop (known at) new ≡ token ∷ drop (known past) new → more ≡ items ++ token ∷ [] → drop past.front.index new ≡ more ++ drop (known past) new
-one_lexed new at past items more token front so next more_is = grind (arith, common_steps, append_assoc)
 
 -- where relexing is not over, more text is left
 pub not_over : (met : Bool) (at end : ℕ) → at ≤ end → (met || eqb at end) ≡ false → (met ≡ false) × (at < end)

@@ -114,10 +114,6 @@ module _ {first : List ℕ → Token} (law : IsGrammar first) (text : List ℕ) 
   pub met_rest : (j i : ℕ) → start + length insert ≤ bound (tokens_by first new) j → bound (tokens_by first text) i ≡ bound (tokens_by first new) j - (start + length insert) + stop → drop j (tokens_by first new) ≡ drop i (tokens_by first text)
   met_rest j i past met = grind (arith, common_steps, at_bound, same_rest)
 
-  -- the new tokens: those up to the meeting, and the old ones past it
-  pub met_whole : (j i : ℕ) → start + length insert ≤ bound (tokens_by first new) j → bound (tokens_by first text) i ≡ bound (tokens_by first new) j - (start + length insert) + stop → take j (tokens_by first new) ++ drop i (tokens_by first text) ≡ tokens_by first new
-  met_whole j i past met = ap (λ ts. take j (tokens_by first new) ++ ts) (sym (met_rest j i past met)) ∙ take-append-drop j (tokens_by first new)
-
 drop_of-take : (p n : ℕ) (xs : List ℕ) → drop p (take n xs) ≡ take (n - p) (drop p xs)
 drop_of-take zero n xs = grind (arith, common_steps)
 drop_of-take (suc p) zero xs = grind (arith, common_steps)

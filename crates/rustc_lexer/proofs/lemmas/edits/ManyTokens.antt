@@ -1,8 +1,7 @@
 -- Relexing by many tokens at once.
 use Rattle.std.proofs.lemmas.Grind.{common_steps}
-use Rattle.std.proofs.Common.{◌≡◌, ℕ, ◌+◌, ◌<◌, ◌≤◌, List, ◌++◌, length, take, drop, sym, ap, ◌∙◌, subst, arith, length-drop, drop-drop, append_assoc, IsCharBoundary, IsUtf8}
+use Rattle.std.proofs.Common.{◌≡◌, ℕ, ◌+◌, ◌<◌, ◌≤◌, List, ◌++◌, length, take, drop, sym, ap, ◌∙◌, subst, arith, ap₂, length-drop, drop-drop, take-add, IsCharBoundary, IsUtf8}
 use Rattle.std.proofs.lemmas.Bool.{cases_lt}
-use Rattle.std.proofs.lemmas.List.{take-append-drop}
 use Rattle.std.proofs.lemmas.Str.{IsUtf8-drop, IsCharBoundary-from_drop}
 use Rattle.rustc_lexer.specs.declared.relex.front.TokenStart.{TokenStart}
 use Rattle.rustc_lexer.specs.declared.relex.relexing.Relexing.{Relexing}
@@ -36,12 +35,11 @@ module _ {first : List ℕ → Token} (law : IsGrammar first) (text left : List 
   pub block_count : count ≤ bytes
   block_count = omega (arith, bytes_is, number_le_bound (tokens_by first left) count few (rises law left rest_is))
 
--- what is left past those tokens, if more of them were lexed
-pub more_lexed : (new left items block : List Token) (at past : Relexing) (count : ℕ) → past.front ≡ at.front → past.lexed ≡ at.lexed + count → drop at.front.index new ≡ items ++ drop (known at) new → left ≡ drop (known at) new → block ≡ take count left → drop past.front.index new ≡ (items ++ block) ++ drop (known past) new
+-- behind the tokens that were lexed, so many more
+pub more_lexed : (new left items block : List Token) (at past : Relexing) (count : ℕ) → past.front ≡ at.front → past.lexed ≡ at.lexed + count → items ≡ take at.lexed (drop at.front.index new) → left ≡ drop (known at) new → block ≡ take count left → items ++ block ≡ take past.lexed (drop past.front.index new)
 more_lexed new left items block at past count front lexed so left_is block_is =
-    let n : known at + count ≡ known past = omega (arith, ap (λ (b : TokenStart). b.index) front, lexed) in
-    let split : drop (known at) new ≡ block ++ drop (known past) new = sym (take-append-drop count (drop (known at) new)) ∙ (ap (λ (ts : List Token). take count ts ++ drop count (drop (known at) new)) (sym left_is) ∙ (ap (λ (ts : List Token). ts ++ drop count (drop (known at) new)) (sym block_is) ∙ ap (λ (ts : List Token). block ++ ts) (drop-drop count (known at) new ∙ ap (λ m. drop m new) n))) in
-    ap (λ (b : TokenStart). drop b.index new) front ∙ (so ∙ (ap (λ (ts : List Token). items ++ ts) split ∙ sym (append_assoc items block (drop (known past) new))))
+    ap₂ (λ (xs ys : List Token). xs ++ ys) so (block_is ∙ ap (take count) (left_is ∙ sym (drop-drop at.lexed at.front.index new)))
+    ∙ (sym (take-add at.lexed count (drop at.front.index new)) ∙ ap₂ (λ (n : ℕ) (b : TokenStart). take n (drop b.index new)) (sym lexed) (sym front))
 
 -- a buffer with room has some token of a text before an offset
 pub some_filled : {X : Type 0} (form : Token → X) (end : ℕ) (tokens : List Token) (buffer filled : List X) (count : ℕ) → IsFilledTo form end tokens buffer filled count → 0 < length buffer → 0 < end → 0 < count

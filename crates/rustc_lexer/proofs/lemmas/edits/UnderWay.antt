@@ -1,5 +1,5 @@
 -- Relexing is under way: from its beginning, past tokens, to the meeting.
-use Rattle.std.proofs.Common.{◌≡◌, ◌↔◌, ℕ, ◌+◌, ◌-◌, ◌<◌, ◌≤◌, Bool, true, false, true≢false, eqb, eqb-true, List, ◌∷◌, ◌++◌, length, take, drop, refl, sym, ap, ◌∙◌, ap₂, suc, subst, arith, inl, inr, length-drop, drop-drop, take-append-drop, take_at, max, eq-or-lt_of_le}
+use Rattle.std.proofs.Common.{◌≡◌, ◌↔◌, ℕ, ◌+◌, ◌-◌, ◌<◌, ◌≤◌, Bool, true, false, true≢false, eqb, eqb-true, List, ◌∷◌, ◌++◌, length, take, drop, refl, sym, ap, ◌∙◌, ap₂, suc, subst, arith, inl, inr, length-drop, drop-drop, take-append-drop, max, eq-or-lt_of_le}
 use Rattle.std.proofs.lemmas.Bool.{cases_lt}
 use Rattle.std.proofs.lemmas.Grind.{common_steps}
 use Rattle.rustc_lexer.specs.declared.relex.front.{Meeting.Meeting, TokenStart.TokenStart}
@@ -208,5 +208,4 @@ module _ {first : List ℕ → Token} (law : IsGrammar first) {before lengths in
   -- the tokens that were lexed for it, put between those that are kept, are the new ones
   pub lexed_whole : {tokens : List Token} {at : Relexing} → IsLexed first before change text tokens at → take at.front.index old ++ (tokens ++ drop at.back.index old) ≡ new
   lexed_whole {tokens} {at} l =
-      let lexed : take at.lexed (drop at.front.index new) ≡ tokens = ap (take at.lexed) l.tokens_are ∙ take_at tokens (drop (known at) new) at.lexed (sym l.lexed) in
-      ap (λ (ts : List Token). take at.front.index old ++ (ts ++ drop at.back.index old)) (sym lexed) ∙ (counts_met l.under_way l.met).1
+      ap (λ (ts : List Token). take at.front.index old ++ (ts ++ drop at.back.index old)) l.tokens_are ∙ (counts_met l.under_way l.met).1

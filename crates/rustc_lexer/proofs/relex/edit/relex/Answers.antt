@@ -1,73 +1,55 @@
-use Rattle.std.proofs.Common.{◌≡◌, ◌+◌, ◌∷◌, ◌++◌, List, ℕ, length, map, drop, take, refl, sym, ap, ◌∙◌, subst, arith, length-append, length-take-le, []}
+use Rattle.std.proofs.Common.{◌≡◌, ◌∷◌, ◌++◌, List, ℕ, length, map, drop, take, refl, sym, ap, ◌∙◌, subst, arith, length-append, length-take-le, []}
 use Rattle.rustc_lexer.specs.declared.relex.front.TokenStart.{TokenStart}
 use Rattle.rustc_lexer.specs.declared.relex.relexing.Relexing.{Relexing}
 use Rattle.rustc_lexer.specs.{Token}
 use Rattle.rustc_lexer.specs.Classes.{IsText}
 use Rattle.rustc_lexer.specs.Tokens.{tokens_by}
 use Rattle.rustc_lexer.specs.Offsets.{IsBound}
-use Rattle.rustc_lexer.specs.Relexing.{GoesOn, known}
+use Rattle.rustc_lexer.specs.Relexing.{GoesOn}
 use Rattle.rustc_lexer.proofs.lemmas.edits.Blocks.{front_of}
 use Rattle.rustc_lexer.proofs.lemmas.edits.FrontAndBack.{IfErr-always}
 use Rattle.rustc_lexer.proofs.lemmas.edits.ManyTokens.{block_count, more_lexed}
-use Rattle.rustc_lexer.proofs.lemmas.edits.Steps.{step_of}
-use Rattle.rustc_lexer.proofs.lemmas.edits.ByLengths.{all_lexed, one_lexed}
 use Rattle.rustc_lexer.proofs.lemmas.edits.UnderWay.{few_lexed}
 use Rattle.rustc_lexer.proofs.relex.edit.relex.Goals as goal
 
 pub returns-in_default-clause-lexed : goal.returns-in_default-clause-lexed
 returns-in_default-clause-lexed g c = λ before insert is near.
     let first = g.S.Stepper.grammar c.args.stepper.now in
-    let law = g.S.Stepper.law c.args.stepper.now in
-    let new : List Token = tokens_by first c.args.text.now in
-    let at = c.begin-at.result in
-    let end = c.next.new.self in
-    let same : end ≡ at = c.in_default.ensures.step.0 in
     let none = c.new-tokens.ensures.items in
-    let last = c.in_default.ensures.under_way before insert is (c.begin-at.ensures.under_way first before insert law is near) in
+    let last = c.in_default.ensures.under_way before insert is (c.begin-at.ensures.under_way first before insert (g.S.Stepper.law c.args.stepper.now) is near) in
+    let lexed : c.next.new.self.lexed ≡ 0 = ap (λ (a : Relexing). a.lexed) c.in_default.ensures.step.0 ∙ c.begin-at.ensures.none in
     record {
       under_way = last.0;
       met = last.1;
-      lexed = ap (λ (a : Relexing). a.lexed) same ∙ (c.begin-at.ensures.none ∙ sym (ap (λ (ts : List Token). length ts) none));
-      tokens_are = subst (λ (a : Relexing). drop a.front.index new ≡ c.new-tokens.result.items ++ drop (known a) new) (sym same) (all_lexed new at c.new-tokens.result.items none c.begin-at.ensures.none);
+      lexed = lexed ∙ sym (ap (λ (ts : List Token). length ts) none);
+      tokens_are = none ∙ ap (λ n. take n (drop c.next.new.self.front.index (tokens_by first c.args.text.now))) (sym lexed);
     }
 
 pub returns-in_err-push-clause-few : goal.returns-in_err-push-clause-few
 returns-in_err-push-clause-few g c =
-    let first = g.S.Stepper.grammar c.args.stepper.now in
     let law = g.S.Stepper.law c.args.stepper.now in
-    let at = c.begin-at.result in
-    let past = c.next.new.self in
-    let is_text : IsText c.args.text.now = record { utf8 = c.utf8.text; fits = c.requires.fits } in
-    let step = step_of law c.args.text.now is_text c.args.change.new_stop _ at c.in-Some.token _ past c.begin-at.ensures.may_go_on.boundary c.in-Some.ensures.step in
     IfErr-always c.from_residual.result (λ before insert is near r counts.
-    let next = c.in-Some.ensures.under_way before insert is (c.begin-at.ensures.under_way first before insert law is near) in
-    omega (arith, c.in-Some.ensures.step.2, step.lexed, few_lexed law is next.0 r counts))
+    let next = c.in-Some.ensures.under_way before insert is (c.begin-at.ensures.under_way (g.S.Stepper.grammar c.args.stepper.now) before insert law is near) in
+    omega (arith, c.in-Some.ensures.step.2, c.in-Some.ensures.step.1.lexed, few_lexed law is next.0 r counts))
 
 pub left-init : goal.left-init
 left-init g c =
     let first = g.S.Stepper.grammar c.args.stepper.now in
-    let law = g.S.Stepper.law c.args.stepper.now in
-    let text : List ℕ = c.args.text.now in
-    let at = c.begin-at.result in
-    let past = c.next.new.self in
+    let new : List Token = tokens_by first c.args.text.now in
+    let steps = c.in-Some.ensures.step.1 in
     let token = c.in-Some.token in
-    let none = c.new-tokens.ensures.items in
-    let empty : length c.new-tokens.result.items ≡ 0 = ap (λ (ts : List Token). length ts) none in
-    let is_text : IsText text = record { utf8 = c.utf8.text; fits = c.requires.fits } in
-    let step = step_of law text is_text c.args.change.new_stop _ at token _ past c.begin-at.ensures.may_go_on.boundary c.in-Some.ensures.step in
-    let more = c.in_ok-push.ensures.items in
-    let count : length c.push.new.self.items ≡ length c.new-tokens.result.items + 1 = rw more (omega (arith, length-append c.new-tokens.result.items (token ∷ []))) in
+    let items : c.push.new.self.items ≡ token ∷ [] = c.in_ok-push.ensures.items ∙ ap (λ (ts : List Token). ts ++ token ∷ []) c.new-tokens.ensures.items in
+    let count = ap (λ (ts : List Token). length ts) items in
     record {
       may_go_on = c.in-Some.ensures.may_go_on;
       grammar = c.in-Some.ensures.grammar;
       number = c.in-Some.ensures.number;
-      count = omega (arith, c.in-Some.ensures.step.2, count, empty);
-      lexed = omega (arith, step.lexed, count, empty, c.begin-at.ensures.none);
+      count = omega (arith, c.in-Some.ensures.step.2, count);
+      lexed = omega (arith, steps.lexed, count, c.begin-at.ensures.none);
       under_way = λ before insert is near.
-          let next = c.in-Some.ensures.under_way before insert is (c.begin-at.ensures.under_way first before insert law is near) in
-          let so = all_lexed (tokens_by first text) at c.new-tokens.result.items none c.begin-at.ensures.none in
-          let pushed = one_lexed (tokens_by first text) at past c.new-tokens.result.items c.push.new.self.items token step.front so next.1 more in
-          (next.0, pushed, λ are. are);
+          let next = c.in-Some.ensures.under_way before insert is (c.begin-at.ensures.under_way first before insert (g.S.Stepper.law c.args.stepper.now) is near) in
+          let none = ap (λ n. take n (drop c.begin-at.result.front.index new)) (sym c.begin-at.ensures.none) in
+          (next.0, items ∙ more_lexed new _ [] (token ∷ []) c.begin-at.result c.next.new.self 1 steps.front steps.lexed none (sym next.1) refl, λ are. are);
     }
 
 pub left-smaller : goal.left-smaller
@@ -107,7 +89,7 @@ left-preserved g c =
           let goes = subst (λ (f : List ℕ → Token). GoesOn f (map (λ (t : Token). t.len) c.args.old.now) text c.args.change at past) inv.grammar c.block-count.ensures.under_way before insert is so.0 in
           let here = ap (λ (f : List ℕ → Token). tokens_by f (drop at.at text)) inv.grammar ∙ goes.1 in (
             goes.0,
-            more_lexed (tokens_by first text) left c.left.tokens.items block at past count steps.front steps.lexed so.1 here written.front ∙ ap (λ (ts : List Token). ts ++ drop (known past) (tokens_by first text)) (sym items),
+            items ∙ more_lexed (tokens_by first text) left c.left.tokens.items block at past count steps.front steps.lexed so.1 here written.front,
             λ are. c.remember.ensures (tokens_by first text) (so.2 are) (subst (λ (b : TokenStart). IsBound (tokens_by first text) b) (sym c.end_of.ensures) (goes.0.inside, goes.0.offset)),
           );
     }

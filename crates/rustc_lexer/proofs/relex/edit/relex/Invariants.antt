@@ -1,8 +1,7 @@
-use Rattle.std.proofs.Common.{length, map, List, ℕ, ◌-◌, ◌≡◌, ◌+◌, ◌++◌, drop}
+use Rattle.std.proofs.Common.{length, map, List, ℕ, ◌-◌, ◌≡◌, ◌+◌, drop, take}
 use Rattle.rustc_lexer.specs.{Token}
 use Rattle.rustc_lexer.specs.Tokens.{tokens_by}
 use Rattle.rustc_lexer.specs.Offsets.{IsBound}
-use Rattle.rustc_lexer.specs.Relexing.{known}
 use Rattle.rustc_lexer.specs.Relexing.{IsMadeOf, IsUnderWay, MayGoOn}
 use Rattle.rustc_lexer.specs.means.Checkpoints.{AreBounds}
 use Rattle.rustc_lexer.proofs.relex.edit.relex.Given as goal
@@ -16,7 +15,7 @@ invariant-left g l = record {
   lexed : l.at.lexed ≡ length l.tokens.items;
   under_way : (before insert : List ℕ) → IsMadeOf (g.S.Stepper.grammar l.fn.stepper) before (map (λ (t : Token). t.len) l.old) l.change insert l.text → IsBound (tokens_by (g.S.Stepper.grammar l.fn.stepper) before) l.fn.near
       → IsUnderWay (g.S.Stepper.grammar l.fn.stepper) before l.change l.text l.at
-      × (drop l.at.front.index (tokens_by (g.S.Stepper.grammar l.fn.stepper) l.text) ≡ l.tokens.items ++ drop (known l.at) (tokens_by (g.S.Stepper.grammar l.fn.stepper) l.text))
+      × (l.tokens.items ≡ take l.at.lexed (drop l.at.front.index (tokens_by (g.S.Stepper.grammar l.fn.stepper) l.text)))
       × (AreBounds (tokens_by (g.S.Stepper.grammar l.fn.stepper) l.text) l.fn.lexed_bounds → AreBounds (tokens_by (g.S.Stepper.grammar l.fn.stepper) l.text) l.lexed_bounds);
 }
 

@@ -4,10 +4,10 @@ use Rattle.std.proofs.Common.{◌≡◌, List, ℕ, drop, map, inl, inr, sym, ap
 use Rattle.std.proofs.lemmas.Bool.{cases_lt}
 use Rattle.rustc_lexer.specs.{Token}
 use Rattle.rustc_lexer.specs.Classes.{IsText}
-use Rattle.rustc_lexer.specs.Relexing.{IsMadeOf, IsUnderWay, is_over}
+use Rattle.rustc_lexer.specs.Relexing.{IsMadeOf, IsUnderWay, TakesSteps, is_over}
 use Rattle.rustc_lexer.specs.Tokens.{tokens_by}
 use Rattle.rustc_lexer.proofs.lemmas.tokens.Buffers.{none_written, one_written}
-use Rattle.rustc_lexer.proofs.lemmas.edits.Steps.{IsStepTo, step_of, next_left, no_step, step_more}
+use Rattle.rustc_lexer.proofs.lemmas.edits.Steps.{next_left, no_step, step_more}
 use Rattle.rustc_lexer.proofs.lemmas.edits.UnderWay.{left_at}
 use Rattle.rustc_lexer.proofs.relex.relexing.Relexing.fill.Goals as goal
 
@@ -25,17 +25,16 @@ places-preserved g c =
     let at = c.places.self in
     let past = c.next.new.self in
     let token = c.in-Some.token in
-    let own = step_of (g.S.Stepper.law c.places.stepper) text is c.args.change.new_stop _ at token _ past inv.may_go_on.boundary c.in-Some.ensures.step in
-    let step : IsStepTo first text c.args.change.new_stop at token past = subst (λ (f : List ℕ → Token). IsStepTo f text c.args.change.new_stop at token past) inv.grammar own in
+    let step = subst (λ (f : List ℕ → Token). (token ≡ f (drop at.at text)) × TakesSteps f text c.args.change.new_stop at 1 past) inv.grammar (c.in-Some.ensures.step.0, c.in-Some.ensures.step.1) in
     let boundary = c.requires.may_go_on.boundary in
     record {
       may_go_on = c.in-Some.ensures.may_go_on;
       grammar = c.in-Some.ensures.grammar ∙ inv.grammar;
       number = c.in-Some.ensures.number ∙ inv.number;
       count = omega (arith, c.in-Some.ensures.step.2, inv.count);
-      steps = step_more law text is c.args.change.new_stop begin at boundary c.places.count inv.steps token past step;
+      steps = step_more law is c.args.change.new_stop begin boundary inv.steps step.1;
       written = one_written g.R.FromToken.written (tokens_by first (drop begin.at text)) _ c.args.buffer.now c.places.buffer c.places.count token inv.written
-          (next_left law text is c.args.change.new_stop begin at boundary c.places.count inv.steps token past step) (let less = c.places-test.true in omega arith) c.from_token.result c.from_token.ensures;
+          (next_left law is c.args.change.new_stop begin boundary inv.steps step.0 step.1.inside) (let less = c.places-test.true in omega arith) c.from_token.result c.from_token.ensures;
       begins = λ _. elim (cases_lt 0 c.places.count) [
         | inl some ↦ inv.begins some
         | inr none ↦ (let e : c.places.count ≡ 0 = omega arith in ap (is_over text) (sym (inv.steps.none e)) ∙ c.in-Some.ensures.step.3)

@@ -40,19 +40,9 @@ returns-clause-step g c =
     let may = c.requires.may_go_on in
     let law = g.S.Stepper.law c.args.stepper.now in
     let token = c.step-token.ensures.token ∙ ap (g.S.Stepper.grammar c.args.stepper.now) c.range_from.ensures.value in
-    let more = (not_over c.args.self.now.met c.args.self.now.at (length c.args.text.now) may.boundary.0 (sym c.is_over.ensures.over ∙ c.if-is_over.false)).1 in
-    let step = step_offset law c.args.text.now c.args.self.now.at c.step-token.result is may.boundary more token in (
+    let more = (not_over c.args.self.now.met c.args.self.now.at (length c.args.text.now) may.boundary.0 (sym c.is_over.ensures.over ∙ c.if-is_over.false)).1 in (
       token,
-      one_step law c.args.text.now is c.args.change.new_stop c.args.self.now c.step-token.result _ may.boundary record {
-        token_is = token;
-        inside = more;
-        not_empty = step.0;
-        front = refl;
-        lexed = refl;
-        offset = refl;
-        same_back = λ less. c.follow-to.ensures.stays (rw c.damage.ensures less);
-        not_met = λ less. c.follow-to.ensures.early (rw c.damage.ensures less);
-      },
+      one_step law is c.args.change.new_stop c.args.self.now may.boundary token more refl refl refl (λ less. c.follow-to.ensures.stays (rw c.damage.ensures less)) (λ less. c.follow-to.ensures.early (rw c.damage.ensures less)),
       c.step-token.ensures.count,
       sym c.is_over.ensures.over ∙ c.if-is_over.false,
     )
