@@ -125,7 +125,7 @@ KINDS = [
     (f"{LEXER}/src/token.rt", 'TokenKind::Tilde => (26, "Tilde"),\n', "", "Tilde has no number"),
     (f"{SPECS}/Kinds.antt", "kind_entry Whitespace = (3,", "kind_entry Whitespace = (4,", "Whitespace has another number in token.rt"),
     (f"{SPECS}/means.antt", "pub mod BlockComment\n", "", "specs/means.antt is not as token.rt or the files"),
-    ("crates/lexdump_run/src/listing.rt", 'push_field(lines, output, "terminated", flag_name(terminated))\n        }\n        TokenKind', 'push_field(lines, output, "ended", flag_name(terminated))\n        }\n        TokenKind', "listing.rt is not as token.rt"),
+    ("crates/lexdump_run/src/listing.rt", 'push_field(lines, "terminated", flag_name(terminated))\n        }\n        TokenKind', 'push_field(lines, "ended", flag_name(terminated))\n        }\n        TokenKind', "listing.rt is not as token.rt"),
     (HEADER, "RUSTC_LEXER_CHAR = 3", "RUSTC_LEXER_CHAR = 4", f"{HEADER} is not as token.rt"),
     (HEADER, "        uint8_t n_hashes;", "        uint8_t planted;", f"{HEADER}: n_hashes is not at byte 2"),
     (HEADER, "        uint8_t n_hashes;", "        uint8_t planted;", f"{HEADER}: no kind has planted at byte 2"),

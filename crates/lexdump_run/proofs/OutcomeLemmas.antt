@@ -1,18 +1,19 @@
 -- How a run ends, by what was read and what was listed.
-use Rattle.std.proofs.Common.{◌≡◌, ◌≢◌, ℕ, ◌<◌, ◌^◌, List, [], ◌++◌, length, sym, arith, subst, Option, Result, Ok, Err}
+use Rattle.std.proofs.Common.{◌≡◌, ℕ, ◌<◌, ◌^◌, List, [], ◌++◌, length, sym, arith, subst, ap, ◌∙◌, append-nil, Option, Result, Ok, Err}
 use Rattle.std.proofs.lemmas.Grind.{common_steps}
-use Rattle.std.specs.Prelude.{IfSome, IfErr, OnOk, OnErr}
+use Rattle.std.specs.Prelude.{IfSome, OnErr, OnOk}
 use Rattle.std.specs.Str.{IsUtf8}
-use Rattle.std.specs.Io.KnownBytes.{Appends, Keeps}
-use Rattle.ends.specs.Known.{AppendsFront, Went}
+use Rattle.std.specs.Io.KnownBytes.{Appends}
+use Rattle.ends.specs.Known.{AppendsFront}
 use Rattle.ends.specs.Run.{IsInputFault}
-use Rattle.ends.proofs.KnownLemmas.{appends-more, front_more, keeps_same}
+use Rattle.ends.proofs.KnownLemmas.{keeps_same}
 use Rattle.rustc_lexer.specs.Classes.{IsText}
 use Rattle.ends.specs.declared.fault.Fault.{Fault}
-use Rattle.ends.specs.declared.fault.Fault.TheVariants.{Write}
 use Rattle.lexdump_run.specs.declared.job.Job.{Job}
+use Rattle.lexdump_run.specs.declared.output.BlockWriter.{BlockWriter}
 use Rattle.lexdump_run.specs.Outcome.{Ends}
-use Rattle.lexdump_run.specs.Pushed.{Lists}
+use Rattle.lexdump_run.specs.Pushed.{held, Lists, Pushes}
+use Rattle.lexdump_run.proofs.PushLemmas.{pushes_both}
 
 -- no text was read
 pub ends_unread : (job : Job) (known old : Option (List ℕ)) (fault : Fault) → IsInputFault known fault → IfSome known (λ bytes. Ends job bytes old old (Err fault))
@@ -22,25 +23,26 @@ ends_unread job known old fault is = grind (arith, common_steps, keeps_same)
 text_known : (P : List ℕ → Type 0) (known : Option (List ℕ)) (text : List ℕ) → IfSome known (λ bytes. text ≡ bytes) → P text → IfSome known P
 text_known P known text w3 w4 = grind (arith, common_steps)
 
-module _ (job : Job) (known : Option (List ℕ)) (text : List ℕ) (old mid : Option (List ℕ)) (held left : List ℕ) where
-  pub silent_unlisted : (fault : Fault) → Lists job text old mid held left (Err fault) → fault ≢ Write → Keeps old mid
-  silent_unlisted fault p other = grind (arith, common_steps)
+-- the bytes that the output took
+abbrev pub written : {W : Type 0} → (W → Option (List ℕ)) → BlockWriter W → Option (List ℕ)
+written contents writer = contents writer.output.now.inner
 
-  module _ (is : IfSome known (λ bytes. text ≡ bytes)) (utf8 : IsUtf8 text) (fits : length text < 2 ^ 32) (none : held ≡ []) where
-    -- listing stopped
-    pub ends_unlisted : (fault : Fault) → Lists job text old mid held left (Err fault) → IfSome known (λ bytes. Ends job bytes old mid (Err fault))
-    ends_unlisted fault p = grind (arith, common_steps, text_known)
+-- bytes that were pushed to an empty block, which is then written out
+module _ {W : Type 0} (contents : W → Option (List ℕ)) (start end : BlockWriter W) (none : held start ≡ []) (made : List ℕ) where
+  pushed_out : (result : Result (Unit {0}) Fault) → Pushes contents start end made result → OnOk result (held end ≡ []) → OnOk result (Appends (written contents start) (written contents end) made) × OnErr result (AppendsFront (written contents start) (written contents end) made)
+  pushed_out (Ok done) p empty = (subst (λ (xs : List ℕ). Appends (written contents start) (written contents end) xs) (sym (ap (λ xs. xs ++ made) (sym none) ∙ p.ok.whole ∙ ap (λ xs. p.ok.front ++ xs) empty ∙ append-nil p.ok.front)) p.ok.grew, tt)
+  pushed_out (Err fault) p empty = (tt, subst (λ (xs : List ℕ). AppendsFront (written contents start) (written contents end) (xs ++ made)) none p.err)
 
-    -- all was listed, and what is held is written at the end
-    pub ends_listed : (new : Option (List ℕ)) (result : Result (Unit {0}) Fault) → Lists job text old mid held left (Ok tt)
-        → IfErr result (λ fault. fault ≡ Write) → OnOk result (Appends mid new left) → OnErr result (AppendsFront mid new left) → IfSome known (λ bytes. Ends job bytes old new result)
-    ends_listed new result p only ok err =
-        let it : IsText text = record { utf8 = utf8; fits = fits } in
-        let w : Went old mid p.0 left = subst (λ (xs : List ℕ). Went old mid (xs ++ p.0) left) none p.2 in
-        text_known (λ bytes. Ends job bytes old new result) known text is (grind (arith, common_steps, appends-more, front_more old mid new w.front left p.0 (sym w.whole) w.grew))
+  -- all went out, or where a write failed a beginning
+  pub finished : (mid : BlockWriter W) (old new : Option (List ℕ)) (result : Result (Unit {0}) Fault) → written contents start ≡ old → written contents end ≡ new → Pushes contents start mid made (Ok tt) → Pushes contents mid end [] result → OnOk result (held end ≡ [])
+      → OnOk result (Appends old new made) × OnErr result (AppendsFront old new made)
+  finished mid old new result e f p q empty = rw (← e, ← f) (pushed_out result (pushes_both contents start mid end made [] made result (sym (append-nil made)) p q) empty)
 
--- what went out, and then what is held, are the bytes; where the end fails a beginning of them went out
-pub front_written : (old mid new : Option (List ℕ)) (held bytes left : List ℕ) (result : Result (Unit {0}) Fault) → held ≡ [] → Went old mid (held ++ bytes) left → OnErr result (AppendsFront mid new left) → OnErr result (AppendsFront old new bytes)
-front_written old mid new held bytes left result none went err =
-    let w : Went old mid bytes left = subst (λ (xs : List ℕ). Went old mid (xs ++ bytes) left) none went in
-    grind (arith, common_steps, front_more old mid new w.front left bytes (sym w.whole) w.grew)
+-- all was listed, and what is held is written at the end
+pub ends_listed : {W : Type 0} (contents : W → Option (List ℕ)) (job : Job) (known : Option (List ℕ)) (text : List ℕ) (start mid end : BlockWriter W) (old new : Option (List ℕ)) (result : Result (Unit {0}) Fault)
+    → IfSome known (λ bytes. text ≡ bytes) → IsUtf8 text → length text < 2 ^ 32 → held start ≡ [] → written contents start ≡ old → written contents end ≡ new → Lists contents job text start mid (Ok tt) → Pushes contents mid end [] result → OnOk result (held end ≡ [])
+    → IfSome known (λ bytes. Ends job bytes old new result)
+ends_listed contents job known text start mid end old new result is utf8 fits none e f p q empty =
+    let out = finished contents start end none p.0 mid old new result e f p.2 q empty in
+    let it : IsText text = record { utf8 = utf8; fits = fits } in
+    text_known (λ bytes. Ends job bytes old new result) known text is (grind (arith, common_steps, q.only, out))

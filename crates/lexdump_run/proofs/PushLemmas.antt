@@ -1,52 +1,84 @@
 -- Bytes that are pushed, one after another.
 use Rattle.std.proofs.Common.{◌≡◌, ℕ, List, [], ◌++◌, refl, sym, ap, ◌∙◌, append_assoc, append-nil, subst, Option, Result, Ok, Err, arith}
 use Rattle.std.proofs.lemmas.Grind.{common_steps}
+use Rattle.std.specs.Prelude.{OnOk}
 use Rattle.std.specs.Result.{IsErrAnd}
 use Rattle.std.specs.Io.KnownBytes.{Appends}
-use Rattle.ends.specs.Known.{AppendsFront, Went}
 use Rattle.ends.proofs.KnownLemmas.{appends-none, appends-more, front_first, front_more}
+use Rattle.ends.specs.Known.{Went}
 use Rattle.ends.specs.declared.fault.Fault.{Fault}
-use Rattle.ends.specs.declared.fault.Fault.TheVariants.{Write}
-use Rattle.lexdump_run.specs.Pushed.{Pushes}
+use Rattle.lexdump_run.specs.declared.output.BlockWriter.{BlockWriter}
+use Rattle.lexdump_run.specs.Pushed.{held, Pushes}
 
--- nothing went out yet, and all is to come
-pub went_none : (old : Option (List ℕ)) (held all to_come : List ℕ) → to_come ≡ all → Went old old (held ++ all) (held ++ to_come)
-went_none old held all to_come e = record { front = []; whole = ap (λ xs. held ++ xs) (sym e); grew = appends-none old }
+-- bytes are written past a block that holds none
+pub went_past : (old new : Option (List ℕ)) (none bytes : List ℕ) (result : Result (Unit {0}) Fault) → none ≡ [] → OnOk result (Appends old new bytes) → OnOk result (Went old new (none ++ bytes) none)
+went_past old new none bytes (Ok done) e a = record { front = bytes; whole = grind (arith, common_steps, append-nil); grew = a }
+went_past old new none bytes (Err fault) e a = tt
 
--- nothing is to come behind what is held
-pub went_all : (old new : Option (List ℕ)) (all held to_come : List ℕ) → Went old new all (held ++ to_come) → to_come ≡ [] → Went old new all held
-went_all old new all held to_come w e = subst (λ (xs : List ℕ). Went old new all xs) (ap (λ xs. held ++ xs) e ∙ append-nil held) w
+-- some of the bytes were pushed since `start`, and the rest is to come
+pub record Pushing {W : Type 0} (contents : W → Option (List ℕ)) (start now : BlockWriter W) (all rest : List ℕ) : Type 0 where
+  pub done : List ℕ
+  pub whole : all ≡ done ++ rest
+  pub pushed : Pushes contents start now done (Ok tt)
 
--- what is held, and the first of what is to come, are pushed
-module _ (old mid new : Option (List ℕ)) (all held to_come first rest : List ℕ) (at : Went old mid all (held ++ to_come)) (e : to_come ≡ first ++ rest) where
-  parted : all ≡ at.front ++ ((held ++ first) ++ rest)
-  parted = at.whole ∙ ap (λ xs. at.front ++ xs) (ap (λ xs. held ++ xs) e ∙ sym (append_assoc held first rest))
+module _ {W : Type 0} (contents : W → Option (List ℕ)) where
+  went_both : (old mid new : Option (List ℕ)) (xs middle last ys : List ℕ) → Went old mid xs middle → Went mid new (middle ++ ys) last → Went old new (xs ++ ys) last
+  went_both old mid new xs middle last ys p q = record {
+    front = p.front ++ q.front;
+    whole = grind (arith, common_steps, append_assoc, p.whole, q.whole);
+    grew = appends-more old mid new p.front q.front p.grew q.grew;
+  }
 
-  pub went_first : (left : List ℕ) → Went mid new (held ++ first) left → Went old new all (left ++ rest)
-  went_first left v = grind (arith, common_steps, parted, append_assoc, appends-more)
+  -- two pushes in a row
+  pub pushes_both : (old mid new : BlockWriter W) (one two bytes : List ℕ) (result : Result (Unit {0}) Fault) → bytes ≡ one ++ two → Pushes contents old mid one (Ok tt) → Pushes contents mid new two result → Pushes contents old new bytes result
+  pushes_both old mid new one two bytes (Ok done) e p q = record {
+    same_output = q.same_output ∙ p.same_output;
+    failed = grind (arith, common_steps, p.failed, q.failed);
+    only = tt;
+    ok = subst (λ (xs : List ℕ). Went (contents old.output.now.inner) (contents new.output.now.inner) xs (held new)) (append_assoc (held old) one two ∙ ap (λ xs. held old ++ xs) (sym e)) (went_both _ _ _ _ _ _ _ p.ok q.ok);
+    err = tt;
+  }
+  pushes_both old mid new one two bytes (Err fault) e p q = record {
+    same_output = q.same_output ∙ p.same_output;
+    failed = grind (arith, common_steps, p.failed, q.failed);
+    only = q.only;
+    ok = tt;
+    err = front_more _ _ _ p.ok.front (held mid ++ two) _ (grind (arith, common_steps, append_assoc, p.ok.whole, e)) p.ok.grew q.err;
+  }
 
-  pub front_stopped : AppendsFront mid new (held ++ first) → AppendsFront old new all
-  front_stopped f = front_more old mid new at.front ((held ++ first) ++ rest) all (sym parted) at.grew (front_first mid new (held ++ first) rest _ refl f)
+  -- a push that fails before all is pushed
+  pub pushes_first : (old new : BlockWriter W) (one two bytes : List ℕ) (fault : Fault) (result : Result (Unit {0}) Fault) → bytes ≡ one ++ two → Pushes contents old new one (Err fault) → IsErrAnd result (λ y. y ≡ fault) → Pushes contents old new bytes result
+  pushes_first old new one two bytes fault (Ok done) e p is = elim is [ ]
+  pushes_first old new one two bytes fault (Err _) e p is = record {
+    same_output = p.same_output;
+    failed = p.failed;
+    only = is ∙ p.only;
+    ok = tt;
+    err = front_first _ _ (held old ++ one) two _ (append_assoc (held old) one two ∙ ap (λ xs. held old ++ xs) (sym e)) p.err;
+  }
 
--- a push that fails before all is pushed
-pub pushes_stopped : (old mid new : Option (List ℕ)) (start end bytes held to_come first rest : List ℕ) (fault : Fault) (result : Result (Unit {0}) Fault)
-    → Went old mid (start ++ bytes) (held ++ to_come) → to_come ≡ first ++ rest → (fault ≡ Write) × AppendsFront mid new (held ++ first) → IsErrAnd result (λ y. y ≡ fault) → Pushes old new start end bytes result
-pushes_stopped old mid new start end bytes held to_come first rest fault result at e p is = grind (arith, common_steps, front_stopped old mid new (start ++ bytes) held to_come first rest at e p.1)
+  -- no bytes are pushed
+  pushes_none : (old : BlockWriter W) → Pushes contents old old [] (Ok tt)
+  pushes_none old = record { same_output = refl; failed = grind (arith, common_steps); only = tt; ok = record { front = []; whole = append-nil (held old); grew = appends-none _ }; err = tt }
 
-pub pushes_first : (old new : Option (List ℕ)) (held left one two bytes : List ℕ) (fault : Fault) (result : Result (Unit {0}) Fault)
-    → bytes ≡ one ++ two → (fault ≡ Write) × AppendsFront old new (held ++ one) → IsErrAnd result (λ y. y ≡ fault) → Pushes old new held left bytes result
-pushes_first old new held left one two bytes fault result e p is = grind (arith, common_steps, pushes_stopped, went_none)
+  -- nothing was pushed yet
+  pub pushing_none : (start : BlockWriter W) (all rest : List ℕ) → rest ≡ all → Pushing contents start start all rest
+  pushing_none start all rest e = record { done = []; whole = sym e; pushed = pushes_none start }
 
--- two pushes in a row
-pub pushes_both : (old mid new : Option (List ℕ)) (held between left one two bytes : List ℕ) (result : Result (Unit {0}) Fault) → bytes ≡ one ++ two → Pushes old mid held between one (Ok tt) → Pushes mid new between left two result → Pushes old new held left bytes result
-pushes_both old mid new held between left one two bytes (Ok done) e p q =
-    went_all old new (held ++ bytes) left []
-    (went_first old mid new (held ++ bytes) between two two [] (went_first old old mid (held ++ bytes) held bytes one two (went_none old held bytes bytes refl) e between p) (sym (append-nil two)) left q) refl
-pushes_both old mid new held between left one two bytes (Err fault) e p q =
-    (q.0, front_stopped old mid new (held ++ bytes) between two two [] (went_first old old mid (held ++ bytes) held bytes one two (went_none old held bytes bytes refl) e between p) (sym (append-nil two)) q.1)
+  module _ (start mid new : BlockWriter W) (all to_come first rest : List ℕ) (at : Pushing contents start mid all to_come) (e : to_come ≡ first ++ rest) where
+    parted : all ≡ (at.done ++ first) ++ rest
+    parted = at.whole ∙ (ap (λ xs. at.done ++ xs) e ∙ sym (append_assoc at.done first rest))
 
--- what is held is written, and then the bytes themselves
-pub pushes_past : (old mid new : Option (List ℕ)) (held left bytes : List ℕ) → Appends old mid held → left ≡ [] → Appends mid new bytes → Pushes old new held left bytes (Ok tt)
-pushes_past old mid new held left bytes a e b = grind (arith, common_steps, append-nil, appends-more)
+    -- the first of what is to come is pushed
+    pub pushing_first : Pushes contents mid new first (Ok tt) → Pushing contents start new all rest
+    pushing_first p = record { done = at.done ++ first; whole = parted; pushed = pushes_both start mid new at.done first _ _ refl at.pushed p }
+
+    -- or pushing it fails
+    pub pushing_stopped : (fault : Fault) (result : Result (Unit {0}) Fault) → Pushes contents mid new first (Err fault) → IsErrAnd result (λ y. y ≡ fault) → Pushes contents start new all result
+    pushing_stopped fault result p is = pushes_first start new (at.done ++ first) rest all fault result parted (pushes_both start mid new at.done first _ _ refl at.pushed p) is
+
+  -- nothing is to come
+  pub pushing_all : (start new : BlockWriter W) (all rest : List ℕ) → Pushing contents start new all rest → rest ≡ [] → Pushes contents start new all (Ok tt)
+  pushing_all start new all rest at e = subst (λ (xs : List ℕ). Pushes contents start new xs (Ok tt)) (sym (at.whole ∙ (ap (λ xs. at.done ++ xs) e ∙ append-nil at.done))) at.pushed
 
 pub ruleset push_lemmas = (append-nil)

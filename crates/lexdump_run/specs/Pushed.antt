@@ -1,25 +1,34 @@
--- The effect of writing bytes through a buffer, which may still hold some.
-use Rattle.std.specs.Prelude.{ℕ, ◌≡◌, List, ◌++◌, Option, Result, Ok, Err}
-use Rattle.std.specs.Io.KnownBytes.{Keeps}
+-- The effect of writing bytes through a writer that may hold some back.
+use Rattle.std.specs.Prelude.{ℕ, ◌≡◌, ◌||◌, List, ◌++◌, take, Option, Result, Ok, Err, is_err, IfErr, OnErr, OnOk}
 use Rattle.ends.specs.Known.{AppendsFront, Went}
+use Rattle.ends.specs.Watch.{has_failed}
 use Rattle.ends.specs.declared.fault.Fault.{Fault}
 use Rattle.ends.specs.declared.fault.Fault.TheVariants.{Write}
 use Rattle.lexdump_run.specs.declared.job.Job.{Job}
+use Rattle.lexdump_run.specs.declared.output.BlockWriter.{BlockWriter}
 use Rattle.lexdump_run.specs.Outcome.{edits_of, IsPrinted, IsRefused}
 
--- more bytes are added after those that the buffer holds. What was written of them all, and what
--- the buffer holds afterwards, are all of them in order. If a write failed, a prefix of them all
--- was written
-abbrev pub Pushes : Option (List ℕ) → Option (List ℕ) → List ℕ → List ℕ → List ℕ
-    → Result (Unit {0}) Fault → Type 0
-Pushes old new held left bytes (Ok done) = Went old new (held ++ bytes) left
-Pushes old new held left bytes (Err fault) = (fault ≡ Write) × AppendsFront old new (held ++ bytes)
+-- the bytes that are not written yet
+abbrev pub held : {W : Type 0} → BlockWriter W → List ℕ
+held writer = take writer.len writer.bytes
 
--- what is printed goes through the buffer; or the edits are not made, and nothing was written
-abbrev pub Lists : Job → List ℕ → Option (List ℕ) → Option (List ℕ) → List ℕ → List ℕ
-    → Result (Unit {0}) Fault → Type 0
-Lists job text old new held left (Ok done) =
-    (made : List ℕ) × IsPrinted job text made × Pushes old new held left made (Ok done)
-Lists job text old new held left (Err Write) =
-    (made : List ℕ) × IsPrinted job text made × Pushes old new held left made (Err Write)
-Lists job text old new held left (Err fault) = IsRefused text (edits_of job) fault × Keeps old new
+-- more bytes are added after those that are held. What was written to the same output, and what
+-- is held afterwards, are all of them in order. If a write failed, a prefix of them all was written
+pub record Pushes {W : Type 0} (contents : W → Option (List ℕ)) (old new : BlockWriter W)
+    (bytes : List ℕ) (result : Result (Unit {0}) Fault) : Type 0 where
+  pub same_output : new.output.ghost_name ≡ old.output.ghost_name
+  pub failed : has_failed new.output.now ≡ (has_failed old.output.now || is_err result)
+  pub only : IfErr result (λ fault. fault ≡ Write)
+  pub ok : OnOk result (Went (contents old.output.now.inner) (contents new.output.now.inner)
+      (held old ++ bytes) (held new))
+  pub err : OnErr result (AppendsFront (contents old.output.now.inner)
+      (contents new.output.now.inner) (held old ++ bytes))
+
+-- what is printed goes through the writer; or the edits are not made, and nothing was written
+abbrev pub Lists : {W : Type 0} → (W → Option (List ℕ)) → Job → List ℕ → BlockWriter W
+    → BlockWriter W → Result (Unit {0}) Fault → Type 0
+Lists contents job text old new (Ok done) =
+    (made : List ℕ) × IsPrinted job text made × Pushes contents old new made (Ok done)
+Lists contents job text old new (Err Write) =
+    (made : List ℕ) × IsPrinted job text made × Pushes contents old new made (Err Write)
+Lists contents job text old new (Err fault) = IsRefused text (edits_of job) fault × (new ≡ old)

@@ -13,7 +13,7 @@ ghost use Rattle.rustc_lexer.specs.LanguageText.{mode_in, part};
 ghost use Rattle.rustc_lexer.specs.Answers.{shebang};
 ghost use Rattle.rustc_lexer.specs.Tokens.{bound, tokens_of};
 
-use crate::output::Block;
+use crate::output::BlockWriter;
 use ends::{Fault, Watched};
 use itoa::{Buffer, write_digits};
 use rustc_lexer::{
@@ -31,7 +31,6 @@ const BUFFER_LEN: usize = 256;
 /// # Errors
 ///
 /// `Fault::Write` if a write or the flush failed. The output has taken a beginning of the lines.
-#[tactic(auto, using(crate::proofs::OutcomeLemmas::front_written, std::proofs::lemmas::Grind::common_steps))]
 pub fn write_listing<W: Write>(
     output: &mut Watched<W>,
     start: u32,
@@ -47,25 +46,21 @@ pub fn write_listing<W: Write>(
     ensures front { OnErr result (AppendsFront (W.contents output.old.inner)
         (W.contents output.new.inner) (listing_from start tokens.now)) }
 {
-    let mut lines = Block::new();
-    push_lines(&mut lines, output, start, tokens)?;
-    lines.finish(output)
+    let mut lines = BlockWriter::new(output);
+    push_lines(&mut lines, start, tokens)?;
+    lines.finish()
 }
 
 /// Lists the tokens of a text in an edition. The text may have at most `u32::MAX` bytes.
-#[tactic(auto, using(crate::proofs::PushLemmas::went_none, crate::proofs::PushLemmas::went_all, crate::proofs::ListingLemmas::none_left, crate::proofs::ListingLemmas::buffer_fits, std::proofs::lemmas::Grind::common_steps))]
+#[tactic(auto, using(crate::proofs::PushLemmas::pushing_none, crate::proofs::PushLemmas::pushing_all, crate::proofs::ListingLemmas::none_left, crate::proofs::ListingLemmas::buffer_fits, std::proofs::lemmas::Grind::common_steps))]
 pub fn list_tokens<W: Write>(
-    lines: &mut Block,
-    output: &mut Watched<W>,
+    lines: &mut BlockWriter<'_, W>,
     text: &str,
     frontmatter_allowed: FrontmatterAllowed,
     edition: Edition,
 ) -> Result<(), Fault>
-    requires fits { Fits text.now }
-    requires writes { has_failed output.old ≡ false }
-    ensures failed { has_failed output.new ≡ is_err result }
-    ensures pushed { Pushes (W.contents output.old.inner) (W.contents output.new.inner)
-        lines.old lines.new
+    requires { Fits text.now }
+    ensures { Pushes W.contents lines.old lines.new
         (listing (tokens_of (mode_in frontmatter_allowed edition) text.now)) result }
 {
     let mut buffer = [Token {
@@ -76,28 +71,24 @@ pub fn list_tokens<W: Write>(
     'left: while !tokens.as_str().is_empty() {
         let start = text.len() - tokens.as_str().len();
         let count = tokens.fill(&mut buffer);
-        push_lines(lines, output, start as u32, &buffer[..count])?;
+        push_lines(lines, start as u32, &buffer[..count])?;
     }
     Ok(())
 }
 
 /// Adds the lines of the tokens, the first of which begins at byte `start`.
-#[tactic(auto, using(crate::proofs::PushLemmas::went_none, crate::proofs::PushLemmas::went_all, std::proofs::lemmas::Grind::common_steps))]
+#[tactic(auto, using(crate::proofs::PushLemmas::pushing_none, crate::proofs::PushLemmas::pushing_all, std::proofs::lemmas::Grind::common_steps))]
 fn push_lines<W: Write>(
-    lines: &mut Block,
-    output: &mut Watched<W>,
+    lines: &mut BlockWriter<'_, W>,
     start: u32,
     tokens: &[Token],
 ) -> Result<(), Fault>
-    requires fits { start + bound tokens.now (length tokens.now) < 2 ^ 32 }
-    requires writes { has_failed output.old ≡ false }
-    ensures failed { has_failed output.new ≡ is_err result }
-    ensures pushed { Pushes (W.contents output.old.inner) (W.contents output.new.inner)
-        lines.old lines.new (listing_from start tokens.now) result }
+    requires { start + bound tokens.now (length tokens.now) < 2 ^ 32 }
+    ensures { Pushes W.contents lines.old lines.new (listing_from start tokens.now) result }
 {
     let mut place = start;
     for token in tokens {
-        push_line(lines, output, place, *token)?;
+        push_line(lines, place, *token)?;
         place += token.len;
     }
     Ok(())
@@ -105,23 +96,16 @@ fn push_lines<W: Write>(
 
 /// Prints the length of the shebang line of a text.
 #[tactic(auto, using(crate::proofs::PushLemmas::pushes_both, crate::proofs::PushLemmas::pushes_first, std::proofs::lemmas::Grind::common_steps))]
-pub fn tell_shebang<W: Write>(
-    lines: &mut Block,
-    output: &mut Watched<W>,
-    text: &str,
-) -> Result<(), Fault>
-    requires fits { Fits text.now }
-    requires writes { has_failed output.old ≡ false }
-    ensures failed { has_failed output.new ≡ is_err result }
-    ensures pushed { Pushes (W.contents output.old.inner) (W.contents output.new.inner)
-        lines.old lines.new (shebang_line (shebang text.now)) result }
+pub fn tell_shebang<W: Write>(lines: &mut BlockWriter<'_, W>, text: &str) -> Result<(), Fault>
+    requires { Fits text.now }
+    ensures { Pushes W.contents lines.old lines.new (shebang_line (shebang text.now)) result }
 {
     match strip_shebang(text) {
         Some(length) => {
-            lines.push_number(output, length)?;
-            lines.push(output, "\n")
+            lines.push_number(length)?;
+            lines.push("\n")
         }
-        None => lines.push(output, "none\n"),
+        None => lines.push("none\n"),
     }
 }
 
@@ -156,39 +140,31 @@ fn stop_fault(stop: EditStop) -> Fault
 }
 
 /// Lists the tokens of a lexed text.
-#[tactic(auto, using(crate::proofs::PushLemmas::went_none, crate::proofs::PushLemmas::went_first, crate::proofs::PushLemmas::went_all, crate::proofs::ListingLemmas::listing_lemmas, std::proofs::lemmas::Grind::common_steps))]
+#[tactic(auto, using(crate::proofs::PushLemmas::pushing_none, crate::proofs::PushLemmas::pushing_all, crate::proofs::ListingLemmas::listing_lemmas, std::proofs::lemmas::Grind::common_steps))]
 pub fn list_pieces<W: Write, S: Stepper>(
-    lines: &mut Block,
-    output: &mut Watched<W>,
+    lines: &mut BlockWriter<'_, W>,
     lexed: &LexedText<S>,
 ) -> Result<(), Fault>
-    requires writes { has_failed output.old ≡ false }
-    ensures failed { has_failed output.new ≡ is_err result }
-    ensures pushed { Pushes (W.contents output.old.inner) (W.contents output.new.inner)
-        lines.old lines.new (listing lexed.now.tokens) result }
+    ensures { Pushes W.contents lines.old lines.new (listing lexed.now.tokens) result }
 {
     for piece in lexed.pieces() {
-        push_line(lines, output, piece.start, piece.token)?;
+        push_line(lines, piece.start, piece.token)?;
     }
     Ok(())
 }
 
 /// Adds the line of a token that begins at byte `start`.
 fn push_line<W: Write>(
-    lines: &mut Block,
-    output: &mut Watched<W>,
+    lines: &mut BlockWriter<'_, W>,
     start: u32,
     token: Token,
 ) -> Result<(), Fault>
-    requires writes { has_failed output.old ≡ false }
-    ensures failed { has_failed output.new ≡ is_err result }
-    ensures pushed { Pushes (W.contents output.old.inner) (W.contents output.new.inner)
-        lines.old lines.new (line_text start token) result }
+    ensures { Pushes W.contents lines.old lines.new (line_text start token) result }
 {
-    push_place(lines, output, start, token.len)?;
-    lines.push(output, token.kind.name())?;
-    push_fields(lines, output, token.kind)?;
-    lines.push(output, "\n")
+    push_place(lines, start, token.len)?;
+    lines.push(token.kind.name())?;
+    push_fields(lines, token.kind)?;
+    lines.push("\n")
 }
 
 /// The most bytes that a start, a length and a space after each take.
@@ -196,46 +172,31 @@ const PLACE: usize = 22;
 
 /// Adds the start and the length of a token, each with a space after it.
 #[tactic(auto, using(crate::proofs::PlaceLemmas::short, std::proofs::lemmas::Grind::common_steps))]
-fn push_place<W: Write>(
-    lines: &mut Block,
-    output: &mut Watched<W>,
-    start: u32,
-    len: u32,
-) -> Result<(), Fault>
-    requires writes { has_failed output.old ≡ false }
-    ensures failed { has_failed output.new ≡ is_err result }
-    ensures pushed { Pushes (W.contents output.old.inner) (W.contents output.new.inner)
-        lines.old lines.new (place_text start len) result }
+fn push_place<W: Write>(lines: &mut BlockWriter<'_, W>, start: u32, len: u32) -> Result<(), Fault>
+    ensures { Pushes W.contents lines.old lines.new (place_text start len) result }
 {
     // Digits are written from the last to the first.
     let mut place = [b' '; PLACE];
     let len_at = write_digits(u64::from(len), &mut place, PLACE - 1);
     let start_at = write_digits(u64::from(start), &mut place, len_at - 1);
-    lines.push_bytes(output, &place[start_at..])
+    lines.push_bytes(&place[start_at..])
 }
 
 /// Adds the fields of a kind.
 #[tactic(auto, using(crate::proofs::PushLemmas::pushes_both, crate::proofs::PushLemmas::pushes_first, std::proofs::lemmas::Grind::common_steps), unfolding(crate::specs::Listing::fields_text))]
-fn push_fields<W: Write>(
-    lines: &mut Block,
-    output: &mut Watched<W>,
-    kind: TokenKind,
-) -> Result<(), Fault>
-    requires writes { has_failed output.old ≡ false }
-    ensures failed { has_failed output.new ≡ is_err result }
-    ensures pushed { Pushes (W.contents output.old.inner) (W.contents output.new.inner)
-        lines.old lines.new (fields_text kind) result }
+fn push_fields<W: Write>(lines: &mut BlockWriter<'_, W>, kind: TokenKind) -> Result<(), Fault>
+    ensures { Pushes W.contents lines.old lines.new (fields_text kind) result }
 {
     match kind {
         TokenKind::LineComment { doc_style } => {
-            push_field(lines, output, "doc_style", style_name(doc_style))
+            push_field(lines, "doc_style", style_name(doc_style))
         }
         TokenKind::BlockComment {
             doc_style,
             terminated,
         } => {
-            push_field(lines, output, "doc_style", style_name(doc_style))?;
-            push_field(lines, output, "terminated", flag_name(terminated))
+            push_field(lines, "doc_style", style_name(doc_style))?;
+            push_field(lines, "terminated", flag_name(terminated))
         }
         TokenKind::Frontmatter {
             has_invalid_preceding_whitespace,
@@ -243,30 +204,18 @@ fn push_fields<W: Write>(
         } => {
             push_field(
                 lines,
-                output,
                 "has_invalid_preceding_whitespace",
                 flag_name(has_invalid_preceding_whitespace),
             )?;
-            push_field(
-                lines,
-                output,
-                "invalid_infostring",
-                flag_name(invalid_infostring),
-            )
+            push_field(lines, "invalid_infostring", flag_name(invalid_infostring))
         }
         TokenKind::Literal { kind, suffix_start } => {
-            push_literal(lines, output, kind)?;
+            push_literal(lines, kind)?;
             let mut buffer = Buffer::new();
-            push_field(
-                lines,
-                output,
-                "suffix_start",
-                buffer.format(suffix_start as usize),
-            )
+            push_field(lines, "suffix_start", buffer.format(suffix_start as usize))
         }
         TokenKind::Lifetime { starts_with_number } => push_field(
             lines,
-            output,
             "starts_with_number",
             flag_name(starts_with_number),
         ),
@@ -276,62 +225,45 @@ fn push_fields<W: Write>(
 
 /// Adds the kind of a literal and its fields.
 #[tactic(auto, using(crate::proofs::PushLemmas::pushes_both, crate::proofs::PushLemmas::pushes_first, std::proofs::lemmas::Grind::common_steps))]
-fn push_literal<W: Write>(
-    lines: &mut Block,
-    output: &mut Watched<W>,
-    kind: LiteralKind,
-) -> Result<(), Fault>
-    requires writes { has_failed output.old ≡ false }
-    ensures failed { has_failed output.new ≡ is_err result }
-    ensures pushed { Pushes (W.contents output.old.inner) (W.contents output.new.inner)
-        lines.old lines.new (literal_text kind) result }
+fn push_literal<W: Write>(lines: &mut BlockWriter<'_, W>, kind: LiteralKind) -> Result<(), Fault>
+    ensures { Pushes W.contents lines.old lines.new (literal_text kind) result }
 {
-    push_field(lines, output, "kind", kind.name())?;
-    push_literal_fields(lines, output, kind)
+    push_field(lines, "kind", kind.name())?;
+    push_literal_fields(lines, kind)
 }
 
 /// Adds the fields of the kind of a literal.
 #[tactic(auto, using(crate::proofs::PushLemmas::pushes_both, crate::proofs::PushLemmas::pushes_first, std::proofs::lemmas::Grind::common_steps), unfolding(crate::specs::Listing::literal_fields))]
 fn push_literal_fields<W: Write>(
-    lines: &mut Block,
-    output: &mut Watched<W>,
+    lines: &mut BlockWriter<'_, W>,
     kind: LiteralKind,
 ) -> Result<(), Fault>
-    requires writes { has_failed output.old ≡ false }
-    ensures failed { has_failed output.new ≡ is_err result }
-    ensures pushed { Pushes (W.contents output.old.inner) (W.contents output.new.inner)
-        lines.old lines.new (literal_fields kind) result }
+    ensures { Pushes W.contents lines.old lines.new (literal_fields kind) result }
 {
     match kind {
         LiteralKind::Int { base, empty_int } => {
-            push_field(lines, output, "base", base_name(base))?;
-            push_field(lines, output, "empty_int", flag_name(empty_int))
+            push_field(lines, "base", base_name(base))?;
+            push_field(lines, "empty_int", flag_name(empty_int))
         }
         LiteralKind::Float {
             base,
             empty_exponent,
         } => {
-            push_field(lines, output, "base", base_name(base))?;
-            push_field(lines, output, "empty_exponent", flag_name(empty_exponent))
+            push_field(lines, "base", base_name(base))?;
+            push_field(lines, "empty_exponent", flag_name(empty_exponent))
         }
-        LiteralKind::Char { terminated } | LiteralKind::Byte { terminated } => {
-            push_field(lines, output, "terminated", flag_name(terminated))
-        }
-        LiteralKind::Str { terminated }
+        LiteralKind::Char { terminated }
+        | LiteralKind::Byte { terminated }
+        | LiteralKind::Str { terminated }
         | LiteralKind::ByteStr { terminated }
         | LiteralKind::CStr { terminated } => {
-            push_field(lines, output, "terminated", flag_name(terminated))
+            push_field(lines, "terminated", flag_name(terminated))
         }
         LiteralKind::RawStr { n_hashes }
         | LiteralKind::RawByteStr { n_hashes }
         | LiteralKind::RawCStr { n_hashes } => {
             let mut buffer = Buffer::new();
-            push_field(
-                lines,
-                output,
-                "n_hashes",
-                hashes_name(&mut buffer, n_hashes),
-            )
+            push_field(lines, "n_hashes", hashes_name(&mut buffer, n_hashes))
         }
     }
 }
@@ -339,17 +271,13 @@ fn push_literal_fields<W: Write>(
 /// Adds a field: a space, its name, an equals sign and its value.
 #[tactic(auto, using(crate::proofs::PushLemmas::push_lemmas, std::proofs::lemmas::Grind::common_steps), unfolding(crate::specs::Listing::field))]
 fn push_field<W: Write>(
-    lines: &mut Block,
-    output: &mut Watched<W>,
+    lines: &mut BlockWriter<'_, W>,
     name: &str,
     value: &str,
 ) -> Result<(), Fault>
-    requires writes { has_failed output.old ≡ false }
-    ensures failed { has_failed output.new ≡ is_err result }
-    ensures pushed { Pushes (W.contents output.old.inner) (W.contents output.new.inner)
-        lines.old lines.new (field name.now value.now) result }
+    ensures { Pushes W.contents lines.old lines.new (field name.now value.now) result }
 {
-    lines.push_all(output, &[" ", name, "=", value])
+    lines.push_all(&[" ", name, "=", value])
 }
 
 /// Returns `true` or `false`.

@@ -1,44 +1,36 @@
 //! Output in blocks: collects bytes until a block is full, then writes it at once.
-ghost use Rattle.std.specs.Prelude.{◌≡◌, ◌+◌, ◌≤◌, ◌++◌, [], false, true, is_err, length, IfErr, IfOk, OnErr, OnOk};
+ghost use Rattle.std.specs.Prelude.{◌≡◌, ◌+◌, ◌≤◌, [], Ok, true, length, IfOk, OnErr, OnOk};
 ghost use Rattle.std.specs.Fmt.{decimal};
 ghost use Rattle.std.specs.List.{flat_map};
-ghost use Rattle.std.specs.Io.KnownBytes.{Appends};
-ghost use Rattle.ends.specs.Known.{AppendsFront};
-ghost use Rattle.ends.specs.Watch.{has_failed};
-ghost use Rattle.lexdump_run.specs.Pushed.{Pushes};
 
 use ends::{Fault, Watched, write_all, write_bytes};
 use itoa::Buffer;
 use std::io::Write;
-use std::marker::Model;
 
 /// The size of a block in bytes.
 const BLOCK: usize = 65536;
 
-/// The bytes that are not written yet, at most one block. They are stored in place, so nothing is
+/// A writer that holds back bytes, at most one block. They are stored in place, so nothing is
 /// allocated.
 #[derive(Drop)]
-pub struct Block {
+pub struct BlockWriter<'a, W> {
+    output: &'a mut Watched<W>,
     bytes: [u8; BLOCK],
     len: usize,
+    ghost fits: { len ≤ 65536 },
 }
 
-impl Model for Block {
-    ghost use Rattle.std.specs.Prelude.{ℕ, List, take, ◌≤◌};
+impl<'a, W: Write> BlockWriter<'a, W> {
+    ghost use Rattle.lexdump_run.specs.Pushed.{held, Pushes};
 
-    ghost Value = { List ℕ };
-
-    ghost view = { λ b. take b.len b.bytes };
-
-    ghost invariant = { λ b. b.len ≤ 65536 };
-}
-
-impl Block {
-    /// Makes an empty block.
-    pub fn new() -> Block
-        ensures { result ≡ [] }
+    /// Makes a writer that holds nothing.
+    pub fn new(output: &'a mut Watched<W>) -> BlockWriter<'a, W>
+        ensures same_output { result.output.ghost_name ≡ output.entry.ghost_name }
+        ensures output { result.output.now ≡ output.old }
+        ensures none { held result ≡ [] }
     {
-        Block {
+        BlockWriter {
+            output,
             bytes: [0; BLOCK],
             len: 0,
         }
@@ -46,61 +38,38 @@ impl Block {
 
     /// Adds a text. If it does not fit, the block is written first.
     #[inline]
-    pub fn push<W: Write>(&mut self, output: &mut Watched<W>, text: &str) -> Result<(), Fault>
-        requires writes { has_failed output.old ≡ false }
-        ensures failed { has_failed output.new ≡ is_err result }
-        ensures pushed { Pushes (W.contents output.old.inner) (W.contents output.new.inner)
-            self.old self.new text.now result }
+    pub fn push(&mut self, text: &str) -> Result<(), Fault>
+        ensures { Pushes W.contents self.old self.new text.now result }
     {
-        self.push_bytes(output, text.as_bytes())
+        self.push_bytes(text.as_bytes())
     }
 
     /// Adds texts, one after another.
-    #[tactic(auto, using(crate::proofs::PushLemmas::went_none, crate::proofs::PushLemmas::went_all, std::proofs::lemmas::Grind::common_steps))]
-    pub fn push_all<W: Write>(
-        &mut self,
-        output: &mut Watched<W>,
-        texts: &[&str],
-    ) -> Result<(), Fault>
-        requires writes { has_failed output.old ≡ false }
-        ensures failed { has_failed output.new ≡ is_err result }
-        ensures pushed { Pushes (W.contents output.old.inner) (W.contents output.new.inner)
-            self.old self.new (flat_map (λ text. text.now) texts.now) result }
+    #[tactic(auto, using(crate::proofs::PushLemmas::pushing_none, crate::proofs::PushLemmas::pushing_all, std::proofs::lemmas::Grind::common_steps))]
+    pub fn push_all(&mut self, texts: &[&str]) -> Result<(), Fault>
+        ensures { Pushes W.contents self.old self.new (flat_map (λ text. text.now) texts.now)
+            result }
     {
         for text in texts {
-            self.push(output, text)?;
+            self.push(text)?;
         }
         Ok(())
     }
 
     /// Adds a number in decimal.
-    pub fn push_number<W: Write>(
-        &mut self,
-        output: &mut Watched<W>,
-        number: usize,
-    ) -> Result<(), Fault>
-        requires writes { has_failed output.old ≡ false }
-        ensures failed { has_failed output.new ≡ is_err result }
-        ensures pushed { Pushes (W.contents output.old.inner) (W.contents output.new.inner)
-            self.old self.new (decimal number) result }
+    pub fn push_number(&mut self, number: usize) -> Result<(), Fault>
+        ensures { Pushes W.contents self.old self.new (decimal number) result }
     {
-        self.push(output, Buffer::new().format(number))
+        self.push(Buffer::new().format(number))
     }
 
     /// Adds bytes. If they do not fit, the block is written first.
     #[inline]
-    pub fn push_bytes<W: Write>(
-        &mut self,
-        output: &mut Watched<W>,
-        bytes: &[u8],
-    ) -> Result<(), Fault>
-        requires writes { has_failed output.old ≡ false }
-        ensures failed { has_failed output.new ≡ is_err result }
-        ensures pushed { Pushes (W.contents output.old.inner) (W.contents output.new.inner)
-            self.old self.new bytes.now result }
+    pub fn push_bytes(&mut self, bytes: &[u8]) -> Result<(), Fault>
+        ensures { Pushes W.contents self.old self.new bytes.now result }
     {
         if bytes.len() > BLOCK - self.len {
-            return self.push_past(output, bytes);
+            return self.push_past(bytes);
         }
         self.hold(bytes);
         Ok(())
@@ -109,17 +78,13 @@ impl Block {
     /// Writes the block, then adds the bytes. If they are more than a block they are written at
     /// once.
     #[inline(never)]
-    #[tactic(auto, using(ends::proofs::KnownLemmas::front_first, crate::proofs::PushLemmas::pushes_past, std::proofs::lemmas::Grind::common_steps))]
-    fn push_past<W: Write>(&mut self, output: &mut Watched<W>, bytes: &[u8]) -> Result<(), Fault>
-        requires writes { has_failed output.old ≡ false }
-        ensures failed { has_failed output.new ≡ is_err result }
-        ensures pushed { Pushes (W.contents output.old.inner) (W.contents output.new.inner)
-            self.old self.new bytes.now result }
+    #[tactic(auto, using(crate::proofs::PushLemmas::pushes_first, crate::proofs::PushLemmas::pushes_both, std::proofs::lemmas::Grind::common_steps))]
+    fn push_past(&mut self, bytes: &[u8]) -> Result<(), Fault>
+        ensures { Pushes W.contents self.old self.new bytes.now result }
     {
-        self.write_out(output)?;
+        self.write_out()?;
         if bytes.len() > BLOCK {
-            write_bytes(output, bytes)?;
-            return Ok(());
+            return write_bytes(self.output, bytes);
         }
         self.hold(bytes);
         Ok(())
@@ -128,8 +93,8 @@ impl Block {
     /// Adds bytes that fit.
     #[inline(always)]
     fn hold(&mut self, bytes: &[u8])
-        requires { length self.old + length bytes.now ≤ 65536 }
-        ensures { self.new ≡ self.old ++ bytes.now }
+        requires { self.old.len + length bytes.now ≤ 65536 }
+        ensures { Pushes W.contents self.old self.new bytes.now (Ok tt) }
     {
         let end = self.len + bytes.len();
         self.bytes[self.len..end].copy_from_slice(bytes);
@@ -137,40 +102,26 @@ impl Block {
     }
 
     /// Writes the block and empties it. On an error it stays as it was.
-    fn write_out<W: Write>(&mut self, output: &mut Watched<W>) -> Result<(), Fault>
-        requires writes { has_failed output.old ≡ false }
-        ensures failed { has_failed output.new ≡ is_err result }
-        ensures only { IfErr result (λ fault. fault ≡ Fault.Write) }
-        ensures ok { OnOk result
-            (Appends (W.contents output.old.inner) (W.contents output.new.inner) self.old) }
-        ensures empty { OnOk result (self.new ≡ []) }
-        ensures err { OnErr result
-            (AppendsFront (W.contents output.old.inner) (W.contents output.new.inner) self.old) }
-        ensures kept { OnErr result (self.new ≡ self.old) }
+    fn write_out(&mut self) -> Result<(), Fault>
+        ensures pushed { Pushes W.contents self.old self.new [] result }
+        ensures empty { OnOk result (self.new.len ≡ 0) }
+        ensures kept { OnErr result (held self.new ≡ held self.old) }
     {
-        write_bytes(output, &self.bytes[..self.len])?;
+        let held = &self.bytes[..self.len];
+        write_bytes(self.output, held)?;
         self.len = 0;
         Ok(())
     }
 
     /// Writes the block, empties it and flushes. On an error it stays as it was.
-    pub fn finish<W: Write>(&mut self, output: &mut Watched<W>) -> Result<(), Fault>
-        requires writes { has_failed output.old ≡ false }
-        ensures failed { has_failed output.new ≡ is_err result }
-        ensures flushed { IfOk result (λ _. output.new.flushed ≡ true) }
-        ensures only { IfErr result (λ fault. fault ≡ Fault.Write) }
-
-        // What was written: all of the block, or where it fails a beginning of it.
-        ensures ok { OnOk result
-            (Appends (W.contents output.old.inner) (W.contents output.new.inner) self.old) }
-        ensures err { OnErr result
-            (AppendsFront (W.contents output.old.inner) (W.contents output.new.inner) self.old) }
-
-        // The block is empty afterwards, or where it fails as it was.
-        ensures empty { OnOk result (self.new ≡ []) }
-        ensures kept { OnErr result (self.new ≡ self.old) }
+    pub fn finish(&mut self) -> Result<(), Fault>
+        ensures pushed { Pushes W.contents self.old self.new [] result }
+        ensures empty { OnOk result (held self.new ≡ []) }
+        ensures kept { OnErr result (held self.new ≡ held self.old) }
+        ensures flushed { IfOk result (λ _. self.new.output.now.flushed ≡ true) }
     {
-        write_all(output, &self.bytes[..self.len])?;
+        let held = &self.bytes[..self.len];
+        write_all(self.output, held)?;
         self.len = 0;
         Ok(())
     }

@@ -1,5 +1,5 @@
 //! A whole run, from a reader to a writer.
-ghost use Rattle.std.specs.Prelude.{◌≡◌, ◌↔◌, false, IsTrue, IsErrOf, IfSome};
+ghost use Rattle.std.specs.Prelude.{◌≡◌, false, IfSome};
 ghost use Rattle.ends.specs.Run.{Leaves};
 ghost use Rattle.ends.specs.Watch.{has_failed};
 ghost use Rattle.rustc_lexer.specs.Classes.{Fits};
@@ -8,7 +8,7 @@ ghost use Rattle.lexdump_run.specs.Pushed.{Lists};
 
 use crate::job::Job;
 use crate::listing::{edited, list_pieces, list_tokens, tell_shebang};
-use crate::output::Block;
+use crate::output::BlockWriter;
 use ends::{Fault, Watched, read_text};
 use rustc_lexer::{Edition, FrontmatterAllowed};
 use std::alloc::Global;
@@ -30,7 +30,7 @@ use std::io::{Read, Write};
 ///   edits before it leave.
 /// - `Fault::Memory`: an allocation failed.
 /// - `Fault::Write`: a write or the flush failed. A beginning of the output was written.
-#[tactic(auto, using(crate::proofs::OutcomeLemmas::ends_unread, crate::proofs::OutcomeLemmas::ends_unlisted, crate::proofs::OutcomeLemmas::silent_unlisted, crate::proofs::OutcomeLemmas::ends_listed))]
+#[tactic(auto, using(crate::proofs::OutcomeLemmas::ends_unread))]
 pub fn run<R: Read, W: Write>(
     alloc: Global,
     job: &Job<'_>,
@@ -45,9 +45,9 @@ pub fn run<R: Read, W: Write>(
         (W.contents output.new.inner) result }
 {
     let text = read_text(alloc, input)?;
-    let mut lines = Block::new();
-    print(alloc, job, text.as_str(), &mut lines, output)?;
-    lines.finish(output)
+    let mut lines = BlockWriter::new(output);
+    print(alloc, job, text.as_str(), &mut lines)?;
+    lines.finish()
 }
 
 /// Prints what the job asks for.
@@ -55,27 +55,21 @@ fn print<W: Write>(
     alloc: Global,
     job: &Job<'_>,
     text: &str,
-    lines: &mut Block,
-    output: &mut Watched<W>,
+    lines: &mut BlockWriter<'_, W>,
 ) -> Result<(), Fault>
     requires fits { Fits text.now }
-    requires writes { has_failed output.old ≡ false }
-    ensures failed { IsErrOf result Fault.Write ↔ IsTrue (has_failed output.new) }
-    ensures lists { Lists job.now text.now (W.contents output.old.inner)
-        (W.contents output.new.inner) lines.old lines.new result }
+    ensures lists { Lists W.contents job.now text.now lines.old lines.new result }
 {
     match job {
-        Job::Plain { edition } => {
-            list_tokens(lines, output, text, FrontmatterAllowed::No, *edition)
-        }
+        Job::Plain { edition } => { list_tokens(lines, text, FrontmatterAllowed::No, *edition) }
         Job::Front => {
             let newest = Edition::NEWEST;
-            list_tokens(lines, output, text, FrontmatterAllowed::Yes, newest)
+            list_tokens(lines, text, FrontmatterAllowed::Yes, newest)
         }
-        Job::Shebang => tell_shebang(lines, output, text),
+        Job::Shebang => tell_shebang(lines, text),
         Job::Edit { edition, edits } => {
             let lexed = edited(alloc, text, *edition, edits.as_slice())?;
-            list_pieces(lines, output, &lexed)
+            list_pieces(lines, &lexed)
         }
     }
 }
