@@ -1,15 +1,14 @@
 -- The error at the end of a frontmatter is the one that its lines say.
-use Rattle.std.proofs.Common.{◌≡◌, ℕ, zero, suc, ◌+◌, ◌-◌, ◌<◌, ◌≤◌, ◌==◌, nat_eq, nat_lt, not, ◌||◌, Bool, true, false, true≢false, if◌then◌else◌, List, [], ◌∷◌, ◌++◌, codes, length, take, drop, get_or, refl, sym, ap, ◌∙◌, subst, arith, append_assoc, append-nil, drop-cons, drop-drop, length-append, take-append-drop, Option, Some, None, inl, inr}
+use Rattle.std.proofs.Common.{◌≡◌, ℕ, zero, suc, ◌+◌, ◌-◌, ◌<◌, ◌≤◌, ◌==◌, nat_eq, nat_lt, not, ◌&&◌, ◌||◌, Bool, true, false, true≢false, if◌then◌else◌, List, [], ◌∷◌, ◌++◌, codes, length, take, drop, get_or, refl, sym, ap, ◌∙◌, subst, arith, append_assoc, append-nil, drop-cons, drop-drop, length-append, take-append-drop, Option, Some, None, inl, inr}
 use Rattle.std.specs.Char.{encode_utf8}
 use Rattle.std.specs.List.{after_last, list_all, list_any, prefix_len, suffix_len}
 use Rattle.std.specs.Option.{option_or}
-use Rattle.std.specs.Str.{encode_utf8_all, IsUtf8}
+use Rattle.std.specs.Str.{chars, encode_utf8_all, IsUtf8}
 use Rattle.std.proofs.Math.Seq.{drop-append_seam, get_or-append_seam}
-use Rattle.std.proofs.lemmas.Bool.{and_parts, eqb-false, eqb-true, false_from_ne_true, ltb-false, ltb-true, not-true, not_from_false, not_from_true, or_cases, or_parts}
-use Rattle.std.proofs.lemmas.List.{take_all}
+use Rattle.std.proofs.lemmas.Bool.{and_parts, eqb-true, false_from_ne_true, ltb-false, ltb-true, not-true, not_from_false, not_from_true, or_cases, or_parts}
 use Rattle.std.proofs.lemmas.List.Elements.{All-from_get_or}
 use Rattle.std.proofs.lemmas.List.Folds.{length-prefix_len, list_all-append, list_any-append, list_any_at, list_any_none}
-use Rattle.std.proofs.lemmas.List.Sums.{prefix_len-le-length, suffix_len_is}
+use Rattle.std.proofs.lemmas.List.Sums.{suffix_len_is}
 use Rattle.std.proofs.lemmas.Str.{char_from_byte, encode_ascii, encodes-append, encodes-chars, inside_one, length-encode, length-le-encodes, len_utf8_bounds}
 use Rattle.std.proofs.lemmas.Bool.Decides.{nat_tests}
 use Rattle.std.proofs.lemmas.Grind.{common_steps}
@@ -21,9 +20,9 @@ use Rattle.rustc_lexer.specs.declared.token.TokenKind.TheVariants.{Frontmatter}
 use Rattle.rustc_lexer.specs.laws.Choice.{by_either, by_test}
 use Rattle.rustc_lexer.specs.laws.Fences as fences
 use Rattle.rustc_lexer.specs.laws.Fences.{begins-whole}
-use Rattle.rustc_lexer.specs.means.Frontmatter.{is_dash}
+use Rattle.rustc_lexer.specs.means.Frontmatter.{blanks_len, infostring_len, is_dash, label_len, spaces_len, then_len}
 use Rattle.rustc_lexer.specs.means.Scan.{run_len}
-use Rattle.rustc_lexer.specs.laws.LanguageFrontmatter.{fence-length, run-fence}
+use Rattle.rustc_lexer.specs.laws.LanguageFrontmatter.{fence-length, opening-read, run-fence}
 use Rattle.rustc_lexer.specs.laws.LanguageRuns as runs
 use Rattle.rustc_lexer.specs.laws.LanguageRuns.{none-among, start-word_start, word_start-no_space}
 use Rattle.rustc_lexer.specs.laws.Reach.{run_all}
@@ -31,7 +30,7 @@ use Rattle.rustc_lexer.proofs.lemmas.tokens.ClassParts.{continue_part}
 use Rattle.marks.specs.declared.fault.Fault.{Fault}
 use Rattle.marks.specs.declared.fault.Fault.TheVariants.{WhitespaceBeforeFrontmatter, UnclosedFrontmatter, FrontmatterCloseMismatch, ExtraAfterFrontmatterClose}
 use Rattle.rustc_literal_escaper.specs.Grammar.{is_newline}
-use Rattle.marks.specs.Frontmatter.{blanks, closing_fault, dashes, end_fault, is_of}
+use Rattle.marks.specs.Frontmatter.{after, blanks, closing_fault, dashes, end_fault, has_crlf, is_end, is_of}
 use Rattle.marks.specs.Fault.{fault_of, front_fault, kind_fault}
 use Rattle.marks.specs.TextFault.{frontmatter_fault}
 use Rattle.marks.specs.FrontmatterEnd.{EndsAfter, IsEndFault, IsOpen, IsToldBy, NoLineBegins, TellsFrontmatter, closed, indented, more_words, other_dashes, unclosed}
@@ -172,16 +171,23 @@ one-encode (c ∷ s) none =
 
 -- ---- the last line, in bytes
 
-all-encode : (s : Chars) → nat_eq (blanks s) (length (encode_utf8_all s)) ≡ nat_eq (blanks s) (length s)
-all-encode [] = refl
-all-encode (c ∷ s) = by_either (is_of (codes "\t ") c)
-    (λ e. let one : 1 + blanks s ≡ suc (blanks s) = omega arith in rw (encode_ascii c (small-blank c e), e, one) (let more = all-encode s in grind (arith, nat_tests)))
-    (λ e. rw e (let some = length-le-encodes (c ∷ s) in grind (arith, nat_tests)))
+end-encode : (s : Chars) → is_end (encode_utf8_all s) ≡ is_end s
+end-encode [] = refl
+end-encode (c ∷ []) = by_either (nat_lt c 128)
+    (λ e. rw (encode_ascii c (ltb-true c 128 e)) refl)
+    (λ e. let high = ltb-false c 128 e in let wide = length-encode c in let bounds = len_utf8_bounds c in let long = length-append (encode_utf8 c) [] in grind (arith, nat_tests))
+end-encode (c ∷ d ∷ s) = let long = length-le-encodes (c ∷ d ∷ s) in grind (arith, nat_tests)
 
 closing-encode : (n : ℕ) (line : Chars) → closing_fault n (encode_utf8_all line) ≡ closing_fault n line
-closing-encode n line = simp (run-encode (is_of (codes "\t ")) small-blank, run-encode (is_of (codes "-")) small-dash, drop-encode (is_of (codes "\t ")) small-blank, drop-encode (is_of (codes "-")) small-dash, all-encode)
+closing-encode n line = simp (run-encode (is_of (codes "\t ")) small-blank, run-encode (is_of (codes "-")) small-dash, drop-encode (is_of (codes "\t ")) small-blank, drop-encode (is_of (codes "-")) small-dash, end-encode)
 
 -- ---- what the shape of the last line says
+
+some-left : (k : ℕ) (s : Chars) → is_end (drop k s) ≡ false → k < length s
+some-left zero [] more = absurd (true≢false more)
+some-left zero (c ∷ s) more = omega arith
+some-left (suc k) [] more = absurd (true≢false more)
+some-left (suc k) (c ∷ s) more = let rest = some-left k s more in omega (arith, rest)
 
 module _ (n : ℕ) (next u line : Chars) (inline : AreAll is_inline line) where
   abbrev body : Chars
@@ -216,7 +222,7 @@ module _ (n : ℕ) (next u line : Chars) (inline : AreAll is_inline line) where
   module _ (lone : begins (fence 3) line ≡ false → NoLineBegins 3 (body ++ next)) (first : begins (fence n) line ≡ false → NoLineBegins n (body ++ next)) where
     -- dashes come first
     flush-told : blanks line ≡ 0 → 3 ≤ dashes rest
-        → IsEndFault n next body (if not (nat_eq (dashes rest) n) then Some (FrontmatterCloseMismatch n (dashes rest)) else if nat_eq (blanks tail) (length tail) then None else Some ExtraAfterFrontmatterClose)
+        → IsEndFault n next body (if not (nat_eq (dashes rest) n) then Some (FrontmatterCloseMismatch n (dashes rest)) else if is_end (drop (blanks tail) tail) then None else Some ExtraAfterFrontmatterClose)
     flush-told flush enough =
         let d : ℕ = dashes rest in
         let same_rest : rest ≡ line = ap (λ (k : ℕ). drop k line) flush in
@@ -233,21 +239,22 @@ module _ (n : ℕ) (next u line : Chars) (inline : AreAll is_inline line) where
         (λ same.
         let is_n : d ≡ n = grind (arith, nat_tests) in
         let closes : line ≡ fence n ++ tail = shape ∙ ap (λ (k : ℕ). fence k ++ tail) is_n in
-        by_test (IsEndFault n next body) (nat_eq (blanks tail) (length tail)) _ _
-        (λ all.
-        let whole : take (blanks tail) tail ≡ tail = take_all (blanks tail) tail (omega (arith, eqb-true (blanks tail) (length tail) all)) in
-        subst (λ (l : Chars). IsEndFault n next (u ++ 10 ∷ l) None) (sym closes) (closed u tail (subst (AreAll is_horizontal_whitespace) whole (run-all (is_of (codes "\t ")) is_horizontal_whitespace same-blank tail))))
+        by_test (IsEndFault n next body) (is_end (drop (blanks tail) tail)) _ _
+        (λ ends.
+        let whole : take (blanks tail) tail ++ drop (blanks tail) tail ≡ tail = take-append-drop (blanks tail) tail in
+        subst (λ (l : Chars). IsEndFault n next (u ++ 10 ∷ l) None) (sym (closes ∙ ap (λ (v : Chars). fence n ++ v) (sym whole)))
+        (closed u (take (blanks tail) tail) (drop (blanks tail) tail) (run-all (is_of (codes "\t ")) is_horizontal_whitespace same-blank tail) ends))
         (λ more.
         let k : ℕ = blanks tail in
         let c : ℕ = get_or tail k 0 in
         let w : Chars = drop (suc k) tail in
-        let inside : k < length tail = omega (arith, eqb-false k (length tail) more, prefix_len-le-length (is_of (codes "\t ")) tail) in
+        let inside : k < length tail = some-left k tail more in
         let cut : drop k tail ≡ c ∷ w = drop-cons tail k 0 inside in
         let split : tail ≡ take k tail ++ (c ∷ w) = sym (take-append-drop k tail) ∙ ap (λ (v : Chars). take k tail ++ v) cut in
         subst (λ (l : Chars). IsEndFault n next (u ++ 10 ∷ l) (Some ExtraAfterFrontmatterClose)) (sym (closes ∙ ap (λ (v : Chars). fence n ++ v) split))
         (more_words u (take k tail) c w (run-all (is_of (codes "\t ")) is_horizontal_whitespace same-blank tail)
         (ap (next_is is_horizontal_whitespace) (sym cut) ∙ run-stops (is_of (codes "\t ")) is_horizontal_whitespace same-blank tail)
-        (subst (NextIsNot (is_among (codes "-"))) split stops) (subst (AreAll is_inline) cut (all-drop is_inline k tail plain)))))
+        (ap is_end (sym cut) ∙ more) (subst (NextIsNot (is_among (codes "-"))) split stops) (subst (AreAll is_inline) cut (all-drop is_inline k tail plain)))))
 
     line-told : IsEndFault n next body (closing_fault n line)
     line-told = by_test (IsEndFault n next body) (nat_lt (dashes rest) 3) _ _
@@ -343,8 +350,8 @@ lone-not k n u line next le lone =
     fence-begins (suc n) s = fence-begins n s
 
 is-open : (n : ℕ) {next body : Chars} {end : Option Fault} → 3 ≤ n → IsEndFault n next body end → IsOpen body next → end ≡ Some UnclosedFrontmatter
-is-open n {next} many (closed u bs all) free = absurd (lone-not 3 n u bs next many free.0)
-is-open n {next} many (more_words u bs c w all other stop plain) free = absurd (lone-not 3 n u (bs ++ c ∷ w) next many free.0)
+is-open n {next} many (closed u bs end all ends) free = absurd (lone-not 3 n u (bs ++ end) next many free.0)
+is-open n {next} many (more_words u bs c w all other more stop plain) free = absurd (lone-not 3 n u (bs ++ c ∷ w) next many free.0)
 is-open n {next} many (other_dashes u w m enough few stop plain) free = absurd (lone-not 3 m u w next enough free.0)
 is-open n many (indented bs lone some ends) free = absurd (free.1 bs ends)
 is-open n many (unclosed is) free = refl
@@ -360,32 +367,57 @@ front-stops : (p : ℕ → Bool) (w next : Chars) → NextIsNot p (w ++ next) �
 front-stops p [] next stop = refl
 front-stops p (c ∷ w) next stop = stop
 
+-- ---- the label, read again
+
+-- in the token alone
+label-alone : (body next : Chars) {w : Chars} → IsLabelBefore (body ++ next) w → IsLabelBefore body w
+label-alone body next (the.blank all stop start) = the.blank all (front-stops is_horizontal_whitespace body next stop) (front-stops is_id_start body next start)
+label-alone body next (the.named u c v w before start info info_stops blanks stop) =
+    the.named u c v w before start info (front-stops is_info (w ++ body) next (ap (next_is is_info) (append_assoc w body next) ∙ info_stops)) blanks (front-stops is_horizontal_whitespace body next stop)
+
+after-then : (f g : Chars → ℕ) (s : Chars) → after g (after f s) ≡ after (then_len f g) s
+after-then f g s = drop-drop (g (after f s)) (f s) s
+
+crlf-is : (n : ℕ) {bad_label : Bool} (label body : Chars) → 3 ≤ n → IsOpeningBefore body n bad_label (fence n ++ label) → has_crlf ((fence n ++ label) ++ body) ≡ begins (codes "\r\n") body
+crlf-is zero label body many opens = absurd (omega arith)
+crlf-is (suc n) label body many opens =
+    let s : Chars = (fence (suc n) ++ label) ++ body in
+    let fence_end : Chars → ℕ = then_len spaces_len (run_len is_dash) in
+    let blanks_after : Chars → Chars = after blanks_len in
+    let past : blanks_after (after infostring_len (blanks_after (after (run_len is_dash) s))) ≡ body =
+    ap (λ (t : Chars). blanks_after (after infostring_len (blanks_after t))) (after-then spaces_len (run_len is_dash) s)
+    ∙ (ap blanks_after (after-then blanks_len infostring_len (after fence_end s)) ∙ (after-then (then_len blanks_len infostring_len) blanks_len (after fence_end s)
+    ∙ (after-then fence_end label_len s ∙ (ap (λ (k : ℕ). drop k s) (opening-read opens).len ∙ drop-append_seam (fence (suc n) ++ label) body)))) in
+    ap (begins (codes "\r\n")) past
+
 -- of a kind that the grammar gives, in characters
 told-text : (kind : TokenKind) (n : ℕ) (bad_label : Bool) (opening body next : Chars) → IsOpeningBefore (body ++ next) n bad_label opening → IsBodyBefore next (endings n) body
-    → kind ≡ Frontmatter (next_is is_whitespace opening) bad_label → IsToldBy n bad_label opening body next (encode_utf8_all (opening ++ body)) (fault_of kind (encode_utf8_all (opening ++ body)))
-told-text kind n bad_label opening body next (the.opening _ space label spaces no_line many is stop) is_body kind_is =
+    → chars (encode_utf8_all (opening ++ body)) ≡ opening ++ body → kind ≡ Frontmatter (next_is is_whitespace opening) bad_label → IsToldBy n bad_label opening body next (encode_utf8_all (opening ++ body)) (fault_of kind (encode_utf8_all (opening ++ body)))
+told-text kind n bad_label opening body next (the.opening _ space label spaces no_line many is stop) is_body reads kind_is =
     let told = told-found n (found n many is_body) in
     let text : List ℕ = encode_utf8_all (opening ++ body) in
     record {
       end = told.end;
       is = told.is;
-      told = ap (λ (k : TokenKind). fault_of k text) kind_is ∙ ap (λ (fault : Option Fault). option_or fault (frontmatter_fault text)) (by_space space spaces told);
+      told = ap (λ (k : TokenKind). fault_of k text) kind_is ∙ ap (λ (fault : Option Fault). option_or fault (frontmatter_fault text)) (by_space space spaces no_line reads told);
       exact = (λ e. open-is n (subst (IsEndFault n next body) e told.is), λ free. is-open n many told.is free);
     }
   where
-    by_space : (space : Chars) → AreAll is_whitespace space → (told : Told n next body)
+    by_space : (space : Chars) → AreAll is_whitespace space → ((u : Chars) → space ≡ u ++ codes "\n" → ⊥)
+        → chars (encode_utf8_all (space ++ (fence n ++ label) ++ body)) ≡ space ++ (fence n ++ label) ++ body → (told : Told n next body)
         → kind_fault (Frontmatter (next_is is_whitespace (space ++ (fence n ++ label))) bad_label) (encode_utf8_all (space ++ (fence n ++ label) ++ body))
-        ≡ (if next_is is_whitespace (space ++ (fence n ++ label)) then Some WhitespaceBeforeFrontmatter else front_fault bad_label told.end)
-    by_space [] spaces told =
+        ≡ (if next_is is_whitespace (space ++ (fence n ++ label)) then Some WhitespaceBeforeFrontmatter else front_fault (bad_label && not (begins (codes "\r\n") body)) told.end)
+    by_space [] spaces no_line reads told =
         let free = no-space n (label) many in
         let stops = front-stops (is_among (codes "-")) (label ++ body) next (ap (next_is (is_among (codes "-"))) (append_assoc label body next) ∙ stop) in
         let run : dashes ((fence n ++ label) ++ body) ≡ n =
         ap dashes (append_assoc (fence n) label body) ∙ (run-here (is_of (codes "-")) (is_among (codes "-")) same-dash (fence n) (label ++ body) (fence-all n) stops ∙ fence-length n) in
         let none : list_any is_newline (fence n ++ label) ≡ false = list_any-append is_newline (fence n) label ∙ rw (fence-none n, label-none is) refl in
-        rw (free, told.same (fence n ++ label) run none) refl
-    by_space (c ∷ space) spaces told = rw (and_parts (is_whitespace c) (list_all is_whitespace space) spaces).0 refl
+        let crlf = ap has_crlf reads ∙ crlf-is n label body many (the.opening n [] label spaces no_line many (label-alone body next is) stops) in
+        rw (free, told.same (fence n ++ label) run none, crlf) refl
+    by_space (c ∷ space) spaces no_line reads told = rw (and_parts (is_whitespace c) (list_all is_whitespace space) spaces).0 refl
 
 pub tells : (kind : TokenKind) (text : List ℕ) → IsUtf8 text → TellsFrontmatter kind text (fault_of kind text)
 tells kind text utf8 n bad_label opening body next is is_body whole kind_is =
     subst (λ (t : List ℕ). IsToldBy n bad_label opening body next t (fault_of kind t)) (ap encode_utf8_all (sym whole) ∙ encodes-chars text utf8)
-    (told-text kind n bad_label opening body next is is_body kind_is)
+    (told-text kind n bad_label opening body next is is_body (ap chars (ap encode_utf8_all (sym whole) ∙ encodes-chars text utf8) ∙ whole) kind_is)

@@ -1,5 +1,5 @@
 -- The error of a token, and the sentence that describes it.
-use Rattle.std.specs.Prelude.{ℕ, ◌-◌, ◌==◌, Bool, true, false, ◌&&◌, nat_eq, nat_lt, if◌then◌else◌, List, ◌++◌, codes, decimal, drop, Option, Some, None, Result, Ok, Err}
+use Rattle.std.specs.Prelude.{ℕ, ◌-◌, ◌==◌, Bool, true, false, ◌&&◌, not, nat_eq, nat_lt, if◌then◌else◌, List, ◌++◌, codes, decimal, drop, Option, Some, None, Result, Ok, Err}
 use Rattle.std.specs.Option.{option_or}
 use Rattle.std.specs.Str.{byte, chars}
 use Rattle.rustc_lexer.specs.declared.token.LiteralKind.{LiteralKind}
@@ -13,7 +13,7 @@ use Rattle.rustc_lexer.specs.Classes.{next_is}
 use Rattle.marks.specs.declared.fault.Fault.{Fault}
 use Rattle.marks.specs.declared.fault.Fault.TheVariants.{UnterminatedBlockComment, WhitespaceBeforeFrontmatter, InvalidInfostring, UnclosedFrontmatter, WhitespaceBeforeFrontmatterClose, FrontmatterCloseMismatch, ExtraAfterFrontmatterClose, InvalidName, UnknownPrefix, UnknownLifetimePrefix, GuardedString, InvalidLifetime, UnknownCharacter, EmptyNumber, EmptyExponent, UnterminatedChar, UnterminatedByte, UnterminatedString, InvalidRawStarter, UnterminatedRawString, TooFewHashes, TooManyHashes, InLiteral, InvalidDigit, FloatOfBase, RawKeyword, UnderscoreSuffix, BareCarriageReturnInDocComment, BareCarriageReturnInFrontmatter, TooManyDashes, TextDirectionCodepoint}
 use Rattle.marks.specs.declared.fault.TheConstants.{UNTERMINATED_BLOCK_COMMENT, WHITESPACE_BEFORE_FRONTMATTER, INVALID_INFOSTRING, UNCLOSED_FRONTMATTER, WHITESPACE_BEFORE_FRONTMATTER_CLOSE, EXTRA_AFTER_FRONTMATTER_CLOSE, INVALID_NAME, UNKNOWN_PREFIX, UNKNOWN_LIFETIME_PREFIX, GUARDED_STRING, INVALID_LIFETIME, UNKNOWN_CHARACTER, EMPTY_NUMBER, EMPTY_EXPONENT, UNTERMINATED_CHAR, UNTERMINATED_BYTE, UNTERMINATED_STRING, INVALID_RAW_STARTER, OPEN_PLAIN_RAW_STRING, INVALID_DIGIT, FLOAT_OF_BASE, RAW_KEYWORD, UNDERSCORE_SUFFIX, BARE_CARRIAGE_RETURN_IN_DOC_COMMENT, BARE_CARRIAGE_RETURN_IN_FRONTMATTER, TEXT_DIRECTION_CODEPOINT}
-use Rattle.marks.specs.Frontmatter.{end_fault}
+use Rattle.marks.specs.Frontmatter.{end_fault, has_crlf}
 use Rattle.marks.specs.TextFault.{text_fault}
 use Rattle.rustc_literal_escaper.specs.Numbers.{error_sentence}
 
@@ -52,9 +52,9 @@ literal_fault (RawCStr None) text = raw_fault text 2
 literal_fault kind text = None
 
 -- the error of a frontmatter that no white space precedes: that of its end, or else of its first
--- line
+-- line, on which more may stand than a label
 abbrev pub front_fault : Bool → Option Fault → Option Fault
-front_fault invalid_infostring (Some fault) = Some fault
+front_fault has_more (Some fault) = Some fault
 front_fault true None = Some InvalidInfostring
 front_fault false None = None
 
@@ -63,7 +63,7 @@ abbrev pub kind_fault : TokenKind → List ℕ → Option Fault
 kind_fault (BlockComment doc_style false) text = Some UnterminatedBlockComment
 kind_fault (Frontmatter true invalid_infostring) text = Some WhitespaceBeforeFrontmatter
 kind_fault (Frontmatter false invalid_infostring) text =
-    front_fault invalid_infostring (end_fault text)
+    front_fault (invalid_infostring && not (has_crlf (chars text))) (end_fault text)
 kind_fault InvalidIdent text = Some InvalidName
 kind_fault UnknownPrefixToken text = Some UnknownPrefix
 kind_fault UnknownPrefixLifetime text = Some UnknownLifetimePrefix

@@ -1,8 +1,14 @@
--- What is wrong with the last line of a frontmatter. The grammar of the lexer has all frontmatters,
--- those too at whose ends rustc recovers; RFC 3503 has only those that a line of as many dashes
--- closes.
-use Rattle.std.specs.Prelude.{ℕ, Bool, ◌==◌, nat_eq, nat_lt, if◌then◌else◌, List, drop, codes, length, not, Option, Some, None}
+-- What is wrong with the first line of a frontmatter, and with its last. The grammar of the lexer has
+-- all frontmatters, those too at whose ends rustc recovers; RFC 3503 has only those that a line of as
+-- many dashes closes. rustc reads CR LF as a newline before it lexes; the lexer here does not, so the
+-- label of a first line that CR LF ends is bad by its kind, and the carriage return of the last line
+-- is in the token.
+use Rattle.std.specs.Prelude.{ℕ, Bool, ◌==◌, ◌&&◌, ◌||◌, get_or, nat_eq, nat_lt, if◌then◌else◌, List, drop, codes, length, not, Option, Some, None}
 use Rattle.std.specs.List.{after_last, list_any, prefix_len}
+use Rattle.std.specs.Str.{byte}
+use Rattle.rustc_lexer.specs.Classes.{Chars, begins}
+use Rattle.rustc_lexer.specs.means.Frontmatter.{blanks_len, infostring_len, is_dash}
+use Rattle.rustc_lexer.specs.means.Scan.{run_len}
 use Rattle.rustc_literal_escaper.specs.Grammar.{is_newline}
 use Rattle.marks.specs.declared.fault.Fault.{Fault}
 use Rattle.marks.specs.declared.fault.Fault.TheVariants.{UnclosedFrontmatter, WhitespaceBeforeFrontmatterClose, FrontmatterCloseMismatch, ExtraAfterFrontmatterClose}
@@ -17,6 +23,11 @@ dashes text = prefix_len (is_of (codes "-")) text
 abbrev pub blanks : List ℕ → ℕ
 blanks text = prefix_len (is_of (codes "\t ")) text
 
+-- what is left of a line past these, if CR LF ends it: nothing, or the carriage return. A token has
+-- no newline behind it, so at the end of a text this cannot be told from a bare one
+abbrev pub is_end : List ℕ → Bool
+is_end rest = nat_eq (length rest) 0 || nat_eq (length rest) 1 && get_or rest 0 0 == byte "\r"
+
 -- what is wrong with a line that should close a frontmatter with so many dashes
 abbrev pub closing_fault : ℕ → List ℕ → Option Fault
 closing_fault opening line =
@@ -25,7 +36,7 @@ closing_fault opening line =
     if nat_lt (dashes rest) 3 then Some UnclosedFrontmatter
     else if nat_lt 0 (blanks line) then Some WhitespaceBeforeFrontmatterClose
     else if not (nat_eq (dashes rest) opening) then Some (FrontmatterCloseMismatch opening (dashes rest))
-    else if nat_eq (blanks tail) (length tail) then None
+    else if is_end (drop (blanks tail) tail) then None
     else Some ExtraAfterFrontmatterClose
 
 -- what is wrong with the end of a frontmatter that begins with its dashes. If it has no line but
@@ -34,3 +45,14 @@ abbrev pub end_fault : List ℕ → Option Fault
 end_fault text =
     if list_any is_newline text then closing_fault (dashes text) (after_last is_newline text)
     else Some UnclosedFrontmatter
+
+-- the text past as much as this says
+abbrev pub after : (Chars → ℕ) → Chars → Chars
+after len s = drop (len s) s
+
+-- whether CR LF ends the first line of a frontmatter that begins with its dashes: it comes right
+-- after its label, which is blanks, or an infostring with blanks around it
+abbrev pub has_crlf : Chars → Bool
+has_crlf text =
+    begins (codes "\r\n")
+    (after blanks_len (after infostring_len (after blanks_len (after (run_len is_dash) text))))

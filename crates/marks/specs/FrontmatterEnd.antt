@@ -1,16 +1,17 @@
 -- The error at the end of a frontmatter, by the lines of the text: a law of `end_fault` over the
 -- lexer's grammar. `body` and `next` are as in FrontmatterGrammar: what follows the opening in the
 -- token, and all of the text after the token.
-use Rattle.std.specs.Prelude.{◌≡◌, ◌↔◌, ◌≤◌, ◌<◌, ℕ, Bool, false, if◌then◌else◌, List, ◌∷◌, ◌++◌, chars, codes, length, Option, Some, None}
+use Rattle.std.specs.Prelude.{◌≡◌, ◌↔◌, ◌≤◌, ◌<◌, ℕ, Bool, true, false, ◌&&◌, not, if◌then◌else◌, List, ◌∷◌, ◌++◌, chars, codes, length, Option, Some, None}
 use Rattle.std.specs.Option.{option_or}
 use Rattle.std.specs.Str.{byte}
-use Rattle.rustc_lexer.specs.Classes.{Chars, AreAll, NextNotIn, is_horizontal_whitespace, is_inline, is_whitespace, next_is}
+use Rattle.rustc_lexer.specs.Classes.{Chars, AreAll, NextNotIn, begins, is_horizontal_whitespace, is_inline, is_whitespace, next_is}
 use Rattle.rustc_lexer.specs.FrontmatterGrammar.{IsAt, IsBodyBefore, IsNowhere, IsOpeningBefore, endings, fence}
 use Rattle.rustc_lexer.specs.declared.token.TokenKind.{TokenKind}
 use Rattle.rustc_lexer.specs.declared.token.TokenKind.TheVariants.{Frontmatter}
 use Rattle.marks.specs.declared.fault.Fault.{Fault}
 use Rattle.marks.specs.declared.fault.Fault.TheVariants.{WhitespaceBeforeFrontmatter, UnclosedFrontmatter, WhitespaceBeforeFrontmatterClose, FrontmatterCloseMismatch, ExtraAfterFrontmatterClose}
 use Rattle.marks.specs.Fault.{front_fault}
+use Rattle.marks.specs.Frontmatter.{is_end}
 use Rattle.marks.specs.TextFault.{frontmatter_fault}
 
 -- no line of the text begins with n dashes, unless its first does
@@ -29,14 +30,17 @@ IsOpen body next = NoLineBegins 3 (body ++ next) × ((blanks : Chars) → EndsAf
 
 -- what is wrong at the end of a frontmatter that opens with n dashes
 pub data IsEndFault (n : ℕ) (next : Chars) : Chars → Option Fault → Type 0 where
-  -- nothing: its last line is n dashes, and spaces and tabs
-  closed : (u blanks : Chars)
+  -- nothing: its last line is n dashes, and spaces and tabs, and perhaps the carriage return of its
+  -- end
+  closed : (u blanks end : Chars)
       → AreAll is_horizontal_whitespace blanks
-      → IsEndFault n next (u ++ byte "\n" ∷ (fence n ++ blanks)) None
+      → is_end end ≡ true
+      → IsEndFault n next (u ++ byte "\n" ∷ (fence n ++ (blanks ++ end))) None
   -- more follows these on that line
   more_words : (u blanks : Chars) (c : ℕ) (w : Chars)
       → AreAll is_horizontal_whitespace blanks
       → is_horizontal_whitespace c ≡ false
+      → is_end (c ∷ w) ≡ false
       → NextNotIn (codes "-") (blanks ++ c ∷ w)
       → AreAll is_inline (c ∷ w)
       → IsEndFault n next (u ++ byte "\n" ∷ (fence n ++ (blanks ++ c ∷ w))) (Some ExtraAfterFrontmatterClose)
@@ -58,14 +62,16 @@ pub data IsEndFault (n : ℕ) (next : Chars) : Chars → Option Fault → Type 0
   unclosed : {body : Chars} → IsOpen body next → IsEndFault n next body (Some UnclosedFrontmatter)
 
 -- what is told of a frontmatter by the grammar: the error that its lines say, unless white space
--- comes before it, or else that of its text; and that nothing closes it exactly where nothing does
+-- comes before it, or else that of its text; and that nothing closes it exactly where nothing does. A
+-- bad label is none where CR LF comes directly after it
 pub record IsToldBy (n : ℕ) (bad_label : Bool) (opening body next : Chars) (text : List ℕ)
     (fault : Option Fault) : Type 0 where
   pub end : Option Fault
   pub is : IsEndFault n next body end
   pub told : fault
       ≡ option_or
-      (if next_is is_whitespace opening then Some WhitespaceBeforeFrontmatter else front_fault bad_label end)
+      (if next_is is_whitespace opening then Some WhitespaceBeforeFrontmatter
+      else front_fault (bad_label && not (begins (codes "\r\n") body)) end)
       (frontmatter_fault text)
   pub exact : end ≡ Some UnclosedFrontmatter ↔ IsOpen body next
 

@@ -4,7 +4,7 @@ ghost use Rattle.rustc_lexer.specs.Classes.{Fits};
 ghost use Rattle.marks.specs.Fault.{fault_number, fault_of, kind_fault, literal_fault, raw_fault, sentence};
 ghost use Rattle.marks.specs.FrontmatterEnd.{TellsFrontmatter};
 
-use crate::frontmatter::end_fault;
+use crate::frontmatter::{end_fault, has_crlf};
 use crate::text_fault::text_fault;
 use rustc_lexer::{LiteralKind, RawStrError, TokenKind, starts_raw, validate_raw_str};
 use rustc_literal_escaper::EscapeError;
@@ -157,7 +157,7 @@ fn kind_fault(kind: TokenKind, text: &str) -> Option<Fault>
             invalid_infostring,
             ..
         } => match end_fault(text) {
-            None if invalid_infostring => Some(Fault::InvalidInfostring),
+            None if invalid_infostring && !has_crlf(text) => Some(Fault::InvalidInfostring),
             fault => fault,
         },
         TokenKind::InvalidIdent => Some(Fault::InvalidName),

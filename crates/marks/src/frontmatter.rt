@@ -1,11 +1,16 @@
-//! How a frontmatter ends.
-ghost use Rattle.std.specs.Prelude.{◌≡◌, ◌≤◌, ◌<◌, ◌^◌, length};
+//! How the first line of a frontmatter ends, and how its last line does. Its line ends may be CR LF.
+ghost use Rattle.std.specs.Prelude.{◌≡◌, ◌≤◌, ◌<◌, ◌^◌, ℕ, Bool, codes, drop, length};
 ghost use Rattle.std.specs.List.{prefix_len};
-ghost use Rattle.rustc_lexer.specs.Classes.{Fits};
+ghost use Rattle.std.specs.Str.{chars};
+ghost use Rattle.rustc_lexer.specs.Classes.{Fits, begins, is_horizontal_whitespace, is_info};
+ghost use Rattle.rustc_lexer.specs.means.Frontmatter.{infostring_len};
+ghost use Rattle.rustc_lexer.specs.means.Scan.{run_len};
 ghost use Rattle.marks.specs.Frontmatter as spec;
 
 use crate::fault::Fault;
+use crate::screen::split_first;
 use memchr::memrchr;
+use rustc_lexer::{is_id_continue, is_id_start};
 
 /// Returns what is wrong with the end of a frontmatter that begins with its dashes. Returns `None` if a line of as many
 /// dashes closes it.
@@ -41,11 +46,18 @@ fn closing_fault(opening: usize, line: &[u8]) -> Option<Fault>
             opening: opening as u32,
             closing: dashes as u32,
         })
-    } else if run_of(b"\t ", tail) == tail.len() {
+    } else if is_end(&tail[run_of(b"\t ", tail)..]) {
         None
     } else {
         Some(Fault::ExtraAfterFrontmatterClose)
     }
+}
+
+/// Returns whether nothing is left of a line but perhaps the carriage return of its end.
+fn is_end(rest: &[u8]) -> bool
+    ensures { result ≡ spec.is_end rest.now }
+{
+    rest.is_empty() || rest.len() == 1 && rest[0] == b'\r'
 }
 
 /// Returns how many of these bytes come first.
@@ -62,4 +74,63 @@ pub fn run_of(these: &[u8], bytes: &[u8]) -> usize
         count += 1;
     }
     count
+}
+
+/// Returns whether CR LF ends the first line of a frontmatter, right after its dashes and its label.
+pub fn has_crlf(text: &str) -> bool
+    ensures { result ≡ spec.has_crlf (chars text.now) }
+{
+    let name = skip(skip(text, |c| c == '-'), is_blank);
+    let rest = skip(skip_infostring(name), is_blank);
+    begins_crlf(rest)
+}
+
+/// Returns the text after an infostring, if there is one at the front, or else the whole text.
+fn skip_infostring(text: &str) -> &str
+    ensures { chars result.now ≡ drop (infostring_len (chars text.now)) (chars text.now) }
+{
+    match split_first(text) {
+        Some((first, rest)) if is_id_start(first) => skip(rest, is_info),
+        _ => text,
+    }
+}
+
+/// Returns whether the character is a tab or a space.
+fn is_blank(c: char) -> bool
+    ensures { result ≡ is_horizontal_whitespace c }
+{
+    c == '\t' || c == ' '
+}
+
+/// Returns whether an infostring may continue with the character.
+fn is_info(c: char) -> bool
+    ensures { result ≡ is_info c }
+{
+    is_id_continue(c) || c == '-' || c == '.'
+}
+
+/// Returns the text after the characters at the front that pass the test.
+fn skip<F: Fn(char) -> bool>(text: &str, test: F) -> &str
+    requires callable { F.IsAlwaysCallable test }
+    ensures { (class : ℕ → Bool) → ((c : ℕ) (b : Bool) → F.post test c b → b ≡ class c)
+        → chars result.now ≡ drop (run_len class (chars text.now)) (chars text.now) }
+{
+    let mut left = text;
+    'chars: while let Some((c, rest)) = split_first(left) {
+        if !test(c) {
+            return left;
+        }
+        left = rest;
+    }
+    left
+}
+
+/// Returns whether a text begins with CR LF.
+fn begins_crlf(text: &str) -> bool
+    ensures { result ≡ begins (codes "\r\n") (chars text.now) }
+{
+    match split_first(text) {
+        Some(('\r', rest)) => matches!(split_first(rest), Some(('\n', _))),
+        _ => false,
+    }
 }

@@ -151,7 +151,7 @@ fn numbers_of_classes_and_faults() {
 }
 
 /// How the frontmatter that a text begins with ends. rustc has an error for each of these: of an unclosed frontmatter, of
-/// white space before its closing dashes, of their number, and of what follows them.
+/// white space before its closing dashes, of their number, and of what follows them. It reads CR LF as a newline.
 #[test]
 fn frontmatters_end_well_or_not() {
     use Fault::*;
@@ -181,6 +181,22 @@ fn frontmatters_end_well_or_not() {
         (" ---\na", Some(WhitespaceBeforeFrontmatter)),
         ("---a b\n---", Some(InvalidInfostring)),
         ("---a b\nc", Some(UnclosedFrontmatter)),
+        ("---\r\na\r\n---\r\n", None),
+        ("---cargo-1.0 \r\na\r\n--- \r\nfn", None),
+        ("---\u{e9}t\u{e9}\r\n---", None),
+        ("---\na\n---\r", None),
+        ("---a b\r\n---\r\n", Some(InvalidInfostring)),
+        ("---1\r\n---\r\n", Some(InvalidInfostring)),
+        ("---\r\r\n---\r\n", Some(InvalidInfostring)),
+        ("---\ra\r\n---\r\n", Some(InvalidInfostring)),
+        ("---a\rb\r\n---\r\n", Some(InvalidInfostring)),
+        ("---\r\na\r\n--- \r\r\n", Some(ExtraAfterFrontmatterClose)),
+        ("---\r\n---\ra\r\n", Some(ExtraAfterFrontmatterClose)),
+        ("---\r\n---a\r\n", Some(ExtraAfterFrontmatterClose)),
+        ("---\r\n---\r \r\n", Some(ExtraAfterFrontmatterClose)),
+        ("---\r\na\r\n ---\r\n", Some(WhitespaceBeforeFrontmatterClose)),
+        ("---\r\n----\r\n", dashes(3, 4)),
+        ("---\r\na\r\n", Some(UnclosedFrontmatter)),
     ] {
         for &edition in Edition::ALL {
             let token = tokenize_document(text, edition).next().unwrap();
