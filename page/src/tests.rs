@@ -50,6 +50,9 @@ fn what_literals_stand_for() {
         (r"b'\xff'", Some(r#"1 byte: "\xff""#)),
         (r#""aé\n""#, Some(r#"3 characters: "a\u{e9}\n""#)),
         ("\"a\\\n\n  b\"", Some(r#"2 characters: "ab""#)),
+        ("\"a\r\nb\\\r\n  c\"", Some(r#"4 characters: "a\nbc""#)),
+        ("br\"\r\n\"", Some(r#"1 byte: "\n""#)),
+        ("\"a\r\r\n\"", wrong),
         (r#""\q""#, wrong),
         // wrong stays wrong, though a warning follows: a line end that is skipped, and then an empty line
         ("\"\\q\\\n\n\"", wrong),

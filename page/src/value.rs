@@ -8,10 +8,11 @@ use rustc_literal_escaper::{
     unescape_str,
 };
 
-/// What a literal with quotes stands for, written with escapes. `None` for what is no such literal, or is not closed.
+/// What a literal with quotes stands for, written with escapes; CR LF is a newline. `None` for what is no such literal, or
+/// is not closed.
 pub fn value(kind: TokenKind, text: &str) -> Option<String> {
     let (mode, range) = literal_contents(kind, text)?;
-    let inside = &text[range];
+    let inside = &text[range].replace("\r\n", "\n");
     let mut read = Read::default();
     match mode {
         Mode::Char => read.char(unescape_char(inside)),
