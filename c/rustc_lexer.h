@@ -501,6 +501,8 @@ uint32_t rustc_lexer_guarded_str_unchecked(const uint8_t *text, size_t len,
  * skips, has no unit, except that a warning may begin there. Between single quotes there is one unit, whose range is
  * the whole text.
  *
+ * A CR LF is two characters here. rustc reads it as a newline before it lexes: turn it into one before you ask.
+ *
  * A text has at most as many units as bytes, or one if it is empty. Each call reads the text from its start, so use a
  * buffer of that size to need only one call. If the status is not 0, the buffer stays as it was, and `count` is 0. */
 uint32_t rustc_lexer_unescape(const uint8_t *text, size_t len, uint32_t mode, size_t passed,
@@ -523,7 +525,10 @@ uint32_t rustc_lexer_class(const uint8_t *text, size_t len, const struct rustc_l
                            uint32_t *number);
 
 /* Writes what is wrong with a token, RUSTC_LEXER_FAULT_.., into `number`, or 0 if nothing is. The text is that of the
- * token. What is wrong between the quotes of a literal that is closed, rustc_lexer_literal_errors writes. */
+ * token. What is wrong between the quotes of a literal that is closed, rustc_lexer_literal_errors writes.
+ *
+ * CR LF is read as a newline. So is a CR that ends a doc comment or a closing fence at the end of a text, where rustc
+ * refuses it. Of '\ before CR LF, which rustc tells as a wrong escape, it is told that nothing closes the character. */
 uint32_t rustc_lexer_fault(const uint8_t *text, size_t len, const struct rustc_lexer_token *token, uint32_t *number);
 
 /* Writes the first `count` tokens of the text, or all if it has fewer, each between its marks, into the buffer, and the
