@@ -126,7 +126,7 @@ impl Fault {
 }
 
 /// Returns what is wrong with a token, by its kind and its text. Returns `None` if nothing is wrong. If two things are, it
-/// returns one.
+/// returns one. CR LF is a newline, and so is a carriage return at the end of a doc comment or a frontmatter.
 #[tactic(auto, using(crate::proofs::FrontmatterEndLemmas::tells))]
 pub fn fault_of(kind: TokenKind, text: &str) -> Option<Fault>
     requires fits { Fits text.now }

@@ -2,7 +2,7 @@
 ghost use Rattle.std.specs.Prelude.{◌≡◌, ◌≤◌, ◌<◌, ◌^◌, ℕ, Bool, codes, drop, length};
 ghost use Rattle.std.specs.List.{prefix_len};
 ghost use Rattle.std.specs.Str.{chars};
-ghost use Rattle.rustc_lexer.specs.Classes.{Fits, begins, is_horizontal_whitespace, is_info};
+ghost use Rattle.rustc_lexer.specs.Classes.{Fits, begins, is_horizontal_whitespace};
 ghost use Rattle.rustc_lexer.specs.means.Frontmatter.{infostring_len};
 ghost use Rattle.rustc_lexer.specs.means.Scan.{run_len};
 ghost use Rattle.marks.specs.Frontmatter as spec;
@@ -90,7 +90,9 @@ fn skip_infostring(text: &str) -> &str
     ensures { chars result.now ≡ drop (infostring_len (chars text.now)) (chars text.now) }
 {
     match split_first(text) {
-        Some((first, rest)) if is_id_start(first) => skip(rest, is_info),
+        Some((first, rest)) if is_id_start(first) => {
+            skip(rest, |c| is_id_continue(c) || c == '-' || c == '.')
+        }
         _ => text,
     }
 }
@@ -100,13 +102,6 @@ fn is_blank(c: char) -> bool
     ensures { result ≡ is_horizontal_whitespace c }
 {
     c == '\t' || c == ' '
-}
-
-/// Returns whether an infostring may continue with the character.
-fn is_info(c: char) -> bool
-    ensures { result ≡ is_info c }
-{
-    is_id_continue(c) || c == '-' || c == '.'
 }
 
 /// Returns the text after the characters at the front that pass the test.
