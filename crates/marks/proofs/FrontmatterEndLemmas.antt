@@ -1,11 +1,11 @@
 -- The error at the end of a frontmatter is the one that its lines say.
-use Rattle.std.proofs.Common.{◌≡◌, ℕ, zero, suc, ◌+◌, ◌-◌, ◌<◌, ◌≤◌, ◌==◌, nat_eq, nat_lt, not, ◌&&◌, ◌||◌, Bool, true, false, true≢false, if◌then◌else◌, List, [], ◌∷◌, ◌++◌, codes, length, take, drop, get_or, refl, sym, ap, ◌∙◌, subst, arith, append_assoc, append-nil, drop-cons, drop-drop, length-append, take-append-drop, Option, Some, None, inl, inr}
+use Rattle.std.proofs.Common.{◌≡◌, ℕ, zero, suc, ◌+◌, ◌-◌, ◌<◌, ◌≤◌, ◌==◌, nat_eq, nat_lt, not, ◌&&◌, ◌||◌, Bool, true, false, true≢false, if◌then◌else◌, List, [], ◌∷◌, ◌++◌, codes, length, take, drop, get_or, refl, sym, ap, ◌∙◌, subst, arith, append_assoc, append-nil, drop-cons, drop-drop, length-drop, length-append, take-append-drop, Option, Some, None, inl, inr}
 use Rattle.std.specs.Char.{encode_utf8}
 use Rattle.std.specs.List.{after_last, list_all, list_any, prefix_len, suffix_len}
 use Rattle.std.specs.Option.{option_or}
 use Rattle.std.specs.Str.{chars, encode_utf8_all, IsUtf8}
 use Rattle.std.proofs.Math.Seq.{drop-append_seam, get_or-append_seam}
-use Rattle.std.proofs.lemmas.Bool.{and_parts, eqb-true, false_from_ne_true, ltb-false, ltb-true, not-true, not_from_false, not_from_true, or_cases, or_parts}
+use Rattle.std.proofs.lemmas.Bool.{and_parts, eqb-false, eqb-true, false_from_ne_true, ltb-false, ltb-true, not-true, not_from_false, not_from_true, or_cases, or_parts}
 use Rattle.std.proofs.lemmas.List.Elements.{All-from_get_or}
 use Rattle.std.proofs.lemmas.List.Folds.{length-prefix_len, list_all-append, list_any-append, list_any_at, list_any_none}
 use Rattle.std.proofs.lemmas.List.Sums.{suffix_len_is}
@@ -183,12 +183,6 @@ closing-encode n line = simp (run-encode (is_of (codes "\t ")) small-blank, run-
 
 -- ---- what the shape of the last line says
 
-some-left : (k : ℕ) (s : Chars) → is_end (drop k s) ≡ false → k < length s
-some-left zero [] more = absurd (true≢false more)
-some-left zero (c ∷ s) more = omega arith
-some-left (suc k) [] more = absurd (true≢false more)
-some-left (suc k) (c ∷ s) more = let rest = some-left k s more in omega (arith, rest)
-
 module _ (n : ℕ) (next u line : Chars) (inline : AreAll is_inline line) where
   abbrev body : Chars
   body = u ++ 10 ∷ line
@@ -248,7 +242,7 @@ module _ (n : ℕ) (next u line : Chars) (inline : AreAll is_inline line) where
         let k : ℕ = blanks tail in
         let c : ℕ = get_or tail k 0 in
         let w : Chars = drop (suc k) tail in
-        let inside : k < length tail = some-left k tail more in
+        let inside : k < length tail = omega (arith, eqb-false (length (drop k tail)) 0 (or_parts (nat_eq (length (drop k tail)) 0) _ more).0, length-drop k tail) in
         let cut : drop k tail ≡ c ∷ w = drop-cons tail k 0 inside in
         let split : tail ≡ take k tail ++ (c ∷ w) = sym (take-append-drop k tail) ∙ ap (λ (v : Chars). take k tail ++ v) cut in
         subst (λ (l : Chars). IsEndFault n next (u ++ 10 ∷ l) (Some ExtraAfterFrontmatterClose)) (sym (closes ∙ ap (λ (v : Chars). fence n ++ v) split))
