@@ -172,6 +172,7 @@ one-encode (c ∷ s) none =
 -- ---- the last line, in bytes
 
 end-encode : (s : Chars) → is_end (encode_utf8_all s) ≡ is_end s
+unfolding is_end
 end-encode [] = refl
 end-encode (c ∷ []) = by_either (nat_lt c 128)
     (λ e. rw (encode_ascii c (ltb-true c 128 e)) refl)
@@ -217,6 +218,7 @@ module _ (n : ℕ) (next u line : Chars) (inline : AreAll is_inline line) where
     -- dashes come first
     flush-told : blanks line ≡ 0 → 3 ≤ dashes rest
         → IsEndFault n next body (if not (nat_eq (dashes rest) n) then Some (FrontmatterCloseMismatch n (dashes rest)) else if is_end (drop (blanks tail) tail) then None else Some ExtraAfterFrontmatterClose)
+    unfolding is_end
     flush-told flush enough =
         let d : ℕ = dashes rest in
         let same_rest : rest ≡ line = ap (λ (k : ℕ). drop k line) flush in

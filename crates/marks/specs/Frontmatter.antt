@@ -25,7 +25,7 @@ blanks text = prefix_len (is_of (codes "\t ")) text
 
 -- what is left of a line past these, if CR LF ends it: nothing, or the carriage return. A token has
 -- no newline behind it, so at the end of a text this cannot be told from a bare one
-abbrev pub is_end : List ℕ → Bool
+unfoldable pub is_end : List ℕ → Bool
 is_end rest = nat_eq (length rest) 0 || nat_eq (length rest) 1 && get_or rest 0 0 == byte "\r"
 
 -- what is wrong with a line that should close a frontmatter with so many dashes

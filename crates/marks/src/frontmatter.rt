@@ -54,6 +54,7 @@ fn closing_fault(opening: usize, line: &[u8]) -> Option<Fault>
 }
 
 /// Returns whether nothing is left of a line but perhaps the carriage return of its end.
+#[tactic(auto, unfolding(crate::specs::Frontmatter::is_end))]
 fn is_end(rest: &[u8]) -> bool
     ensures { result ≡ spec.is_end rest.now }
 {
