@@ -23,8 +23,8 @@ dashes text = prefix_len (is_of (codes "-")) text
 abbrev pub blanks : List ℕ → ℕ
 blanks text = prefix_len (is_of (codes "\t ")) text
 
--- what is left of a line past these, if CR LF ends it: nothing, or the carriage return. A token has
--- no newline behind it, so at the end of a text this cannot be told from a bare one
+-- whether nothing is left of a line but perhaps the carriage return of CR LF. A token ends before
+-- the newline, so at the end of a text this cannot be told from a bare one
 unfoldable pub is_end : List ℕ → Bool
 is_end rest = nat_eq (length rest) 0 || nat_eq (length rest) 1 && get_or rest 0 0 == byte "\r"
 
@@ -46,7 +46,7 @@ end_fault text =
     if list_any is_newline text then closing_fault (dashes text) (after_last is_newline text)
     else Some UnclosedFrontmatter
 
--- the text past as much as this says
+-- the text past a number of characters, which depends on it
 abbrev pub after : (Chars → ℕ) → Chars → Chars
 after len s = drop (len s) s
 
