@@ -3,6 +3,7 @@ pub mod EscapeLemmas
 pub mod FrontmatterEndLemmas
 pub mod FrontmatterLemmas
 pub mod KeywordLemmas
+pub mod LineEndLemmas
 pub mod LiteralLemmas
 pub mod LiteralMarkLemmas
 pub mod MarkedLemmas

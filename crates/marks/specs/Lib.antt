@@ -5,6 +5,7 @@ pub mod Fault
 pub mod Frontmatter
 pub mod FrontmatterEnd
 pub mod Keyword
+pub mod LineEnds
 pub mod Literal
 pub mod LiteralMarks
 pub mod Mark

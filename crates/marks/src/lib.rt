@@ -8,6 +8,7 @@ mod fault;
 mod format;
 mod frontmatter;
 mod keyword;
+mod line_ends;
 mod literal;
 mod marked;
 mod part;

@@ -1,0 +1,37 @@
+-- How a text in a file is read: one character after another, where a carriage return and a newline
+-- are one.
+use Rattle.std.specs.Prelude.{◌≡◌, ℕ, not, Bool, true, List, [], ◌∷◌, ◌++◌, length, map}
+use Rattle.std.specs.Str.{IsUtf8}
+use Rattle.rustc_lexer.specs.Classes.{Utf8}
+use Rattle.rustc_literal_escaper.specs.declared.element.Element.{Element}
+use Rattle.rustc_literal_escaper.specs.Grammar.{Item}
+use Rattle.rustc_literal_escaper.specs.means.Elements as reading
+use Rattle.rustc_literal_escaper.specs.means.Elements.{front_by, items_from}
+use Rattle.marks.specs.LineEnds.{ends_line, moved, place, unix}
+
+-- whether no line end is cut between w and t
+abbrev pub is_whole : List ℕ → List ℕ → Bool
+is_whole [] t = true
+is_whole (c ∷ []) t = not (ends_line c t)
+is_whole (c ∷ d ∷ w) t = is_whole (d ∷ w) t
+
+-- this is left of a text after some of its characters
+pub record IsLeft (text left : Utf8) : Type 0 where
+  pub read : Utf8
+  pub whole : text ≡ read ++ left
+  pub uncut : is_whole read left ≡ true
+  pub spelt : IsUtf8 left
+
+-- the offset in a text at which only these characters are left
+abbrev pub offset_of : Utf8 → List ℕ → ℕ
+offset_of text left = place text (reading.place (length (unix text)) left)
+
+-- an element from this offset on, before these characters
+abbrev pub file_item : Utf8 → ℕ → Element × List ℕ → Item
+file_item text start found = (record { start = start; end = offset_of text found.1 }, found.0)
+
+-- the items of what is left of a text
+abbrev pub left_items : Bool → Utf8 → List ℕ → List Item
+left_items raw text left =
+    map (λ (i : Item). (moved text i.0, i.1))
+    (items_from (front_by raw) (length (unix text)) left)
