@@ -1,5 +1,6 @@
 pub mod CallLemmas
 pub mod EscapeLemmas
+pub mod FileFaultLemmas
 pub mod FrontmatterEndLemmas
 pub mod FrontmatterLemmas
 pub mod KeywordLemmas

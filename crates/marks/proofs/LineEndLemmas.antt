@@ -175,6 +175,9 @@ scalars-unix (c ∷ s) all = by_either (ends_line c s) (λ ends. rw ends (scalar
 pub chars-unix : (text : List ℕ) → IsUtf8 text → chars (unix text) ≡ unix (chars text)
 chars-unix text is = ap (λ (t : List ℕ). chars (unix t)) (sym (encodes-chars text is)) ∙ (ap chars (sym (encodes-unix (chars text))) ∙ chars-encodes (unix (chars text)) (scalars-unix (chars text) (scalars-chars text is)))
 
+pub utf8-unix : (text : List ℕ) → IsUtf8 text → IsUtf8 (unix text)
+utf8-unix text is = (unix (chars text), (scalars-unix (chars text) (scalars-chars text is), encodes-unix (chars text) ∙ ap unix (encodes-chars text is)))
+
 pub all_items : (raw : Bool) (text : List ℕ) → IsUtf8 text → left_items raw text (unix (chars text)) ≡ file_items raw text
 all_items raw text is = ap (left_items raw text) (sym (chars-unix text is))
 

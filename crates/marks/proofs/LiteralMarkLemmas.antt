@@ -35,7 +35,7 @@ fault-told : (mode : Mode) (error : EscapeError) → error_of mode (Fault error)
 fault-told Char error = refl
 fault-told mode error = refl
 
-errors-are : (mode : Mode) (text : List ℕ) → is_single mode ≡ false → errors_of mode text ≡ errors_in mode (items_of (is_raw mode) text)
+pub errors-are : (mode : Mode) (text : List ℕ) → is_single mode ≡ false → errors_of mode text ≡ errors_in mode (items_of (is_raw mode) text)
 errors-are Char text double = absurd (true≢false double)
 errors-are Byte text double = absurd (true≢false double)
 errors-are mode text double = refl

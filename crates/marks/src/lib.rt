@@ -5,6 +5,7 @@
 mod class;
 mod escape;
 mod fault;
+mod file_faults;
 mod format;
 mod frontmatter;
 mod keyword;
@@ -17,6 +18,7 @@ mod text_fault;
 
 pub use class::{Class, class_of};
 pub use fault::{Fault, fault_of};
+pub use file_faults::FaultsInFile;
 pub use format::Format;
 pub use keyword::{KeywordKind, keyword_kind};
 pub use literal::literal_contents;

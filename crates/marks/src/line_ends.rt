@@ -56,7 +56,7 @@ impl<'a> FileElements<'a> {
     }
 
     /// Returns the next error or warning in a literal of this kind, and its place.
-    fn next_error(&mut self, mode: Mode) -> Option<(Range<usize>, EscapeError)>
+    pub fn next_error(&mut self, mode: Mode) -> Option<(Range<usize>, EscapeError)>
         ensures { TakesFirst (errors_in mode self.old) result (errors_in mode self.new) }
     {
         'elements: while let Some((range, element)) = self.next() {
@@ -94,7 +94,7 @@ type Found = (
 
 /// The characters of a text in a file.
 #[derive(Drop)]
-struct FileChars<'a> {
+pub struct FileChars<'a> {
     text: &'a str,
     rest: &'a str,
 }
@@ -115,7 +115,7 @@ impl<'a> Model for FileChars<'a> {
 impl<'a> FileChars<'a> {
     /// Returns the characters of this text.
     #[tactic(auto, using(crate::proofs::LineEndLemmas::all_left))]
-    fn new(text: &'a str) -> FileChars<'a>
+    pub fn new(text: &'a str) -> FileChars<'a>
         ensures { result ≡ (text.now, unix (chars text.now)) }
     {
         FileChars { text, rest: text }
@@ -132,7 +132,7 @@ impl<'a> FileChars<'a> {
     }
 
     /// Takes the next character. A carriage return and a newline are one, a newline.
-    fn next_char(&mut self) -> Option<char>
+    pub fn next_char(&mut self) -> Option<char>
         ensures text { self.new.0 ≡ self.old.0 }
         ensures left { MatchOption result ((self.old.1 ≡ []) × (self.new.1 ≡ []))
             (λ c. self.old.1 ≡ c ∷ self.new.1) }
@@ -143,14 +143,14 @@ impl<'a> FileChars<'a> {
     }
 
     /// Returns the offset of the next character in the text.
-    fn offset(&self) -> usize
+    pub fn offset(&self) -> usize
         ensures { result ≡ offset_of self.now.0 self.now.1 }
     {
         self.text.len() - self.rest.len()
     }
 
     /// Reads the escape after a backslash.
-    fn escape(&mut self) -> Element
+    pub fn escape(&mut self) -> Element
         ensures text { self.new.0 ≡ self.old.0 }
         ensures read { (result, self.new.1) ≡ escapes.escape self.old.1 }
     {

@@ -124,7 +124,7 @@ pub fn write_literal<W: fmt::Write>(
 }
 
 /// Returns whether such a literal has single quotes.
-fn is_single(mode: Mode) -> bool
+pub fn is_single(mode: Mode) -> bool
     ensures { result ≡ is_single mode }
 {
     matches!(mode, Mode::Char | Mode::Byte)
@@ -140,7 +140,7 @@ fn quote_of(mode: Mode) -> u8
 
 /// Returns the place of the first byte of this value, or the length of the text.
 #[tactic(auto, using(crate::proofs::PlaceLemmas::place_found, crate::proofs::PlaceLemmas::place_none, crate::proofs::PlaceLemmas::past_first))]
-fn first_place(byte: u8, text: &str) -> usize
+pub fn first_place(byte: u8, text: &str) -> usize
     requires ascii { byte < 128 }
     ensures value { result ≡ spec.first_offset byte text.now }
     ensures past { result < length text.now → IsCharBoundary text.now (result + 1) }

@@ -1,12 +1,15 @@
 -- How a text in a file is read: one character after another, where a carriage return and a newline
 -- are one.
-use Rattle.std.specs.Prelude.{◌≡◌, ℕ, not, Bool, true, List, [], ◌∷◌, ◌++◌, length, map}
+use Rattle.std.specs.Prelude.{◌≡◌, ℕ, not, Bool, true, List, [], ◌∷◌, ◌++◌, length, map, Option}
+use Rattle.std.specs.Option.{option_map}
 use Rattle.std.specs.Str.{IsUtf8}
 use Rattle.rustc_lexer.specs.Classes.{Utf8}
 use Rattle.rustc_literal_escaper.specs.declared.element.Element.{Element}
-use Rattle.rustc_literal_escaper.specs.Grammar.{Item}
+use Rattle.rustc_literal_escaper.specs.declared.mode.Mode.{Mode}
+use Rattle.rustc_literal_escaper.specs.Grammar.{Error, Item}
 use Rattle.rustc_literal_escaper.specs.means.Elements as reading
 use Rattle.rustc_literal_escaper.specs.means.Elements.{front_by, items_from}
+use Rattle.rustc_literal_escaper.specs.means.Single.{single_error}
 use Rattle.marks.specs.LineEnds.{ends_line, moved, place, unix}
 
 -- whether no line end is cut between w and t
@@ -35,3 +38,9 @@ abbrev pub left_items : Bool → Utf8 → List ℕ → List Item
 left_items raw text left =
     map (λ (i : Item). (moved text i.0, i.1))
     (items_from (front_by raw) (length (unix text)) left)
+
+-- the error between single quotes, at its place in the text
+abbrev pub single_left : Utf8 → Mode → List ℕ → Option Error
+single_left text mode left =
+    option_map (λ (e : Error). (moved text e.0, e.1))
+    (single_error (length (unix text)) mode left)

@@ -1,0 +1,130 @@
+//! What is wrong in a literal of a file.
+ghost use Rattle.std.specs.Prelude.{◌≡◌, length, true};
+ghost use Rattle.std.specs.Iterator.{at_most};
+ghost use Rattle.std.specs.Str.{chars};
+ghost use Rattle.rustc_literal_escaper.specs.Items.{TakesFirst};
+ghost use Rattle.rustc_literal_escaper.specs.Meaning as meaning;
+ghost use Rattle.rustc_literal_escaper.specs.means.Single as singles;
+ghost use Rattle.marks.specs.LineEnds.{file_errors, unix};
+ghost use Rattle.marks.specs.means.LineEnds.{single_left};
+
+use crate::line_ends::{FileChars, FileElements};
+use crate::literal::{first_place, is_single};
+use rustc_literal_escaper::{Element, EscapeError, Faults, Mode};
+use std::iter::Iterator;
+use std::marker::Model;
+use std::ops::Range;
+
+/// An iterator over the errors and warnings of a literal in a file, each with its place in bytes.
+///
+/// `rustc` reads a carriage return and a newline as a newline, so that carriage return is no error, as it is in
+/// [`Faults`](rustc_literal_escaper::Faults). Every other one is.
+///
+/// ```
+/// use marks::FaultsInFile;
+/// use rustc_literal_escaper::{EscapeError, Mode};
+///
+/// let mut faults = FaultsInFile::new("one\r\ntwo\rthree", Mode::Str);
+/// assert_eq!(faults.next(), Some((8..9, EscapeError::BareCarriageReturn)));
+/// assert_eq!(faults.next(), None);
+/// ```
+#[derive(Drop)]
+pub struct FaultsInFile<'a> {
+    /// Those of a literal without a carriage return.
+    faults: Faults<'a>,
+    /// The error between single quotes, until it is returned.
+    alone: Option<(Range<usize>, EscapeError)>,
+    elements: FileElements<'a>,
+    mode: Mode,
+}
+
+impl<'a> Model for FaultsInFile<'a> {
+    ghost use Rattle.std.specs.Prelude.{List, ◌++◌};
+    ghost use Rattle.std.specs.Option.{option_to_list};
+    ghost use Rattle.rustc_literal_escaper.specs.Meaning.{errors_in};
+    ghost use Rattle.rustc_literal_escaper.specs.Grammar.{Error};
+
+    ghost Value = { List Error };
+
+    ghost view = { λ f. f.faults ++ (option_to_list f.alone ++ errors_in f.mode f.elements) };
+}
+
+impl<'a> FaultsInFile<'a> {
+    /// Returns an iterator over the errors and warnings of a literal of this kind. `contents` is the text between the
+    /// quotes.
+    pub fn new(contents: &'a str, mode: Mode) -> FaultsInFile<'a>
+        ensures { result ≡ file_errors mode contents.now }
+    {
+        let mut found = FaultsInFile {
+            faults: Faults::new("", Mode::Str),
+            alone: None,
+            elements: FileElements::new("", false),
+            mode,
+        };
+        if first_place(b'\r', contents) == contents.len() {
+            found.faults = Faults::new(contents, mode);
+        } else if is_single(mode) {
+            found.alone = single_error(contents, mode);
+        } else {
+            found.elements = FileElements::new(contents, is_raw(mode));
+        }
+        found
+    }
+}
+
+impl<'a> Iterator for FaultsInFile<'a> {
+    type Item = (Range<usize>, EscapeError);
+
+    ghost next_gives = { TakesFirst };
+
+    ghost remaining = { λ s. at_most (length s) };
+
+    /// Returns the next error or warning. Past the last one it returns `None`, and does so from then on.
+    fn next(&mut self) -> Option<(Range<usize>, EscapeError)> {
+        if let Some(found) = self.faults.next() {
+            return Some(found);
+        }
+        if self.alone.is_some() {
+            return self.alone.take();
+        }
+        self.elements.next_error(self.mode)
+    }
+}
+
+/// Returns the error between single quotes and its place, or `None` if there is no error.
+pub fn single_error(contents: &str, mode: Mode) -> Option<(Range<usize>, EscapeError)>
+    ensures { result ≡ single_left contents.now mode (unix (chars contents.now)) }
+{
+    let mut chars = FileChars::new(contents);
+    let Some(c) = chars.next_char() else {
+        return Some((0..0, EscapeError::ZeroChars));
+    };
+    let element = if c == '\\' {
+        chars.escape()
+    } else {
+        unescaped(c)
+    };
+    if let Some(error) = element.error_in(mode) {
+        return Some((0..chars.offset(), error));
+    }
+    chars.next_char()?;
+    Some((0..chars.offset(), EscapeError::MoreThanOneChar))
+}
+
+/// Returns the element for a character that is not escaped, between single quotes.
+fn unescaped(c: char) -> Element
+    ensures { result ≡ singles.unescaped c }
+{
+    match c {
+        '\n' | '\t' | '\'' => Element::Fault(EscapeError::EscapeOnlyChar),
+        '\r' => Element::Fault(EscapeError::BareCarriageReturn),
+        _ => Element::Plain(c),
+    }
+}
+
+/// Returns whether a literal of this kind has no escapes.
+fn is_raw(mode: Mode) -> bool
+    ensures { result ≡ meaning.is_raw mode }
+{
+    matches!(mode, Mode::RawStr | Mode::RawByteStr | Mode::RawCStr)
+}
