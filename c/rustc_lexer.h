@@ -511,9 +511,9 @@ uint32_t rustc_lexer_unescape_unchecked(const uint8_t *text, size_t len, uint32_
                                         struct rustc_lexer_unit *buffer, size_t buffer_len, size_t *count);
 
 /* Writes only the errors and warnings of a literal, in order: as many as fit, after the first `passed`, and their
- * number into `count`. Its arguments are those of rustc_lexer_unescape, and it is much faster. Between single quotes
- * there is at most one, whose range begins at 0 and ends after the character that shows it. If the status is not 0, the
- * buffer stays as it was, and `count` is 0. */
+ * number into `count`. Its arguments are those of rustc_lexer_unescape, and it is much faster. It reads CR LF as a
+ * newline. Between single quotes there is at most one, whose range begins at 0 and ends after the character that shows
+ * it. If the status is not 0, the buffer stays as it was, and `count` is 0. */
 uint32_t rustc_lexer_literal_errors(const uint8_t *text, size_t len, uint32_t mode, size_t passed,
                                     struct rustc_lexer_unit *buffer, size_t buffer_len, size_t *count);
 uint32_t rustc_lexer_literal_errors_unchecked(const uint8_t *text, size_t len, uint32_t mode, size_t passed,

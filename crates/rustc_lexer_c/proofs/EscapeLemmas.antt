@@ -1,5 +1,5 @@
 -- One more unit of a literal.
-use Rattle.std.proofs.Common.{◌≡◌, ℕ, false, true≢false, ◌+◌, ◌≤◌, List, length, take, drop, min, max, sym, ap, ◌∙◌, arith, Option, Some, None}
+use Rattle.std.proofs.Common.{◌≡◌, ℕ, false, true≢false, ◌+◌, ◌≤◌, List, [], ◌∷◌, length, take, drop, min, max, sym, ap, ◌∙◌, arith, Option, Some, None}
 use Rattle.std.proofs.lemmas.Bool.{cond_both}
 use Rattle.std.proofs.lemmas.Grind.{common_steps}
 use Rattle.std.proofs.lemmas.List.{drop-drop, length-map, length-set}
@@ -11,6 +11,9 @@ use Rattle.rustc_literal_escaper.specs.Items.{TakesFirst}
 use Rattle.rustc_literal_escaper.specs.Answers.{errors_of}
 use Rattle.rustc_literal_escaper.specs.Grammar.{Error}
 use Rattle.rustc_literal_escaper.proofs.FewLemmas.{errors_of-few, items-few}
+use Rattle.rustc_lexer.specs.laws.Choice.{by_either}
+use Rattle.marks.specs.LineEnds.{ends_line, file_errors, moved, unix}
+use Rattle.marks.proofs.LineEndLemmas.{utf8-unix}
 use Rattle.rustc_lexer_c.specs.declared.escapes.CUnit.{CUnit}
 use Rattle.rustc_lexer_c.specs.declared.escapes.Listing.{Listing}
 use Rattle.rustc_lexer_c.specs.declared.escapes.Listing.TheVariants.{Units, Errors}
@@ -30,9 +33,14 @@ units_done all passed buffer old count front back is = grind (arith, common_step
 pub none_left : (all at past : List CUnit) (over passed : ℕ) (buffer : List CUnit) (next : Option CUnit) → at ≡ drop over all → over ≤ passed → is_some next ≡ false → TakesFirst at next past → IsUnits all passed buffer buffer 0
 none_left all at past over passed buffer next is low none taken = grind (arith, common_steps, all_taken, units_done, count_second)
 
+unix-shorter : (s : List ℕ) → length (unix s) ≤ length s
+unix-shorter [] = omega arith
+unix-shorter (c ∷ s) = let rest = unix-shorter s in by_either (ends_line c s) (λ e. rw e (omega (arith, rest))) (λ e. rw e (omega (arith, rest)))
+
 -- there are no more of them than bytes, or one
 pub listed_few : (listing : Listing) (mode : Mode) (text : List ℕ) → IsUtf8 text → length (listed listing mode text) ≤ max 1 (length text)
 listed_few Units mode text is = grind (arith, common_steps, cond_both, le-max_left, items-few, le-max_right)
-listed_few Errors mode text is = omega (arith, errors_of-few mode text is, length-map (errors_of mode text) (λ (e : Error). wrong_unit e.0 e.1))
+listed_few Errors mode text is = 
+    omega (arith, errors_of-few mode (unix text) (utf8-unix text is), unix-shorter text, length-map (errors_of mode (unix text)) (λ (e : Error). (moved text e.0, e.1)), length-map (file_errors mode text) (λ (e : Error). wrong_unit e.0 e.1))
 
 pub ruleset fill_lemmas = (passed_step, few_step, length-set, front_step, back_step)

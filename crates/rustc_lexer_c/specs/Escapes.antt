@@ -9,7 +9,8 @@ use Rattle.rustc_literal_escaper.specs.declared.mode.Mode.TheVariants.{Char, Byt
 use Rattle.rustc_literal_escaper.specs.declared.unit.MixedUnit.{MixedUnit}
 use Rattle.rustc_literal_escaper.specs.declared.unit.MixedUnit.TheVariants.{Char as CharUnit, HighByte}
 use Rattle.rustc_literal_escaper.specs.Grammar.{Error, Item}
-use Rattle.rustc_literal_escaper.specs.Answers.{byte_literal, char_literal, errors_of, items_of}
+use Rattle.marks.specs.LineEnds.{file_errors}
+use Rattle.rustc_literal_escaper.specs.Answers.{byte_literal, char_literal, items_of}
 use Rattle.rustc_literal_escaper.specs.Meaning.{byte_of, char_of, is_fatal, is_raw, is_single, raw_unit_of, unit_of}
 pub use Rattle.rustc_literal_escaper.specs.Numbers.{error_number}
 use Rattle.rustc_lexer_c.specs.declared.escapes.CUnit.{CUnit}
@@ -101,7 +102,7 @@ pub record IsUnits (units : List CUnit) (passed : ℕ) (buffer filled : List CUn
   pub written : filled ≡ take count (drop passed units) ++ drop count buffer
 
 abbrev pub wrong_units_of : Mode → List ℕ → List CUnit
-wrong_units_of mode text = wrong_units (errors_of mode text)
+wrong_units_of mode text = wrong_units (file_errors mode text)
 
 -- the units that a call lists for a text
 abbrev pub listed : Listing → Mode → List ℕ → List CUnit

@@ -12,9 +12,8 @@ ghost use Rattle.rustc_lexer_c.specs.declared.status.Refusal.TheVariants.{BadMod
 ghost use Rattle.rustc_lexer_c.specs.Status.{IsStatus, OK, refusal_number};
 
 use crate::status::{Refusal, done, refuse, text_of, utf8_text_of};
-use rustc_literal_escaper::{
-    Element, Elements, EscapeError, Faults, Mode, unescape_byte, unescape_char,
-};
+use marks::FaultsInFile;
+use rustc_literal_escaper::{Element, Elements, EscapeError, Mode, unescape_byte, unescape_char};
 use std::ops::Range;
 
 /// The kinds of units.
@@ -80,7 +79,7 @@ pub extern "C" fn rustc_lexer_unescape_unchecked(
 }
 
 /// Writes the errors and warnings of a literal in the same way as `rustc_lexer_unescape` writes its units. `text`
-/// is the text between the quotes. Skips what is not wrong.
+/// is the text between the quotes. Skips what is not wrong. CR LF is a newline.
 ///
 /// Between single quotes there is at most one error. Its place goes from 0 to the end of the character that shows
 /// it.
@@ -177,7 +176,7 @@ fn fill(text: &str, listing: Listing, mode: Mode, passed: usize, buffer: &mut [C
 {
     match listing {
         Listing::Units => fill_units(text, mode, passed, buffer),
-        Listing::Errors => fill_all(Faults::new(text, mode), passed, buffer),
+        Listing::Errors => fill_all(FaultsInFile::new(text, mode), passed, buffer),
     }
 }
 
@@ -270,7 +269,7 @@ impl<'a> Units for Meanings<'a> {
 }
 
 /// The errors and warnings, and nothing else.
-impl<'a> Units for Faults<'a> {
+impl<'a> Units for FaultsInFile<'a> {
     ghost units = { λ faults. spec.wrong_units faults };
 
     #[inline(always)]
