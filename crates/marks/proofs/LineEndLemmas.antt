@@ -148,10 +148,11 @@ line_read rest left line c spelt spelt_line read text ends is_line =
     let newline : left ≡ 10 ∷ line = is.1 ∙ ap (λ (t : List ℕ). 10 ∷ t) (sym is_line) in
     let first : encode c ≡ 13 ∷ [] = ap encode is.0 ∙ encode_ascii 13 (omega arith) in
     let second : left ≡ encode 10 ++ line = newline ∙ ap (λ (w : List ℕ). w ++ line) (sym (encode_ascii 10 (omega arith))) in
-    let whole : rest ≡ 13 ∷ 10 ∷ line = text ∙ (ap (λ (w : List ℕ). w ++ left) first ∙ ap (λ (t : List ℕ). 13 ∷ t) newline) in
-    (ap unix (read ∙ (ap (λ (x : ℕ). x ∷ chars left) is.0 ∙ ap (λ (t : List ℕ). 13 ∷ t) (chars_past_char left line 10 spelt second))),
-    record { read = 13 ∷ 10 ∷ []; whole = whole; uncut = refl; spelt = spelt_line },
-    omega (arith, ap length whole))
+    let whole : rest ≡ 13 ∷ 10 ∷ line = text ∙ (ap (λ (w : List ℕ). w ++ left) first ∙ ap (λ (t : List ℕ). 13 ∷ t) newline) in (
+      ap unix (read ∙ (ap (λ (x : ℕ). x ∷ chars left) is.0 ∙ ap (λ (t : List ℕ). 13 ∷ t) (chars_past_char left line 10 spelt second))),
+      record { read = 13 ∷ 10 ∷ []; whole = whole; uncut = refl; spelt = spelt_line },
+      omega (arith, ap length whole),
+    )
 
 -- where only some characters are left
 pub offset_is : (text left : List ℕ) → IsLeft text left → length text - length left ≡ offset_of text (unix (chars left))

@@ -8,17 +8,19 @@ use rattle_std::io::Write;
 /// The size of a block in bytes.
 const BLOCK: usize = 65536;
 
-/// The bytes that are not written yet, at most one block. They are stored in place, so nothing is
+/// A writer that holds back bytes, at most one block. They are stored in place, so nothing is
 /// allocated.
-pub struct Block {
+pub struct BlockWriter<'a, W> {
+    output: &'a mut Watched<W>,
     bytes: [u8; BLOCK],
     len: usize,
 }
 
-impl Block {
-    /// Makes an empty block.
-    pub fn new() -> Block {
-        Block {
+impl<'a, W: Write> BlockWriter<'a, W> {
+    /// Makes a writer that holds nothing.
+    pub fn new(output: &'a mut Watched<W>) -> BlockWriter<'a, W> {
+        BlockWriter {
+            output,
             bytes: [0; BLOCK],
             len: 0,
         }
@@ -26,40 +28,28 @@ impl Block {
 
     /// Adds a text. If it does not fit, the block is written first.
     #[inline]
-    pub fn push<W: Write>(&mut self, output: &mut Watched<W>, text: &str) -> Result<(), Fault> {
-        self.push_bytes(output, text.as_bytes())
+    pub fn push(&mut self, text: &str) -> Result<(), Fault> {
+        self.push_bytes(text.as_bytes())
     }
 
     /// Adds texts, one after another.
-    pub fn push_all<W: Write>(
-        &mut self,
-        output: &mut Watched<W>,
-        texts: &[&str],
-    ) -> Result<(), Fault> {
+    pub fn push_all(&mut self, texts: &[&str]) -> Result<(), Fault> {
         for text in texts {
-            self.push(output, text)?;
+            self.push(text)?;
         }
         Ok(())
     }
 
     /// Adds a number in decimal.
-    pub fn push_number<W: Write>(
-        &mut self,
-        output: &mut Watched<W>,
-        number: usize,
-    ) -> Result<(), Fault> {
-        self.push(output, Buffer::new().format(number))
+    pub fn push_number(&mut self, number: usize) -> Result<(), Fault> {
+        self.push(Buffer::new().format(number))
     }
 
     /// Adds bytes. If they do not fit, the block is written first.
     #[inline]
-    pub fn push_bytes<W: Write>(
-        &mut self,
-        output: &mut Watched<W>,
-        bytes: &[u8],
-    ) -> Result<(), Fault> {
+    pub fn push_bytes(&mut self, bytes: &[u8]) -> Result<(), Fault> {
         if bytes.len() > BLOCK - self.len {
-            return self.push_past(output, bytes);
+            return self.push_past(bytes);
         }
         self.hold(bytes);
         Ok(())
@@ -68,11 +58,10 @@ impl Block {
     /// Writes the block, then adds the bytes. If they are more than a block they are written at
     /// once.
     #[inline(never)]
-    fn push_past<W: Write>(&mut self, output: &mut Watched<W>, bytes: &[u8]) -> Result<(), Fault> {
-        self.write_out(output)?;
+    fn push_past(&mut self, bytes: &[u8]) -> Result<(), Fault> {
+        self.write_out()?;
         if bytes.len() > BLOCK {
-            write_bytes(output, bytes)?;
-            return Ok(());
+            return write_bytes(self.output, bytes);
         }
         self.hold(bytes);
         Ok(())
@@ -87,15 +76,17 @@ impl Block {
     }
 
     /// Writes the block and empties it. On an error it stays as it was.
-    fn write_out<W: Write>(&mut self, output: &mut Watched<W>) -> Result<(), Fault> {
-        write_bytes(output, &self.bytes[..self.len])?;
+    fn write_out(&mut self) -> Result<(), Fault> {
+        let held = &self.bytes[..self.len];
+        write_bytes(self.output, held)?;
         self.len = 0;
         Ok(())
     }
 
     /// Writes the block, empties it and flushes. On an error it stays as it was.
-    pub fn finish<W: Write>(&mut self, output: &mut Watched<W>) -> Result<(), Fault> {
-        write_all(output, &self.bytes[..self.len])?;
+    pub fn finish(&mut self) -> Result<(), Fault> {
+        let held = &self.bytes[..self.len];
+        write_all(self.output, held)?;
         self.len = 0;
         Ok(())
     }

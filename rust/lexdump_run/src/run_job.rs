@@ -3,7 +3,7 @@
 
 use crate::job::Job;
 use crate::listing::{edited, list_pieces, list_tokens, tell_shebang};
-use crate::output::Block;
+use crate::output::BlockWriter;
 use ends::{Fault, Watched, read_text};
 use rattle_std::alloc::Global;
 use rattle_std::io::{Read, Write};
@@ -32,9 +32,9 @@ pub fn run<R: Read, W: Write>(
     output: &mut Watched<W>,
 ) -> Result<(), Fault> {
     let text = read_text(alloc, input)?;
-    let mut lines = Block::new();
-    print(alloc, job, text.as_str(), &mut lines, output)?;
-    lines.finish(output)
+    let mut lines = BlockWriter::new(output);
+    print(alloc, job, text.as_str(), &mut lines)?;
+    lines.finish()
 }
 
 /// Prints what the job asks for.
@@ -42,21 +42,18 @@ fn print<W: Write>(
     alloc: Global,
     job: &Job<'_>,
     text: &str,
-    lines: &mut Block,
-    output: &mut Watched<W>,
+    lines: &mut BlockWriter<'_, W>,
 ) -> Result<(), Fault> {
     match job {
-        Job::Plain { edition } => {
-            list_tokens(lines, output, text, FrontmatterAllowed::No, *edition)
-        }
+        Job::Plain { edition } => list_tokens(lines, text, FrontmatterAllowed::No, *edition),
         Job::Front => {
             let newest = Edition::NEWEST;
-            list_tokens(lines, output, text, FrontmatterAllowed::Yes, newest)
+            list_tokens(lines, text, FrontmatterAllowed::Yes, newest)
         }
-        Job::Shebang => tell_shebang(lines, output, text),
+        Job::Shebang => tell_shebang(lines, text),
         Job::Edit { edition, edits } => {
             let lexed = edited(alloc, text, *edition, edits.as_slice())?;
-            list_pieces(lines, output, &lexed)
+            list_pieces(lines, &lexed)
         }
     }
 }

@@ -5,9 +5,11 @@
 mod class;
 mod escape;
 mod fault;
+mod file_faults;
 mod format;
 mod frontmatter;
 mod keyword;
+mod line_ends;
 mod literal;
 mod marked;
 mod part;
@@ -16,6 +18,7 @@ mod text_fault;
 
 pub use class::{Class, class_of};
 pub use fault::{Fault, fault_of};
+pub use file_faults::FaultsInFile;
 pub use format::Format;
 pub use keyword::{KeywordKind, keyword_kind};
 pub use literal::literal_contents;

@@ -1,7 +1,7 @@
 // Made by tools/erase from crates/marks/src/fault.rt: edit that file.
 //! The faults of tokens.
 
-use crate::erased::frontmatter::end_fault;
+use crate::erased::frontmatter::{end_fault, has_crlf};
 use crate::erased::text_fault::text_fault;
 use core::error::Error;
 use core::fmt;
@@ -123,7 +123,7 @@ impl Fault {
 }
 
 /// Returns what is wrong with a token, by its kind and its text. Returns `None` if nothing is wrong. If two things are, it
-/// returns one.
+/// returns one. CR LF is a newline, and so is a carriage return at the end of a doc comment or a frontmatter.
 pub fn fault_of(kind: TokenKind, text: &str) -> Option<Fault> {
     match kind_fault(kind, text) {
         None => text_fault(kind, text),
@@ -144,7 +144,7 @@ fn kind_fault(kind: TokenKind, text: &str) -> Option<Fault> {
         TokenKind::Frontmatter {
             invalid_infostring, ..
         } => match end_fault(text) {
-            None if invalid_infostring => Some(Fault::InvalidInfostring),
+            None if invalid_infostring && !has_crlf(text) => Some(Fault::InvalidInfostring),
             fault => fault,
         },
         TokenKind::InvalidIdent => Some(Fault::InvalidName),

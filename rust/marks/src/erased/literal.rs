@@ -99,7 +99,7 @@ pub fn write_literal<W: fmt::Write>(
 }
 
 /// Returns whether such a literal has single quotes.
-fn is_single(mode: Mode) -> bool {
+pub fn is_single(mode: Mode) -> bool {
     matches!(mode, Mode::Char | Mode::Byte)
 }
 
@@ -109,7 +109,7 @@ fn quote_of(mode: Mode) -> u8 {
 }
 
 /// Returns the place of the first byte of this value, or the length of the text.
-fn first_place(byte: u8, text: &str) -> usize {
+pub fn first_place(byte: u8, text: &str) -> usize {
     memchr(byte, text.as_bytes()).unwrap_or(text.len())
 }
 

@@ -3,8 +3,9 @@
 
 use crate::erased::status::{Refusal, done, refuse, text_of, utf8_text_of};
 use core::ops::Range;
+use marks::FaultsInFile;
 use rustc_literal_escaper::erased::{
-    Element, Elements, EscapeError, Faults, Mode, unescape_byte, unescape_char,
+    Element, Elements, EscapeError, Mode, unescape_byte, unescape_char,
 };
 
 /// The kinds of units.
@@ -61,7 +62,7 @@ pub fn rustc_lexer_unescape_unchecked(
 }
 
 /// Writes the errors and warnings of a literal in the same way as `rustc_lexer_unescape` writes its units. `text`
-/// is the text between the quotes. Skips what is not wrong.
+/// is the text between the quotes. Skips what is not wrong. CR LF is a newline.
 ///
 /// Between single quotes there is at most one error. Its place goes from 0 to the end of the character that shows
 /// it.
@@ -135,7 +136,7 @@ fn mode_of(number: u32) -> Option<Mode> {
 fn fill(text: &str, listing: Listing, mode: Mode, passed: usize, buffer: &mut [CUnit]) -> usize {
     match listing {
         Listing::Units => fill_units(text, mode, passed, buffer),
-        Listing::Errors => fill_all(Faults::new(text, mode), passed, buffer),
+        Listing::Errors => fill_all(FaultsInFile::new(text, mode), passed, buffer),
     }
 }
 
@@ -208,7 +209,7 @@ impl<'a> Units for Meanings<'a> {
 }
 
 /// The errors and warnings, and nothing else.
-impl<'a> Units for Faults<'a> {
+impl<'a> Units for FaultsInFile<'a> {
     #[inline(always)]
     fn next_unit(&mut self) -> Option<CUnit> {
         let (place, error) = self.next()?;
