@@ -30,7 +30,7 @@ use Rattle.rustc_lexer.proofs.lemmas.tokens.ClassParts.{continue_part}
 use Rattle.marks.specs.declared.fault.Fault.{Fault}
 use Rattle.marks.specs.declared.fault.Fault.TheVariants.{WhitespaceBeforeFrontmatter, UnclosedFrontmatter, FrontmatterCloseMismatch, ExtraAfterFrontmatterClose}
 use Rattle.rustc_literal_escaper.specs.Grammar.{is_newline}
-use Rattle.marks.specs.Frontmatter.{after, blanks, closing_fault, dashes, end_fault, has_crlf, is_end, is_of}
+use Rattle.marks.specs.Frontmatter.{blanks, closing_fault, dashes, end_fault, has_crlf, is_end, is_of, past_infostring, past_run}
 use Rattle.marks.specs.Fault.{fault_of, front_fault, kind_fault}
 use Rattle.marks.specs.TextFault.{frontmatter_fault}
 use Rattle.marks.specs.FrontmatterEnd.{EndsAfter, IsEndFault, IsOpen, IsToldBy, NoLineBegins, TellsFrontmatter, closed, indented, more_words, other_dashes, unclosed}
@@ -371,6 +371,25 @@ label-alone body next (the.blank all stop start) = the.blank all (front-stops is
 label-alone body next (the.named u c v w before start info info_stops blanks stop) =
     the.named u c v w before start info (front-stops is_info (w ++ body) next (ap (next_is is_info) (append_assoc w body next) ∙ info_stops)) blanks (front-stops is_horizontal_whitespace body next stop)
 
+abbrev after : (Chars → ℕ) → Chars → Chars
+after len s = drop (len s) s
+
+run-past : (p : ℕ → Bool) (s : Chars) → past_run p s ≡ after (run_len p) s
+run-past p s = ap (λ (n : ℕ). drop n s) (sym (run-is p p (λ c. refl) s))
+
+infostring-past : (s : Chars) → past_infostring s ≡ after infostring_len s
+infostring-past [] = refl
+infostring-past (c ∷ s) =
+    let one : 1 + run_len is_info s ≡ suc (run_len is_info s) = omega arith in
+    by_either (is_id_start c) (λ e. rw (e, one) (run-past is_info s)) (λ e. rw e refl)
+
+label-past : (s : Chars) → past_run is_horizontal_whitespace (past_infostring (past_run is_horizontal_whitespace (past_run is_dash s))) ≡ after blanks_len (after infostring_len (after blanks_len (after (run_len is_dash) s)))
+label-past s =
+    let fence : Chars = past_run is_dash s in
+    let name : Chars = past_run is_horizontal_whitespace fence in
+    run-past is_horizontal_whitespace (past_infostring name)
+    ∙ ap (after blanks_len) (infostring-past name ∙ ap (after infostring_len) (run-past is_horizontal_whitespace fence ∙ ap (after blanks_len) (run-past is_dash s)))
+
 after-then : (f g : Chars → ℕ) (s : Chars) → after g (after f s) ≡ after (then_len f g) s
 after-then f g s = drop-drop (g (after f s)) (f s) s
 
@@ -384,7 +403,7 @@ crlf-is (suc n) label body many opens =
     ap (λ (t : Chars). blanks_after (after infostring_len (blanks_after t))) (after-then spaces_len (run_len is_dash) s)
     ∙ (ap blanks_after (after-then blanks_len infostring_len (after fence_end s)) ∙ (after-then (then_len blanks_len infostring_len) blanks_len (after fence_end s)
     ∙ (after-then fence_end label_len s ∙ (ap (λ (k : ℕ). drop k s) (opening-read opens).len ∙ drop-append_seam (fence (suc n) ++ label) body)))) in
-    ap (begins (codes "\r\n")) past
+    ap (begins (codes "\r\n")) (label-past s ∙ past)
 
 -- of a kind that the grammar gives, in characters
 told-text : (kind : TokenKind) (n : ℕ) (bad_label : Bool) (opening body next : Chars) → IsOpeningBefore (body ++ next) n bad_label opening → IsBodyBefore next (endings n) body

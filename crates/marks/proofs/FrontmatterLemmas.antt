@@ -1,5 +1,5 @@
 -- The last line of a text, and a run of bytes.
-use Rattle.std.proofs.Common.{◌≡◌, ℕ, ◌+◌, ◌-◌, ◌<◌, ◌≤◌, if◌then◌else◌, Bool, true, false, List, [], ◌∷◌, refl, drop, get_or, length, not, sym, take, ap, subst, arith, ◌∙◌, Option, Some, None}
+use Rattle.std.proofs.Common.{◌≡◌, ℕ, ◌+◌, ◌-◌, ◌<◌, ◌≤◌, suc, if◌then◌else◌, Bool, true, false, List, [], ◌∷◌, refl, drop, get_or, length, not, sym, take, ap, subst, arith, ◌∙◌, Option, Some, None}
 use Rattle.std.specs.List.{after_last, list_any, prefix_len, suffix_len}
 use Rattle.std.specs.Str.{byte}
 use Rattle.std.proofs.lemmas.Bool.{false_from_ne_true, not_from_false, not_from_true}
@@ -10,9 +10,8 @@ use Rattle.std.proofs.lemmas.Grind.{common_steps}
 use Rattle.memchr.specs.Find.{IsLastByte, is_byte}
 use Rattle.marks.specs.declared.fault.Fault.{Fault}
 use Rattle.marks.specs.declared.fault.Fault.TheVariants.{UnclosedFrontmatter}
-use Rattle.rustc_lexer.specs.means.Scan.{run_len}
 use Rattle.rustc_literal_escaper.specs.Grammar.{is_newline}
-use Rattle.marks.specs.Frontmatter.{closing_fault, dashes, end_fault, is_of}
+use Rattle.marks.specs.Frontmatter.{closing_fault, dashes, end_fault, is_of, past_run}
 
 module _ (bytes text : List ℕ) where
   abbrev chosen : Bool → Option Fault
@@ -48,11 +47,11 @@ module _ (these bytes : List ℕ) (n : ℕ) (so : prefix_len (is_of these) bytes
 
 -- past a run of a class
 module _ (p : ℕ → Bool) (s t : List ℕ) (c : ℕ) (front : s ≡ c ∷ t) where
-  pub skip_on : p c ≡ true → drop (run_len p t) t ≡ drop (run_len p s) s
-  skip_on e = rw (front, e) refl
+  pub skip_on : p c ≡ true → past_run p t ≡ past_run p s
+  skip_on e = let one : 1 + prefix_len p t ≡ suc (prefix_len p t) = omega arith in rw (front, e, one) refl
 
-  pub skip_ends : p c ≡ false → drop (run_len p s) s ≡ s
+  pub skip_ends : p c ≡ false → past_run p s ≡ s
   skip_ends e = rw (front, e) refl
 
-pub skip_all : (p : ℕ → Bool) (s : List ℕ) → s ≡ [] → drop (run_len p s) s ≡ s
+pub skip_all : (p : ℕ → Bool) (s : List ℕ) → s ≡ [] → past_run p s ≡ s
 skip_all p s none = rw none refl

@@ -6,9 +6,7 @@
 use Rattle.std.specs.Prelude.{ℕ, Bool, ◌==◌, ◌&&◌, ◌||◌, get_or, nat_eq, nat_lt, if◌then◌else◌, List, drop, codes, length, not, Option, Some, None}
 use Rattle.std.specs.List.{after_last, list_any, prefix_len}
 use Rattle.std.specs.Str.{byte}
-use Rattle.rustc_lexer.specs.Classes.{Chars, begins}
-use Rattle.rustc_lexer.specs.means.Frontmatter.{blanks_len, infostring_len, is_dash}
-use Rattle.rustc_lexer.specs.means.Scan.{run_len}
+use Rattle.rustc_lexer.specs.Classes.{Chars, begins, is_horizontal_whitespace, is_id_start, is_info, next_is}
 use Rattle.rustc_literal_escaper.specs.Grammar.{is_newline}
 use Rattle.marks.specs.declared.fault.Fault.{Fault}
 use Rattle.marks.specs.declared.fault.Fault.TheVariants.{UnclosedFrontmatter, WhitespaceBeforeFrontmatterClose, FrontmatterCloseMismatch, ExtraAfterFrontmatterClose}
@@ -46,13 +44,17 @@ end_fault text =
     if list_any is_newline text then closing_fault (dashes text) (after_last is_newline text)
     else Some UnclosedFrontmatter
 
--- the text past a number of characters, which depends on it
-abbrev pub after : (Chars → ℕ) → Chars → Chars
-after len s = drop (len s) s
+-- the text past the characters of a class with which it begins
+abbrev pub past_run : (ℕ → Bool) → Chars → Chars
+past_run class s = drop (prefix_len class s) s
+
+-- the text past an infostring, if it begins with one
+abbrev pub past_infostring : Chars → Chars
+past_infostring s = if next_is is_id_start s then past_run is_info (drop 1 s) else s
 
 -- whether CR LF ends the first line of a frontmatter that begins with its dashes: it comes right
 -- after its label, which is blanks, or an infostring with blanks around it
 abbrev pub has_crlf : Chars → Bool
 has_crlf text =
-    begins (codes "\r\n")
-    (after blanks_len (after infostring_len (after blanks_len (after (run_len is_dash) text))))
+    let name = past_run is_horizontal_whitespace (past_run (λ c. c == byte "-") text) in
+    begins (codes "\r\n") (past_run is_horizontal_whitespace (past_infostring name))

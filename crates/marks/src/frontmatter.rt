@@ -1,10 +1,8 @@
 //! How the first line of a frontmatter ends, and how its last line does. Its line ends may be CR LF.
-ghost use Rattle.std.specs.Prelude.{◌≡◌, ◌≤◌, ◌<◌, ◌^◌, ℕ, Bool, codes, drop, length};
+ghost use Rattle.std.specs.Prelude.{◌≡◌, ◌≤◌, ◌<◌, ◌^◌, ℕ, Bool, codes, length};
 ghost use Rattle.std.specs.List.{prefix_len};
 ghost use Rattle.std.specs.Str.{chars};
 ghost use Rattle.rustc_lexer.specs.Classes.{Fits, begins, is_horizontal_whitespace};
-ghost use Rattle.rustc_lexer.specs.means.Frontmatter.{infostring_len};
-ghost use Rattle.rustc_lexer.specs.means.Scan.{run_len};
 ghost use Rattle.marks.specs.Frontmatter as spec;
 
 use crate::fault::Fault;
@@ -88,7 +86,7 @@ pub fn has_crlf(text: &str) -> bool
 
 /// Returns the text after an infostring, if there is one at the front, or else the whole text.
 fn skip_infostring(text: &str) -> &str
-    ensures { chars result.now ≡ drop (infostring_len (chars text.now)) (chars text.now) }
+    ensures { chars result.now ≡ spec.past_infostring (chars text.now) }
 {
     match split_first(text) {
         Some((first, rest)) if is_id_start(first) => {
@@ -109,7 +107,7 @@ fn is_blank(c: char) -> bool
 fn skip<F: Fn(char) -> bool>(text: &str, test: F) -> &str
     requires callable { F.IsAlwaysCallable test }
     ensures { (class : ℕ → Bool) → ((c : ℕ) (b : Bool) → F.post test c b → b ≡ class c)
-        → chars result.now ≡ drop (run_len class (chars text.now)) (chars text.now) }
+        → chars result.now ≡ spec.past_run class (chars text.now) }
 {
     let mut left = text;
     'chars: while let Some((c, rest)) = split_first(left) {

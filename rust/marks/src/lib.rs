@@ -47,7 +47,9 @@
 pub mod erased;
 
 #[doc(inline)]
-pub use erased::{Class, Fault, Format, KeywordKind, class_of, keyword_kind, literal_contents};
+pub use erased::{
+    Class, Fault, FaultsInFile, Format, KeywordKind, class_of, keyword_kind, literal_contents,
+};
 pub use rustc_lexer::Edition;
 
 use core::fmt;
