@@ -54,6 +54,14 @@ place-append (c ∷ d ∷ w) t i whole = by_either (ends_line c (d ∷ w))
     let size : length (unix (c ∷ d ∷ w)) + i ≡ suc (length (unix (d ∷ w)) + i) = omega (arith, one) in
     ap (place (c ∷ d ∷ (w ++ t))) size ∙ (place-one c (length (unix (d ∷ w)) + i) (d ∷ (w ++ t)) stays ∙ omega (arith, place-append (d ∷ w) t i whole)))
 
+-- a byte that comes later stands later
+pub place_less : (s : List ℕ) (i j : ℕ) → i < j → place s i < place s j
+place_less s i zero less = absurd (omega arith)
+place_less [] zero (suc j) less = omega arith
+place_less [] (suc i) (suc j) less = less
+place_less (c ∷ s) zero (suc j) less = by_either (ends_line c s) (λ ends. rw ends (omega arith)) (λ stays. rw stays (omega arith))
+place_less (c ∷ s) (suc i) (suc j) less = by_either (ends_line c s) (λ ends. rw ends (omega (arith, place_less s (suc i) (suc j) less))) (λ stays. rw stays (omega (arith, place_less s i j (omega arith))))
+
 whole-append : (v w t : List ℕ) → is_whole v (w ++ t) ≡ true → is_whole w t ≡ true → is_whole (v ++ w) t ≡ true
 whole-append [] w t a b = b
 whole-append (c ∷ []) [] t a b = a

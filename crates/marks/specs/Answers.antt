@@ -1,21 +1,23 @@
 -- The stretches of a literal, under the name that contracts use. Those of a string are taken from a
 -- value whose type says that they are allowed and no others; the proof is in laws/Literal.antt.
-use Rattle.std.specs.Prelude.{ℕ, if◌then◌else◌, List, [], Option, Some, None}
+use Rattle.std.specs.Prelude.{ℕ, if◌then◌else◌, List, [], map, Option, Some, None}
 use Rattle.std.specs.List.{between}
 use Rattle.std.specs.Str.{chars}
 use Rattle.rustc_lexer.specs.Classes.{Utf8}
 use Rattle.rustc_literal_escaper.specs.Grammar.{TheOnly}
 use Rattle.rustc_literal_escaper.specs.Meaning.{is_single}
 use Rattle.rustc_literal_escaper.specs.declared.mode.Mode.{Mode}
-use Rattle.marks.specs.Literal.{AreStretches, Stretch, contents_places, single_stretches}
+use Rattle.marks.specs.LineEnds.{unix}
+use Rattle.marks.specs.Literal.{AreStretches, Stretch, contents_places, moved_stretch, single_stretches}
 use Rattle.marks.specs.laws.Literal.{the_stretches}
 
+-- those of the contents with newlines for CR LF, at their places
 abbrev pub string_stretches : Mode → ℕ → ℕ → Utf8 → List Stretch
 string_stretches mode begin close text =
-    let contents = chars (between begin close text) in
-    let the : TheOnly (Unit {0}) (AreStretches mode begin contents) =
-    the_stretches mode begin contents in
-    the.answer
+    let contents = between begin close text in
+    let the : TheOnly (Unit {0}) (AreStretches mode 0 (chars (unix contents))) =
+    the_stretches mode 0 (chars (unix contents)) in
+    map (moved_stretch begin contents) the.answer
 
 abbrev pub stretches_in : Mode → ℕ → ℕ → Utf8 → List Stretch
 stretches_in mode begin close text =

@@ -26,6 +26,7 @@ use Rattle.marks.specs.declared.class.Class.TheVariants.{Text, Escape as EscapeC
 use Rattle.marks.specs.declared.fault.Fault.TheVariants.{InLiteral}
 use Rattle.marks.specs.declared.literal.Look.{Look}
 use Rattle.marks.specs.declared.literal.Look.TheVariants.{Escape, Wrong}
+use Rattle.marks.specs.LineEnds.{place, unix}
 use Rattle.marks.specs.Part.{Part, Own, fault_parts}
 
 -- the mode of a literal that is closed. Numbers have none
@@ -172,10 +173,19 @@ pub data AreStretches (mode : Mode) (begin : ℕ) (text : Chars) : List Stretch 
       → ArePieces mode (is_raw mode) text pieces
       → AreStretches mode begin text (stretches_at begin pieces)
 
--- what is wrong between single quotes
+-- a stretch of these contents with newlines for CR LF is this one of the literal, if the contents
+-- begin at the offset `begin` of it
+abbrev pub moved_stretch : ℕ → Utf8 → Stretch → Stretch
+moved_stretch begin contents s = record {
+  start = begin + place contents s.start;
+  end = begin + place contents s.end;
+  look = s.look;
+}
+
+-- what is wrong between single quotes; CR LF is a newline
 abbrev pub char_error : Mode → Utf8 → Option EscapeError
-char_error Byte contents = result_err (byte_literal (chars contents))
-char_error mode contents = result_err (char_literal (chars contents))
+char_error Byte contents = result_err (byte_literal (chars (unix contents)))
+char_error mode contents = result_err (char_literal (chars (unix contents)))
 
 abbrev pub char_look : Option EscapeError → Utf8 → Option Look
 char_look (Some error) contents = Some (Wrong error)

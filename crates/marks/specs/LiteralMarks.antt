@@ -6,10 +6,10 @@ use Rattle.std.specs.declared.ops.Range.{Range}
 use Rattle.rustc_lexer.specs.Classes.{Utf8}
 use Rattle.rustc_literal_escaper.specs.declared.error.EscapeError.{EscapeError}
 use Rattle.rustc_literal_escaper.specs.declared.mode.Mode.{Mode}
-use Rattle.rustc_literal_escaper.specs.Answers.{errors_of, items_of}
 use Rattle.rustc_literal_escaper.specs.Grammar.{Error, Item}
 use Rattle.rustc_literal_escaper.specs.Meaning.{is_raw}
 use Rattle.marks.specs.Answers.{stretches_in}
+use Rattle.marks.specs.LineEnds.{file_errors, file_items}
 use Rattle.marks.specs.declared.literal.Look.{Look}
 use Rattle.marks.specs.declared.literal.Look.TheVariants.{Escape, Wrong}
 use Rattle.marks.specs.Literal.{Stretch, is_plain}
@@ -56,9 +56,9 @@ IsShown begin ss item =
 -- or at its place, has none of its own
 pub record IsMarked (mode : Mode) (begin close : ℕ) (text : Utf8) : Type 0 where
   pub order : AreInOrder begin (stretches_in mode begin close text) close
-  pub wrong : All (IsReported begin (errors_of mode (between begin close text)))
+  pub wrong : All (IsReported begin (file_errors mode (between begin close text)))
       (stretches_in mode begin close text)
   pub all : list_all (λ (e : Error). is_in (stretches_in mode begin close text) (begin + e.0.start))
-      (errors_of mode (between begin close text)) ≡ true
+      (file_errors mode (between begin close text)) ≡ true
   pub shown : All (IsShown begin (stretches_in mode begin close text))
-      (items_of (is_raw mode) (between begin close text))
+      (file_items (is_raw mode) (between begin close text))

@@ -8,12 +8,12 @@ use Rattle.rustc_literal_escaper.specs.declared.element.Element.{Element}
 use Rattle.rustc_literal_escaper.specs.declared.element.Element.TheVariants.{Plain}
 use Rattle.rustc_literal_escaper.specs.declared.error.EscapeError.{EscapeError}
 use Rattle.rustc_literal_escaper.specs.declared.mode.Mode.{Mode}
-use Rattle.rustc_literal_escaper.specs.Answers.{items_of}
 use Rattle.rustc_literal_escaper.specs.Grammar.{Item}
 use Rattle.rustc_literal_escaper.specs.Meaning.{error_of, is_raw}
 use Rattle.marks.specs.declared.literal.Look.{Look}
 use Rattle.marks.specs.declared.literal.Look.TheVariants.{Escape, Wrong}
 use Rattle.marks.specs.declared.format.Format.{Format}
+use Rattle.marks.specs.LineEnds.{file_items}
 use Rattle.marks.specs.Literal.{Stretch, parts_from, stretch}
 use Rattle.marks.specs.Part.{with_marks}
 
@@ -43,7 +43,7 @@ stretches_from mode begin at close (item ∷ items) =
 -- those of a text between double quotes
 abbrev pub string_stretches : Mode → ℕ → ℕ → Utf8 → List Stretch
 string_stretches mode begin close text =
-    stretches_from mode begin begin close (items_of (is_raw mode) (between begin close text))
+    stretches_from mode begin begin close (file_items (is_raw mode) (between begin close text))
 
 -- a writer that has written a literal up to the offset `shown` writes these stretches, and has then
 -- written it up to `to`: whatever stretches follow, writing those too completes the literal
