@@ -1,5 +1,5 @@
 -- The errors of a literal in a file.
-use Rattle.std.proofs.Common.{◌≡◌, ℕ, zero, suc, ◌==◌, Bool, true, false, if◌then◌else◌, List, [], ◌∷◌, ◌++◌, append-nil, length, map, refl, sym, ap, ◌∙◌, arith, Option, Some, None}
+use Rattle.std.proofs.Common.{◌≡◌, ℕ, zero, suc, ◌==◌, Bool, true, false, true≢false, if◌then◌else◌, List, [], ◌∷◌, ◌++◌, append-nil, length, map, refl, sym, ap, ◌∙◌, arith, Option, Some, None}
 use Rattle.std.specs.List.{position_or_len}
 use Rattle.std.specs.Option.{option_map, option_to_list}
 use Rattle.std.specs.Str.{chars, IsUtf8}
@@ -16,12 +16,11 @@ use Rattle.rustc_literal_escaper.specs.means.Elements.{front_by, items_from}
 use Rattle.rustc_literal_escaper.specs.means.Single.{read_errors, single_error}
 use Rattle.rustc_literal_escaper.specs.declared.error.EscapeError.{EscapeError}
 use Rattle.rustc_literal_escaper.specs.declared.mode.Mode.{Mode}
-use Rattle.rustc_literal_escaper.specs.declared.mode.Mode.TheVariants.{Str}
+use Rattle.rustc_literal_escaper.specs.declared.mode.Mode.TheVariants.{Byte, Char, Str}
 use Rattle.marks.specs.LineEnds.{file_errors, file_items, moved, place, unix}
 use Rattle.marks.specs.Literal.{first_offset}
 use Rattle.marks.specs.means.LineEnds.{single_left}
 use Rattle.marks.proofs.LineEndLemmas.{chars-unix, utf8-unix}
-use Rattle.marks.proofs.LiteralMarkLemmas.{errors-are}
 
 abbrev move : List ℕ → Error → Error
 move text e = (moved text e.0, e.1)
@@ -34,7 +33,12 @@ errors-moved : (mode : Mode) (text : List ℕ) (items : List Item) → errors_in
 errors-moved mode text [] = refl
 errors-moved mode text (i ∷ items) = ap (put (moved text i.0) (error_of mode i.1)) (errors-moved mode text items) ∙ put-moved text (error_of mode i.1) i.0 (errors_in mode items)
 
-string_errors : (mode : Mode) (text : List ℕ) → is_single mode ≡ false → errors_in mode (file_items (is_raw mode) text) ≡ file_errors mode text
+errors-are : (mode : Mode) (text : List ℕ) → is_single mode ≡ false → errors_of mode text ≡ errors_in mode (items_of (is_raw mode) text)
+errors-are Char text double = absurd (true≢false double)
+errors-are Byte text double = absurd (true≢false double)
+errors-are mode text double = refl
+
+pub string_errors : (mode : Mode) (text : List ℕ) → is_single mode ≡ false → errors_in mode (file_items (is_raw mode) text) ≡ file_errors mode text
 string_errors mode text double = errors-moved mode text (items_of (is_raw mode) (unix text)) ∙ ap (map (move text)) (sym (errors-are mode (unix text) double))
 
 -- without a carriage return, a text is as it was

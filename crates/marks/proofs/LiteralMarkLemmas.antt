@@ -1,15 +1,16 @@
 -- The stretches of a string are in order, and are wrong where the escaper reports errors.
-use Rattle.std.proofs.Common.{◌≡◌, ℕ, ◌+◌, ◌<◌, ◌≤◌, ◌⊎◌, inl, inr, nat_lt, not, if◌then◌else◌, Bool, true, false, true≢false, List, [], ◌∷◌, ◌++◌, slice_index_or, refl, sym, ap, ◌∙◌, subst, arith, append-nil, append_assoc, codes, All, IsCharBoundary, IsUtf8, Option, Some, None}
+use Rattle.std.proofs.Common.{◌≡◌, ℕ, zero, suc, ◌+◌, ◌-◌, ◌<◌, ◌≤◌, ◌⊎◌, inl, inr, nat_lt, not, if◌then◌else◌, Bool, true, false, List, [], ◌∷◌, ◌++◌, drop, length, length-drop, map, slice_index_or, refl, sym, ap, ◌∙◌, subst, arith, append-nil, append_assoc, codes, All, IsCharBoundary, IsUtf8, Option, Some, None}
 use Rattle.std.specs.Char.{is_whitespace}
 use Rattle.std.specs.List.{between, list_all, list_any}
 use Rattle.std.specs.declared.ops.Range.{Range}
 use Rattle.std.proofs.lemmas.Bool.{cases_lt, ltb-false, ltb-true}
 use Rattle.std.proofs.lemmas.Bool.Decides.{nat_tests}
-use Rattle.std.proofs.lemmas.List.Elements.{All-append, All-cons, All-head, All-nil, All-tail, All-weaker, Contains-append_right}
+use Rattle.std.proofs.lemmas.List.Elements.{All-append, All-cons, All-head, All-map, All-nil, All-tail, All-weaker, Contains-append_right}
 use Rattle.std.proofs.lemmas.Grind.{common_steps}
+use Rattle.std.proofs.lemmas.List.{length-take-le}
 use Rattle.std.proofs.lemmas.Str.{IsUtf8-between}
-use Rattle.rustc_lexer.specs.laws.Choice.{by_test}
-use Rattle.rustc_literal_escaper.specs.Answers.{errors_of, items_of}
+use Rattle.rustc_lexer.specs.laws.Choice.{by_either, by_test}
+use Rattle.rustc_literal_escaper.specs.Answers.{items_of}
 use Rattle.rustc_literal_escaper.specs.Grammar as the
 use Rattle.rustc_literal_escaper.specs.Grammar.{AreItems, Error, Item, bytes, is_newline, item, lines_warning, space_warning}
 use Rattle.rustc_literal_escaper.specs.Items.{IsPlaced}
@@ -20,25 +21,35 @@ use Rattle.rustc_literal_escaper.specs.declared.element.Element.TheVariants.{Fau
 use Rattle.rustc_literal_escaper.specs.declared.error.EscapeError.{EscapeError}
 use Rattle.rustc_literal_escaper.specs.declared.error.EscapeError.TheVariants.{MultipleSkippedLinesWarning, UnskippedWhitespaceWarning}
 use Rattle.rustc_literal_escaper.specs.declared.mode.Mode.{Mode}
-use Rattle.rustc_literal_escaper.specs.declared.mode.Mode.TheVariants.{Byte, Char}
+use Rattle.rustc_literal_escaper.specs.declared.mode.Mode.TheVariants.{Char}
 use Rattle.rustc_literal_escaper.proofs.PlacedLemmas.{are_placed}
 use Rattle.marks.specs.declared.literal.Look.{Look}
 use Rattle.marks.specs.declared.literal.Look.TheVariants.{Escape, Wrong}
 use Rattle.marks.specs.Answers.{stretches_in, string_stretches}
+use Rattle.marks.specs.LineEnds.{ends_line, file_items, moved, place as file_place, unix}
 use Rattle.marks.specs.Literal.{Stretch, is_plain, single_stretches, stretch}
 use Rattle.marks.specs.LiteralMarks.{AreInOrder, IsMarked, IsReported, is_escaped, is_in}
 use Rattle.marks.specs.means.Literal as means
 use Rattle.marks.specs.means.Literal.{element_look, gap, look_by, stretches_from}
-use Rattle.marks.proofs.LiteralLemmas.{boundary_in, string_found}
+use Rattle.marks.proofs.FileFaultLemmas.{string_errors}
+use Rattle.marks.proofs.LineEndLemmas.{place_less, utf8-unix}
+use Rattle.marks.proofs.LiteralLemmas.{string_found}
 
 fault-told : (mode : Mode) (error : EscapeError) → error_of mode (Fault error) ≡ Some error
 fault-told Char error = refl
 fault-told mode error = refl
 
-pub errors-are : (mode : Mode) (text : List ℕ) → is_single mode ≡ false → errors_of mode text ≡ errors_in mode (items_of (is_raw mode) text)
-errors-are Char text double = absurd (true≢false double)
-errors-are Byte text double = absurd (true≢false double)
-errors-are mode text double = refl
+-- an item of a text, at its place in the file
+abbrev move : List ℕ → Item → Item
+move s i = (moved s i.0, i.1)
+
+place_le : (s : List ℕ) (i j : ℕ) → i ≤ j → file_place s i ≤ file_place s j
+place_le s i j le = elim (cases_lt i j) [ inl less ↦ omega (arith, place_less s i j less) | inr past ↦ (let same : i ≡ j = omega (arith, le, past) in omega (arith, ap (file_place s) same)) ]
+
+place_within : (s : List ℕ) (i : ℕ) → i ≤ length (unix s) → file_place s i ≤ length s
+place_within s zero le = omega arith
+place_within [] (suc i) le = le
+place_within (c ∷ s) (suc i) le = by_either (ends_line c s) (λ ends. rw ends (omega (arith, place_within s (suc i) (rw ends at le)))) (λ stays. rw stays (omega (arith, place_within s i (omega (arith, rw stays at le)))))
 
 module _ (mode : Mode) (begin close : ℕ) where
   abbrev place : Item → ℕ
@@ -145,43 +156,52 @@ module _ (mode : Mode) (begin close : ℕ) where
     begins : BeginFrom from items
     marks : (at : ℕ) → at ≤ close → All Fits items → Marks at items (stretches_from mode begin at close items)
 
-  one : (from : ℕ) (e : Element) (w : List ℕ) (items : List Item) → (error_of mode e ≡ None → BeginFrom (from + bytes w) items) → Claim from items → Claim from (item from e w ∷ items)
-  one from e w items high claim = record {
-    begins = All-cons (λ (x : Item). from ≤ x.0.start) (item from e w) items (omega arith) claim.begins;
+  one : (i : Item) (items : List Item) → (error_of mode i.1 ≡ None → BeginFrom i.0.end items) → Claim i.0.start items → Claim i.0.start (i ∷ items)
+  one i items high claim = record {
+    begins = All-cons (λ (x : Item). i.0.start ≤ x.0.start) i items (omega arith) claim.begins;
     marks = λ at le fit.
-        let i : Item = item from e w in
         let fits = All-head Fits i items fit in
         let rest = All-tail Fits i items fit in
         by_test (Marks at (i ∷ items)) (nat_lt (place i) at) _ _
         (λ told. earlier at i items _ (ltb-true (place i) at told) (claim.marks at le rest))
         (λ fresh. skipped at (place i) (i ∷ items) _ (ltb-false (place i) at fresh)
         (All-cons (λ (x : Item). place i ≤ place x) i items (omega arith) (λ k d low. omega (arith, claim.begins k d low)))
-        (own i.0 items _ fits.0 claim.begins (claim.marks (begin + i.0.end) fits.1 rest) e (error_of mode e) refl high));
+        (own i.0 items _ fits.0 claim.begins (claim.marks (begin + i.0.end) fits.1 rest) i.1 (error_of mode i.1) refl high));
   }
 
-  warned : (b : Bool) (from : ℕ) (error : EscapeError) (w : List ℕ) (items : List Item) → Claim from items → Claim from ((if b then item from (Fault error) w ∷ [] else []) ++ items)
-  warned b from error w items claim = by_test (λ (front : List Item). Claim from (front ++ items)) b (item from (Fault error) w ∷ []) []
-      (λ _. one from (Fault error) w items (λ none. absurd (let no : Some error ≡ None = sym (fault-told mode error) ∙ none in cc)) claim) (λ _. claim)
+  -- the same of items of `unix s`, at their places in s
+  module _ (s : List ℕ) where
+    abbrev Moved : ℕ → List Item → Type 0
+    Moved from items = Claim (file_place s from) (map (move s) items)
 
-  warned-space : (from : ℕ) (space next : List ℕ) (items : List Item) → Claim from items → Claim from (space_warning from space next ++ items)
-  warned-space from space [] items claim = claim
-  warned-space from space (c ∷ next) items claim = warned (is_whitespace c) from UnskippedWhitespaceWarning (codes "\\\n" ++ space ++ c ∷ []) items claim
+    warned : (b : Bool) (from : ℕ) (error : EscapeError) (w : List ℕ) (items : List Item) → Moved from items → Moved from ((if b then item from (Fault error) w ∷ [] else []) ++ items)
+    warned b from error w items claim =
+        let i : Item = item from (Fault error) w in
+        by_test (λ (front : List Item). Moved from (front ++ items)) b (i ∷ []) []
+        (λ _. one (move s i) (map (move s) items) (λ none. absurd (let no : Some error ≡ None = sym (fault-told mode error) ∙ none in cc)) claim) (λ _. claim)
 
-  before : (from past : ℕ) (items : List Item) → from ≤ past → Claim past items → Claim from items
-  before from past items le claim = record { begins = λ k d low. omega (arith, le, claim.begins k d low); marks = claim.marks }
+    warned-space : (from : ℕ) (space next : List ℕ) (items : List Item) → Moved from items → Moved from (space_warning from space next ++ items)
+    warned-space from space [] items claim = claim
+    warned-space from space (c ∷ next) items claim = warned (is_whitespace c) from UnskippedWhitespaceWarning (codes "\\\n" ++ space ++ c ∷ []) items claim
 
-  claims : {raw : Bool} {from : ℕ} {s : List ℕ} {items : List Item} → AreItems raw from s items → Claim from items
-  claims (the.nothing {raw} {from}) = record {
-    begins = All-nil (λ (x : Item). from ≤ x.0.start);
-    marks = λ at le fit. subst (Marks at []) (append-nil (gap at close)) (skipped at close [] [] le (All-nil (λ (x : Item). close ≤ place x))
-        (record { order = omega arith; wrong = All-nil (IsReported begin []); told = All-nil (λ (x : Item). (place x < close) ⊎ IsTold [] x) }));
-  }
-  claims (the.element {from} {element = e} {w} {items} is other are) = let rest = claims are in one from e w items (λ _. rest.begins) (before from _ items (omega arith) rest)
-  claims (the.raw_element {from} {c} {element = e} {items} is are) = let rest = claims are in one from e (c ∷ []) items (λ _. rest.begins) (before from _ items (omega arith) rest)
-  claims (the.line_end {from} {next} {items} space all stops are) =
-      let rest = warned-space from space next items (before from _ items (omega arith) (claims are)) in
-      subst (Claim from) (sym (append_assoc (lines_warning from space) (space_warning from space next) items))
-      (warned (list_any is_newline space) from MultipleSkippedLinesWarning (codes "\\\n" ++ space) (space_warning from space next ++ items) rest)
+    further-on : (from : ℕ) (w : List ℕ) (items : List Item) → Moved (from + bytes w) items → Moved from items
+    further-on from w items claim = record { begins = λ k d low. omega (arith, place_le s from (from + bytes w) (omega arith), claim.begins k d low); marks = claim.marks }
+
+    element : (from : ℕ) (e : Element) (w : List ℕ) (items : List Item) → Moved (from + bytes w) items → Moved from (item from e w ∷ items)
+    element from e w items rest = one (move s (item from e w)) (map (move s) items) (λ _. rest.begins) (further-on from w items rest)
+
+    claims : {raw : Bool} {from : ℕ} {t : List ℕ} {items : List Item} → AreItems raw from t items → Moved from items
+    claims (the.nothing {raw} {from}) = record {
+      begins = All-nil (λ (x : Item). file_place s from ≤ x.0.start);
+      marks = λ at le fit. subst (Marks at []) (append-nil (gap at close)) (skipped at close [] [] le (All-nil (λ (x : Item). close ≤ place x))
+          (record { order = omega arith; wrong = All-nil (IsReported begin []); told = All-nil (λ (x : Item). (place x < close) ⊎ IsTold [] x) }));
+    }
+    claims (the.element {from} {element = e} {w} {items} is other are) = element from e w items (claims are)
+    claims (the.raw_element {from} {c} {element = e} {items} is are) = element from e (c ∷ []) items (claims are)
+    claims (the.line_end {from} {next} {items} space all stops are) =
+        let rest = warned-space from space next items (further-on from (codes "\\\n" ++ space) items (claims are)) in
+        subst (Moved from) (sym (append_assoc (lines_warning from space) (space_warning from space next) items))
+        (warned (list_any is_newline space) from MultipleSkippedLinesWarning (codes "\\\n" ++ space) (space_warning from space next ++ items) rest)
 
 all-in : (mode : Mode) (begin close : ℕ) (ss : List Stretch) (items : List Item) → All (IsTold mode begin close ss) items → list_all (λ (e : Error). is_in ss (begin + e.0.start)) (errors_in mode items) ≡ true
 all-in mode begin close ss [] told = refl
@@ -190,16 +210,19 @@ all-in mode begin close ss (i ∷ items) told = grind (arith, common_steps, All-
 pub strings_marked : (mode : Mode) (begin close : ℕ) (text : List ℕ) → IsUtf8 text → IsCharBoundary text begin → IsCharBoundary text close → begin ≤ close → is_single mode ≡ false → IsMarked mode begin close text
 strings_marked mode begin close text utf8 at_begin at_close le double =
     let inside : List ℕ = between begin close text in
-    let items : List Item = items_of (is_raw mode) inside in
-    let is : IsUtf8 inside = IsUtf8-between text begin close utf8 le at_begin at_close in
-    let fit : All (Fits mode begin close) items = All-weaker (IsPlaced inside) (Fits mode begin close) (λ i placed. (placed.not_empty, (boundary_in text begin close i.0.end le at_begin at_close placed.end).0)) items (are_placed inside is (is_raw mode)) in
-    let marks = (claims mode begin close (items-are (is_raw mode) inside is)).marks begin le fit in
+    let found : List Item = items_of (is_raw mode) (unix inside) in
+    let items : List Item = file_items (is_raw mode) inside in
+    let is : IsUtf8 (unix inside) = utf8-unix inside (IsUtf8-between text begin close utf8 le at_begin at_close) in
+    let size = length-take-le (close - begin) (drop begin text) (let high = at_close.0 in omega (arith, length-drop begin text, high)) in
+    let fit : All (Fits mode begin close) items = All-map (Fits mode begin close) (move inside) found (All-weaker (IsPlaced (unix inside)) (λ (i : Item). Fits mode begin close (move inside i))
+    (λ i placed. (place_less inside i.0.start i.0.end placed.not_empty, (let within = place_within inside i.0.end placed.end.0 in omega (arith, le, size, within)))) found (are_placed (unix inside) is (is_raw mode))) in
+    let marks = (claims mode begin close inside (items-are (is_raw mode) (unix inside) is)).marks begin le fit in
     let same : means.string_stretches mode begin close text ≡ stretches_in mode begin close text =
     string_found mode text begin close utf8 le at_begin at_close ∙ ap (λ (b : Bool). if b then single_stretches mode begin close text else string_stretches mode begin close text) (sym double) in
     let told : All (IsTold mode begin close (means.string_stretches mode begin close text)) items = λ k d low. elim (marks.told k d low) [ inl early ↦ absurd (omega (arith, early)) | inr told ↦ told ] in
     record {
       order = rw (← same) marks.order;
-      wrong = rw (← same, errors-are mode inside double) marks.wrong;
-      all = rw (← same, errors-are mode inside double) (all-in mode begin close (means.string_stretches mode begin close text) items told);
+      wrong = rw (← same, ← string_errors mode inside double) marks.wrong;
+      all = rw (← same, ← string_errors mode inside double) (all-in mode begin close (means.string_stretches mode begin close text) items told);
       shown = rw (← same) (λ k d low. elim (told k d low) [ inl wrong ↦ inl wrong | inr other ↦ inr other.1 ]);
     }
