@@ -8,6 +8,7 @@ pub mod LineEndLemmas
 pub mod LiteralLemmas
 pub mod LiteralMarkLemmas
 pub mod MarkedLemmas
+pub mod MovedLemmas
 pub mod PartLemmas
 pub mod PlaceLemmas
 pub mod ScreenLemmas

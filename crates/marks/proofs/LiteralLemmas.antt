@@ -1,5 +1,5 @@
 -- What a literal says between its marks, and the calls that write it.
-use Rattle.std.proofs.Common.{◌≡◌, ℕ, ◌+◌, ◌-◌, ◌<◌, ◌≤◌, Bool, List, [], ◌∷◌, ◌++◌, take, drop, ap, subst, ◌∙◌, arith, take-append-drop, length-drop, append-nil, length, IsCharBoundary, IsUtf8, Option, Some}
+use Rattle.std.proofs.Common.{◌≡◌, ℕ, ◌+◌, ◌-◌, ◌<◌, ◌≤◌, Bool, List, [], ◌∷◌, ◌++◌, map, take, drop, ap, subst, ◌∙◌, arith, take-append-drop, length-drop, append-nil, length, IsCharBoundary, IsUtf8, Option, Some}
 use Rattle.std.specs.Fmt.{WritesInCalls}
 use Rattle.rustc_lexer.specs.Classes.{bytes}
 use Rattle.std.proofs.lemmas.Bool.{cases_lt}
@@ -15,6 +15,7 @@ use Rattle.rustc_literal_escaper.specs.Meaning.{is_raw}
 use Rattle.rustc_literal_escaper.specs.laws.TheAnswers.{items-are}
 use Rattle.marks.specs.laws.Literal.{stretches-read, the_stretches}
 use Rattle.marks.specs.laws.Pieces.{pieces-some, told}
+use Rattle.marks.specs.LineEnds.{file_items, place, unix}
 use Rattle.marks.specs.Literal as lit
 use Rattle.rustc_literal_escaper.specs.Items.{ArePlaced, IsPlaced}
 use Rattle.rustc_literal_escaper.specs.declared.mode.Mode.{Mode}
@@ -23,11 +24,13 @@ use Rattle.marks.specs.declared.literal.Look.{Look}
 use Rattle.marks.specs.declared.format.Format.{Format}
 use Rattle.std.specs.List.{between}
 use Rattle.marks.specs.Answers.{stretches_of, string_stretches}
-use Rattle.marks.specs.Literal.{Stretch, single_stretches, stretches_at, look_parts, parts_from, char_error, char_look, stretch}
+use Rattle.marks.specs.Literal.{Stretch, single_stretches, stretches_at, look_parts, parts_from, char_error, char_look, moved_stretch, stretch}
 use Rattle.marks.specs.Marked.{literal_parts}
 use Rattle.marks.specs.means.Literal.{WritesOn, element_look, gap, stretches_from}
 use Rattle.marks.specs.means.Literal as means
 use Rattle.marks.specs.Part.{Own, own, with_marks, without_marks}
+use Rattle.marks.proofs.LineEndLemmas.{utf8-unix}
+use Rattle.marks.proofs.MovedLemmas.{items_placed, place-end, stretches-moved}
 use Rattle.marks.proofs.PartLemmas.{without_fault, writes_parts}
 
 without_look : (look : Look) (text : List ℕ) → without_marks (look_parts look text) ≡ text
@@ -47,12 +50,19 @@ pub string_found : (mode : Mode) (text : List ℕ) (begin close : ℕ) → IsUtf
 string_found mode text begin close utf8 le at_begin at_close =
     let inside : List ℕ = between begin close text in
     let is_utf8 : IsUtf8 inside = IsUtf8-between text begin close utf8 le at_begin at_close in
-    let items = items-are (is_raw mode) inside is_utf8 in
+    let left : List ℕ = unix inside in
+    let left_utf8 : IsUtf8 left = utf8-unix inside is_utf8 in
+    let items = items-are (is_raw mode) left left_utf8 in
     let pieces = (pieces-some mode items).all in
     let high = at_close.0 in
     let size = length-take-le (close - begin) (drop begin text) (omega (arith, length-drop begin text, high)) in
-    let ends : begin + bytes (chars inside) ≡ close = omega (arith, le, size, ap length (encodes-chars inside is_utf8)) in
-    stretches-read pieces.1 items begin close ends ∙ ((the_stretches mode begin (chars inside)).only tt (stretches_at begin pieces.0)).0 (lit.made pieces.1)
+    let first : begin ≡ begin + place inside 0 = omega arith in
+    let last : close ≡ begin + place inside (length left) = omega (arith, le, size, place-end inside) in
+    let ends : 0 + bytes (chars left) ≡ length left = omega (arith, ap length (encodes-chars left left_utf8)) in
+    ap (λ (n : ℕ). stretches_from mode begin n close (file_items (is_raw mode) inside)) first
+    ∙ (ap (λ (n : ℕ). stretches_from mode begin (begin + place inside 0) n (file_items (is_raw mode) inside)) last
+    ∙ (stretches-moved mode begin inside 0 (length left) (items_of (is_raw mode) left)
+    ∙ ap (map (moved_stretch begin inside)) (stretches-read pieces.1 items 0 (length left) ends ∙ ((the_stretches mode 0 (chars left)).only tt (stretches_at 0 pieces.0)).0 (lit.made pieces.1))))
 
 -- ---- the places
 
@@ -78,8 +88,8 @@ placed_first text begin close items rest item order at_begin at_close are is =
     let end = boundary_in text begin close item.0.end order at_begin at_close one.end in
     (record { low = omega arith; high = end.0; at_start = start.1; at_end = end.1 }, All-tail (IsPlaced (between begin close text)) item rest all)
 
-pub placed_all : (text inside : List ℕ) (begin close : ℕ) (raw : Bool) (items : List Item) → items ≡ items_of raw inside → inside ≡ between begin close text → ArePlaced inside (items_of raw inside) → ArePlaced (between begin close text) items
-placed_all text inside begin close raw items are is places = grind (arith, common_steps)
+pub placed_all : (text inside : List ℕ) (begin close : ℕ) (raw : Bool) (items : List Item) → IsUtf8 inside → items ≡ file_items raw inside → inside ≡ between begin close text → ArePlaced (between begin close text) items
+placed_all text inside begin close raw items utf8 are is = grind (arith, common_steps, items_placed)
 
 -- ---- an item that was reported already
 
@@ -129,7 +139,7 @@ module _ {W : Type 0} (took : W → List ℕ → W → Type 0) where
       grind (arith, common_steps)
 
   -- all elements, and then none
-  pub writes_all : (format : Format) (mode : Mode) (text inside : List ℕ) (begin close : ℕ) (items : List Item) (w last : W) → items ≡ items_of (is_raw mode) inside → inside ≡ between begin close text
+  pub writes_all : (format : Format) (mode : Mode) (text inside : List ℕ) (begin close : ℕ) (items : List Item) (w last : W) → items ≡ file_items (is_raw mode) inside → inside ≡ between begin close text
       → WritesLeft format text w 0 (stretches_from mode begin begin close items) last → WritesInCalls took w (with_marks format (parts_from 0 text (means.string_stretches mode begin close text))) last
   writes_all format mode text inside begin close items w last are is wrote = grind (arith, common_steps)
 

@@ -123,7 +123,7 @@ fn unescaped(c: char) -> Element
 }
 
 /// Returns whether a literal of this kind has no escapes.
-fn is_raw(mode: Mode) -> bool
+pub fn is_raw(mode: Mode) -> bool
     ensures { result ≡ meaning.is_raw mode }
 {
     matches!(mode, Mode::RawStr | Mode::RawByteStr | Mode::RawCStr)

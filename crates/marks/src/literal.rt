@@ -3,9 +3,7 @@ ghost use Rattle.std.specs.Prelude.{◌≡◌, ◌+◌, ◌≤◌, ◌<◌, fals
 ghost use Rattle.std.specs.Fmt.{WritesInCalls};
 ghost use Rattle.std.specs.Str.{IsCharBoundary};
 ghost use Rattle.rustc_lexer.specs.Classes.{Fits};
-ghost use Rattle.rustc_literal_escaper.specs.Answers.{items_of};
-ghost use Rattle.rustc_literal_escaper.specs.Meaning.{is_raw, is_single};
-ghost use Rattle.rustc_literal_escaper.specs.Items.{ArePlaced};
+ghost use Rattle.rustc_literal_escaper.specs.Meaning.{is_single};
 ghost use Rattle.marks.specs.Literal as spec;
 ghost use Rattle.marks.specs.LiteralMarks.{IsMarked};
 ghost use Rattle.marks.specs.Marked.{literal_parts};
@@ -14,11 +12,13 @@ ghost use Rattle.marks.specs.Part.{with_marks};
 
 use crate::class::Class;
 use crate::fault::Fault;
+use crate::file_faults::{self, is_raw};
 use crate::format::Format;
+use crate::line_ends::FileElements;
 use crate::part::{write_in_class, write_with_fault};
 use memchr::{memchr, memrchr};
 use rustc_lexer::{LiteralKind, TokenKind};
-use rustc_literal_escaper::{Element, Elements, EscapeError, Mode, unescape_byte, unescape_char};
+use rustc_literal_escaper::{Element, EscapeError, Mode};
 use std::fmt;
 use std::ops::Range;
 
@@ -195,10 +195,12 @@ fn single_look(mode: Mode, inside: &str) -> Option<Look>
 fn single_error(mode: Mode, inside: &str) -> Option<EscapeError>
     ensures { result ≡ spec.char_error mode inside.now }
 {
-    match mode {
-        Mode::Byte => unescape_byte(inside).err(),
-        _ => unescape_char(inside).err(),
-    }
+    let mode = match mode {
+        Mode::Byte => Mode::Byte,
+        _ => Mode::Char,
+    };
+    let (_, error) = file_faults::single_error(inside, mode)?;
+    Some(error)
 }
 
 /// Writes a literal between double quotes. The text between them goes from the place `begin` to `close`.
@@ -220,7 +222,7 @@ fn write_string<W: fmt::Write>(
 {
     let mut shown = 0;
     let mut at = begin;
-    for (range, element) in elements_of(mode, &text[begin..close]) {
+    for (range, element) in FileElements::new(&text[begin..close], is_raw(mode)) {
         let start = begin + range.start;
         if start < at {
             continue;
@@ -306,17 +308,6 @@ fn write_look<W: fmt::Write>(format: Format, look: Look, text: &str, output: &mu
         Look::Wrong(error) => {
             write_with_fault(format, Fault::InLiteral(error), Class::Text, text, output)
         }
-    }
-}
-
-/// Returns the elements of a literal between double quotes.
-fn elements_of(mode: Mode, inside: &str) -> Elements<'_>
-    ensures items { result ≡ items_of (is_raw mode) inside.now }
-    ensures places { ArePlaced inside.now (items_of (is_raw mode) inside.now) }
-{
-    match mode {
-        Mode::RawStr | Mode::RawByteStr | Mode::RawCStr => Elements::new_raw(inside),
-        _ => Elements::new(inside),
     }
 }
 

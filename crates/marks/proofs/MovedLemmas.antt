@@ -1,0 +1,137 @@
+-- What stands in a literal of a file, by what stands in the text with newlines for its line ends.
+use Rattle.std.proofs.Common.{◌≡◌, ℕ, zero, suc, zero-add, ◌+◌, ◌<◌, ◌≤◌, ◌⊎◌, inl, inr, nat_lt, get_or, append-nil, append_assoc, IsCharBoundary, IsUtf8, Bool, true, false, if◌then◌else◌, List, [], ◌∷◌, ◌++◌, length, map, refl, sym, ap, ◌∙◌, arith, Option, Some, None, Result, Ok, Err}
+use Rattle.std.specs.Option.{option_map}
+use Rattle.std.specs.Result.{result_err}
+use Rattle.std.specs.Str.{chars}
+use Rattle.std.proofs.lemmas.Bool.{cases_lt, le-ltb, lt-ltb}
+use Rattle.std.proofs.lemmas.Bool.Decides.{nat_tests}
+use Rattle.std.proofs.lemmas.Grind.{common_steps}
+use Rattle.std.proofs.lemmas.List.{map-append}
+use Rattle.std.proofs.lemmas.List.Elements.{All-cons, All-head, All-nil, All-tail}
+use Rattle.rustc_literal_escaper.proofs.AnswerLemmas.{literal_read}
+use Rattle.rustc_literal_escaper.proofs.PlacedLemmas.{are_placed}
+use Rattle.rustc_literal_escaper.specs.Answers.{byte_literal, char_literal, items_of}
+use Rattle.rustc_literal_escaper.specs.Grammar.{Error, Item}
+use Rattle.rustc_literal_escaper.specs.Items.{ArePlaced, IsPlaced}
+use Rattle.rustc_literal_escaper.specs.Meaning.{byte_of, char_of, error_of}
+use Rattle.rustc_literal_escaper.specs.declared.element.Element.{Element}
+use Rattle.rustc_literal_escaper.specs.declared.error.EscapeError.{EscapeError}
+use Rattle.rustc_literal_escaper.specs.declared.mode.Mode.{Mode}
+use Rattle.rustc_literal_escaper.specs.declared.mode.Mode.TheVariants.{Char, Byte}
+use Rattle.rustc_literal_escaper.specs.laws.Escape.{by_either}
+use Rattle.rustc_literal_escaper.specs.means.Single.{alone, alone_error, literal, single, single_error}
+use Rattle.marks.specs.LineEnds.{ends_line, file_items, moved, place, unix}
+use Rattle.marks.specs.Literal.{Stretch, char_error, moved_stretch, stretch}
+use Rattle.marks.specs.declared.literal.Look.{Look}
+use Rattle.marks.specs.declared.literal.Look.TheVariants.{Escape}
+use Rattle.marks.specs.means.LineEnds.{is_whole, single_left}
+use Rattle.marks.specs.means.Literal.{element_look, gap, stretches_from}
+use Rattle.marks.proofs.LineEndLemmas.{chars-unix, place-append, place_less, utf8-unix}
+
+-- ---- places
+
+whole-nil : (s : List ℕ) → is_whole s [] ≡ true
+whole-nil [] = refl
+whole-nil (c ∷ []) = grind (arith, common_steps, nat_tests)
+whole-nil (c ∷ d ∷ s) = whole-nil (d ∷ s)
+
+pub place-end : (s : List ℕ) → place s (length (unix s)) ≡ length s
+place-end s =
+    let at : length (unix s) + 0 ≡ length (unix s) = omega arith in
+    let all : place s (length (unix s) + 0) ≡ length s + 0 = ap (λ (t : List ℕ). place t (length (unix s) + 0)) (sym (append-nil s)) ∙ place-append s [] 0 (whole-nil s) in
+    ap (place s) (sym at) ∙ omega (arith, all)
+
+-- the byte at a place is that of the text with newlines, or a carriage return
+place-byte : (s : List ℕ) (i : ℕ) → (get_or s (place s i) 0 ≡ get_or (unix s) i 0) ⊎ (get_or s (place s i) 0 ≡ 13)
+place-byte [] zero = inl refl
+place-byte [] (suc i) = inl refl
+place-byte (c ∷ s) zero = by_either (ends_line c s) (λ ends. inr (grind (arith, common_steps, nat_tests))) (λ stays. rw stays (inl refl))
+place-byte (c ∷ s) (suc i) = by_either (ends_line c s) (λ ends. rw ends (place-byte s (suc i))) (λ stays. rw stays (place-byte s i))
+
+place-le : (s : List ℕ) (i j : ℕ) → i ≤ j → place s i ≤ place s j
+place-le s i j le = elim (cases_lt i j) [ inl less ↦ let l = place_less s i j less in omega arith | inr more ↦ let same : i ≡ j = omega arith in omega (arith, ap (place s) same) ]
+
+place-boundary : (s : List ℕ) (i : ℕ) → IsCharBoundary (unix s) i → IsCharBoundary s (place s i)
+place-boundary s i at =
+    let l = place-le s i (length (unix s)) at.0 in
+    let e = place-end s in
+    (omega arith, λ less big. elim (place-byte s i) [ inl same ↦ let r = at.1 (before less e) (omega (arith, same)) in omega (arith, same) | inr line ↦ absurd (omega arith) ])
+  where
+    before : place s i < length s → place s (length (unix s)) ≡ length s → i < length (unix s)
+    before less e = elim (cases_lt i (length (unix s))) [ inl low ↦ low | inr high ↦ let low = at.0 in let same : i ≡ length (unix s) = omega arith in absurd (omega (arith, ap (place s) same)) ]
+
+placed-moved : (s : List ℕ) (items : List Item) → ArePlaced (unix s) items → ArePlaced s (map (λ (i : Item). (moved s i.0, i.1)) items)
+placed-moved s [] are = All-nil (IsPlaced s)
+placed-moved s (i ∷ items) are =
+    let one : IsPlaced (unix s) i = All-head (IsPlaced (unix s)) i items are in
+    All-cons (IsPlaced s) (moved s i.0, i.1) (map (λ (i : Item). (moved s i.0, i.1)) items)
+    (record {
+      not_empty = place_less s i.0.start i.0.end one.not_empty;
+      start = place-boundary s i.0.start one.start;
+      end = place-boundary s i.0.end one.end;
+    })
+    (placed-moved s items (All-tail (IsPlaced (unix s)) i items are))
+
+pub items_placed : (raw : Bool) (s : List ℕ) → IsUtf8 s → ArePlaced s (file_items raw s)
+items_placed raw s is = placed-moved s (items_of raw (unix s)) (are_placed (unix s) (utf8-unix s is) raw)
+
+-- ---- stretches
+
+module _ (mode : Mode) (begin : ℕ) (s : List ℕ) where
+  stretch-moved : (start end : ℕ) (look : Option Look) → stretch (begin + place s start) (begin + place s end) look ≡ map (moved_stretch begin s) (stretch start end look)
+  stretch-moved start end None = refl
+  stretch-moved start end (Some look) = refl
+
+  gap-moved : (at start : ℕ) → gap (begin + place s at) (begin + place s start) ≡ map (moved_stretch begin s) (gap at start)
+  gap-moved at start = elim (cases_lt at start) [
+    | inl less ↦ let l = place_less s at start less in rw (lt-ltb at start less, lt-ltb (begin + place s at) (begin + place s start) (omega arith)) refl
+    | inr more ↦ let l = place-le s start at more in rw (le-ltb at start more, le-ltb (begin + place s at) (begin + place s start) (omega arith)) refl
+    ]
+
+  pub stretches-moved : (at close : ℕ) (items : List Item) → stretches_from mode begin (begin + place s at) (begin + place s close) (map (λ (i : Item). (moved s i.0, i.1)) items) ≡ map (moved_stretch begin s) (stretches_from mode 0 at close items)
+  stretches-moved at close [] = gap-moved at close
+  stretches-moved at close (i ∷ items) = elim (cases_lt i.0.start at) [
+    | inl less ↦ let l = place_less s i.0.start at less in rw (lt-ltb (0 + i.0.start) at (omega arith), lt-ltb (begin + place s i.0.start) (begin + place s at) (omega arith)) (stretches-moved at close items)
+    | inr more ↦ let l = place-le s at i.0.start more in
+        rw (le-ltb (begin + place s i.0.start) (begin + place s at) (omega arith), gap-moved at i.0.start, stretch-moved i.0.start i.0.end (element_look mode i.1), stretches-moved i.0.end close items)
+        (sym (rw (zero-add i.0.start, zero-add i.0.end, le-ltb i.0.start at more) (map-append (moved_stretch begin s) (gap at i.0.start) (stretch i.0.start i.0.end (element_look mode i.1) ++ stretches_from mode 0 i.0.end close items)
+        ∙ ap (λ (ss : List Stretch). map (moved_stretch begin s) (gap at i.0.start) ++ ss) (map-append (moved_stretch begin s) (stretch i.0.start i.0.end (element_look mode i.1)) (stretches_from mode 0 i.0.end close items)))))
+    ]
+
+-- ---- errors between single quotes
+
+abbrev kind : Option Error → Option EscapeError
+kind o = option_map (λ (e : Error). e.1) o
+
+alone-error : {U : Type 0} (meant : Result U EscapeError) (left : List ℕ) (total : ℕ) → kind (alone_error total (result_err meant) left) ≡ result_err (alone meant left)
+alone-error (Ok unit) [] total = refl
+alone-error (Ok unit) (c ∷ left) total = refl
+alone-error (Err error) left total = refl
+
+literal-error : {U : Type 0} (meaning : Element → Result U EscapeError) (mode : Mode) (total : ℕ) (s : List ℕ) → ((e : Element) → result_err (meaning e) ≡ error_of mode e) → kind (single_error total mode s) ≡ result_err (literal meaning s)
+literal-error meaning mode total [] same = refl
+literal-error meaning mode total (c ∷ s) same =
+    ap (λ (o : Option EscapeError). kind (alone_error total o (single c s).1)) (sym (same (single c s).0)) ∙ alone-error (meaning (single c s).0) (single c s).1 total
+
+kind-moved : (text : List ℕ) (o : Option Error) → kind (option_map (λ (e : Error). (moved text e.0, e.1)) o) ≡ kind o
+kind-moved text None = refl
+kind-moved text (Some e) = refl
+
+char-error : (text : List ℕ) → IsUtf8 text → kind (single_left text Char (unix (chars text))) ≡ char_error Char text
+char-error text is =
+    kind-moved text (single_error (length (unix text)) Char (unix (chars text))) ∙ (literal-error char_of Char (length (unix text)) (unix (chars text)) (λ e. refl)
+    ∙ (ap result_err (sym (literal_read char_of (unix (chars text)))) ∙ ap (λ (s : List ℕ). result_err (char_literal s)) (sym (chars-unix text is))))
+
+byte-error : (text : List ℕ) → IsUtf8 text → kind (single_left text Byte (unix (chars text))) ≡ char_error Byte text
+byte-error text is =
+    kind-moved text (single_error (length (unix text)) Byte (unix (chars text))) ∙ (literal-error byte_of Byte (length (unix text)) (unix (chars text)) (λ e. refl)
+    ∙ (ap result_err (sym (literal_read byte_of (unix (chars text)))) ∙ ap (λ (s : List ℕ). result_err (byte_literal s)) (sym (chars-unix text is))))
+
+-- a mode without single quotes is read as that of a character
+abbrev pub alone_mode : Mode → Mode
+alone_mode Byte = Byte
+alone_mode mode = Char
+
+pub error_found : (mode picked : Mode) (text : List ℕ) (found : Option Error) → IsUtf8 text → picked ≡ alone_mode mode → found ≡ single_left text picked (unix (chars text)) → option_map (λ (e : Error). e.1) found ≡ char_error mode text
+error_found Byte picked text found is pick f = ap kind (f ∙ ap (λ (m : Mode). single_left text m (unix (chars text))) pick) ∙ byte-error text is
+error_found mode picked text found is pick f = ap kind (f ∙ ap (λ (m : Mode). single_left text m (unix (chars text))) pick) ∙ char-error text is
