@@ -93,6 +93,6 @@ fn unescaped(c: char) -> Element {
 }
 
 /// Returns whether a literal of this kind has no escapes.
-fn is_raw(mode: Mode) -> bool {
+pub fn is_raw(mode: Mode) -> bool {
     matches!(mode, Mode::RawStr | Mode::RawByteStr | Mode::RawCStr)
 }

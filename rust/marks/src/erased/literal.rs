@@ -3,15 +3,15 @@
 
 use crate::erased::class::Class;
 use crate::erased::fault::Fault;
+use crate::erased::file_faults::{self, is_raw};
 use crate::erased::format::Format;
+use crate::erased::line_ends::FileElements;
 use crate::erased::part::{write_in_class, write_with_fault};
 use core::fmt;
 use core::ops::Range;
 use memchr::{memchr, memrchr};
 use rustc_lexer::erased::{LiteralKind, TokenKind};
-use rustc_literal_escaper::erased::{
-    Element, Elements, EscapeError, Mode, unescape_byte, unescape_char,
-};
+use rustc_literal_escaper::erased::{Element, EscapeError, Mode};
 
 /// The look of a stretch of a literal that is not plain.
 #[derive(Clone, Copy, Debug, PartialEq, Eq)]
@@ -143,10 +143,12 @@ fn single_look(mode: Mode, inside: &str) -> Option<Look> {
 
 /// Returns what is wrong between single quotes, or `None` if nothing is.
 fn single_error(mode: Mode, inside: &str) -> Option<EscapeError> {
-    match mode {
-        Mode::Byte => unescape_byte(inside).err(),
-        _ => unescape_char(inside).err(),
-    }
+    let mode = match mode {
+        Mode::Byte => Mode::Byte,
+        _ => Mode::Char,
+    };
+    let (_, error) = file_faults::single_error(inside, mode)?;
+    Some(error)
 }
 
 /// Writes a literal between double quotes. The text between them goes from the place `begin` to `close`.
@@ -160,7 +162,7 @@ fn write_string<W: fmt::Write>(
 ) -> fmt::Result {
     let mut shown = 0;
     let mut at = begin;
-    for (range, element) in elements_of(mode, &text[begin..close]) {
+    for (range, element) in FileElements::new(&text[begin..close], is_raw(mode)) {
         let start = begin + range.start;
         if start < at {
             continue;
@@ -229,14 +231,6 @@ fn write_look<W: fmt::Write>(
         Look::Wrong(error) => {
             write_with_fault(format, Fault::InLiteral(error), Class::Text, text, output)
         }
-    }
-}
-
-/// Returns the elements of a literal between double quotes.
-fn elements_of(mode: Mode, inside: &str) -> Elements<'_> {
-    match mode {
-        Mode::RawStr | Mode::RawByteStr | Mode::RawCStr => Elements::new_raw(inside),
-        _ => Elements::new(inside),
     }
 }
 
