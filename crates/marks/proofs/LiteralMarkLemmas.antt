@@ -1,5 +1,5 @@
 -- The stretches of a string are in order, and are wrong where the escaper reports errors.
-use Rattle.std.proofs.Common.{◌≡◌, ℕ, zero, suc, ◌+◌, ◌-◌, ◌<◌, ◌≤◌, ◌⊎◌, inl, inr, nat_lt, not, if◌then◌else◌, Bool, true, false, List, [], ◌∷◌, ◌++◌, drop, length, length-drop, map, slice_index_or, refl, sym, ap, ◌∙◌, subst, arith, append-nil, append_assoc, codes, All, IsCharBoundary, IsUtf8, Option, Some, None}
+use Rattle.std.proofs.Common.{◌≡◌, ℕ, ◌+◌, ◌<◌, ◌≤◌, ◌⊎◌, inl, inr, nat_lt, not, if◌then◌else◌, Bool, true, false, List, [], ◌∷◌, ◌++◌, length, map, slice_index_or, refl, sym, ap, ◌∙◌, subst, arith, append-nil, append_assoc, codes, All, IsCharBoundary, IsUtf8, Option, Some, None}
 use Rattle.std.specs.Char.{is_whitespace}
 use Rattle.std.specs.List.{between, list_all, list_any}
 use Rattle.std.specs.declared.ops.Range.{Range}
@@ -7,9 +7,9 @@ use Rattle.std.proofs.lemmas.Bool.{cases_lt, ltb-false, ltb-true}
 use Rattle.std.proofs.lemmas.Bool.Decides.{nat_tests}
 use Rattle.std.proofs.lemmas.List.Elements.{All-append, All-cons, All-head, All-map, All-nil, All-tail, All-weaker, Contains-append_right}
 use Rattle.std.proofs.lemmas.Grind.{common_steps}
-use Rattle.std.proofs.lemmas.List.{length-take-le}
+use Rattle.std.proofs.lemmas.List.Edits.{length-between}
 use Rattle.std.proofs.lemmas.Str.{IsUtf8-between}
-use Rattle.rustc_lexer.specs.laws.Choice.{by_either, by_test}
+use Rattle.rustc_lexer.specs.laws.Choice.{by_test}
 use Rattle.rustc_literal_escaper.specs.Answers.{items_of}
 use Rattle.rustc_literal_escaper.specs.Grammar as the
 use Rattle.rustc_literal_escaper.specs.Grammar.{AreItems, Error, Item, bytes, is_newline, item, lines_warning, space_warning}
@@ -26,14 +26,14 @@ use Rattle.rustc_literal_escaper.proofs.PlacedLemmas.{are_placed}
 use Rattle.marks.specs.declared.literal.Look.{Look}
 use Rattle.marks.specs.declared.literal.Look.TheVariants.{Escape, Wrong}
 use Rattle.marks.specs.Answers.{stretches_in, string_stretches}
-use Rattle.marks.specs.LineEnds.{ends_line, file_items, moved, place as file_place, unix}
+use Rattle.marks.specs.LineEnds.{file_items, moved, place as file_place, unix}
 use Rattle.marks.specs.Literal.{Stretch, is_plain, single_stretches, stretch}
 use Rattle.marks.specs.LiteralMarks.{AreInOrder, IsMarked, IsReported, is_escaped, is_in}
 use Rattle.marks.specs.means.Literal as means
-use Rattle.marks.specs.means.Literal.{element_look, gap, look_by, stretches_from}
+use Rattle.marks.specs.means.Literal.{gap, look_by, stretches_from}
 use Rattle.marks.proofs.FileFaultLemmas.{string_errors}
 use Rattle.marks.proofs.LineEndLemmas.{place_less, utf8-unix}
-use Rattle.marks.proofs.LiteralLemmas.{string_found}
+use Rattle.marks.proofs.StretchLemmas.{place-end, place_le, string_found}
 
 fault-told : (mode : Mode) (error : EscapeError) → error_of mode (Fault error) ≡ Some error
 fault-told Char error = refl
@@ -42,14 +42,6 @@ fault-told mode error = refl
 -- an item of a text, at its place in the file
 abbrev move : List ℕ → Item → Item
 move s i = (moved s i.0, i.1)
-
-place_le : (s : List ℕ) (i j : ℕ) → i ≤ j → file_place s i ≤ file_place s j
-place_le s i j le = elim (cases_lt i j) [ inl less ↦ omega (arith, place_less s i j less) | inr past ↦ (let same : i ≡ j = omega (arith, le, past) in omega (arith, ap (file_place s) same)) ]
-
-place_within : (s : List ℕ) (i : ℕ) → i ≤ length (unix s) → file_place s i ≤ length s
-place_within s zero le = omega arith
-place_within [] (suc i) le = le
-place_within (c ∷ s) (suc i) le = by_either (ends_line c s) (λ ends. rw ends (omega (arith, place_within s (suc i) (rw ends at le)))) (λ stays. rw stays (omega (arith, place_within s i (omega (arith, rw stays at le)))))
 
 module _ (mode : Mode) (begin close : ℕ) where
   abbrev place : Item → ℕ
@@ -213,9 +205,8 @@ strings_marked mode begin close text utf8 at_begin at_close le double =
     let found : List Item = items_of (is_raw mode) (unix inside) in
     let items : List Item = file_items (is_raw mode) inside in
     let is : IsUtf8 (unix inside) = utf8-unix inside (IsUtf8-between text begin close utf8 le at_begin at_close) in
-    let size = length-take-le (close - begin) (drop begin text) (let high = at_close.0 in omega (arith, length-drop begin text, high)) in
     let fit : All (Fits mode begin close) items = All-map (Fits mode begin close) (move inside) found (All-weaker (IsPlaced (unix inside)) (λ (i : Item). Fits mode begin close (move inside i))
-    (λ i placed. (place_less inside i.0.start i.0.end placed.not_empty, (let within = place_within inside i.0.end placed.end.0 in omega (arith, le, size, within)))) found (are_placed (unix inside) is (is_raw mode))) in
+    (λ i placed. (place_less inside i.0.start i.0.end placed.not_empty, omega (arith, le, length-between text begin close at_close.0, place-end inside, place_le inside i.0.end (length (unix inside)) placed.end.0))) found (are_placed (unix inside) is (is_raw mode))) in
     let marks = (claims mode begin close inside (items-are (is_raw mode) (unix inside) is)).marks begin le fit in
     let same : means.string_stretches mode begin close text ≡ stretches_in mode begin close text =
     string_found mode text begin close utf8 le at_begin at_close ∙ ap (λ (b : Bool). if b then single_stretches mode begin close text else string_stretches mode begin close text) (sym double) in

@@ -1,12 +1,11 @@
 -- What stands in a literal of a file, by what stands in the text with newlines for its line ends.
-use Rattle.std.proofs.Common.{◌≡◌, ℕ, zero, suc, zero-add, ◌+◌, ◌<◌, ◌≤◌, ◌⊎◌, inl, inr, nat_lt, get_or, append-nil, append_assoc, IsCharBoundary, IsUtf8, Bool, true, false, if◌then◌else◌, List, [], ◌∷◌, ◌++◌, length, map, refl, sym, ap, ◌∙◌, arith, Option, Some, None, Result, Ok, Err}
+use Rattle.std.proofs.Common.{◌≡◌, ℕ, zero, suc, ◌<◌, ◌⊎◌, inl, inr, get_or, IsCharBoundary, IsUtf8, Bool, List, [], ◌∷◌, length, map, refl, sym, ap, ◌∙◌, arith, Option, Some, None, Result, Ok, Err}
 use Rattle.std.specs.Option.{option_map}
 use Rattle.std.specs.Result.{result_err}
 use Rattle.std.specs.Str.{chars}
-use Rattle.std.proofs.lemmas.Bool.{cases_lt, le-ltb, lt-ltb}
+use Rattle.std.proofs.lemmas.Bool.{cases_lt}
 use Rattle.std.proofs.lemmas.Bool.Decides.{nat_tests}
 use Rattle.std.proofs.lemmas.Grind.{common_steps}
-use Rattle.std.proofs.lemmas.List.{map-append}
 use Rattle.std.proofs.lemmas.List.Elements.{All-cons, All-head, All-nil, All-tail}
 use Rattle.rustc_literal_escaper.proofs.AnswerLemmas.{literal_read}
 use Rattle.rustc_literal_escaper.proofs.PlacedLemmas.{are_placed}
@@ -21,25 +20,12 @@ use Rattle.rustc_literal_escaper.specs.declared.mode.Mode.TheVariants.{Char, Byt
 use Rattle.rustc_literal_escaper.specs.laws.Escape.{by_either}
 use Rattle.rustc_literal_escaper.specs.means.Single.{alone, alone_error, literal, single, single_error}
 use Rattle.marks.specs.LineEnds.{ends_line, file_items, moved, place, unix}
-use Rattle.marks.specs.Literal.{Stretch, char_error, moved_stretch, stretch}
-use Rattle.marks.specs.declared.literal.Look.{Look}
-use Rattle.marks.specs.declared.literal.Look.TheVariants.{Escape}
-use Rattle.marks.specs.means.LineEnds.{is_whole, single_left}
-use Rattle.marks.specs.means.Literal.{element_look, gap, stretches_from}
-use Rattle.marks.proofs.LineEndLemmas.{chars-unix, place-append, place_less, utf8-unix}
+use Rattle.marks.specs.Literal.{char_error}
+use Rattle.marks.specs.means.LineEnds.{single_left}
+use Rattle.marks.proofs.LineEndLemmas.{chars-unix, place_less, utf8-unix}
+use Rattle.marks.proofs.StretchLemmas.{place-end, place_le}
 
 -- ---- places
-
-whole-nil : (s : List ℕ) → is_whole s [] ≡ true
-whole-nil [] = refl
-whole-nil (c ∷ []) = grind (arith, common_steps, nat_tests)
-whole-nil (c ∷ d ∷ s) = whole-nil (d ∷ s)
-
-pub place-end : (s : List ℕ) → place s (length (unix s)) ≡ length s
-place-end s =
-    let at : length (unix s) + 0 ≡ length (unix s) = omega arith in
-    let all : place s (length (unix s) + 0) ≡ length s + 0 = ap (λ (t : List ℕ). place t (length (unix s) + 0)) (sym (append-nil s)) ∙ place-append s [] 0 (whole-nil s) in
-    ap (place s) (sym at) ∙ omega (arith, all)
 
 -- the byte at a place is that of the text with newlines, or a carriage return
 place-byte : (s : List ℕ) (i : ℕ) → (get_or s (place s i) 0 ≡ get_or (unix s) i 0) ⊎ (get_or s (place s i) 0 ≡ 13)
@@ -48,12 +34,9 @@ place-byte [] (suc i) = inl refl
 place-byte (c ∷ s) zero = by_either (ends_line c s) (λ ends. inr (grind (arith, common_steps, nat_tests))) (λ stays. rw stays (inl refl))
 place-byte (c ∷ s) (suc i) = by_either (ends_line c s) (λ ends. rw ends (place-byte s (suc i))) (λ stays. rw stays (place-byte s i))
 
-place-le : (s : List ℕ) (i j : ℕ) → i ≤ j → place s i ≤ place s j
-place-le s i j le = elim (cases_lt i j) [ inl less ↦ let l = place_less s i j less in omega arith | inr more ↦ let same : i ≡ j = omega arith in omega (arith, ap (place s) same) ]
-
 place-boundary : (s : List ℕ) (i : ℕ) → IsCharBoundary (unix s) i → IsCharBoundary s (place s i)
 place-boundary s i at =
-    let l = place-le s i (length (unix s)) at.0 in
+    let l = place_le s i (length (unix s)) at.0 in
     let e = place-end s in
     (omega arith, λ less big. elim (place-byte s i) [ inl same ↦ let r = at.1 (before less e) (omega (arith, same)) in omega (arith, same) | inr line ↦ absurd (omega arith) ])
   where
@@ -74,29 +57,6 @@ placed-moved s (i ∷ items) are =
 
 pub items_placed : (raw : Bool) (s : List ℕ) → IsUtf8 s → ArePlaced s (file_items raw s)
 items_placed raw s is = placed-moved s (items_of raw (unix s)) (are_placed (unix s) (utf8-unix s is) raw)
-
--- ---- stretches
-
-module _ (mode : Mode) (begin : ℕ) (s : List ℕ) where
-  stretch-moved : (start end : ℕ) (look : Option Look) → stretch (begin + place s start) (begin + place s end) look ≡ map (moved_stretch begin s) (stretch start end look)
-  stretch-moved start end None = refl
-  stretch-moved start end (Some look) = refl
-
-  gap-moved : (at start : ℕ) → gap (begin + place s at) (begin + place s start) ≡ map (moved_stretch begin s) (gap at start)
-  gap-moved at start = elim (cases_lt at start) [
-    | inl less ↦ let l = place_less s at start less in rw (lt-ltb at start less, lt-ltb (begin + place s at) (begin + place s start) (omega arith)) refl
-    | inr more ↦ let l = place-le s start at more in rw (le-ltb at start more, le-ltb (begin + place s at) (begin + place s start) (omega arith)) refl
-    ]
-
-  pub stretches-moved : (at close : ℕ) (items : List Item) → stretches_from mode begin (begin + place s at) (begin + place s close) (map (λ (i : Item). (moved s i.0, i.1)) items) ≡ map (moved_stretch begin s) (stretches_from mode 0 at close items)
-  stretches-moved at close [] = gap-moved at close
-  stretches-moved at close (i ∷ items) = elim (cases_lt i.0.start at) [
-    | inl less ↦ let l = place_less s i.0.start at less in rw (lt-ltb (0 + i.0.start) at (omega arith), lt-ltb (begin + place s i.0.start) (begin + place s at) (omega arith)) (stretches-moved at close items)
-    | inr more ↦ let l = place-le s at i.0.start more in
-        rw (le-ltb (begin + place s i.0.start) (begin + place s at) (omega arith), gap-moved at i.0.start, stretch-moved i.0.start i.0.end (element_look mode i.1), stretches-moved i.0.end close items)
-        (sym (rw (zero-add i.0.start, zero-add i.0.end, le-ltb i.0.start at more) (map-append (moved_stretch begin s) (gap at i.0.start) (stretch i.0.start i.0.end (element_look mode i.1) ++ stretches_from mode 0 i.0.end close items)
-        ∙ ap (λ (ss : List Stretch). map (moved_stretch begin s) (gap at i.0.start) ++ ss) (map-append (moved_stretch begin s) (stretch i.0.start i.0.end (element_look mode i.1)) (stretches_from mode 0 i.0.end close items)))))
-    ]
 
 -- ---- errors between single quotes
 
