@@ -12,5 +12,4 @@ pub mod MovedLemmas
 pub mod PartLemmas
 pub mod PlaceLemmas
 pub mod ScreenLemmas
-pub mod StretchLemmas
 pub mod TextFaultLemmas

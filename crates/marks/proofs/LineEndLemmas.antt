@@ -1,5 +1,5 @@
 -- A text of a file is read in parts that cut no line end.
-use Rattle.std.proofs.Common.{◌≡◌, ℕ, zero, suc, add-zero, zero-add, get_or, append-nil, drop, IsCharBoundary, ◌+◌, ◌-◌, ◌<◌, ◌≤◌, ◌==◌, ◌&&◌, not, Bool, true, false, true≢false, if◌then◌else◌, List, [], ◌∷◌, ◌++◌, append_assoc, length, length-append, map, refl, sym, ap, subst, ◌∙◌, arith, Option, Some, None}
+use Rattle.std.proofs.Common.{◌≡◌, ℕ, zero, suc, zero-add, get_or, append-nil, drop, IsCharBoundary, ◌+◌, ◌-◌, ◌<◌, ◌≤◌, ◌==◌, ◌&&◌, not, Bool, true, false, true≢false, List, [], ◌∷◌, ◌++◌, append_assoc, length, length-append, map, refl, sym, ap, subst, ◌∙◌, arith, Option, None}
 use Rattle.std.specs.Option.{is_some, option_to_list}
 use Rattle.std.specs.Char.{digit_value}
 use Rattle.std.specs.Str.{chars, IsUtf8}

@@ -1,29 +1,37 @@
 -- What a literal says between its marks, and the calls that write it.
-use Rattle.std.proofs.Common.{◌≡◌, ℕ, ◌+◌, ◌-◌, ◌<◌, ◌≤◌, Bool, List, [], ◌∷◌, ◌++◌, take, drop, ap, subst, ◌∙◌, arith, take-append-drop, length-drop, append-nil, IsCharBoundary, IsUtf8, Option, Some}
+use Rattle.std.proofs.Common.{◌≡◌, ℕ, ◌+◌, ◌-◌, ◌<◌, ◌≤◌, Bool, List, [], ◌∷◌, ◌++◌, map, take, drop, ap, subst, ◌∙◌, arith, take-append-drop, length-drop, append-nil, length, IsCharBoundary, IsUtf8, Option, Some}
 use Rattle.std.specs.Fmt.{WritesInCalls}
+use Rattle.rustc_lexer.specs.Classes.{bytes}
 use Rattle.std.proofs.lemmas.Bool.{cases_lt}
 use Rattle.std.proofs.lemmas.List.{drop-drop, get_or-take, length-take-le}
 use Rattle.std.proofs.lemmas.List.Concat.{flat_map-append}
+use Rattle.std.proofs.lemmas.List.Edits.{length-between}
 use Rattle.std.proofs.lemmas.List.Elements.{All-head, All-tail}
-use Rattle.std.proofs.lemmas.Str.{IsCharBoundary-from_rest}
+use Rattle.std.specs.Str.{chars}
+use Rattle.std.proofs.lemmas.Str.{IsCharBoundary-from_rest, IsUtf8-between, encodes-chars}
 use Rattle.std.proofs.lemmas.Grind.{common_steps}
 use Rattle.rustc_literal_escaper.specs.Grammar.{Item}
+use Rattle.rustc_literal_escaper.specs.Answers.{items_of}
 use Rattle.rustc_literal_escaper.specs.Meaning.{is_raw}
-use Rattle.marks.specs.laws.Pieces.{told}
-use Rattle.marks.specs.LineEnds.{file_items}
+use Rattle.rustc_literal_escaper.specs.laws.TheAnswers.{items-are}
+use Rattle.marks.specs.laws.Literal.{stretches-read, the_stretches}
+use Rattle.marks.specs.laws.Pieces.{pieces-some, told}
+use Rattle.marks.specs.LineEnds.{file_items, place, unix}
+use Rattle.marks.specs.Literal as lit
 use Rattle.rustc_literal_escaper.specs.Items.{ArePlaced, IsPlaced}
 use Rattle.rustc_literal_escaper.specs.declared.mode.Mode.{Mode}
 use Rattle.marks.specs.declared.class.Class.TheVariants.{Text}
 use Rattle.marks.specs.declared.literal.Look.{Look}
 use Rattle.marks.specs.declared.format.Format.{Format}
 use Rattle.std.specs.List.{between}
-use Rattle.marks.specs.Answers.{stretches_of}
-use Rattle.marks.specs.Literal.{Stretch, single_stretches, look_parts, parts_from, char_error, char_look, stretch}
+use Rattle.marks.specs.Answers.{stretches_of, string_stretches}
+use Rattle.marks.specs.Literal.{Stretch, single_stretches, stretches_at, look_parts, parts_from, char_error, char_look, moved_stretch, stretch}
 use Rattle.marks.specs.Marked.{literal_parts}
 use Rattle.marks.specs.means.Literal.{WritesOn, element_look, gap, stretches_from}
 use Rattle.marks.specs.means.Literal as means
 use Rattle.marks.specs.Part.{Own, own, with_marks, without_marks}
-use Rattle.marks.proofs.MovedLemmas.{items_placed}
+use Rattle.marks.proofs.LineEndLemmas.{utf8-unix}
+use Rattle.marks.proofs.MovedLemmas.{items_placed, place-end, stretches-moved}
 use Rattle.marks.proofs.PartLemmas.{without_fault, writes_parts}
 
 without_look : (look : Look) (text : List ℕ) → without_marks (look_parts look text) ≡ text
@@ -36,6 +44,23 @@ without_from at left (s ∷ ss) = grind (arith, common_steps, flat_map-append, w
 -- without the marks, a literal is as it was, whatever its stretches are
 pub without_literal : (mode : Mode) (text : List ℕ) → without_marks (literal_parts mode text) ≡ text
 without_literal mode text = without_from 0 text (stretches_of mode text)
+
+-- ---- the stretches of a string are those that the code finds
+
+pub string_found : (mode : Mode) (text : List ℕ) (begin close : ℕ) → IsUtf8 text → begin ≤ close → IsCharBoundary text begin → IsCharBoundary text close → means.string_stretches mode begin close text ≡ string_stretches mode begin close text
+string_found mode text begin close utf8 le at_begin at_close =
+    let inside : List ℕ = between begin close text in
+    let left : List ℕ = unix inside in
+    let is : IsUtf8 left = utf8-unix inside (IsUtf8-between text begin close utf8 le at_begin at_close) in
+    let items = items-are (is_raw mode) left is in
+    let pieces = (pieces-some mode items).all in
+    let first : begin ≡ begin + place inside 0 = omega arith in
+    let last : close ≡ begin + place inside (length left) = omega (arith, le, length-between text begin close at_close.0, place-end inside) in
+    let ends : 0 + bytes (chars left) ≡ length left = omega (arith, ap length (encodes-chars left is)) in
+    ap (λ (n : ℕ). stretches_from mode begin n close (file_items (is_raw mode) inside)) first
+    ∙ (ap (λ (n : ℕ). stretches_from mode begin (begin + place inside 0) n (file_items (is_raw mode) inside)) last
+    ∙ (stretches-moved mode begin inside 0 (length left) (items_of (is_raw mode) left)
+    ∙ ap (map (moved_stretch begin inside)) (stretches-read pieces.1 items 0 (length left) ends ∙ ((the_stretches mode 0 (chars left)).only tt (stretches_at 0 pieces.0)).0 (lit.made pieces.1))))
 
 -- ---- the places
 

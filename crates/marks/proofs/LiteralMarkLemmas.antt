@@ -33,7 +33,8 @@ use Rattle.marks.specs.means.Literal as means
 use Rattle.marks.specs.means.Literal.{gap, look_by, stretches_from}
 use Rattle.marks.proofs.FileFaultLemmas.{string_errors}
 use Rattle.marks.proofs.LineEndLemmas.{place_less, utf8-unix}
-use Rattle.marks.proofs.StretchLemmas.{place-end, place_le, string_found}
+use Rattle.marks.proofs.LiteralLemmas.{string_found}
+use Rattle.marks.proofs.MovedLemmas.{place-end, place-le}
 
 fault-told : (mode : Mode) (error : EscapeError) → error_of mode (Fault error) ≡ Some error
 fault-told Char error = refl
@@ -177,7 +178,7 @@ module _ (mode : Mode) (begin close : ℕ) where
     warned-space from space (c ∷ next) items claim = warned (is_whitespace c) from UnskippedWhitespaceWarning (codes "\\\n" ++ space ++ c ∷ []) items claim
 
     further-on : (from : ℕ) (w : List ℕ) (items : List Item) → Moved (from + bytes w) items → Moved from items
-    further-on from w items claim = record { begins = λ k d low. omega (arith, place_le s from (from + bytes w) (omega arith), claim.begins k d low); marks = claim.marks }
+    further-on from w items claim = record { begins = λ k d low. omega (arith, place-le s from (from + bytes w) (omega arith), claim.begins k d low); marks = claim.marks }
 
     element : (from : ℕ) (e : Element) (w : List ℕ) (items : List Item) → Moved (from + bytes w) items → Moved from (item from e w ∷ items)
     element from e w items rest = one (move s (item from e w)) (map (move s) items) (λ _. rest.begins) (further-on from w items rest)
@@ -206,7 +207,7 @@ strings_marked mode begin close text utf8 at_begin at_close le double =
     let items : List Item = file_items (is_raw mode) inside in
     let is : IsUtf8 (unix inside) = utf8-unix inside (IsUtf8-between text begin close utf8 le at_begin at_close) in
     let fit : All (Fits mode begin close) items = All-map (Fits mode begin close) (move inside) found (All-weaker (IsPlaced (unix inside)) (λ (i : Item). Fits mode begin close (move inside i))
-    (λ i placed. (place_less inside i.0.start i.0.end placed.not_empty, omega (arith, le, length-between text begin close at_close.0, place-end inside, place_le inside i.0.end (length (unix inside)) placed.end.0))) found (are_placed (unix inside) is (is_raw mode))) in
+    (λ i placed. (place_less inside i.0.start i.0.end placed.not_empty, omega (arith, le, length-between text begin close at_close.0, place-end inside, place-le inside i.0.end (length (unix inside)) placed.end.0))) found (are_placed (unix inside) is (is_raw mode))) in
     let marks = (claims mode begin close inside (items-are (is_raw mode) (unix inside) is)).marks begin le fit in
     let same : means.string_stretches mode begin close text ≡ stretches_in mode begin close text =
     string_found mode text begin close utf8 le at_begin at_close ∙ ap (λ (b : Bool). if b then single_stretches mode begin close text else string_stretches mode begin close text) (sym double) in

@@ -1,11 +1,12 @@
 -- What stands in a literal of a file, by what stands in the text with newlines for its line ends.
-use Rattle.std.proofs.Common.{◌≡◌, ℕ, zero, suc, ◌<◌, ◌⊎◌, inl, inr, get_or, IsCharBoundary, IsUtf8, Bool, List, [], ◌∷◌, length, map, refl, sym, ap, ◌∙◌, arith, Option, Some, None, Result, Ok, Err}
+use Rattle.std.proofs.Common.{◌≡◌, ℕ, zero, suc, add-zero, ◌+◌, ◌<◌, ◌≤◌, ◌⊎◌, inl, inr, nat_lt, get_or, append-nil, IsCharBoundary, IsUtf8, Bool, true, List, [], ◌∷◌, length, map, refl, sym, ap, ◌∙◌, arith, Option, Some, None, Result, Ok, Err}
 use Rattle.std.specs.Option.{option_map}
 use Rattle.std.specs.Result.{result_err}
 use Rattle.std.specs.Str.{chars}
 use Rattle.std.proofs.lemmas.Bool.{cases_lt}
 use Rattle.std.proofs.lemmas.Bool.Decides.{nat_tests}
 use Rattle.std.proofs.lemmas.Grind.{common_steps}
+use Rattle.std.proofs.lemmas.List.{map-append}
 use Rattle.std.proofs.lemmas.List.Elements.{All-cons, All-head, All-nil, All-tail}
 use Rattle.rustc_literal_escaper.proofs.AnswerLemmas.{literal_read}
 use Rattle.rustc_literal_escaper.proofs.PlacedLemmas.{are_placed}
@@ -20,12 +21,21 @@ use Rattle.rustc_literal_escaper.specs.declared.mode.Mode.TheVariants.{Char, Byt
 use Rattle.rustc_literal_escaper.specs.laws.Escape.{by_either}
 use Rattle.rustc_literal_escaper.specs.means.Single.{alone, alone_error, literal, single, single_error}
 use Rattle.marks.specs.LineEnds.{ends_line, file_items, moved, place, unix}
-use Rattle.marks.specs.Literal.{char_error}
-use Rattle.marks.specs.means.LineEnds.{single_left}
-use Rattle.marks.proofs.LineEndLemmas.{chars-unix, place_less, utf8-unix}
-use Rattle.marks.proofs.StretchLemmas.{place-end, place_le}
+use Rattle.marks.specs.Literal.{char_error, moved_stretch, stretch}
+use Rattle.marks.specs.declared.literal.Look.{Look}
+use Rattle.marks.specs.means.LineEnds.{is_whole, single_left}
+use Rattle.marks.specs.means.Literal.{stretches_from}
+use Rattle.marks.proofs.LineEndLemmas.{chars-unix, place-append, place_less, utf8-unix}
 
 -- ---- places
+
+whole-nil : (s : List ℕ) → is_whole s [] ≡ true
+whole-nil [] = refl
+whole-nil (c ∷ []) = grind (arith, common_steps, nat_tests)
+whole-nil (c ∷ d ∷ s) = whole-nil (d ∷ s)
+
+pub place-end : (s : List ℕ) → place s (length (unix s)) ≡ length s
+place-end s = rw (append-nil s, add-zero (length (unix s)), add-zero (length s)) at (place-append s [] 0 (whole-nil s))
 
 -- the byte at a place is that of the text with newlines, or a carriage return
 place-byte : (s : List ℕ) (i : ℕ) → (get_or s (place s i) 0 ≡ get_or (unix s) i 0) ⊎ (get_or s (place s i) 0 ≡ 13)
@@ -34,9 +44,12 @@ place-byte [] (suc i) = inl refl
 place-byte (c ∷ s) zero = by_either (ends_line c s) (λ ends. inr (grind (arith, common_steps, nat_tests))) (λ stays. rw stays (inl refl))
 place-byte (c ∷ s) (suc i) = by_either (ends_line c s) (λ ends. rw ends (place-byte s (suc i))) (λ stays. rw stays (place-byte s i))
 
+pub place-le : (s : List ℕ) (i j : ℕ) → i ≤ j → place s i ≤ place s j
+place-le s i j le = elim (cases_lt i j) [ inl less ↦ let l = place_less s i j less in omega arith | inr more ↦ let same : i ≡ j = omega arith in omega (arith, ap (place s) same) ]
+
 place-boundary : (s : List ℕ) (i : ℕ) → IsCharBoundary (unix s) i → IsCharBoundary s (place s i)
 place-boundary s i at =
-    let l = place_le s i (length (unix s)) at.0 in
+    let l = place-le s i (length (unix s)) at.0 in
     let e = place-end s in
     (omega arith, λ less big. elim (place-byte s i) [ inl same ↦ let r = at.1 (before less e) (omega (arith, same)) in omega (arith, same) | inr line ↦ absurd (omega arith) ])
   where
@@ -57,6 +70,20 @@ placed-moved s (i ∷ items) are =
 
 pub items_placed : (raw : Bool) (s : List ℕ) → IsUtf8 s → ArePlaced s (file_items raw s)
 items_placed raw s is = placed-moved s (items_of raw (unix s)) (are_placed (unix s) (utf8-unix s is) raw)
+
+-- ---- stretches
+
+same-order : (s : List ℕ) (begin i j : ℕ) → nat_lt (begin + place s i) (begin + place s j) ≡ nat_lt i j
+same-order s begin i j = grind (arith, common_steps, nat_tests, place_less s i j, place-le s j i)
+
+stretch-moved : (begin : ℕ) (s : List ℕ) (start end : ℕ) (look : Option Look) → stretch (begin + place s start) (begin + place s end) look ≡ map (moved_stretch begin s) (stretch start end look)
+stretch-moved begin s start end None = refl
+stretch-moved begin s start end (Some look) = refl
+
+pub stretches-moved : (mode : Mode) (begin : ℕ) (s : List ℕ) (at close : ℕ) (items : List Item) → stretches_from mode begin (begin + place s at) (begin + place s close) (map (λ (i : Item). (moved s i.0, i.1)) items) ≡ map (moved_stretch begin s) (stretches_from mode 0 at close items)
+stretches-moved mode begin s at close [] = grind (arith, common_steps, same-order s begin at close)
+stretches-moved mode begin s at close (i ∷ items) =
+    grind (arith, common_steps, map-append, stretch-moved, same-order s begin i.0.start at, same-order s begin at i.0.start, stretches-moved mode begin s at close items, stretches-moved mode begin s i.0.end close items)
 
 -- ---- errors between single quotes
 

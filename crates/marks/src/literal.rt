@@ -102,7 +102,7 @@ fn between_quotes(mode: Mode, text: &str) -> Option<(usize, usize)>
 }
 
 /// Writes a closed literal: its escapes in their class, its faults between their marks, and the rest as text.
-#[tactic(auto, using(crate::proofs::StretchLemmas::string_found))]
+#[tactic(auto, using(crate::proofs::LiteralLemmas::string_found))]
 pub fn write_literal<W: fmt::Write>(
     format: Format,
     mode: Mode,
