@@ -194,7 +194,10 @@ fn frontmatters_end_well_or_not() {
         ("---\r\n---\ra\r\n", Some(ExtraAfterFrontmatterClose)),
         ("---\r\n---a\r\n", Some(ExtraAfterFrontmatterClose)),
         ("---\r\n---\r \r\n", Some(ExtraAfterFrontmatterClose)),
-        ("---\r\na\r\n ---\r\n", Some(WhitespaceBeforeFrontmatterClose)),
+        (
+            "---\r\na\r\n ---\r\n",
+            Some(WhitespaceBeforeFrontmatterClose),
+        ),
         ("---\r\n----\r\n", dashes(3, 4)),
         ("---\r\na\r\n", Some(UnclosedFrontmatter)),
     ] {

@@ -1,0 +1,116 @@
+//! Literals of files whose lines end in CR LF, which rustc reads as a newline. Each row is what rustc says of the literal: its
+//! errors and warnings, and from where to where each goes.
+
+use core::ops::Range;
+use marks::{Edition, FaultsInFile, Format, write_marked};
+use rustc_literal_escaper::{EscapeError, EscapeError::*, Mode, Mode::*};
+
+const STRINGS: [Mode; 3] = [Str, ByteStr, CStr];
+const RAW_STRINGS: [Mode; 3] = [RawStr, RawByteStr, RawCStr];
+
+fn faults(contents: &str, mode: Mode) -> Vec<(Range<usize>, EscapeError)> {
+    FaultsInFile::new(contents, mode).collect()
+}
+
+#[test]
+fn strings_over_lines() {
+    for (contents, wanted) in [
+        ("a\r\nb", vec![]),
+        ("\r\n", vec![]),
+        ("a\\\r\n  b", vec![]),
+        ("a\\\n  b\r\n", vec![]),
+        ("a\\\r\n\r\n  b", vec![(1..8, MultipleSkippedLinesWarning)]),
+        ("a\\\r\n \r b", vec![]),
+        ("a\\\r\r\nb", vec![(1..3, InvalidEscape)]),
+        ("a\r\r\nb", vec![(1..2, BareCarriageReturn)]),
+        (
+            "a\rb\r\nc\r",
+            vec![(1..2, BareCarriageReturn), (6..7, BareCarriageReturn)],
+        ),
+        ("\\x\r\n", vec![(0..4, InvalidCharInHexEscape)]),
+        ("\\x1\r\n", vec![(0..5, InvalidCharInHexEscape)]),
+        (
+            "\\q\r\n\\q",
+            vec![(0..2, InvalidEscape), (4..6, InvalidEscape)],
+        ),
+    ] {
+        for mode in STRINGS {
+            assert_eq!(
+                faults(contents, mode),
+                wanted,
+                "of {contents:?} as {mode:?}"
+            );
+        }
+    }
+    for (contents, wanted) in [
+        ("\\u\r\n", (0..4, NoBraceInUnicodeEscape)),
+        ("\\u{\r\n", (0..5, InvalidCharInUnicodeEscape)),
+        ("\\u{1\r\n}", (0..6, InvalidCharInUnicodeEscape)),
+        ("a\\\r\n \u{a0} b", (1..7, UnskippedWhitespaceWarning)),
+        ("\r\n\\u{1234567}", (2..13, OverlongUnicodeEscape)),
+        ("\r\n\\u{dead}", (2..10, LoneSurrogateUnicodeEscape)),
+    ] {
+        assert_eq!(faults(contents, Str), [wanted], "of {contents:?}");
+    }
+}
+
+#[test]
+fn raw_strings_over_lines() {
+    for mode in RAW_STRINGS {
+        assert_eq!(faults("a\r\n\\\r\nb", mode), []);
+        let wanted = [(1..2, BareCarriageReturnInRawString)];
+        assert_eq!(faults("a\r\r\nb\r\n", mode), wanted);
+    }
+}
+
+#[test]
+fn between_single_quotes() {
+    for (contents, wanted) in [
+        ("\r\n", (0..2, EscapeOnlyChar)),
+        ("(\r\n", (0..3, MoreThanOneChar)),
+        ("\\\r\n", (0..3, InvalidEscape)),
+        ("\\x1\r\n", (0..5, InvalidCharInHexEscape)),
+        ("\r", (0..1, BareCarriageReturn)),
+        ("", (0..0, ZeroChars)),
+    ] {
+        for mode in [Char, Byte] {
+            assert_eq!(
+                faults(contents, mode),
+                [wanted.clone()],
+                "of {contents:?} as {mode:?}"
+            );
+        }
+    }
+    assert_eq!(faults("a", Char), []);
+    assert_eq!(faults("\\n", Byte), []);
+}
+
+/// The marks of a page: a fault over all of its bytes, and one escape from a backslash to the end of what is skipped.
+#[test]
+fn pages() {
+    let lone = BareCarriageReturn.to_string();
+    let only = EscapeOnlyChar.to_string();
+    for (text, wanted) in [
+        ("\"a\r\nb\"", "\"a&#13;\nb\"".to_string()),
+        ("br\"a\r\nb\"", "br\"a&#13;\nb\"".to_string()),
+        (
+            "\"a\\\r\n  b\"",
+            "\"a</span><span class=\"escape\">\\&#13;\n  </span>".to_string(),
+        ),
+        (
+            "\"a\r\r\nb\"",
+            format!("\"a</span><mark title=\"{lone}\">&#13;</mark><span class=\"text\">&#13;\nb\""),
+        ),
+        (
+            "'\r\n'",
+            format!("'</span><mark title=\"{only}\">&#13;\n</mark>"),
+        ),
+    ] {
+        let mut page = String::new();
+        write_marked(Format::Html, Edition::NEWEST, text, &mut page).unwrap();
+        assert!(
+            page.contains(&wanted),
+            "of {text:?}: {page:?}, not {wanted:?}"
+        );
+    }
+}
