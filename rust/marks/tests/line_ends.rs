@@ -2,7 +2,7 @@
 //! errors and warnings, and from where to where each goes.
 
 use core::ops::Range;
-use marks::{Edition, FaultsInFile, Format, write_marked};
+use marks::FaultsInFile;
 use rustc_literal_escaper::{EscapeError, EscapeError::*, Mode, Mode::*};
 
 const STRINGS: [Mode; 3] = [Str, ByteStr, CStr];
@@ -83,34 +83,4 @@ fn between_single_quotes() {
     }
     assert_eq!(faults("a", Char), []);
     assert_eq!(faults("\\n", Byte), []);
-}
-
-/// The marks of a page: a fault over all of its bytes, and one escape from a backslash to the end of what is skipped.
-#[test]
-fn pages() {
-    let lone = BareCarriageReturn.to_string();
-    let only = EscapeOnlyChar.to_string();
-    for (text, wanted) in [
-        ("\"a\r\nb\"", "\"a&#13;\nb\"".to_string()),
-        ("br\"a\r\nb\"", "br\"a&#13;\nb\"".to_string()),
-        (
-            "\"a\\\r\n  b\"",
-            "\"a</span><span class=\"escape\">\\&#13;\n  </span>".to_string(),
-        ),
-        (
-            "\"a\r\r\nb\"",
-            format!("\"a</span><mark title=\"{lone}\">&#13;</mark><span class=\"text\">&#13;\nb\""),
-        ),
-        (
-            "'\r\n'",
-            format!("'</span><mark title=\"{only}\">&#13;\n</mark>"),
-        ),
-    ] {
-        let mut page = String::new();
-        write_marked(Format::Html, Edition::NEWEST, text, &mut page).unwrap();
-        assert!(
-            page.contains(&wanted),
-            "of {text:?}: {page:?}, not {wanted:?}"
-        );
-    }
 }

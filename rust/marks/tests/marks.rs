@@ -140,6 +140,41 @@ fn an_edition_has_its_tokens() {
     }
 }
 
+/// A carriage return in front of a newline is part of the line end.
+#[test]
+fn a_literal_over_line_ends() {
+    let bare = "[<- a carriage return cannot stand here itself: it is written as \\r]";
+    let raw = "[<- a raw string cannot hold a carriage return]";
+    let lines = "[<- more than one line end is skipped here]";
+    let end = "[<- this character cannot stand here itself: it is written as an escape]";
+    let digit = "[<- this is no hexadecimal digit: \\x takes two of them]";
+    let byte = "[<- this character is not in ASCII, and so is no byte]";
+    for (text, wanted) in [
+        ("\"a\r\nb\"", "\"a\r\nb\"".to_owned()),
+        ("\"a\\\r\n  b\"", "\"a\\\r\n  b\"".to_owned()),
+        ("\"a\\\r\n\r\nb\"", format!("\"a\\ {lines}\r\n\r\nb\"")),
+        ("\"a\r\r\nb\"", format!("\"a {bare}␍\r\nb\"")),
+        ("'\r\n'", format!("' {end}\r\n'")),
+        ("\"\\x\r\n\"", format!("\"\\x {digit}\r\n\"")),
+        ("b\"é\r\n\"", format!("b\"é {byte}\r\n\"")),
+        ("r\"\\\r\n\"", "r\"\\\r\n\"".to_owned()),
+        ("r\"\r\r\n\"", format!("r\" {raw}␍\r\n\"")),
+    ] {
+        assert_eq!(whole(Format::NoColours, NEWEST, text), wanted);
+    }
+    for (text, wanted) in [
+        (
+            "\"a\\\r\n  b\"",
+            "\"a</span><span class=\"escape\">\\&#13;\n  </span>",
+        ),
+        ("'\r\n'", "</mark><span class=\"text\">&#13;\n</span>"),
+        ("\"\\x\r\n\"", "</mark><span class=\"text\">&#13;\n</span>"),
+    ] {
+        let marked = whole(Format::Html, NEWEST, text);
+        assert!(marked.contains(wanted), "{marked}");
+    }
+}
+
 /// A frontmatter stands in front of a whole text alone: to a part its dashes are symbols.
 #[test]
 fn a_whole_text_has_a_frontmatter() {
