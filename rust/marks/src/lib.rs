@@ -38,6 +38,8 @@
 /// use the calls at the crate's root.
 // Contracts alone use some of its imports and variables.
 #[allow(missing_docs, unused_imports, unused_variables, dead_code)]
+// The prover has a loop over what an iterator still gives as `while let`.
+#[allow(clippy::while_let_on_iterator)]
 #[allow(
     clippy::missing_errors_doc,
     clippy::missing_panics_doc,
