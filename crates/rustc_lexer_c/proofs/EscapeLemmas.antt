@@ -41,6 +41,6 @@ unix-shorter (c ∷ s) = let rest = unix-shorter s in by_either (ends_line c s) 
 pub listed_few : (listing : Listing) (mode : Mode) (text : List ℕ) → IsUtf8 text → length (listed listing mode text) ≤ max 1 (length text)
 listed_few Units mode text is = grind (arith, common_steps, cond_both, le-max_left, items-few, le-max_right)
 listed_few Errors mode text is =
-    omega (arith, errors_of-few mode (unix text) (utf8-unix text is), unix-shorter text, length-map (errors_of mode (unix text)) (λ (e : Error). (moved text e.0, e.1)), length-map (file_errors mode text) (λ (e : Error). wrong_unit e.0 e.1))
+    omega (arith, errors_of-few mode (unix text) (utf8-unix text is), unix-shorter text, length-map {B = Error} (errors_of mode (unix text)) (λ (e : Error). (moved text e.0, e.1)), length-map (file_errors mode text) (λ (e : Error). wrong_unit e.0 e.1))
 
 pub ruleset fill_lemmas = (passed_step, few_step, length-set, front_step, back_step)

@@ -9,8 +9,8 @@ use rustc_literal_escaper::erased::{Element, EscapeError, Faults, Mode};
 
 /// An iterator over the errors and warnings of a literal in a file, each with its place in bytes.
 ///
-/// `rustc` reads a carriage return and a newline as a newline, so that carriage return is no error, as it is in
-/// [`Faults`](rustc_literal_escaper::Faults). Every other one is.
+/// rustc reads a carriage return and a newline as a newline, so that carriage return is no error, as it is for
+/// [`check_for_errors`](rustc_literal_escaper::check_for_errors). Every other one is.
 ///
 /// ```
 /// use marks::FaultsInFile;
