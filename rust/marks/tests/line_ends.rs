@@ -73,10 +73,11 @@ fn between_single_quotes() {
         ("\r", (0..1, BareCarriageReturn)),
         ("", (0..0, ZeroChars)),
     ] {
+        let wanted = [wanted];
         for mode in [Char, Byte] {
             assert_eq!(
                 faults(contents, mode),
-                [wanted.clone()],
+                wanted,
                 "of {contents:?} as {mode:?}"
             );
         }
