@@ -396,6 +396,9 @@ static void check_errors(unescape_call *errors) {
         CHECK(is_unit(units[1 - passed], 0, 5, RUSTC_LEXER_UNIT_WARNING, RUSTC_LEXER_UNSKIPPED_WHITESPACE_WARNING));
     }
     CHECK(errors(text, len, RUSTC_LEXER_RAW_STR, 0, units, 16, &count) == RUSTC_LEXER_OK && count == 0);
+    static const uint8_t lines[] = "a\r\nb\\\r\n c\r\r\n";
+    CHECK(errors(lines, sizeof lines - 1, RUSTC_LEXER_STR, 0, units, 16, &count) == RUSTC_LEXER_OK && count == 1);
+    CHECK(is_unit(units[0], 9, 10, RUSTC_LEXER_UNIT_ERROR, RUSTC_LEXER_BARE_CARRIAGE_RETURN));
     CHECK(errors(text, len, RUSTC_LEXER_CHAR, 0, units, 16, &count) == RUSTC_LEXER_OK && count == 1);
     CHECK(is_unit(units[0], 0, 2, RUSTC_LEXER_UNIT_ERROR, RUSTC_LEXER_MORE_THAN_ONE_CHAR));
     CHECK(errors(text, 1, RUSTC_LEXER_BYTE, 0, units, 1, &count) == RUSTC_LEXER_OK && count == 0);
