@@ -78,7 +78,9 @@ LAYERS = [
     (f"{LEXER}/src/kernels.rt", "\nuse ", "\nuse crate::{token, entry::tokenize};\nuse ", "kernels uses entry, which does not stand below it"),
     (f"{LEXER}/src/head.rt", "\nuse ", "\nuse crate::relex::{edit, kept};\nuse ", "head uses relex/kept, which does not stand below it"),
     (f"{LEXER}/src/relex/edit.rt", "\nuse ", "\nghost use Rattle.rustc_lexer.specs.laws.LanguageRuns.{planted};\nuse ", "relex/edit.rt names specs.laws.LanguageRuns"),
-    (f"{LEXER}/src/relex/edit.rt", "\nuse ", "\nghost use Rattle.rustc_lexer.specs.{laws.LanguageRuns.planted};\nuse ", "relex/edit.rt names specs"),
+    (f"{LEXER}/src/relex/edit.rt", "\nuse ", "\nghost use Rattle.rustc_lexer.specs.{laws.LanguageRuns.planted};\nuse ", "relex/edit.rt names specs.laws.LanguageRuns"),
+    (f"{LEXER}/proofs/lemmas/edits/Bounds.antt", "\nuse ", "\nuse Rattle.rustc_lexer.specs.{Token, laws.{LanguageRuns.{planted}}}\nuse ", "Bounds.antt names specs.laws.LanguageRuns"),
+    (f"{LEXER}/proofs/lemmas/edits/Bounds.antt", "\nuse ", "\nuse Rattle.rustc_lexer.specs.{Language}\nuse ", "Bounds.antt names specs.Language"),
     (f"{LEXER}/src/relex/edit.rt", "\nuse ", "\n#[tactic(auto, using(crate::proofs::lemmas::tokens::Runs::planted))]\nuse ", "relex/edit.rt names proofs.lemmas.tokens.Runs"),
     (f"{LEXER}/proofs/lemmas/edits/Bounds.antt", "\nuse ", "\nuse Rattle.rustc_lexer.proofs.scan.planted.{it}\nuse ", "Bounds.antt names proofs.scan.planted"),
 ]
