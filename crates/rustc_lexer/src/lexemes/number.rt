@@ -31,6 +31,7 @@ pub(crate) fn number(first_digit: char, tail: &str) -> (TokenKind, &str)
 
 /// Returns the kind of the number, and the text from its suffix on.
 #[inline(always)]
+#[tactic(auto, using(crate::proofs::lemmas::tokens::Numbers::number_lemmas, std::proofs::lemmas::Grind::common_steps), unfolding(crate::specs::means::Number::number_kind))]
 fn number_kind(first_digit: char, tail: &str) -> (LiteralKind, &str)
     ensures { (result.0, result.1.now) ≡ scanned (spec.number_kind first_digit) tail.now }
 {
@@ -137,6 +138,7 @@ fn is_no_fraction(c: char) -> bool
 /// Lexes the fraction of a float. Returns the kind of the float, and the text after it. `rest` is the text after
 /// its dot.
 #[inline(always)]
+#[tactic(auto, using(crate::proofs::lemmas::tokens::Numbers::number_lemmas, std::proofs::lemmas::Grind::common_steps), unfolding(crate::specs::means::Number::fraction))]
 fn fraction(base: Base, rest: &str) -> (LiteralKind, &str)
     ensures { (result.0, result.1.now) ≡ scanned (spec.fraction base) rest.now }
 {
