@@ -16,7 +16,7 @@ use Rattle.rustc_lexer.specs.means.Raw.{is_hash, hash_run, close, most_hashes, q
 use Rattle.rustc_lexer.specs.means.Scan.{bytes_of}
 use Rattle.rustc_lexer.specs.Classes.{NextIsNot, bytes}
 use Rattle.rustc_lexer.specs.laws.Choice.{by_either}
-use Rattle.rustc_lexer.specs.laws.LanguageRaw.{guard-length, guard-hashes, at_least, split-hashes, before-quote, lacks-rest, lacks-front, close-read, unclosed-read, Closing, found, lost, closing, guarded, whole-text}
+use Rattle.rustc_lexer.specs.laws.LanguageRaw.{guard-length, guard-hashes, at_least, split-hashes, before-quote, lacks-rest, lacks-front, Closing, found, lost, closing, whole-text, closed-read, open-read, no_quote-read, no_more-read, Shape, closed, unclosed, no_quote, no_more, shape}
 
 -- ---- the most hashes behind a quote
 
@@ -107,9 +107,9 @@ record HasBest (start : ℕ) (w : List ℕ) : Type 0 where
 has-best : (start : ℕ) (w : List ℕ) → HasBest start w
 has-best start w = by_most (most_hashes w) refl
   where
-    some-best : (m : ℕ) → most_hashes w ≡ suc m → {o : Option ℕ} → Closing (suc m) w o → HasBest start w
-    some-best m e (found u z lacks whole) = record { count = suc m; end = _; is = the.best u z (omega arith) (sym whole) lacks (lacks-past (suc (suc m)) w (omega (arith, e))) }
-    some-best m e (lost lacks) = absurd (omega (arith, most-few m w lacks, e))
+    some-best : (m : ℕ) {v : List ℕ} → most_hashes v ≡ suc m → Closing (suc m) v → HasBest start v
+    some-best m e (found u z lacks) = record { count = suc m; end = _; is = the.best u z (omega arith) refl lacks (lacks-past (suc (suc m)) _ (omega (arith, e))) }
+    some-best m e (lost {u} lacks) = absurd (omega (arith, most-few m u lacks, e))
 
     by_most : (m : ℕ) → most_hashes w ≡ m → HasBest start w
     by_most zero e = record { count = 0; end = None; is = the.none (lacks-past 1 w (omega (arith, e))) }
@@ -117,32 +117,12 @@ has-best start w = by_most (most_hashes w) refl
 
 -- ---- the answer
 
-starts : (p n : ℕ) (v : List ℕ) → NextIsNot is_hash v → checked (raw_read p (hashes n ++ v)).0 ≡ checked (raw_starter p n v).0
-starts p n v stop = grind (arith, common_steps, guard-length, drop-append_seam, guard-hashes)
-
-past-quote : (p n : ℕ) (u : List ℕ) → checked (raw_read p (hashes n ++ 34 ∷ u)).0 ≡ checked (raw_closed n (p + suc n) u (close n u)).0
-past-quote p n u = starts p n (34 ∷ u) refl
-
-few : (n : ℕ) → n ≤ 255 → checked (hash_count n) ≡ Ok tt
-few n le = rw (le-leb n 255 le) refl
-
-many : (n : ℕ) → 255 < n → checked (hash_count n) ≡ Err (TooManyDelimiters n)
-many n lt = rw (lt-leb n 255 lt) refl
-
 answer-read : {p : ℕ} {s : List ℕ} {r : Result Unit RawStrError} → IsRawAnswer p s r → r ≡ checked (raw_read p s).0
-answer-read {p} (the.good {next = next} (lit.closed n w le lacks)) =
-    sym (ap (λ (s : List ℕ). checked (raw_read p s).0) (whole-text n w next) ∙ (past-quote p n (w ++ (34 ∷ hashes n ++ next)) ∙ (ap (λ (o : Option ℕ). checked (raw_closed n (p + suc n) (w ++ (34 ∷ hashes n ++ next)) o).0) (close-read n w next lacks) ∙ few n le)))
-answer-read {p} (the.too_many n w next lt lacks) =
-    sym (past-quote p n (w ++ (34 ∷ hashes n ++ next)) ∙ (ap (λ (o : Option ℕ). checked (raw_closed n (p + suc n) (w ++ (34 ∷ hashes n ++ next)) o).0) (close-read n w next lacks) ∙ many n lt))
-answer-read {p} (the.unclosed n w {found = m} {offset = end} lacks is_best) =
-    let b = best-read (p + suc n) is_best in
-    sym (past-quote p n w ∙ (ap (λ (o : Option ℕ). checked (raw_closed n (p + suc n) w o).0) (unclosed-read n w lacks)
-    ∙ (ap (λ (k : ℕ). let r : Result Unit RawStrError = Err (NoTerminator n k (quote_end (p + suc n) w (best_quote w))) in r) b.most ∙ ap (λ (o : Option ℕ). let r : Result Unit RawStrError = Err (NoTerminator n m o) in r) b.at)))
-answer-read {p} (the.no_quote n c next out) =
-    let parts = or_parts (c == 34) _ out in
-    let no_hash : is_hash c ≡ false = (or_parts (c == 35) false parts.1).0 in
-    sym (starts p n (c ∷ next) no_hash ∙ rw parts.0 refl)
-answer-read {p} (the.no_more n) = sym (ap (λ (s : List ℕ). checked (raw_read p s).0) (sym (append-nil (hashes n))) ∙ starts p n [] refl)
+answer-read {p} (the.good {next = next} (lit.closed n w le lacks)) = grind (arith, common_steps, whole-text, closed-read, le-leb)
+answer-read {p} (the.too_many n w next lt lacks) = grind (arith, common_steps, closed-read, lt-leb)
+answer-read {p} (the.unclosed n w lacks is_best) = let b = best-read (p + suc n) is_best in grind (arith, common_steps, open-read, b.most, b.at)
+answer-read {p} (the.no_quote n c next out) = grind (arith, common_steps, no_quote-read)
+answer-read {p} (the.no_more n) = grind (arith, common_steps, no_more-read)
 
 -- there is one
 record HasAnswer (p : ℕ) (s : List ℕ) : Type 0 where
@@ -150,19 +130,15 @@ record HasAnswer (p : ℕ) (s : List ℕ) : Type 0 where
   is : IsRawAnswer p s answer
 
 has-answer : (p : ℕ) (s : List ℕ) → HasAnswer p s
-has-answer p s = let g = guarded s in subst (HasAnswer p) g.whole (by_left g.count g.left g.stops)
+has-answer p s = by_shape (shape s)
   where
-    closed : (n : ℕ) (u : List ℕ) {o : Option ℕ} → Closing n u o → HasAnswer p (hashes n ++ 34 ∷ u)
-    closed n u (found w z lacks whole) = subst (λ (x : List ℕ). HasAnswer p (hashes n ++ 34 ∷ x)) whole (by_either (nat_le n 255)
-        (λ e. record { answer = Ok tt; is = subst (λ (x : List ℕ). IsRawAnswer p x (Ok tt)) (whole-text n w z) (the.good (lit.closed n w (leb-true n 255 e) lacks)) })
-        (λ e. record { answer = Err (TooManyDelimiters n); is = the.too_many n w z (leb-false n 255 e) lacks }))
-    closed n u (lost lacks) = let b = has-best (p + suc n) u in record { answer = Err (NoTerminator n b.count b.end); is = the.unclosed n u lacks b.is }
-
-    by_left : (n : ℕ) (v : List ℕ) → NextIsNot is_hash v → HasAnswer p (hashes n ++ v)
-    by_left n [] stop = record { answer = Err (InvalidStarter 0); is = subst (λ (x : List ℕ). IsRawAnswer p x (Err (InvalidStarter 0))) (sym (append-nil (hashes n))) (the.no_more n) }
-    by_left n (c ∷ u) stop = by_either (c == 34)
-        (λ e. subst (λ (x : ℕ). HasAnswer p (hashes n ++ x ∷ u)) (sym (eqb-true c 34 e)) (closed n u (closing n u)))
-        (λ e. record { answer = Err (InvalidStarter c); is = the.no_quote n c u (or_from (c == 34) _ e (or_from (c == 35) false stop refl)) })
+    by_shape : {s : List ℕ} → Shape s → HasAnswer p s
+    by_shape (closed n w next lacks) = by_either (nat_le n 255)
+        (λ e. record { answer = Ok tt; is = subst (λ (x : List ℕ). IsRawAnswer p x (Ok tt)) (whole-text n w next) (the.good (lit.closed n w (leb-true n 255 e) lacks)) })
+        (λ e. record { answer = Err (TooManyDelimiters n); is = the.too_many n w next (leb-false n 255 e) lacks })
+    by_shape (unclosed n w lacks) = let b = has-best (p + suc n) w in record { answer = Err (NoTerminator n b.count b.end); is = the.unclosed n w lacks b.is }
+    by_shape (no_quote n c next out) = record { answer = Err (InvalidStarter c); is = the.no_quote n c next out }
+    by_shape (no_more n) = record { answer = Err (InvalidStarter 0); is = the.no_more n }
 
 -- this one and no other
 pub raw-answer : (text : List ℕ) (p : ℕ) (other : Result Unit RawStrError) → IsRawAnswer p (drop p (chars text)) other ↔ (other ≡ check_raw text p)

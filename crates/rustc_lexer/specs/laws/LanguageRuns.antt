@@ -46,14 +46,24 @@ among f (d ∷ ds) all c e = let parts = and_parts (f d) (list_all f ds) all in 
 pub none-among : (f : ℕ → Bool) (ds : List ℕ) → list_all (λ d. not (f d)) ds ≡ true → (c : ℕ) → is_among ds c ≡ true → f c ≡ false
 none-among f ds all c e = not-true (f c) (among (λ d. not (f d)) ds all c e)
 
+-- no white space is in the class
+abbrev pub IsSolid : (ℕ → Bool) → Type 0
+IsSolid p = (c : ℕ) → is_whitespace c ≡ true → p c ≡ false
+
+abbrev pub spaces : List ℕ
+spaces = 0x9 ∷ 0xA ∷ 0xB ∷ 0xC ∷ 0xD ∷ 0x20 ∷ 0x85 ∷ 0x200E ∷ 0x200F ∷ 0x2028 ∷ 0x2029 ∷ []
+
+pub solid-by : (p : ℕ → Bool) → list_all (λ d. not (p d)) spaces ≡ true → IsSolid p
+solid-by p all c e = none-among p spaces all c e
+
 pub either-way : {A : Type 0} (b : Bool) → b ≡ true → b ≡ false → A
 either-way b t f = absurd (true≢false (sym t ∙ f))
 
 -- ---- classes that do not meet
 
-space-no_word_start : (c : ℕ) → is_whitespace c ≡ true → is_word_start c ≡ false
+space-no_word_start : IsSolid is_word_start
 unfolding unicode_ident is_emoji emoji_ranges
-space-no_word_start c e = none-among is_word_start (0x9 ∷ 0xA ∷ 0xB ∷ 0xC ∷ 0xD ∷ 0x20 ∷ 0x85 ∷ 0x200E ∷ 0x200F ∷ 0x2028 ∷ 0x2029 ∷ []) refl c e
+space-no_word_start = solid-by is_word_start refl
 
 pub word_start-no_space : (c : ℕ) → is_word_start c ≡ true → is_whitespace c ≡ false
 word_start-no_space c e = false_from_ne_true (is_whitespace c) (λ s. either-way (is_word_start c) e (space-no_word_start c s))

@@ -1,22 +1,23 @@
 -- The number that is read is the longest that stands at the front of its text.
 use Rattle.std.proofs.Common.{◌≡◌, ℕ, zero, suc, ◌+◌, ◌≤◌, ◌<◌, ◌==◌, ◌&&◌, ◌||◌, ◌⊎◌, inl, inr, not, Bool, true, false, true≢false, if◌then◌else◌, List, [], ◌∷◌, ◌++◌, length, take, drop, refl, sym, ap, ◌∙◌, subst, arith, codes, append_assoc, length-append, length-drop, take-append-drop, length-take-le}
 use Rattle.std.proofs.lemmas.Bool.{agree_below_at, and_parts, cases_lt, eqb-true, or_cases, or_right}
-use Rattle.std.proofs.lemmas.List.{append-nil}
+use Rattle.std.proofs.lemmas.List.{append-nil, drop-append-le, take-append-le}
 use Rattle.std.specs.Char.{is_ascii_digit, is_ascii_hexdigit}
 use Rattle.std.specs.List.{list_all, list_any}
 use Rattle.std.specs.Str.{byte}
 use Rattle.std.proofs.lemmas.Grind.{common_steps}
 use Rattle.unicode_ident.proofs.Computing.{unicode_ident}
 use Rattle.rustc_lexer.specs.{Base, LiteralKind, Binary, Octal, Decimal, Hexadecimal, Int, Float}
-use Rattle.rustc_lexer.specs.laws.Choice.{by_test}
-use Rattle.std.proofs.Math.Seq.{take-append_seam}
-use Rattle.rustc_lexer.specs.laws.Reach.{begins-length, next_is-length, cut, cut_past, decided_same, next_is-decided, run_len_le}
+use Rattle.rustc_lexer.specs.laws.Choice.{by_either, by_test}
+use Rattle.rustc_lexer.specs.Classes.{is_among}
+use Rattle.std.proofs.Math.Seq.{take-append_seam, drop-append_seam}
+use Rattle.rustc_lexer.specs.laws.Reach.{begins-length, IsDecidedBy, next_is-length, decided_same, next_is-decided, run_len_le}
 use Rattle.rustc_lexer.specs.laws.NumberGrammar.{number-form}
-use Rattle.rustc_lexer.specs.laws.Within.{Within, within-suc, within-one, within-any, then-within, run-within}
+use Rattle.rustc_lexer.specs.laws.Within.{run_len-next, run_len-none, Within, within-suc, within-one, within-any, then-within, run-within}
 use Rattle.rustc_lexer.specs.means.Number.{or_underscore, digits, IntegerPart, part_of, prefixed, binary, octal, hexadecimal, decimal, part_past_zero, integer_part, float, is_exponent_letter, is_sign, past_sign, float_exponent, optional_exponent, fraction_digits, fraction, is_no_fraction, begins_fraction, past_digits, tail, number_kind}
 use Rattle.rustc_lexer.specs.NumberGrammar.{AreDigits, is_digit_of, IsWholePart, plain, with_b, with_o, with_x, IsExponent, signed, unsigned, IsTailBefore, nothing, dot, of_fraction, of_exponent, of_both, HasNumberForm, of_prefix, of_parts, IsNumberBefore}
-use Rattle.rustc_lexer.specs.means.Scan.{and_then, after, begins, gives, next_is, read_as, run}
-use Rattle.rustc_lexer.specs.laws.LanguageRuns.{digit-small, other_than, pair}
+use Rattle.rustc_lexer.specs.means.Scan.{and_then, after, begins, gives, next_is, read_as, run, run_as, run_len}
+use Rattle.rustc_lexer.specs.laws.LanguageRuns.{begins-next, digit-small, IsSolid, other_than, pair, solid-by}
 
 -- ---- characters
 
@@ -267,106 +268,110 @@ number-is {next} {kind} first v digit is = elim (form-within first s refl is.for
     m : ℕ
     m = (number_kind first s).1
 
--- ---- what a number begins with
+-- ---- what follows a number
 
-run-front : (p : ℕ → Bool) (n : ℕ) (ds : List ℕ) → list_all p ds ≡ true → list_all p (take n ds) ≡ true
-run-front p zero ds all = refl
-run-front p (suc n) [] all = refl
-run-front p (suc n) (d ∷ ds) all = let both = and_parts (p d) (list_all p ds) all in ap (λ (b : Bool). b && list_all p (take n ds)) both.0 ∙ run-front p n ds both.1
+pub fraction-solid : IsSolid is_no_fraction
+unfolding unicode_ident
+fraction-solid = solid-by is_no_fraction refl
 
--- the form of a number of some kind
-abbrev pub HasForm : List ℕ → List ℕ → Type 0
-HasForm next w = (kind : LiteralKind) × HasNumberForm next kind w
+-- two texts that may follow a number, of which the first characters are in the same classes
+module _ (next other : List ℕ) (same : (p : ℕ → Bool) → IsSolid p → next_is p other ≡ next_is p next) where
+  -- what a scanner reads within w is the same before the other text
+  abbrev Stays : {A : Type 0} → (List ℕ → A × ℕ) → List ℕ → Type 0
+  Stays scan w = (scan (w ++ next)).1 ≤ length w → scan (w ++ other) ≡ scan (w ++ next)
 
-whole-form : (base : Base) (empty : Bool) (w next : List ℕ) → IsWholePart base empty w → HasForm next w
-whole-form base true w next is = (Int base true, of_prefix is)
-whole-form base false w next is = (Int base false, subst (HasNumberForm next (Int base false)) (append-nil w) (of_parts is nothing))
+  next-stays : (p : ℕ → Bool) → IsSolid p → (w : List ℕ) → next_is p (w ++ other) ≡ next_is p (w ++ next)
+  next-stays p solid [] = same p solid
+  next-stays p solid (c ∷ w) = refl
 
--- the first characters of an integer part, of an exponent, and of a tail
-whole-front : {base : Base} {empty : Bool} {w : List ℕ} → IsWholePart base empty w → (n : ℕ) (next : List ℕ) → HasForm next (take (suc (suc n)) w)
-whole-front (plain {d} {ds} digit are) n next = whole-form Decimal false (d ∷ take (suc n) ds) next (plain digit (run-front (or_underscore is_ascii_digit) (suc n) ds are))
-whole-front (with_b {ds} are) n next = whole-form Binary (not (list_any is_ascii_digit (take n ds))) (48 ∷ 98 ∷ take n ds) next (with_b (run-front (or_underscore is_ascii_digit) n ds are))
-whole-front (with_o {ds} are) n next = whole-form Octal (not (list_any is_ascii_digit (take n ds))) (48 ∷ 111 ∷ take n ds) next (with_o (run-front (or_underscore is_ascii_digit) n ds are))
-whole-front (with_x {ds} are) n next = whole-form Hexadecimal (not (list_any is_ascii_hexdigit (take n ds))) (48 ∷ 120 ∷ take n ds) next (with_x (run-front (or_underscore is_ascii_hexdigit) n ds are))
+  letter-stays : (c : ℕ) → IsSolid (is_among (c ∷ [])) → (w : List ℕ) → begins (c ∷ []) (w ++ other) ≡ begins (c ∷ []) (w ++ next)
+  letter-stays c solid w = begins-next c (w ++ other) ∙ (next-stays (is_among (c ∷ [])) solid w ∙ sym (begins-next c (w ++ next)))
 
-exponent-front : {base : Base} {kind : LiteralKind} {t : List ℕ} → IsExponent base kind t → (n : ℕ) → (k : LiteralKind) × IsExponent base k (take (suc n) t)
-exponent-front (signed {base} {e} {g} {ds} letter sign are) zero = (Float base true, unsigned {ds = []} letter refl)
-exponent-front (signed {base} {e} {g} {ds} letter sign are) (suc n) = (Float base (not (list_any is_ascii_digit (take n ds))), signed letter sign (run-front (or_underscore is_ascii_digit) n ds are))
-exponent-front (unsigned {base} {e} {ds} letter are) n = (Float base (not (list_any is_ascii_digit (take n ds))), unsigned letter (run-front (or_underscore is_ascii_digit) n ds are))
+  run_len-stays : (p : ℕ → Bool) → IsSolid p → (w : List ℕ) → run_len p (w ++ next) ≤ length w → run_len p (w ++ other) ≡ run_len p (w ++ next)
+  run_len-stays p solid [] le = grind (arith, common_steps, run_len-next, run_len-none, same p solid)
+  run_len-stays p solid (c ∷ w) le = grind (arith, common_steps, run_len-stays p solid w)
 
--- the first characters of two texts end in the first one, or go on in the second
-split : (n : ℕ) (a b : List ℕ) → (take n (a ++ b) ≡ take n a) ⊎ ((m : ℕ) × (take n (a ++ b) ≡ a ++ take m b) × (drop n (a ++ b) ≡ drop m b))
-split zero a b = inl refl
-split (suc n) [] b = inr (suc n, refl, refl)
-split (suc n) (x ∷ a) b = elim (split n a b) [ inl e ↦ inl (ap (λ (xs : List ℕ). x ∷ xs) e) | inr e ↦ inr (e.0, ap (λ (xs : List ℕ). x ∷ xs) e.1, e.2) ]
+  run-stays : {A : Type 0} (f : List ℕ → A) (p : ℕ → Bool) → IsSolid p → (w : List ℕ) → Stays (run_as (λ front rest. f front) p) w
+  run-stays f p solid w le = grind (arith, common_steps, run_len-stays p solid w, take-append-le)
 
-tail-front : {next : List ℕ} {base : Base} {kind : LiteralKind} {t : List ℕ} → IsTailBefore next base kind t → (n : ℕ) → (k : LiteralKind) × IsTailBefore (drop n t ++ next) base k (take n t)
-tail-front {base = base} is zero = (Int base false, nothing)
-tail-front (nothing {base = base}) (suc n) = (Int base false, nothing)
-tail-front (dot {base = base} free) (suc zero) = (Float base false, dot free)
-tail-front (dot {base = base} free) (suc (suc n)) = (Float base false, dot free)
-tail-front (of_fraction {base = base} {d = d} {ds = ds} digit are) (suc zero) = (Float base false, dot (digit-fraction d digit))
-tail-front (of_fraction {base = base} {d = d} {ds = ds} digit are) (suc (suc n)) = (Float base false, of_fraction digit (run-front (or_underscore is_ascii_digit) n ds are))
-tail-front (of_exponent no_digit is) (suc n) = let x = exponent-front is n in (x.0, of_exponent no_digit x.1)
-tail-front (of_both {base = base} {d = d} ds digit are is) (suc zero) = (Float base false, dot (digit-fraction d digit))
-tail-front {next} (of_both {base = base} {d = d} {e = e} ds digit are is) (suc (suc n)) = elim (split n ds e) [
-  | inl same ↦ subst Tail (sym same) (Float base false, of_fraction digit (run-front (or_underscore is_ascii_digit) n ds are))
-  | inr on ↦ subst Tail (sym on.1) (longer on.0)
-]
-  where
-    Tail : List ℕ → Type 0
-    Tail xs = (k : LiteralKind) × IsTailBefore (drop n (ds ++ e) ++ next) base k (46 ∷ d ∷ xs)
+  if-stays : {A : Type 0} (test : List ℕ → Bool) (scan scan_other : List ℕ → A × ℕ) (w : List ℕ) → test (w ++ other) ≡ test (w ++ next) → Stays scan w → Stays scan_other w → Stays (λ s. if test s then scan s else scan_other s) w
+  if-stays test scan scan_other w e one two = grind (arith, common_steps, e)
 
-    longer : (m : ℕ) → Tail (ds ++ take m e)
-    longer zero = subst Tail (sym (append-nil ds)) (Float base false, of_fraction digit are)
-    longer (suc m) = let x = exponent-front is m in (x.0, of_both ds digit are x.1)
+  after-stays : {A : Type 0} (scan : List ℕ → A × ℕ) → ((w : List ℕ) → Stays scan w) → (w : List ℕ) → Stays (after 1 scan) w
+  after-stays scan stays [] le = absurd (omega arith)
+  after-stays {A} scan stays (c ∷ w) le = ap (λ (r : A × ℕ). let q : A × ℕ = (r.0, 1 + r.1) in q) (stays w (omega arith))
 
-form-front : {next : List ℕ} {kind : LiteralKind} {w : List ℕ} → HasNumberForm next kind w → (n : ℕ) → HasForm (drop (suc (suc n)) w ++ next) (take (suc (suc n)) w)
-form-front {next} (of_prefix {whole = w} is) n = whole-front is n (drop (suc (suc n)) w ++ next)
-form-front {next} (of_parts {whole = w} {tail = t} is past) n = elim (split (suc (suc n)) w t) [
-  | inl e ↦ subst (HasForm (drop (suc (suc n)) (w ++ t) ++ next)) (sym e) (whole-front is n (drop (suc (suc n)) (w ++ t) ++ next))
-  | inr e ↦ (let x = tail-front past e.0 in (x.0, rw (e.1, e.2) (of_parts is x.1)))
-]
+  then-stays : {A B : Type 0} (scan : List ℕ → A × ℕ) (go_on : A → List ℕ → B × ℕ) (w : List ℕ) → Stays scan w → Stays (go_on (scan (w ++ next)).0) (drop (scan (w ++ next)).1 w) → Stays (and_then scan go_on) w
+  then-stays scan go_on w one two le =
+      let n : ℕ = (scan (w ++ next)).1 in
+      let within : n ≤ length w = omega arith in
+      grind (arith, common_steps, one within, drop-append-le n w next within, drop-append-le n w other within, length-drop n w, two)
 
--- what follows matters only behind a dot
-form-alike : {next : List ℕ} {kind : LiteralKind} {w : List ℕ} → HasNumberForm next kind w → (other : List ℕ)
-    → ((base : Base) (whole : List ℕ) → IsWholePart base false whole → w ≡ whole ++ (46 ∷ []) → next_is is_no_fraction other ≡ next_is is_no_fraction next) → HasNumberForm other kind w
-form-alike (of_prefix is) other same = of_prefix is
-form-alike (of_parts is nothing) other same = of_parts is nothing
-form-alike (of_parts {base = base} {whole = w} is (dot free)) other same = of_parts is (dot (same base w is refl ∙ free))
-form-alike (of_parts is (of_fraction digit are)) other same = of_parts is (of_fraction digit are)
-form-alike (of_parts is (of_exponent no_digit e)) other same = of_parts is (of_exponent no_digit e)
-form-alike (of_parts is (of_both ds digit are e)) other same = of_parts is (of_both ds digit are e)
+  exponent-stays : (base : Base) (w : List ℕ) → Stays (float_exponent base) w
+  exponent-stays base w = if-stays (next_is is_sign) (after 1 (past_sign base)) (past_sign base) w (next-stays is_sign (solid-by is_sign refl) w) (after-stays (past_sign base) digits-stay w) (digits-stay w)
+    where
+      digits-stay : (w : List ℕ) → Stays (past_sign base) w
+      digits-stay = run-stays (λ ds. float base (list_any is_ascii_digit ds)) (or_underscore is_ascii_digit) (solid-by (or_underscore is_ascii_digit) refl)
 
--- the longer of two fronts of a text goes on with a character
-one-more : (w x other rest : List ℕ) → x ++ rest ≡ w ++ other → length w < length x → (c : ℕ) × (other ≡ c ∷ drop 1 other) × (take (suc (length w)) x ≡ w ++ (c ∷ [])) × (drop (suc (length w)) x ++ rest ≡ drop 1 other)
-one-more [] [] other rest text lt = absurd (omega arith)
-one-more [] (c ∷ x) other rest text lt = let left : x ++ rest ≡ drop 1 other = ap (drop 1) text in (c, sym text ∙ ap (λ (xs : List ℕ). c ∷ xs) left, refl, left)
-one-more (d ∷ w) [] other rest text lt = absurd (omega arith)
-one-more (d ∷ w) (b ∷ x) other rest text lt = grind (arith, common_steps, one-more w x other rest (ap (drop 1) text) (omega arith))
+  optional-stays : (base : Base) (w : List ℕ) → Stays (optional_exponent base) w
+  optional-stays base w =
+      if-stays (next_is is_exponent_letter) (after 1 (float_exponent base)) (gives (Float base false)) w (next-stays is_exponent_letter (solid-by is_exponent_letter refl) w) (after-stays (float_exponent base) (exponent-stays base) w) (λ le. refl)
 
--- a number stays one before another text, where what may stand behind a dot does, and what could go on there could here
-pub number-before : {next : List ℕ} {kind : LiteralKind} (first : ℕ) (v : List ℕ) → IsNumberBefore next kind (first ∷ v) → (other : List ℕ) → next_is is_no_fraction other ≡ next_is is_no_fraction next
-    → ((c : ℕ) → other ≡ c ∷ drop 1 other → HasForm (drop 1 other) (first ∷ v ++ (c ∷ []))
-    → (next ≡ c ∷ drop 1 next) × ((base : Base) (whole : List ℕ) → IsWholePart base false whole → first ∷ v ++ (c ∷ []) ≡ whole ++ (46 ∷ []) → next_is is_no_fraction (drop 1 next) ≡ next_is is_no_fraction (drop 1 other)))
-    → IsNumberBefore other kind (first ∷ v)
-number-before {next} {kind} first v is other same goes_on = record {
-  form = form-alike is.form other (λ base whole part e. same);
-  longest = λ k x rest text form. elim (cases_lt (length w) (length x)) [ inl lt ↦ absurd (longer k x rest text form lt) | inr le ↦ le ];
-}
-  where
-    w : List ℕ
-    w = first ∷ v
+  fraction-stays : (base : Base) (w : List ℕ) → Stays (fraction base) w
+  unfolding fraction
+  fraction-stays base w =
+      if-stays (next_is is_ascii_digit) (fraction_digits base) (gives (Float base false)) w (next-stays is_ascii_digit (solid-by is_ascii_digit refl) w)
+      (then-stays (run base (or_underscore is_ascii_digit)) optional_exponent w (run-stays (λ ds. base) (or_underscore is_ascii_digit) (solid-by (or_underscore is_ascii_digit) refl) w) (optional-stays base _)) (λ le. refl)
 
-    longer : (k : LiteralKind) (x rest : List ℕ) → x ++ rest ≡ w ++ other → HasNumberForm rest k x → length w < length x → ⊥
-    longer k x rest text form lt =
-        let more = one-more w x other rest text lt in
-        let c : ℕ = more.0 in
-        let cut_off : HasForm (drop (suc (length w)) x ++ rest) (take (suc (length w)) x) = form-front form (length v) in
-        let there : HasForm (drop 1 other) (w ++ (c ∷ [])) = subst (λ (xs : List ℕ). HasForm xs (w ++ (c ∷ []))) more.3 (subst (HasForm (drop (suc (length w)) x ++ rest)) more.2 cut_off) in
-        let on = goes_on c more.1 there in
-        let here = form-alike there.1 (drop 1 next) on.1 in
-        omega (arith, is.longest there.0 (w ++ (c ∷ [])) (drop 1 next) (append_assoc w (c ∷ []) (drop 1 next) ∙ ap (λ (xs : List ℕ). w ++ xs) (sym on.0)) here, length-append w (c ∷ []))
+  abbrev not_octal : List ℕ → IntegerPart × ℕ
+  not_octal s = if begins (codes "x") s then after 1 hexadecimal s else decimal s
+
+  abbrev not_binary : List ℕ → IntegerPart × ℕ
+  not_binary s = if begins (codes "o") s then after 1 octal s else not_octal s
+
+  integer_part-stays : (first : ℕ) (w : List ℕ) → Stays (integer_part first) w
+  integer_part-stays first w = if-stays (λ s. first == byte "0") part_past_zero decimal w refl
+      (if-stays (begins (codes "b")) (after 1 binary) not_binary w (letter-stays 98 (solid-by _ refl) w) (after-stays binary (digits-stay Binary) w)
+      (if-stays (begins (codes "o")) (after 1 octal) not_octal w (letter-stays 111 (solid-by _ refl) w) (after-stays octal (digits-stay Octal) w)
+      (if-stays (begins (codes "x")) (after 1 hexadecimal) decimal w (letter-stays 120 (solid-by _ refl) w) (after-stays hexadecimal (λ v. run-stays (λ ds. prefixed Hexadecimal (list_any is_ascii_hexdigit ds)) (or_underscore is_ascii_hexdigit) (solid-by (or_underscore is_ascii_hexdigit) refl) v) w) decimal-stays)))
+      decimal-stays
+    where
+      decimal-stays : Stays decimal w
+      decimal-stays = run-stays (λ ds. part_of Decimal false) (or_underscore is_ascii_digit) (solid-by (or_underscore is_ascii_digit) refl) w
+
+      digits-stay : (base : Base) (v : List ℕ) → Stays (read_as (prefixed base) (digits is_ascii_digit)) v
+      digits-stay base = run-stays (λ ds. prefixed base (list_any is_ascii_digit ds)) (or_underscore is_ascii_digit) (solid-by (or_underscore is_ascii_digit) refl)
+
+  -- two characters matter only behind the whole part, where it is a number
+  module _ (kind : LiteralKind) (dotted : (base : Base) → kind ≡ Int base false → begins_fraction other ≡ begins_fraction next) where
+    past_digits-stays : (base : Base) (w : List ℕ) → (past_digits base (w ++ next)).0 ≡ kind → Stays (past_digits base) w
+    past_digits-stays base [] e le = by_either (begins_fraction next) (λ t. absurd (let more : (past_digits base next).1 ≡ 1 + (fraction base (drop 1 next)).1 = rw t refl in omega arith))
+        (λ t. by_either (next_is is_exponent_letter next) (λ f. absurd (let more : (past_digits base next).1 ≡ 1 + (float_exponent base (drop 1 next)).1 = rw (t, f) refl in omega arith))
+        (λ f. rw (dotted base (sym e ∙ rw (t, f) refl) ∙ t, same is_exponent_letter (solid-by is_exponent_letter refl) ∙ f, t, f) refl))
+    past_digits-stays base (c ∷ w) e le =
+        if-stays begins_fraction (after 1 (fraction base)) (λ s. if next_is is_exponent_letter s then after 1 (float_exponent base) s else gives (Int base false) s) (c ∷ w) (ap (λ (b : Bool). (c == 46 && true) && not b) (next-stays is_no_fraction fraction-solid w)) (after-stays (fraction base) (fraction-stays base) (c ∷ w))
+        (if-stays (next_is is_exponent_letter) (after 1 (float_exponent base)) (gives (Int base false)) (c ∷ w) refl (after-stays (float_exponent base) (exponent-stays base) (c ∷ w)) (λ le. refl)) le
+
+    tail-stays : (base : Base) (empty : Bool) (w : List ℕ) → (tail (part_of base empty) (w ++ next)).0 ≡ kind → Stays (tail (part_of base empty)) w
+    tail-stays base true w e le = refl
+    tail-stays base false w e le = past_digits-stays base w e le
+
+    number-stays : (first : ℕ) (w : List ℕ) → (number_kind first (w ++ next)).0 ≡ kind → Stays (number_kind first) w
+    unfolding number_kind
+    number-stays first w e le =
+        let part : IntegerPart = (integer_part first (w ++ next)).0 in
+        let n : ℕ = (integer_part first (w ++ next)).1 in
+        let left : drop n (w ++ next) ≡ drop n w ++ next = drop-append-le n w next (omega arith) in
+        then-stays (integer_part first) tail w (integer_part-stays first w) (tail-stays part.base part.empty_int (drop n w) (ap (λ (s : List ℕ). (tail part s).0) (sym left) ∙ e)) le
+
+-- a number stays one before another text that begins alike
+pub number-before : {next : List ℕ} {kind : LiteralKind} (first : ℕ) (v : List ℕ) → is_ascii_digit first ≡ true → IsNumberBefore next kind (first ∷ v) → (other : List ℕ) → ((p : ℕ → Bool) → IsSolid p → next_is p other ≡ next_is p next)
+    → ((base : Base) → kind ≡ Int base false → begins_fraction other ≡ begins_fraction next) → IsNumberBefore other kind (first ∷ v)
+number-before {next} {kind} first v digit is other same dotted =
+    let read : number_kind first (v ++ next) ≡ (kind, length v) = number-is first v digit is in
+    let stays : number_kind first (v ++ other) ≡ (kind, length v) = number-stays next other same kind dotted first v (ap (λ (r : LiteralKind × ℕ). r.0) read) (omega (arith, ap (λ (r : LiteralKind × ℕ). r.1) read)) ∙ read in
+    let there = subst (λ (r : LiteralKind × ℕ). IsNumberBefore (drop r.1 (v ++ other)) r.0 (first ∷ take r.1 (v ++ other))) stays (number-read first (v ++ other) digit) in
+    rw (take-append_seam v other, drop-append_seam v other) at there
 
 -- how far a number looks
 abbrev pub number_reach : LiteralKind → ℕ
@@ -377,28 +382,13 @@ pub number-looks : (kind : LiteralKind) → 0 < number_reach kind
 number-looks (Float base empty_exponent) = omega arith
 number-looks kind = omega arith
 
--- what has the form of an integer part is no float
-whole-looks : {next : List ℕ} {kind : LiteralKind} (base : Base) (first : ℕ) (v : List ℕ) → is_ascii_digit first ≡ true → IsNumberBefore next kind (first ∷ v) → IsWholePart base false (first ∷ v) → 2 ≤ number_reach kind
-whole-looks {next} {kind} base first v digit is whole =
-    let int : IsNumberBefore next (Int base false) (first ∷ v) = record { form = subst (HasNumberForm next (Int base false)) (append-nil (first ∷ v)) (of_parts whole nothing); longest = is.longest } in
-    let same : (kind, length v) ≡ (Int base false, length v) = sym (number-is first v digit is) ∙ number-is first v digit int in
-    subst (λ (r : LiteralKind × ℕ). 2 ≤ number_reach r.0) (sym same) (omega arith)
+begins_fraction-decided : IsDecidedBy 2 begins_fraction
+begins_fraction-decided [] = refl
+begins_fraction-decided (c ∷ []) = refl
+begins_fraction-decided (c ∷ d ∷ s) = refl
 
 -- a number stays one before a text that begins alike
 pub number-alike : {next : List ℕ} {kind : LiteralKind} (first : ℕ) (v : List ℕ) → is_ascii_digit first ≡ true → IsNumberBefore next kind (first ∷ v) → (other : List ℕ) → take (number_reach kind) other ≡ take (number_reach kind) next → IsNumberBefore other kind (first ∷ v)
 number-alike {next} {kind} first v digit is other alike =
-    number-before first v is other (decided_same 1 (number_reach kind) (next_is is_no_fraction) other next (next_is-decided is_no_fraction) (number-looks kind) alike)
-    (λ c e there. (begins_so c next (sym (cut 1 (number_reach kind) other next (number-looks kind) alike) ∙ ap (take 1) e), dotted c))
-  where
-    w : List ℕ
-    w = first ∷ v
-
-    begins_so : (c : ℕ) (s : List ℕ) → take 1 s ≡ c ∷ [] → s ≡ c ∷ drop 1 s
-    begins_so c s e = grind (arith, common_steps)
-
-    dotted : (c : ℕ) (base : Base) (whole : List ℕ) → IsWholePart base false whole → w ++ (c ∷ []) ≡ whole ++ (46 ∷ []) → next_is is_no_fraction (drop 1 next) ≡ next_is is_no_fraction (drop 1 other)
-    dotted c base whole part e =
-        let size : length whole ≡ length w = omega (arith, ap length e, length-append w (c ∷ []), length-append whole (46 ∷ [])) in
-        let same : whole ≡ w = sym (take-append_seam whole (46 ∷ [])) ∙ (ap (take (length whole)) (sym e) ∙ (ap (λ (n : ℕ). take n (w ++ (c ∷ []))) size ∙ take-append_seam w (c ∷ []))) in
-        let far : 2 ≤ number_reach kind = whole-looks base first v digit is (subst (IsWholePart base false) same part) in
-        decided_same 1 1 (next_is is_no_fraction) (drop 1 next) (drop 1 other) (next_is-decided is_no_fraction) (omega arith) (sym (cut_past 1 1 (number_reach kind) other next far alike))
+    number-before first v digit is other (λ p solid. decided_same 1 (number_reach kind) (next_is p) other next (next_is-decided p) (number-looks kind) alike)
+    (λ base e. decided_same 2 (number_reach kind) begins_fraction other next begins_fraction-decided (subst (λ (k : LiteralKind). 2 ≤ number_reach k) (sym e) (omega arith)) alike)

@@ -35,11 +35,11 @@ run-past p [] left all = omega arith
 run-past p (d ∷ ds) left all = grind (arith, common_steps, and_parts, run_len-in, run-past p ds left (and_parts (p d) (list_all p ds) all).1)
 
 -- where it goes on, and where it does not
-run_len-next : (p : ℕ → Bool) (s : List ℕ) → next_is p s ≡ true → 0 < run_len p s
+pub run_len-next : (p : ℕ → Bool) (s : List ℕ) → next_is p s ≡ true → 0 < run_len p s
 run_len-next p [] t = absurd (true≢false (sym t))
 run_len-next p (c ∷ s) t = omega (arith, run_len-in p c s t)
 
-run_len-none : (p : ℕ → Bool) (s : List ℕ) → next_is p s ≡ false → run_len p s ≡ 0
+pub run_len-none : (p : ℕ → Bool) (s : List ℕ) → next_is p s ≡ false → run_len p s ≡ 0
 run_len-none p s w2 = grind (arith, common_steps, run_len-out)
 
 -- a beginning of a run is shorter because the class goes on

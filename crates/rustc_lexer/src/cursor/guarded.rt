@@ -75,6 +75,7 @@ fn string_past(rest: &str, n_hashes: usize) -> Option<(bool, usize)>
 
 /// Returns whether a quote closes the string, and the text after its hashes and its suffix. `body` is the text after
 /// the opening quote.
+#[tactic(auto, using(crate::proofs::lemmas::tokens::Literals::literal_lemmas, std::proofs::lemmas::Grind::common_steps))]
 fn guarded_body(body: &str, n_hashes: usize) -> BodyEnd<'_>
     ensures shorter { length result.rest.now ≤ length body.now }
     ensures read { (result.terminated, result.rest.now)

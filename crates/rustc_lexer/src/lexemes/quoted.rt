@@ -11,6 +11,7 @@ use crate::token::{LiteralKind, TokenKind};
 
 /// Returns where a double quote closes the text. `body` is the text after the opening quote. If no quote closes it,
 /// it takes the whole body.
+#[tactic(auto, using(crate::proofs::lemmas::tokens::QuotedLoop::quoted_lemmas, std::proofs::lemmas::Grind::common_steps))]
 pub(crate) fn double_quoted_string(body: &str) -> BodyEnd<'_>
     ensures shorter { length result.rest.now ≤ length body.now }
     ensures read { (result.terminated, result.rest.now)
@@ -43,6 +44,7 @@ pub(crate) fn double_quoted_string(body: &str) -> BodyEnd<'_>
 
 /// Returns where a single quote closes the text. `body` is the text after the opening quote. If no quote closes it,
 /// it stops before a slash, and before a newline that no quote follows.
+#[tactic(auto, using(crate::proofs::lemmas::tokens::QuotedLoop::quoted_lemmas, std::proofs::lemmas::Grind::common_steps))]
 pub(crate) fn single_quoted_string(body: &str) -> BodyEnd<'_>
     ensures shorter { length result.rest.now ≤ length body.now }
     ensures read { (result.terminated, result.rest.now)
@@ -118,6 +120,7 @@ pub(crate) enum QuotedPrefix {
 /// Lexes a literal in quotes. Returns its kind, and the text after it. `tail` is the text after the first character
 /// of its prefix.
 #[inline(always)]
+#[tactic(auto, using(crate::proofs::lemmas::tokens::Literals::literal_lemmas, std::proofs::lemmas::Grind::common_steps))]
 pub(crate) fn quoted_literal(prefix: QuotedPrefix, tail: &str) -> (TokenKind, &str)
     requires fits { length tail.now + 1 < 2 ^ 32 }
     ensures { (result.0, result.1.now) ≡ scanned (spec.quoted_literal prefix) tail.now }
@@ -134,6 +137,7 @@ pub(crate) fn quoted_literal(prefix: QuotedPrefix, tail: &str) -> (TokenKind, &s
 
 /// Returns where a quote closes the literal. `tail` is the text after the first character of its prefix.
 #[inline(always)]
+#[tactic(auto, using(crate::proofs::lemmas::tokens::Literals::literal_lemmas, std::proofs::lemmas::Grind::common_steps))]
 fn quoted_string(prefix: QuotedPrefix, tail: &str) -> BodyEnd<'_>
     ensures shorter { length result.rest.now ≤ length tail.now }
     ensures read { (result.terminated, result.rest.now)

@@ -17,26 +17,17 @@ use Rattle.rustc_lexer.specs.NumberGrammar.{or_underscore, is_no_fraction, IsWho
 use Rattle.rustc_lexer.specs.Tokens.{is_faulty}
 use Rattle.rustc_lexer.specs.Joined.{is_open}
 use Rattle.rustc_lexer.specs.LanguageText.{IsTokenIn, kept, pound, ident, lifetime, lifetime_r}
+use Rattle.rustc_lexer.specs.means.Number.{begins_fraction}
 use Rattle.rustc_lexer.specs.means.Scan.{begins, next_is}
 use Rattle.rustc_lexer.specs.laws.LanguageLiterals.{number-digit}
 use Rattle.rustc_lexer.specs.laws.LanguageReach.{raw-alike}
-use Rattle.rustc_lexer.specs.laws.LanguageRuns.{either-way, none-among}
-use Rattle.rustc_lexer.specs.laws.NumberLongest.{number-before}
+use Rattle.rustc_lexer.specs.laws.LanguageRuns.{IsSolid, solid-by}
+use Rattle.rustc_lexer.specs.laws.NumberLongest.{fraction-solid, number-before}
 
 -- ---- white space is in no other class
 
 abbrev pub is_solid : ℕ → Bool
 is_solid c = not (is_whitespace c)
-
-abbrev spaces : List ℕ
-spaces = 0x9 ∷ 0xA ∷ 0xB ∷ 0xC ∷ 0xD ∷ 0x20 ∷ 0x85 ∷ 0x200E ∷ 0x200F ∷ 0x2028 ∷ 0x2029 ∷ []
-
--- no white space is in the class
-abbrev pub IsSolid : (ℕ → Bool) → Type 0
-IsSolid p = (c : ℕ) → is_whitespace c ≡ true → p c ≡ false
-
-solid-by : (p : ℕ → Bool) → list_all (λ d. not (p d)) spaces ≡ true → IsSolid p
-solid-by p all c e = none-among p spaces all c e
 
 word-solid : IsSolid is_word_continue
 unfolding unicode_ident is_emoji emoji_ranges
@@ -49,18 +40,6 @@ continue-solid = solid-by is_id_continue refl
 start-solid : IsSolid is_id_start
 unfolding unicode_ident
 start-solid = solid-by is_id_start refl
-
-fraction-solid : IsSolid is_no_fraction
-unfolding unicode_ident
-fraction-solid = solid-by is_no_fraction refl
-
--- what is in such a class is no white space
-in-solid : (p : ℕ → Bool) → IsSolid p → (c : ℕ) → p c ≡ true → is_solid c ≡ true
-in-solid p out c e = let none : is_whitespace c ≡ false = false_from_ne_true (is_whitespace c) (λ s. either-way (p c) e (out c s)) in rw none refl
-
-all-solid : (p : ℕ → Bool) → IsSolid p → (cs : List ℕ) → list_all p cs ≡ true → list_all is_solid cs ≡ true
-all-solid p out [] all = refl
-all-solid p out (c ∷ cs) all = grind (arith, common_steps, in-solid, and_parts, all-solid p out cs)
 
 -- ---- what changes
 
@@ -109,40 +88,15 @@ same-ident cs w solid ch = ident-same cs solid (changes-past w ch)
 
 -- ---- numbers
 
-digit-solid : IsSolid (or_underscore is_ascii_digit)
-digit-solid = solid-by (or_underscore is_ascii_digit) refl
-
-hexdigit-solid : IsSolid (or_underscore is_ascii_hexdigit)
-hexdigit-solid = solid-by (or_underscore is_ascii_hexdigit) refl
-
-first-solid : (d : ℕ) (ds : List ℕ) (p : ℕ → Bool) → IsSolid p → p d ≡ true → list_all is_solid ds ≡ true → list_all is_solid (d ∷ ds) ≡ true
-first-solid d ds p out e all = rw (in-solid p out d e) all
-
-whole-solid : {base : Base} {empty : Bool} {w : List ℕ} → IsWholePart base empty w → list_all is_solid w ≡ true
-whole-solid w0 = grind (arith, common_steps, first-solid, solid-by, all-solid, digit-solid, hexdigit-solid)
-
-exponent-solid : {base : Base} {kind : LiteralKind} {t : List ℕ} → IsExponent base kind t → list_all is_solid t ≡ true
-exponent-solid w0 = grind (arith, common_steps, first-solid, solid-by, all-solid, digit-solid)
-
-tail-solid : {next : List ℕ} {base : Base} {kind : LiteralKind} {t : List ℕ} → IsTailBefore next base kind t → list_all is_solid t ≡ true
-tail-solid w0 = grind (arith, common_steps, first-solid, solid-by, all-solid, digit-solid, exponent-solid, list_all-append)
-
-form-solid : {next : List ℕ} {kind : LiteralKind} {w : List ℕ} → HasNumberForm next kind w → list_all is_solid w ≡ true
-form-solid w0 = grind (arith, common_steps, whole-solid, list_all-append, tail-solid)
-
-last-solid : (w : List ℕ) (c : ℕ) → list_all is_solid (w ++ c ∷ []) ≡ true → is_solid c ≡ true
-last-solid w c e = grind (arith, common_steps, list_all-append, and_parts)
-
--- where a character that is no white space comes next, the change is past it
-next-solid : {next other : List ℕ} (c : ℕ) → Changes next other → other ≡ c ∷ drop 1 other → is_solid c ≡ true → (next ≡ c ∷ drop 1 next) × Changes (drop 1 next) (drop 1 other)
-next-solid {next} {other} c (here stops spaced) e solid = absurd (grind (arith, common_steps))
-next-solid c (past d {next} ch) e solid = (ap (λ (x : ℕ). x ∷ next) (let same : d ≡ c = cc in same), ch)
+-- a fraction begins where it did
+fraction-same : {next other : List ℕ} → Changes next other → begins_fraction other ≡ begins_fraction next
+fraction-same {next} {other} (here stops spaced) = rw (begins-solid 46 [] next refl stops, begins-solid 46 [] other refl (solid-space other spaced)) refl
+fraction-same (past c ch) = ap (λ (b : Bool). ((c == 46) && true) && not b) (same is_no_fraction fraction-solid ch)
 
 number-apart : {next : List ℕ} {kind : LiteralKind} {w : List ℕ} → IsNumberBefore next kind w → (other : List ℕ) → Changes next other → IsNumberBefore other kind w
 number-apart {next} {kind} is other ch =
     let d = number-digit is in
-    subst (IsNumberBefore other kind) (sym d.whole) (number-before d.first d.rest (subst (IsNumberBefore next kind) d.whole is) other (same is_no_fraction fraction-solid ch)
-    (λ c e there. let more = next-solid c ch e (last-solid (d.first ∷ d.rest) c (form-solid there.1)) in (more.0, λ base whole part f. sym (same is_no_fraction fraction-solid more.1))))
+    subst (IsNumberBefore other kind) (sym d.whole) (number-before d.first d.rest d.digit (subst (IsNumberBefore next kind) d.whole is) other (λ p solid. same p solid ch) (λ base int. fraction-same ch))
 
 -- ---- literals
 

@@ -27,36 +27,6 @@ module _ (rest : List ℕ) (is : IsUtf8 rest) (n : ℕ) (few : n ≤ hash_run (c
   pub hash_boundary : IsCharBoundary rest n
   hash_boundary = IsCharBoundary-from_drop rest n (let l = length-past n rest is in let b = hash_bytes_are in omega arith) (subst IsUtf8 (sym hash_cut) (IsUtf8-past n rest is))
 
--- a string that is closed, with the hashes and the suffix after its quote
-module _ (body left mid end : List ℕ) (n : ℕ) (closed : Bool) (is : IsUtf8 body) (read : (closed, left) ≡ scanned double_quoted_string body)
-    (cut : mid ≡ past (min n (hash_run (chars left))) left) (suffix : end ≡ past (suffix_len (chars mid)) mid) where
-  abbrev q : ℕ
-  q = (double_quoted_string (chars body)).1
-
-  abbrev ahead : List ℕ
-  ahead = drop q (chars body)
-
-  abbrev m : ℕ
-  m = min n (hash_run ahead)
-
-  left_is : left ≡ past q body
-  left_is = ap (λ (r : Bool × List ℕ). r.1) read
-
-  left_chars : chars left ≡ ahead
-  left_chars = ap chars left_is ∙ chars-past q body is
-
-  mid_is : mid ≡ past (q + m) body
-  mid_is = cut ∙ (ap (λ (s : List ℕ). past (min n (hash_run s)) left) left_chars ∙ (ap (past m) left_is ∙ past-past m q body is))
-
-  mid_chars : chars mid ≡ drop m ahead
-  mid_chars = ap chars mid_is ∙ (chars-past (q + m) body is ∙ sym (drop-drop m q (chars body)))
-
-  end_is : end ≡ past (q + closing_len n ahead) body
-  end_is = grind (arith, common_steps, mid_chars, mid_is, past-past)
-
-  pub closed_read : closed ≡ true → (true, end) ≡ scanned (guarded_body n) body
-  closed_read t = grind (arith, common_steps, end_is)
-
 -- what follows the n hashes at the front
 module _ (rest front : List ℕ) (n : ℕ) (is : IsUtf8 rest) (count : n ≡ hash_run (chars rest)) (cut : front ≡ drop n rest) where
   front_is : front ≡ past n rest

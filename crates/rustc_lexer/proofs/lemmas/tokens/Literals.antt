@@ -30,4 +30,4 @@ module _ (p : ℕ) (body : List ℕ → Body × ℕ) (tail rest : List ℕ) (kin
   pub no-suffix : (token : TokenKind) → token ≡ Literal kind (p + (length tail - length rest)) → takes ≡ false → (token, rest) ≡ scanned (λ s. literal_past p (body s) s) tail
   no-suffix token e t = literal-read token rest e (sym (past-zero rest (rw left-is (IsUtf8-past n tail is))) ∙ ap (λ (b : Bool). past (suffixed b (chars rest)) rest) (sym t))
 
-pub ruleset suffix_lemmas = (next_is-cons, next_is-nil, suffix-yes, suffix-no)
+pub ruleset literal_lemmas = (next_is-cons, next_is-nil, past-zero, past-past, chars-past, IsUtf8-past, length-past)

@@ -26,9 +26,6 @@ module _ (prefix : ℕ) (text from : List ℕ) (is : IsUtf8 text) (from_is : fro
   to_starter : scanned (raw_read prefix) text ≡ scanned (raw_starter prefix (hash_run (chars text))) from
   to_starter = scanned-after (hash_run (chars text)) (raw_starter prefix (hash_run (chars text))) text from is from_is
 
-  pub no_starter : chars from ≡ [] → (Err (InvalidStarter 0), from) ≡ scanned (raw_read prefix) text
-  no_starter e = grind (arith, common_steps, to_starter, past-zero, from_utf8)
-
   -- `body` follows the character after the hashes
   module _ (c : ℕ) (body : List ℕ) (reads : chars from ≡ c ∷ chars body) (body_is : body ≡ past 1 from) where
     body_utf8 : IsUtf8 body
@@ -38,11 +35,6 @@ module _ (prefix : ℕ) (text from : List ℕ) (is : IsUtf8 text) (from_is : fro
     by_quote : (b : Bool) → is_quote c ≡ b
         → scanned (raw_read prefix) text ≡ scanned (λ u. if b then raw_text (hash_run (chars text)) (prefix + suc (hash_run (chars text))) u else gives (Err (InvalidStarter c)) u) body
     by_quote b e = grind (arith, common_steps, past-past, from_utf8, to_starter)
-
-    pub bad_starter : begins (34 ∷ []) (chars from) ≡ false → (Err (InvalidStarter c), body) ≡ scanned (raw_read prefix) text
-    bad_starter other =
-        let no_quote : is_quote c ≡ false = sym (and-true (is_quote c)) ∙ (sym (ap (begins (34 ∷ [])) reads) ∙ other) in
-        sym (by_quote false no_quote ∙ scanned-gives (Err (InvalidStarter c)) body body_utf8)
 
   pub past_opening : (body : List ℕ) → begins (34 ∷ []) (chars from) ≡ true → body ≡ past 1 from → (read : Result ℕ RawStrError) (left : List ℕ)
       → (read, left) ≡ scanned (raw_text (length text - length from) (prefix + (length text - length from) + 1)) body → (read, left) ≡ scanned (raw_read prefix) text
@@ -54,27 +46,6 @@ module _ (prefix : ℕ) (text from : List ℕ) (is : IsUtf8 text) (from_is : fro
       f
       ∙ (ap (λ (k : ℕ). scanned (raw_text k (prefix + k + 1)) body) count
       ∙ (ap (λ (k : ℕ). scanned (raw_text n k) body) before ∙ sym (by_quote 34 body reads body_is true refl)))
-
--- a literal, from what is read of it
-module _ (prefix : RawPrefix) (rest left : List ℕ) (is : IsUtf8 rest) (read : Result ℕ RawStrError) (e : (read, left) ≡ scanned (raw_read 0) rest) where
-  pub left_le : length left ≤ length rest
-  left_le = scanned-shorter (raw_read 0) rest left read is e
-
-  body_read : (record { kind = prefix_kind prefix (accepted read); takes_suffix = is_accepted read }, left) ≡ scanned (raw_body (prefix_kind prefix)) rest
-  body_read = scanned-read_as (λ r. record { kind = prefix_kind prefix (accepted r); takes_suffix = is_accepted r }) (raw_read 0) rest left read e
-
-  module _ (kind : LiteralKind) (p : ℕ) (same : p ≡ prefix_len prefix) where
-    token_is : (o : Option ℕ) → accepted read ≡ o → kind ≡ prefix_kind prefix o → Literal kind (p + (length rest - length left)) ≡ Literal (prefix_kind prefix (accepted read)) (prefix_len prefix + (length rest - length left))
-    token_is o f k = ap (λ (x : LiteralKind). Literal x (p + (length rest - length left))) (k ∙ ap (prefix_kind prefix) (sym f)) ∙ ap (λ (q : ℕ). Literal (prefix_kind prefix (accepted read)) (q + (length rest - length left))) same
-
-    pub accepted_literal : (n : ℕ) (end : List ℕ) → read ≡ Ok n → kind ≡ prefix_kind prefix (Some n) → end ≡ past (suffix_len (chars left)) left
-        → (Literal kind (p + (length rest - length left)), end) ≡ scanned (raw_literal prefix) rest
-    accepted_literal n end f k g =
-        with-suffix (prefix_len prefix) (raw_body (prefix_kind prefix)) rest left (prefix_kind prefix (accepted read)) (is_accepted read) is body_read _ end (token_is (Some n) (ap accepted f) k) (ap is_accepted f) g
-
-    pub refused_literal : (error : RawStrError) → read ≡ Err error → kind ≡ prefix_kind prefix None → (Literal kind (p + (length rest - length left)), left) ≡ scanned (raw_literal prefix) rest
-    refused_literal error f k =
-        no-suffix (prefix_len prefix) (raw_body (prefix_kind prefix)) rest left (prefix_kind prefix (accepted read)) (is_accepted read) is body_read _ (token_is None (ap accepted f) k) (ap is_accepted f)
 
 -- the check
 module _ (text rest : List ℕ) (p : ℕ) (is : IsUtf8 text) (rest_is : rest ≡ past p text) where
@@ -92,3 +63,5 @@ module _ (text rest : List ℕ) (p : ℕ) (is : IsUtf8 text) (rest_is : rest ≡
 pub past-end : (text rest : List ℕ) (n m : ℕ) → IsUtf8 text → rest ≡ past n text → chars rest ≡ [] → n ≤ m → rest ≡ past m text
 unfolding past
 past-end text rest n m is e none le = grind (arith, common_steps, e, chars-past n text is, none, (sym (ap chars e ∙ chars-past n text is) ∙ none), length-drop n (chars text), nil_from_length)
+
+pub ruleset opening_lemmas = (past-zero, past-past, chars-past, IsUtf8-past, hash_len, quote_front, and-true)

@@ -9,12 +9,11 @@ use Rattle.std.proofs.lemmas.Grind.{common_steps}
 use Rattle.unicode_ident.proofs.IdentLemmas.{is_xid_start-ascii}
 use Rattle.rustc_lexer.specs.Tables.{is_emoji}
 use Rattle.rustc_lexer.specs.means.Lifetime.{is_name_start, is_character_at}
-use Rattle.rustc_lexer.specs.means.Quoted.{at_single_stop, is_lone, single_quoted_string}
+use Rattle.rustc_lexer.specs.means.Quoted.{single_quoted_string}
 use Rattle.rustc_lexer.specs.means.Scan.{begins, past, scanned}
 use Rattle.rustc_lexer.specs.laws.Choice.{by_either}
 use Rattle.rustc_lexer.proofs.lemmas.tokens.AsciiRuns.{chars-ascii, IsUtf8-ascii}
-use Rattle.rustc_lexer.specs.laws.Past.{past-one, past-two}
-use Rattle.rustc_lexer.proofs.lemmas.tokens.QuotedLoop.{Seeking, seek-start, seek-on, seek-closed, single-lone, single-free}
+use Rattle.rustc_lexer.specs.laws.Past.{past-one, past-past, past-two}
 
 pub past-ascii : (b : ℕ) (bs : List ℕ) → IsUtf8 (b ∷ bs) → b < 128 → bs ≡ past 1 (b ∷ bs)
 past-ascii b bs is small = sym (past-one (b ∷ bs) bs b is (ap (λ (xs : List ℕ). xs ++ bs) (sym (encode_ascii b small))))
@@ -29,17 +28,19 @@ pub record ShortChar (text left : List ℕ) : Type 0 where
   pub character : is_character_at (chars text) ≡ true
   pub read : (true, left) ≡ scanned single_quoted_string text
 
+closed : (text left cs : List ℕ) (n : ℕ) → chars text ≡ cs → left ≡ past n text → single_quoted_string cs ≡ (true, n) → (true, left) ≡ scanned single_quoted_string text
+closed text left cs n w4 w5 w6 = grind (arith, common_steps)
+
 -- one character and a quote
 lone : (b : ℕ) (left : List ℕ) → IsUtf8 (b ∷ 39 ∷ left) → b < 128 → (b == 92) ≡ false → ShortChar (b ∷ 39 ∷ left) left
 lone b left is small other =
     let inner : IsUtf8 (39 ∷ left) = IsUtf8-ascii b (39 ∷ left) is small in
     let last : IsUtf8 left = IsUtf8-ascii 39 left inner (omega arith) in
     let reads : chars (b ∷ 39 ∷ left) ≡ b ∷ 39 ∷ chars left = chars-ascii b (39 ∷ left) is small ∙ ap (λ cs. b ∷ cs) (chars-ascii 39 left inner (omega arith)) in
-    let is_it : is_lone (chars (b ∷ 39 ∷ left)) ≡ true = rw (reads, other) refl in
     record {
       utf8 = last;
       character = rw reads refl;
-      read = single-lone (b ∷ 39 ∷ left) left is_it (past-two (b ∷ 39 ∷ left) (39 ∷ left) left is (past-ascii b (39 ∷ left) is small) (past-ascii 39 left inner (omega arith)));
+      read = closed (b ∷ 39 ∷ left) left _ 2 reads (past-two (b ∷ 39 ∷ left) (39 ∷ left) left is (past-ascii b (39 ∷ left) is small) (past-ascii 39 left inner (omega arith))) (rw other refl);
     }
 
 -- a backslash, one character and a quote
@@ -52,16 +53,11 @@ escaped e left is small =
     let reads : chars text ≡ 92 ∷ chars (e ∷ 39 ∷ left) = chars-ascii 92 (e ∷ 39 ∷ left) is (omega arith) in
     let reads_one : chars (e ∷ 39 ∷ left) ≡ e ∷ chars (39 ∷ left) = chars-ascii e (39 ∷ left) one small in
     let reads_two : chars (39 ∷ left) ≡ 39 ∷ chars left = chars-ascii 39 left two (omega arith) in
-    let start : Seeking 39 at_single_stop text text false = seek-start 39 at_single_stop text is in
-    let past_slash : Seeking 39 at_single_stop text (e ∷ 39 ∷ left) true =
-    seek-on 39 at_single_stop text text (e ∷ 39 ∷ left) false 92 start reads (past-ascii 92 (e ∷ 39 ∷ left) is (omega arith)) true refl refl in
-    let past_escaped : Seeking 39 at_single_stop text (39 ∷ left) false =
-    seek-on 39 at_single_stop text (e ∷ 39 ∷ left) (39 ∷ left) true e past_slash reads_one (past-ascii e (39 ∷ left) one small) false refl refl in
-    let found = seek-closed 39 at_single_stop text (39 ∷ left) left false 39 past_escaped reads_two (past-ascii 39 left two (omega arith)) refl refl in
+    let left_is : left ≡ past 3 text = past-ascii 39 left two (omega arith) ∙ (ap (past 1) (past-two text (e ∷ 39 ∷ left) (39 ∷ left) is (past-ascii 92 (e ∷ 39 ∷ left) is (omega arith)) (past-ascii e (39 ∷ left) one small)) ∙ past-past 1 2 text is) in
     record {
       utf8 = last;
       character = rw (reads, backslash-no_name) (or-true (begins (codes "'") (chars (e ∷ 39 ∷ left))));
-      read = found ∙ single-free text (rw reads refl);
+      read = closed text left _ 3 (reads ∙ ap (λ cs. 92 ∷ cs) (reads_one ∙ ap (λ cs. e ∷ cs) reads_two)) left_is refl;
     }
 
 module _ (text bytes : List ℕ) (offset : ℕ) (is : IsUtf8 text) (same : bytes ≡ text) (some : 3 ≤ length bytes) (offset_is : offset ≡ 1 + from_bool (slice_index bytes 0 == 92)) (small : slice_index bytes (offset - 1) < 128) (quote : slice_index bytes offset ≡ 39) where
