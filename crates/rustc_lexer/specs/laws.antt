@@ -38,4 +38,3 @@ pub mod Texts
 pub mod TheAnswers
 pub mod TheLaws
 pub mod Tokens
-pub mod Within

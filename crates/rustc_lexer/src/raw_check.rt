@@ -36,7 +36,7 @@ pub fn starts_raw(input: &str, prefix_len: u32) -> bool
 /// validate_raw_str("r##\"abc\"#", 1) // NoTerminator { expected: 2, found: 1, possible_terminator_offset: Some(8) }
 /// ```
 #[inline]
-#[tactic(auto, using(crate::proofs::lemmas::tokens::RawRead::prefix_fits, std::proofs::lemmas::Grind::common_steps))]
+#[tactic(auto, using(crate::proofs::lemmas::tokens::RawRead::prefix_fits, crate::specs::laws::Scan::scan_lemmas, std::proofs::lemmas::Grind::common_steps), unfolding(crate::specs::means::Raw::check_raw))]
 pub fn validate_raw_str(input: &str, prefix_len: u32) -> Result<(), RawStrError>
     requires fits { Fits input.now }
     requires raw { StartsRaw input.now prefix_len }
@@ -52,6 +52,7 @@ pub fn validate_raw_str(input: &str, prefix_len: u32) -> Result<(), RawStrError>
 
 /// Returns the text after its first `count` characters.
 #[inline]
+#[tactic(auto, using(crate::proofs::lemmas::tokens::RawRead::past_lemmas, std::proofs::lemmas::Grind::common_steps))]
 fn past_chars(text: &str, count: u32) -> &str
     ensures { result.now ≡ past count text.now }
 {

@@ -21,13 +21,11 @@ pub mod KindsOfTexts
 pub mod Lanes
 pub mod Lexemes
 pub mod Lifetimes
-pub mod Literals
 pub mod Numbers
 pub mod Pairs
 pub mod Places
 pub mod Progress
 pub mod Quick
-pub mod Quoted
 pub mod QuotedLoop
 pub mod Raw
 pub mod RawRead

@@ -22,7 +22,7 @@ use Rattle.rustc_lexer.specs.means.Scan.{bytes_of, next_is}
 use Rattle.rustc_lexer.specs.laws.Choice.{by_either}
 use Rattle.rustc_lexer.specs.laws.LanguageLiterals.{suffix-sound, suffix-read}
 use Rattle.rustc_lexer.specs.laws.LanguageQuoted.{double-read, double-sound}
-use Rattle.rustc_lexer.specs.laws.LanguageRaw.{guard-length, guard-hashes, at_least, split-hashes, guarded}
+use Rattle.rustc_lexer.specs.laws.LanguageRaw.{guard-length, guard-hashes, hash_run-hashes, split-hashes, guarded}
 use Rattle.rustc_lexer.specs.laws.LanguageRuns.{run-stops}
 
 -- ---- hashes
@@ -56,7 +56,7 @@ body-open : (n : ℕ) (w z : List ℕ) → double_quoted_string (w ++ z) ≡ (fa
 body-open n w z e = ap (λ (r : Bool × ℕ). let q : Bool × ℕ = (r.0, r.1 + (if r.0 then closing_len n (drop r.1 (w ++ z)) else 0)) in q) e
 
 closing-read : {n k : ℕ} {suffix next : List ℕ} → k ≤ n → (k < n → NextIsNot (is_among (codes "#")) (suffix ++ next)) → IsSuffixBefore next suffix → closing_len n (hashes k ++ (suffix ++ next)) ≡ k + length suffix
-closing-read {n} {k} {suffix} {next} le stop is = grind (arith, common_steps, cases_lt, guard-hashes, same-class, min-eq_right, min-eq_left, at_least, past-guard, suffix-read)
+closing-read {n} {k} {suffix} {next} le stop is = grind (arith, common_steps, cases_lt, guard-hashes, same-class, min-eq_right, min-eq_left, hash_run-hashes, past-guard, suffix-read)
 
 record GuardedRead (n : ℕ) (t : Bool) (w next : List ℕ) : Type 0 where
   count : hash_run (w ++ next) ≡ n

@@ -1,7 +1,7 @@
 -- Literals are in their languages, with their suffixes, and what is there is read so.
-use Rattle.std.proofs.Common.{◌≡◌, ℕ, zero, suc, ◌+◌, ◌==◌, nat_lt, Bool, true, false, true≢false, List, [], ◌∷◌, ◌++◌, length, take, drop, codes, refl, sym, ap, ◌∙◌, subst, arith, append_assoc, length-append, take-append-drop, take-add, drop-drop, Option, Result}
+use Rattle.std.proofs.Common.{◌≡◌, ℕ, suc, ◌+◌, nat_lt, Bool, true, false, List, [], ◌∷◌, ◌++◌, length, take, drop, codes, refl, sym, ap, ◌∙◌, subst, arith, append_assoc, length-append, take-append-drop, take-add, drop-drop, Option, Result}
 use Rattle.std.proofs.Math.Seq.{take-append_seam, drop-append_seam}
-use Rattle.std.proofs.lemmas.Bool.{and_parts, eqb-true, false_from_ne_true, lt-ltb}
+use Rattle.std.proofs.lemmas.Bool.{and_parts, eqb-true, lt-ltb}
 use Rattle.std.proofs.lemmas.List.{append-nil}
 use Rattle.std.proofs.lemmas.Str.{encodes-append, length-encode}
 use Rattle.std.specs.Char.{encode_utf8, len_utf8, is_ascii_digit}
@@ -17,7 +17,7 @@ use Rattle.rustc_lexer.specs.laws.Choice.{by_test}
 use Rattle.rustc_lexer.specs.laws.Ident.{begins_hash_ident-decided}
 use Rattle.rustc_lexer.specs.laws.LanguageQuoted.{double-read, double-sound, single-read, single-sound}
 use Rattle.rustc_lexer.specs.laws.LanguageRaw.{raw-read, raw-sound}
-use Rattle.rustc_lexer.specs.laws.LanguageRuns.{run_len-here, run-stops, either-way, Sound, Read, pair, read-first, sound-after, decided-front, digit-small, letters-start, chooses-word, chooses-number, chooses-str}
+use Rattle.rustc_lexer.specs.laws.LanguageRuns.{run_len-here, run-stops, Sound, Read, pair, read-first, sound-after, decided-front, digit-small, letters-start, chooses-word, chooses-number, chooses-str}
 use Rattle.rustc_lexer.specs.laws.NumberLongest.{number-read, number-is}
 use Rattle.rustc_lexer.specs.laws.Reach.{run_all}
 use Rattle.rustc_lexer.specs.Language as the
@@ -30,7 +30,7 @@ use Rattle.rustc_lexer.specs.means.Number.{number_kind, number}
 use Rattle.rustc_lexer.specs.NumberGrammar.{HasNumberForm, IsNumberBefore}
 use Rattle.rustc_lexer.specs.means.Quoted.{double_quoted_string, single_quoted_string, quoted_body, str_body, byte_str_body, c_str_body, byte_body}
 use Rattle.rustc_lexer.specs.means.Raw.{raw_read, accepted, is_accepted, raw_body, prefix_kind, prefix_len, raw_literal}
-use Rattle.rustc_lexer.specs.means.Scan.{after, begins, bytes_of, next_is, run_len}
+use Rattle.rustc_lexer.specs.means.Scan.{after, begins, bytes_of, run_len}
 
 -- ---- bytes
 
@@ -134,23 +134,23 @@ lettered-reads c d kind scan next t w start one is e =
 accepts : (r : Result ℕ RawStrError) → is_accepted r ≡ is_some (accepted r)
 accepts r = grind (arith, common_steps)
 
--- a text begins with a hash and an identifier if a front of it does
-hash_ident-front : (m : ℕ) (s : List ℕ) → begins_hash_ident (take m s) ≡ true → begins_hash_ident s ≡ true
-hash_ident-front zero s e = absurd (true≢false (sym e))
-hash_ident-front (suc m) [] e = e
-hash_ident-front (suc m) (c ∷ s) e = let parts = and_parts (begins (codes "#") (c ∷ take m s)) _ e in rw (and_parts (c == 35) true parts.0).0 (next_start m s parts.1)
-  where
-    next_start : (m : ℕ) (s : List ℕ) → next_is is_id_start (take m s) ≡ true → next_is is_id_start s ≡ true
-    next_start zero s e = absurd (true≢false (sym e))
-    next_start (suc m) [] e = e
-    next_start (suc m) (c ∷ s) e = e
+-- whether it begins with a hash and an identifier is decided within it
+whole-hash_ident : (w next : List ℕ) → next ≡ [] → begins_hash_ident (w ++ next) ≡ begins_hash_ident w
+whole-hash_ident w next none = ap (λ (xs : List ℕ). begins_hash_ident (w ++ xs)) none ∙ ap begins_hash_ident (append-nil w)
+
+raw-hash_ident : {next : List ℕ} {o : Option ℕ} {w : List ℕ} → IsRaw next o w → begins_hash_ident (w ++ next) ≡ begins_hash_ident w
+raw-hash_ident {next} (lit.closed n w le lacks) = decided-front 2 begins_hash_ident begins_hash_ident-decided (hashes n ++ (34 ∷ w ++ 34 ∷ hashes n)) next (omega (arith, length-append (hashes n) (34 ∷ w ++ 34 ∷ hashes n), length-append w (34 ∷ hashes n)))
+raw-hash_ident {next} (lit.too_many n w le lacks) = decided-front 2 begins_hash_ident begins_hash_ident-decided (hashes n ++ (34 ∷ w ++ 34 ∷ hashes n)) next (omega (arith, length-append (hashes n) (34 ∷ w ++ 34 ∷ hashes n), length-append w (34 ∷ hashes n)))
+raw-hash_ident {next} (lit.unclosed n w none lacks) = whole-hash_ident (hashes n ++ 34 ∷ w) next none
+raw-hash_ident {next} (lit.no_quote n c out) = decided-front 2 begins_hash_ident begins_hash_ident-decided (hashes (suc n) ++ c ∷ []) next (omega (arith, length-append (hashes n) (c ∷ [])))
+raw-hash_ident {next} (lit.no_more n none) = whole-hash_ident (hashes (suc n)) next none
 
 abbrev taken : List ℕ → ℕ
 taken s = (raw_read 0 s).1
 
 pub raw_str-sound : (s : List ℕ) → NextIs opens_raw s → begins_hash_ident s ≡ false → Sound 114 s (raw_literal R s)
 raw_str-sound s opens no_ident =
-    let free : begins_ident_after (codes "#") (take (taken s) s) ≡ false = false_from_ne_true (begins_hash_ident (take (taken s) s)) (λ e. either-way (begins_hash_ident s) (hash_ident-front (taken s) s e) no_ident) in
+    let free : begins_ident_after (codes "#") (take (taken s) s) ≡ false = sym (raw-hash_ident (raw-sound s opens)) ∙ (ap begins_hash_ident (take-append-drop (taken s) s) ∙ no_ident) in
     literal-sound (114 ∷ []) 1 (RawStr (accepted (raw_read 0 s).0)) (is_accepted (raw_read 0 s).0) (taken s) s (bytes-letter 114 refl)
     (subst (λ (b : Bool). IsLiteralBefore (drop (taken s) s) (RawStr (accepted (raw_read 0 s).0)) b (114 ∷ take (taken s) s)) (sym (accepts (raw_read 0 s).0)) (lit.raw_str (raw-sound s opens) free))
 
@@ -172,16 +172,6 @@ guard-opens n c s w3 = grind (arith, common_steps)
 
 raw-opens : {next : List ℕ} {o : Option ℕ} {w : List ℕ} → IsRaw next o w → NextIs opens_raw (w ++ next)
 raw-opens {next} w1 = grind (arith, common_steps, append_assoc, guard-opens)
-
-whole-hash_ident : (w next : List ℕ) → next ≡ [] → begins_hash_ident (w ++ next) ≡ begins_hash_ident w
-whole-hash_ident w next none = ap (λ (xs : List ℕ). begins_hash_ident (w ++ xs)) none ∙ ap begins_hash_ident (append-nil w)
-
-raw-hash_ident : {next : List ℕ} {o : Option ℕ} {w : List ℕ} → IsRaw next o w → begins_hash_ident (w ++ next) ≡ begins_hash_ident w
-raw-hash_ident {next} (lit.closed n w le lacks) = decided-front 2 begins_hash_ident begins_hash_ident-decided (hashes n ++ (34 ∷ w ++ 34 ∷ hashes n)) next (omega (arith, length-append (hashes n) (34 ∷ w ++ 34 ∷ hashes n), length-append w (34 ∷ hashes n)))
-raw-hash_ident {next} (lit.too_many n w le lacks) = decided-front 2 begins_hash_ident begins_hash_ident-decided (hashes n ++ (34 ∷ w ++ 34 ∷ hashes n)) next (omega (arith, length-append (hashes n) (34 ∷ w ++ 34 ∷ hashes n), length-append w (34 ∷ hashes n)))
-raw-hash_ident {next} (lit.unclosed n w none lacks) = whole-hash_ident (hashes n ++ 34 ∷ w) next none
-raw-hash_ident {next} (lit.no_quote n c out) = decided-front 2 begins_hash_ident begins_hash_ident-decided (hashes (suc n) ++ c ∷ []) next (omega (arith, length-append (hashes n) (c ∷ [])))
-raw-hash_ident {next} (lit.no_more n none) = whole-hash_ident (hashes (suc n)) next none
 
 -- the body of a literal, from what is read of it
 raw-body : (kind : Option ℕ → LiteralKind) (next : List ℕ) (o : Option ℕ) (w : List ℕ) → IsRaw next o w → raw_body kind (w ++ next) ≡ (record { kind = kind o; takes_suffix = is_some o }, length w)

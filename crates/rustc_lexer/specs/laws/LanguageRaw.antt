@@ -1,5 +1,5 @@
 -- Raw strings are in their language, and what is there is read so.
-use Rattle.std.proofs.Common.{◌≡◌, ℕ, zero, suc, ◌+◌, ◌≤◌, ◌<◌, ◌==◌, nat_le, Bool, true, false, true≢false, if◌then◌else◌, List, [], ◌∷◌, ◌++◌, length, take, drop, codes, refl, sym, ap, ◌∙◌, subst, arith, append_assoc, length-append, Option, Some, None, Err}
+use Rattle.std.proofs.Common.{◌≡◌, ℕ, zero, suc, ◌+◌, ◌≤◌, ◌==◌, nat_le, true, false, true≢false, List, [], ◌∷◌, ◌++◌, length, take, drop, codes, refl, sym, ap, ◌∙◌, subst, arith, append_assoc, length-append, Option, Some, None, Err}
 use Rattle.std.proofs.Math.Seq.{drop-append_seam}
 use Rattle.std.proofs.lemmas.Bool.{and_parts, eqb-true, or_parts, or_from, leb-true, leb-false, le-leb, lt-leb, false_from_ne_true}
 use Rattle.std.proofs.lemmas.List.{append-nil}
@@ -7,6 +7,7 @@ use Rattle.std.proofs.lemmas.Grind.{common_steps}
 use Rattle.rustc_lexer.specs.Classes.{is_among, NextIs, NextIsNot}
 use Rattle.rustc_lexer.specs.laws.Choice.{by_either}
 use Rattle.rustc_lexer.specs.laws.LanguageRuns.{either-way, parted, run-stops}
+use Rattle.rustc_lexer.specs.laws.Reach.{run_len-none}
 use Rattle.rustc_lexer.specs.{InvalidStarter, NoTerminator}
 use Rattle.rustc_lexer.specs.LiteralGrammar as lit
 use Rattle.rustc_lexer.specs.LiteralGrammar.{hashes, NoQuoteWith, IsRaw}
@@ -20,15 +21,13 @@ pub guard-length : (n : ℕ) → length (hashes n) ≡ n
 guard-length zero = refl
 guard-length (suc n) = ap suc (guard-length n)
 
+pub hash_run-hashes : (n : ℕ) (v : List ℕ) → hash_run (hashes n ++ v) ≡ n + hash_run v
+hash_run-hashes zero v = omega arith
+hash_run-hashes (suc n) v = omega (arith, hash_run-hashes n v)
+
 -- hashes that no more of them follow
 pub guard-hashes : (n : ℕ) (v : List ℕ) → NextIsNot is_hash v → hash_run (hashes n ++ v) ≡ n
-guard-hashes zero [] stop = refl
-guard-hashes zero (c ∷ v) stop = rw stop refl
-guard-hashes (suc n) v stop = ap suc (guard-hashes n v stop)
-
-pub at_least : (n : ℕ) (v : List ℕ) → n ≤ hash_run (hashes n ++ v)
-at_least zero v = omega arith
-at_least (suc n) v = omega (arith, at_least n v)
+guard-hashes n v stop = omega (arith, hash_run-hashes n v, run_len-none is_hash v stop)
 
 -- where so many hashes stand
 pub split-hashes : (n : ℕ) (s : List ℕ) → n ≤ hash_run s → s ≡ hashes n ++ drop n s
@@ -40,25 +39,15 @@ split-hashes (suc n) (c ∷ s) le = by_either (is_hash c)
     ap (λ (x : ℕ). x ∷ s) (eqb-true c 35 e) ∙ ap (λ (xs : List ℕ). 35 ∷ xs) (split-hashes n s (omega arith)))
     (λ e. let none : hash_run (c ∷ s) ≡ 0 = rw e refl in absurd (omega arith))
 
--- and where a quote comes behind them, they stand before that
-pub record GuardBegins (n : ℕ) (w : List ℕ) : Type 0 where
-  pub rest : List ℕ
-  pub whole : w ≡ hashes n ++ rest
-
-pub before-quote : (n : ℕ) (w z : List ℕ) → n ≤ hash_run (w ++ 34 ∷ z) → GuardBegins n w
-before-quote zero w z le = record { rest = w; whole = refl }
-before-quote (suc n) [] z le = absurd (omega arith)
-before-quote (suc n) (c ∷ w) z le = by_either (is_hash c)
-    (λ e.
-    let more : hash_run (c ∷ w ++ 34 ∷ z) ≡ suc (hash_run (w ++ 34 ∷ z)) = rw e refl in
-    let g = before-quote n w z (omega arith) in
-    record { rest = g.rest; whole = ap (λ (x : ℕ). x ∷ w) (eqb-true c 35 e) ∙ ap (λ (xs : List ℕ). 35 ∷ xs) g.whole })
-    (λ e. let none : hash_run (c ∷ w ++ 34 ∷ z) ≡ 0 = rw e refl in absurd (omega arith))
+-- no hash of a run is behind a quote
+pub hash_run-before : (w z : List ℕ) → hash_run (w ++ 34 ∷ z) ≡ hash_run w
+hash_run-before [] z = refl
+hash_run-before (c ∷ w) z = grind (arith, common_steps, hash_run-before w z)
 
 -- ---- where a string closes
 
 closes-here : (n : ℕ) (v : List ℕ) → closes n (34 ∷ hashes n ++ v) ≡ true
-closes-here n v = le-leb n (hash_run (hashes n ++ v)) (at_least n v)
+closes-here n v = le-leb n (hash_run (hashes n ++ v)) (omega (arith, hash_run-hashes n v))
 
 pub closes-quote : (n c : ℕ) (s : List ℕ) → closes n (c ∷ s) ≡ true → (c ≡ 34) × (n ≤ hash_run s)
 closes-quote n c s e = let parts = and_parts (is_quote c) (nat_le n (hash_run s)) e in (eqb-true c 34 parts.0, leb-true n (hash_run s) parts.1)
@@ -66,8 +55,8 @@ closes-quote n c s e = let parts = and_parts (is_quote c) (nat_le n (hash_run s)
 pub lacks-rest : (n c : ℕ) (w : List ℕ) → NoQuoteWith n (c ∷ w) → NoQuoteWith n w
 lacks-rest n c w lacks u v e = lacks (c ∷ u) v (ap (λ (xs : List ℕ). c ∷ xs) e)
 
-pub lacks-front : (n c : ℕ) (w : List ℕ) → NoQuoteWith n (c ∷ w) → (g : GuardBegins n w) → c ≡ 34 → ⊥
-lacks-front n c w lacks g e = lacks [] g.rest (ap (λ (x : ℕ). x ∷ w) e ∙ ap (λ (xs : List ℕ). 34 ∷ xs) g.whole)
+pub lacks-front : (n c : ℕ) (w : List ℕ) → NoQuoteWith n (c ∷ w) → n ≤ hash_run w → c ≡ 34 → ⊥
+lacks-front n c w lacks le e = lacks [] (drop n w) (ap (λ (x : ℕ). x ∷ w) e ∙ ap (λ (xs : List ℕ). 34 ∷ xs) (split-hashes n w le))
 
 -- the first quote with its hashes
 pub close-read : (n : ℕ) (w next : List ℕ) → NoQuoteWith n w → close n (w ++ (34 ∷ hashes n ++ next)) ≡ Some (length w)
@@ -75,7 +64,7 @@ close-read n [] next lacks = rw (closes-here n next) refl
 close-read n (c ∷ w) next lacks =
     let open_here : closes n (c ∷ w ++ (34 ∷ hashes n ++ next)) ≡ false = false_from_ne_true (closes n (c ∷ w ++ (34 ∷ hashes n ++ next))) (λ e.
     let parts = closes-quote n c (w ++ (34 ∷ hashes n ++ next)) e in
-    lacks-front n c w lacks (before-quote n w (hashes n ++ next) parts.1) parts.0) in
+    lacks-front n c w lacks (omega (arith, parts.1, hash_run-before w (hashes n ++ next))) parts.0) in
     rw open_here (ap one_more (close-read n w next (lacks-rest n c w lacks)))
 
 pub unclosed-read : (n : ℕ) (w : List ℕ) → NoQuoteWith n w → close n w ≡ None
@@ -83,7 +72,7 @@ unclosed-read n [] lacks = refl
 unclosed-read n (c ∷ w) lacks =
     let open_here : closes n (c ∷ w) ≡ false = false_from_ne_true (closes n (c ∷ w)) (λ e.
     let parts = closes-quote n c w e in
-    lacks-front n c w lacks record { rest = drop n w; whole = split-hashes n w parts.1 } parts.0) in
+    lacks-front n c w lacks parts.1 parts.0) in
     rw open_here (ap one_more (unclosed-read n w (lacks-rest n c w lacks)))
 
 -- the first quote with its hashes, if there is one

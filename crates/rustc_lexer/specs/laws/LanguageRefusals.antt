@@ -1,9 +1,8 @@
 -- Why a raw string is refused is what the language says, and nothing else is.
 use Rattle.std.proofs.Common.{◌≡◌, ◌↔◌, ℕ, zero, suc, ◌+◌, ◌<◌, ◌≤◌, ◌==◌, nat_le, Bool, true, false, if◌then◌else◌, List, [], ◌∷◌, ◌++◌, length, take, drop, refl, sym, ap, ◌∙◌, subst, arith, append_assoc, length-append, Option, Some, None, Result, Ok, Err}
 use Rattle.std.proofs.Math.Nat.{le-max_left, le-max_right, max-le}
-use Rattle.std.proofs.Math.Seq.{take-append_seam, drop-append_seam}
-use Rattle.std.proofs.lemmas.Bool.{eqb-true, or_parts, or_from, leb-true, leb-false, le-leb, lt-leb, false_from_ne_true, eq-eqb}
-use Rattle.std.proofs.lemmas.List.{append-nil}
+use Rattle.std.proofs.Math.Seq.{take-append_seam}
+use Rattle.std.proofs.lemmas.Bool.{eqb-true, leb-true, leb-false, le-leb, lt-leb, false_from_ne_true, eq-eqb}
 use Rattle.std.specs.Str.{chars}
 use Rattle.std.proofs.lemmas.Grind.{common_steps}
 use Rattle.rustc_lexer.specs.{RawStrError, InvalidStarter, NoTerminator, TooManyDelimiters}
@@ -12,53 +11,34 @@ use Rattle.rustc_lexer.specs.LiteralGrammar.{hashes, NoQuoteWith}
 use Rattle.rustc_lexer.specs.LanguageCalls as the
 use Rattle.rustc_lexer.specs.LanguageCalls.{IsLikelyEnd, IsRawAnswer}
 use Rattle.rustc_lexer.specs.means.Least.{one_more}
-use Rattle.rustc_lexer.specs.means.Raw.{is_hash, hash_run, close, most_hashes, quote_hashes, quote_with, best_quote, quote_if, quote_end, hash_count, raw_closed, raw_starter, raw_read, checked, check_raw}
+use Rattle.rustc_lexer.specs.means.Raw.{hash_run, most_hashes, quote_hashes, quote_with, best_quote, quote_if, quote_end, raw_read, checked, check_raw}
 use Rattle.rustc_lexer.specs.means.Scan.{bytes_of}
-use Rattle.rustc_lexer.specs.Classes.{NextIsNot, bytes}
+use Rattle.rustc_lexer.specs.Classes.{bytes}
 use Rattle.rustc_lexer.specs.laws.Choice.{by_either}
-use Rattle.rustc_lexer.specs.laws.LanguageRaw.{guard-length, guard-hashes, at_least, split-hashes, before-quote, lacks-rest, lacks-front, Closing, found, lost, closing, whole-text, closed-read, open-read, no_quote-read, no_more-read, Shape, closed, unclosed, no_quote, no_more, shape}
+use Rattle.rustc_lexer.specs.laws.LanguageRaw.{hash_run-hashes, hash_run-before, lacks-rest, lacks-front, Closing, found, lost, closing, whole-text, closed-read, open-read, no_quote-read, no_more-read, Shape, closed, unclosed, no_quote, no_more, shape}
 
 -- ---- the most hashes behind a quote
 
-at-other : (c : ℕ) (w : List ℕ) → (c == 34) ≡ false → quote_hashes (c ∷ w) ≡ 0
-at-other c w e = rw e refl
-
 few-here : (m c : ℕ) (w : List ℕ) → NoQuoteWith (suc m) (c ∷ w) → quote_hashes (c ∷ w) ≤ m
-few-here m c w lacks = by_quote (c == 34) refl
-  where
-    by_quote : (b : Bool) → (c == 34) ≡ b → quote_hashes (c ∷ w) ≤ m
-    by_quote false e = let none = at-other c w e in omega arith
-    by_quote true e = by_either (nat_le (suc m) (hash_run w))
-        (λ f. absurd (lacks-front (suc m) c w lacks record { rest = drop (suc m) w; whole = split-hashes (suc m) w (leb-true (suc m) (hash_run w) f) } (eqb-true c 34 e)))
-        (λ f. let lt : hash_run w < suc m = leb-false (suc m) (hash_run w) f in omega (arith, same))
-      where
-        same : quote_hashes (c ∷ w) ≡ hash_run w
-        same = ap (λ (x : ℕ). quote_hashes (x ∷ w)) (eqb-true c 34 e)
+few-here m c w lacks = grind (arith, common_steps, lacks-front (suc m) c w lacks, eqb-true)
 
 most-few : (m : ℕ) (w : List ℕ) → NoQuoteWith (suc m) w → most_hashes w ≤ m
 most-few m [] lacks = omega arith
 most-few m (c ∷ w) lacks = max-le (few-here m c w lacks) (most-few m w (lacks-rest (suc m) c w lacks))
 
-most-many : (m : ℕ) (u v : List ℕ) → m ≤ most_hashes (u ++ (34 ∷ hashes m ++ v))
-most-many m [] v = omega (arith, at_least m v, le-max_left (hash_run (hashes m ++ v)) (most_hashes (hashes m ++ v)))
-most-many m (c ∷ u) v = omega (arith, most-many m u v, le-max_right (quote_hashes (c ∷ u ++ (34 ∷ hashes m ++ v))) (most_hashes (u ++ (34 ∷ hashes m ++ v))))
+most-many : (u v : List ℕ) → hash_run v ≤ most_hashes (u ++ 34 ∷ v)
+most-many [] v = omega (arith, le-max_left (hash_run v) (most_hashes v))
+most-many (c ∷ u) v = omega (arith, most-many u v, le-max_right (quote_hashes (c ∷ u ++ 34 ∷ v)) (most_hashes (u ++ 34 ∷ v)))
 
 lacks-past : (m : ℕ) (w : List ℕ) → most_hashes w < m → NoQuoteWith m w
-lacks-past m w lt u v e = absurd (omega (arith, lt, ap most_hashes e, most-many m u v))
+lacks-past m w lt u v e = absurd (omega (arith, lt, ap most_hashes e, most-many u (hashes m ++ v), hash_run-hashes m v))
 
 -- the first quote with so many
 quote-first : (m : ℕ) (u v : List ℕ) → 0 < m → NoQuoteWith m u → hash_run (hashes m ++ v) ≡ m → quote_with m (u ++ (34 ∷ hashes m ++ v)) ≡ Some (length u)
 quote-first m [] v some lacks e = let here : (hash_run (hashes m ++ v) == m) ≡ true = eq-eqb (hash_run (hashes m ++ v)) m e in rw here refl
 quote-first m (c ∷ u) v some lacks e =
-    let s : List ℕ = u ++ (34 ∷ hashes m ++ v) in
-    let other : (quote_hashes (c ∷ s) == m) ≡ false = false_from_ne_true (quote_hashes (c ∷ s) == m) (λ t. not_here (c == 34) refl (eqb-true (quote_hashes (c ∷ s)) m t)) in
+    let other : (quote_hashes (c ∷ u ++ (34 ∷ hashes m ++ v)) == m) ≡ false = grind (arith, common_steps, hash_run-before u (hashes m ++ v), lacks-front m c u lacks, eqb-true) in
     rw other (ap one_more (quote-first m u v some (lacks-rest m c u lacks) e))
-  where
-    not_here : (b : Bool) → (c == 34) ≡ b → quote_hashes (c ∷ u ++ (34 ∷ hashes m ++ v)) ≡ m → ⊥
-    not_here false f t = absurd (let none = at-other c (u ++ (34 ∷ hashes m ++ v)) f in omega (arith, none, t, some))
-    not_here true f t =
-        let same : quote_hashes (c ∷ u ++ (34 ∷ hashes m ++ v)) ≡ hash_run (u ++ (34 ∷ hashes m ++ v)) = ap (λ (x : ℕ). quote_hashes (x ∷ u ++ (34 ∷ hashes m ++ v))) (eqb-true c 34 f) in
-        lacks-front m c u lacks (before-quote m u (hashes m ++ v) (omega (arith, same, t))) (eqb-true c 34 f)
 
 -- where it ends
 end-at : (start m : ℕ) (u v : List ℕ) → start + bytes_of (suc (length u)) (u ++ (34 ∷ hashes m ++ v)) ≡ start + bytes (u ++ 34 ∷ [])
@@ -77,9 +57,9 @@ best-read start {w} (the.none lacks) =
     let most : most_hashes w ≡ 0 = omega (arith, most-few 0 w lacks) in
     record { most = most; at = ap (λ (k : ℕ). quote_end start w (quote_if k w)) most }
 best-read start {w} (the.best {n = m} u v some whole lacks most_so) =
-    let many : m ≤ most_hashes w = subst (λ (x : List ℕ). m ≤ most_hashes x) (sym whole) (most-many m u v) in
-    let most : most_hashes w ≡ m = omega (arith, most-few m w most_so, many) in
-    let exact : hash_run (hashes m ++ v) ≡ m = omega (arith, at_least m v, most_at m u v w whole most) in
+    let many : hash_run (hashes m ++ v) ≤ most_hashes w = omega (arith, ap most_hashes whole, most-many u (hashes m ++ v)) in
+    let most : most_hashes w ≡ m = omega (arith, most-few m w most_so, many, hash_run-hashes m v) in
+    let exact : hash_run (hashes m ++ v) ≡ m = omega (arith, hash_run-hashes m v, many, most) in
     let has : (m == 0) ≡ false = false_from_ne_true (m == 0) (λ z. absurd (let none : m ≡ 0 = eqb-true m 0 z in omega (arith, none, some))) in
     record {
       most = most;
@@ -90,13 +70,6 @@ best-read start {w} (the.best {n = m} u v some whole lacks most_so) =
           ∙ (ap (quote_end start (u ++ (34 ∷ hashes m ++ v))) (quote-first m u v some lacks exact)
           ∙ ap Some (end-at start m u v))));
     }
-  where
-    most_at : (m : ℕ) (u v w : List ℕ) → w ≡ u ++ (34 ∷ hashes m ++ v) → most_hashes w ≡ m → hash_run (hashes m ++ v) ≤ m
-    most_at m [] v w e f = omega (arith, ap most_hashes e, f, le-max_left (hash_run (hashes m ++ v)) (most_hashes (hashes m ++ v)))
-    most_at m (c ∷ u) v w e f =
-        let s : List ℕ = u ++ (34 ∷ hashes m ++ v) in
-        let more : most_hashes s ≤ m = omega (arith, ap most_hashes e, f, le-max_right (quote_hashes (c ∷ s)) (most_hashes s)) in
-        most_at m u v s refl (omega (arith, more, most-many m u v))
 
 -- one of them there is
 record HasBest (start : ℕ) (w : List ℕ) : Type 0 where

@@ -1,5 +1,5 @@
 -- A text past its first characters.
-use Rattle.std.proofs.Common.{◌≡◌, ℕ, ◌+◌, List, [], ◌++◌, length, take, drop, refl, sym, ap, ◌∙◌, arith, length-append, take-append-drop, drop_at, drop-drop}
+use Rattle.std.proofs.Common.{◌≡◌, ℕ, ◌+◌, ◌≤◌, List, [], ◌++◌, length, take, drop, refl, sym, ap, ◌∙◌, arith, length-append, take-append-drop, drop_at, drop-drop}
 use Rattle.std.specs.Char.{encode_utf8}
 use Rattle.std.specs.Str.{chars, encode_utf8_all, IsUtf8}
 use Rattle.std.proofs.lemmas.Str.{chars-encodes, encodes-chars, scalars-chars, encodes-append, chars_past_char, IsUtf8-past_char}
@@ -35,6 +35,9 @@ split_past n text is = sym (encodes-chars text is) ∙ (ap encode_utf8_all (sym 
 
 pub length-past : (n : ℕ) (text : List ℕ) → IsUtf8 text → bytes_of n (chars text) + length (past n text) ≡ length text
 length-past n text is = omega (arith, ap length (split_past n text is), length-append (encode_utf8_all (take n (chars text))) (past n text))
+
+pub past_le : (n : ℕ) (text : List ℕ) → IsUtf8 text → length (past n text) ≤ length text
+past_le n text is = omega (arith, length-past n text is)
 
 pub past-drop : (n : ℕ) (text : List ℕ) → IsUtf8 text → past n text ≡ drop (bytes_of n (chars text)) text
 past-drop n text is = sym (ap (drop (bytes_of n (chars text))) (split_past n text is) ∙ drop_at (encode_utf8_all (take n (chars text))) (past n text) _ refl)

@@ -53,6 +53,14 @@ run_len-in p c cs e = rw e refl
 pub run_len-out : (p : ℕ → Bool) (c : ℕ) (cs : List ℕ) → p c ≡ false → run_len p (c ∷ cs) ≡ 0
 run_len-out p c cs e = rw e refl
 
+-- where it goes on, and where it does not
+pub run_len-next : (p : ℕ → Bool) (s : List ℕ) → next_is p s ≡ true → 0 < run_len p s
+run_len-next p [] t = absurd (true≢false (sym t))
+run_len-next p (c ∷ s) t = omega (arith, run_len-in p c s t)
+
+pub run_len-none : (p : ℕ → Bool) (s : List ℕ) → next_is p s ≡ false → run_len p s ≡ 0
+run_len-none p s w2 = grind (arith, common_steps, run_len-out)
+
 -- a run is in its class
 pub run_all : (p : ℕ → Bool) (s : List ℕ) → list_all p (take (run_len p s) s) ≡ true
 run_all p [] = refl

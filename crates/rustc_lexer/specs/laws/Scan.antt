@@ -5,11 +5,9 @@ use Rattle.std.specs.Str.{chars, IsUtf8}
 use Rattle.std.proofs.lemmas.Str.{encode_ascii}
 use Rattle.std.proofs.lemmas.Grind.{common_steps}
 use Rattle.rustc_lexer.specs.means.Scan.{bytes_of, after, and_then, gives, next_is, past, read_as, run_len, scanned}
-use Rattle.rustc_lexer.specs.Classes.{is_id_start, is_id_continue}
-use Rattle.rustc_lexer.specs.means.Literal.{suffix_len}
 use Rattle.rustc_lexer.specs.laws.CharSteps.{bytes_of-suc}
 use Rattle.rustc_lexer.specs.laws.Choice.{by_either}
-use Rattle.rustc_lexer.specs.laws.Past.{past-zero, past-past, chars-past, length-past}
+use Rattle.rustc_lexer.specs.laws.Past.{past-zero, past-past, chars-past, IsUtf8-past, length-past, past_le}
 
 module _ {A : Type 0} where
   pub scanned-gives : (a : A) (text : List ℕ) → IsUtf8 text → scanned (gives a) text ≡ (a, text)
@@ -76,10 +74,5 @@ next_is-cons p c s cs e = ap (next_is p) e
 pub next_is-nil : (p : ℕ → Bool) (cs : List ℕ) → cs ≡ [] → next_is p cs ≡ false
 next_is-nil p cs e = ap (next_is p) e
 
--- what the suffix of a literal leaves
-module _ (rest : List ℕ) (is : IsUtf8 rest) where
-  pub suffix-yes : (tail left : List ℕ) → next_is is_id_start (chars rest) ≡ true → tail ≡ past 1 rest → left ≡ past (run_len is_id_continue (chars tail)) tail → left ≡ past (suffix_len (chars rest)) rest
-  suffix-yes tail left e at f = grind (arith, common_steps, chars-past, past-past)
-
-  pub suffix-no : next_is is_id_start (chars rest) ≡ false → rest ≡ past (suffix_len (chars rest)) rest
-  suffix-no e = sym (past-zero rest is) ∙ ap (λ (b : Bool). past (if b then 1 + run_len is_id_continue (drop 1 (chars rest)) else 0) rest) (sym e)
+-- how scanners go on, one after another
+pub ruleset scan_lemmas = (next_is-cons, next_is-nil, past-zero, past-past, chars-past, IsUtf8-past, length-past, past_le)

@@ -63,6 +63,7 @@ fn count_hashes(rest: &str) -> usize
 /// Reads the string that follows the hashes. Returns whether a quote closes it, and the length in bytes of the
 /// hashes and the string; or `None` if no string follows the hashes.
 #[inline]
+#[tactic(auto, using(crate::proofs::lemmas::tokens::Guarded::no_string, std::proofs::lemmas::Grind::common_steps))]
 fn string_past(rest: &str, n_hashes: usize) -> Option<(bool, usize)>
     requires { n_hashes ≡ hash_run (chars rest.now) }
     ensures read { result ≡ spec.string_past n_hashes (chars rest.now) }
@@ -75,7 +76,7 @@ fn string_past(rest: &str, n_hashes: usize) -> Option<(bool, usize)>
 
 /// Returns whether a quote closes the string, and the text after its hashes and its suffix. `body` is the text after
 /// the opening quote.
-#[tactic(auto, using(crate::proofs::lemmas::tokens::Literals::literal_lemmas, std::proofs::lemmas::Grind::common_steps))]
+#[tactic(auto, using(crate::specs::laws::Scan::scan_lemmas, std::proofs::lemmas::Grind::common_steps))]
 fn guarded_body(body: &str, n_hashes: usize) -> BodyEnd<'_>
     ensures shorter { length result.rest.now ≤ length body.now }
     ensures read { (result.terminated, result.rest.now)

@@ -11,7 +11,7 @@ use crate::token::{LiteralKind, TokenKind};
 
 /// Returns the text after the suffix, if there is one at the front, or else the whole text.
 #[inline(always)]
-#[tactic(auto, using(crate::proofs::lemmas::tokens::Literals::literal_lemmas, std::proofs::lemmas::Grind::common_steps))]
+#[tactic(auto, using(crate::specs::laws::Scan::scan_lemmas, std::proofs::lemmas::Grind::common_steps))]
 pub(crate) fn eat_literal_suffix(rest: &str) -> &str
     ensures shorter { length result.now ≤ length rest.now }
     ensures past { result.now ≡ past (suffix_len (chars rest.now)) rest.now }

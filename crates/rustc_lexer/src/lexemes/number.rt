@@ -21,7 +21,7 @@ use crate::token::{Base, LiteralKind, TokenKind};
 ///
 /// Rust Reference, [Number literals](https://doc.rust-lang.org/reference/tokens.html#number-literals).
 #[inline(always)]
-#[tactic(auto, using(crate::proofs::lemmas::tokens::Literals::literal_lemmas, std::proofs::lemmas::Grind::common_steps))]
+#[tactic(auto, using(crate::specs::laws::Scan::scan_lemmas, std::proofs::lemmas::Grind::common_steps))]
 pub(crate) fn number(first_digit: char, tail: &str) -> (TokenKind, &str)
     requires fits { length tail.now + 1 < 2 ^ 32 }
     ensures { (result.0, result.1.now) ≡ scanned (spec.number first_digit) tail.now }

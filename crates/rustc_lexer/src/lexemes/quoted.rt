@@ -120,7 +120,7 @@ pub(crate) enum QuotedPrefix {
 /// Lexes a literal in quotes. Returns its kind, and the text after it. `tail` is the text after the first character
 /// of its prefix.
 #[inline(always)]
-#[tactic(auto, using(crate::proofs::lemmas::tokens::Literals::literal_lemmas, std::proofs::lemmas::Grind::common_steps))]
+#[tactic(auto, using(crate::specs::laws::Scan::scan_lemmas, std::proofs::lemmas::Grind::common_steps))]
 pub(crate) fn quoted_literal(prefix: QuotedPrefix, tail: &str) -> (TokenKind, &str)
     requires fits { length tail.now + 1 < 2 ^ 32 }
     ensures { (result.0, result.1.now) ≡ scanned (spec.quoted_literal prefix) tail.now }
@@ -137,7 +137,7 @@ pub(crate) fn quoted_literal(prefix: QuotedPrefix, tail: &str) -> (TokenKind, &s
 
 /// Returns where a quote closes the literal. `tail` is the text after the first character of its prefix.
 #[inline(always)]
-#[tactic(auto, using(crate::proofs::lemmas::tokens::Literals::literal_lemmas, std::proofs::lemmas::Grind::common_steps))]
+#[tactic(auto, using(crate::specs::laws::Scan::scan_lemmas, std::proofs::lemmas::Grind::common_steps))]
 fn quoted_string(prefix: QuotedPrefix, tail: &str) -> BodyEnd<'_>
     ensures shorter { length result.rest.now ≤ length tail.now }
     ensures read { (result.terminated, result.rest.now)

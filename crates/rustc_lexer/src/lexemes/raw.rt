@@ -22,7 +22,7 @@ pub(crate) enum RawPrefix {
 
 /// Lexes a raw string. Returns its kind, and the text after it. `rest` is the text after its prefix.
 #[inline(always)]
-#[tactic(auto, using(crate::proofs::lemmas::tokens::Literals::literal_lemmas, std::proofs::lemmas::Grind::common_steps))]
+#[tactic(auto, using(crate::specs::laws::Scan::scan_lemmas, std::proofs::lemmas::Grind::common_steps))]
 pub(crate) fn raw_literal(prefix: RawPrefix, rest: &str) -> (TokenKind, &str)
     requires fits { spec.prefix_len prefix + length rest.now < 2 ^ 32 }
     ensures { (result.0, result.1.now) ≡ scanned (spec.raw_literal prefix) rest.now }

@@ -1,19 +1,17 @@
 -- White space parts tokens: a token that is closed stays one before any white space.
-use Rattle.std.proofs.Common.{◌≡◌, ℕ, ◌<◌, ◌==◌, ◌&&◌, not, codes, Bool, true, false, true≢false, List, [], ◌∷◌, ◌++◌, length, drop, refl, sym, ap, ◌∙◌, subst, arith, Option, is_some}
+use Rattle.std.proofs.Common.{◌≡◌, ℕ, ◌<◌, ◌==◌, ◌&&◌, not, codes, Bool, true, false, true≢false, List, [], ◌∷◌, ◌++◌, length, refl, sym, ap, ◌∙◌, subst, arith, Option, is_some}
 use Rattle.std.proofs.lemmas.Bool.{and_parts, false_from_ne_true}
-use Rattle.std.specs.Char.{is_ascii_digit, is_ascii_hexdigit}
 use Rattle.std.specs.List.{list_all}
-use Rattle.std.proofs.lemmas.List.Folds.{list_all-append}
 use Rattle.std.proofs.lemmas.Grind.{common_steps}
 use Rattle.unicode_ident.proofs.Computing.{unicode_ident}
-use Rattle.rustc_lexer.specs.{Base, LiteralKind, TokenKind, Whitespace, LineComment, UnknownPrefix, UnknownPrefixLifetime, Edition}
+use Rattle.rustc_lexer.specs.{LiteralKind, TokenKind, Whitespace, LineComment, UnknownPrefix, UnknownPrefixLifetime, Edition}
 use Rattle.rustc_lexer.specs.Classes.{is_among, is_whitespace, is_id_start, is_id_continue, is_word_continue, ends_prefix, begins_ident_after, NextIs, NextIsNot, is_inline}
 use Rattle.rustc_lexer.specs.Tables.{is_emoji, emoji_ranges}
 use Rattle.rustc_lexer.specs.Language as the
-use Rattle.rustc_lexer.specs.Language.{IsTokenBefore, known_prefixes, begins_prefixed}
+use Rattle.rustc_lexer.specs.Language.{IsTokenBefore, begins_prefixed}
 use Rattle.rustc_lexer.specs.LiteralGrammar as lit
 use Rattle.rustc_lexer.specs.LiteralGrammar.{IsDoubleQuoted, IsSingleQuoted, IsRaw, IsLiteralBefore, IsSuffixBefore}
-use Rattle.rustc_lexer.specs.NumberGrammar.{or_underscore, is_no_fraction, IsWholePart, IsExponent, IsTailBefore, HasNumberForm, IsNumberBefore}
+use Rattle.rustc_lexer.specs.NumberGrammar.{is_no_fraction, IsNumberBefore}
 use Rattle.rustc_lexer.specs.Tokens.{is_faulty}
 use Rattle.rustc_lexer.specs.Joined.{is_open}
 use Rattle.rustc_lexer.specs.LanguageText.{IsTokenIn, kept, pound, ident, lifetime, lifetime_r}

@@ -1,19 +1,18 @@
 -- Guarded strings: what is taken of a text.
-use Rattle.std.proofs.Common.{◌≡◌, ℕ, suc, ◌+◌, ◌-◌, ◌≤◌, min, Bool, true, false, if◌then◌else◌, List, [], ◌∷◌, length, drop, drop-drop, sym, ap, ◌∙◌, arith, subst, Option, Some, None}
+use Rattle.std.proofs.Common.{◌≡◌, ℕ, suc, ◌+◌, ◌-◌, ◌≤◌, Bool, true, false, if◌then◌else◌, List, [], ◌∷◌, length, drop, sym, ap, ◌∙◌, arith, subst, Option, Some, None}
 use Rattle.std.specs.Str.{chars, IsUtf8, IsCharBoundary}
 use Rattle.std.proofs.lemmas.Str.{IsCharBoundary-from_drop}
 use Rattle.std.proofs.lemmas.Grind.{common_steps}
 use Rattle.rustc_lexer.specs.{GuardedStr}
-use Rattle.rustc_lexer.specs.means.Guarded.{closing_len, guarded_body, string_past, guarded_by, take_guarded}
-use Rattle.rustc_lexer.specs.means.Literal.{suffix_len}
-use Rattle.rustc_lexer.specs.means.Quoted.{double_quoted_string}
+use Rattle.rustc_lexer.specs.means.Guarded.{guarded_body, string_past, guarded_by, take_guarded}
 use Rattle.rustc_lexer.specs.means.Raw.{hash_run, is_quote}
-use Rattle.rustc_lexer.specs.means.Scan.{begins, bytes_of, next_is, past, scanned}
+use Rattle.rustc_lexer.specs.means.Scan.{after, begins, bytes_of, next_is, past, scanned}
 use Rattle.rustc_lexer.specs.LanguageText.{Mode}
 use Rattle.rustc_lexer.specs.State.{State}
 use Rattle.rustc_lexer.specs.laws.Past.{past-past, past-drop, chars-past, IsUtf8-past, length-past}
 use Rattle.rustc_lexer.proofs.lemmas.tokens.ByteSearch.{begins-byte}
 use Rattle.rustc_lexer.proofs.lemmas.tokens.Raw.{hash_bytes}
+use Rattle.rustc_lexer.specs.laws.Scan.{scanned-after}
 use Rattle.rustc_lexer.specs.laws.State.{state}
 
 -- some of the hashes at the front
@@ -45,30 +44,21 @@ module _ (rest front : List ℕ) (n : ℕ) (is : IsUtf8 rest) (count : n ≡ has
   no_string e = sym (ap chosen (quote_next ∙ e))
 
   module _ (body left : List ℕ) (closed : Bool) (body_cut : body ≡ past 1 front) (read : (closed, left) ≡ scanned (guarded_body n) body) where
-    one : n + 1 ≡ suc n
-    one = omega arith
+    body_is : body ≡ past (suc n) rest
+    body_is = let one : n + 1 ≡ suc n = omega arith in body_cut ∙ (ap (past 1) front_is ∙ (past-past 1 n rest is ∙ ap (λ (k : ℕ). past k rest) one))
 
-    body_is : body ≡ past (n + 1) rest
-    body_is = body_cut ∙ (ap (past 1) front_is ∙ past-past 1 n rest is)
+    whole_is : (closed, left) ≡ scanned (after (suc n) (guarded_body n)) rest
+    whole_is = read ∙ sym (scanned-after (suc n) (guarded_body n) rest body is body_is)
 
-    body_chars : chars body ≡ drop (suc n) (chars rest)
-    body_chars = ap chars body_is ∙ (chars-past (n + 1) rest is ∙ ap (λ (k : ℕ). drop k (chars rest)) one)
-
-    read_is : ◌≡◌ {A = Bool × List ℕ} (closed, left) (body_read.0, past body_read.1 body)
-    read_is = read ∙ ap (λ (ds : List ℕ). let r : Bool × List ℕ = ((guarded_body n ds).0, past (guarded_body n ds).1 body) in r) body_chars
-
-    left_at : left ≡ past ((n + 1) + body_read.1) rest
-    left_at = ap (λ (r : Bool × List ℕ). r.1) read_is ∙ (ap (past body_read.1) body_is ∙ past-past body_read.1 (n + 1) rest is)
-
-    taken_is : bytes_of ((n + 1) + body_read.1) (chars rest) ≡ length rest - length left
-    taken_is = let l = length-past ((n + 1) + body_read.1) rest is in let m = ap length left_at in omega arith
+    taken_is : bytes_of (suc n + body_read.1) (chars rest) ≡ length rest - length left
+    taken_is = let l = length-past (suc n + body_read.1) rest is in let e = ap (λ (r : Bool × List ℕ). length r.1) whole_is in omega arith
 
     pub string_boundary : IsCharBoundary rest (length rest - length left)
     string_boundary =
-        IsCharBoundary-from_drop rest (length rest - length left) (omega arith) (subst IsUtf8 (past-drop ((n + 1) + body_read.1) rest is ∙ ap (λ (k : ℕ). drop k rest) taken_is) (IsUtf8-past ((n + 1) + body_read.1) rest is))
+        IsCharBoundary-from_drop rest (length rest - length left) (omega arith) (subst IsUtf8 (past-drop (suc n + body_read.1) rest is ∙ ap (λ (k : ℕ). drop k rest) taken_is) (IsUtf8-past (suc n + body_read.1) rest is))
 
     pub string_here : begins (34 ∷ []) (chars front) ≡ true → Some (closed, length rest - length left) ≡ string_past n (chars rest)
-    string_here e = grind (arith, common_steps, read_is, taken_is, quote_next)
+    string_here e = grind (arith, common_steps, whole_is, taken_is, quote_next)
 
 -- a cursor with bytes pending before what is left, where n hashes are next
 module _ (pending : ℕ) (left : List ℕ) (mode : Mode) (s : State) (rest : List ℕ) (view : state pending left mode ≡ s) (offset : rest ≡ s.rest) (n : ℕ) (count : n ≡ hash_run (chars rest)) where

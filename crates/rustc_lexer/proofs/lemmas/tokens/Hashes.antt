@@ -1,6 +1,6 @@
 -- A hash, by the byte after it.
 use Rattle.std.proofs.Common.{◌≡◌, ◌≢◌, ℕ, ◌<◌, ◌≤◌, Bool, drop, refl, subst, true, false, true≢false, List, [], ◌∷◌, ◌++◌, length, sym, ap, ◌∙◌, arith}
-use Rattle.std.specs.Str.{chars, encode_utf8_all, IsCharBoundary, IsUtf8}
+use Rattle.std.specs.Str.{encode_utf8_all, IsCharBoundary, IsUtf8}
 use Rattle.std.proofs.lemmas.Bool.{eqb-true, or_cases}
 use Rattle.std.proofs.lemmas.Str.{chars-nil, encode_ascii, encodes-chars, IsCharBoundary-from_drop}
 use Rattle.std.proofs.lemmas.Grind.{common_steps}
@@ -8,16 +8,15 @@ use Rattle.rustc_lexer.specs.{GuardedStrPrefix, Pound}
 use Rattle.rustc_lexer.specs.laws.Choice.{by_either}
 use Rattle.rustc_lexer.proofs.lemmas.tokens.Editions.{first_by, pound_by}
 use Rattle.rustc_lexer.specs.declared.lexemes.family.Family.TheVariants.{Hash}
-use Rattle.rustc_lexer.specs.means.Hash.{opens_guarded, hash}
+use Rattle.rustc_lexer.specs.means.Hash.{opens_guarded}
 use Rattle.rustc_lexer.specs.means.Lexeme.{family_of, past_first}
 use Rattle.rustc_lexer.specs.means.Quick.{BeginsWithNoHash, IsFirstBy, IsFirstToken}
 use Rattle.rustc_lexer.specs.means.Raw.{is_hash}
-use Rattle.rustc_lexer.specs.means.Scan.{after, gives, next_is, past, scanned}
+use Rattle.rustc_lexer.specs.means.Scan.{next_is, past, scanned}
 use Rattle.rustc_lexer.proofs.lemmas.tokens.AsciiRuns.{next_byte, IsUtf8-ascii}
 use Rattle.rustc_lexer.proofs.lemmas.tokens.Families.{by_family}
-use Rattle.rustc_lexer.specs.laws.Past.{past-one}
+use Rattle.rustc_lexer.specs.laws.Past.{past-one, past-zero}
 use Rattle.rustc_lexer.proofs.lemmas.tokens.Quick.{first}
-use Rattle.rustc_lexer.specs.laws.Scan.{scanned-gives, scanned-no, scanned-yes}
 
 opens_guarded-small : (c : ℕ) → opens_guarded c ≡ true → c < 128
 opens_guarded-small c e = grind (arith, common_steps, or_cases, eqb-true)
@@ -44,14 +43,6 @@ no_hash-wide text b rest is e wide = no_hash text b rest is e (λ family. let co
 pub no_hash-empty : (text : List ℕ) → length text ≡ 0 → BeginsWithNoHash text
 no_hash-empty text w1 = grind (arith, common_steps, first, chars-nil)
 
--- what a hash is read as
-module _ (tail : List ℕ) (is : IsUtf8 tail) where
-  pub prefix_read : (rest : List ℕ) → next_is opens_guarded (chars tail) ≡ true → rest ≡ past 1 tail → (GuardedStrPrefix, rest) ≡ scanned hash tail
-  prefix_read rest e f = ap (λ (xs : List ℕ). (GuardedStrPrefix, xs)) f ∙ sym (scanned-yes (next_is opens_guarded) (after 1 (gives GuardedStrPrefix)) (gives Pound) tail e)
-
-  pub pound_read : next_is opens_guarded (chars tail) ≡ false → (Pound, tail) ≡ scanned hash tail
-  pound_read e = sym (scanned-no (next_is opens_guarded) (after 1 (gives GuardedStrPrefix)) (gives Pound) tail e ∙ scanned-gives Pound tail is)
-
 -- a text that begins with a hash
 pub prefix_first : (text : List ℕ) (b : ℕ) (rest : List ℕ) → IsUtf8 text → text ≡ b ∷ rest → b < 128 → Hash ≡ family_of b → next_is opens_guarded rest ≡ true → IsFirstToken text record { kind = GuardedStrPrefix; len = 2 }
 prefix_first text b [] is e small family opens = absurd (true≢false (sym opens))
@@ -60,13 +51,13 @@ prefix_first text b (d ∷ ds) is e small family opens = first text b (d ∷ ds)
     decided : IsUtf8 (d ∷ ds) → (GuardedStrPrefix, ds) ≡ scanned (past_first b) (d ∷ ds)
     decided inner =
         let cut : ds ≡ past 1 (d ∷ ds) = sym (past-one (d ∷ ds) ds d inner (ap (λ (xs : List ℕ). xs ++ ds) (sym (encode_ascii d (opens_guarded-small d opens))))) in
-        by_family Hash b (d ∷ ds) _ family (prefix_read (d ∷ ds) inner ds (next_byte opens_guarded opens_guarded-small (d ∷ ds) inner ∙ opens) cut)
+        by_family Hash b (d ∷ ds) _ family (grind (arith, common_steps, next_byte opens_guarded opens_guarded-small (d ∷ ds) inner, cut))
 
 pub pound_first : (text : List ℕ) (b : ℕ) (rest : List ℕ) → IsUtf8 text → text ≡ b ∷ rest → b < 128 → Hash ≡ family_of b → next_is opens_guarded rest ≡ false → IsFirstToken text record { kind = Pound; len = 1 }
 pound_first text b rest is e small family none = first text b rest Pound 0 is e small (omega arith) decided
   where
     decided : IsUtf8 rest → (Pound, rest) ≡ scanned (past_first b) rest
-    decided inner = by_family Hash b rest _ family (pound_read rest inner (next_byte opens_guarded opens_guarded-small rest inner ∙ none))
+    decided inner = by_family Hash b rest _ family (grind (arith, common_steps, next_byte opens_guarded opens_guarded-small rest inner, past-zero rest inner))
 
 -- the same in each edition
 pub hash_alone : (guards : Bool) (text : List ℕ) (b : ℕ) (rest : List ℕ) → IsUtf8 text → text ≡ b ∷ rest → b < 128 → Hash ≡ family_of b → next_is opens_guarded rest ≡ false → IsFirstBy guards text record { kind = Pound; len = 1 }

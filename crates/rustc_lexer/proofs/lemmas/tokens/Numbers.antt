@@ -1,18 +1,17 @@
 -- Numbers, as the code reads them.
-use Rattle.std.proofs.Common.{◌≡◌, ◌<◌, ℕ, ◌+◌, Bool, true, false, if◌then◌else◌, List, [], ◌∷◌, take, drop, get_or, refl, sym, ap, ◌∙◌, zero-add, arith, codes}
+use Rattle.std.proofs.Common.{◌≡◌, ◌<◌, ℕ, ◌+◌, Bool, true, false, List, [], ◌∷◌, take, drop, get_or, refl, sym, ◌∙◌, zero-add, arith}
 use Rattle.std.specs.Char.{is_ascii_digit, is_ascii_hexdigit}
 use Rattle.std.specs.List.{list_any}
 use Rattle.std.specs.Str.{chars, IsUtf8}
 use Rattle.std.proofs.lemmas.Bool.{eqb-true}
 use Rattle.std.proofs.lemmas.Grind.{common_steps}
 use Rattle.unicode_ident.proofs.IdentLemmas.{is_xid_start-ascii}
-use Rattle.rustc_lexer.specs.{Base, LiteralKind, Int}
-use Rattle.rustc_lexer.specs.means.Number.{is_underscore, or_underscore, digits, IntegerPart, part_of, binary, octal, hexadecimal, decimal, part_past_zero, is_exponent_letter, float_exponent, fraction, is_no_fraction, begins_fraction, past_digits, integer_part, tail, number_kind}
-use Rattle.rustc_lexer.specs.means.Scan.{after, begins, gives, next_is, past, run_len, scanned}
+use Rattle.rustc_lexer.specs.means.Number.{is_underscore, or_underscore, digits, is_exponent_letter, is_no_fraction}
+use Rattle.rustc_lexer.specs.means.Scan.{begins, next_is, past, run_len, scanned}
 use Rattle.rustc_lexer.proofs.lemmas.tokens.AsciiRuns.{next_byte}
 use Rattle.rustc_lexer.specs.laws.LanguageRuns.{digit-small as ascii_digit-small}
 use Rattle.rustc_lexer.specs.laws.Past.{IsUtf8-past, chars-past, past-past, past-zero}
-use Rattle.rustc_lexer.specs.laws.Scan.{scanned-and_then, scanned-read_as, scanned-after, scanned-gives, scanned-yes, scanned-no}
+use Rattle.rustc_lexer.specs.laws.Scan.{scanned-and_then, scanned-read_as}
 
 -- digits and underscores are in ASCII
 pub digit-small : (b : ℕ) → or_underscore is_ascii_digit b ≡ true → b < 128

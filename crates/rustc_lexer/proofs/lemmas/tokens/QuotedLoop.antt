@@ -1,5 +1,5 @@
 -- The loops over a quoted text.
-use Rattle.std.proofs.Common.{◌≡◌, ◌≢◌, ℕ, suc, ◌+◌, ◌≤◌, not, Bool, true, false, List, [], ◌∷◌, length, drop, refl, sym, ap, ◌∙◌, arith, ◌<◌, Option, MatchOption, Bor}
+use Rattle.std.proofs.Common.{◌≡◌, ◌≢◌, ℕ, suc, ◌+◌, not, Bool, true, false, List, [], ◌∷◌, length, drop, refl, sym, ap, ◌∙◌, arith, ◌<◌, Option, MatchOption, Bor}
 use Rattle.std.specs.Str.{chars, IsUtf8}
 use Rattle.memchr.specs.Find.{is_byte2}
 use Rattle.std.proofs.lemmas.Bool.{eqb-true, ne_eqb, not-false, or_cases, or_parts}
@@ -7,7 +7,7 @@ use Rattle.std.proofs.lemmas.Grind.{common_steps}
 use Rattle.rustc_lexer.specs.means.Scan.{begins, past, run_len, scanned}
 use Rattle.rustc_lexer.specs.means.Quoted.{double_quoted_string, is_lone}
 use Rattle.rustc_lexer.specs.laws.Scan.{run_len-stop}
-use Rattle.rustc_lexer.specs.laws.Past.{past-zero, past-past, past-two, chars-past, IsUtf8-past, length-past}
+use Rattle.rustc_lexer.specs.laws.Past.{past-zero, past-past, past-two, chars-past, IsUtf8-past, past_le}
 
 -- what follows the run of a class begins with no character of it
 pub run_fails : (p : ℕ → Bool) (text left s : List ℕ) (c : ℕ) → IsUtf8 text → left ≡ past (run_len p (chars text)) text → chars left ≡ c ∷ s → p c ≡ false
@@ -16,9 +16,6 @@ run_fails p text left s c is e reads = run_len-stop p (chars text) c s (sym (ap 
 -- one character more
 pub past-suc : (n : ℕ) (text : List ℕ) → IsUtf8 text → past (suc n) text ≡ past n (past 1 text)
 past-suc n text is = let one : suc n ≡ 1 + n = omega arith in ap (λ (k : ℕ). past k text) one ∙ sym (past-past n 1 text is)
-
-pub past_le : (n : ℕ) (text : List ℕ) → IsUtf8 text → length (past n text) ≤ length text
-past_le n text is = omega (arith, length-past n text is)
 
 -- up to the first quote or backslash
 abbrev plain : ℕ → Bool

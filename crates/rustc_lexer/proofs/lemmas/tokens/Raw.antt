@@ -1,7 +1,7 @@
 -- The loop over the text of a raw string.
-use Rattle.std.proofs.Common.{◌≡◌, ℕ, suc, ◌+◌, ◌-◌, ◌≤◌, ◌<◌, ◌==◌, ◌&&◌, max, nat_le, Bool, true, false, true≢false, if◌then◌else◌, List, [], ◌∷◌, length, drop, refl, sym, ap, ◌∙◌, subst, arith, Option, Some, None, Result, Err, MatchOption}
+use Rattle.std.proofs.Common.{◌≡◌, ℕ, suc, ◌+◌, ◌-◌, ◌≤◌, ◌<◌, ◌==◌, ◌&&◌, max, nat_le, Bool, true, false, if◌then◌else◌, List, [], ◌∷◌, length, drop, refl, sym, ap, ◌∙◌, subst, arith, Option, Some, None, Result, Err, MatchOption}
 use Rattle.std.specs.Str.{chars, encode_utf8_all, IsUtf8, IsCharBoundary}
-use Rattle.std.proofs.lemmas.Bool.{eqb-true, eq-eqb, ne_eqb, le-leb, lt-leb, not-false, and_parts, not-true}
+use Rattle.std.proofs.lemmas.Bool.{eqb-true, eq-eqb, ne_eqb, le-leb, lt-leb, and_parts, not-true}
 use Rattle.std.proofs.lemmas.Str.{IsCharBoundary-from_drop}
 use Rattle.std.proofs.Math.Seq.{drop-length}
 use Rattle.std.proofs.lemmas.Grind.{common_steps}
@@ -9,8 +9,9 @@ use Rattle.rustc_lexer.specs.{RawStrError, NoTerminator}
 use Rattle.rustc_lexer.specs.means.Least.{one_more, more}
 use Rattle.rustc_lexer.specs.laws.Least.{offset-here, offset-on, more-more, more-zero}
 use Rattle.rustc_lexer.specs.means.Raw.{least_offset, is_hash, is_quote, is_no_quote, hash_run, closes, close, quote_hashes, most_hashes, quote_with, quote_if, quote_end, hash_count, raw_closed, raw_text}
-use Rattle.rustc_lexer.specs.means.Scan.{begins, bytes_of, past, run_len, scanned}
-use Rattle.rustc_lexer.specs.laws.Scan.{bytes-run, length-run, run_len-stop}
+use Rattle.rustc_lexer.specs.laws.LanguageRuns.{run-stops}
+use Rattle.rustc_lexer.specs.means.Scan.{begins, next_is, bytes_of, past, run_len, scanned}
+use Rattle.rustc_lexer.specs.laws.Scan.{bytes-run, length-run}
 use Rattle.rustc_lexer.specs.laws.Past.{past-zero, past-past, past-drop, chars-past, IsUtf8-past, length-past}
 use Rattle.rustc_lexer.specs.laws.Fences.{skip_run}
 
@@ -34,19 +35,17 @@ hash-no_quote c e = rw (eqb-true c 35 e) refl
 pub quote_front : (s left : List ℕ) → begins (34 ∷ []) s ≡ true → left ≡ drop 1 s → s ≡ 34 ∷ left
 quote_front s left w2 w3 = grind (arith, common_steps, eqb-true, and_parts)
 
+no_quote-nil : (s : List ℕ) → begins (34 ∷ []) s ≡ false → next_is is_no_quote s ≡ false → s ≡ []
+no_quote-nil s w1 w2 = grind (arith, common_steps)
+
 -- what follows the first quote, once what follows the characters before it is known
 pub past_quote-is : {B : Type 0} (now : B → List ℕ) (rest mid : List ℕ) (o : Option B) → IsUtf8 rest → mid ≡ past (run_len is_no_quote (chars rest)) rest → length mid ≤ length rest
     → MatchOption o (begins (34 ∷ []) (chars mid) ≡ false) (λ tail. (begins (34 ∷ []) (chars mid) ≡ true) × (now tail ≡ past 1 mid) × (length (now tail) < length mid))
     → MatchOption o (drop (run_len is_no_quote (chars rest)) (chars rest) ≡ [])
     (λ tail. (drop (run_len is_no_quote (chars rest)) (chars rest) ≡ 34 ∷ chars (now tail)) × (now tail ≡ past (suc (run_len is_no_quote (chars rest))) rest) × (length (now tail) < length rest))
-past_quote-is now rest mid None is e le h = at_end (drop (run_len is_no_quote (chars rest)) (chars rest)) refl
-  where
-    at_end : (s : List ℕ) → drop (run_len is_no_quote (chars rest)) (chars rest) ≡ s → s ≡ []
-    at_end [] f = refl
-    at_end (c ∷ s) f =
-        let reads : chars mid ≡ c ∷ s = ap chars e ∙ (chars-past _ rest is ∙ f) in
-        let other : is_no_quote c ≡ false = run_len-stop is_no_quote (chars rest) c s f in
-        absurd (true≢false (let quote : is_quote c ≡ true = not-false (is_quote c) other in sym (rw (reads, quote) refl) ∙ h))
+past_quote-is now rest mid None is e le h =
+    let reads : chars mid ≡ drop (run_len is_no_quote (chars rest)) (chars rest) = ap chars e ∙ chars-past (run_len is_no_quote (chars rest)) rest is in
+    no_quote-nil (drop (run_len is_no_quote (chars rest)) (chars rest)) (sym (ap (begins (34 ∷ [])) reads) ∙ h) (run-stops is_no_quote (chars rest))
 past_quote-is now rest mid (Some tail) is e le h =
     let n : ℕ = run_len is_no_quote (chars rest) in
     let reads : chars mid ≡ drop n (chars rest) = ap chars e ∙ chars-past n rest is in

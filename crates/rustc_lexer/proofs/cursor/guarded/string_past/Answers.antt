@@ -1,12 +1,9 @@
 use Rattle.std.proofs.Common.{arith}
-use Rattle.rustc_lexer.proofs.lemmas.tokens.Guarded.{hash_boundary, no_string, string_boundary, string_here}
+use Rattle.rustc_lexer.proofs.lemmas.tokens.Guarded.{hash_boundary, string_boundary, string_here}
 use Rattle.rustc_lexer.proofs.cursor.guarded.string_past.Goals as goal
 
 pub range_from-requires : goal.range_from-requires
 range_from-requires c = λ some. hash_boundary _ c.utf8.rest c.args.n_hashes (omega (arith, c.requires))
-
-pub returns-in_err-body-clause-read : goal.returns-in_err-body-clause-read
-returns-in_err-body-clause-read c = rw c.from_residual.ensures (no_string _ _ _ c.utf8.rest c.requires c.range_from.ensures.value c.in_err-body.ensures)
 
 pub returns-clause-read : goal.returns-clause-read
 returns-clause-read c = string_here _ _ _ c.utf8.rest c.requires c.range_from.ensures.value _ _ _ c.in_ok-body.ensures.1 c.guarded_body-end.ensures.read c.in_ok-body.ensures.0
