@@ -1,5 +1,4 @@
 pub mod BlockComment
-pub mod BlockGrammar
 pub mod CharSteps
 pub mod Choice
 pub mod Cuts

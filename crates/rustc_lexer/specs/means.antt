@@ -1,5 +1,4 @@
 pub mod BlockComment
-pub mod BlockGrammar
 pub mod ByteRuns
 pub mod Comment
 pub mod Document

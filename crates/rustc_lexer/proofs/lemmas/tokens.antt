@@ -1,7 +1,6 @@
 pub mod Advance
 pub mod AsciiRuns
 pub mod Bits
-pub mod BlockCommentDepth
 pub mod BlockCommentLoop
 pub mod Buffers
 pub mod ByteSearch

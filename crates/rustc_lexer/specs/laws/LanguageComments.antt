@@ -6,13 +6,11 @@ use Rattle.std.proofs.lemmas.List.{append-nil}
 use Rattle.std.proofs.lemmas.Grind.{common_steps}
 use Rattle.rustc_lexer.specs.{DocStyle, TokenKind, Outer, Inner, LineComment, BlockComment, Whitespace, GuardedStrPrefix, Pound, Slash}
 use Rattle.rustc_lexer.specs.means.BlockComment.{at_closing, at_opening, block_doc_style, block_comment_to, block_comment, comment_end}
-use Rattle.rustc_lexer.specs.means.BlockGrammar.{Closes as ClosesIn, closing, nested as nested_in, past_one}
 use Rattle.rustc_lexer.specs.Classes.{is_among, is_whitespace, NextNotIn, AreAll, NextIsNot, is_inline}
 use Rattle.rustc_lexer.specs.means.Comment.{line_doc_style, line_comment, slash}
 use Rattle.rustc_lexer.specs.means.Hash.{opens_guarded, hash}
-use Rattle.rustc_lexer.specs.laws.BlockComment.{two_at_least, closes-inside, at_closing_decided, at_opening_decided, style_decided}
-use Rattle.rustc_lexer.specs.laws.BlockGrammar.{allowed, comment_end-found}
-use Rattle.rustc_lexer.specs.laws.Choice.{by_test}
+use Rattle.rustc_lexer.specs.laws.BlockComment.{comment_end-found, comment_end-rest, rest-long, style_decided}
+use Rattle.rustc_lexer.specs.laws.Choice.{by_found, by_test}
 use Rattle.rustc_lexer.specs.laws.LanguageRuns.{run_len-here, run-stops, Sound, Read, read-first, sound-after, decided-front, begins-next, chooses-slash, chooses-space, chooses-hash, chooses-symbol, pair}
 use Rattle.rustc_lexer.specs.laws.Reach.{run_all}
 use Rattle.rustc_lexer.specs.Language as the
@@ -90,40 +88,6 @@ line-read style w next all stop is = grind (arith, common_steps, run_len-here, t
 
 -- ---- block comments
 
-closes-two : {w : List ℕ} → IsCommentRest w → 2 ≤ length w
-closes-two w0 = grind (arith, common_steps, length-append)
-
--- what the text has closes the comment in the text
-closes-in : {w : List ℕ} → IsCommentRest w → (next : List ℕ) → ClosesIn (w ++ next) (length w)
-closes-in the.closing next = closing
-closes-in (the.nested {v} {w} p q) next =
-    let text : v ++ (w ++ next) ≡ v ++ w ++ next = sym (append_assoc v w next) in
-    let sum : 2 + (length v + length w) ≡ suc (suc (length (v ++ w))) = omega (arith, length-append v w) in
-    let rest : ClosesIn (drop (length v) (v ++ (w ++ next))) (length w) = subst (λ (s : List ℕ). ClosesIn s (length w)) (sym (drop-append_seam v (w ++ next))) (closes-in q next) in
-    let both : ClosesIn (47 ∷ 42 ∷ v ++ (w ++ next)) (2 + (length v + length w)) = nested_in (closes-in p (w ++ next)) rest in
-    subst (λ (n : ℕ). ClosesIn (47 ∷ 42 ∷ v ++ w ++ next) n) sum (subst (λ (s : List ℕ). ClosesIn (47 ∷ 42 ∷ s) (2 + (length v + length w))) text both)
-closes-in (the.other {c} {w} e f p) next =
-    let shut : at_closing (c ∷ w ++ next) ≡ false = decided-front 2 at_closing at_closing_decided (c ∷ w) next (omega (arith, closes-two p)) ∙ e in
-    let shows : at_opening (c ∷ w ++ next) ≡ false = decided-front 2 at_opening at_opening_decided (c ∷ w) next (omega (arith, closes-two p)) ∙ f in
-    let one : 1 + length w ≡ suc (length w) = omega arith in
-    subst (λ (n : ℕ). ClosesIn (c ∷ w ++ next) n) one (past_one shut shows (closes-in p next))
-
--- and the other way
-closes-text : {s : List ℕ} {n : ℕ} → ClosesIn s n → IsCommentRest (take n s)
-closes-text closing = the.closing
-closes-text (nested_in {s} {a} {b} p q) =
-    let two : 2 + (a + b) ≡ suc (suc (a + b)) = omega arith in
-    let text : 47 ∷ 42 ∷ take a s ++ take b (drop a s) ≡ take (2 + (a + b)) (47 ∷ 42 ∷ s) = ap (λ (xs : List ℕ). 47 ∷ 42 ∷ xs) (sym (take-add a b s)) ∙ ap (λ (n : ℕ). take n (47 ∷ 42 ∷ s)) (sym two) in
-    subst IsCommentRest text (the.nested (closes-text p) (closes-text q))
-closes-text (past_one {c} {m} {u} e f p) =
-    let one : 1 + m ≡ suc m = omega arith in
-    let le : m ≤ length u = closes-inside p in
-    let len : length (take m u) ≡ m = length-take-le m u le in
-    let whole : c ∷ take m u ++ drop m u ≡ c ∷ u = ap (λ (xs : List ℕ). c ∷ xs) (take-append-drop m u) in
-    let shut : at_closing (c ∷ take m u) ≡ false = sym (decided-front 2 at_closing at_closing_decided (c ∷ take m u) (drop m u) (omega (arith, two_at_least p, len))) ∙ (ap at_closing whole ∙ e) in
-    let shows : at_opening (c ∷ take m u) ≡ false = sym (decided-front 2 at_opening at_opening_decided (c ∷ take m u) (drop m u) (omega (arith, two_at_least p, len))) ∙ (ap at_opening whole ∙ f) in
-    subst (λ (n : ℕ). IsCommentRest (take n (c ∷ u))) (sym one) (the.other shut shows (closes-text p))
-
 abbrev pub IsBlockStyle : Option DocStyle → List ℕ → Type 0
 IsBlockStyle style w = IsStyle 42 (codes "*/") style w
 
@@ -141,34 +105,22 @@ block-sound s = by_end (comment_end s) refl
   where
     by_end : (o : Option ℕ) → comment_end s ≡ o → IsTokenBefore (drop (block_comment_to o s).1 s) (block_comment_to o s).0 (47 ∷ 42 ∷ take (block_comment_to o s).1 s)
     by_end None e =
-        let all : take (length s) s ≡ s = take_all (length s) s (omega arith) in
-        subst (λ (w : List ℕ). IsTokenBefore (drop (length s) s) (BlockComment (block_doc_style s) false) (47 ∷ 42 ∷ w)) (sym all)
-        (the.open_comment (drop-length s) (λ n p. never n (subst (λ (u : List ℕ). ClosesIn u (length (take n s))) (take-append-drop n s) (closes-in p (drop n s)))) (block-styled s))
-      where
-        never : (n : ℕ) → ClosesIn s (length (take n s)) → ⊥
-        never n p = let found : comment_end s ≡ Some (length (take n s)) = comment_end-found p in absurd (cc)
+        let never = λ (n : ℕ) (p : IsCommentRest (take n s)). absurd (let some = sym (comment_end-found p (drop n s)) ∙ (ap comment_end (take-append-drop n s) ∙ e) in cc) in
+        subst (λ (w : List ℕ). IsTokenBefore (drop (length s) s) (BlockComment (block_doc_style s) false) (47 ∷ 42 ∷ w)) (sym (take_all (length s) s (omega arith)))
+        (the.open_comment (drop-length s) never (block-styled s))
     by_end (Some n) e =
-        let p : ClosesIn s n = allowed (length s) s n e in
-        let own : block_doc_style (take n s) ≡ block_doc_style s = style_decided-front s n p in
-        the.block_comment (closes-text p) (subst (λ (style : Option DocStyle). IsBlockStyle style (take n s)) own (block-styled (take n s)))
-      where
-        style_decided-front : (s : List ℕ) (n : ℕ) → ClosesIn s n → block_doc_style (take n s) ≡ block_doc_style s
-        style_decided-front s n p = sym (decided-front 2 block_doc_style style_decided (take n s) (drop n s) (omega (arith, two_at_least p, length-take-le n s (closes-inside p)))) ∙ ap block_doc_style (take-append-drop n s)
+        let p = comment_end-rest s n e in
+        let own : block_doc_style (take n s) ≡ block_doc_style s = sym (decided-front 2 block_doc_style style_decided (take n s) (drop n s) (rest-long p)) ∙ ap block_doc_style (take-append-drop n s) in
+        the.block_comment p (subst (λ (style : Option DocStyle). IsBlockStyle style (take n s)) own (block-styled (take n s)))
 
 pub block-read : (style : Option DocStyle) (w next : List ℕ) → IsCommentRest w → IsBlockStyle style w → Read (BlockComment style true) (suc (suc (length w))) (47 ∷ 42 ∷ w ++ next)
 block-read style w next p is =
-    grind (arith, comment_end-found (closes-in p next), decided-front 2 block_doc_style style_decided w next (closes-two p), block-style-is is, (comment_end-found (closes-in p next)), (decided-front 2 block_doc_style style_decided w next (closes-two p) ∙ block-style-is is), read-first, chooses-slash)
+    grind (arith, comment_end-found p next, (decided-front 2 block_doc_style style_decided w next (rest-long p) ∙ block-style-is is), read-first, chooses-slash)
 
 pub open-read : (style : Option DocStyle) (w next : List ℕ) → next ≡ [] → ((n : ℕ) → IsCommentRest (take n w) → ⊥) → IsBlockStyle style w → Read (BlockComment style false) (suc (suc (length w))) (47 ∷ 42 ∷ w ++ next)
 open-read style w next none never is =
-    let text : w ++ next ≡ w = ap (λ (xs : List ℕ). w ++ xs) none ∙ append-nil w in
-    let reads : block_comment w ≡ (BlockComment style false, length w) = ap (λ (o : Option ℕ). block_comment_to o w) (not_found (comment_end w) refl) ∙ ap (λ (d : Option DocStyle). (BlockComment d false, length w)) (block-style-is is) in
-    read-first 47 slash (42 ∷ w ++ next) (BlockComment style false) (1 + length w) _ chooses-slash
-    (ap (λ (u : List ℕ). slash (42 ∷ u)) text ∙ ap (λ (r : TokenKind × ℕ). let q : TokenKind × ℕ = (r.0, 1 + r.1) in q) reads) (omega arith)
-  where
-    not_found : (o : Option ℕ) → comment_end w ≡ o → comment_end w ≡ None
-    not_found None e = e
-    not_found (Some n) e = absurd (never n (closes-text (allowed (length w) w n e)))
+    let lost : comment_end w ≡ None = by_found (comment_end w) (λ n e. absurd (never n (comment_end-rest w n e))) (λ e. e) in
+    grind (arith, common_steps, none, append-nil w, lost, block-style-is is, read-first, chooses-slash)
 
 -- ---- a slash
 

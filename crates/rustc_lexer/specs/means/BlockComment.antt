@@ -11,29 +11,20 @@ at_closing s = begins (codes "*/") s
 abbrev pub at_opening : List ℕ → Bool
 at_opening s = begins (codes "/*") s
 
--- first a length, then the one that stands after it
-abbrev pub followed_by : Option ℕ → (ℕ → Option ℕ) → Option ℕ
-followed_by None next = None
-followed_by (Some n) next = more n (next n)
-
--- an end, and the next one after it
-abbrev pub twice : (List ℕ → Option ℕ) → List ℕ → Option ℕ
-twice end s = followed_by (end s) (λ n. end (drop n s))
-
--- how many characters up to the end of the comment: at `*/` 2; at `/*` 2 and, twice, up to an end:
--- of the comment that it opens, and then of this one; elsewhere one character, and what is left up
--- to the end. The first number is no less than the text is long.
-abbrev pub end_within : ℕ → List ℕ → Option ℕ
-end_within zero s = None
-end_within (suc fuel) [] = None
-end_within (suc fuel) (c ∷ cs) =
-    if at_closing (c ∷ cs) then Some 2
-    else (if at_opening (c ∷ cs) then more 2 (twice (end_within fuel) (drop 1 cs))
-    else more 1 (end_within fuel cs))
+-- how many characters lead out of so many comments, one in the other: `*/` leads out of one, `/*`
+-- into one more, and any other character on
+unfoldable pub out_of : ℕ → List ℕ → Option ℕ
+out_of zero s = Some 0
+out_of (suc depth) [] = None
+out_of (suc depth) (c ∷ []) = None
+out_of (suc depth) (c ∷ d ∷ s) =
+    if at_closing (c ∷ d ∷ s) then more 2 (out_of depth s)
+    else (if at_opening (c ∷ d ∷ s) then more 2 (out_of (suc (suc depth)) s)
+    else more 1 (out_of (suc depth) (d ∷ s)))
 
 -- where the comment ends, if something closes it
 abbrev pub comment_end : List ℕ → Option ℕ
-comment_end s = end_within (length s) s
+comment_end s = out_of 1 s
 
 -- `!` makes the doc of what the comment stands in, and one more `*` that neither `*` nor `/`
 -- follows the doc of what comes next

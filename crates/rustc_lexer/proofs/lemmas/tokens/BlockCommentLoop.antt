@@ -5,9 +5,9 @@ use Rattle.std.proofs.lemmas.Bool.{and_parts, or_cases, or_parts, eqb-true, not-
 use Rattle.std.proofs.lemmas.Grind.{common_steps}
 use Rattle.rustc_lexer.specs.{DocStyle, TokenKind, BlockComment}
 use Rattle.rustc_lexer.specs.means.Least.{more}
-use Rattle.rustc_lexer.specs.means.BlockComment.{at_closing, at_opening, block_doc_style, comment_end, block_comment, block_comment_to}
+use Rattle.rustc_lexer.specs.means.BlockComment.{at_closing, at_opening, block_doc_style, comment_end, block_comment, block_comment_to, out_of}
 use Rattle.rustc_lexer.specs.means.Scan.{begins, or_all, or_all_at, past, run_len, scanned}
-use Rattle.rustc_lexer.proofs.lemmas.tokens.BlockCommentDepth.{out_of, out-nothing, out-plain, out-closing, out-opening, out-one}
+use Rattle.rustc_lexer.specs.laws.BlockComment.{out_of-plain}
 use Rattle.rustc_lexer.specs.laws.Past.{past-zero, past-past, past-two, chars-past, IsUtf8-cut}
 use Rattle.rustc_lexer.specs.laws.Choice.{by_either}
 use Rattle.rustc_lexer.proofs.lemmas.tokens.QuotedLoop.{run_fails}
@@ -23,7 +23,15 @@ pub record Commenting (text rest : List ℕ) (depth : ℕ) : Type 0 where
   pub same : leaves (out_of depth (chars rest)) (chars rest) rest ≡ scanned (or_all comment_end) text
 
 pub start : (text : List ℕ) → IsUtf8 text → Commenting text text 1
-start text is = record { utf8 = is; same = ap (λ o. leaves o (chars text) text) (out-one (chars text)) }
+start text is = record { utf8 = is; same = refl }
+
+out_of-nil : (depth : ℕ) → 0 < depth → out_of depth [] ≡ None
+unfolding out_of
+out_of-nil depth w1 = grind (arith, common_steps)
+
+out_of-opening : (depth : ℕ) (s : List ℕ) → 0 < depth → out_of depth (47 ∷ 42 ∷ s) ≡ more 2 (out_of (suc depth) s)
+unfolding out_of
+out_of-opening depth s w2 = grind (arith, common_steps)
 
 -- past some characters, which lead to this depth
 step : (text rest tail w : List ℕ) (depth to n : ℕ) → Commenting text rest depth → chars rest ≡ w ++ chars tail → length w ≡ n → tail ≡ past n rest → out_of depth (w ++ chars tail) ≡ more n (out_of to (chars tail)) → Commenting text tail to
@@ -53,7 +61,7 @@ run_on text rest depth (c ∷ cs) some reads at = by_either (is_other c)
     let left : chars (past 1 rest) ≡ cs = chars-past 1 rest at.utf8 ∙ ap (drop 1) reads in
     let here : chars rest ≡ c ∷ chars (past 1 rest) = reads ∙ ap (λ xs. c ∷ xs) (sym left) in
     let p = or_parts (c == 42) (c == 47) (not-true _ e) in
-    let next : Commenting text (past 1 rest) depth = step text rest (past 1 rest) (c ∷ []) depth depth 1 at here refl refl (out-plain depth c (chars (past 1 rest)) some (rw p.0 refl) (rw p.1 refl)) in
+    let next : Commenting text (past 1 rest) depth = step text rest (past 1 rest) (c ∷ []) depth depth 1 at here refl refl (out_of-plain depth c (chars (past 1 rest)) some (rw p.0 refl) (rw p.1 refl)) in
     let longer : 1 + run_len is_other cs ≡ run_len is_other (c ∷ cs) = rw e (omega arith) in
     subst (λ xs. Commenting text xs depth) (past-past (run_len is_other cs) 1 rest at.utf8 ∙ ap (λ n. past n rest) longer) (run_on text (past 1 rest) depth cs some left next))
     (λ e.
@@ -66,14 +74,14 @@ module _ (text rest stop : List ℕ) (depth : ℕ) (some : 0 < depth) (at : Comm
   at_stop = subst (λ xs. Commenting text xs depth) (sym there) (run_on text rest depth (chars rest) some refl at)
 
   pub open_at_end : chars stop ≡ [] → (false, stop) ≡ scanned (or_all comment_end) text
-  open_at_end none = grind (arith, common_steps, past-zero, out-nothing, out_of, at_stop)
+  open_at_end none = grind (arith, common_steps, past-zero, out_of-nil, at_stop)
 
   module _ (tail : List ℕ) (c : ℕ) (reads : chars stop ≡ c ∷ chars tail) (cut : tail ≡ past 1 stop) where
     is_slash : c ≢ 42 → c ≡ 47
     is_slash ne = grind (arith, common_steps, or_cases, not-false, run_fails, eqb-true)
 
     alone : at_closing (c ∷ chars tail) ≡ false → at_opening (c ∷ chars tail) ≡ false → Commenting text tail depth
-    alone e f = step text stop tail (c ∷ []) depth depth 1 at_stop reads refl cut (out-plain depth c (chars tail) some e f)
+    alone e f = step text stop tail (c ∷ []) depth depth 1 at_stop reads refl cut (out_of-plain depth c (chars tail) some e f)
 
     pub star_alone : c ≡ 42 → begins (47 ∷ []) (chars tail) ≡ false → Commenting text tail depth
     star_alone e none = alone (rw e none) (rw e refl)
@@ -93,14 +101,16 @@ module _ (text rest stop : List ℕ) (depth : ℕ) (some : 0 < depth) (at : Comm
     past_both past_pair g = let stopped = at_stop in past-two stop tail past_pair stopped.utf8 cut g
 
     pub closed_one : (past_pair : List ℕ) (less : ℕ) → c ≡ 42 → begins (47 ∷ []) (chars tail) ≡ true → past_pair ≡ past 1 tail → suc less ≡ depth → Commenting text past_pair less
+    unfolding out_of
     closed_one past_pair less e f g h =
-        step text stop past_pair (42 ∷ 47 ∷ []) depth less 2 at_stop (pair_reads 42 47 past_pair e f g) refl (past_both past_pair g) (ap (λ d. out_of d (42 ∷ 47 ∷ chars past_pair)) (sym h) ∙ out-closing less (chars past_pair))
+        step text stop past_pair (42 ∷ 47 ∷ []) depth less 2 at_stop (pair_reads 42 47 past_pair e f g) refl (past_both past_pair g) (ap (λ d. out_of d (42 ∷ 47 ∷ chars past_pair)) (sym h))
 
     pub opened_one : (past_pair : List ℕ) (deeper : ℕ) → c ≢ 42 → begins (42 ∷ []) (chars tail) ≡ true → past_pair ≡ past 1 tail → deeper ≡ suc depth → Commenting text past_pair deeper
     opened_one past_pair deeper ne f g h =
-        step text stop past_pair (47 ∷ 42 ∷ []) depth deeper 2 at_stop (pair_reads 47 42 past_pair (is_slash ne) f g) refl (past_both past_pair g) (out-opening depth (chars past_pair) some ∙ ap (λ d. more 2 (out_of d (chars past_pair))) (sym h))
+        step text stop past_pair (47 ∷ 42 ∷ []) depth deeper 2 at_stop (pair_reads 47 42 past_pair (is_slash ne) f g) refl (past_both past_pair g) (out_of-opening depth (chars past_pair) some ∙ ap (λ d. more 2 (out_of d (chars past_pair))) (sym h))
 
 pub closed : (text rest : List ℕ) (depth : ℕ) → Commenting text rest depth → depth ≡ 0 → (true, rest) ≡ scanned (or_all comment_end) text
+unfolding out_of
 closed text rest depth at none = ap (λ xs. (true, xs)) (sym (past-zero rest at.utf8)) ∙ (ap (λ d. leaves (out_of d (chars rest)) (chars rest) rest) (sym none) ∙ at.same)
 
 -- the comment, from its style and its end
