@@ -13,7 +13,7 @@ use Rattle.rustc_lexer.specs.Locality.{IsGrammar}
 use Rattle.rustc_lexer.specs.Relexing.{IsChange, IsEditOf, IsMadeOf, IsBodyChange, IsHeadOf}
 use Rattle.rustc_lexer.specs.Tokens.{tokens_by}
 use Rattle.rustc_lexer.specs.laws.Edition.{edition_grammar}
-use Rattle.rustc_lexer.proofs.lemmas.heads.ByTokens.{front_of, is_head}
+use Rattle.rustc_lexer.proofs.lemmas.heads.ByTokens.{some_head}
 use Rattle.rustc_lexer.proofs.lemmas.edits.ByLengths.{made_change}
 use Rattle.rustc_lexer_c.specs.declared.head.CHead.{CHead}
 use Rattle.rustc_lexer_c.specs.declared.relex.CEdit.{CEdit}
@@ -44,9 +44,9 @@ module _ (text : List ℕ) (is : IsText text) where
   -- the numbers of a text tell its head
   pub head_back : IsHeadOf text (head_of (head_numbers text))
   head_back =
-      let head = is_head text is in
-      let back = back_with _ _ _ _ head.bare (front_of text).is_one in
-      subst (IsHeadOf text) (sym (ap head_of (sym (numbers_are _ head)) ∙ back)) head
+      let head = (some_head text is).1 in
+      let back = back_with _ _ _ _ head.of.bare head.is_one in
+      subst (IsHeadOf text) (sym (ap head_of (sym (numbers_are _ head.of)) ∙ back)) head.of
 
 -- ---- an edit of the body
 

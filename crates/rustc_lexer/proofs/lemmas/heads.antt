@@ -1,3 +1,2 @@
 pub mod ByTokens
 pub mod DocumentTokens
-pub mod Ends

@@ -26,7 +26,7 @@ kept_2021 : (kind : TokenKind) (len : ℕ) → lexed_since kind < 2024 → befor
 kept_2021 kind len w2 = grind (arith, common_steps)
 
 -- no edition is older
-oldest : (edition : Edition) → 2015 ≤ year edition
+pub oldest : (edition : Edition) → 2015 ≤ year edition
 oldest w0 = grind (arith, common_steps)
 
 keeps : (edition : Edition) (cs : List ℕ) (kind : TokenKind) (len : ℕ) → lexed_since kind ≤ year edition → changed edition cs (token kind len) ≡ token kind len

@@ -6,43 +6,12 @@ use Rattle.rustc_lexer.specs.declared.head.Head.{Head}
 use Rattle.rustc_lexer.specs.declared.relex.relexing.{Change.Change, Relexed.Relexed, Relexing.Relexing}
 use Rattle.rustc_lexer.specs.{Token}
 use Rattle.rustc_lexer.specs.Classes.{IsText}
-use Rattle.rustc_lexer.specs.Document.{shebang_len}
 pub use Rattle.rustc_lexer.specs.Relexing.{front_tokens, tokens_of_head}
 use Rattle.rustc_lexer.specs.Edits.{IsEdit, IsRelexed, apply}
 use Rattle.rustc_lexer.specs.Partition.{Layout, bound, tokens_by, tokens_in}
 use Rattle.rustc_lexer.specs.means.Checkpoints.{AreBounds}
-use Rattle.rustc_lexer.specs.means.Frontmatter.{frontmatter, opens, spaces_len}
 use Rattle.rustc_lexer.specs.means.Pieces.{AreBoundariesFrom}
 use Rattle.rustc_lexer.specs.means.Relexing.{IsRenewed}
-use Rattle.rustc_lexer.specs.means.Scan.{past}
-
--- the head of a text with a shebang line of n bytes. `rest` is the text after that line, and `past`
--- the text after the white space with which `rest` begins
-abbrev pub head_past : ℕ → List ℕ → List ℕ → Head
-head_past n rest past =
-    if opens (chars past) then record {
-      shebang_len = n;
-      space_len = length rest - length past;
-      frontmatter = Some
-          (frontmatter past);
-      body = n + (length rest - length past) + (frontmatter past).len;
-    }
-    else record { shebang_len = n; space_len = 0; frontmatter = None; body = n }
-
--- the same, but the frontmatter may begin with the white space
-abbrev pub head_at : ℕ → List ℕ → Head
-head_at n rest =
-    if opens (chars rest) then record {
-      shebang_len = n;
-      space_len = 0;
-      frontmatter = Some (frontmatter rest);
-      body = n + (frontmatter rest).len;
-    }
-    else head_past n rest (past (spaces_len (chars rest)) rest)
-
--- the head of a text
-unfoldable pub head_of : List ℕ → Head
-head_of text = head_at (shebang_len text) (drop (shebang_len text) text)
 
 -- where the tokens of a text with this head are, by a grammar
 abbrev pub by_head : Head → (List ℕ → Token) → List ℕ → Layout

@@ -48,7 +48,7 @@ pub part_head : (text : List ℕ) → IsText text → IsHeadIn part_by text (rec
 part_head text is = record { layout_is = λ first. refl; bare = λ none. refl; ends = refl; cuts = none_cut text is }
 
 pub head_in : (whole : Bool) (text : List ℕ) → IsText text → (head : Head) × IsHeadIn (layout_in whole) text head
-head_in true text is = let some = some_head text is in (some.0, whole_head text is some.0 some.1)
+head_in true text is = let some = some_head text is in (some.0, whole_head text is some.0 some.1.of)
 head_in false text is = (_, part_head text is)
 
 -- the tokens begin where the shebang line ends

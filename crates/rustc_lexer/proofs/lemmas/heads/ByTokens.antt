@@ -1,5 +1,5 @@
 -- The head that is found in a document is the one that its tokens tell: those up to the frontmatter.
-use Rattle.std.proofs.Common.{◌≡◌, ℕ, zero, suc, ◌+◌, ◌-◌, ◌≤◌, Bool, true, false, true≢false, List, [], ◌∷◌, ◌++◌, length, length-drop, take, drop, refl, sym, ap, ap₂, ◌∙◌, subst, arith, chars, Option, None, Some, IsCharBoundary}
+use Rattle.std.proofs.Common.{◌≡◌, ℕ, zero, suc, ◌+◌, ◌-◌, ◌≤◌, Bool, true, false, true≢false, List, [], ◌∷◌, ◌++◌, length, length-append, length-drop, drop-drop, take, drop, refl, sym, ap, ap₂, ◌∙◌, subst, arith, chars, Option, None, Some, IsCharBoundary}
 use Rattle.std.proofs.Math.Seq.{take-append_seam}
 use Rattle.std.proofs.lemmas.Bool.{not-true}
 use Rattle.rustc_lexer.specs.{Edition, Token, TokenKind}
@@ -7,21 +7,21 @@ use Rattle.rustc_lexer.specs.declared.head.Head.{Head}
 use Rattle.rustc_lexer.specs.Classes.{IsText, bytes}
 use Rattle.rustc_lexer.specs.Answers.{first_in}
 use Rattle.rustc_lexer.specs.Document.{is_frontmatter, shebang_len, document_tokens, head_count, head_tokens, whole_by}
-use Rattle.rustc_lexer.specs.means.Document.{front_tokens, head_of, tokens_of_head}
+use Rattle.rustc_lexer.specs.means.Document.{front_tokens}
 use Rattle.rustc_lexer.specs.LanguageText as grammar
 use Rattle.rustc_lexer.specs.LanguageText.{AreTokens, IsTokenIn, Mode, is_source, mode_after, newest, part, source}
 use Rattle.rustc_lexer.specs.Partition.{tokens_in}
 use Rattle.rustc_lexer.specs.Relexing.{IsHeadOf}
 use Rattle.rustc_lexer.specs.Tokens.{bound, tokens_by}
-use Rattle.rustc_lexer.specs.laws.Choice.{by_symbol}
+use Rattle.rustc_lexer.specs.laws.Choice.{by_either, by_symbol}
 use Rattle.rustc_lexer.specs.laws.LanguageTokens.{language}
 use Rattle.rustc_lexer.specs.laws.Tokens.{partitions}
 use Rattle.rustc_lexer.specs.means.Frontmatter.{frontmatter, opens, spaces_len}
 use Rattle.rustc_lexer.specs.means.Scan.{past}
 use Rattle.rustc_lexer.specs.means.Tokens.{read_tokens}
-use Rattle.rustc_lexer.proofs.lemmas.heads.DocumentTokens.{document_law, shebang-boundary}
-use Rattle.rustc_lexer.proofs.lemmas.heads.Ends.{front-boundary, spaced-boundary, head-shebang}
-use Rattle.std.proofs.lemmas.List.{length-take}
+use Rattle.rustc_lexer.proofs.lemmas.heads.DocumentTokens.{shebang-boundary, with-front, with-spaced, without-front}
+use Rattle.rustc_lexer.proofs.lemmas.edits.FrontAndBack.{bound-same}
+use Rattle.std.proofs.lemmas.List.{length-take, take-take}
 use Rattle.std.proofs.lemmas.Str.{IsCharBoundary-from_rest, IsUtf8-drop}
 use Rattle.std.proofs.lemmas.Grind.{common_steps}
 
@@ -46,39 +46,20 @@ part-none edition text is = no-front ((language text (part edition) is (read_tok
 
 -- ---- the head
 
--- what is known of one, and of where it ends. No white space stands where no frontmatter does
-pub record IsFrontOf (text : List ℕ) (head : Head) : Type 0 where
-  pub is_one : (front : Token) → head.frontmatter ≡ Some front → is_frontmatter front.kind ≡ true
-  pub ends : head.body ≡ shebang_len text + bound (tokens_of_head head) (length (tokens_of_head head))
-  pub bare : head.frontmatter ≡ None → head.space_len ≡ 0
+-- what stands in front of a text past its shebang line: so much white space and a frontmatter, which take `len` bytes, or nothing
+record IsFront (rest : List ℕ) (space : ℕ) (front : Option Token) (len : ℕ) : Type 0 where
+  is_one : (t : Token) → front ≡ Some t → is_frontmatter t.kind ≡ true
+  bare : front ≡ None → space ≡ 0
+  ends : len ≡ bound (front_tokens space front) (length (front_tokens space front))
+  tokens : (edition : Edition) → read_tokens (source edition) rest ≡ front_tokens space front ++ read_tokens (part edition) (drop len rest)
 
-end_at : (n m : ℕ) (front : Token) → n + m + front.len ≡ n + bound (front_tokens m (Some front)) (length (front_tokens m (Some front)))
-end_at n zero front = omega arith
-end_at n (suc m) front = omega arith
+some-one : (text : List ℕ) (t : Token) → Some (frontmatter text) ≡ Some t → is_frontmatter t.kind ≡ true
+unfolding frontmatter
+some-one text t same = let is : frontmatter text ≡ t = cc in ap (λ (t : Token). is_frontmatter t.kind) (sym is)
 
-some_kind : TokenKind → Option Token → TokenKind
-some_kind kind None = kind
-some_kind kind (Some t) = t.kind
-
-some-front : (front other : Token) → Some front ≡ Some other → is_frontmatter front.kind ≡ true → is_frontmatter other.kind ≡ true
-unfolding some_kind
-some-front front other e is = ap is_frontmatter (sym (ap (some_kind front.kind) e)) ∙ is
-
-module _ (text : List ℕ) where
-  abbrev rest : List ℕ
-  rest = drop (shebang_len text) text
-
-  abbrev past_space : List ℕ
-  past_space = past (spaces_len (chars rest)) rest
-
-  by_front : (a : Bool) → opens (chars rest) ≡ a → (b : Bool) → opens (chars past_space) ≡ b → IsFrontOf text (head_of text)
-  unfolding head_of frontmatter
-  by_front true e b f = rw e record { is_one = λ front same. some-front (frontmatter rest) front same refl; ends = omega arith; bare = λ none. refl }
-  by_front false e true f = rw (e, f) record { is_one = λ front same. some-front (frontmatter past_space) front same refl; ends = end_at (shebang_len text) (length rest - length past_space) (frontmatter past_space); bare = λ none. absurd (let no_front : Some (frontmatter past_space) ≡ None = none in cc) }
-  by_front false e false f = rw (e, f) record { is_one = λ front same. absurd (let none : None ≡ Some front = same in cc); ends = omega arith; bare = λ none. refl }
-
-  pub front_of : IsFrontOf text (head_of text)
-  front_of = by_front (opens (chars rest)) refl (opens (chars past_space)) refl
+some-end : (space : ℕ) (front : Token) → space + front.len ≡ bound (front_tokens space (Some front)) (length (front_tokens space (Some front)))
+some-end zero front = omega arith
+some-end (suc n) front = omega arith
 
 count-front : (space : ℕ) (front : Option Token) (tokens : List Token) → ((t : Token) → front ≡ Some t → is_frontmatter t.kind ≡ true) → head_count tokens ≡ 0 → head_count (front_tokens space front ++ tokens) ≡ length (front_tokens space front)
 count-front space front tokens w3 w4 = grind (arith, common_steps)
@@ -87,58 +68,89 @@ pub bound-append : (ts us : List Token) → bound (ts ++ us) (length ts) ≡ bou
 bound-append [] us = refl
 bound-append (t ∷ ts) us = ap (λ n. t.len + n) (bound-append ts us)
 
--- the tokens of the head are cut where all are
-first_bounds : (k n : ℕ) (ts : List Token) → k ≤ length (take n ts) → bound ts k ≡ bound (take n ts) k
-first_bounds zero n ts few = refl
-first_bounds (suc k) zero ts few = absurd (omega arith)
-first_bounds (suc k) (suc n) [] few = refl
-first_bounds (suc k) (suc n) (t ∷ ts) few = ap (λ m. t.len + m) (first_bounds k n ts (omega arith))
+-- the head of a text, and what is a frontmatter in it
+pub record IsHead (text : List ℕ) (head : Head) : Type 0 where
+  pub of : IsHeadOf text head
+  pub is_one : (t : Token) → head.frontmatter ≡ Some t → is_frontmatter t.kind ≡ true
+  pub tokens : (edition : Edition) → front_tokens head.space_len head.frontmatter ++ read_tokens (part edition) (drop head.body text) ≡ document_tokens edition text
 
 module _ (text : List ℕ) (is : IsText text) where
-  abbrev head : Head
-  head = head_of text
-
-  by_end : (a : Bool) → opens (chars (rest text)) ≡ a → (b : Bool) → opens (chars (past_space text)) ≡ b → IsCharBoundary text (head_of text).body
-  unfolding head_of
-  by_end true e b f = rw e (front-boundary text (rest text) (shebang_len text) is.utf8 (shebang-boundary text is) refl (frontmatter (rest text)) e refl)
-  by_end false e true f = rw (e, f) (spaced-boundary text (rest text) (shebang_len text) is.utf8 (shebang-boundary text is) refl (past_space text) refl (frontmatter (past_space text)) f refl)
-  by_end false e false f = rw (e, f) (shebang-boundary text is)
-
-  body_text : IsText (drop head.body text)
-  body_text = record { utf8 = IsUtf8-drop text head.body is.utf8 (by_end _ refl _ refl); fits = let f = is.fits in omega (arith, length-drop head.body text) }
-
   abbrev all : List Token
   all = document_tokens newest text
 
-  whole : all ≡ tokens_of_head head ++ read_tokens (part newest) (drop head.body text)
-  whole = sym (document_law newest text is (shebang-boundary text is))
+  rest_text : (rest : List ℕ) → rest ≡ drop (shebang_len text) text → IsText rest
+  rest_text rest e = subst IsText (sym e) record { utf8 = IsUtf8-drop text (shebang_len text) is.utf8 (shebang-boundary text is); fits = let f = is.fits in omega (arith, length-drop (shebang_len text) text) }
 
-  -- the tokens of the head are those up to the frontmatter
-  count : head_count all ≡ length (tokens_of_head head)
-  count = ap head_count whole ∙ count-front head.space_len head.frontmatter _ (front_of text).is_one (part-none newest (drop head.body text) body_text)
+  module _ (n : ℕ) (n_is : n ≡ shebang_len text) (rest : List ℕ) (rest_is : rest ≡ drop n text) where
+    rest_same : rest ≡ drop (shebang_len text) text
+    rest_same = rest_is ∙ ap (λ k. drop k text) n_is
 
-  pub is_head : IsHeadOf text (head_of text)
-  is_head = record {
-    shebang_is = head-shebang text;
-    tokens_are = sym (ap₂ take count whole ∙ take-append_seam (tokens_of_head head) _);
-    bare = (front_of text).bare;
-    end_is = grind (arith, common_steps, whole, count, bound-append, front_of text);
-  }
+    head_is : {space : ℕ} {front : Option Token} {len : ℕ} → IsFront rest space front len → (body : ℕ) → body ≡ n + len → IsHead text record { shebang_len = n; space_len = space; frontmatter = front; body = body }
+    head_is {space} {front} {len} at body body_is =
+        let ts : List Token = front_tokens space front in
+        let whole : all ≡ ts ++ read_tokens (part newest) (drop len rest) = ap (read_tokens (source newest)) (sym rest_same) ∙ at.tokens newest in
+        let end : bound all (length ts) ≡ len = ap (λ us. bound us (length ts)) whole ∙ (bound-append ts _ ∙ sym at.ends) in
+        let cut : IsCharBoundary rest len = subst (IsCharBoundary rest) end (subst (λ xs. IsCharBoundary xs (bound all (length ts))) (sym rest_same)
+        ((partitions _ (source newest) (rest_text _ refl)).boundaries (length ts) (omega (arith, ap length whole, length-append ts (read_tokens (part newest) (drop len rest)))))) in
+        let behind : drop body text ≡ drop len rest = ap (λ k. drop k text) body_is ∙ (sym (drop-drop len n text) ∙ ap (drop len) (sym rest_is)) in
+        let left : IsText (drop len rest) = record { utf8 = IsUtf8-drop rest len (rest_text rest rest_same).utf8 cut; fits = let f = (rest_text rest rest_same).fits in omega (arith, length-drop len rest) } in
+        let count : head_count all ≡ length ts = ap head_count whole ∙ count-front space front _ at.is_one (part-none newest (drop len rest) left) in
+        record {
+          of = record {
+            shebang_is = n_is;
+            tokens_are = sym (ap₂ take count whole ∙ take-append_seam ts _);
+            bare = at.bare;
+            end_is = omega (arith, body_is, n_is, end, ap (bound all) count);
+          };
+          is_one = at.is_one;
+          tokens = λ edition. ap (λ xs. ts ++ read_tokens (part edition) xs) behind ∙ (sym (at.tokens edition) ∙ ap (read_tokens (source edition)) rest_same);
+        }
 
-  pub found : (head : Head) → head ≡ head_of text → IsHeadOf text head
-  found head e = subst (IsHeadOf text) (sym e) is_head
+    pub head-front : (front : Token) → opens (chars rest) ≡ true → front ≡ frontmatter rest → IsHead text record { shebang_len = n; space_len = 0; frontmatter = Some front; body = n + front.len }
+    head-front front opened e = rw e (head_is record {
+      is_one = some-one rest;
+      bare = λ none. refl;
+      ends = omega arith;
+      tokens = λ edition. with-front edition rest (rest_text rest rest_same) opened;
+    } _ refl)
 
-  pub some_head : (head : Head) × IsHeadOf text head
-  some_head = (head_of text, is_head)
+    module _ (tail : List ℕ) (none : opens (chars rest) ≡ false) (tail_is : tail ≡ past (spaces_len (chars rest)) rest) where
+      pub head-spaced : (front : Token) → opens (chars tail) ≡ true → front ≡ frontmatter tail → IsHead text record { shebang_len = n; space_len = length rest - length tail; frontmatter = Some front; body = n + (length rest - length tail) + front.len }
+      head-spaced front opened e = rw e (head_is record {
+        is_one = some-one tail;
+        bare = λ none. absurd (cc);
+        ends = some-end (length rest - length tail) (frontmatter tail);
+        tokens = λ edition. with-spaced edition rest tail (rest_text rest rest_same) tail_is none opened;
+      } _ (omega arith))
+
+      pub head-none : opens (chars tail) ≡ false → IsHead text record { shebang_len = n; space_len = 0; frontmatter = None; body = n }
+      head-none none_past = head_is record {
+        is_one = λ t same. absurd (cc);
+        bare = λ none. refl;
+        ends = refl;
+        tokens = λ edition. without-front edition rest tail (rest_text rest rest_same) tail_is none none_past;
+      } _ (omega arith)
+
+  abbrev rest : List ℕ
+  rest = drop (shebang_len text) text
+
+  abbrev past_space : List ℕ
+  past_space = past (spaces_len (chars rest)) rest
+
+  pub some_head : (head : Head) × IsHead text head
+  some_head = by_either (opens (chars rest))
+      (λ e. (_, head-front (shebang_len text) refl rest refl (frontmatter rest) e refl))
+      (λ e. by_either (opens (chars past_space))
+      (λ f. (_, head-spaced (shebang_len text) refl rest refl past_space e refl (frontmatter past_space) f refl))
+      (λ f. (_, head-none (shebang_len text) refl rest refl past_space e refl f)))
 
   -- the tokens of a document in an edition
   pub in_edition : (edition : Edition) → tokens_in (whole_by (first_in edition) text) ≡ document_tokens edition text
-  in_edition edition = sym (ap₂ (λ ts n. ts ++ tokens_by (first_in edition) (drop n text)) is_head.tokens_are is_head.end_is) ∙ document_law edition text is (shebang-boundary text is)
+  in_edition edition = let some = some_head.1 in sym (ap₂ (λ ts n. ts ++ tokens_by (first_in edition) (drop n text)) some.of.tokens_are some.of.end_is) ∙ some.tokens edition
 
   -- the tokens of the head are cut between characters
   pub head_cuts : (k : ℕ) → k ≤ length (head_tokens text) → IsCharBoundary text (shebang_len text + bound (head_tokens text) k)
   head_cuts k few =
-      let rest_text : IsText (rest text) = record { utf8 = IsUtf8-drop text (shebang_len text) is.utf8 (shebang-boundary text is); fits = let f = is.fits in omega (arith, length-drop (shebang_len text) text) } in
-      let same : bound all k ≡ bound (head_tokens text) k = first_bounds k (head_count all) all few in
+      let same : bound all k ≡ bound (head_tokens text) k = bound-same k all (head_tokens text) (sym (take-take k (head_count all) all (omega (arith, few, length-take (head_count all) all)))) in
       IsCharBoundary-from_rest text (shebang_len text) (bound (head_tokens text) k) (shebang-boundary text is).0
-      (subst (IsCharBoundary (rest text)) same ((partitions (rest text) (source newest) rest_text).boundaries k (omega (arith, few, length-take (head_count all) all))))
+      (subst (IsCharBoundary rest) same ((partitions rest (source newest) (rest_text rest refl)).boundaries k (omega (arith, few, length-take (head_count all) all))))
