@@ -1,9 +1,7 @@
 -- Means, by how it is read: the shebang line that a document may begin with.
-use Rattle.std.specs.Prelude.{ℕ, ◌+◌, ◌-◌, Bool, true, false, if◌then◌else◌, List, [], ◌∷◌, drop, codes, Option, Some, None}
-use Rattle.std.specs.List.{prefix_len}
+use Rattle.std.specs.Prelude.{ℕ, suc, ◌+◌, ◌||◌, Bool, true, false, if◌then◌else◌, List, [], ◌∷◌, drop, codes, Option, Some, None}
 use Rattle.rustc_lexer.specs.{Token, TokenKind, LineComment, BlockComment, Whitespace, OpenBracket}
 use Rattle.rustc_lexer.specs.LanguageText.{part, newest}
-use Rattle.rustc_lexer.specs.Classes.{is_inline}
 use Rattle.rustc_lexer.specs.means.Scan.{begins}
 use Rattle.rustc_lexer.specs.means.Tokens.{read_tokens}
 
@@ -24,15 +22,12 @@ is_attribute [] = false
 is_attribute (token ∷ tokens) =
     if is_passed token.kind then is_attribute tokens else is_open_bracket token.kind
 
--- how many bytes stand before the first newline
-abbrev pub before_newline : List ℕ → ℕ
-before_newline text = prefix_len is_inline text
-
--- the same, less a carriage return directly before that newline
+-- the length of the first line, which ends at a newline, at a carriage return and a newline, or with
+-- the text
 abbrev pub line_len : List ℕ → ℕ
-line_len text =
-    if begins (codes "\r\n") (drop (before_newline text - 1) text) then before_newline text - 1 else
-    before_newline text
+line_len [] = 0
+line_len (c ∷ s) =
+    if begins (codes "\n") (c ∷ s) || begins (codes "\r\n") (c ∷ s) then 0 else suc (line_len s)
 
 -- what follows `#!`
 abbrev pub shebang_past : List ℕ → Option ℕ

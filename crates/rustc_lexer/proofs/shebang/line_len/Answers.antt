@@ -1,7 +1,7 @@
-use Rattle.std.proofs.Common.{None, Some, ap, sym, ◌∙◌, arith, get_or, List, ℕ, ◌-◌}
+use Rattle.std.proofs.Common.{None, Some, ap, sym, ◌∙◌, arith, rules, get_or, List, ℕ, ◌-◌}
+use Rattle.std.proofs.lemmas.Grind.{common_steps}
 use Rattle.std.proofs.lemmas.Str.Pattern.{find_char}
-use Rattle.rustc_lexer.proofs.lemmas.tokens.Shebang.{no_newline, with_return, without_return, at_front}
-use Rattle.rustc_lexer.proofs.shebang.line_len.Goals.{else-newline-gt0-via-then-newline-gt0+else-as_bytes-newline-eq13, else-newline-gt0-via-else-newline-gt0}
+use Rattle.rustc_lexer.proofs.lemmas.tokens.Shebang.{no_newline, with_return, without_return}
 use Rattle.rustc_lexer.proofs.shebang.line_len.Goals as goal
 
 pub returns-in_default-clause-line : goal.returns-in_default-clause-line
@@ -15,8 +15,4 @@ returns-then-as_bytes-newline-eq13-clause-line c =
 pub returns-else-newline-gt0-clause-line : goal.returns-else-newline-gt0-clause-line
 returns-else-newline-gt0-clause-line c =
     let at = find_char 10 c.args.text.now (Some c.in-Some.newline) c.in-Some.ensures.cases (omega arith) in
-    elim c.else-newline-gt0.branch [
-      | else-newline-gt0-via-then-newline-gt0+else-as_bytes-newline-eq13 w ↦
-          without_return c.args.text.now c.in-Some.newline at.0 at.1 at.2 (omega arith) (λ e. w.if-as_bytes-newline-eq13.false (ap (λ (xs : List ℕ). get_or xs (c.in-Some.newline - 1) 0) w.as_bytes.ensures.value ∙ e))
-      | else-newline-gt0-via-else-newline-gt0 w ↦ at_front c.args.text.now c.in-Some.newline at.0 at.1 at.2 (omega arith)
-    ]
+    without_return c.args.text.now c.in-Some.newline at.0 at.1 at.2 (λ some e. grind (arith, common_steps, rules))
