@@ -232,17 +232,40 @@ fn append(text: &mut String, sure: usize, edition: Edition, separator: &str, pie
     ensures capacity { string_capacity text.old ≤ string_capacity text.new }
 {
     let at = text.as_str().len();
+    put(text, separator, piece);
+    let stay = parts(text.as_str(), sure, at, separator.len(), edition);
+    if !stay {
+        text.truncate(at);
+    }
+    stay
+}
+
+/// Appends both texts. There is room for them.
+fn put(text: &mut String, separator: &str, piece: &str)
+    requires fits { length (string_bytes text.old) + (length separator.now + length piece.now)
+        < 2 ^ 32 }
+    requires room { string_len text.old + (length separator.now + length piece.now)
+        ≤ string_capacity text.old }
+    ensures text { string_bytes text.new ≡ string_bytes text.old ++ (separator.now ++ piece.now) }
+    ensures capacity { string_capacity text.old ≤ string_capacity text.new }
+{
     let put_separator = text.push_str(separator);
     // There is room, so neither of them allocates.
     prove!(put_separator.is_ok());
     let put_piece = text.push_str(piece);
     prove!(put_piece.is_ok());
-    let whole = text.as_str();
-    let stay = is_seam(&whole[at..], separator.len(), edition) && stays(whole, sure, at, edition);
-    if !stay {
-        text.truncate(at);
-    }
-    stay
+}
+
+/// Returns whether the `len` bytes from `at` on keep the texts before and after them apart.
+fn parts(text: &str, sure: usize, at: usize, len: usize, edition: Edition) -> bool
+    requires fits { Fits text.now }
+    requires boundary { IsCharBoundary text.now at }
+    requires end { IsCharBoundary (drop at text.now) len }
+    requires sure { IsSure (first_in edition) (take at text.now) sure }
+    ensures { IsTrue result ↔ IsSeparated edition (take at text.now) (take len (drop at text.now))
+        (drop len (drop at text.now)) }
+{
+    is_seam(&text[at..], len, edition) && stays(text, sure, at, edition)
 }
 
 /// Returns whether the tokens before `at` are the first ones of the whole text, too. Those before `sure` are.

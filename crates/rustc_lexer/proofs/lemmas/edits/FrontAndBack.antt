@@ -114,7 +114,7 @@ module _ {first : List ℕ → Token} (law : IsGrammar first) (text : List ℕ) 
   pub met_rest : (j i : ℕ) → start + length insert ≤ bound (tokens_by first new) j → bound (tokens_by first text) i ≡ bound (tokens_by first new) j - (start + length insert) + stop → drop j (tokens_by first new) ≡ drop i (tokens_by first text)
   met_rest j i past met = grind (arith, common_steps, at_bound, same_rest)
 
-drop_of-take : (p n : ℕ) (xs : List ℕ) → drop p (take n xs) ≡ take (n - p) (drop p xs)
+pub drop_of-take : (p n : ℕ) (xs : List ℕ) → drop p (take n xs) ≡ take (n - p) (drop p xs)
 drop_of-take zero n xs = grind (arith, common_steps)
 drop_of-take (suc p) zero xs = grind (arith, common_steps)
 drop_of-take (suc p) (suc n) [] = grind (arith, common_steps)

@@ -1,8 +1,8 @@
 -- Texts that touch: how to find that out, and that the end of the first text is enough for it.
-use Rattle.std.proofs.Common.{◌≡◌, ◌↔◌, ℕ, zero, suc, ◌+◌, ◌-◌, ◌^◌, ◌<◌, ◌≤◌, Bool, true, false, true≢false, IsTrue, List, [], ◌∷◌, ◌++◌, codes, length, take, drop, refl, sym, ap, ◌∙◌, subst, arith, append_assoc, length-append, length-drop, length-take, length-take-le, take-append-drop, take_at, slice_range, if◌then◌else◌, IsUtf8, IsCharBoundary}
-use Rattle.std.proofs.Math.Seq.{take-length, take-append_seam, drop-append_seam}
-use Rattle.std.proofs.lemmas.List.{drop-take, take-append-le}
-use Rattle.std.proofs.lemmas.Str.{IsCharBoundary-from_drop, IsCharBoundary-end, IsUtf8-append, IsUtf8-between, IsUtf8-take}
+use Rattle.std.proofs.Common.{◌≡◌, ◌↔◌, ℕ, zero, suc, ◌+◌, ◌-◌, ◌<◌, ◌≤◌, Bool, true, false, true≢false, IsTrue, List, [], ◌∷◌, ◌++◌, codes, length, take, drop, refl, sym, ap, ◌∙◌, subst, arith, append_assoc, length-append, length-drop, length-take, length-take-le, take-append-drop, take_at, slice_range, if◌then◌else◌, IsUtf8, IsCharBoundary}
+use Rattle.std.proofs.Math.Seq.{take-length, drop-append_seam}
+use Rattle.std.proofs.lemmas.List.{append_cancel_left, drop-append-le}
+use Rattle.std.proofs.lemmas.Str.{IsCharBoundary-start, IsCharBoundary-from_rest, IsUtf8-drop, IsCharBoundary-from_drop, IsCharBoundary-end, IsUtf8-between, IsUtf8-take}
 use Rattle.std.proofs.lemmas.Grind.{common_steps}
 use Rattle.rustc_lexer.specs.{Edition, Token}
 use Rattle.rustc_lexer.specs.Answers.{first_in}
@@ -11,27 +11,13 @@ use Rattle.rustc_lexer.specs.Joined as the
 use Rattle.rustc_lexer.specs.Joined.{IsJoined, IsSeparated, MayTouch, AreInseparable}
 use Rattle.rustc_lexer.specs.Locality.{has_two, IsGrammar}
 use Rattle.rustc_lexer.specs.Partition.{bound, tokens_by}
-use Rattle.rustc_lexer.specs.laws.Cuts.{IsCutAt, at_bound, tokens-nil, tokens_local}
+use Rattle.rustc_lexer.specs.laws.Cuts.{IsCutAt, at_bound, tokens-cons, tokens-nil, tokens_local}
+use Rattle.rustc_lexer.specs.laws.Edition.{edition_grammar}
 use Rattle.rustc_lexer.specs.means.Joined.{IsSure}
+use Rattle.std.proofs.lemmas.List.Folds.{drop_split}
 use Rattle.rustc_lexer.proofs.lemmas.edits.Bounds.{bound_mono, bound-last, rises}
 use Rattle.rustc_lexer.proofs.lemmas.heads.ByTokens.{bound-append}
-use Rattle.rustc_lexer.proofs.lemmas.edits.FrontAndBack.{bound-same, has_two-agree}
-use Rattle.rustc_lexer.proofs.lemmas.tokens.Progress.{IsLexedTo, IsOffset, lexed_more, lexed_offset, lexed_whole}
-
--- what comes past a common front
-pub past_front : {A : Type 0} (front xs ys : List A) → front ++ xs ≡ front ++ ys → xs ≡ ys
-past_front front xs ys e = sym (drop-append_seam front xs) ∙ (ap (drop (length front)) e ∙ drop-append_seam front ys)
-
-cast : {A B : Type 0} → A ≡ B → A → B
-cast e a = subst (λ (X : Type 0). X) e a
-
-first_same : (front : List Token) (x y : Token) → front ++ (x ∷ []) ≡ front ++ (y ∷ []) → x ≡ y
-first_same front x y e = let last : x ∷ [] ≡ y ∷ [] = past_front front (x ∷ []) (y ∷ []) e in cc
-
-pub drop-front : (n : ℕ) (xs ys : List ℕ) → n ≤ length xs → drop n (xs ++ ys) ≡ drop n xs ++ ys
-drop-front zero xs ys few = refl
-drop-front (suc n) [] ys few = absurd (omega arith)
-drop-front (suc n) (x ∷ xs) ys few = drop-front n xs ys (omega arith)
+use Rattle.rustc_lexer.proofs.lemmas.edits.FrontAndBack.{bound-same, drop_of-take, has_two-agree}
 
 -- the tokens up to a sure bound, and those of what is left, alone and with more text
 pub record IsSplit (first : List ℕ → Token) (left more : List ℕ) (from : ℕ) : Type 0 where
@@ -40,37 +26,25 @@ pub record IsSplit (first : List ℕ → Token) (left more : List ℕ) (from : �
   pub together : tokens_by first (left ++ more) ≡ front ++ tokens_by first (drop from left ++ more)
   pub inside : from ≤ length left
 
--- a separator and a piece are put past a text
-pub record IsPut (text between piece whole : List ℕ) : Type 0 where
-  pub text_utf8 : IsUtf8 text
-  pub between_utf8 : IsUtf8 between
-  pub piece_utf8 : IsUtf8 piece
-  pub short : length text + (length between + length piece) < 2 ^ 32
-  pub whole_is : whole ≡ text ++ between ++ piece
-
--- what two appended texts make
-pub put_whole : (text between piece : List ℕ) {one two whole : List ℕ} {a b : Bool} → one ≡ (if a then text ++ between else text) → a ≡ true → two ≡ (if b then one ++ piece else one) → b ≡ true → whole ≡ two → whole ≡ text ++ between ++ piece
-put_whole text between piece {one} {two} {whole} {a} {b} p q r s t = grind (arith, common_steps)
-
-pub put_by : {text between piece one two whole : List ℕ} {a b : Bool} → IsUtf8 text → IsUtf8 between → IsUtf8 piece → length text + (length between + length piece) < 2 ^ 32
-    → one ≡ (if a then text ++ between else text) → a ≡ true → two ≡ (if b then one ++ piece else one) → b ≡ true → whole ≡ two → IsPut text between piece whole
-put_by {text} {between} {piece} is its last short p q r s t = record { text_utf8 = is; between_utf8 = its; piece_utf8 = last; short = short; whole_is = put_whole text between piece p q r s t }
-
--- the same tokens are the first ones of both texts
-pub record AreAlike (first : List ℕ → Token) (left text : List ℕ) (offset : ℕ) : Type 0 where
-  pub items : List Token
-  pub of_left : IsLexedTo first left items offset
-  pub of_text : IsLexedTo first text items offset
+-- the texts on both sides of `at` touch exactly if what the first has past `offset` touches the second
+pub record IsSeamFrom (edition : Edition) (text : List ℕ) (at offset : ℕ) : Type 0 where
+  pub inside : offset ≤ at
+  pub boundary : IsCharBoundary text offset
+  pub touch : MayTouch edition (take at text) (drop at text) ↔ MayTouch edition (slice_range text offset at) (drop at text)
 
 module _ {first : List ℕ → Token} (law : IsGrammar first) where
-  -- the tokens past those of the first text are those of the second
-  pub past_left : (left right : List ℕ) (us : List Token) → IsText left → IsText (left ++ right) → tokens_by first (left ++ right) ≡ tokens_by first left ++ us → tokens_by first right ≡ us
-  past_left left right us is whole e =
-      let n : ℕ = length (tokens_by first left) in
-      let cut : IsCutAt first (left ++ right) (tokens_by first (left ++ right)) n = at_bound law n (left ++ right) whole in
-      let at : bound (tokens_by first (left ++ right)) n ≡ length left = ap (λ (ts : List Token). bound ts n) e ∙ (bound-append (tokens_by first left) us ∙ bound-last law left is) in
-      let rest : drop (bound (tokens_by first (left ++ right)) n) (left ++ right) ≡ right = ap (λ (k : ℕ). drop k (left ++ right)) at ∙ drop-append_seam left right in
-      sym (ap (tokens_by first) rest) ∙ (sym cut.rest ∙ (ap (drop n) e ∙ drop-append_seam (tokens_by first left) us))
+  abbrev pub Touch : List ℕ → List ℕ → Type 0
+  Touch left right = tokens_by first (left ++ right) ≡ tokens_by first left ++ tokens_by first right
+
+  -- a text whose first token stays touches another exactly if what it has past that token does
+  pub touch_past : (left right : List ℕ) → IsText left → IsText (left ++ right) → 0 < length left → first (left ++ right) ≡ first left → Touch left right ↔ Touch (drop (first left).len left) right
+  touch_past left right is whole some same =
+      let its : tokens_by first (left ++ right) ≡ first left ∷ tokens_by first (drop (first left).len left ++ right) =
+      tokens-cons law (left ++ right) whole (omega (arith, length-append left right)) ∙ (ap (λ (t : Token). t ∷ tokens_by first (drop t.len (left ++ right))) same ∙ ap (λ xs. first left ∷ tokens_by first xs) (drop-append-le (first left).len left right (law.boundary left is some).0)) in
+      rw (its, tokens-cons law left is some) (λ e. cc, λ e. ap (λ (ts : List Token). first left ∷ ts) e)
+
+  pub touch_first : (left right : List ℕ) → IsText left → IsText (left ++ right) → 0 < length left → Touch left right → first (left ++ right) ≡ first left
+  touch_first left right is whole some touch = grind (arith, common_steps, tokens-cons)
 
   -- ---- the end of the first text is enough
 
@@ -97,7 +71,7 @@ module _ {first : List ℕ → Token} (law : IsGrammar first) where
       let inside : from ≤ length left = omega (arith, cut.inside, at.offset_is) in
       let rest : drop k (tokens_by first left) ≡ tokens_by first (drop from left) = cut.rest ∙ ap (λ (p : ℕ). tokens_by first (drop p left)) at.offset_is in
       let its_rest : drop k (tokens_by first (left ++ more)) ≡ tokens_by first (drop from left ++ more) =
-      its_cut.rest ∙ (ap (λ (p : ℕ). tokens_by first (drop p (left ++ more))) same ∙ ap (tokens_by first) (drop-front from left more inside)) in
+      its_cut.rest ∙ (ap (λ (p : ℕ). tokens_by first (drop p (left ++ more))) same ∙ ap (tokens_by first) (drop-append-le from left more inside)) in
       record {
         front = front;
         alone = sym (take-append-drop k (tokens_by first left)) ∙ ap (λ (ts : List Token). front ++ ts) rest;
@@ -107,133 +81,61 @@ module _ {first : List ℕ → Token} (law : IsGrammar first) where
 
   -- the text keeps its tokens before others exactly if its end does
   pub near_touch : (left more : List ℕ) (from : ℕ) (us : List Token) → IsSplit first left more from → tokens_by first (left ++ more) ≡ tokens_by first left ++ us ↔ tokens_by first (drop from left ++ more) ≡ tokens_by first (drop from left) ++ us
-  near_touch left more from us s = grind (arith, common_steps, append_assoc, past_front)
+  near_touch left more from us s = grind (arith, common_steps, append_assoc, append_cancel_left)
 
-  -- a separator parts two texts exactly if it touches both
-  pub parted : (left between right : List ℕ) → IsText left → IsText (left ++ (between ++ right))
-      → (tokens_by first (left ++ (between ++ right)) ≡ tokens_by first left ++ tokens_by first (between ++ right)) × (tokens_by first (between ++ right) ≡ tokens_by first between ++ tokens_by first right)
-      ↔ tokens_by first (left ++ (between ++ right)) ≡ tokens_by first left ++ (tokens_by first between ++ tokens_by first right)
-  parted left between right is whole = grind (arith, common_steps, past_left)
+-- a separator that keeps texts apart touches the second
+pub separated_past : (edition : Edition) (text : List ℕ) (at len : ℕ) → IsText text → IsCharBoundary text at → IsSeparated edition (take at text) (take len (drop at text)) (drop len (drop at text)) → MayTouch edition (take len (drop at text)) (drop len (drop at text))
+separated_past edition text at len is cut e =
+    let left : List Token = tokens_by (first_in edition) (take at text) in
+    let last : bound left (length left) ≡ length (take at text) = bound-last (edition_grammar edition) (take at text) record { utf8 = IsUtf8-take text at is.utf8 cut; fits = omega (arith, length-take at text, is.fits) } in
+    let whole = rw (take-append-drop len (drop at text), take-append-drop at text) at e in
+    let here : bound (tokens_by (first_in edition) text) (length left) ≡ at = ap (λ (ts : List Token). bound ts (length left)) whole ∙ (bound-append left _ ∙ (last ∙ length-take-le at text cut.0)) in
+    rw (take-append-drop len (drop at text)) (sym (ap (λ (k : ℕ). tokens_by (first_in edition) (drop k text)) here) ∙ (sym (at_bound (edition_grammar edition) (length left) text is).rest ∙ (ap (drop (length left)) whole ∙ drop-append_seam left _)))
 
-  -- ---- how to find it out
+-- ---- how to find it out
 
-  module _ (text : List ℕ) (at : ℕ) (is : IsText text) (cut : IsCharBoundary text at) (offset : ℕ) (alike : AreAlike first (take at text) text offset) where
-    abbrev left : List ℕ
-    left = take at text
+pub seam_start : (edition : Edition) (text : List ℕ) (at : ℕ) → IsUtf8 text → IsSeamFrom edition text at 0
+seam_start edition text at utf8 = let none : at - 0 ≡ at = omega arith in record { inside = omega arith; boundary = IsCharBoundary-start text utf8; touch = rw none (λ t. t, λ t. t) }
 
-    abbrev right : List ℕ
-    right = drop at text
+module _ (edition : Edition) (text : List ℕ) (at : ℕ) (is : IsText text) (cut : IsCharBoundary text at) (offset : ℕ) (so : IsSeamFrom edition text at offset) where
+  pub seam_end : at ≤ offset → MayTouch edition (take at text) (drop at text)
+  seam_end all = grind (arith, common_steps, tokens-nil)
 
-    is_left : IsText left
-    is_left = record { utf8 = IsUtf8-take text at is.utf8 cut; fits = omega (arith, length-take at text, is.fits) }
+  abbrev left : List ℕ
+  left = slice_range text offset at
 
-    size : length left ≡ at
-    size = length-take-le at text cut.0
+  left_is : IsText left
+  left_is = record { utf8 = IsUtf8-between text offset at is.utf8 so.inside so.boundary cut; fits = grind (arith, common_steps) }
 
-    pub alike_place : IsOffset text offset
-    alike_place = lexed_offset law text alike.items offset is alike.of_text
+  whole : left ++ drop at text ≡ drop offset text
+  whole = sym (drop_split text offset at so.inside)
 
-    -- the first token of what is left of the first text
-    here : (alone : Token) (r : List ℕ) → offset < at → alone ≡ first r → r ≡ slice_range text offset at → alone ≡ first (drop offset left)
-    here alone r more e f =
-        let sum : offset + (at - offset) ≡ at = omega arith in
-        let rest : drop offset left ≡ take (at - offset) (drop offset text) = ap (λ (n : ℕ). drop offset (take n text)) (sym sum) ∙ drop-take offset (at - offset) text in
-        e ∙ (ap first f ∙ ap first (sym rest))
+  whole_is : IsText (drop offset text)
+  whole_is = record { utf8 = IsUtf8-drop text offset is.utf8 so.boundary; fits = omega (arith, length-drop offset text, is.fits) }
 
-    -- one token more of the first text, and of both
-    one_more : (alone : Token) → offset < at → alone ≡ first (drop offset left) → IsLexedTo first left (alike.items ++ alone ∷ []) (offset + alone.len)
-    one_more alone more e = subst (λ (t : Token). IsLexedTo first left (alike.items ++ t ∷ []) (offset + t.len)) (sym e) (lexed_more law left alike.items offset is_left alike.of_left (omega (arith, size)))
+  module _ (more : offset < at) (alone together : Token) (e : alone ≡ first_in edition left) (f : together ≡ first_in edition (drop offset text)) where
+    long : length left ≡ at - offset
+    long = grind (arith, common_steps)
 
-    both_more : (together : Token) → offset < at → together ≡ first (drop offset text) → IsLexedTo first text (alike.items ++ together ∷ []) (offset + together.len)
-    both_more together more e = subst (λ (t : Token). IsLexedTo first text (alike.items ++ t ∷ []) (offset + t.len)) (sym e) (lexed_more law text alike.items offset is alike.of_text (omega (arith, cut.0)))
+    pub seam_rises : 0 < alone.len
+    seam_rises = omega (arith, ap (λ (t : Token). t.len) e, (edition_grammar edition).not_empty left left_is (omega (arith, long)))
 
-    pub alike_more : (alone together : Token) (r s : List ℕ) → offset < at → alone ≡ first r → r ≡ slice_range text offset at → together ≡ first s → s ≡ drop offset text → alone ≡ together → AreAlike first left text (offset + alone.len)
-    alike_more alone together r s more e f g h same = record {
-      items = alike.items ++ alone ∷ [];
-      of_left = one_more alone more (here alone r more e f);
-      of_text = both_more alone more (same ∙ (g ∙ ap first h));
-    }
+    pub seam_more : alone ≡ together → IsSeamFrom edition text at (offset + alone.len)
+    seam_more same =
+        let at_end : IsCharBoundary left alone.len = rw e ((edition_grammar edition).boundary left left_is (omega (arith, long))) in
+        let past : drop alone.len left ≡ slice_range text (offset + alone.len) at = grind (arith, common_steps, drop_of-take) in
+        let step : MayTouch edition left (drop at text) ↔ MayTouch edition (drop alone.len left) (drop at text) =
+        rw e (touch_past (edition_grammar edition) left (drop at text) left_is (rw whole whole_is) (omega (arith, long)) (rw whole (sym f ∙ sym same ∙ e))) in
+        let its : MayTouch edition left (drop at text) ↔ MayTouch edition (slice_range text (offset + alone.len) at) (drop at text) = rw past at step in
+        record {
+          inside = omega (arith, at_end.0, long);
+          boundary = IsCharBoundary-from_rest text offset alone.len (omega (arith, cut.0)) (rw (same, f) ((edition_grammar edition).boundary (drop offset text) whole_is (omega (arith, cut.0, length-drop offset text))));
+          touch = (λ t. its.0 (so.touch.0 t), λ t. so.touch.1 (its.1 t));
+        }
 
-    -- which is not empty
-    pub alike_rises : (alone : Token) (r : List ℕ) → offset < at → alone ≡ first r → r ≡ slice_range text offset at → 0 < alone.len
-    alike_rises alone r more e f =
-        let place : IsOffset left offset = lexed_offset law left alike.items offset is_left alike.of_left in
-        omega (arith, ap (λ (t : Token). t.len) (here alone r more e f), law.not_empty (drop offset left) place.past (omega (arith, length-drop offset left, size)))
-
-    pub alike_no_more : (alone together : Token) (r s : List ℕ) → offset < at → alone ≡ first r → r ≡ slice_range text offset at → together ≡ first s → s ≡ drop offset text → (alone ≡ together → ⊥)
-        → tokens_by first (left ++ right) ≡ tokens_by first left ++ tokens_by first right → ⊥
-    alike_no_more alone together r s more e f g h differ touch =
-        let n : ℕ = length (alike.items ++ alone ∷ []) in
-        let its : IsLexedTo first left (alike.items ++ alone ∷ []) (offset + alone.len) = one_more alone more (here alone r more e f) in
-        let past : IsLexedTo first text (alike.items ++ together ∷ []) (offset + together.len) = both_more together more (g ∙ ap first h) in
-        let long : length (alike.items ++ together ∷ []) ≡ n = omega (arith, length-append alike.items (alone ∷ []), length-append alike.items (together ∷ [])) in
-        let whole : tokens_by first text ≡ tokens_by first left ++ tokens_by first right = ap (tokens_by first) (sym (take-append-drop at text)) ∙ touch in
-        let same : alike.items ++ together ∷ [] ≡ alike.items ++ alone ∷ [] =
-        past.items_are ∙ (ap (λ (k : ℕ). take k (tokens_by first text)) long ∙ (ap (take n) whole ∙ (take-append-le n (tokens_by first left) (tokens_by first right) its.number ∙ sym its.items_are))) in
-        differ (sym (first_same alike.items together alone same))
-
-    pub alike_whole : at ≤ offset → tokens_by first (left ++ right) ≡ tokens_by first left ++ tokens_by first right
-    alike_whole all = grind (arith, common_steps, lexed_whole, is_left, size, lexed_offset, at_bound, take-append-drop)
-
-  -- ---- a piece that is appended with a separator before it
-
-  abbrev pub Touch : List ℕ → List ℕ → Type 0
-  Touch left right = tokens_by first (left ++ right) ≡ tokens_by first left ++ tokens_by first right
-
-  module _ {text between piece whole : List ℕ} (put : IsPut text between piece whole) where
-    is : IsText text
-    is = record { utf8 = put.text_utf8; fits = let short = put.short in omega arith }
-
-    joined : whole ≡ text ++ (between ++ piece)
-    joined = put.whole_is ∙ append_assoc text between piece
-
-    rest_is : IsText (between ++ piece)
-    rest_is = record { utf8 = IsUtf8-append between piece put.between_utf8 put.piece_utf8; fits = omega (arith, put.short, length-append between piece) }
-
-    joined_is : IsText (text ++ (between ++ piece))
-    joined_is = record { utf8 = IsUtf8-append text (between ++ piece) is.utf8 rest_is.utf8; fits = omega (arith, put.short, length-append text (between ++ piece), length-append between piece) }
-
-    pub put_is : IsText whole
-    put_is = subst IsText (sym joined) joined_is
-
-    pub front_part : take (length text) whole ≡ text
-    front_part = ap (take (length text)) joined ∙ take-append_seam text (between ++ piece)
-
-    back_part : drop (length text) whole ≡ between ++ piece
-    back_part = ap (drop (length text)) joined ∙ drop-append_seam text (between ++ piece)
-
-    pub end_boundary : IsCharBoundary whole (length text)
-    end_boundary = IsCharBoundary-from_drop whole (length text) (omega (arith, ap length joined, length-append text (between ++ piece))) (subst IsUtf8 (sym back_part) rest_is.utf8)
-
-    left_touch : Touch (take (length text) whole) (drop (length text) whole) ≡ Touch text (between ++ piece)
-    left_touch = ap (λ (xs : List ℕ). Touch xs (drop (length text) whole)) front_part ∙ ap (Touch text) back_part
-
-    module _ (t : List ℕ) (there : t ≡ drop (length text) whole) where
-      last_tail : t ≡ between ++ piece
-      last_tail = there ∙ back_part
-
-      pub rest_fits : IsText t
-      rest_fits = subst IsText (sym last_tail) rest_is
-
-      pub between_boundary : IsCharBoundary t (length between)
-      between_boundary = IsCharBoundary-from_drop t (length between) (omega (arith, ap length last_tail, length-append between piece)) (subst IsUtf8 (sym (ap (drop (length between)) last_tail ∙ drop-append_seam between piece)) put.piece_utf8)
-
-      past : Touch (take (length between) t) (drop (length between) t) ≡ Touch between piece
-      past = ap (λ (xs : List ℕ). Touch xs (drop (length between) t)) (ap (take (length between)) last_tail ∙ take-append_seam between piece) ∙ ap (Touch between) (ap (drop (length between)) last_tail ∙ drop-append_seam between piece)
-
-      -- whether the separator parts them, by what the two calls answer
-      abbrev pub Apart : Type 0
-      Apart = tokens_by first (text ++ (between ++ piece)) ≡ tokens_by first text ++ (tokens_by first between ++ tokens_by first piece)
-
-      pub by_both : (r s : Bool) → IsTrue r ↔ Touch (take (length between) t) (drop (length between) t) → IsTrue s ↔ Touch (take (length text) whole) (drop (length text) whole) → r ≡ true → IsTrue s ↔ Apart
-      by_both r s a b holds =
-          let both = parted text between piece is joined_is in (
-            λ x. both.0 (cast left_touch (b.0 x), cast past (a.0 holds)),
-            λ x. b.1 (cast (sym left_touch) (both.1 x).0),
-          )
-
-      pub by_one : (r : Bool) → IsTrue r ↔ Touch (take (length between) t) (drop (length between) t) → r ≡ false → IsTrue false ↔ Apart
-      by_one r a none = grind (arith, common_steps, parted, is, joined_is, cast, past)
+    pub seam_differs : (alone ≡ together → ⊥) → MayTouch edition (take at text) (drop at text) → ⊥
+    seam_differs differ touch =
+        differ (e ∙ (sym (touch_first (edition_grammar edition) left (drop at text) left_is (rw whole whole_is) (omega (arith, long)) (so.touch.0 touch)) ∙ (ap (first_in edition) whole ∙ sym f)))
 
 -- ---- the first separator that parts a text and a piece
 

@@ -1,7 +1,7 @@
 -- A text that grows at its end: what comes past a bound that is sure decides whether its tokens stay, and that bound moves on.
 use Rattle.std.proofs.Common.{◌≡◌, ◌↔◌, ℕ, zero, suc, ◌+◌, ◌-◌, ◌^◌, ◌<◌, ◌≤◌, true, List, ◌++◌, codes, length, take, drop, refl, sym, ap, ◌∙◌, subst, arith, length-append, length-drop, length-take, length-take-le, take-append-drop, drop-drop, take_all, chars, IsUtf8, IsCharBoundary}
 use Rattle.std.proofs.lemmas.Grind.{common_steps}
-use Rattle.std.proofs.lemmas.List.{drop-take}
+use Rattle.std.proofs.lemmas.List.{drop-append-le, drop-take}
 use Rattle.std.proofs.lemmas.Str.{IsCharBoundary-from_drop, IsUtf8-append, IsUtf8-between, IsUtf8-drop, IsUtf8-take, chars-append}
 use Rattle.rustc_lexer.specs.{Edition, Token}
 use Rattle.rustc_lexer.specs.Answers.{first_in}
@@ -15,7 +15,7 @@ use Rattle.rustc_lexer.specs.laws.Edition.{edition_grammar}
 use Rattle.rustc_lexer.specs.means.Joined.{IsSure}
 use Rattle.rustc_lexer.proofs.lemmas.edits.FrontAndBack.{bound-same, has_two-agree, has_two-before, has_two-count, has_two-intro, has_two-same}
 use Rattle.rustc_lexer.proofs.lemmas.edits.KeptFront.{bound-shift}
-use Rattle.rustc_lexer.proofs.lemmas.joined.Joined.{IsSplit, drop-front, near_touch, sure_split, sure_stays}
+use Rattle.rustc_lexer.proofs.lemmas.joined.Joined.{IsSplit, near_touch, sure_split, sure_stays}
 
 pub sure_start : (edition : Edition) (text : List ℕ) → IsSure (first_in edition) text 0
 sure_start edition text = record { number = 0; few = omega arith; offset_is = refl; two = λ some. absurd (omega (arith, some)) }
@@ -33,7 +33,7 @@ module _ {first : List ℕ → Token} (law : IsGrammar first) where
       let size : length rest ≡ length text - from = length-drop from text in
       let all : take (length text - from) rest ≡ rest = take_all (length text - from) rest (omega (arith, size)) in
       let enough : 2 ≤ length (chars rest) = subst (λ (xs : List ℕ). 2 ≤ length (chars xs)) all (has_two-count text from (length text) two) in
-      let its : drop from (text ++ more) ≡ rest ++ more = drop-front from text more cut.0 in
+      let its : drop from (text ++ more) ≡ rest ++ more = drop-append-le from text more cut.0 in
       let its_all : take (length (text ++ more) - from) (drop from (text ++ more)) ≡ rest ++ more =
       take_all (length (text ++ more) - from) (drop from (text ++ more)) (omega (arith, length-drop from (text ++ more))) ∙ its in
       let long : 2 ≤ length (chars (rest ++ more)) = omega (arith, enough, ap length (chars-append rest more (IsUtf8-drop text from is.utf8 cut)), length-append (chars rest) (chars more)) in
@@ -133,7 +133,7 @@ module _ (edition : Edition) where
       let touch = near_touch law left right sure (tokens_by first right) split in
       let few : sure ≤ at = (let i = split.inside in omega (arith, length-take-le at text cut.0)) in
       let sum : sure + (at - sure) ≡ at = omega arith in
-      let past : drop sure text ≡ drop sure left ++ right = ap (drop sure) (sym whole) ∙ drop-front sure left right split.inside in
+      let past : drop sure text ≡ drop sure left ++ right = ap (drop sure) (sym whole) ∙ drop-append-le sure left right split.inside in
       let front : take (at - sure) (drop sure text) ≡ drop sure left = sym (ap (λ (n : ℕ). drop sure (take n text)) (sym sum) ∙ drop-take sure (at - sure) text) in
       let back : drop (at - sure) (drop sure text) ≡ right = drop-drop (at - sure) sure text ∙ ap (λ (n : ℕ). drop n text) sum in
       let right_utf8 : IsUtf8 right = IsUtf8-drop text at is.utf8 cut in
