@@ -1,7 +1,7 @@
 -- The tokens of a whole text as they are read: one by one, and their bounds.
 use Rattle.std.proofs.Common.{◌≡◌, ℕ, zero, suc, ◌<◌, ◌≤◌, List, [], ◌∷◌, length, take, drop, refl, ap, arith, length-drop, take-add, All}
 use Rattle.std.specs.Str.{IsCharBoundary, IsUtf8}
-use Rattle.std.proofs.lemmas.Str.{IsUtf8-append, IsUtf8-nil, IsUtf8-take, IsCharBoundary-from_take}
+use Rattle.std.proofs.lemmas.Str.{IsCharBoundary-start, IsCharBoundary-from_rest, IsUtf8-take}
 use Rattle.std.proofs.lemmas.List.Elements.{All-nil, All-cons}
 use Rattle.std.proofs.lemmas.Grind.{common_steps}
 use Rattle.rustc_lexer.specs.{Token}
@@ -19,11 +19,11 @@ use Rattle.rustc_lexer.specs.Classes.{IsText}
 pub record CutsOff (text : List ℕ) (token : Token) : Type 0 where
   pub not_empty : 0 < token.len
   pub inside : token.len ≤ length text
-  pub front : IsUtf8 (take token.len text)
+  pub boundary : IsCharBoundary text token.len
   pub left : IsText (drop token.len text)
 
 cuts-off : (text : List ℕ) (token : Token) → IsText text → 0 < token.len → IsCharBoundary text token.len → CutsOff text token
-cuts-off text token is some bound = let front = IsUtf8-take text _ is.utf8 bound in record { not_empty = some; inside = bound.0; front = front; left = left_text text _ is bound.0 front }
+cuts-off text token is some bound = record { not_empty = some; inside = bound.0; boundary = bound; left = left_text text _ is bound.0 (IsUtf8-take text _ is.utf8 bound) }
 
 pub token_at-cuts : (mode : Mode) (text : List ℕ) → IsText text → 0 < length text → CutsOff text (token_at mode text)
 token_at-cuts mode text is some = token_at-either (λ (t : Token). CutsOff text t) mode text
@@ -73,45 +73,19 @@ module _ (P : List ℕ → Mode → Type 0) (at_end : (mode : Mode) → P [] mod
   pub by_tokens : (text : List ℕ) (mode : Mode) → IsText text → P text mode
   by_tokens text mode is = by_count (length text) text mode is (omega arith)
 
--- each bound is inside the text, past a front of whole characters
-pub record IsBound (text : List ℕ) (tokens : List Token) (k : ℕ) : Type 0 where
-  pub inside : bound tokens k ≤ length text
-  pub front : IsUtf8 (take (bound tokens k) text)
+-- the bounds of a text: its start, and those of what is left
+bounds : (text : List ℕ) (token : Token) (left : List Token) → IsText text → CutsOff text token → Partitions (drop token.len text) left → (k : ℕ) → k ≤ suc (length left) → IsCharBoundary text (bound (token ∷ left) k)
+bounds text token left is cuts rest zero le = IsCharBoundary-start text is.utf8
+bounds text token left is cuts rest (suc k) le = IsCharBoundary-from_rest text token.len (bound left k) cuts.inside (rest.boundaries k (omega arith))
 
-abbrev AreBounds : List ℕ → Mode → Type 0
-AreBounds text mode = (k : ℕ) → IsBound text (read_tokens mode text) k
-
-pub bounds : (text : List ℕ) (mode : Mode) → IsText text → AreBounds text mode
-bounds = by_tokens AreBounds (λ mode k. rw (tokens-nil mode) (at_end k)) (λ text mode is some rest k. rw (tokens-cons mode text is some) (step text mode is some rest k))
-  where
-    at_end : (k : ℕ) → IsBound [] [] k
-    at_end zero = record { inside = omega arith; front = IsUtf8-nil }
-    at_end (suc k) = record { inside = omega arith; front = IsUtf8-nil }
-
-    step : (text : List ℕ) (mode : Mode) → IsText text → 0 < length text → AreBounds (drop (token_at mode text).len text) (mode_after mode (token_at mode text).kind)
-        → (k : ℕ) → IsBound text (token_at mode text ∷ read_tokens (mode_after mode (token_at mode text).kind) (drop (token_at mode text).len text)) k
-    step text mode is some rest zero = record { inside = omega arith; front = IsUtf8-nil }
-    step text mode is some rest (suc k) =
-        let token : Token = token_at mode text in
-        let cuts : CutsOff text token = token_at-cuts mode text is some in
-        let there = rest k in
-        record {
-          inside = let i = there.inside in let j = cuts.inside in omega (arith, length-drop token.len text);
-          front = rw (take-add token.len (bound (read_tokens (mode_after mode token.kind) (drop token.len text)) k) text) (IsUtf8-append _ _ cuts.front there.front);
-        }
-
-abbrev Covered : List ℕ → Mode → Type 0
-Covered text mode = (All (λ t. 0 < t.len) (read_tokens mode text)) × (bound (read_tokens mode text) (length (read_tokens mode text)) ≡ length text)
-
-covered : (text : List ℕ) (mode : Mode) → IsText text → Covered text mode
-covered = by_tokens Covered (λ mode. rw (tokens-nil mode) (All-nil (λ t. 0 < t.len), refl)) (λ text mode is some rest. rw (tokens-cons mode text is some) (
-  All-cons (λ t. 0 < t.len) _ _ (token_at-cuts mode text is some).not_empty rest.0,
-  (let i = (token_at-cuts mode text is some).inside in let w = rest.1 in omega (arith, length-drop (token_at mode text).len text)),
-))
+abbrev Parted : List ℕ → Mode → Type 0
+Parted text mode = Partitions text (read_tokens mode text)
 
 pub partitions : (text : List ℕ) (mode : Mode) → IsText text → Partitions text (read_tokens mode text)
-partitions text mode is = record {
-  not_empty = (covered text mode is).0;
-  boundaries = λ k le. let b = bounds text mode is k in IsCharBoundary-from_take text _ is.utf8 b.inside b.front;
-  whole = (covered text mode is).1;
-}
+partitions = by_tokens Parted
+    (λ mode. rw (tokens-nil mode) record { not_empty = All-nil (λ t. 0 < t.len); boundaries = λ k le. grind (arith, common_steps); whole = refl })
+    (λ text mode is some rest. rw (tokens-cons mode text is some) (let cuts = token_at-cuts mode text is some in record {
+      not_empty = All-cons (λ t. 0 < t.len) _ _ cuts.not_empty rest.not_empty;
+      boundaries = bounds text (token_at mode text) _ is cuts rest;
+      whole = omega (arith, length-drop (token_at mode text).len text, cuts.inside, rest.whole);
+    }))

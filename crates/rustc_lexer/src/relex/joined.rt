@@ -198,6 +198,7 @@ fn sure_before(text: &str, sure: usize, at: usize, edition: Edition) -> Option<u
 
 /// Appends the piece after the first separator that keeps the tokens. Returns whether one does; if none does, the text
 /// stays. There is room for a separator of one byte.
+#[tactic(auto, using(crate::proofs::lemmas::joined::Joined::joined_lemmas, std::proofs::lemmas::Grind::common_steps))]
 fn append_separated(text: &mut String, sure: usize, edition: Edition, piece: &str) -> bool
     requires fits { length (string_bytes text.old) + (length piece.now + 1) < 2 ^ 32 }
     requires room { string_len text.old + (length piece.now + 1) ≤ string_capacity text.old }

@@ -17,14 +17,12 @@ use Rattle.rustc_lexer.specs.means.Joined.{IsSure}
 use Rattle.std.proofs.lemmas.List.Folds.{drop_split}
 use Rattle.rustc_lexer.proofs.lemmas.edits.Bounds.{bound_mono, bound-last, rises}
 use Rattle.rustc_lexer.proofs.lemmas.heads.ByTokens.{bound-append}
+use Rattle.rustc_lexer.proofs.lemmas.edits.Settled.{stays_at}
 use Rattle.rustc_lexer.proofs.lemmas.edits.FrontAndBack.{bound-same, drop_of-take, has_two-agree}
 
--- the tokens up to a sure bound, and those of what is left, alone and with more text
-pub record IsSplit (first : List ℕ → Token) (left more : List ℕ) (from : ℕ) : Type 0 where
-  pub front : List Token
-  pub alone : tokens_by first left ≡ front ++ tokens_by first (drop from left)
-  pub together : tokens_by first (left ++ more) ≡ front ++ tokens_by first (drop from left ++ more)
-  pub inside : from ≤ length left
+-- what two lists have in front says nothing of how they differ
+front_cancels : {whole left : List Token} (front rest more us : List Token) → whole ≡ front ++ rest → left ≡ front ++ more → whole ≡ left ++ us ↔ rest ≡ more ++ us
+front_cancels front rest more us w5 w6 = grind (arith, common_steps, append_cancel_left)
 
 -- the texts on both sides of `at` touch exactly if what the first has past `offset` touches the second
 pub record IsSeamFrom (edition : Edition) (text : List ℕ) (at offset : ℕ) : Type 0 where
@@ -52,36 +50,23 @@ module _ {first : List ℕ → Token} (law : IsGrammar first) where
   pub sure_stays : (left more : List ℕ) (from number : ℕ) → IsText left → IsText (left ++ more) → number ≤ length (tokens_by first left) → bound (tokens_by first left) number ≡ from → (0 < from → has_two left from (length left) ≡ true) → take number (tokens_by first (left ++ more)) ≡ take number (tokens_by first left)
   sure_stays left more from zero is whole few at two = refl
   sure_stays left more from (suc k) is whole few at two =
-      let b : ℕ = bound (tokens_by first left) (suc k) in
       let positive : 0 < from = omega (arith, at, rises law left is 0 (omega arith), bound_mono (tokens_by first left) 1 (suc k) (omega arith)) in
-      let has : has_two left b (length left) ≡ true = subst (λ (p : ℕ). has_two left p (length left) ≡ true) (sym at) (two positive) in
-      let cut : IsCutAt first left (tokens_by first left) (suc k) = at_bound law (suc k) left is in
-      let middle : IsUtf8 (take (length left - b) (drop b left)) = IsUtf8-between left b (length left) is.utf8 cut.inside (IsCharBoundary-from_drop left b cut.inside cut.past.utf8) (IsCharBoundary-end left) in
-      tokens_local law (suc k) left (left ++ more) is whole few (has_two-agree left (left ++ more) b (length left) middle (take_at left more (length left) refl ∙ sym (take-length left)) has)
+      stays_at law left is more (suc k) whole few (rw at (two positive))
 
-  -- so the tokens are those up to there, and those of what is left
-  pub sure_split : (left more : List ℕ) (from : ℕ) → IsText left → IsText (left ++ more) → IsSure first left from → IsSplit first left more from
-  sure_split left more from is whole at =
+  -- so a text touches another exactly if what it has past one does
+  pub sure_touch : (left more : List ℕ) (from : ℕ) → IsText left → IsText (left ++ more) → IsSure first left from → (from ≤ length left) × (Touch left more ↔ Touch (drop from left) more)
+  sure_touch left more from is whole at =
       let k : ℕ = at.number in
-      let front : List Token = take k (tokens_by first left) in
       let cut : IsCutAt first left (tokens_by first left) k = at_bound law k left is in
       let its_cut : IsCutAt first (left ++ more) (tokens_by first (left ++ more)) k = at_bound law k (left ++ more) whole in
-      let stays : take k (tokens_by first (left ++ more)) ≡ front = sure_stays left more from k is whole at.few at.offset_is at.two in
+      let stays : take k (tokens_by first (left ++ more)) ≡ take k (tokens_by first left) = sure_stays left more from k is whole at.few at.offset_is at.two in
       let same : bound (tokens_by first (left ++ more)) k ≡ from = bound-same k (tokens_by first (left ++ more)) (tokens_by first left) stays ∙ at.offset_is in
       let inside : from ≤ length left = omega (arith, cut.inside, at.offset_is) in
-      let rest : drop k (tokens_by first left) ≡ tokens_by first (drop from left) = cut.rest ∙ ap (λ (p : ℕ). tokens_by first (drop p left)) at.offset_is in
-      let its_rest : drop k (tokens_by first (left ++ more)) ≡ tokens_by first (drop from left ++ more) =
-      its_cut.rest ∙ (ap (λ (p : ℕ). tokens_by first (drop p (left ++ more))) same ∙ ap (tokens_by first) (drop-append-le from left more inside)) in
-      record {
-        front = front;
-        alone = sym (take-append-drop k (tokens_by first left)) ∙ ap (λ (ts : List Token). front ++ ts) rest;
-        together = sym (take-append-drop k (tokens_by first (left ++ more))) ∙ (ap (λ (ts : List Token). ts ++ drop k (tokens_by first (left ++ more))) stays ∙ ap (λ (ts : List Token). front ++ ts) its_rest);
-        inside = inside;
-      }
-
-  -- the text keeps its tokens before others exactly if its end does
-  pub near_touch : (left more : List ℕ) (from : ℕ) (us : List Token) → IsSplit first left more from → tokens_by first (left ++ more) ≡ tokens_by first left ++ us ↔ tokens_by first (drop from left ++ more) ≡ tokens_by first (drop from left) ++ us
-  near_touch left more from us s = grind (arith, common_steps, append_assoc, append_cancel_left)
+      let rest : drop k (tokens_by first left) ≡ tokens_by first (drop from left) = rw at.offset_is at cut.rest in
+      let its_rest : drop k (tokens_by first (left ++ more)) ≡ tokens_by first (drop from left ++ more) = rw (same, drop-append-le from left more inside) at its_cut.rest in
+      (inside, front_cancels (take k (tokens_by first left)) _ _ (tokens_by first more)
+      (sym (take-append-drop k (tokens_by first (left ++ more))) ∙ (ap (λ (ts : List Token). ts ++ drop k (tokens_by first (left ++ more))) stays ∙ ap (λ (ts : List Token). take k (tokens_by first left) ++ ts) its_rest))
+      (sym (take-append-drop k (tokens_by first left)) ∙ ap (λ (ts : List Token). take k (tokens_by first left) ++ ts) rest))
 
 -- a separator that keeps texts apart touches the second
 pub separated_past : (edition : Edition) (text : List ℕ) (at len : ℕ) → IsText text → IsCharBoundary text at → IsSeparated edition (take at text) (take len (drop at text)) (drop len (drop at text)) → MayTouch edition (take len (drop at text)) (drop len (drop at text))
@@ -139,52 +124,10 @@ module _ (edition : Edition) (text : List ℕ) (at : ℕ) (is : IsText text) (cu
 
 -- ---- the first separator that parts a text and a piece
 
-module _ (edition : Edition) (text piece : List ℕ) where
-  abbrev Tokens : List ℕ → List Token
-  Tokens bytes = tokens_by (first_in edition) bytes
+pub nothing-separates : (edition : Edition) (text piece : List ℕ) → IsSeparated edition text [] piece → MayTouch edition text piece
+nothing-separates edition text piece e = rw tokens-nil at e
 
-  no_tokens : (us : List Token) → Tokens [] ++ us ≡ us
-  no_tokens us = ap (λ (ts : List Token). ts ++ us) (tokens-nil (first_in edition))
+pub touching-separated : (edition : Edition) (text piece : List ℕ) → MayTouch edition text piece → IsSeparated edition text [] piece
+touching-separated edition text piece e = rw tokens-nil e
 
-  pub touching : IsSeparated edition text [] piece ↔ MayTouch edition text piece
-  touching = (
-    λ e. e ∙ ap (λ (ts : List Token). Tokens text ++ ts) (no_tokens (Tokens piece)),
-    λ e. e ∙ ap (λ (ts : List Token). Tokens text ++ ts) (sym (no_tokens (Tokens piece))),
-  )
-
-  -- what a call leaves of the text, by its answer
-  abbrev pub Put : Bool → List ℕ → List ℕ → List ℕ → Type 0
-  Put answer before between after = after ≡ (if answer then before ++ (between ++ piece) else before)
-
-  pub joined_touching : {answer : Bool} (after : List ℕ) → IsTrue answer ↔ IsSeparated edition text [] piece → Put answer text [] after → answer ≡ true → IsJoined edition text piece after
-  joined_touching {answer} after parted put hit =
-      let is : after ≡ text ++ piece = put ∙ rw hit refl in
-      subst (IsJoined edition text piece) (sym is) (the.touching (touching.0 (parted.0 hit)))
-
-  -- a text that a call left as it was
-  pub left_same : {answer : Bool} (before between after : List ℕ) → Put answer before between after → answer ≡ false → after ≡ before
-  left_same before between after put miss = put ∙ rw miss refl
-
-  not_touching : {answer : Bool} → IsTrue answer ↔ IsSeparated edition text [] piece → answer ≡ false → MayTouch edition text piece → ⊥
-  not_touching parted miss touch = true≢false (sym (parted.1 (touching.1 touch)) ∙ miss)
-
-  not_parted : {answer : Bool} (before between : List ℕ) → before ≡ text → IsTrue answer ↔ IsSeparated edition before between piece → answer ≡ false → IsSeparated edition text between piece → ⊥
-  not_parted before between same parted miss apart = true≢false (sym (parted.1 (subst (λ (bytes : List ℕ). IsSeparated edition bytes between piece) (sym same) apart)) ∙ miss)
-
-  pub joined_spaced : {one two : Bool} (before after : List ℕ) → IsTrue one ↔ IsSeparated edition text [] piece → one ≡ false → before ≡ text
-      → IsTrue two ↔ IsSeparated edition before (codes " ") piece → Put two before (codes " ") after → two ≡ true → IsJoined edition text piece after
-  joined_spaced before after a miss same b put hit =
-      let is : after ≡ text ++ (codes " " ++ piece) = put ∙ (rw hit refl ∙ ap (λ (bytes : List ℕ). bytes ++ (codes " " ++ piece)) same) in
-      subst (IsJoined edition text piece) (sym is) (the.spaced (not_touching a miss) (subst (λ (bytes : List ℕ). IsSeparated edition bytes (codes " ") piece) same (b.0 hit)))
-
-  pub joined_on_a_line : {one two three : Bool} (before again after : List ℕ) → IsTrue one ↔ IsSeparated edition text [] piece → one ≡ false → before ≡ text
-      → IsTrue two ↔ IsSeparated edition before (codes " ") piece → two ≡ false → again ≡ before
-      → IsTrue three ↔ IsSeparated edition again (codes "\n") piece → Put three again (codes "\n") after → three ≡ true → IsJoined edition text piece after
-  joined_on_a_line before again after a miss same b miss_too same_too d put hit =
-      let is : after ≡ text ++ (codes "\n" ++ piece) = put ∙ (rw hit refl ∙ ap (λ (bytes : List ℕ). bytes ++ (codes "\n" ++ piece)) (same_too ∙ same)) in
-      subst (IsJoined edition text piece) (sym is) (the.on_a_line (not_touching a miss) (not_parted before (codes " ") same b miss_too) (subst (λ (bytes : List ℕ). IsSeparated edition bytes (codes "\n") piece) (same_too ∙ same) (d.0 hit)))
-
-  pub stay_apart : {one two three : Bool} (before again : List ℕ) → IsTrue one ↔ IsSeparated edition text [] piece → one ≡ false → before ≡ text
-      → IsTrue two ↔ IsSeparated edition before (codes " ") piece → two ≡ false → again ≡ before
-      → IsTrue three ↔ IsSeparated edition again (codes "\n") piece → three ≡ false → AreInseparable edition text piece
-  stay_apart before again a miss same b miss_too same_too d miss_last = grind (arith, common_steps, touching, not_touching, not_parted)
+pub ruleset joined_lemmas = (nothing-separates, touching-separated, the.touching, the.spaced, the.on_a_line)

@@ -1,7 +1,7 @@
 -- A text that grows at its end: what comes past a bound that is sure decides whether its tokens stay, and that bound moves on.
 use Rattle.std.proofs.Common.{◌≡◌, ◌↔◌, ℕ, zero, suc, ◌+◌, ◌-◌, ◌^◌, ◌<◌, ◌≤◌, true, List, ◌++◌, codes, length, take, drop, refl, sym, ap, ◌∙◌, subst, arith, length-append, length-drop, length-take, length-take-le, take-append-drop, drop-drop, take_all, chars, IsUtf8, IsCharBoundary}
 use Rattle.std.proofs.lemmas.Grind.{common_steps}
-use Rattle.std.proofs.lemmas.List.{drop-append-le, drop-take}
+use Rattle.std.proofs.lemmas.List.{drop-append-le, take_rest}
 use Rattle.std.proofs.lemmas.Str.{IsCharBoundary-from_drop, IsUtf8-append, IsUtf8-between, IsUtf8-drop, IsUtf8-take, chars-append}
 use Rattle.rustc_lexer.specs.{Edition, Token}
 use Rattle.rustc_lexer.specs.Answers.{first_in}
@@ -13,9 +13,9 @@ use Rattle.rustc_lexer.specs.Partition.{bound, tokens_by}
 use Rattle.rustc_lexer.specs.laws.Cuts.{IsCutAt, at_bound, tokens_local}
 use Rattle.rustc_lexer.specs.laws.Edition.{edition_grammar}
 use Rattle.rustc_lexer.specs.means.Joined.{IsSure}
-use Rattle.rustc_lexer.proofs.lemmas.edits.FrontAndBack.{bound-same, has_two-agree, has_two-before, has_two-count, has_two-intro, has_two-same}
+use Rattle.rustc_lexer.proofs.lemmas.edits.FrontAndBack.{bound-same, drop_of-take, has_two-agree, has_two-before, has_two-count, has_two-intro, has_two-same}
 use Rattle.rustc_lexer.proofs.lemmas.edits.KeptFront.{bound-shift}
-use Rattle.rustc_lexer.proofs.lemmas.joined.Joined.{IsSplit, near_touch, sure_split, sure_stays}
+use Rattle.rustc_lexer.proofs.lemmas.joined.Joined.{IsSeamFrom, sure_touch, sure_stays}
 
 pub sure_start : (edition : Edition) (text : List ℕ) → IsSure (first_in edition) text 0
 sure_start edition text = record { number = 0; few = omega arith; offset_is = refl; two = λ some. absurd (omega (arith, some)) }
@@ -29,15 +29,8 @@ module _ {first : List ℕ → Token} (law : IsGrammar first) where
   -- two characters past an offset stay there
   two_more : (text more : List ℕ) (from : ℕ) → IsText text → IsCharBoundary text from → has_two text from (length text) ≡ true → has_two (text ++ more) from (length (text ++ more)) ≡ true
   two_more text more from is cut two =
-      let rest : List ℕ = drop from text in
-      let size : length rest ≡ length text - from = length-drop from text in
-      let all : take (length text - from) rest ≡ rest = take_all (length text - from) rest (omega (arith, size)) in
-      let enough : 2 ≤ length (chars rest) = subst (λ (xs : List ℕ). 2 ≤ length (chars xs)) all (has_two-count text from (length text) two) in
-      let its : drop from (text ++ more) ≡ rest ++ more = drop-append-le from text more cut.0 in
-      let its_all : take (length (text ++ more) - from) (drop from (text ++ more)) ≡ rest ++ more =
-      take_all (length (text ++ more) - from) (drop from (text ++ more)) (omega (arith, length-drop from (text ++ more))) ∙ its in
-      let long : 2 ≤ length (chars (rest ++ more)) = omega (arith, enough, ap length (chars-append rest more (IsUtf8-drop text from is.utf8 cut)), length-append (chars rest) (chars more)) in
-      has_two-intro (text ++ more) from (length (text ++ more)) (subst (λ (xs : List ℕ). 2 ≤ length (chars xs)) (sym its_all) long)
+      let enough : 2 ≤ length (chars (drop from text)) = rw (take_rest text from) at (has_two-count text from (length text) two) in
+      has_two-intro (text ++ more) from (length (text ++ more)) (rw (take_rest (text ++ more) from, drop-append-le from text more cut.0, chars-append (drop from text) more (IsUtf8-drop text from is.utf8 cut)) (omega (arith, length-append (chars (drop from text)) (chars more))))
 
   sure_grown : (text more : List ℕ) (from : ℕ) → IsText text → IsText (text ++ more) → IsSure first text from → IsSure first (text ++ more) from
   sure_grown text more from is whole at =
@@ -90,10 +83,8 @@ module _ {first : List ℕ → Token} (law : IsGrammar first) where
           let none : from + more ≡ from = omega arith in
           subst (λ (p : ℕ). has_two text p (length text) ≡ true) (sym none) (at.two (omega arith))
       two (suc n) e some =
-          let count = has_two-count (drop from text) more (length (drop from text)) (settled.two (omega arith)) in
-          let size : length (drop from text) - more ≡ length text - (from + more) = omega (arith, length-drop from text) in
-          let same : take (length (drop from text) - more) (drop more (drop from text)) ≡ take (length text - (from + more)) (drop (from + more) text) = ap (λ (m : ℕ). take m (drop more (drop from text))) size ∙ ap (take (length text - (from + more))) (drop-drop more from text) in
-          has_two-intro text (from + more) (length text) (subst (λ (xs : List ℕ). 2 ≤ length (chars xs)) same count)
+          let count = rw (take_rest (drop from text) more, drop-drop more from text) at (has_two-count (drop from text) more (length (drop from text)) (settled.two (omega arith))) in
+          has_two-intro text (from + more) (length text) (rw (take_rest text (from + more)) count)
 
 module _ (edition : Edition) where
   abbrev law : IsGrammar (first_in edition)
@@ -114,65 +105,32 @@ module _ (edition : Edition) where
   tail-decides text at is cut =
       let left : List ℕ = take at text in
       let left_is : IsText left = record { utf8 = IsUtf8-take text at is.utf8 cut; fits = omega (arith, length-take at text, is.fits) } in
-      λ k few two. near_touch law left (drop at text) (bound (tokens_by first left) k) (tokens_by first (drop at text))
-      (sure_split law left (drop at text) (bound (tokens_by first left) k) left_is (subst IsText (sym (take-append-drop at text)) is) record { number = k; few = few; offset_is = refl; two = λ some. two })
+      λ k few two. (sure_touch law left (drop at text) (bound (tokens_by first left) k) left_is (rw (take-append-drop at text) is) record { number = k; few = few; offset_is = refl; two = λ some. two }).1
 
-  pub record IsNear (text : List ℕ) (sure at : ℕ) : Type 0 where
-    pub inside : sure ≤ at
-    pub boundary : IsCharBoundary text sure
-    pub at_boundary : IsCharBoundary (drop sure text) (at - sure)
-    pub touch : MayTouch edition (take (at - sure) (drop sure text)) (drop (at - sure) (drop sure text)) ↔ MayTouch edition (take at text) (drop at text)
-
-  pub near : (text : List ℕ) (sure at : ℕ) → IsText text → IsCharBoundary text at → IsSure first (take at text) sure → IsNear text sure at
+  pub near : (text : List ℕ) (sure at : ℕ) → IsText text → IsCharBoundary text at → IsSure first (take at text) sure → IsSeamFrom edition text at sure
   near text sure at is cut here =
       let left : List ℕ = take at text in
-      let right : List ℕ = drop at text in
       let left_is : IsText left = record { utf8 = IsUtf8-take text at is.utf8 cut; fits = omega (arith, length-take at text, is.fits) } in
-      let whole : left ++ right ≡ text = take-append-drop at text in
-      let split : IsSplit first left right sure = sure_split law left right sure left_is (subst IsText (sym whole) is) here in
-      let touch = near_touch law left right sure (tokens_by first right) split in
-      let few : sure ≤ at = (let i = split.inside in omega (arith, length-take-le at text cut.0)) in
-      let sum : sure + (at - sure) ≡ at = omega arith in
-      let past : drop sure text ≡ drop sure left ++ right = ap (drop sure) (sym whole) ∙ drop-append-le sure left right split.inside in
-      let front : take (at - sure) (drop sure text) ≡ drop sure left = sym (ap (λ (n : ℕ). drop sure (take n text)) (sym sum) ∙ drop-take sure (at - sure) text) in
-      let back : drop (at - sure) (drop sure text) ≡ right = drop-drop (at - sure) sure text ∙ ap (λ (n : ℕ). drop n text) sum in
-      let right_utf8 : IsUtf8 right = IsUtf8-drop text at is.utf8 cut in
-      let utf8 : IsUtf8 (drop sure text) = subst IsUtf8 (sym past) (IsUtf8-append (drop sure left) right (IsUtf8-drop left sure left_is.utf8 (sure_place law left sure left_is here)) right_utf8) in
+      let split = sure_touch law left (drop at text) sure left_is (rw (take-append-drop at text) is) here in
+      let few : sure ≤ at = omega (arith, split.0, length-take-le at text cut.0) in
+      let past : drop sure text ≡ drop sure left ++ drop at text = rw (take-append-drop at text) at (drop-append-le sure left (drop at text) split.0) in
       record {
         inside = few;
-        boundary = IsCharBoundary-from_drop text sure (omega (arith, few, cut.0)) utf8;
-        at_boundary = IsCharBoundary-from_drop (drop sure text) (at - sure) (omega (arith, few, cut.0, length-drop sure text)) (subst IsUtf8 (sym back) right_utf8);
-        touch = rw (front, back) (touch.1, touch.0);
+        boundary = IsCharBoundary-from_drop text sure (omega (arith, cut.0)) (rw past (IsUtf8-append (drop sure left) (drop at text) (IsUtf8-drop left sure left_is.utf8 (sure_place law left sure left_is here)) (IsUtf8-drop text at is.utf8 cut)));
+        touch = rw (drop_of-take sure at text) at split.1;
       }
 
   -- ---- a text past a piece
-
-  -- what a piece adds to a text
-  record IsMore (text piece new : List ℕ) : Type 0 where
-    more : List ℕ
-    new_is : new ≡ text ++ more
-    short : length more ≤ length piece + 1
-
-  joined_more : {text piece new : List ℕ} → IsJoined edition text piece new → IsMore text piece new
-  joined_more {piece = piece} (the.touching touch) = record { more = piece; new_is = refl; short = omega arith }
-  joined_more {piece = piece} (the.spaced apart parted) = record { more = codes " " ++ piece; new_is = refl; short = omega arith }
-  joined_more {piece = piece} (the.on_a_line apart spaced parted) = record { more = codes "\n" ++ piece; new_is = refl; short = omega arith }
 
   -- no other text is joined so
   pub joined-only : {text piece one other : List ℕ} → IsJoined edition text piece one → IsJoined edition text piece other → other ≡ one
   joined-only w0 w1 = grind (arith, common_steps)
 
   -- what was sure is so in the new text
-  pub record IsGrown (new : List ℕ) (from : ℕ) : Type 0 where
-    pub is : IsText new
-    pub sure : IsSure first new from
+  grown_by : (text more : List ℕ) (from : ℕ) → IsText text → IsSure first text from → length text + length more < 2 ^ 32 → IsUtf8 (text ++ more) → IsText (text ++ more) × IsSure first (text ++ more) from
+  grown_by text more from is at room utf8 = let whole : IsText (text ++ more) = record { utf8 = utf8; fits = omega (arith, length-append text more) } in (whole, sure_grown law text more from is whole at)
 
-  pub grown : (text held piece new : List ℕ) (from : ℕ) → IsText text → IsSure first text from → held ≡ text → length text + (length piece + 1) < 2 ^ 32 → IsJoined edition held piece new → IsUtf8 new → IsGrown new from
-  grown text held piece new from is at same room joined utf8 =
-      let m : IsMore held piece new = joined_more joined in
-      let whole : new ≡ text ++ m.more = m.new_is ∙ ap (λ (xs : List ℕ). xs ++ m.more) same in
-      let new_is : IsText new = record { utf8 = utf8; fits = omega (arith, m.short, room, ap length whole, length-append text m.more) } in
-      record {
-        is = new_is;
-        sure = subst (λ (xs : List ℕ). IsSure first xs from) (sym whole) (sure_grown law text m.more from is (subst IsText whole new_is) at);
-      }
+  pub grown : {text piece new : List ℕ} (from : ℕ) → IsJoined edition text piece new → IsText text → IsSure first text from → length text + (length piece + 1) < 2 ^ 32 → IsUtf8 new → IsText new × IsSure first new from
+  grown {text} {piece} from (the.touching touch) is at room utf8 = grown_by text piece from is at (omega arith) utf8
+  grown {text} {piece} from (the.spaced apart parted) is at room utf8 = grown_by text (codes " " ++ piece) from is at (omega arith) utf8
+  grown {text} {piece} from (the.on_a_line apart spaced parted) is at room utf8 = grown_by text (codes "\n" ++ piece) from is at (omega arith) utf8

@@ -1,4 +1,5 @@
-use Rattle.std.proofs.Common.{arith, length-drop}
+use Rattle.std.proofs.Common.{◌≡◌, ◌+◌, ◌-◌, arith, drop-drop, length-drop}
+use Rattle.std.proofs.lemmas.Str.{IsCharBoundary-from_drop, IsUtf8-drop}
 use Rattle.rustc_lexer.proofs.lemmas.joined.Sure.{near}
 use Rattle.rustc_lexer.proofs.relex.joined.stays.Goals as goal
 
@@ -8,15 +9,15 @@ range_from-requires c = λ some. (near c.args.edition c.args.text.now c.args.sur
 pub overflow_sub-at : goal.overflow_sub-at
 overflow_sub-at c = (near c.args.edition c.args.text.now c.args.sure c.args.at record { utf8 = c.utf8.text; fits = c.requires.fits } c.requires.boundary c.requires.sure).inside
 
-pub is_seam-requires : goal.is_seam-requires
-is_seam-requires c =
-    rw c.range_from.ensures.value record {
-      fits = omega (arith, c.requires.fits, length-drop c.args.sure c.args.text.now);
-      boundary = (near c.args.edition c.args.text.now c.args.sure c.args.at record { utf8 = c.utf8.text; fits = c.requires.fits } c.requires.boundary c.requires.sure).at_boundary;
-    }
+pub is_seam-requires-clause-boundary : goal.is_seam-requires-clause-boundary
+is_seam-requires-clause-boundary c =
+    let its = near c.args.edition c.args.text.now c.args.sure c.args.at record { utf8 = c.utf8.text; fits = c.requires.fits } c.requires.boundary c.requires.sure in
+    let sum : c.args.sure + (c.args.at - c.args.sure) ≡ c.args.at = omega (arith, its.inside) in
+    rw c.range_from.ensures.value (IsCharBoundary-from_drop _ (c.args.at - c.args.sure) (omega (arith, length-drop c.args.sure c.args.text.now, c.requires.boundary.0)) (rw (drop-drop (c.args.at - c.args.sure) c.args.sure c.args.text.now, sum) (IsUtf8-drop _ c.args.at c.utf8.text c.requires.boundary)))
 
 pub returns : goal.returns
 returns c =
-    let its = (near c.args.edition c.args.text.now c.args.sure c.args.at record { utf8 = c.utf8.text; fits = c.requires.fits } c.requires.boundary c.requires.sure).touch in
-    let answer = rw c.range_from.ensures.value at c.is_seam.ensures.touch in
-    (λ t. its.0 (answer.0 t), λ touch. answer.1 (its.1 touch))
+    let its = near c.args.edition c.args.text.now c.args.sure c.args.at record { utf8 = c.utf8.text; fits = c.requires.fits } c.requires.boundary c.requires.sure in
+    let sum : c.args.sure + (c.args.at - c.args.sure) ≡ c.args.at = omega (arith, its.inside) in
+    let answer = rw (c.range_from.ensures.value, drop-drop (c.args.at - c.args.sure) c.args.sure c.args.text.now, sum) at c.is_seam.ensures.touch in
+    (λ t. its.touch.1 (answer.0 t), λ touch. answer.1 (its.touch.0 touch))

@@ -18,14 +18,14 @@ returns-then-not-append_separated-clause-closed c =
 pub sure_later-self-inside-requires : goal.sure_later-self-inside-requires
 sure_later-self-inside-requires c =
     let room : length (string_bytes c.self.inside.text) + (length c.args.piece.now + 1) < 2 ^ 32 = omega arith in
-    let g = grown c.self.inside.edition (string_bytes c.self.inside.text) (string_bytes c.reserve.new.self) c.args.piece.now (string_bytes c.append_separated.new.text) c.self.inside.sure c.self.invariant.0 c.self.invariant.1 c.reserve.ensures.bytes room (c.append_separated.ensures.joined c.if-not-append_separated.false) (IsUtf8-string_bytes c.append_separated.new.text) in
-    rw c.as_str.ensures.value record { fits = g.is.fits; sure = g.sure }
+    let g = grown c.self.inside.edition c.self.inside.sure (rw c.reserve.ensures.bytes at (c.append_separated.ensures.joined c.if-not-append_separated.false)) c.self.invariant.0 c.self.invariant.1 room (IsUtf8-string_bytes c.append_separated.new.text) in
+    rw c.as_str.ensures.value record { fits = g.0.fits; sure = g.1 }
 
 pub invariant_of-self-2 : goal.invariant_of-self-2
 invariant_of-self-2 c =
     let room : length (string_bytes c.self.inside.text) + (length c.args.piece.now + 1) < 2 ^ 32 = omega arith in
-    let g = grown c.self.inside.edition (string_bytes c.self.inside.text) (string_bytes c.reserve.new.self) c.args.piece.now (string_bytes c.append_separated.new.text) c.self.inside.sure c.self.invariant.0 c.self.invariant.1 c.reserve.ensures.bytes room (c.append_separated.ensures.joined c.if-not-append_separated.false) (IsUtf8-string_bytes c.append_separated.new.text) in
-    (g.is, subst (λ (xs : List ℕ). IsSure (first_in c.self.inside.edition) xs c.sure_later-self-inside.result) c.as_str.ensures.value c.sure_later-self-inside.ensures)
+    let g = grown c.self.inside.edition c.self.inside.sure (rw c.reserve.ensures.bytes at (c.append_separated.ensures.joined c.if-not-append_separated.false)) c.self.invariant.0 c.self.invariant.1 room (IsUtf8-string_bytes c.append_separated.new.text) in
+    (g.0, subst (λ (xs : List ℕ). IsSure (first_in c.self.inside.edition) xs c.sure_later-self-inside.result) c.as_str.ensures.value c.sure_later-self-inside.ensures)
 
 pub returns-clause-only : goal.returns-clause-only
 returns-clause-only c =
