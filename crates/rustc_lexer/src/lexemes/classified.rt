@@ -7,6 +7,7 @@ use crate::token::TokenKind;
 
 /// Returns the known ends of runs past an offset.
 #[inline(always)]
+#[tactic(auto, using(crate::proofs::lemmas::tokens::Bits::bit_lemmas, std::proofs::lemmas::Grind::common_steps))]
 pub(crate) fn ends_after(ends: u64, offset: usize) -> u64
     ensures gone { (k : ℕ) → k ≤ offset → bit result k ≡ false }
     ensures others { (k : ℕ) → offset < k → bit result k ≡ bit ends k }

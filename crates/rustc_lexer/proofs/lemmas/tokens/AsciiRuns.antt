@@ -4,13 +4,14 @@ use Rattle.std.specs.Char.{encode_utf8}
 use Rattle.std.specs.List.{prefix_len}
 use Rattle.std.specs.Str.{chars, encode_utf8_all, IsUtf8, IsCharBoundary}
 use Rattle.std.proofs.lemmas.Bool.{ltb-false, ltb-true}
-use Rattle.std.proofs.lemmas.Str.{chars-nil, chars_past_char, encodes-chars, IsUtf8-past_char, encode_ascii, IsCharBoundary-from_drop}
+use Rattle.std.proofs.lemmas.Str.{chars-nil, chars_past_char, encodes-chars, IsUtf8-past_char, byte_from_char, encode_ascii, IsCharBoundary-from_drop}
 use Rattle.std.proofs.lemmas.List.Sums.{prefix_len-le-length}
 use Rattle.std.proofs.lemmas.Grind.{common_steps}
 use Rattle.rustc_lexer.specs.means.ByteRuns.{is_wide}
 use Rattle.rustc_lexer.specs.means.Scan.{past, next_is, run_len}
 use Rattle.rustc_lexer.specs.laws.Choice.{by_either}
 use Rattle.rustc_lexer.specs.laws.Past.{past-one}
+use Rattle.rustc_lexer.proofs.lemmas.tokens.Runs.{run_ends}
 
 -- a text that begins with a byte of ASCII
 module _ (b : ℕ) (bs : List ℕ) (is : IsUtf8 (b ∷ bs)) (small : b < 128) where
@@ -22,6 +23,9 @@ module _ (b : ℕ) (bs : List ℕ) (is : IsUtf8 (b ∷ bs)) (small : b < 128) wh
 
   pub IsUtf8-ascii : IsUtf8 bs
   IsUtf8-ascii = IsUtf8-past_char (b ∷ bs) bs b is reads
+
+  pub past-ascii : bs ≡ past 1 (b ∷ bs)
+  past-ascii = sym (past-one (b ∷ bs) bs b is reads)
 
 -- q is the ASCII part of the class p
 pub record IsPart (q p : ℕ → Bool) : Type 0 where
@@ -61,10 +65,14 @@ skips q p part (b ∷ bs) is = by_either (q b)
     let none : prefix_len q (b ∷ bs) ≡ 0 = rw e refl in
     subst (λ n. Skips q p (b ∷ bs) (drop n (b ∷ bs))) (sym none) record { utf8 = is; run = refl; stops = e })
 
--- a text that begins with no byte of the class, nor with one that is not in ASCII
-stays : (q p : ℕ → Bool) → IsPart q p → (left : List ℕ) → IsUtf8 left → next_is q left ≡ false → next_is is_wide left ≡ false → past_run p (chars left) ≡ left
-stays q p part w3 is stops narrow =
-    grind (arith, common_steps, chars-nil, ltb-true, chars-ascii, past_run-out, encodes-chars)
+-- where the next character is not of the class the run ends
+pub run_over : (q p : ℕ → Bool) (text left : List ℕ) → Skips q p text left → next_is p (chars left) ≡ false → left ≡ past (run_len p (chars text)) text
+unfolding past
+run_over q p text left at out = sym (at.run ∙ run_ends p left at.utf8 out)
+
+-- neither a byte of the class is next, nor one that is not in ASCII
+none_next : (q p : ℕ → Bool) → IsPart q p → (left : List ℕ) → IsUtf8 left → next_is q left ≡ false → next_is is_wide left ≡ false → next_is p (chars left) ≡ false
+none_next q p part w3 is stops narrow = grind (arith, common_steps, chars-nil, ltb-true, chars-ascii)
 
 -- where the bytes of the class at the front of a text end, it may be cut, and the run of the class goes on from there
 module _ (q p : ℕ → Bool) (part : IsPart q p) (text bytes : List ℕ) (end : ℕ) (is : IsUtf8 text) (read : bytes ≡ text) (counted : end ≡ prefix_len q bytes) where
@@ -88,18 +96,7 @@ module _ (q p : ℕ → Bool) (part : IsPart q p) (text bytes : List ℕ) (end :
     goes_on rest g = g ∙ (ap (λ xs. past_run p (chars xs)) f ∙ sym there.run)
 
     pub stops_here : next_is is_wide left ≡ false → left ≡ past (run_len p (chars text)) text
-    unfolding past there e
-    stops_here narrow = grind (arith, common_steps, there, stays)
-
--- where the run ends
-module _ (q p : ℕ → Bool) (text left : List ℕ) (at : Skips q p text left) where
-  pub ends_out : (c : ℕ) (cs : List ℕ) → chars left ≡ c ∷ cs → p c ≡ false → left ≡ past (run_len p (chars text)) text
-  unfolding past
-  ends_out c cs reads out = sym (at.run ∙ (ap (past_run p) reads ∙ (past_run-out p c cs out ∙ (ap encode_utf8_all (sym reads) ∙ encodes-chars left at.utf8))))
-
-  pub ends_none : chars left ≡ [] → left ≡ past (run_len p (chars text)) text
-  unfolding past
-  ends_none none = sym (at.run ∙ (ap (past_run p) none ∙ (ap encode_utf8_all (sym none) ∙ encodes-chars left at.utf8)))
+    stops_here narrow = run_over q p text left left_there (none_next q p part left left_there.utf8 left_there.stops narrow)
 
 -- a class in ASCII: its characters are its bytes
 module _ (p : ℕ → Bool) (small : (c : ℕ) → p c ≡ true → c < 128) where
@@ -115,8 +112,7 @@ module _ (p : ℕ → Bool) (small : (c : ℕ) → p c ≡ true → c < 128) whe
       first_byte [] e f = absurd (true≢false (sym f))
       first_byte (c ∷ cs) e f =
           let in_ascii : c < 128 = small c f in
-          let whole : d ∷ ds ≡ c ∷ encode_utf8_all cs = sym (encodes-chars (d ∷ ds) is) ∙ (ap encode_utf8_all e ∙ ap (λ (xs : List ℕ). xs ++ encode_utf8_all cs) (encode_ascii c in_ascii)) in
-          let same : d ≡ c = ap (λ (xs : List ℕ). get_or xs 0 0) whole in
+          let same : d ≡ c = byte_from_char (d ∷ ds) (encode_utf8_all cs) c (sym (encodes-chars (d ∷ ds) is) ∙ ap encode_utf8_all e) in_ascii in
           omega arith
 
       none : 128 ≤ d → (t : Bool) → next_is p (chars (d ∷ ds)) ≡ t → next_is p (chars (d ∷ ds)) ≡ false
@@ -129,7 +125,7 @@ module _ (p : ℕ → Bool) (small : (c : ℕ) → p c ≡ true → c < 128) whe
   front_small (d ∷ ds) is e =
       let in_ascii = small d e in (
         IsCharBoundary-from_drop (d ∷ ds) 1 (omega arith) (IsUtf8-ascii d ds is in_ascii),
-        sym (past-one (d ∷ ds) ds d is (reads d ds is in_ascii)),
+        past-ascii d ds is in_ascii,
         omega arith,
       )
 
@@ -141,11 +137,6 @@ module _ (p : ℕ → Bool) (small : (c : ℕ) → p c ≡ true → c < 128) whe
   may_cut_small text bytes end is read counted = may_cut p p whole_part text bytes end is read counted
 
   pub past_small : (text bytes : List ℕ) (end : ℕ) → IsUtf8 text → bytes ≡ text → end ≡ prefix_len p bytes → (left : List ℕ) → left ≡ drop end text → left ≡ past (run_len p (chars text)) text
-  past_small text bytes end is read counted left f = by_chars (chars left) refl
-    where
-      at : Skips p p text left
-      at = left_there p p whole_part text bytes end is read counted left f
-
-      by_chars : (cs : List ℕ) → chars left ≡ cs → left ≡ past (run_len p (chars text)) text
-      by_chars [] e = ends_none p p text left at e
-      by_chars (c ∷ cs) e = ends_out p p text left at c cs e (sym (ap (next_is p) e) ∙ (next_byte left at.utf8 ∙ at.stops))
+  past_small text bytes end is read counted left f =
+      let at = left_there p p whole_part text bytes end is read counted left f in
+      run_over p p text left at (next_byte left at.utf8 ∙ at.stops)

@@ -1,16 +1,17 @@
 -- One bit of a word, through each operation on it.
-use Rattle.std.proofs.Common.{◌≡◌, ℕ, zero, suc, ◌+◌, ◌-◌, ◌*◌, ◌/◌, ◌%◌, ◌^◌, ◌<◌, ◌≤◌, min, max, Bool, true, false, true≢false, not, ◌&&◌, ◌||◌, ◌==◌, List, get_or, refl, sym, ap, ap₂, ◌∙◌, subst, arith, w64, bit_and, bit_or, inl, inr, nat_lt}
+use Rattle.std.proofs.Common.{◌≡◌, ℕ, zero, suc, ◌+◌, ◌-◌, ◌*◌, ◌/◌, ◌%◌, ◌^◌, ◌<◌, ◌≤◌, min, max, length, map, Bool, true, false, true≢false, not, ◌&&◌, ◌||◌, ◌==◌, List, get_or, refl, sym, ap, ap₂, ◌∙◌, subst, arith, w64, bit_and, bit_or, inl, inr, nat_lt}
 use Rattle.std.specs.Int.{bit_at}
 use Rattle.std.proofs.lemmas.Bool.{agree_below_at, and_left, and_right, cases_lt, eqb-true, le-ltb, lt-ltb}
 use Rattle.std.proofs.lemmas.Nat.{pow_pos, and_le_l, and_le_r, or_lt, shl-shr, shr-shr, shr_le}
 use Rattle.std.proofs.lemmas.Nat.Bits.{bit_at_and, bit_at_or, bit_at_not, bit_at_lowest, bit_at-lt, bit_at-suc, bit_at-zero, bit_at_above, bit_at_cat_high, bit_at_cat_low, bit_at_mask_below, bit_at_mask_inside, bit_at-trailing_zeros, ones_shl}
-use Rattle.std.proofs.lemmas.Simd.{bit_mask_l}
+use Rattle.std.proofs.lemmas.Simd.{bit_mask_l, length-chunk, get_or-chunk, mask_l-mod}
+use Rattle.std.proofs.lemmas.List.{get_or-map, get_or_past, length-map}
 use Rattle.std.proofs.Math.Bool.{and-true, and_self}
 use Rattle.std.proofs.Math.Nat.{add-zero}
 use Rattle.std.proofs.lemmas.Grind.{common_steps}
 use lib.Count.{count_trailing_zeros}
 use lib.Pow.{field, mod-mod-pow}
-use lib.Lanes.{mask_l}
+use lib.Lanes.{chunk, mask_l}
 use Rattle.rustc_lexer.specs.means.Ends.{bit, IsLowest}
 
 bit_cases : (P : ℕ → Type 0) → P 0 → P 1 → (x : ℕ) → x < 2 → P x
@@ -37,13 +38,8 @@ bit-flip a i ha hi = ap (λ n. n == 1) (bit_at_not w64 a i ha hi) ∙ bit_cases 
 bit-mod : (n i : ℕ) → i < 64 → bit (n % 2 ^ 64) i ≡ bit n i
 unfolding bit
 bit-mod n i h =
-    let m = 63 - i in
-    let e : m + 1 + i ≡ 64 = omega arith in
-    ap (λ x. x == 1) (subst (λ w. bit_at (n % 2 ^ w) i ≡ bit_at n i) e (ap (λ x. x % 2) (field n (m + 1) i) ∙ mod-mod-pow (n / 2 ^ i) m 1))
-
-bit-shl_one : (k y : ℕ) → suc k < 64 → bit (y * 2 % 2 ^ 64) (suc k) ≡ bit y k
-unfolding bit
-bit-shl_one k y h = bit-mod (y * 2) (suc k) h ∙ ap (λ x. x % 2 == 1) (ap (λ n. y * 2 / 2 ^ n) (let e : suc k ≡ 1 + k = omega arith in e) ∙ (sym (shr-shr (y * 2) 1 k) ∙ ap (λ x. x / 2 ^ k) (shl-shr y 1)))
+    let e : n ≡ n / 2 ^ 64 * 2 ^ 64 + n % 2 ^ 64 = omega arith in
+    sym (ap (λ m. bit m i) e ∙ ap (λ b. b == 1) (bit_at_cat_low (n / 2 ^ 64) 64 (n % 2 ^ 64) i h))
 
 ones : (k : ℕ) → k < 64 → bit (2 ^ 64 - 1) k ≡ true
 unfolding bit
@@ -95,6 +91,9 @@ high-high : (k : ℕ) → suc k < 64 → bit high (suc k) ≡ true
 unfolding bit
 high-high k h = agree_below_at (λ j. bit high (suc j)) (λ _. true) 63 k refl (omega arith)
 
+high_past : (k n : ℕ) → n < k → k < 64 → bit high (k - n) ≡ true
+high_past k n more l = ap (bit high) (let e : k - n ≡ suc (k - n - 1) = omega arith in e) ∙ high-high (k - n - 1) (omega arith)
+
 pub low-off : (x : ℕ) → bit (bit_and x high) 0 ≡ false
 low-off x = bit-and x high 0 ∙ and_right _ _ high-low
 
@@ -116,57 +115,40 @@ module _ (w s : ℕ) (fits : w < 2 ^ 64) (fits_too : s < 2 ^ 64) where
       high-stays (flip together) k h ∙ (bit-flip together (suc k) small h ∙ ap not (bit-or _ _ (suc k) ∙ ap₂ (λ a b. a || b) (both w) (both s)))
     where
       both : (x : ℕ) → bit (bit_and (x * 2 % 2 ^ 64) x) (suc k) ≡ (bit x k && bit x (suc k))
-      both x = bit-and (x * 2 % 2 ^ 64) x (suc k) ∙ ap (λ t. t && bit x (suc k)) (bit-shl_one k x h)
+      both x = bit-and (x * 2 % 2 ^ 64) x (suc k) ∙ ap (λ t. t && bit x (suc k)) (bit-shl_on x 1 (suc k) (omega arith) h ∙ ap (bit x) (let e : suc k - 1 ≡ k = omega arith in e))
 
--- ---- bits that another follows, or all of them
-
-pub followed-at : (q h n : ℕ) → n ≤ 1 → (k : ℕ) → k < 64 → bit (bit_and q (bit_or (h / 2) ((n + 18446744073709551615) % 18446744073709551616))) k ≡ (bit q k && (bit h (suc k) || (n == 0)))
-followed-at q h n few k l = bit-and q _ k ∙ ap (λ t. bit q k && t) (bit-or (h / 2) _ k ∙ ap₂ (λ a b. a || b) (bit-shr h 1 k ∙ ap (bit h) (let e : 1 + k ≡ suc k = omega arith in e)) (any n few))
-  where
-    any : (n : ℕ) → n ≤ 1 → bit ((n + 18446744073709551615) % 18446744073709551616) k ≡ (n == 0)
-    any zero le = ones k l
-    any (suc zero) le = bit-zero k
-    any (suc (suc n)) le = absurd (omega arith)
-
--- ---- bits past an offset, of a word of 64 bits
-
-module _ (x n : ℕ) where
-  pub past-first : bit (bit_and (x / 2 ^ n) high) 0 ≡ false
-  past-first = low-off (x / 2 ^ n)
-
-  pub past-later : x < 2 ^ 64 → (k : ℕ) → bit (bit_and (x / 2 ^ n) high) (suc k) ≡ bit x (n + suc k)
-  past-later small k = grind (arith, common_steps, cases_lt, high-stays, bit-shr, bit-above, and_le_l, shr_le)
-
--- ---- the same where the bits stay at their places
-
-past_mask : (n : ℕ) → n < 64 → high * 2 ^ n % 2 ^ 64 ≡ 2 ^ 64 - 2 ^ suc n
-past_mask n l =
-    let e : high * 2 ^ n % 2 ^ 64 ≡ (2 ^ 64 - 1) * 2 ^ suc n % 2 ^ 64 = omega arith in
-    e ∙ ones_shl 64 (suc n) (omega arith)
+-- ---- bits past an offset
 
 module _ (x n : ℕ) (near : n < 64) where
   pub after-gone : (k : ℕ) → k ≤ n → bit (bit_and x (high * 2 ^ n % 2 ^ 64)) k ≡ false
-  unfolding bit
-  after-gone k le = ap (λ m. bit (bit_and x m) k) (past_mask n near) ∙ (bit-and x (2 ^ 64 - 2 ^ suc n) k ∙ and_right _ _ off)
-    where
-      off : bit (2 ^ 64 - 2 ^ suc n) k ≡ false
-      off = ap (λ y. y == 1) (bit_at_mask_below (suc n) 64 k (omega arith))
+  after-gone k le = grind (arith, common_steps, bit-and, cases_lt, bit-shl_below, bit-shl_on, high-low, and_right)
 
   pub after-others : x < 2 ^ 64 → (k : ℕ) → n < k → bit (bit_and x (high * 2 ^ n % 2 ^ 64)) k ≡ bit x k
-  unfolding bit
-  after-others small k more = elim (cases_lt k 64) [
-    | inl inside ↦ ap (λ m. bit (bit_and x m) k) (past_mask n near) ∙ (bit-and x (2 ^ 64 - 2 ^ suc n) k ∙ (ap (λ t. bit x k && t) (on inside) ∙ and-true (bit x k)))
-    | inr far ↦ bit-above (bit_and x (high * 2 ^ n % 2 ^ 64)) k (omega (arith, and_le_l x (high * 2 ^ n % 2 ^ 64))) far ∙ sym (bit-above x k small far)
-  ]
-    where
-      on : k < 64 → bit (2 ^ 64 - 2 ^ suc n) k ≡ true
-      on inside = ap (λ y. y == 1) (bit_at_mask_inside (suc n) 64 k (omega arith) inside)
+  after-others small k more = grind (arith, common_steps, bit-and, cases_lt, bit-shl_on, high_past, and-true, bit-above, and_le_l)
 
 -- ---- the lowest bit
 
 pub lowest_is : (x : ℕ) → 0 < x → x < 2 ^ 64 → IsLowest x (count_trailing_zeros 64 x)
 unfolding bit
 lowest_is x some small = let low = bit_at-trailing_zeros w64 x some small in record { set = ap (λ n. n == 1) low.1; least = λ k l. ap (λ n. n == 1) (low.2 k l) }
+
+-- it is among the bits that may be set
+pub lowest_in : (x w : ℕ) → 0 < x → x < 2 ^ 64 → ((k : ℕ) → w ≤ k → bit x k ≡ false) → count_trailing_zeros 64 x < w
+lowest_in x w some small none = elim (cases_lt (count_trailing_zeros 64 x) w) [ inl near ↦ near | inr far ↦ absurd (true≢false (sym (lowest_is x some small).set ∙ none _ far)) ]
+
+-- the mask of w bytes from `at` on
+module _ (p : ℕ → Bool) (bytes : List ℕ) (at w mask : ℕ) (inside : at + w ≤ length bytes) (e : mask ≡ mask_l (map p (chunk at w bytes))) where
+  pub mask_in : (k j : ℕ) → at + k ≡ j → k < w → bit mask k ≡ p (get_or bytes j 0)
+  mask_in k j f l = grind (arith, common_steps, bit-mask_l, get_or-map, length-chunk, get_or-chunk)
+
+  pub mask_past : (k : ℕ) → w ≤ k → bit mask k ≡ false
+  mask_past k far = grind (arith, common_steps, bit-mask_l, get_or_past, length-map, length-chunk)
+
+  -- its lowest bit
+  pub mask_lowest : w ≤ 64 → 0 < mask → (count_trailing_zeros 64 mask < w) × IsLowest mask (count_trailing_zeros 64 mask)
+  mask_lowest few some =
+      let small : mask < 2 ^ 64 = omega (arith, e, mask_l-mod (map p (chunk at w bytes)) 64 (omega (arith, length-map (chunk at w bytes) p, length-chunk at w bytes inside))) in
+      (lowest_in mask w some small mask_past, lowest_is mask some small)
 
 -- ---- all bits that are set but the lowest
 
@@ -200,4 +182,4 @@ module _ (x low : ℕ) (some : 0 < x) (lowest : IsLowest x low) where
   unfolding bit
   past_lowest-others k l = bit-and x (x - 1) k ∙ (ap (λ b. bit x k && b) (ap (λ n. n == 1) (above_pred low k x some set_at least_at l)) ∙ and_self (bit x k))
 
-pub ruleset bit_lemmas = (run_edges-first, run_edges-later, followed-at, past-first, past-later, past_lowest-gone, past_lowest-others)
+pub ruleset bit_lemmas = (run_edges-first, run_edges-later, after-gone, after-others, bit-above, bit-zero, past_lowest-gone, past_lowest-others)

@@ -15,59 +15,11 @@ use Rattle.rustc_lexer.specs.laws.State.{state}
 use Rattle.rustc_lexer.specs.means.Edition.{first_token_in}
 use Rattle.rustc_lexer.specs.means.Ends.{bit, classified, AreEndsPast, IsEnds, IsLowest, IsUnclassified, KnowsAhead, StaysWithin, TakesClassified}
 use Rattle.rustc_lexer.specs.means.Quick.{IsFirstToken}
-use Rattle.rustc_lexer.proofs.lemmas.tokens.RunEnds.{all_past, classified_behind, classified_same, past_end}
 use Rattle.rustc_lexer.proofs.lemmas.tokens.Tokens.{takes_part}
 
 -- found anew at an offset
 pub found_at : (text : List ℕ) (at m : ℕ) → IsEnds (drop at text) m → AreEndsPast (drop at text) (at - at) m
-found_at text at m are = let none : 0 ≡ at - at = omega arith in subst (λ n. AreEndsPast (drop at text) n m) none (all_past (drop at text) m are)
-
--- the first byte that is left and the lowest end past it tell a token of the kind
-pub record TellsNext (text : List ℕ) (at block ends low : ℕ) (kind : TokenKind) : Type 0 where
-  pub utf8 : IsUtf8 text
-  pub bound : IsCharBoundary text at
-  pub behind : block ≤ at
-  pub small : ends < 2 ^ 64
-  pub tells : classified (get_or text at 0) ≡ Some kind
-  pub known : AreEndsPast (drop block text) (at - block) ends
-  pub lowest : IsLowest ends low
-  pub stays : StaysWithin kind (get_or text (block + low) 0)
-
-module _ (text : List ℕ) (at block ends low : ℕ) (kind : TokenKind) (next : TellsNext text at block ends low kind) where
-  there : block + (at - block) ≡ at
-  there = let behind = next.behind in omega arith
-
-  pub classified_after : at < block + low
-  classified_after = let after = (next.known low next.lowest.set).0 in omega (arith, after, next.behind)
-
-  pub classified_inside : block + low < length text
-  classified_inside = let inside = (next.known low next.lowest.set).1 in omega (arith, inside, length-drop block text)
-
-  joined : drop (at - block) (drop block text) ≡ drop at text
-  joined = drop-drop (at - block) block text ∙ ap (λ n. drop n text) there
-
-  behind_block : IsFirstToken (drop (at - block) (drop block text)) record { kind = kind; len = low - (at - block) }
-  behind_block = classified_behind (drop block text) (at - block) ends low kind record {
-    utf8 = subst IsUtf8 (sym joined) (IsUtf8-drop text at next.utf8 next.bound);
-    tells = ap classified (get_or-drop block text (at - block) 0 ∙ ap (λ i. get_or text i 0) there) ∙ next.tells;
-    known = next.known;
-    small = next.small;
-    lowest = next.lowest;
-    stays = subst (StaysWithin kind) (sym (get_or-drop block text low 0)) next.stays;
-  }
-
-  pub classified_token : IsFirstToken (drop at text) record { kind = kind; len = block + low - at }
-  classified_token = grind (arith, common_steps, classified_after, joined, behind_block)
-
-  -- no edition has another token there
-  pub classified_first : (edition : Edition) → record { kind = kind; len = block + low - at } ≡ first_token_in edition (drop at text)
-  classified_first edition = grind (arith, common_steps, classified_same, classified_token)
-
-  pub classified_bound : IsCharBoundary text (block + low)
-  classified_bound = grind (arith, common_steps, classified_after, IsCharBoundary-from_rest, classified_inside, classified_token)
-
-  pub classified_ahead : (less : ℕ) → ((k : ℕ) → k ≤ low → bit less k ≡ false) → ((k : ℕ) → low < k → bit less k ≡ bit ends k) → AreEndsPast (drop block text) (block + low - block) less
-  classified_ahead less gone others = grind (arith, common_steps, past_end)
+found_at text at m are = grind (arith, common_steps)
 
 -- the text that is left, as a slice of the bytes
 pub left_is : (text bytes : List ℕ) (at : ℕ) → bytes ≡ text → take (length bytes - at) (drop at bytes) ≡ drop at text

@@ -13,7 +13,7 @@ use Rattle.rustc_lexer.specs.means.Lexeme.{family_of, past_first}
 use Rattle.rustc_lexer.specs.means.Quick.{BeginsWithNoHash, IsFirstBy, IsFirstToken}
 use Rattle.rustc_lexer.specs.means.Raw.{is_hash}
 use Rattle.rustc_lexer.specs.means.Scan.{next_is, past, scanned}
-use Rattle.rustc_lexer.proofs.lemmas.tokens.AsciiRuns.{next_byte, IsUtf8-ascii}
+use Rattle.rustc_lexer.proofs.lemmas.tokens.AsciiRuns.{next_byte, IsUtf8-ascii, past-ascii}
 use Rattle.rustc_lexer.proofs.lemmas.tokens.Families.{by_family}
 use Rattle.rustc_lexer.specs.laws.Past.{past-one, past-zero}
 use Rattle.rustc_lexer.proofs.lemmas.tokens.Quick.{first}
@@ -50,8 +50,7 @@ prefix_first text b (d ∷ ds) is e small family opens = first text b (d ∷ ds)
   where
     decided : IsUtf8 (d ∷ ds) → (GuardedStrPrefix, ds) ≡ scanned (past_first b) (d ∷ ds)
     decided inner =
-        let cut : ds ≡ past 1 (d ∷ ds) = sym (past-one (d ∷ ds) ds d inner (ap (λ (xs : List ℕ). xs ++ ds) (sym (encode_ascii d (opens_guarded-small d opens))))) in
-        by_family Hash b (d ∷ ds) _ family (grind (arith, common_steps, next_byte opens_guarded opens_guarded-small (d ∷ ds) inner, cut))
+        by_family Hash b (d ∷ ds) _ family (grind (arith, common_steps, next_byte opens_guarded opens_guarded-small (d ∷ ds) inner, past-ascii d ds inner (opens_guarded-small d opens)))
 
 pub pound_first : (text : List ℕ) (b : ℕ) (rest : List ℕ) → IsUtf8 text → text ≡ b ∷ rest → b < 128 → Hash ≡ family_of b → next_is opens_guarded rest ≡ false → IsFirstToken text record { kind = Pound; len = 1 }
 pound_first text b rest is e small family none = first text b rest Pound 0 is e small (omega arith) decided

@@ -1,45 +1,36 @@
 -- A run of bytes that pass q, seen a vector at a time through the mask of those that fail it.
-use Rattle.std.proofs.lemmas.Grind.{common_steps}
-use Rattle.std.proofs.Common.{◌≡◌, ℕ, ◌+◌, ◌*◌, ◌<◌, ◌≤◌, Bool, true, false, not, cond, eqb, List, [], ◌∷◌, map, length, drop, refl, sym, ap, ap₂, ◌∙◌, arith}
-use Rattle.std.proofs.lemmas.Simd.{chunk-drop, length-chunk, leading_from_mask_l, trailing_mask_l}
-use Rattle.std.proofs.lemmas.List.{length-drop}
-use Rattle.std.proofs.lemmas.List.Folds.{prefix_len-append}
-use Rattle.std.proofs.lemmas.List.Sums.{prefix_len-le-length}
-use Rattle.std.proofs.lemmas.Bool.{cases_lt, eq-eqb, ne_eqb}
+use Rattle.std.proofs.Common.{◌≡◌, ℕ, zero, suc, ◌+◌, ◌^◌, ◌<◌, ◌≤◌, Bool, true, false, List, map, length, length-drop, drop, get_or, refl, sym, ap, ◌∙◌, arith}
+use Rattle.std.proofs.lemmas.List.Sums.{prefix_len-le-length, prefix_len-drop_yes, prefix_len-drop_no}
+use Rattle.std.proofs.lemmas.Bool.{not-true, not-false}
 use Rattle.std.specs.List.{prefix_len}
-use Rattle.std.proofs.Math.Bool.{not-not}
 use Rattle.rustc_lexer.specs.means.ByteRuns.{outside}
+use Rattle.rustc_lexer.specs.means.Ends.{bit}
+use Rattle.rustc_lexer.proofs.lemmas.tokens.Bits.{bit-zero, mask_in, mask_lowest}
 use lib.Lanes.{chunk, mask_l}
 use lib.Count.{count_trailing_zeros}
 
 pub run_bound : (q : ℕ → Bool) (d : List ℕ) (i : ℕ) → i ≤ length d → i + prefix_len q (drop i d) ≤ length d
 run_bound q d i h = omega (arith, prefix_len-le-length q (drop i d), length-drop i d)
 
-none_fails : (b : Bool) (n l m : ℕ) → n ≤ l → cond b (1 + n) 0 ≡ 1 + l → (n ≡ l → m ≡ 0) → cond (not b) 1 0 + 2 * m ≡ 0
-none_fails true n l m le e ih = let z = ih (omega arith) in omega arith
-none_fails false n l m le e ih = let no : ⊥ = omega arith in absurd no
+-- bytes that pass are of the run
+through : (q : ℕ → Bool) (d : List ℕ) (i n : ℕ) → i + n ≤ length d → ((k : ℕ) → k < n → q (get_or d (i + k) 0) ≡ true) → prefix_len q (drop i d) ≡ n + prefix_len q (drop (i + n) d)
+through q d i zero room all = let e : i ≡ i + 0 = omega arith in omega (arith, ap (λ k. prefix_len q (drop k d)) e)
+through q d i (suc n) room all =
+    let e : i + n + 1 ≡ i + suc n = omega arith in
+    omega (arith, through q d i n (omega arith) (λ k l. all k (omega arith)), prefix_len-drop_yes q d (i + n) 0 (omega arith) (all n (omega arith)), ap (λ k. prefix_len q (drop k d)) e)
 
-module _ (q : ℕ → Bool) where
-  twice : (xs : List ℕ) → prefix_len (λ x. not (outside q x)) xs ≡ prefix_len q xs
-  twice [] = refl
-  twice (x ∷ xs) = ap₂ (λ b n. cond b (1 + n) 0) (not-not (q x)) (twice xs)
+module _ (q : ℕ → Bool) (d : List ℕ) (i n : ℕ) (room : i + n ≤ length d) where
+  abbrev stops : ℕ
+  stops = mask_l (map (outside q) (chunk i n d))
 
-  all_pass : (xs : List ℕ) → prefix_len q xs ≡ length xs → mask_l (map (outside q) xs) ≡ 0
-  all_pass [] e = refl
-  all_pass (x ∷ xs) e = none_fails (q x) _ (length xs) _ (prefix_len-le-length q xs) (omega arith) (all_pass xs)
+  passes : (k : ℕ) → k < n → bit stops k ≡ false → q (get_or d (i + k) 0) ≡ true
+  passes k l none = not-false _ (sym (mask_in (outside q) d i n stops room refl k (i + k) refl l) ∙ none)
 
-  split : (d : List ℕ) (i n : ℕ) → prefix_len q (drop i d) ≡ cond (eqb (prefix_len q (chunk i n d)) (length (chunk i n d))) (length (chunk i n d) + prefix_len q (drop (i + n) d)) (prefix_len q (chunk i n d))
-  split d i n = ap (prefix_len q) (chunk-drop i n d) ∙ prefix_len-append q (chunk i n d) (drop (i + n) d)
+  pub run_through : stops ≡ 0 → prefix_len q (drop i d) ≡ n + prefix_len q (drop (i + n) d)
+  run_through none = through q d i n room (λ k l. passes k l (ap (λ m. bit m k) none ∙ bit-zero k))
 
-  pub run_through : (d : List ℕ) (i n : ℕ) → i + n ≤ length d → mask_l (map (outside q) (chunk i n d)) ≡ 0 → prefix_len q (drop i d) ≡ n + prefix_len q (drop (i + n) d)
-  run_through d i n room none =
-      let c = chunk i n d in
-      split d i n ∙ ap (λ b. cond b (length c + prefix_len q (drop (i + n) d)) (prefix_len q c)) (eq-eqb _ _ (sym (twice c) ∙ leading_from_mask_l (outside q) c none))
-      ∙ ap (λ k. k + prefix_len q (drop (i + n) d)) (length-chunk i n d room)
-
-  pub run_stops : (d : List ℕ) (i n : ℕ) → i + n ≤ length d → n ≤ 64 → 0 < mask_l (map (outside q) (chunk i n d)) → prefix_len q (drop i d) ≡ count_trailing_zeros 64 (mask_l (map (outside q) (chunk i n d)))
-  run_stops d i n room short some = grind (arith, common_steps, chunk i n d, split d i n, ne_eqb, twice (chunk i n d), trailing_mask_l, all_pass, length-chunk)
-
-  -- some byte of the front stops the run
-  pub run_short : (d : List ℕ) (n : ℕ) → n ≤ length d → 0 < mask_l (map (outside q) (chunk 0 n d)) → prefix_len q d < n
-  run_short d n room some = grind (arith, common_steps, chunk 0 n d, length-chunk, split d 0 n, ne_eqb, all_pass, cases_lt, prefix_len-le-length)
+  pub run_stops : n ≤ 64 → 0 < stops → prefix_len q (drop i d) ≡ count_trailing_zeros 64 stops
+  run_stops short some =
+      let low = mask_lowest (outside q) d i n stops room refl short some in
+      let ends : q (get_or d (i + count_trailing_zeros 64 stops) 0) ≡ false = not-true _ (sym (mask_in (outside q) d i n stops room refl _ _ refl low.0) ∙ low.1.set) in
+      omega (arith, through q d i (count_trailing_zeros 64 stops) (omega arith) (λ k l. passes k (omega arith) (low.1.least k l)), prefix_len-drop_no q d (i + count_trailing_zeros 64 stops) 0 (omega arith) ends)

@@ -15,16 +15,13 @@ use Rattle.rustc_lexer.specs.means.Least.{more, one_more}
 use Rattle.rustc_lexer.specs.means.Scan.{begins}
 use Rattle.rustc_lexer.specs.laws.Choice.{by_either}
 use Rattle.rustc_lexer.specs.laws.Least.{more-zero, offset-on, one_more-more}
-use Rattle.rustc_lexer.proofs.lemmas.tokens.Bits.{bit-and, bit-mask_l, bit-zero, lowest_is}
+use Rattle.rustc_lexer.proofs.lemmas.tokens.Bits.{bit-and, bit-zero, lowest_in, lowest_is}
 
--- a mask of the first w bytes
+-- a mask of the first 16 bytes
 pub few : (p : ℕ → Bool) (bytes : List ℕ) (mask : ℕ) → 16 ≤ length bytes → mask ≡ mask_l (map p (chunk 0 16 bytes)) → mask < 2 ^ 16
 few p bytes mask inside e =
     let long : length (map p (chunk 0 16 bytes)) ≡ 16 = length-map (chunk 0 16 bytes) p ∙ length-chunk 0 16 bytes (omega arith) in
     subst (λ n. mask < 2 ^ n) long (subst (λ m. m < 2 ^ length (map p (chunk 0 16 bytes))) (sym e) (mask_l-lt (map p (chunk 0 16 bytes))))
-
-pub in_front : (p : ℕ → Bool) (bytes : List ℕ) (w mask : ℕ) → w ≤ length bytes → mask ≡ mask_l (map p (chunk 0 w bytes)) → (i : ℕ) → i < w → bit mask i ≡ p (get_or bytes i 0)
-in_front p bytes w mask inside e i l = grind (arith, common_steps, bit-mask_l, get_or-map, length-chunk, get_or-chunk)
 
 abbrev pub three_at : ℕ → ℕ → ℕ → List ℕ → ℕ → Bool
 three_at one two three bytes k = (is_byte one (get_or bytes k 0) && is_byte two (get_or bytes (suc k) 0)) && is_byte three (get_or bytes (suc (suc k)) 0)
@@ -32,21 +29,9 @@ three_at one two three bytes k = (is_byte one (get_or bytes k 0) && is_byte two 
 abbrev pub AreApart : ℕ → ℕ → ℕ → List ℕ → ℕ → Type 0
 AreApart one two three bytes n = (k : ℕ) → k < n → three_at one two three bytes k ≡ false
 
-above : (x i : ℕ) → x < 2 ^ 16 → 16 ≤ i → bit x i ≡ false
-unfolding bit
-above x i small far = ap (λ n. n == 1) (bit_at_above x 16 i small far)
-
 pub near : (x : ℕ) → 0 < x → x < 2 ^ 16 → count_trailing_zeros 64 x < 16
-near x some small =
-    let low = lowest_is x some (omega (arith, small)) in
-    elim (cases_lt (count_trailing_zeros 64 x) 16) [
-      | inl less ↦ less
-      | inr far ↦ absurd (true≢false (sym low.set ∙ above x _ small far))
-    ]
-
--- a bit of a mask of 16 places from `from` on
-bit_at : (byte mask from : ℕ) (bytes side : List ℕ) → side ≡ drop from bytes → ((k : ℕ) → k < 16 → bit mask k ≡ is_byte byte (get_or side k 0)) → (j place : ℕ) → j < 16 → from + j ≡ place → bit mask j ≡ is_byte byte (get_or bytes place 0)
-bit_at byte mask from bytes side side_is are j place l e = are j l ∙ ap (is_byte byte) (ap (λ (xs : List ℕ). get_or xs j 0) side_is ∙ (get_or-drop from bytes j 0 ∙ ap (λ k. get_or bytes k 0) e))
+unfolding bit
+near x some small = lowest_in x 16 some (omega (arith, small)) (λ k far. ap (λ n. n == 1) (bit_at_above x 16 k small far))
 
 -- a look at 16 places from `end` on
 module _ (one two three : ℕ) (bytes : List ℕ) (end ones twos threes : ℕ) (so : AreApart one two three bytes end) (left right last : List ℕ) (left_is : left ≡ drop end bytes) (right_is : right ≡ drop (end + 1) bytes) (last_is : last ≡ drop (end + 2) bytes)
@@ -55,10 +40,7 @@ module _ (one two three : ℕ) (bytes : List ℕ) (end ones twos threes : ℕ) (
   found = bit_and (bit_and ones twos) threes
 
   looked : (j : ℕ) → j < 16 → bit found j ≡ three_at one two three bytes (end + j)
-  looked j l =
-      bit-and (bit_and ones twos) threes j ∙ ap₂ (λ a b. a && b)
-      (bit-and ones twos j ∙ ap₂ (λ a b. a && b) (bit_at one ones end bytes left left_is ones_are j (end + j) l refl) (bit_at two twos (end + 1) bytes right right_is twos_are j (suc (end + j)) l (omega arith)))
-      (bit_at three threes (end + 2) bytes last last_is threes_are j (suc (suc (end + j))) l (omega arith))
+  looked j l = grind (arith, common_steps, bit-and, ones_are j l, twos_are j l, threes_are j l)
 
   up_to : (n : ℕ) → n ≤ 16 → ((j : ℕ) → j < n → bit found j ≡ false) → AreApart one two three bytes (end + n)
   up_to n few none k l = elim (cases_lt k end) [

@@ -18,7 +18,7 @@ use Rattle.rustc_lexer.proofs.lemmas.tokens.Editions.{first_by, is_newer}
 use Rattle.rustc_lexer.specs.means.Lexeme.{family_of, word, symbols, symbol_kind, past_first, opens_raw, begins_raw}
 use Rattle.rustc_lexer.specs.means.Quick.{is_space_lead, turns_word, IsFirstBy, IsFirstToken}
 use Rattle.rustc_lexer.specs.means.Scan.{begins, next_is, past, run_len, scanned}
-use Rattle.rustc_lexer.proofs.lemmas.tokens.AsciiRuns.{chars-ascii, IsUtf8-ascii, skips, stops_here}
+use Rattle.rustc_lexer.proofs.lemmas.tokens.AsciiRuns.{chars-ascii, IsUtf8-ascii, past-ascii, skips, stops_here}
 use Rattle.rustc_lexer.proofs.lemmas.tokens.Identifiers.{ident_or_unknown_prefix-valid}
 use Rattle.rustc_lexer.proofs.lemmas.tokens.Lexemes.{made}
 use Rattle.rustc_lexer.proofs.lemmas.tokens.ClassParts.{continue_part}
@@ -72,9 +72,8 @@ module _ (b : ℕ) (rest : List ℕ) (kind : TokenKind) (n : ℕ) (is : IsUtf8 (
   taken : IsFirstToken (b ∷ rest) record { kind = kind; len = 1 + n }
   taken =
       let text = b ∷ rest in
-      let at : rest ≡ past 1 text = sym (past-one text rest b is (ap (λ (xs : List ℕ). xs ++ rest) (sym (encode_ascii b small)))) in
       let len : length text - length (drop n rest) ≡ 1 + n = omega (arith, length-drop n rest) in
-      subst (λ k. IsFirstToken text record { kind = kind; len = k }) len (made text rest (drop n rest) b kind is (chars-ascii b rest is small) at g)
+      subst (λ k. IsFirstToken text record { kind = kind; len = k }) len (made text rest (drop n rest) b kind is (chars-ascii b rest is small) (past-ascii b rest is small) g)
 
 -- the same of a text
 pub first : (text : List ℕ) (b : ℕ) (rest : List ℕ) (kind : TokenKind) (n : ℕ) → IsUtf8 text → text ≡ b ∷ rest → b < 128 → n ≤ length rest → (IsUtf8 rest → (kind, drop n rest) ≡ scanned (past_first b) rest)

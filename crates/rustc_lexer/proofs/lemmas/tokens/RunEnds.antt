@@ -1,7 +1,8 @@
 -- The ends of runs, what is known past them, and the tokens that are classified by them.
 use Rattle.std.proofs.Common.{◌≡◌, ℕ, zero, suc, ◌+◌, ◌-◌, ◌/◌, nat_lt, ◌^◌, bit_and, ◌<◌, ◌≤◌, Bool, true, false, true≢false, not, ◌&&◌, ◌||◌, List, ◌∷◌, length, drop, get_or, refl, sym, ap, ap₂, subst, ◌∙◌, arith, length-drop, ◌⊎◌, inl, inr, Option, Some, None, is_some}
 use Rattle.std.specs.List.{prefix_len}
-use Rattle.std.specs.Str.{IsUtf8}
+use Rattle.std.specs.Str.{IsCharBoundary, IsUtf8}
+use Rattle.std.proofs.lemmas.Str.{IsCharBoundary-from_rest, IsUtf8-drop}
 use Rattle.std.proofs.Math.Seq.{drop-cons}
 use Rattle.std.proofs.lemmas.Bool.{agree_below_at, and_from, and_parts, and_cases, or_parts, or_cases, cases_lt, not-true, not-false, le-ltb, lt-ltb, ltb-true}
 use Rattle.std.proofs.lemmas.Nat.{and_le_r, shr_le}
@@ -16,7 +17,7 @@ use Rattle.rustc_lexer.specs.{Edition, TokenKind, Ident, Whitespace}
 use Rattle.rustc_lexer.specs.declared.lexemes.family.TheConstants.{CLASSIFIED}
 use Rattle.rustc_lexer.specs.declared.lexemes.family.Family.{Family}
 use Rattle.rustc_lexer.specs.declared.lexemes.family.Family.TheVariants.{Space, Word, Symbol}
-use Rattle.rustc_lexer.specs.means.Edition.{changed}
+use Rattle.rustc_lexer.specs.means.Edition.{changed, first_token_in}
 use Rattle.rustc_lexer.specs.means.Ends.{bit, goes_on, is_end, AreEndsPast, IsEnds, IsLowest, classified, classified_in, StaysWithin}
 use Rattle.rustc_lexer.specs.means.ByteRuns.{is_continue_byte, is_space_byte}
 use Rattle.rustc_lexer.specs.Tables.{is_emoji}
@@ -24,12 +25,8 @@ use Rattle.rustc_lexer.specs.means.Lexeme.{family_of, symbol_kind}
 use Rattle.rustc_lexer.specs.means.Quick.{is_space_lead, turns_word, IsFirstToken}
 use Rattle.rustc_lexer.specs.means.Scan.{next_is}
 use Rattle.rustc_lexer.proofs.lemmas.tokens.Editions.{is_newer, older}
-use Rattle.rustc_lexer.proofs.lemmas.tokens.Bits.{bit-and, bit-below, bit-flip, bit-zero, flip, high, past-first, past-later, within}
+use Rattle.rustc_lexer.proofs.lemmas.tokens.Bits.{bit-and, bit-below, bit-flip, bit-zero, flip, within}
 use Rattle.rustc_lexer.proofs.lemmas.tokens.Quick.{word_first, space_first, symbol_first}
-
--- none is set at the front
-pub all_past : (text : List ℕ) (ends : ℕ) → IsEnds text ends → AreEndsPast text 0 ends
-all_past text ends w2 = grind (arith, common_steps)
 
 pub no_ends : (text : List ℕ) → IsEnds text 0
 no_ends text j set = absurd (true≢false (sym set ∙ bit-zero j))
@@ -53,56 +50,52 @@ module _ (text : List ℕ) (n a b edges : ℕ) (few : n ≤ 64) (inside : n ≤ 
       let less : j < n = ltb-true j n (and_parts (bit edges j) (nat_lt j n) (sym (bit-kept j near) ∙ set)).1 in
       (omega arith, λ k le. bit-kept k (omega arith) ∙ (rw (lt-ltb k n (omega arith)) (and-true (bit edges k)) ∙ is_at k (omega arith)))
 
--- ---- what is known past some bytes
-
-end_past : (n : ℕ) (text : List ℕ) (k : ℕ) → is_end (drop n text) (suc k) ≡ is_end text (n + suc k)
-end_past n text k =
-    let e : n + suc k ≡ suc (n + k) = omega arith in
-    ap₂ (λ a b. not (goes_on a b)) (get_or-drop n text k 0) (get_or-drop n text (suc k) 0 ∙ ap (λ i. get_or text i 0) e) ∙ ap (is_end text) (sym e)
-
-pub ends_past : (text : List ℕ) (m from n late : ℕ) → from ≤ n → AreEndsPast text from m → bit late 0 ≡ false → ((k : ℕ) → bit late (suc k) ≡ bit m (n + suc k)) → IsEnds (drop n text) late
-ends_past text m from n late near are first later zero set = absurd (true≢false (sym set ∙ first))
-ends_past text m from n late near are first later (suc j) set =
-    let there = are (n + suc j) (sym (later j) ∙ set) in
-    (omega (arith, there.1, length-drop n text), at)
-  where
-    at : (k : ℕ) → k ≤ suc j → bit late k ≡ is_end (drop n text) k
-    at zero le = first
-    at (suc k) le = later k ∙ ((are (n + suc j) (sym (later j) ∙ set)).2 (n + suc k) (omega (arith, near)) (omega arith) ∙ sym (end_past n text k))
+-- ---- what is known past an end
 
 pub past_end : (text : List ℕ) (m from low less : ℕ) → AreEndsPast text from m → IsLowest m low → ((k : ℕ) → k ≤ low → bit less k ≡ false) → ((k : ℕ) → low < k → bit less k ≡ bit m k) → AreEndsPast text low less
 past_end text m from low less are lowest gone others j set = grind (arith, common_steps, cases_lt)
 
 -- ---- where a run ends
 
+-- the first n bytes behind b go on with b, and the byte past them does not
+record RunsTo (b : ℕ) (rest : List ℕ) (n : ℕ) : Type 0 where
+  room : n < length rest
+  on : (k : ℕ) → k < n → goes_on (get_or (b ∷ rest) k 0) (get_or rest k 0) ≡ true
+  end : goes_on (get_or (b ∷ rest) n 0) (get_or rest n 0) ≡ false
+
+-- the lowest end past an offset, by the ends from a block before it on
+module _ (text : List ℕ) (at block ends low n : ℕ) (behind : block ≤ at) (known : AreEndsPast (drop block text) (at - block) ends) (lowest : IsLowest ends low) (e : at + suc n ≡ block + low) where
+  byte-is : (i k : ℕ) → block + i ≡ at + k → get_or (drop block text) i 0 ≡ get_or (get_or text at 0 ∷ drop (suc at) text) k 0
+  byte-is i zero f = grind (arith, common_steps)
+  byte-is i (suc k) f = get_or-drop block text i 0 ∙ (ap (λ j. get_or text j 0) (let g : block + i ≡ suc at + k = omega arith in g) ∙ sym (get_or-drop (suc at) text k 0))
+
+  edge-is : (k : ℕ) → k ≤ n → bit ends (suc (at - block + k)) ≡ not (goes_on (get_or (get_or text at 0 ∷ drop (suc at) text) k 0) (get_or (drop (suc at) text) k 0))
+  edge-is k le = (known low lowest.set).2 (suc (at - block + k)) (omega arith) (omega arith) ∙ ap₂ (λ a b. not (goes_on a b)) (byte-is (at - block + k) k (omega arith)) (byte-is (suc (at - block + k)) (suc k) (omega arith))
+
+  runs_to : RunsTo (get_or text at 0) (drop (suc at) text) n
+  runs_to = record {
+    room = omega (arith, (known low lowest.set).1, length-drop block text, length-drop (suc at) text);
+    on = λ k l. not-false _ (sym (edge-is k (omega arith)) ∙ lowest.least _ (omega arith));
+    end = not-true _ (sym (edge-is n (omega arith)) ∙ (ap (bit ends) (let f : suc (at - block + n) ≡ low = omega arith in f) ∙ lowest.set));
+  }
+
+-- a run of a class that a byte of it goes on with, and no other byte does
+module _ (p : ℕ → Bool) (goes : (a b : ℕ) → p a ≡ true → goes_on a b ≡ p b) (b : ℕ) (rest : List ℕ) (n : ℕ) (run : RunsTo b rest n) (first : p b ≡ true) where
+  in_run : (k : ℕ) → k ≤ n → p (get_or (b ∷ rest) k 0) ≡ true
+  in_run zero l = first
+  in_run (suc k) l = sym (goes _ _ (in_run k (omega arith))) ∙ run.on k (omega arith)
+
+  run_is : n ≡ prefix_len p rest
+  run_is = sym (prefix_len_is p rest n 0 (omega (arith, run.room)) (λ k l. in_run (suc k) (omega arith)) (λ l. sym (goes _ _ (in_run n (omega arith))) ∙ run.end))
+
 never_both : (b : ℕ) → (is_continue_byte b && is_space_byte b) ≡ false
 never_both b = elim (cases_lt b 128) [ inl small ↦ agree_below_at (λ x. is_continue_byte x && is_space_byte x) (λ _. false) 128 b refl small | inr wide ↦ rw (le-ltb b 128 wide) refl ]
 
--- the bytes that go on with one another up to an end
-pub record RunsTo (text : List ℕ) (n : ℕ) : Type 0 where
-  pub room : suc n < length text
-  pub on : (k : ℕ) → k < n → goes_on (get_or text k 0) (get_or text (suc k) 0) ≡ true
-  pub end : goes_on (get_or text n 0) (get_or text (suc n) 0) ≡ false
+first_of_two : (c s d t : Bool) → (c && s) ≡ false → c ≡ true → ((c && d) || (s && t)) ≡ d
+first_of_two w0 w1 w2 w3 w4 w5 = grind (arith, common_steps)
 
-pub runs_to : (text : List ℕ) (ends n : ℕ) → IsEnds text ends → bit ends (suc n) ≡ true → ((k : ℕ) → k < suc n → bit ends k ≡ false) → RunsTo text n
-runs_to text ends n are set least = record {
-  room = (are (suc n) set).0;
-  on = λ k l. not-false _ (sym ((are (suc n) set).1 (suc k) (omega arith)) ∙ least (suc k) (omega arith));
-  end = not-true _ (sym ((are (suc n) set).1 (suc n) (omega arith)) ∙ set);
-}
-
-module _ (p other : ℕ → Bool) (parted : (b : ℕ) → (p b && other b) ≡ false) (text : List ℕ) (n : ℕ) (room : suc n < length text)
-    (on : (k : ℕ) → k < n → ((p (get_or text k 0) && p (get_or text (suc k) 0)) || (other (get_or text k 0) && other (get_or text (suc k) 0))) ≡ true)
-    (end : ((p (get_or text n 0) && p (get_or text (suc n) 0)) || (other (get_or text n 0) && other (get_or text (suc n) 0))) ≡ false) (first : p (get_or text 0 0) ≡ true) where
-  in_run : (k : ℕ) → k ≤ n → p (get_or text k 0) ≡ true
-  in_run zero l = first
-  in_run (suc k) l = grind (arith, common_steps, or_cases, and_parts, and_from, in_run k (omega arith))
-
-  past_run : p (get_or text (suc n) 0) ≡ false
-  past_run = grind (arith, common_steps, and_cases, or_parts, in_run)
-
-  run_is : prefix_len p text ≡ suc n
-  run_is = prefix_len_is p text (suc n) 0 (omega arith) (λ k l. in_run k (omega arith)) (λ l. past_run)
+second_of_two : (c s d t : Bool) → (c && s) ≡ false → s ≡ true → ((c && d) || (s && t)) ≡ t
+second_of_two w0 w1 w2 w3 w4 w5 = grind (arith, common_steps)
 
 -- ---- what the first byte tells
 
@@ -127,71 +120,41 @@ run_of_family : (b : ℕ) (f : Family) → b < 128 → f ≡ family_of b → in_
 unfolding is_emoji unicode_ident
 run_of_family b f l e = subst (λ (g : Family). in_run_of g b ≡ true) (sym e) (agree_below_at (λ x. in_run_of (family_of x) x) (λ _. true) 128 b refl l)
 
-pub record Tells (b : ℕ) (kind : TokenKind) : Type 0 where
-  pub small : b < 128
-  pub by : ((kind ≡ Ident) × (Word ≡ family_of b)) ⊎ (((kind ≡ Whitespace) × (Space ≡ family_of b)) ⊎ ((kind ≡ symbol_kind b) × (Symbol ≡ family_of b)))
-
-pub tells : (b : ℕ) (kind : TokenKind) → classified b ≡ Some kind → Tells b kind
-tells b kind some = elim (cases_lt b 128) [
-  | inl small ↦ let at : classified b ≡ classified_in (family_of b) b = rw (lt-ltb b 128 small) refl in record { small = small; by = by_family (family_of b) refl (sym some ∙ at) }
-  | inr wide ↦ let none : classified b ≡ None = rw (le-ltb b 128 wide) refl in absurd (none-some kind (sym none ∙ some))
+classified_small : (b : ℕ) → is_some (classified b) ≡ true → b < 128
+classified_small b some = elim (cases_lt b 128) [
+  | inl small ↦ small
+  | inr wide ↦ let none : is_some (classified b) ≡ false = rw (le-ltb b 128 wide) refl in absurd (true≢false (sym some ∙ none))
 ]
-  where
-    by_family : (f : Family) → family_of b ≡ f → Some kind ≡ classified_in f b → ((kind ≡ Ident) × (Word ≡ family_of b)) ⊎ (((kind ≡ Whitespace) × (Space ≡ family_of b)) ⊎ ((kind ≡ symbol_kind b) × (Symbol ≡ family_of b)))
-    by_family Word e is = inl (same_Some kind Ident is, sym e)
-    by_family Space e is = inr (inl (same_Some kind Whitespace is, sym e))
-    by_family Symbol e is = inr (inr (same_Some kind (symbol_kind b) is, sym e))
-    by_family f e is = absurd (none-some kind (sym is))
 
 -- ---- a token by its run and the byte past that
 
-module _ (text : List ℕ) (is : IsUtf8 text) (b : ℕ) (rest : List ℕ) (e : text ≡ b ∷ rest) (n next : ℕ) (run : RunsTo text n) (last : next ≡ get_or text (suc n) 0) where
-  front : get_or text 0 0 ≡ b
-  front = ap (λ xs. get_or xs 0 0) e
+module _ (text : List ℕ) (is : IsUtf8 text) (b : ℕ) (rest : List ℕ) (e : text ≡ b ∷ rest) (n : ℕ) (run : RunsTo b rest n) (small : b < 128) where
+  stops : (p : ℕ → Bool) → p (get_or rest n 0) ≡ false → not (next_is p (drop n rest)) ≡ true
+  stops p none = ap (λ xs. not (next_is p xs)) (drop-cons rest n 0 run.room) ∙ ap not none
 
-  counted : (p : ℕ → Bool) → p b ≡ true → prefix_len p text ≡ suc n → n ≡ prefix_len p rest
-  counted p in_class all = grind (arith, common_steps)
+  as_word : Word ≡ family_of b → turns_word (get_or rest n 0) ≡ false → IsFirstToken text record { kind = Ident; len = 1 + n }
+  as_word family stays =
+      word_first text b rest n is e small family (run_is is_continue_byte (λ x y. first_of_two (is_continue_byte x) (is_space_byte x) (is_continue_byte y) (is_space_byte y) (never_both x)) b rest n run (run_of_family b Word small family)) (stops turns_word stays)
 
-  left : drop n rest ≡ next ∷ drop (suc (suc n)) text
-  left = ap (drop (suc n)) (sym e) ∙ (drop-cons text (suc n) 0 run.room ∙ ap (λ (x : ℕ). x ∷ drop (suc (suc n)) text) (sym last))
+  as_space : Space ≡ family_of b → is_space_lead (get_or rest n 0) ≡ false → IsFirstToken text record { kind = Whitespace; len = 1 + n }
+  as_space family stays =
+      space_first text b rest n is e small family (run_is is_space_byte (λ x y. second_of_two (is_continue_byte x) (is_space_byte x) (is_continue_byte y) (is_space_byte y) (never_both x)) b rest n run (run_of_family b Space small family)) (stops is_space_lead stays)
 
-  as_word : b < 128 → Word ≡ family_of b → turns_word next ≡ false → IsFirstToken text record { kind = Ident; len = 1 + n }
-  as_word small family stays =
-      grind (arith, common_steps, run_of_family b Word small family, run_is is_continue_byte is_space_byte never_both text n run.room run.on run.end (ap is_continue_byte front ∙ (run_of_family b Word small family)), word_first, counted, left)
-
-  as_space : b < 128 → Space ≡ family_of b → is_space_lead next ≡ false → IsFirstToken text record { kind = Whitespace; len = 1 + n }
-  as_space small family stays =
-      let in_class : is_space_byte b ≡ true = run_of_family b Space small family in
-      let all : prefix_len is_space_byte text ≡ suc n = run_is is_space_byte is_continue_byte (λ x. and_comm (is_space_byte x) (is_continue_byte x) ∙ never_both x) text n run.room (λ k l. swapped (get_or text k 0) (get_or text (suc k) 0) ∙ run.on k l) (swapped (get_or text n 0) (get_or text (suc n) 0) ∙ run.end) (ap is_space_byte front ∙ in_class) in
-      space_first text b rest n is e small family (counted is_space_byte in_class all) (ap not (ap (next_is is_space_lead) left ∙ stays))
+  as_symbol : Symbol ≡ family_of b → IsFirstToken text record { kind = symbol_kind b; len = 1 + n }
+  as_symbol family = subst (λ k. IsFirstToken text record { kind = symbol_kind b; len = 1 + k }) (alone n refl) (symbol_first text b rest (symbol_kind b) is e small family refl)
     where
-      swapped : (x y : ℕ) → ((is_space_byte x && is_space_byte y) || (is_continue_byte x && is_continue_byte y)) ≡ goes_on x y
-      swapped x y = or_comm (is_space_byte x && is_space_byte y) (is_continue_byte x && is_continue_byte y)
-
-  as_symbol : b < 128 → Symbol ≡ family_of b → IsFirstToken text record { kind = symbol_kind b; len = 1 + n }
-  as_symbol small family = subst (λ k. IsFirstToken text record { kind = symbol_kind b; len = 1 + k }) (alone n refl) (symbol_first text b rest (symbol_kind b) is e small family refl)
-    where
-      out : (is_continue_byte b ≡ false) × (is_space_byte b ≡ false)
-      out = or_parts (is_continue_byte b) (is_space_byte b) (not-true _ (run_of_family b Symbol small family))
-
       alone : (m : ℕ) → n ≡ m → 0 ≡ n
       alone zero f = sym f
-      alone (suc m) f = absurd (true≢false (sym (run.on 0 (omega arith)) ∙ rw (ap is_continue_byte front ∙ out.0, ap is_space_byte front ∙ out.1) refl))
+      alone (suc m) f = grind (arith, common_steps, run.on 0, run_of_family b Symbol small family, or_parts, not-true)
 
-  pub as_classified : (kind : TokenKind) → Tells b kind → StaysWithin kind next → IsFirstToken text record { kind = kind; len = suc n }
-  as_classified kind t stays = subst (λ k. IsFirstToken text record { kind = kind; len = k }) (let z : 1 + n ≡ suc n = omega arith in z) (by_kind t.by)
-    where
-      by_kind : ((kind ≡ Ident) × (Word ≡ family_of b)) ⊎ (((kind ≡ Whitespace) × (Space ≡ family_of b)) ⊎ ((kind ≡ symbol_kind b) × (Symbol ≡ family_of b))) → IsFirstToken text record { kind = kind; len = 1 + n }
-      by_kind (inl w) = subst (λ (k : TokenKind). IsFirstToken text record { kind = k; len = 1 + n }) (sym w.0) (as_word t.small w.1 (stays.word w.0))
-      by_kind (inr (inl s)) = subst (λ (k : TokenKind). IsFirstToken text record { kind = k; len = 1 + n }) (sym s.0) (as_space t.small s.1 (stays.space s.0))
-      by_kind (inr (inr y)) = subst (λ (k : TokenKind). IsFirstToken text record { kind = k; len = 1 + n }) (sym y.0) (as_symbol t.small y.1)
+  by_family : (kind : TokenKind) → StaysWithin kind (get_or rest n 0) → (f : Family) → f ≡ family_of b → Some kind ≡ classified_in f b → IsFirstToken text record { kind = kind; len = 1 + n }
+  by_family kind stays Word family is = let k = same_Some kind Ident is in subst (λ (k : TokenKind). IsFirstToken text record { kind = k; len = 1 + n }) (sym k) (as_word family (stays.word k))
+  by_family kind stays Space family is = let k = same_Some kind Whitespace is in subst (λ (k : TokenKind). IsFirstToken text record { kind = k; len = 1 + n }) (sym k) (as_space family (stays.space k))
+  by_family kind stays Symbol family is = subst (λ (k : TokenKind). IsFirstToken text record { kind = k; len = 1 + n }) (sym (same_Some kind (symbol_kind b) is)) (as_symbol family)
+  by_family kind stays f family is = absurd (none-some kind (sym is))
 
--- the token that the first byte and the lowest end tell
-module _ (text : List ℕ) (is : IsUtf8 text) (b : ℕ) (rest : List ℕ) (e : text ≡ b ∷ rest) (kind : TokenKind) (some : classified b ≡ Some kind) (ends end next : ℕ) (are : IsEnds text ends) (set : bit ends end ≡ true)
-    (least : (k : ℕ) → k < end → bit ends k ≡ false) (last : next ≡ get_or text end 0) (stays : StaysWithin kind next) where
-  token_classified : (n : ℕ) → end ≡ n → IsFirstToken text record { kind = kind; len = n }
-  token_classified zero f = absurd (true≢false (sym set ∙ (ap (bit ends) f ∙ (are end set).1 0 (omega arith))))
-  token_classified (suc n) f = as_classified text is b rest e n next (runs_to text ends n are (ap (bit ends) (sym f) ∙ set) (λ k l. least k (omega arith))) (last ∙ ap (λ i. get_or text i 0) f) kind (tells b kind some) stays
+  as_classified : (kind : TokenKind) → classified b ≡ Some kind → StaysWithin kind (get_or rest n 0) → IsFirstToken text record { kind = kind; len = 1 + n }
+  as_classified kind some stays = by_family kind stays (family_of b) refl (sym some ∙ rw (lt-ltb b 128 small) refl)
 
 -- ---- a byte that tells a token turns none before it
 
@@ -200,49 +163,10 @@ unfolding is_emoji unicode_ident
 turns_none b small = agree_below_at (λ x. not (is_some (classified x)) || not (turns_word x)) (λ _. true) 128 b refl small
 
 pub classified_stays : (kind : TokenKind) (next : ℕ) → is_some (classified next) ≡ true → StaysWithin kind next
-classified_stays kind next some = record {
+classified_stays kind next some = let small = classified_small next some in record {
   word = λ _. not-true _ (holds _ _ (turns_none next small) some);
   space = λ _. agree_below_at (λ x. is_space_lead x) (λ _. false) 128 next refl small;
 }
-  where
-    small : next < 128
-    small = elim (cases_lt next 128) [
-      | inl near ↦ near
-      | inr wide ↦ let none : is_some (classified next) ≡ false = rw (le-ltb next 128 wide) refl in absurd (true≢false (sym some ∙ none))
-    ]
-
--- from this place on the first byte and the lowest end past it tell a token of the kind
-pub record TellsAt (text : List ℕ) (from ends end : ℕ) (kind : TokenKind) : Type 0 where
-  pub utf8 : IsUtf8 (drop from text)
-  pub tells : classified (get_or text from 0) ≡ Some kind
-  pub known : AreEndsPast text from ends
-  pub small : ends < 2 ^ 64
-  pub lowest : IsLowest ends end
-  pub stays : StaysWithin kind (get_or text end 0)
-
--- the same behind an offset, up to which no end is classified
-module _ (text : List ℕ) (from ends end : ℕ) (kind : TokenKind) (at : TellsAt text from ends end kind) where
-  abbrev late : ℕ
-  late = bit_and (ends / 2 ^ from) high
-
-  begins : drop from text ≡ get_or text from 0 ∷ drop 1 (drop from text)
-  begins = grind (arith, common_steps, drop-cons, length-drop, get_or-drop)
-
-  by_len : (n : ℕ) → from + suc n ≡ end → IsFirstToken (drop from text) record { kind = kind; len = suc n }
-  by_len n e =
-      let later = past-later ends from at.small in
-      token_classified (drop from text) at.utf8 (get_or text from 0) (drop 1 (drop from text)) begins kind at.tells late (suc n) (get_or text end 0) (ends_past text ends from from late (omega arith) at.known (past-first ends from) later)
-      (later n ∙ (ap (bit ends) e ∙ at.lowest.set)) least (ap (λ i. get_or text i 0) (sym e) ∙ sym (get_or-drop from text (suc n) 0)) at.stays (suc n) refl
-    where
-      least : (k : ℕ) → k < suc n → bit late k ≡ false
-      least zero l = past-first ends from
-      least (suc k) l = past-later ends from at.small k ∙ at.lowest.least (from + suc k) (omega arith)
-
-  pub classified_behind : IsFirstToken (drop from text) record { kind = kind; len = end - from }
-  classified_behind = let after = (at.known end at.lowest.set).0 in
-      let e : from + suc (end - from - 1) ≡ end = omega (arith, after) in
-      let n : suc (end - from - 1) ≡ end - from = omega (arith, after) in
-      subst (λ k. IsFirstToken (drop from text) record { kind = kind; len = k }) n (by_len (end - from - 1) e)
 
 -- ---- each edition has what is classified
 
@@ -253,7 +177,47 @@ said test (Some kind) = test kind
 
 classified_older : (b : ℕ) (kind : TokenKind) → classified b ≡ Some kind → is_newer kind ≡ false
 unfolding is_emoji unicode_ident
-classified_older b kind some = sym (ap (said is_newer) some) ∙ agree_below_at (λ x. said is_newer (classified x)) (λ _. false) 128 b refl (tells b kind some).small
+classified_older b kind some = sym (ap (said is_newer) some) ∙ agree_below_at (λ x. said is_newer (classified x)) (λ _. false) 128 b refl (classified_small b (ap is_some some))
 
 pub classified_same : (b : ℕ) (kind : TokenKind) → classified b ≡ Some kind → (edition : Edition) (cs : List ℕ) (len : ℕ) → changed edition cs record { kind = kind; len = len } ≡ record { kind = kind; len = len }
 classified_same b kind some edition cs len = older edition cs record { kind = kind; len = len } (classified_older b kind some)
+
+-- ---- the next token
+
+-- the first byte that is left and the lowest end past it tell a token of the kind
+pub record TellsNext (text : List ℕ) (at block ends low : ℕ) (kind : TokenKind) : Type 0 where
+  pub utf8 : IsUtf8 text
+  pub bound : IsCharBoundary text at
+  pub behind : block ≤ at
+  pub small : ends < 2 ^ 64
+  pub tells : classified (get_or text at 0) ≡ Some kind
+  pub known : AreEndsPast (drop block text) (at - block) ends
+  pub lowest : IsLowest ends low
+  pub stays : StaysWithin kind (get_or text (block + low) 0)
+
+module _ (text : List ℕ) (at block ends low : ℕ) (kind : TokenKind) (next : TellsNext text at block ends low kind) where
+  pub classified_after : at < block + low
+  classified_after = let after = (next.known low next.lowest.set).0 in omega (arith, after, next.behind)
+
+  pub classified_inside : block + low < length text
+  classified_inside = let inside = (next.known low next.lowest.set).1 in omega (arith, inside, length-drop block text)
+
+  pub classified_token : IsFirstToken (drop at text) record { kind = kind; len = block + low - at }
+  classified_token =
+      let n : ℕ = block + low - at - 1 in
+      let e : at + suc n ≡ block + low = omega (arith, classified_after) in
+      let whole : 1 + n ≡ block + low - at = omega (arith, classified_after) in
+      let byte : get_or text (block + low) 0 ≡ get_or (drop (suc at) text) n 0 = ap (λ i. get_or text i 0) (let f : block + low ≡ suc at + n = omega (arith, classified_after) in f) ∙ sym (get_or-drop (suc at) text n 0) in
+      subst (λ k. IsFirstToken (drop at text) record { kind = kind; len = k }) whole
+      (as_classified (drop at text) (IsUtf8-drop text at next.utf8 next.bound) (get_or text at 0) (drop (suc at) text) (drop-cons text at 0 (omega (arith, classified_after, classified_inside))) n (runs_to text at block ends low n next.behind next.known next.lowest e)
+      (classified_small _ (ap is_some next.tells)) kind next.tells (subst (StaysWithin kind) byte next.stays))
+
+  -- no edition has another token there
+  pub classified_first : (edition : Edition) → record { kind = kind; len = block + low - at } ≡ first_token_in edition (drop at text)
+  classified_first edition = grind (arith, common_steps, classified_same, classified_token)
+
+  pub classified_bound : IsCharBoundary text (block + low)
+  classified_bound = grind (arith, common_steps, classified_after, IsCharBoundary-from_rest, classified_inside, classified_token)
+
+  pub classified_ahead : (less : ℕ) → ((k : ℕ) → k ≤ low → bit less k ≡ false) → ((k : ℕ) → low < k → bit less k ≡ bit ends k) → AreEndsPast (drop block text) (block + low - block) less
+  classified_ahead less gone others = grind (arith, common_steps, past_end)

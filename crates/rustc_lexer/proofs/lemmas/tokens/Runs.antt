@@ -1,8 +1,8 @@
 -- Runs of a class of characters, read from the front.
 use Rattle.std.proofs.lemmas.Grind.{common_steps}
-use Rattle.std.proofs.Common.{◌≡◌, ℕ, Bool, true, false, List, [], ◌∷◌, arith}
+use Rattle.std.proofs.Common.{◌≡◌, ℕ, Bool, true, false, List, [], ◌∷◌, refl, ◌∙◌, arith}
 use Rattle.std.specs.Str.{chars, IsUtf8}
-use Rattle.rustc_lexer.specs.means.Scan.{past, run_len}
+use Rattle.rustc_lexer.specs.means.Scan.{next_is, past, run_len}
 use Rattle.rustc_lexer.specs.laws.Past.{past-zero, past-past}
 
 -- past a character of the class the run goes on
@@ -10,8 +10,9 @@ pub run_on : (p : ℕ → Bool) (text tail : List ℕ) (c : ℕ) → IsUtf8 text
 run_on p text tail c is reads cut e = grind (arith, common_steps, past-past)
 
 -- before another one, or at the end, nothing is left of it
-pub run_ends : (p : ℕ → Bool) (text : List ℕ) (c : ℕ) (cs : List ℕ) → IsUtf8 text → chars text ≡ c ∷ cs → p c ≡ false → past (run_len p (chars text)) text ≡ text
-run_ends p text c cs is reads e = grind (arith, common_steps, past-zero)
-
-pub run_at_end : (p : ℕ → Bool) (text : List ℕ) → IsUtf8 text → chars text ≡ [] → past (run_len p (chars text)) text ≡ text
-run_at_end p text is none = grind (arith, common_steps, past-zero)
+pub run_ends : (p : ℕ → Bool) (text : List ℕ) → IsUtf8 text → next_is p (chars text) ≡ false → past (run_len p (chars text)) text ≡ text
+run_ends p text is e = ends (chars text) e ∙ past-zero text is
+  where
+    ends : (cs : List ℕ) → next_is p cs ≡ false → past (run_len p cs) text ≡ past 0 text
+    ends [] e = refl
+    ends (c ∷ cs) e = rw e refl

@@ -12,11 +12,8 @@ use Rattle.rustc_lexer.specs.means.Lifetime.{is_name_start, is_character_at}
 use Rattle.rustc_lexer.specs.means.Quoted.{single_quoted_string}
 use Rattle.rustc_lexer.specs.means.Scan.{begins, past, scanned}
 use Rattle.rustc_lexer.specs.laws.Choice.{by_either}
-use Rattle.rustc_lexer.proofs.lemmas.tokens.AsciiRuns.{chars-ascii, IsUtf8-ascii}
-use Rattle.rustc_lexer.specs.laws.Past.{past-one, past-past, past-two}
-
-pub past-ascii : (b : ℕ) (bs : List ℕ) → IsUtf8 (b ∷ bs) → b < 128 → bs ≡ past 1 (b ∷ bs)
-past-ascii b bs is small = sym (past-one (b ∷ bs) bs b is (ap (λ (xs : List ℕ). xs ++ bs) (sym (encode_ascii b small))))
+use Rattle.rustc_lexer.proofs.lemmas.tokens.AsciiRuns.{chars-ascii, IsUtf8-ascii, past-ascii}
+use Rattle.rustc_lexer.specs.laws.Past.{past-past, past-two}
 
 backslash-no_name : is_name_start 92 ≡ false
 unfolding is_emoji

@@ -1,16 +1,13 @@
 -- Which of the first bytes are outside a class, looked for some lanes at a time.
 use Rattle.std.proofs.lemmas.Grind.{common_steps}
 use Rattle.std.proofs.Common.{◌≡◌, ℕ, ◌+◌, ◌-◌, ◌*◌, ◌%◌, ◌^◌, ◌<◌, ◌≤◌, Bool, true, false, ◌||◌, List, length, map, get_or, ap, ◌∙◌, arith, bit_or}
-use Rattle.std.proofs.lemmas.Bool.{cases_lt, or_cases}
+use Rattle.std.proofs.lemmas.Bool.{cases_lt, or_cases, or_right}
 use Rattle.std.proofs.lemmas.List.{get_or-map, get_or_past, length-map}
 use Rattle.std.proofs.lemmas.Simd.{length-chunk, get_or-chunk}
 use lib.Lanes.{chunk, mask_l}
 use Rattle.rustc_lexer.specs.means.ByteRuns.{outside}
 use Rattle.rustc_lexer.specs.means.Ends.{bit}
-use Rattle.rustc_lexer.proofs.lemmas.tokens.Bits.{bit-mask_l, bit-or, bit-shl_below, bit-shl_on}
-
-or_second : (a b : Bool) → b ≡ true → (a || b) ≡ true
-or_second a b w2 = grind (arith, common_steps)
+use Rattle.rustc_lexer.proofs.lemmas.tokens.Bits.{bit-or, bit-shl_below, bit-shl_on, mask_in, mask_past}
 
 module _ (p : ℕ → Bool) (bytes : List ℕ) where
   abbrev stops_at : ℕ → Bool
@@ -18,21 +15,15 @@ module _ (p : ℕ → Bool) (bytes : List ℕ) where
 
   -- a look at w bytes from `at` on
   module _ (at w mask : ℕ) (inside : at + w ≤ length bytes) (e : mask ≡ mask_l (map (outside p) (chunk at w bytes))) where
-    in_mask : (i : ℕ) → i < w → bit mask i ≡ stops_at (at + i)
-    in_mask i l = grind (arith, common_steps, bit-mask_l, get_or-map, length-chunk, get_or-chunk)
-
-    past_mask : (i : ℕ) → w ≤ i → bit mask i ≡ false
-    past_mask i far = grind (arith, common_steps, bit-mask_l, get_or_past, length-map, length-chunk)
-
     -- among 64 bits at their places
     abbrev shown : ℕ
     shown = mask * 2 ^ at % 2 ^ 64
 
     shown_in : (k : ℕ) → k < 64 → at ≤ k → k < at + w → bit shown k ≡ stops_at k
-    shown_in k l low high = bit-shl_on mask at k low l ∙ (in_mask (k - at) (omega arith) ∙ ap stops_at (let same : at + (k - at) ≡ k = omega arith in same))
+    shown_in k l low high = bit-shl_on mask at k low l ∙ mask_in (outside p) bytes at w mask inside e (k - at) k (omega arith) (omega arith)
 
     sound : (k : ℕ) → k < 64 → bit shown k ≡ true → stops_at k ≡ true
-    sound k l set = grind (arith, common_steps, cases_lt, bit-shl_below, shown_in, bit-shl_on, past_mask)
+    sound k l set = grind (arith, common_steps, cases_lt, bit-shl_below, shown_in, bit-shl_on, mask_past (outside p) bytes at w mask inside e)
 
   -- after looks at the bytes before `at`, and at those from `last` on
   pub record Looked (len at last stops : ℕ) : Type 0 where
@@ -44,4 +35,4 @@ module _ (p : ℕ → Bool) (bytes : List ℕ) where
   looked_last len last w mask sum few inside e = grind (arith, common_steps, sound, shown_in)
 
   pub looked_on : (len at last stops w mask : ℕ) → Looked len at last stops → len ≤ 64 → at + w ≤ len → len ≤ length bytes → mask ≡ mask_l (map (outside p) (chunk at w bytes)) → Looked len (at + w) last (bit_or stops (mask * 2 ^ at % 2 ^ 64))
-  looked_on len at last stops w mask so few room inside e = grind (arith, common_steps, or_cases, bit-or, sound, cases_lt, or_second, shown_in)
+  looked_on len at last stops w mask so few room inside e = grind (arith, common_steps, or_cases, bit-or, sound, cases_lt, or_right, shown_in)

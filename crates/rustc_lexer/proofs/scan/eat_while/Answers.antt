@@ -1,6 +1,7 @@
-use Rattle.std.proofs.Common.{sym, refl, arith, ◌∙◌}
+use Rattle.std.proofs.Common.{sym, refl, ap, arith, ◌∙◌}
+use Rattle.rustc_lexer.specs.means.Scan.{next_is}
 use Rattle.rustc_lexer.specs.laws.Past.{IsUtf8-cut}
-use Rattle.rustc_lexer.proofs.lemmas.tokens.Runs.{run_on, run_ends, run_at_end}
+use Rattle.rustc_lexer.proofs.lemmas.tokens.Runs.{run_on, run_ends}
 use Rattle.rustc_lexer.proofs.scan.eat_while.Goals as goal
 
 pub chars-init : goal.chars-init
@@ -14,7 +15,7 @@ chars-preserved g c = (
 )
 
 pub returns-then-not-test-clause-past : goal.returns-then-not-test-clause-past
-returns-then-not-test-clause-past g c = λ class tests. sym (run_ends class _ _ _ c.chars.invariant.0 c.in-Some.ensures.0 (sym (tests _ _ c.test.ensures) ∙ c.if-not-test.true)) ∙ c.chars.invariant.2 class tests
+returns-then-not-test-clause-past g c = λ class tests. sym (run_ends class _ c.chars.invariant.0 (ap (next_is class) c.in-Some.ensures.0 ∙ (sym (tests _ _ c.test.ensures) ∙ c.if-not-test.true))) ∙ c.chars.invariant.2 class tests
 
 pub returns-clause-past : goal.returns-clause-past
-returns-clause-past g c = λ class tests. sym (run_at_end class _ c.chars.invariant.0 c.in_default.ensures) ∙ c.chars.invariant.2 class tests
+returns-clause-past g c = λ class tests. sym (run_ends class _ c.chars.invariant.0 (ap (next_is class) c.in_default.ensures)) ∙ c.chars.invariant.2 class tests

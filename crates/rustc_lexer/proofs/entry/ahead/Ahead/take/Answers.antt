@@ -3,8 +3,7 @@ use Rattle.std.specs.ControlFlow.{continue_value}
 use lib.Count.{count_trailing_zeros}
 use Rattle.rustc_lexer.specs.means.Ends.{IsLowest, StaysWithin, classified}
 use Rattle.rustc_lexer.proofs.lemmas.tokens.Bits.{lowest_is}
-use Rattle.rustc_lexer.proofs.lemmas.tokens.RunEnds.{classified_stays}
-use Rattle.rustc_lexer.proofs.lemmas.tokens.Classified.{TellsNext, classified_after, classified_ahead, classified_bound, classified_first, classified_inside}
+use Rattle.rustc_lexer.proofs.lemmas.tokens.RunEnds.{TellsNext, classified_after, classified_ahead, classified_bound, classified_first, classified_inside, classified_stays}
 use Rattle.rustc_lexer.proofs.entry.ahead.Ahead.take.Goals as goal
 use Rattle.rustc_lexer.proofs.entry.ahead.Ahead.take.Goals.{then-is_some-via-then-is_some, then-is_some-via-else-is_some+then-not-may_continue}
 
