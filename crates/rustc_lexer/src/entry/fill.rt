@@ -62,6 +62,7 @@ impl<'a> Tokens<'a> {
     ///     }
     /// }
     /// ```
+    #[tactic(auto, using(crate::proofs::lemmas::tokens::Buffers::fill_lemmas, std::proofs::lemmas::Grind::common_steps))]
     pub fn fill<R: FromToken>(&mut self, buffer: &mut [R]) -> usize
         ensures count { result ≡ min (length buffer.old) (length (tokens_left self.old)) }
         ensures tokens { buffer.new

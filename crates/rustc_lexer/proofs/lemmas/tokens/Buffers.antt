@@ -1,7 +1,7 @@
 -- A buffer that is filled from the front with the tokens of a text.
 use Rattle.std.proofs.Common.{All, get_or, ◌≡◌, ℕ, zero, suc, ◌+◌, ◌-◌, ◌<◌, ◌≤◌, List, [], ◌∷◌, ◌++◌, length, map, take, drop, min, inl, inr, refl, sym, ap, ◌∙◌, arith, slice_set, length-drop}
 use Rattle.std.proofs.lemmas.Bool.{cases_lt}
-use Rattle.std.proofs.lemmas.List.{take-append-drop, take_more_set, drop-set-lt, drop-drop, drop_all, length-set, map-append}
+use Rattle.std.proofs.lemmas.List.{take-append-drop, take_more_set, drop-set-lt, drop-drop, length-set, map-append}
 use Rattle.std.proofs.lemmas.List.Elements.{All-head, All-tail}
 use Rattle.std.proofs.lemmas.Str.{IsCharBoundary-from_drop}
 use Rattle.std.proofs.Math.Nat.{min-eq_left, min-eq_right, min-le_right}
@@ -14,11 +14,10 @@ use Rattle.rustc_lexer.specs.Classes.{IsText}
 use Rattle.rustc_lexer.specs.Locality.{IsGrammar}
 use Rattle.rustc_lexer.specs.LanguageText.{Mode, part, mode_after, mode_edition, mode_in}
 use Rattle.rustc_lexer.specs.means.Edition.{first_token_in}
-use Rattle.rustc_lexer.specs.means.Taking.{advance_by, take_next}
+use Rattle.rustc_lexer.specs.means.Taking.{take_next}
 use Rattle.rustc_lexer.specs.laws.Edition.{edition_grammar}
-use Rattle.rustc_lexer.specs.laws.Cuts.{IsCutAt, at_bound, tokens-cons, tokens-nil}
-use Rattle.rustc_lexer.proofs.lemmas.tokens.Progress.{IsOffset, next-from_drop}
-use Rattle.rustc_lexer.specs.laws.State.{state, edition-after}
+use Rattle.rustc_lexer.specs.laws.Cuts.{IsCutAt, at_bound, tokens-cons}
+use Rattle.rustc_lexer.proofs.lemmas.tokens.Progress.{IsOffset, next-from_drop, none_more, none_past}
 
 -- the first `count` tokens are written, and the rest of the buffer is as it was
 pub record IsWritten {X : Type 0} (written : Token → X) (tokens : List Token) (buffer filled : List X) (count : ℕ) : Type 0 where
@@ -65,20 +64,13 @@ module _ {first : List ℕ → Token} (law : IsGrammar first) (text : List ℕ) 
   pub next_offset : at < length text → at + (first (drop at text)).len ≡ bound (tokens_by first text) (count + 1)
   next_offset more = grind (arith, common_steps, next_token, next-from_drop _ count _ _ (next_token more))
 
-  pub over : length text ≤ at → length (tokens_by first text) ≤ count
-  over all =
-      let none : drop (bound (tokens_by first text) count) text ≡ [] = drop_all _ text (omega (arith, offset)) in
-      let gone : drop count (tokens_by first text) ≡ [] = cut.rest ∙ (ap (tokens_by first) none ∙ tokens-nil first) in
-      let no : length (drop count (tokens_by first text)) ≡ 0 = ap length gone in
-      omega (arith, length-drop count (tokens_by first text))
-
 -- those that begin before the end of the text are all
 pub filled_all : {first : List ℕ → Token} (law : IsGrammar first) {X : Type 0} (written : Token → X) (text : List ℕ) → IsText text → (end : ℕ) → end ≡ length text → (buffer filled : List X) (count : ℕ) → IsFilledTo written end (tokens_by first text) buffer filled count → IsFilled written (tokens_by first text) buffer filled count
 filled_all {first} law written text is end whole buffer filled count to = record {
   as_many = elim (cases_lt count (length buffer)) [
     | inl more ↦
         let far = to.all more in
-        let n : length (tokens_by first text) ≤ count = over law text is count _ refl (omega (arith, whole)) in
+        let n : length (tokens_by first text) ≤ count = none_past law text count is (omega (arith, whole)) in
         let e : count ≡ length (tokens_by first text) = omega (arith, to.few) in
         let m : length (tokens_by first text) ≤ length buffer = omega (arith, to.within) in
         e ∙ sym (min-eq_right m)
@@ -91,29 +83,6 @@ filled_all {first} law written text is end whole buffer filled count to = record
 }
 
 -- ---- the state past some tokens
-
--- the edition stays, and past a part a part is left
-edition-advanced : (rest : List ℕ) (s : State) → mode_edition (advance_by rest s).1.mode ≡ mode_edition s.mode
-edition-advanced rest s = grind (arith, common_steps, edition-after)
-
-pub edition-stays : (count : ℕ) (s : State) → mode_edition (state_past count s).mode ≡ mode_edition s.mode
-unfolding take_next
-edition-stays zero s = refl
-edition-stays (suc count) s = edition-advanced (state_past count s).rest (state_past count s) ∙ edition-stays count s
-
-abbrev IsInPart : Edition → State → Type 0
-IsInPart edition s = (s.pending ≡ 0) × (s.mode ≡ part edition)
-
-part-advanced : (edition : Edition) (rest : List ℕ) (s : State) → IsInPart edition s → IsInPart edition (advance_by rest s).1
-part-advanced edition rest s w3 = grind (arith, common_steps)
-
-part-stays : (edition : Edition) (count : ℕ) (s : State) → IsInPart edition s → IsInPart edition (state_past count s)
-unfolding take_next
-part-stays edition zero s is = is
-part-stays edition (suc count) s is = part-advanced edition (state_past count s).rest (state_past count s) (part-stays edition count s is)
-
-pub part-left : (s t : State) (count : ℕ) (rest : List ℕ) → s.pending ≡ 0 → t ≡ state_past count s → t.rest ≡ rest → s.mode ≡ part (mode_edition s.mode) → t ≡ state s.pending rest s.mode
-part-left s t count rest none past cut is = grind (arith, common_steps, part-stays)
 
 -- how an iterator reads is decided by the flag and the edition that it holds
 pub mode_held : (allowed : FrontmatterAllowed) (edition : Edition) (mode : Mode) → mode_in allowed edition ≡ mode → mode ≡ mode_in allowed (mode_edition mode)
@@ -131,10 +100,7 @@ shorter_left text left tokens parts buffer count e cut some_buffer some_text =
 
 -- ---- one token after another
 
-pub none_more : (all : List Token) (count : ℕ) → drop count all ≡ [] → length all ≤ count
-none_more all count none = let n = length-drop count all in let m = ap (λ (ts : List Token). length ts) none in omega arith
-
-module _ (s at past : State) (count : ℕ) (token : Token) (there : at ≡ state_past count s) (left : tokens_left at ≡ drop count (tokens_left s)) (cut : at.rest ≡ drop (bound (tokens_left s) count) s.rest) (takes : TakesToken at token past) where
+module _ (s at past : State) (count : ℕ) (token : Token) (there : at ≡ state_past count s) (left : tokens_left at ≡ drop count (tokens_left s)) (takes : TakesToken at token past) where
   more_is : count + 1 ≡ suc count
   more_is = omega arith
 
@@ -147,8 +113,8 @@ module _ (s at past : State) (count : ℕ) (token : Token) (there : at ≡ state
   pub left_more : tokens_left past ≡ drop (count + 1) (tokens_left s)
   left_more = ap (drop 1) (sym next_is) ∙ drop-drop 1 count (tokens_left s)
 
-  pub rest_more : past.rest ≡ drop (bound (tokens_left s) (count + 1)) s.rest
-  rest_more = grind (arith, common_steps, next-from_drop, drop-drop, more_is)
+  pub rest_more : at.rest ≡ drop (bound (tokens_left s) count) s.rest → past.rest ≡ drop (bound (tokens_left s) (count + 1)) s.rest
+  rest_more cut = grind (arith, common_steps, next-from_drop, drop-drop, more_is)
 
 -- ---- one token of a part after another
 
@@ -186,3 +152,5 @@ filled_more written edition text end buffer filled count s t token x is inside a
       written = one_written written (tokens_by first text) _ buffer filled count (first (drop offset text)) at.written (next_token law text is count offset refl here) room x (e ∙ ap written token_is);
       begun = begun_more (tokens_by first text) count offset end refl early at.begun;
     }
+
+pub ruleset fill_lemmas = (none_written, none_more, all_written, whole_buffer)

@@ -1,18 +1,18 @@
 -- What the clauses `count` and `state` of `Tokens::fill`, with those of `as_str` before it, tell of the iterator after it.
-use Rattle.std.proofs.Common.{◌≡◌, ℕ, zero, suc, ◌+◌, ◌<◌, ◌≤◌, ◌==◌, false, [], length, drop, min, refl, sym, ap, subst, ◌∙◌, arith, length-drop}
-use Rattle.std.proofs.lemmas.Bool.{ne_eqb}
+use Rattle.std.proofs.Common.{◌≡◌, ℕ, zero, suc, ◌+◌, ◌<◌, ◌≤◌, [], length, drop, min, refl, sym, ap, subst, ◌∙◌, arith, length-drop, pos_of_ne-zero}
 use Rattle.std.proofs.lemmas.List.{nil_from_length}
 use Rattle.std.proofs.lemmas.Str.{IsUtf8-drop}
 use Rattle.std.proofs.Math.Nat.{min-le_right}
 use Rattle.rustc_lexer.specs.{Token}
 use Rattle.rustc_lexer.specs.Classes.{IsText}
-use Rattle.rustc_lexer.specs.LanguageText.{mode_edition, part}
+use Rattle.rustc_lexer.specs.LanguageText.{Mode, mode_edition}
 use Rattle.rustc_lexer.specs.State.{State}
 use Rattle.rustc_lexer.specs.Tokens.{advance, bound, state_past, tokens_left, tokens_of, TakesToken}
 use Rattle.rustc_lexer.specs.means.Taking.{token_at}
-use Rattle.rustc_lexer.specs.laws.State.{past_token}
+use Rattle.rustc_lexer.specs.laws.State.{edition-after, past_token}
 use Rattle.rustc_lexer.specs.laws.Tokens.{partitions, tokens-nil}
-use Rattle.rustc_lexer.proofs.lemmas.tokens.Buffers.{edition-stays, left_more, none_more, part-left, rest_more, shorter_left}
+use Rattle.rustc_lexer.proofs.lemmas.tokens.Buffers.{left_more, rest_more, shorter_left}
+use Rattle.rustc_lexer.proofs.lemmas.tokens.Progress.{none_more}
 use Rattle.rustc_lexer.proofs.lemmas.tokens.Tokens.{takes_first}
 
 record IsPast (s t : State) (count : ℕ) : Type 0 where
@@ -20,25 +20,27 @@ record IsPast (s t : State) (count : ℕ) : Type 0 where
   pending : t.pending ≡ 0
   left : tokens_left t ≡ drop count (tokens_left s)
   rest : t.rest ≡ drop (bound (tokens_left s) count) s.rest
+  edition : mode_edition t.mode ≡ mode_edition s.mode
 
 is_past : (s : State) → IsText s.rest → s.pending ≡ 0 → (count : ℕ) → count ≤ length (tokens_left s) → IsPast s (state_past count s) count
-is_past s is none zero few = record { text = is; pending = none; left = refl; rest = refl }
+is_past s is none zero few = record { text = is; pending = none; left = refl; rest = refl; edition = refl }
 is_past s is none (suc count) few =
     let before = is_past s is none count (omega arith) in
     let at : State = state_past count s in
     let token : Token = token_at at.mode at.rest in
-    let some : (length at.rest == 0) ≡ false = ne_eqb (length at.rest) 0 (λ zero.
+    let some : 0 < length at.rest = pos_of_ne-zero (λ zero.
     let none_left : tokens_left at ≡ [] = ap (tokens_of at.mode) (nil_from_length at.rest zero) ∙ tokens-nil at.mode in
     let all = none_more (tokens_left s) count (sym before.left ∙ none_left) in omega (arith, all, few)) in
-    let first = takes_first at (past_token at.rest at.mode token) token before.pending before.text some refl refl in
-    let next_is : (advance at).1 ≡ past_token at.rest at.mode token = ap (λ (r : Token × State). r.1) first.takes.advances in
-    let takes : TakesToken at token (state_past (suc count) s) = subst (λ (x : State). TakesToken at token x) (sym next_is) first.takes in
+    let first : TakesToken at token (past_token at.rest at.mode token) = takes_first at (past_token at.rest at.mode token) token before.pending before.text some refl refl in
+    let next_is : (advance at).1 ≡ past_token at.rest at.mode token = ap (λ (r : Token × State). r.1) first.advances in
+    let takes : TakesToken at token (state_past (suc count) s) = subst (λ (x : State). TakesToken at token x) (sym next_is) first in
     let more : count + 1 ≡ suc count = omega arith in
     record {
       text = subst IsText (sym takes.rest) (record { utf8 = IsUtf8-drop at.rest token.len before.text.utf8 takes.boundary; fits = let fits = before.text.fits in omega (arith, length-drop token.len at.rest, fits) });
       pending = ap (λ (x : State). x.pending) next_is;
-      left = left_more s at (state_past (suc count) s) count token refl before.left before.rest takes ∙ ap (λ n. drop n (tokens_left s)) more;
-      rest = rest_more s at (state_past (suc count) s) count token refl before.left before.rest takes ∙ ap (λ n. drop (bound (tokens_left s) n) s.rest) more;
+      left = left_more s at (state_past (suc count) s) count token refl before.left takes ∙ ap (λ n. drop n (tokens_left s)) more;
+      rest = rest_more s at (state_past (suc count) s) count token refl before.left takes before.rest ∙ ap (λ n. drop (bound (tokens_left s) n) s.rest) more;
+      edition = ap (λ (m : Mode). mode_edition m) takes.mode ∙ (edition-after at.mode token.kind ∙ before.edition);
     }
 
 -- `fill` took `count` tokens, and its buffer has room for so many
@@ -48,7 +50,6 @@ pub record Leaves (s t : State) (room count : ℕ) : Type 0 where
   pub tokens : tokens_left t ≡ drop count (tokens_left s)
   pub rest : t.rest ≡ drop (bound (tokens_left s) count) s.rest
   pub edition : mode_edition t.mode ≡ mode_edition s.mode
-  pub part : s.mode ≡ part (mode_edition s.mode) → t ≡ record { pending = s.pending; rest = drop (bound (tokens_left s) count) s.rest; mode = s.mode }
   pub progress : 0 < room → 0 < length s.rest → length t.rest < length s.rest
 
 pub past_fill : (s t : State) (room count : ℕ) → IsText s.rest → s.pending ≡ 0 → count ≡ min room (length (tokens_left s)) → t ≡ state_past count s → Leaves s t room count
@@ -61,7 +62,6 @@ past_fill s t room count is none as_many past =
       pending = ap (λ (x : State). x.pending) past ∙ all.pending;
       tokens = ap tokens_left past ∙ all.left;
       rest = cut;
-      edition = ap (λ (x : State). mode_edition x.mode) past ∙ edition-stays count s;
-      part = part-left s t count _ none past cut;
+      edition = ap (λ (x : State). mode_edition x.mode) past ∙ all.edition;
       progress = shorter_left s.rest t.rest (tokens_left s) (partitions s.rest s.mode is) room count as_many cut;
     }

@@ -1,9 +1,9 @@
 -- Tokens that are decided by their bytes.
-use Rattle.std.proofs.Common.{◌≡◌, ℕ, ◌+◌, ◌-◌, ◌<◌, ◌≤◌, ◌==◌, not, Bool, true, false, if◌then◌else◌, List, ◌∷◌, ◌++◌, length, drop, codes, refl, sym, ap, ◌∙◌, arith, subst, length-drop}
+use Rattle.std.proofs.Common.{◌≡◌, ℕ, ◌+◌, ◌-◌, ◌<◌, ◌≤◌, ◌==◌, not, Bool, true, false, if◌then◌else◌, List, ◌∷◌, length, drop, codes, refl, sym, ap, ◌∙◌, arith, subst, length-drop}
 use Rattle.std.specs.List.{prefix_len}
 use Rattle.std.specs.Str.{chars, IsUtf8}
 use Rattle.std.proofs.lemmas.Bool.{or_parts, or_cases, not-true, not-false, eqb-true, ltb-true, lt-leb}
-use Rattle.std.proofs.lemmas.Str.{chars-nil, encode_ascii}
+use Rattle.std.proofs.lemmas.Str.{chars-nil}
 use Rattle.std.proofs.lemmas.List.Sums.{prefix_len-le-length}
 use Rattle.std.proofs.lemmas.Grind.{common_steps}
 use Rattle.unicode_ident.proofs.IdentLemmas.{is_xid_continue-ascii}
@@ -22,7 +22,7 @@ use Rattle.rustc_lexer.proofs.lemmas.tokens.AsciiRuns.{chars-ascii, IsUtf8-ascii
 use Rattle.rustc_lexer.proofs.lemmas.tokens.Identifiers.{ident_or_unknown_prefix-valid}
 use Rattle.rustc_lexer.proofs.lemmas.tokens.Lexemes.{made}
 use Rattle.rustc_lexer.proofs.lemmas.tokens.ClassParts.{continue_part}
-use Rattle.rustc_lexer.specs.laws.Past.{past-one, chars-past}
+use Rattle.rustc_lexer.specs.laws.Past.{chars-past}
 use Rattle.rustc_lexer.specs.laws.Scan.{scanned-gives, scanned-same}
 use Rattle.rustc_lexer.proofs.lemmas.tokens.WhiteSpace.{space_stops_here}
 use Rattle.rustc_lexer.specs.declared.lexemes.family.Family.TheVariants.{Space, Symbol, Word}

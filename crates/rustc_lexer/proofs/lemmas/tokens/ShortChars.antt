@@ -1,9 +1,9 @@
 -- A character that a quote closes right behind one character of ASCII, or behind a backslash and one.
-use Rattle.std.proofs.Common.{◌≡◌, ℕ, ◌+◌, ◌-◌, ◌≤◌, ◌<◌, ◌==◌, Bool, true, false, List, [], ◌∷◌, ◌++◌, length, drop, codes, refl, sym, ap, ◌∙◌, arith, subst, slice_index}
+use Rattle.std.proofs.Common.{◌≡◌, ℕ, ◌+◌, ◌-◌, ◌≤◌, ◌<◌, ◌==◌, Bool, true, false, List, [], ◌∷◌, length, drop, codes, refl, sym, ap, ◌∙◌, arith, subst, slice_index}
 use Rattle.std.specs.Int.{from_bool}
-use Rattle.std.specs.Str.{chars, IsUtf8, IsCharBoundary}
+use Rattle.std.specs.Str.{chars, encode_utf8_all, IsUtf8, IsCharBoundary}
 use Rattle.std.proofs.lemmas.Bool.{eqb-true, lt-leb}
-use Rattle.std.proofs.lemmas.Str.{encode_ascii, IsCharBoundary-from_drop}
+use Rattle.std.proofs.lemmas.Str.{encodes-chars, IsCharBoundary-from_drop}
 use Rattle.std.proofs.Math.Bool.{or-true}
 use Rattle.std.proofs.lemmas.Grind.{common_steps}
 use Rattle.unicode_ident.proofs.IdentLemmas.{is_xid_start-ascii}
@@ -42,19 +42,18 @@ lone b left is small other =
 
 -- a backslash, one character and a quote
 escaped : (e : ℕ) (left : List ℕ) → IsUtf8 (92 ∷ e ∷ 39 ∷ left) → e < 128 → ShortChar (92 ∷ e ∷ 39 ∷ left) left
+unfolding past
 escaped e left is small =
-    let text : List ℕ = 92 ∷ e ∷ 39 ∷ left in
     let one : IsUtf8 (e ∷ 39 ∷ left) = IsUtf8-ascii 92 (e ∷ 39 ∷ left) is (omega arith) in
     let two : IsUtf8 (39 ∷ left) = IsUtf8-ascii e (39 ∷ left) one small in
     let last : IsUtf8 left = IsUtf8-ascii 39 left two (omega arith) in
-    let reads : chars text ≡ 92 ∷ chars (e ∷ 39 ∷ left) = chars-ascii 92 (e ∷ 39 ∷ left) is (omega arith) in
-    let reads_one : chars (e ∷ 39 ∷ left) ≡ e ∷ chars (39 ∷ left) = chars-ascii e (39 ∷ left) one small in
-    let reads_two : chars (39 ∷ left) ≡ 39 ∷ chars left = chars-ascii 39 left two (omega arith) in
+    let reads : chars (92 ∷ e ∷ 39 ∷ left) ≡ 92 ∷ e ∷ 39 ∷ chars left =
+    chars-ascii 92 (e ∷ 39 ∷ left) is (omega arith) ∙ ap (λ cs. 92 ∷ cs) (chars-ascii e (39 ∷ left) one small ∙ ap (λ cs. e ∷ cs) (chars-ascii 39 left two (omega arith))) in
     let left_is : left ≡ past 3 text = past-ascii 39 left two (omega arith) ∙ (ap (past 1) (past-two text (e ∷ 39 ∷ left) (39 ∷ left) is (past-ascii 92 (e ∷ 39 ∷ left) is (omega arith)) (past-ascii e (39 ∷ left) one small)) ∙ past-past 1 2 text is) in
     record {
       utf8 = last;
-      character = rw (reads, backslash-no_name) (or-true (begins (codes "'") (chars (e ∷ 39 ∷ left))));
-      read = closed text left _ 3 (reads ∙ ap (λ cs. 92 ∷ cs) (reads_one ∙ ap (λ cs. e ∷ cs) reads_two)) left_is refl;
+      character = rw (reads, backslash-no_name) (or-true (begins (codes "'") (e ∷ 39 ∷ chars left)));
+      read = closed text left _ 3 reads left_is refl;
     }
 
 module _ (text bytes : List ℕ) (offset : ℕ) (is : IsUtf8 text) (same : bytes ≡ text) (some : 3 ≤ length bytes) (offset_is : offset ≡ 1 + from_bool (slice_index bytes 0 == 92)) (small : slice_index bytes (offset - 1) < 128) (quote : slice_index bytes offset ≡ 39) where

@@ -1,8 +1,6 @@
-use Rattle.std.proofs.lemmas.Grind.{common_steps}
-use Rattle.std.proofs.Common.{rules}
 use Rattle.std.proofs.Common.{◌<◌, length, arith}
 use Rattle.rustc_lexer.specs.Tokens.{tokens_left}
-use Rattle.rustc_lexer.proofs.lemmas.tokens.Buffers.{all_written, none_more, one_written, next_is, past_more, left_more, rest_more, whole_buffer}
+use Rattle.rustc_lexer.proofs.lemmas.tokens.Buffers.{one_written, next_is, past_more, left_more}
 use Rattle.rustc_lexer.proofs.entry.Tokens.fill.Goals as goal
 
 pub places-preserved : goal.places-preserved
@@ -15,18 +13,8 @@ places-preserved g c =
     let takes = c.in-Some.ensures.steps in
     let fits : c.places.count < length c.places.buffer = omega arith in
     record {
-      past = past_more s at past c.places.count token inv.past inv.left inv.rest takes;
-      left = left_more s at past c.places.count token inv.past inv.left inv.rest takes;
-      rest = rest_more s at past c.places.count token inv.past inv.left inv.rest takes;
+      past = past_more s at past c.places.count token inv.past inv.left takes;
+      left = left_more s at past c.places.count token inv.past inv.left takes;
       written = one_written g.R.FromToken.written (tokens_left s) (tokens_left past) c.args.buffer.now c.places.buffer c.places.count token inv.written
-          (next_is s at past c.places.count token inv.past inv.left inv.rest takes) fits c.from_token.result c.from_token.ensures;
+          (next_is s at past c.places.count token inv.past inv.left takes) fits c.from_token.result c.from_token.ensures;
     }
-
-pub returns-in_default-clause-count : goal.returns-in_default-clause-count
-returns-in_default-clause-count g c = grind (arith, common_steps, rules, all_written, none_more)
-
-pub returns-in_default-clause-tokens : goal.returns-in_default-clause-tokens
-returns-in_default-clause-tokens g c = whole_buffer g.R.FromToken.written (tokens_left c.args.self.now) c.args.buffer.now c.places.buffer c.places.count c.places.invariant.written
-
-pub returns-after-places-clause-tokens : goal.returns-after-places-clause-tokens
-returns-after-places-clause-tokens g c = whole_buffer g.R.FromToken.written (tokens_left c.args.self.now) c.args.buffer.now c.places.buffer c.places.count c.places.invariant.written

@@ -1,5 +1,5 @@
 use Rattle.std.proofs.Common.{◌≡◌, ◌-◌, drop, length}
-use Rattle.rustc_lexer.specs.Tokens.{state_past, bound, tokens_left}
+use Rattle.rustc_lexer.specs.Tokens.{state_past, tokens_left}
 use Rattle.rustc_lexer.proofs.lemmas.tokens.Buffers.{IsWritten}
 use Rattle.rustc_lexer.proofs.entry.Tokens.fill.Given as goal
 
@@ -7,7 +7,6 @@ abbrev pub invariant-places : goal.invariant-places
 invariant-places g l = record {
   past : l.tokens ≡ state_past l.count l.fn.self;
   left : tokens_left l.tokens ≡ drop l.count (tokens_left l.fn.self);
-  rest : l.tokens.rest ≡ drop (bound (tokens_left l.fn.self) l.count) l.fn.self.rest;
   written : IsWritten g.R.FromToken.written (tokens_left l.fn.self) l.fn.buffer l.buffer l.count;
 }
 
