@@ -44,10 +44,11 @@ lone b left is small other =
 escaped : (e : ℕ) (left : List ℕ) → IsUtf8 (92 ∷ e ∷ 39 ∷ left) → e < 128 → ShortChar (92 ∷ e ∷ 39 ∷ left) left
 unfolding past
 escaped e left is small =
+    let text : List ℕ = 92 ∷ e ∷ 39 ∷ left in
     let one : IsUtf8 (e ∷ 39 ∷ left) = IsUtf8-ascii 92 (e ∷ 39 ∷ left) is (omega arith) in
     let two : IsUtf8 (39 ∷ left) = IsUtf8-ascii e (39 ∷ left) one small in
     let last : IsUtf8 left = IsUtf8-ascii 39 left two (omega arith) in
-    let reads : chars (92 ∷ e ∷ 39 ∷ left) ≡ 92 ∷ e ∷ 39 ∷ chars left =
+    let reads : chars text ≡ 92 ∷ e ∷ 39 ∷ chars left =
     chars-ascii 92 (e ∷ 39 ∷ left) is (omega arith) ∙ ap (λ cs. 92 ∷ cs) (chars-ascii e (39 ∷ left) one small ∙ ap (λ cs. e ∷ cs) (chars-ascii 39 left two (omega arith))) in
     let left_is : left ≡ past 3 text = past-ascii 39 left two (omega arith) ∙ (ap (past 1) (past-two text (e ∷ 39 ∷ left) (39 ∷ left) is (past-ascii 92 (e ∷ 39 ∷ left) is (omega arith)) (past-ascii e (39 ∷ left) one small)) ∙ past-past 1 2 text is) in
     record {
