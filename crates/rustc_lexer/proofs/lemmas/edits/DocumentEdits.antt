@@ -15,17 +15,18 @@ use Rattle.rustc_lexer.specs.{Token}
 use Rattle.rustc_lexer.specs.Classes.{IsText}
 use Rattle.rustc_lexer.specs.means.Document.{body_change, edit_change, body_insert, counted, head_put, head_unless, IsHeadIn, IsPut, IsRenewedBehind, tokens_of_head}
 use Rattle.rustc_lexer.specs.Partition.{Layout, tokens_in}
-use Rattle.rustc_lexer.specs.Edits.{apply, IsEdit}
+use Rattle.rustc_lexer.specs.Edits.{apply, ends_from, IsEdit}
 use Rattle.rustc_lexer.specs.Offsets.{IsBound}
 use Rattle.rustc_lexer.specs.Relexing.{IsMadeOf}
-use Rattle.rustc_lexer.specs.Locality.{IsGrammar}
+use Rattle.rustc_lexer.specs.Locality.{IsGrammar, has_two}
 use Rattle.rustc_lexer.specs.Tokens.{tokens_by}
 use Rattle.rustc_lexer.specs.means.Checkpoints.{AreBounds, IsMovable, IsReplaced, end_of}
 use Rattle.rustc_lexer.specs.means.Relexing.{IsBodyRelexed, IsLexed, kept_front}
 use Rattle.rustc_lexer.proofs.lemmas.edits.Bounds.{tokens_le_bytes}
 use Rattle.rustc_lexer.proofs.lemmas.edits.BodyEdits.{made_body}
 use Rattle.rustc_lexer.proofs.lemmas.edits.Heads.{all_are, boundary_of}
-use Rattle.rustc_lexer.proofs.lemmas.edits.FrontAndBack.{has_two-late, kept_front_from, kept_front_by}
+use Rattle.rustc_lexer.proofs.lemmas.edits.FrontAndBack.{has_two-late}
+use Rattle.rustc_lexer.proofs.lemmas.edits.KeptFront.{none_counted}
 use Rattle.rustc_lexer.proofs.lemmas.edits.PutInPlace.{renewed_all, renewed_are, renewed_back, renewed_bounds, renewed_front}
 
 -- what is known of an edit of a document, whose old head has n tokens
@@ -79,12 +80,8 @@ pub renewed_by : {first : List ℕ → Token} {text : List ℕ} {change : Change
 renewed_by {first} {text} {change} {body} {lexed} {at} n tokens head {new} is put = record { behind = take at.front.index (drop n tokens) ++ (lexed ++ drop at.back.index (drop n tokens)); renewed = record { lexed = lexed; lexed_is = is; now_is = refl }; now_is = put }
 
 -- nothing is kept before an edit at the front
-none_from : (text : List ℕ) (from : ℕ) (ts : List Token) → kept_front_from text 0 from ts ≡ 0
-none_from text from [] = refl
-none_from text from (t ∷ ts) = rw (has_two-late text (from + t.len) 0 (omega arith), none_from text (from + t.len) ts) refl
-
 kept_none : (text : List ℕ) (ts : List Token) → kept_front text ts 0 ≡ 0
-kept_none text ts = kept_front_by text 0 0 ts ∙ none_from text 0 ts
+kept_none text ts = none_counted (λ end. has_two text end 0) (ends_from 0 ts) (λ k few. has_two-late text _ 0 (omega arith))
 
 pub relexed-front : {first : List ℕ → Token} {text : List ℕ} {stop : ℕ} {insert : List ℕ} {r : Relexed} → IsBodyRelexed first text 0 stop insert r → r.kept_front ≡ 0
 relexed-front {first} {text} is = is.front ∙ kept_none text (tokens_by first text)

@@ -142,27 +142,6 @@ has_two-mono text offset later to is le b c two =
     let enough = has_two-count text later to two in
     has_two-intro text offset to (rw (split, chars-append xs ys (IsUtf8-between text offset later is le b c)) (omega (arith, length-append (chars xs) (chars ys), enough)))
 
--- how many of the tokens end at least two characters before `to`; the first begins at `from`
-abbrev pub kept_front_from : List ℕ → ℕ → ℕ → List Token → ℕ
-kept_front_from text to from [] = 0
-kept_front_from text to from (t ∷ ts) = cond (has_two text (from + t.len) to) 1 0 + kept_front_from text to (from + t.len) ts
-
-pub kept_front_by : (text : List ℕ) (to from : ℕ) (ts : List Token) → count_by (λ end. has_two text end to) (ends_from from ts) ≡ kept_front_from text to from ts
-kept_front_by text to from [] = refl
-kept_front_by text to from (t ∷ ts) = grind (arith, common_steps, count-cons, kept_front_by text to (from + t.len) ts)
-
--- the tokens past one that ends too late end too late
-pub front-none : (text : List ℕ) (to from : ℕ) (ts : List Token) → IsUtf8 text → ((k : ℕ) → k ≤ length ts → IsCharBoundary text (from + bound ts k)) → has_two text from to ≡ false → kept_front_from text to from ts ≡ 0
-front-none text to from [] is cuts out = refl
-front-none text to from (t ∷ ts) is cuts out =
-    let e0 : from + 0 ≡ from = omega arith in
-    let e1 : from + (t.len + 0) ≡ from + t.len = omega arith in
-    let here : IsCharBoundary text from = subst (IsCharBoundary text) e0 (cuts 0 (omega arith)) in
-    let next : IsCharBoundary text (from + t.len) = subst (IsCharBoundary text) e1 (cuts 1 (omega arith)) in
-    let none : has_two text (from + t.len) to ≡ false = false_from_ne_true (has_two text (from + t.len) to) (λ e. true≢false (sym (has_two-mono text from (from + t.len) to is (omega arith) here next e) ∙ out)) in
-    let rest : kept_front_from text to (from + t.len) ts ≡ 0 = front-none text to (from + t.len) ts is (λ k few. let e : from + (t.len + bound ts k) ≡ from + t.len + bound ts k = omega arith in subst (IsCharBoundary text) e (cuts (suc k) (omega arith))) none in
-    rw (none, rest) refl
-
 -- whether a second character stands past the first
 pub two_chars : (text : List ℕ) (from to : ℕ) (bs rest : List ℕ) (c : ℕ) → bs ≡ take (to - from) (drop from text) → IsUtf8 bs → bs ≡ encode_utf8 c ++ rest → is_some (slice_get (chars rest) 0) ≡ has_two text from to
 unfolding has_two

@@ -1,41 +1,69 @@
--- Counting the kept front, token by token.
-use Rattle.std.proofs.Common.{◌≡◌, ℕ, zero, suc, ◌+◌, ◌-◌, ◌<◌, ◌≤◌, true, false, cond, List, [], ◌∷◌, length, get_or, drop, sym, ap, ◌∙◌, subst, arith, IsUtf8, IsCharBoundary, drop-cons, length-drop}
-use Rattle.std.proofs.lemmas.List.{drop_all}
+-- The kept front: the tokens whose ends two characters follow.
+use Rattle.std.proofs.Common.{◌≡◌, ◌↔◌, refl, ap, cond, inl, inr, subst, add-one, ℕ, zero, suc, ◌+◌, ◌<◌, ◌≤◌, Bool, true, false, true≢false, List, [], ◌∷◌, length, get_or, drop, sym, ◌∙◌, arith, IsUtf8, drop-cons, inl, cond}
+use Rattle.std.specs.List.{count_by}
+use Rattle.std.proofs.lemmas.List.Sums.{count_by-le-length}
+use Rattle.std.proofs.lemmas.Bool.{cases_lt, false_from_ne_true}
 use Rattle.std.proofs.lemmas.Grind.{common_steps}
 use Rattle.rustc_lexer.specs.means.Relexing.{AreBoundaries, kept_front}
 use Rattle.rustc_lexer.specs.{Token}
 use Rattle.rustc_lexer.specs.Tokens.{bound}
+use Rattle.rustc_lexer.specs.Edits.{ends_from}
 use Rattle.rustc_lexer.specs.Locality.{has_two}
-use Rattle.rustc_lexer.proofs.lemmas.edits.FrontAndBack.{front-none, has_two-mono, kept_front_by, kept_front_from}
+use Rattle.rustc_lexer.proofs.lemmas.edits.Bounds.{bound_mono, count-cons}
+use Rattle.rustc_lexer.proofs.lemmas.edits.FrontAndBack.{has_two-mono}
 use Rattle.rustc_lexer.proofs.lemmas.tokens.Progress.{IsNext, next-from_drop}
 
-pub record IsKept (text : List ℕ) (tokens : List Token) (start number offset : ℕ) : Type 0 where
-  pub number_bound : number ≤ length tokens
-  pub offset_is : offset ≡ bound tokens number
-  pub count : kept_front text tokens start ≡ number + kept_front_from text start offset (drop number tokens)
-  pub two : 0 < number → has_two text offset start ≡ true
+-- ---- counting
 
-pub kept_more : (text : List ℕ) (tokens : List Token) (start number offset : ℕ) (d : Token) → IsKept text tokens start number offset → number < length tokens → has_two text (offset + (get_or tokens number d).len) start ≡ true → IsKept text tokens start (number + 1) (offset + (get_or tokens number d).len)
-kept_more text tokens start number offset d at few two =
-    let x : Token = get_or tokens number d in
-    let here : drop number tokens ≡ x ∷ drop (suc number) tokens = drop-cons tokens number d few in
-    let next : IsNext tokens number x = next-from_drop tokens number x _ here in
-    let counted : kept_front_from text start offset (drop number tokens) ≡ 1 + kept_front_from text start (offset + x.len) (drop (suc number) tokens) =
-    ap (kept_front_from text start offset) here ∙ ap (λ b. cond b 1 0 + kept_front_from text start (offset + x.len) (drop (suc number) tokens)) two in
-    let e : suc number ≡ number + 1 = omega arith in
-    subst (λ n. IsKept text tokens start n (offset + x.len)) e record {
-      number_bound = few;
-      offset_is = omega (arith, at.offset_is, next.end);
-      count = omega (arith, at.count, counted);
-      two = λ some. two;
-    }
+pub none_counted : (test : ℕ → Bool) (xs : List ℕ) → ((k : ℕ) → k < length xs → test (get_or xs k 0) ≡ false) → count_by test xs ≡ 0
+none_counted test [] none = refl
+none_counted test (x ∷ xs) none = grind (arith, common_steps, count-cons test x xs, none_counted test xs (λ k few. none (suc k) (omega arith)), none 0 (omega arith))
 
-pub next_offset : (text : List ℕ) (tokens : List Token) (start number offset : ℕ) (d : Token) → AreBoundaries text tokens → IsKept text tokens start number offset → number < length tokens → IsCharBoundary text (offset + (get_or tokens number d).len)
-next_offset text tokens start number offset d cuts at few =
-    let x : Token = get_or tokens number d in
-    let next : IsNext tokens number x = next-from_drop tokens number x _ (drop-cons tokens number d few) in
-    let e : offset + x.len ≡ bound tokens (suc number) = omega (arith, at.offset_is, next.end) in
-    rw e (cuts (suc number) few)
+-- where none passes behind one that does not, those that pass are the first
+counted_first : (test : ℕ → Bool) (xs : List ℕ) → ((i j : ℕ) → i ≤ j → j < length xs → test (get_or xs j 0) ≡ true → test (get_or xs i 0) ≡ true) → (k : ℕ) → k < length xs → (test (get_or xs k 0) ≡ true) ↔ (k < count_by test xs)
+counted_first test [] first k few = absurd (omega arith)
+counted_first test (x ∷ xs) first k few = by_test (test x) refl (counted_first test xs (λ i j le less. first (suc i) (suc j) (omega arith) (omega arith))) k few
+  where
+    by_test : (b : Bool) → test x ≡ b → ((k : ℕ) → k < length xs → (test (get_or xs k 0) ≡ true) ↔ (k < count_by test xs)) → (k : ℕ) → k < suc (length xs) → (test (get_or (x ∷ xs) k 0) ≡ true) ↔ (k < count_by test (x ∷ xs))
+    by_test true e later zero less = grind (arith, common_steps, count-cons test x xs)
+    by_test true e later (suc k) less = grind (arith, common_steps, count-cons test x xs, later k (omega arith))
+    by_test false e later k less =
+        let none = none_counted test (x ∷ xs) (λ j few. false_from_ne_true _ (λ has. true≢false (sym (first 0 j (omega arith) few has) ∙ e))) in
+        grind (arith, common_steps, none, first 0 k (omega arith) less)
+
+length-ends_from : (from : ℕ) (ts : List Token) → length (ends_from from ts) ≡ length ts
+length-ends_from from [] = refl
+length-ends_from from (t ∷ ts) = ap suc (length-ends_from (from + t.len) ts)
+
+pub get_or-ends_from : (from : ℕ) (ts : List Token) (k : ℕ) → k < length ts → get_or (ends_from from ts) k 0 ≡ from + bound ts (suc k)
+get_or-ends_from from [] k few = absurd (omega arith)
+get_or-ends_from from (t ∷ ts) zero few = omega arith
+get_or-ends_from from (t ∷ ts) (suc k) few = omega (arith, get_or-ends_from (from + t.len) ts k (omega arith))
+
+-- ---- the kept front
+
+module _ (text : List ℕ) (tokens : List Token) (to : ℕ) (is : IsUtf8 text) (cuts : AreBoundaries text tokens) where
+  pub kept_few : kept_front text tokens to ≤ length tokens
+  kept_few = omega (arith, count_by-le-length (λ end. has_two text end to) (ends_from 0 tokens), length-ends_from 0 tokens)
+
+  -- a bound that two characters follow is in it, and so are those before it
+  pub kept_tells : (k : ℕ) → k ≤ length tokens → (0 < k → has_two text (bound tokens k) to ≡ true) ↔ (k ≤ kept_front text tokens to)
+  kept_tells zero few = (λ two. omega arith, λ first some. absurd (omega arith))
+  kept_tells (suc k) few =
+      let at : (i : ℕ) → i < length tokens → get_or (ends_from 0 tokens) i 0 ≡ bound tokens (suc i) = λ i less. omega (arith, get_or-ends_from 0 tokens i less) in
+      let many = length-ends_from 0 tokens in
+      let tells = counted_first (λ end. has_two text end to) (ends_from 0 tokens) (λ i j le less two.
+      rw (at i (omega arith)) (has_two-mono text _ (bound tokens (suc j)) to is (bound_mono tokens (suc i) (suc j) (omega arith)) (cuts (suc i) (omega arith)) (cuts (suc j) (omega arith)) (rw (at j (omega arith)) at two))) k (omega arith) in
+      (λ two. tells.0 (rw (at k few) (two (omega arith))), λ first some. rw (at k few) at (tells.1 first))
+
+  -- the last bound that two characters follow
+  pub kept_is : (n : ℕ) → n ≤ length tokens → (0 < n → has_two text (bound tokens n) to ≡ true) → (n < length tokens → has_two text (bound tokens (n + 1)) to ≡ false) → n ≡ kept_front text tokens to
+  kept_is n few two out = elim (cases_lt n (kept_front text tokens to)) [
+    | inl less ↦ absurd (true≢false (sym ((kept_tells (n + 1) (omega (arith, less, kept_few))).1 (omega arith) (omega arith)) ∙ out (omega (arith, less, kept_few))))
+    | inr more ↦ omega (arith, more, (kept_tells n few).0 two)
+  ]
+
+-- ---- a bound behind a bound
 
 pub bound-shift : (tokens : List Token) (n k : ℕ) → bound tokens (n + k) ≡ bound tokens n + bound (drop n tokens) k
 bound-shift tokens zero k = grind (arith, common_steps)
@@ -52,69 +80,8 @@ bound-shift (t ∷ ts) (suc n) k =
     let ih = bound-shift ts n k in
     ap (bound (t ∷ ts)) e ∙ omega (arith, ih)
 
-pub kept_here : (text : List ℕ) (tokens : List Token) (start number offset : ℕ) (d : Token) → IsUtf8 text → AreBoundaries text tokens → IsKept text tokens start number offset → number < length tokens → has_two text (offset + (get_or tokens number d).len) start ≡ false → number ≡ kept_front text tokens start
-kept_here text tokens start number offset d is cuts at few out =
-    let x : Token = get_or tokens number d in
-    let here : drop number tokens ≡ x ∷ drop (suc number) tokens = drop-cons tokens number d few in
-    let next : IsNext tokens number x = next-from_drop tokens number x _ here in
-    let e : offset + x.len ≡ bound tokens (suc number) = omega (arith, at.offset_is, next.end) in
-    let rest : kept_front_from text start (offset + x.len) (drop (suc number) tokens) ≡ 0 =
-    front-none text start (offset + x.len) (drop (suc number) tokens) is
-    (λ k less. let s : bound tokens (suc number + k) ≡ offset + x.len + bound (drop (suc number) tokens) k = bound-shift tokens (suc number) k ∙ ap (λ n. n + bound (drop (suc number) tokens) k) (sym e) in
-    subst (IsCharBoundary text) s (cuts (suc number + k) (omega (arith, length-drop (suc number) tokens)))) out in
-    let counted : kept_front_from text start offset (drop number tokens) ≡ 0 =
-    ap (kept_front_from text start offset) here ∙ (ap (λ b. cond b 1 0 + kept_front_from text start (offset + x.len) (drop (suc number) tokens)) out ∙ ap (λ n. 0 + n) rest) in
-    omega (arith, at.count, counted)
-
 pub bound-next : (tokens : List Token) (n : ℕ) (d : Token) → n < length tokens → bound tokens n + (get_or tokens n d).len ≡ bound tokens (n + 1)
 bound-next tokens n d few =
     let next : IsNext tokens n (get_or tokens n d) = next-from_drop tokens n _ _ (drop-cons tokens n d few) in
     let e : suc n ≡ n + 1 = omega arith in
     sym next.end ∙ ap (bound tokens) e
-
-pub bound-more : (tokens : List Token) (n offset : ℕ) (d : Token) → offset ≡ bound tokens n → n < length tokens → offset + (get_or tokens n d).len ≡ bound tokens (n + 1)
-bound-more tokens n offset d is few = ap (λ p. p + (get_or tokens n d).len) is ∙ bound-next tokens n d few
-
--- where two characters stand past a bound, they stand past each bound before it
-pub front-all : (text : List ℕ) (to from : ℕ) (ts : List Token) (n : ℕ) → IsUtf8 text → n ≤ length ts → ((k : ℕ) → k ≤ length ts → IsCharBoundary text (from + bound ts k)) → (0 < n → has_two text (from + bound ts n) to ≡ true) → kept_front_from text to from ts ≡ n + kept_front_from text to (from + bound ts n) (drop n ts)
-front-all text to from ts zero is few cuts two = grind (arith, common_steps)
-front-all text to from [] (suc n) is few cuts two = absurd (omega arith)
-front-all text to from (t ∷ ts) (suc n) is few cuts two =
-    let shift : (k : ℕ) → from + (t.len + bound ts k) ≡ from + t.len + bound ts k = λ k. omega arith in
-    let past : from + (t.len + 0) ≡ from + t.len = omega arith in
-    let has : has_two text (from + (t.len + bound ts n)) to ≡ true = two (omega arith) in
-    let next : IsCharBoundary text (from + t.len) = subst (IsCharBoundary text) past (cuts 1 (omega arith)) in
-    let there : IsCharBoundary text (from + (t.len + bound ts n)) = cuts (suc n) few in
-    let here : has_two text (from + t.len) to ≡ true = has_two-mono text (from + t.len) (from + (t.len + bound ts n)) to is (omega arith) next there has in
-    let rest : kept_front_from text to (from + t.len) ts ≡ n + kept_front_from text to (from + t.len + bound ts n) (drop n ts) =
-    front-all text to (from + t.len) ts n is (omega arith) (λ k less. subst (IsCharBoundary text) (shift k) (cuts (suc k) (omega arith))) (λ some. subst (λ p. has_two text p to ≡ true) (shift n) has) in
-    let counted : kept_front_from text to from (t ∷ ts) ≡ 1 + kept_front_from text to (from + t.len) ts = ap (λ b. cond b 1 0 + kept_front_from text to (from + t.len) ts) here in
-    let moved : kept_front_from text to (from + t.len + bound ts n) (drop n ts) ≡ kept_front_from text to (from + (t.len + bound ts n)) (drop n ts) = ap (λ p. kept_front_from text to p (drop n ts)) (sym (shift n)) in
-    omega (arith, counted, rest, moved)
-
--- a bound that two characters follow is in the kept front, and so are those before it
-pub kept_from : (text : List ℕ) (tokens : List Token) (start number offset : ℕ) → IsUtf8 text → AreBoundaries text tokens → number ≤ length tokens → offset ≡ bound tokens number → (0 < number → has_two text offset start ≡ true) → IsKept text tokens start number offset
-kept_from text tokens start number offset is cuts few at two =
-    let whole : (k : ℕ) → bound tokens k ≡ 0 + bound tokens k = λ k. omega arith in
-    let here : 0 + bound tokens number ≡ offset = omega (arith, at) in
-    let all : kept_front_from text start 0 tokens ≡ number + kept_front_from text start (0 + bound tokens number) (drop number tokens) =
-    front-all text start 0 tokens number is few (λ k less. subst (IsCharBoundary text) (whole k) (cuts k less)) (λ some. subst (λ p. has_two text p start ≡ true) (sym here) (two some)) in
-    record {
-      number_bound = few;
-      offset_is = at;
-      count = kept_front_by text start 0 tokens ∙ (all ∙ ap (λ p. number + kept_front_from text start p (drop number tokens)) here);
-      two = two;
-    }
-
--- the bound before a bound
-back : (tokens : List Token) (n offset : ℕ) (d : Token) → offset ≡ bound tokens n → 0 < n → n ≤ length tokens → bound tokens (n - 1) + (get_or tokens (n - 1) d).len ≡ offset
-back tokens n offset d is some few =
-    let one : suc (n - 1) ≡ n = omega arith in
-    let next : IsNext tokens (n - 1) (get_or tokens (n - 1) d) = next-from_drop tokens (n - 1) _ _ (drop-cons tokens (n - 1) d (omega arith)) in
-    sym next.end ∙ (ap (bound tokens) one ∙ sym is)
-
-pub back_place : (tokens : List Token) (n offset : ℕ) (d : Token) → offset ≡ bound tokens n → 0 < n → n ≤ length tokens → (n - 1 ≤ length tokens) × (offset - (get_or tokens (n - 1) d).len ≡ bound tokens (n - 1))
-back_place tokens n offset d is some few = (omega arith, omega (arith, back tokens n offset d is some few))
-
-pub kept_end : (text : List ℕ) (tokens : List Token) (start number offset : ℕ) → IsKept text tokens start number offset → length tokens ≤ number → number ≡ kept_front text tokens start
-kept_end text tokens start number offset at all = grind (arith, common_steps, drop_all)

@@ -10,7 +10,8 @@ use Rattle.rustc_lexer.specs.Locality.{IsGrammar, has_two}
 use Rattle.rustc_lexer.specs.Tokens.{bound, tokens_by}
 use Rattle.rustc_lexer.specs.means.Relexing.{kept_front}
 use Rattle.rustc_lexer.proofs.lemmas.edits.Bounds.{bound-last, cuts}
-use Rattle.rustc_lexer.proofs.lemmas.edits.FrontAndBack.{IsEdited, edited, front-none, kept_front_by, kept_front_from, kept_same, start_inside}
+use Rattle.rustc_lexer.proofs.lemmas.edits.FrontAndBack.{IsEdited, edited, kept_same, start_inside}
+use Rattle.rustc_lexer.proofs.lemmas.edits.KeptFront.{kept_few, kept_tells}
 use Rattle.rustc_lexer.proofs.lemmas.edits.Layouts.{bare}
 
 -- ---- what is decided
@@ -57,34 +58,6 @@ module _ (old new : List Token) (stop new_stop number : ℕ) where
     | inr none ↦ inr (λ m. none m.1.old_number (omega arith) (omega (arith, m.1.back_is)) (m.1.number_inside, omega (arith, m.1.past_edit), omega (arith, m.1.same_offset)))
   ]
 
--- ---- the kept front
-
--- two characters follow it
-pub front-two : (text : List ℕ) (to from : ℕ) (ts : List Token) → IsUtf8 text → ((k : ℕ) → k ≤ length ts → IsCharBoundary text (from + bound ts k))
-    → (kept_front_from text to from ts ≤ length ts) × (0 < kept_front_from text to from ts → has_two text (from + bound ts (kept_front_from text to from ts)) to ≡ true)
-front-two text to from [] is inside = (omega arith, λ some. absurd (omega arith))
-front-two text to from (t ∷ ts) is inside = by_test (front-two text to (from + t.len) ts is next) (has_two text (from + t.len) to) refl
-  where
-    next : (k : ℕ) → k ≤ length ts → IsCharBoundary text (from + t.len + bound ts k)
-    next k few = let e : from + (t.len + bound ts k) ≡ from + t.len + bound ts k = omega arith in subst (IsCharBoundary text) e (inside (suc k) (omega arith))
-
-    n : ℕ
-    n = kept_front_from text to (from + t.len) ts
-
-    at : (k : ℕ) → from + t.len + bound ts k ≡ from + bound (t ∷ ts) (suc k)
-    at k = omega arith
-
-    later : (m : ℕ) → n ≡ m → has_two text (from + t.len) to ≡ true → (0 < n → has_two text (from + t.len + bound ts n) to ≡ true) → has_two text (from + bound (t ∷ ts) (suc m)) to ≡ true
-    later zero e two more = let here : from + t.len ≡ from + (t.len + 0) = omega arith in subst (λ p. has_two text p to ≡ true) here two
-    later (suc m) e two more = subst (λ p. has_two text p to ≡ true) (at (suc m)) (subst (λ k. has_two text (from + t.len + bound ts k) to ≡ true) e (more (omega arith)))
-
-    by_test : (n ≤ length ts) × (0 < n → has_two text (from + t.len + bound ts n) to ≡ true) → (b : Bool) → has_two text (from + t.len) to ≡ b
-        → (cond b 1 0 + n ≤ suc (length ts)) × (0 < cond b 1 0 + n → has_two text (from + bound (t ∷ ts) (cond b 1 0 + n)) to ≡ true)
-    by_test ih true e =
-        let one : suc n ≡ 1 + n = omega arith in
-        (omega (arith, ih.0), λ some. subst (λ m. has_two text (from + bound (t ∷ ts) m) to ≡ true) one (later n refl e ih.1))
-    by_test ih false e = let none : n ≡ 0 = front-none text to (from + t.len) ts is next e in (omega arith, λ some. absurd (omega arith))
-
 -- ---- an edit
 
 module _ {first : List ℕ → Token} (law : IsGrammar first) (text : List ℕ) (is : IsText text) (start stop : ℕ) (insert : List ℕ) (its : IsUtf8 insert) (edit : IsEdit text start stop insert) where
@@ -106,15 +79,15 @@ module _ {first : List ℕ → Token} (law : IsGrammar first) (text : List ℕ) 
   ed : IsEdited text start stop insert new_text
   ed = edited text start stop insert is its edit
 
-  pub kept_two : (kept ≤ length old) × (0 < kept → has_two text (bound old kept) start ≡ true)
-  kept_two = grind (arith, kept_front_by text start 0 old, front-two, cuts)
+  few : kept ≤ length old
+  few = kept_few text old start is.utf8 (cuts law text is)
 
   -- the tokens of the kept front are tokens of the new text
   pub front_same : take kept new ≡ take kept old
-  front_same = kept_same law text start stop insert new_text is edit ed kept kept_two.0 kept_two.1
+  front_same = kept_same law text start stop insert new_text is edit ed kept few (((kept_tells text old start is.utf8 (cuts law text is) kept few).1 (omega arith)))
 
   pub kept_new : kept ≤ length new
-  kept_new = let few = kept_two.0 in let long : length (take kept new) ≡ length (take kept old) = ap length front_same in omega (arith, length-take kept new, length-take kept old)
+  kept_new = let long : length (take kept new) ≡ length (take kept old) = ap length front_same in omega (arith, few, length-take kept new, length-take kept old)
 
   -- both ends meet
   ends_meet : (back : ℕ) × IsMeeting (part_by first text) (part_by first new_text) stop new_stop (length new) back

@@ -12,7 +12,7 @@ use Rattle.rustc_lexer.specs.Locality.{has_two, AreLocal, IsSettled, StaysUpTo, 
 use Rattle.rustc_lexer.specs.Classes.{IsText}
 use Rattle.rustc_lexer.specs.means.Relexing.{AreBoundaries, IsFront, kept_front}
 use Rattle.rustc_lexer.proofs.lemmas.edits.Bounds.{bound-last, bound_mono, rises}
-use Rattle.rustc_lexer.proofs.lemmas.edits.KeptFront.{IsKept, kept_from}
+use Rattle.rustc_lexer.proofs.lemmas.edits.KeptFront.{kept_tells}
 use Rattle.rustc_lexer.specs.laws.Cuts.{at_bound, tokens_local}
 use Rattle.rustc_lexer.proofs.lemmas.edits.FrontAndBack.{has_two-agree, has_two-mono}
 use Rattle.rustc_lexer.proofs.lemmas.tokens.Progress.{IsLexedTo, lexed_more}
@@ -93,10 +93,7 @@ module _ (text : List ℕ) (tokens : List Token) (are : AreCuts text tokens) whe
   settled_at at count is two = record {
     at_bound = (at.index, is.0, sym is.1);
     two = λ some. two (positive at.index is.1 some);
-    last = λ k few has. elim (leb_tells k at.index) [
-      | inl before ↦ omega (arith, bound_mono tokens k at.index before.1, is.1)
-      | inr after ↦ absurd (let kept : IsKept text tokens (length text) k (bound tokens k) = kept_from text tokens (length text) k (bound tokens k) are.utf8 are.cuts few refl (λ some. has) in omega (arith, kept.count, count, after.1))
-    ];
+    last = λ k few has. omega (arith, is.1, bound_mono tokens k at.index (omega (arith, count, (kept_tells text tokens (length text) are.utf8 are.cuts k few).0 (λ some. has))));
   }
     where
       positive : (n : ℕ) → at.offset ≡ bound tokens n → 0 < at.offset → 0 < n

@@ -16,7 +16,7 @@ use Rattle.rustc_lexer.specs.means.Document.{body_change, body_insert, by_head, 
 use Rattle.rustc_lexer.specs.means.Relexing.{IsBodyMeeting, IsBodyRelexed, kept_front}
 use Rattle.rustc_lexer.proofs.lemmas.edits.DocumentEdits.{relexed-front}
 use Rattle.rustc_lexer.proofs.lemmas.edits.BodyEdits.{made_body}
-use Rattle.rustc_lexer.proofs.lemmas.edits.FrontAndBack.{kept_front_by, kept_front_from}
+use Rattle.rustc_lexer.proofs.lemmas.edits.Bounds.{count-cons}
 use Rattle.rustc_lexer.proofs.lemmas.edits.Heads.{body_at, boundary_of, head_kept, keeps_head}
 use Rattle.rustc_lexer.proofs.lemmas.edits.Layouts.{meets, meets_behind}
 
@@ -26,14 +26,9 @@ pub two_behind : (text : List ℕ) (from end to : ℕ) → has_two (drop from te
 unfolding has_two
 two_behind text from end to = grind (arith, common_steps, drop-drop)
 
-front_behind : (text : List ℕ) (from at to : ℕ) (tokens : List Token) → kept_front_from (drop from text) (to - from) at tokens ≡ kept_front_from text to (from + at) tokens
-front_behind text from at to [] = refl
-front_behind text from at to (t ∷ ts) = grind (arith, common_steps, two_behind, front_behind text from (at + t.len) to ts)
-
-fronts : (text : List ℕ) (from to : ℕ) (tokens : List Token) → kept_front (drop from text) tokens (to - from) ≡ count_by (λ end. has_two text end to) (ends_from from tokens)
-fronts text from to tokens =
-    let here : from + 0 ≡ from = omega arith in
-    kept_front_by (drop from text) (to - from) 0 tokens ∙ (front_behind text from 0 to tokens ∙ (ap (λ n. kept_front_from text to n tokens) here ∙ sym (kept_front_by text to from tokens)))
+fronts : (text : List ℕ) (from at to : ℕ) (tokens : List Token) → count_by (λ end. has_two (drop from text) end (to - from)) (ends_from at tokens) ≡ count_by (λ end. has_two text end to) (ends_from (from + at) tokens)
+fronts text from at to [] = refl
+fronts text from at to (t ∷ ts) = grind (arith, common_steps, count-cons, two_behind, fronts text from (at + t.len) to ts)
 
 -- ---- an edit
 
@@ -121,7 +116,7 @@ module _ {first : List ℕ → Token} (law : IsGrammar first) {layout : (List �
       let here : Ahead true = λ e. let same = head_kept was_is now_is first start k in (ap (λ (h : Head). h.body) same.0, same.1) in
       let sum : length old.head + x.kept_front + x.lexed ≡ length new.head + (x.kept_front + x.lexed) = omega (arith, heads) in
       record {
-        kept = λ again. ap (λ n. length old.head + n) (is_body.front ∙ (fronts text from start old.body ∙ ap (λ n. count_by (λ end. has_two text end start) (ends_from n old.body)) (sym begin)));
+        kept = λ again. ap (λ n. length old.head + n) (is_body.front ∙ (fronts text from 0 start old.body ∙ ap (λ n. count_by (λ end. has_two text end start) (ends_from n old.body)) (omega (arith, begin))));
         changed = λ none. absurd (none k);
         meeting = meeting true here (all_of true x) x is_body sum refl;
         none_before = λ number back near less m. none_before true here (all_of true x) x is_body sum refl number back (λ head. omega (arith, near, heads)) less m;

@@ -1,6 +1,6 @@
-use Rattle.std.proofs.Common.{below_more, arith, ap, ◌∙◌, ◌≡◌, ◌<◌, ◌+◌, length}
+use Rattle.std.proofs.Common.{below_more, arith, ◌≡◌, ◌<◌, length}
 use Rattle.rustc_lexer.specs.Tokens.{bound}
-use Rattle.rustc_lexer.proofs.lemmas.edits.KeptFront.{bound-more}
+use Rattle.rustc_lexer.proofs.lemmas.edits.KeptFront.{bound-next}
 use Rattle.rustc_lexer.proofs.lemmas.edits.Lengths.{as_many, as_long, no_token}
 use Rattle.rustc_lexer.proofs.relex.front.next_bound.Goals as goal
 
@@ -18,5 +18,5 @@ loop-at-preserved g c =
           let test : c.loop-at.at.offset < c.args.target = c.if-at-target.true in
           let offset : c.loop-at.at.offset ≡ bound ts number = so.0.1 in
           let long = as_long g.T.Measured.bytes c.args.tokens.now ts are number _ _ c.len.ensures c.index-tokens-at.is few in
-          ((omega (arith, many), ap (λ n. c.loop-at.at.offset + n) long ∙ bound-more ts number c.loop-at.at.offset no_token offset fewer), below_more _ _ so.1 (omega arith)),
+          ((omega (arith, many), omega (arith, long, offset, bound-next ts number no_token fewer)), below_more _ _ so.1 (omega arith)),
     )

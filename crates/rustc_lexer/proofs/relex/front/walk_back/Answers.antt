@@ -1,6 +1,6 @@
-use Rattle.std.proofs.Common.{sym, ap, ◌∙◌, arith, ◌-◌, ◌<◌, length}
+use Rattle.std.proofs.Common.{sym, ◌∙◌, arith, ◌-◌, ◌<◌, length}
 use Rattle.std.proofs.lemmas.Str.{IsCharBoundary-from_drop}
-use Rattle.rustc_lexer.proofs.lemmas.edits.KeptFront.{back_place}
+use Rattle.rustc_lexer.proofs.lemmas.edits.Offsets.{back_is}
 use Rattle.rustc_lexer.proofs.lemmas.edits.Lengths.{as_long, no_token, stand_alike}
 use Rattle.rustc_lexer.proofs.relex.front.walk_back.Goals as goal
 
@@ -28,6 +28,5 @@ loop-at-preserved g c = (
       let some : 0 < number = c.loop-at-test.true in
       let few : number - 1 < length c.args.tokens.now = omega arith in
       let long = as_long g.T.Measured.bytes c.args.tokens.now ts is.lengths_are (number - 1) _ _ c.len.ensures c.index-tokens-index.is few in
-      let back = back_place ts number c.loop-at.at.offset no_token at.1 some at.0 in
-      (back.0, c.saturating_sub.ensures ∙ (ap (λ n. c.loop-at.at.offset - n) long ∙ back.1)),
+      (omega (arith, at.0), omega (arith, c.saturating_sub.ensures, long, back_is ts 0 number c.loop-at.at.offset no_token (omega (arith, at.1)) some at.0)),
 )
