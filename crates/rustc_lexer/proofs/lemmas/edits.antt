@@ -1,5 +1,4 @@
 pub mod AtOnce
-pub mod Blocks
 pub mod BodyChanges
 pub mod BodyEdits
 pub mod Bounds
@@ -21,7 +20,6 @@ pub mod ManyTokens
 pub mod Offsets
 pub mod OneAnswer
 pub mod Pieces
-pub mod PutInPlace
 pub mod Settled
 pub mod Steps
 pub mod UnderWay

@@ -1,4 +1,5 @@
 -- Cutting a text: locality of lists of tokens, and what follows a bound.
+use Rattle.std.proofs.lemmas.Grind.{common_steps}
 use Rattle.std.proofs.Common.{◌≡◌, ℕ, zero, suc, ◌+◌, ◌<◌, ◌≤◌, List, [], ◌∷◌, ◌++◌, length, take, drop, refl, sym, ap, ◌∙◌, arith, length-drop, IsUtf8, chars, drop-drop, take-add, take-take, take-append-drop}
 use Rattle.std.proofs.lemmas.List.{drop-take}
 use Rattle.std.proofs.lemmas.Str.{chars-append, IsUtf8-append, IsUtf8-nil, IsUtf8-take}
@@ -40,9 +41,7 @@ tokens-nil first = refl
 pub tokens-cons : {first : List ℕ → Token} (law : IsGrammar first) (text : List ℕ) → IsText text → 0 < length text → tokens_by first text ≡ first text ∷ tokens_by first (drop (first text).len text)
 unfolding tokens_by
 tokens-cons law [] is some = absurd (omega arith)
-tokens-cons {first} law (c ∷ cs) is some =
-    let less = shorter law (c ∷ cs) is some in
-    ap (λ ts. first (c ∷ cs) ∷ ts) (cut-enough law (length cs) _ _ (past_first law _ is some) (omega arith) (omega arith))
+tokens-cons {first} law (c ∷ cs) is some = grind (arith, common_steps, shorter, cut-enough, past_first)
 
 -- a bound of a text: it is inside, the text may be cut there, and the tokens past it are those of what is left
 pub record IsCutAt (first : List ℕ → Token) (text : List ℕ) (tokens : List Token) (k : ℕ) : Type 0 where

@@ -30,15 +30,12 @@ run-some [] k l e none = absurd (omega arith)
 run-some (c ∷ s) zero l e none = rw e refl
 run-some (c ∷ s) (suc k) l e none = by_either (is_newline c) (λ f. absurd (none 0 (omega arith) f)) (λ f. rw f (ap suc (run-some s k (omega arith) e (λ j m g. none (suc j) (omega arith) g))))
 
-pub line-none : (s : List ℕ) → IsFirstByte (is_byte 10) s None → run_len is_inline s ≡ length s
-line-none s none = run-none s (λ k l e. none k (omega arith) l e)
-
 pub line-some : (s : List ℕ) (k : ℕ) → IsFirstByte (is_byte 10) s (Some k) → run_len is_inline s ≡ k
 line-some s k at = run-some s k at.0.high at.1 (λ j l e. at.0.before j (omega arith) l e)
 
 -- the same from an offset on
 pub line_end-none : (rest cut : List ℕ) (offset : ℕ) → offset ≤ length rest → cut ≡ drop offset rest → IsFirstByte (is_byte 10) cut None → length rest ≡ line_end offset rest
-line_end-none rest cut offset inside e none = grind (arith, common_steps, line-none, length-drop)
+line_end-none rest cut offset inside e none = grind (arith, common_steps, run-none, length-drop)
 
 pub line_end-some : (rest cut : List ℕ) (offset step : ℕ) → cut ≡ drop offset rest → IsFirstByte (is_byte 10) cut (Some step) → offset + step ≡ line_end offset rest
 line_end-some rest cut offset step e at = ap (λ n. offset + n) (sym (line-some cut step at) ∙ ap (run_len is_inline) e)
@@ -86,9 +83,7 @@ module _ (end start : ℕ) (rest : List ℕ) (past_end : end < start) (inside : 
       ∙ (blank-last true (take (start - 1 - end) (drop end rest)) (get_or (drop end rest) (start - 1 - end) 0) ∙ ap (blank_past (blank_over true (take (start - 1 - end) (drop end rest)))) there))
 
   pub blank_on : is_horizontal_whitespace (get_or rest (start - 1) 0) ≡ true → blank_over true (take (start - end) (drop end rest)) ≡ blank_over true (take (start - 1 - end) (drop end rest))
-  blank_on e = blank-back ∙ by_either (is_newline (get_or rest (start - 1) 0))
-      (λ f. absurd (true≢false (sym e ∙ ap is_horizontal_whitespace (eqb-true (get_or rest (start - 1) 0) 10 f))))
-      (λ f. rw (f, e) refl)
+  blank_on e = grind (arith, common_steps, blank-back, eqb-true)
 
   pub blank_end : is_horizontal_whitespace (get_or rest (start - 1) 0) ≡ false → (nat_lt 0 start && is_newline (get_or rest (start - 1) 0)) ≡ blank_over true (take (start - end) (drop end rest))
   blank_end e = rw (lt-ltb 0 start (omega arith)) (sym (blank-back ∙ by_either (is_newline (get_or rest (start - 1) 0)) (λ f. rw f refl) (λ f. rw (f, e) refl)))

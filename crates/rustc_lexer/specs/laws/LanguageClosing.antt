@@ -103,10 +103,8 @@ in_bytes-one c s o w3 = grind (arith, common_steps, bytes_of-suc, encode_ascii)
 pub begins-encode : (pattern s : List ℕ) → list_all is_ascii pattern ≡ true → begins pattern (encode_utf8_all s) ≡ begins pattern s
 begins-encode [] s ascii = refl
 begins-encode (d ∷ ds) [] ascii = refl
-begins-encode (d ∷ ds) (c ∷ s) ascii = let parts = and_parts (is_ascii d) (list_all is_ascii ds) ascii in elim (encoded c s) [
-  | one lt e ↦ rw (e, begins-encode ds s parts.1) refl
-  | high ge all some ↦ rw (begins-high d ds (encode_utf8 c) (encode_utf8_all s) all some parts.0, high-other c d (ge-high c ge) (ltb-true d 128 parts.0)) refl
-]
+begins-encode (d ∷ ds) (c ∷ s) ascii = grind (arith, common_steps, and_parts, encoded, begins-high, high-other, ge-high,
+        ltb-true, begins-encode ds s (and_parts (is_ascii d) (list_all is_ascii ds) ascii).1)
 
 first-encode : (d : ℕ) (ds s : List ℕ) → list_all is_ascii (d ∷ ds) ≡ true → first (d ∷ ds) (encode_utf8_all s) ≡ in_bytes s (first (d ∷ ds) s)
 first-encode d ds [] ascii = refl
@@ -162,8 +160,7 @@ module _ {IsSuch : Chars → Chars → Type 0} {test : Chars → ℕ → Bool} {
   nowhere-read s none = tells.found s ∙ ap (in_bytes s) (least-none (test s) (length s) (λ i lt. false_from_ne_true _ (λ e. none (take i s) (drop i s) (take-append-drop i s) (tells.is s i e))))
 
 pattern-tells : (pattern : List ℕ) → is_pattern pattern ≡ true → Tells (IsAt pattern) (λ s offset. begins pattern (drop offset s)) (first pattern)
-pattern-tells [] good = absurd (true≢false (sym good))
-pattern-tells (d ∷ ds) good = grind (arith, common_steps, drop-append_seam, begins-length, first-encode, and_parts)
+pattern-tells pattern w1 = grind (arith, common_steps, drop-append_seam, begins-length, first-encode, and_parts)
 
 lone-tells : Tells IsLone (λ s i. lone_at [] i s) (first_lone true 0)
 lone-tells = grind (arith, common_steps, lone-decided, decided-lone, begins-length, lone-encode, lone-first)

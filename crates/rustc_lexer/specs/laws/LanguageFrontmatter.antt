@@ -78,9 +78,7 @@ then-read first next u v s e f = grind (arith, common_steps, drop-append_seam)
 
 label-read : {next w : List ℕ} → IsLabelBefore next w → label_len (w ++ next) ≡ length w
 label-read {next} (the.blank {w} all stop start) =
-    let one : then_len blanks_len infostring_len (w ++ next) ≡ length w =
-    then-read blanks_len infostring_len w next (w ++ next) refl (run_len-here is_horizontal_whitespace w next all stop) ∙ (ap (λ (n : ℕ). length w + n) (info-none next start) ∙ omega arith) in
-    then-read (then_len blanks_len infostring_len) blanks_len w next (w ++ next) refl one ∙ (ap (λ (n : ℕ). length w + n) (blanks-none next stop) ∙ omega arith)
+    grind (arith, common_steps, then-read, run_len-here, info-none, blanks-none)
 label-read {next} (the.named u c v w blanks start info info_stops more stop) =
     let text : (u ++ (c ∷ v ++ w)) ++ next ≡ (u ++ (c ∷ v)) ++ (w ++ next) = append_assoc u (c ∷ v ++ w) next ∙ (ap (λ (xs : List ℕ). u ++ (c ∷ xs)) (append_assoc v w next) ∙ sym (append_assoc u (c ∷ v) (w ++ next))) in
     let text_first : (u ++ (c ∷ v ++ w)) ++ next ≡ u ++ (c ∷ v ++ (w ++ next)) = append_assoc u (c ∷ v ++ w) next ∙ ap (λ (xs : List ℕ). u ++ (c ∷ xs)) (append_assoc v w next) in

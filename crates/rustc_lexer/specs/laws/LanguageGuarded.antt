@@ -83,16 +83,8 @@ guarded-read {next} (the.unclosed n {w} q) = read-parts n false w next (length w
 
 takes-read : {s : State} {r : Option GuardedStr × State} → TakesGuarded s r → r ≡ spec.take_guarded s
 unfolding spec.take_guarded
-takes-read {s} (holds.string {n} {terminated} {w} {next} e is) =
-    let r = guarded-read is in
-    sym (ap (λ (cs : List ℕ). guarded_by (hash_run cs) (string_past (hash_run cs) cs) s) e
-    ∙ (ap (λ (k : ℕ). guarded_by k (string_past k (w ++ next)) s) r.count ∙ ap (λ (o : Option (Bool × ℕ)). guarded_by n o s) r.read))
-takes-read {s} (holds.none n next e stop) =
-    let count : hash_run (hashes n ++ next) ≡ n = guard-hashes n next (no-hash next stop) in
-    let read : string_past n (hashes n ++ next) ≡ None =
-    ap (λ (a : Bool). let b : Bool × ℕ = guarded_body n (drop (suc n) (hashes n ++ next)) in let r : Option (Bool × ℕ) = if a then Some (b.0, bytes_of (suc n + b.1) (hashes n ++ next)) else None in r) (ap (next_is is_quote) (past-guard n next) ∙ no-quote next stop) in
-    sym (ap (λ (cs : List ℕ). guarded_by (hash_run cs) (string_past (hash_run cs) cs) s) e
-    ∙ (ap (λ (k : ℕ). guarded_by k (string_past k (hashes n ++ next)) s) count ∙ ap (λ (o : Option (Bool × ℕ)). guarded_by n o s) read))
+takes-read {s} (holds.string {n} {terminated} {w} {next} e is) = grind (arith, common_steps, guarded-read)
+takes-read {s} (holds.none n next e stop) = grind (arith, common_steps, guard-hashes, no-hash, past-guard, no-quote)
 
 -- ---- and something is there
 

@@ -102,10 +102,8 @@ token-read-in {edition} {next} (pound lt) text e = by_next next e ∙ ap (token 
         guarded (d ∷ u) g b = ap (changed edition (chars text)) (first-is {next = u} (the.guarded_prefix {c = d} b) text g) ∙ guarded-cut edition (chars text) (bytes (35 ∷ d ∷ [])) lt
 token-read-in {edition} {next} {kind} {c} {w} (ident lt p) text e = ap (changed edition (chars text)) (first-is p text e) ∙ before edition (chars text) (token UnknownPrefix (bytes (c ∷ w))) lt
 token-read-in {edition} {next} (lifetime {c} {w} lt p) text e =
-    ap (changed edition (chars text)) (first-is p text e) ∙ (before edition (chars text) (token UnknownPrefixLifetime (bytes (39 ∷ c ∷ w))) lt
-    ∙ ap (λ (b : Bool). token (Lifetime b) (bytes (39 ∷ c ∷ w))) (ap has_bad_name e ∙ lifetime-bad (view p) refl))
-token-read-in {edition} {next} (lifetime_r lt goes) text e =
-    before edition (chars text) (first_token text) lt ∙ (ap (λ (k : TokenKind). before_2021 (chars text) k (first_token text).len) (raw-first next text e goes) ∙ ap (token (Lifetime false)) (sym r-two))
+    grind (arith, common_steps, first-is, before, lifetime-bad, view)
+token-read-in {edition} {next} (lifetime_r lt goes) text e = grind (arith, common_steps, before, raw-first, r-two)
 
 -- ---- what is read in an edition is a token of it
 

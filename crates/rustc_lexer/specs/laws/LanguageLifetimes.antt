@@ -165,14 +165,6 @@ quote-sound (c ∷ s) = by_test (Sound 39 (c ∷ s)) (is_character c s) (literal
     by_name true e f = one-sound c s e (second (begins (codes "'") s) (is_name_start c) e f)
     by_name false e f = char-sound (c ∷ s) e
 
--- what begins no name is a character
-quote-char : (s : List ℕ) → NextIsNot is_name_start s → lifetime_or_char s ≡ literal char_body s
-quote-char s w1 = grind (arith, common_steps, or-true)
-
--- a character that begins none
-at-stops : (d : ℕ) (next : List ℕ) → is_name_start d ≡ false → NextIn (d ∷ []) next → NextIsNot is_name_start next
-at-stops d next w2 w3 = grind (arith, common_steps, eqb-true, and_parts, begins-next)
-
 empty-or : (w next : List ℕ) → NextIsNot is_name_start w → NextIsNot is_name_start next → NextIsNot is_name_start (w ++ next)
 empty-or w next w2 w3 = grind (arith, common_steps)
 
@@ -181,11 +173,11 @@ end-stops d end next w0 w1 = grind (arith, common_steps)
 
 -- nor does what follows it, if it is empty
 next-stops : {next : List ℕ} {t : Bool} {w : List ℕ} → IsSingleQuoted next t w → NextIsNot is_name_start w → NextIsNot is_name_start (w ++ next)
-next-stops {next} w1 e = grind (arith, common_steps, end-stops, empty-or, at-stops, backslash-none)
+next-stops {next} w1 e = grind (arith, common_steps, end-stops, empty-or, eqb-true, and_parts, begins-next, backslash-none)
 
 pub char-reads : {next : List ℕ} (t : Bool) (w : List ℕ) → IsSingleQuoted next t w → NextIsNot is_name_start w → ReadsLiteral next (Char t) t (39 ∷ w)
 char-reads {next} t w q stop =
-    grind (arith, common_steps, read-first, chooses-quote, quote-char, next-stops, past-read, single-read, bytes-one)
+    grind (arith, common_steps, read-first, chooses-quote, or-true, next-stops, past-read, single-read, bytes-one)
 
 pub one-reads : (next : List ℕ) (c : ℕ) → (c == 92) ≡ false → ReadsLiteral next (Char true) true (39 ∷ c ∷ 39 ∷ [])
 one-reads next c out = grind (arith, common_steps, read-first, chooses-quote, past-read, bytes-one)

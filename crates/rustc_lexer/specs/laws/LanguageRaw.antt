@@ -85,10 +85,7 @@ nothing-lacks n u v e = absurd (let no : 0 ≡ length (u ++ (34 ∷ hashes n ++ 
 
 -- a character more in front, where no quote with its hashes stands
 lacks-more : (n c : ℕ) (w u rest : List ℕ) → w ++ rest ≡ u → closes n (c ∷ u) ≡ false → NoQuoteWith n w → NoQuoteWith n (c ∷ w)
-lacks-more n c w u rest whole open_here lacks [] v e =
-    let quote : c ≡ 34 = cc in
-    let text : hashes n ++ (v ++ rest) ≡ u = sym (append_assoc (hashes n) v rest) ∙ (ap (λ (xs : List ℕ). drop 1 xs ++ rest) (sym e) ∙ whole) in
-    either-way (closes n (c ∷ u)) (ap (λ (x : ℕ). closes n (x ∷ u)) quote ∙ (ap (λ (xs : List ℕ). closes n (34 ∷ xs)) (sym text) ∙ closes-here n (v ++ rest))) open_here
+lacks-more n c w u rest whole open_here lacks [] v e = grind (arith, common_steps, append_assoc, closes-here)
 lacks-more n c w u rest whole open_here lacks (x ∷ a) v e = lacks a v (cc)
 
 pub closing : (n : ℕ) (u : List ℕ) → Closing n u

@@ -53,9 +53,7 @@ record BestIs (start m : ℕ) (w : List ℕ) (end : Option ℕ) : Type 0 where
   at : quote_end start w (best_quote w) ≡ end
 
 best-read : (start : ℕ) {w : List ℕ} {m : ℕ} {end : Option ℕ} → IsLikelyEnd start w m end → BestIs start m w end
-best-read start {w} (the.none lacks) =
-    let most : most_hashes w ≡ 0 = omega (arith, most-few 0 w lacks) in
-    record { most = most; at = ap (λ (k : ℕ). quote_end start w (quote_if k w)) most }
+best-read start {w} (the.none lacks) = grind (arith, common_steps, most-few 0 w lacks)
 best-read start {w} (the.best {n = m} u v some whole lacks most_so) =
     let many : hash_run (hashes m ++ v) ≤ most_hashes w = omega (arith, ap most_hashes whole, most-many u (hashes m ++ v)) in
     let most : most_hashes w ≡ m = omega (arith, most-few m w most_so, many, hash_run-hashes m v) in

@@ -48,16 +48,13 @@ opens_raw-stops s w1 w2 = grind (arith, common_steps, or_from, or_parts, begins-
 pub opens_raw-none : (s : List ℕ) → NextIsNot opens_raw s → (begins (codes "\"") s ≡ false) × (begins (codes "#") s ≡ false)
 opens_raw-none w0 e = grind (arith, common_steps, or_parts, begins-next, or_from)
 
-raw-none : (s : List ℕ) → begins (codes "r\"") s ≡ false → begins (codes "r#") s ≡ false → begins_raw s ≡ false
-raw-none w0 e f = grind (arith, common_steps, opens_raw-stops)
-
 pub none-raw : (s : List ℕ) → begins_raw s ≡ false → (begins (codes "r\"") s ≡ false) × (begins (codes "r#") s ≡ false)
 none-raw w0 e = grind (arith, common_steps, opens_raw-none)
 
 -- ---- what is read there as an identifier
 
 word-plain : (c : ℕ) (s : List ℕ) → begins_prefixed (c ∷ s) ≡ false → word c s ≡ ident_or_unknown_prefix s
-word-plain c = grind (arith, common_steps, by_letter, opens_raw-stops, or_parts, raw-none)
+word-plain c = grind (arith, common_steps, by_letter, opens_raw-stops, or_parts)
 
 -- ---- a word right before what ends a prefix
 
@@ -79,8 +76,7 @@ whole-word (x ∷ f) m (d ∷ w) next is_end fs ws stop e =
 
 module _ (c : ℕ) (w next : List ℕ) (ws : AreAll is_word_continue w) (stop : NextIsNot is_word_continue next) (right : NextIs ends_prefix next → is_ident (c ∷ w) ≡ false) where
   no-front : (x : ℕ) (f : List ℕ) (m : ℕ) → ends_prefix m ≡ true → AreAll is_word_continue f → is_ident (x ∷ f) ≡ true → begins (x ∷ f ++ m ∷ []) (c ∷ w ++ next) ≡ false
-  no-front x f m is_end fs is =
-      grind (arith, common_steps, false_from_ne_true, and_parts, whole-word, eqb-true, either-way)
+  no-front x f m is_end fs is = grind (arith, common_steps, false_from_ne_true, and_parts, whole-word, eqb-true)
 
   -- a word that nothing follows that ends a prefix, or that is no identifier, begins nothing else
   pub word-no_opening : begins_prefixed (c ∷ w ++ next) ≡ false
@@ -111,8 +107,7 @@ plain-read : (c : ℕ) (w next : List ℕ) (kind : TokenKind) → is_id_start c 
 plain-read c w next kind start all stop free is = grind (arith, common_steps, read-first, chooses-word, word-plain, run_len-here, take-append_seam, drop-append_seam)
 
 pub ident-is_read : (w next : List ℕ) → is_ident w ≡ true → NextIsNot is_word_continue next → NextIsNot ends_prefix next → Read Ident (length w) (w ++ next)
-ident-is_read w0 next is stop none =
-    grind (arith, common_steps, and_parts, continue-word, plain-read, word-no_opening, either-way)
+ident-is_read w0 next is stop none = grind (arith, common_steps, and_parts, continue-word, plain-read, word-no_opening)
 
 pub prefix-read : (w next : List ℕ) → is_ident w ≡ true → NextIs ends_prefix next → begins_prefixed (w ++ next) ≡ false → Read UnknownPrefix (length w) (w ++ next)
 prefix-read w0 next is goes free = grind (arith, common_steps, and_parts, plain-read, continue-word, prefix_end-stops)

@@ -301,8 +301,7 @@ number_reach (Float base empty_exponent) = 1
 number_reach kind = 2
 
 pub number-looks : (kind : LiteralKind) → 0 < number_reach kind
-number-looks (Float base empty_exponent) = omega arith
-number-looks kind = omega arith
+number-looks kind = grind (arith, common_steps)
 
 begins_fraction-decided : IsDecidedBy 2 begins_fraction
 begins_fraction-decided [] = refl

@@ -28,8 +28,7 @@ pub next_is-decided : (p : ℕ → Bool) → IsDecidedBy 1 (next_is p)
 next_is-decided p = grind (arith, common_steps)
 
 pub next_is-length : (p : ℕ → Bool) (s : List ℕ) → next_is p s ≡ true → 1 ≤ length s
-next_is-length p [] e = absurd (true≢false (sym e))
-next_is-length p (c ∷ s) e = omega arith
+next_is-length p s w2 = grind (arith, common_steps)
 
 pub begins-decided : (p : List ℕ) → IsDecidedBy (length p) (begins p)
 begins-decided [] s = refl

@@ -68,13 +68,10 @@ of_enum N es all = record { tells = λ a b e. values_one N a b (choices N.parts 
 
 -- ---- tokens
 
-literal-tells : Tells literal.ghosts.eq
-literal-tells = grind (arith, common_steps, two, flag, one, option, of_enum)
-
 kind-tells : Tells kind.ghosts.eq
 kind-tells =
     let style = option (record { tells = same_true doc_style.the_type tt }) in
-    of_enum token_kind.enum _ (search (rules, one, two, flag, number, style, literal-tells) depth 12)
+    of_enum token_kind.enum _ (search (rules, one, two, flag, number, style, option, common_steps) depth 12)
 
 pub same_token : (a b : Token) → is_same a b ≡ true → a ≡ b
 same_token a b e = grind (arith, common_steps, and_parts, kind-tells, eqb-true)

@@ -1,4 +1,5 @@
 -- How each answer of the grammar is found, and that it is the only one.
+use Rattle.std.proofs.lemmas.Grind.{common_steps}
 use Rattle.std.proofs.Common.{◌≡◌, ℕ, ◌<◌, ◌==◌, true, false, List, [], ◌∷◌, length, drop, refl, sym, ap, ◌∙◌, subst, arith, pos_of_ne-zero}
 use Rattle.std.proofs.lemmas.Bool.{eqb-true, eqb-false}
 use Rattle.std.specs.Str.{chars}
@@ -73,11 +74,7 @@ module _ (s : State) (is : IsText s.rest) where
 
   pub next-read : (other : Token × State) → TakesNext s other → other ≡ means_taking.take_next s
   next-read _ (nothing_left e) = sym (at_end (ap (λ (text : List ℕ). length text == 0) e))
-  next-read _ (first_left {token} {tokens} are) = by_either (length s.rest == 0)
-      (λ e. absurd (no_token token tokens e are))
-      (λ e.
-      let same : token ≡ token_at s.mode s.rest = first-read s.mode s.rest is (nonempty e) token tokens are in
-      ap (λ (t : Token). let r : Token × State = (token_past s.pending t, past_token s.rest s.mode t) in r) same ∙ sym (at_token e))
+  next-read _ (first_left {token} {tokens} are) = grind (arith, common_steps, no_token, first-read, nonempty, at_token)
 
   pub next-is : TakesNext s (means_taking.take_next s)
   next-is = by_either (length s.rest == 0)

@@ -1,17 +1,16 @@
 -- Means, by how it is read: the head of a document, and what an edit keeps of the document by it.
-use Rattle.std.specs.Prelude.{ℕ, ◌+◌, ◌-◌, ◌≤◌, ◌≡◌, if◌then◌else◌, List, ◌++◌, length, take, drop, max, chars, Option, Some, None, Result, Ok, Err, Bool, true, false, IsCharBoundary}
-use Rattle.std.specs.Str.{IsUtf8}
+use Rattle.std.specs.Prelude.{ℕ, ◌+◌, ◌-◌, ◌≤◌, ◌≡◌, if◌then◌else◌, List, length, take, drop, max, chars, Option, Some, None, Result, Ok, Err, Bool, true, false, IsCharBoundary}
 use Rattle.rustc_lexer.specs.declared.relex.checkpoints.Checkpoints.{Checkpoints}
 use Rattle.rustc_lexer.specs.declared.head.Head.{Head}
-use Rattle.rustc_lexer.specs.declared.relex.relexing.{Change.Change, Relexed.Relexed, Relexing.Relexing}
+use Rattle.rustc_lexer.specs.declared.relex.relexing.{Change.Change, Relexed.Relexed}
 use Rattle.rustc_lexer.specs.{Token}
 use Rattle.rustc_lexer.specs.Classes.{IsText}
 pub use Rattle.rustc_lexer.specs.Relexing.{front_tokens, tokens_of_head}
-use Rattle.rustc_lexer.specs.Edits.{IsEdit, IsRelexed, apply}
+use Rattle.rustc_lexer.specs.Relexing.{IsEditOf}
+use Rattle.rustc_lexer.specs.Edits.{IsRelexed, apply}
 use Rattle.rustc_lexer.specs.Partition.{Layout, bound, tokens_by, tokens_in}
 use Rattle.rustc_lexer.specs.means.Checkpoints.{AreBounds}
 use Rattle.rustc_lexer.specs.means.Pieces.{AreBoundariesFrom}
-use Rattle.rustc_lexer.specs.means.Relexing.{IsRenewed}
 
 -- where the tokens of a text with this head are, by a grammar
 abbrev pub by_head : Head → (List ℕ → Token) → List ℕ → Layout
@@ -48,10 +47,7 @@ edit_change start stop insert =
 pub record IsPut (layout : (List ℕ → Token) → List ℕ → Layout) (first : List ℕ → Token) (before insert : List ℕ) (edit : Change)
     (made : List ℕ) (tokens : List Token) (head : Head) (checkpoints : Checkpoints) : Type 0 where
   pub kept : AreKeptOf layout first before tokens head checkpoints
-  pub utf8 : IsUtf8 insert
-  pub valid : IsEdit before edit.start edit.old_stop insert
-  pub offsets : edit ≡ edit_change edit.start edit.old_stop insert
-  pub made_is : made ≡ apply before edit.start edit.old_stop insert
+  pub edit_of : IsEditOf before edit insert made
 
 -- the text after an edit: the one made, or if the edit is refused the one before, which is put back
 abbrev pub text_left : {R E : Type 0} → Result R E → List ℕ → List ℕ → List ℕ
@@ -105,11 +101,3 @@ head_unless false now = Some now
 abbrev pub head_put : List Token → Option Head → List Token
 head_put old None = old
 head_put old (Some head) = tokens_of_head head
-
--- the tokens of the head, and after them those of the body, instead of the old ones
-pub record IsRenewedBehind (first : List ℕ → Token) (body : List ℕ) (change : Change)
-    (made : List ℕ) (count : ℕ) (tokens : List Token) (head : Option Head) (now : List Token)
-    (at : Relexing) : Type 0 where
-  pub behind : List Token
-  pub renewed : IsRenewed first body change made (drop count tokens) behind at
-  pub now_is : now ≡ head_put (take count tokens) head ++ behind

@@ -1,15 +1,14 @@
 -- Means, by how it is read: the parts of relexing.
-use Rattle.std.specs.Prelude.{ℕ, ◌+◌, ◌-◌, ◌<◌, ◌≤◌, Bool, count_by, max, map, IsCharBoundary, ◌≡◌, ◌↔◌, ◌++◌, true, List, length, take, drop}
+use Rattle.std.specs.Prelude.{ℕ, ◌+◌, ◌-◌, ◌<◌, ◌≤◌, Bool, count_by, max, map, IsCharBoundary, ◌≡◌, ◌↔◌, true, List, length, take, drop}
 use Rattle.std.specs.Str.{IsUtf8}
 use Rattle.rustc_lexer.specs.declared.relex.front.TokenStart.{TokenStart}
 use Rattle.rustc_lexer.specs.declared.relex.front.Damage.{Damage}
 use Rattle.rustc_lexer.specs.declared.relex.relexing.Change.{Change}
-use Rattle.rustc_lexer.specs.declared.relex.relexing.Relexed.{Relexed}
 use Rattle.rustc_lexer.specs.declared.relex.relexing.Relexing.{Relexing}
 use Rattle.rustc_lexer.specs.{Token}
 use Rattle.rustc_lexer.specs.Partition.{bound, tokens_by}
 use Rattle.rustc_lexer.specs.Offsets.{IsBound}
-use Rattle.rustc_lexer.specs.Edits.{apply, ends_from}
+use Rattle.rustc_lexer.specs.Edits.{ends_from}
 use Rattle.rustc_lexer.specs.Relexing.{IsUnderWay}
 use Rattle.rustc_lexer.specs.Locality.{has_two}
 
@@ -18,26 +17,6 @@ use Rattle.rustc_lexer.specs.Locality.{has_two}
 -- how many of the tokens end at least two characters before `to`
 abbrev pub kept_front : List ℕ → List Token → ℕ → ℕ
 kept_front text tokens to = count_by (λ end. has_two text end to) (ends_from 0 tokens)
-
--- token boundary `number` of the new tokens is not before the end of the edit and matches an old
--- one, which `back` old tokens follow
-pub record IsBodyMeeting (old new : List Token) (old_stop new_stop number back : ℕ) : Type 0 where
-  pub number_inside : number ≤ length new
-  pub past_edit : new_stop ≤ bound new number
-  pub old_number : ℕ
-  pub back_is : old_number + back ≡ length old
-  pub same_offset : bound new number + old_stop ≡ bound old old_number + new_stop
-
--- the counts of an edit
-pub record IsBodyRelexed (first : List ℕ → Token) (text : List ℕ) (start stop : ℕ) (insert : List ℕ)
-    (r : Relexed) : Type 0 where
-  pub front : r.kept_front ≡ kept_front text (tokens_by first text) start
-  pub meeting : IsBodyMeeting (tokens_by first text)
-      (tokens_by first (apply text start stop insert)) stop (start + length insert)
-      (r.kept_front + r.lexed) r.kept_back
-  pub none_before : (number back : ℕ) → r.kept_front ≤ number → number < r.kept_front + r.lexed
-      → IsBodyMeeting (tokens_by first text) (tokens_by first (apply text start stop insert)) stop
-      (start + length insert) number back → ⊥
 
 -- ---- the parts
 
@@ -86,14 +65,6 @@ pub record IsLexed (first : List ℕ → Token) (old : List ℕ) (change : Chang
   pub met : at.met ≡ true
   pub lexed : at.lexed ≡ length tokens
   pub tokens_are : tokens ≡ take at.lexed (drop at.front.index (tokens_by first text))
-
--- the tokens of the old text are replaced by those of the new one: the kept front and back stay,
--- and the lexed tokens come in between
-pub record IsRenewed (first : List ℕ → Token) (old : List ℕ) (change : Change) (text : List ℕ)
-    (tokens now : List Token) (at : Relexing) : Type 0 where
-  pub lexed : List Token
-  pub lexed_is : IsLexed first old change text lexed at
-  pub now_is : now ≡ take at.front.index tokens ++ (lexed ++ drop at.back.index tokens)
 
 -- ---- what two texts have in common
 

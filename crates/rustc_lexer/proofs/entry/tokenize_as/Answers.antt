@@ -12,16 +12,7 @@ use Rattle.rustc_lexer.proofs.lemmas.tokens.Bits.{bit-zero}
 use Rattle.rustc_lexer.proofs.entry.tokenize_as.Goals as goal
 
 pub returns : goal.returns
-returns c =
-    let mode : Mode = mode_in c.args.frontmatter_allowed c.args.edition in
-    let is : IsText c.args.text.now = record { utf8 = c.utf8.text; fits = c.requires.fits } in
-    record {
-      state = refl;
-      partitions = partitions _ mode is;
-      restarts = restarts c.args.edition _ is;
-      suffixes = suffixes _ mode is;
-      texts = texts _ mode is;
-    }
+returns c = search (rules, partitions, restarts, suffixes, texts)
 
 pub invariant_of-result : goal.invariant_of-result
 invariant_of-result c = grind (arith, common_steps, rules, IsCharBoundary-start, bit-zero, none-some)

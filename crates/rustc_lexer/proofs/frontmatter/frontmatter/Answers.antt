@@ -9,7 +9,4 @@ pub returns-then-n_dashes-lt-MIN_DASHES : goal.returns-then-n_dashes-lt-MIN_DASH
 returns-then-n_dashes-lt-MIN_DASHES c = grind (arith, common_steps, rules, then-n_dashes-lt-MIN_DASHES-via-then-n_dashes-lt-MIN_DASHES, opens-few, opens-line)
 
 pub returns : goal.returns
-returns c =
-    let label = c.eat_while-label.ensures.past is_dash (λ d b e. search rules) in
-    let dashes = dashes_fence c.args.text.now _ _ c.utf8.text c.eat_whitespace-fence.ensures.past label in
-    grind (arith, common_steps, rules, opens-yes, frontmatter-is, label, c.closing_end-end.ensures.end _ (ap (take _) c.as_bytes-3.ensures.value ∙ dashes))
+returns c = grind (arith, common_steps, dashes_fence, opens-yes, frontmatter-is)

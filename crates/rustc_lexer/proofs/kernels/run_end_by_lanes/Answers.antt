@@ -8,5 +8,4 @@ pub returns-then-stops-ne0 : goal.returns-then-stops-ne0
 returns-then-stops-ne0 g c = grind (arith, common_steps, rules, take_rest, run_stops, run_bound)
 
 pub lanes-preserved : goal.lanes-preserved
-lanes-preserved g c =
-    grind (arith, common_steps, rules, take_rest, run_through, g.C.ByteClass.passes, g.C.ByteClass.width_fits, c.WIDTH.ensures)
+lanes-preserved g c = grind (arith, common_steps, take_rest, run_through)

@@ -1,4 +1,5 @@
 use Rattle.std.proofs.Common.{arith, ◌+◌, bit_and}
+use Rattle.std.proofs.lemmas.Grind.{common_steps}
 use Rattle.std.proofs.lemmas.List.{take_rest}
 use Rattle.std.proofs.lemmas.Nat.{and_le_l}
 use Rattle.rustc_lexer.proofs.lemmas.tokens.Pairs.{apart_on, apart_to, near}
@@ -18,7 +19,4 @@ looks-preserved c = record {
 }
 
 pub returns-then-found-ne0-clause-inside : goal.returns-then-found-ne0-clause-inside
-returns-then-found-ne0-clause-inside c =
-    let pairs = bit_and c.places-ones.result c.places-twos.result in
-    let less = near (bit_and pairs c.places-threes.result) (omega arith) (omega (arith, c.places-ones.ensures.few, and_le_l c.places-ones.result c.places-twos.result, and_le_l pairs c.places-threes.result)) in
-    omega arith
+returns-then-found-ne0-clause-inside c = grind (arith, common_steps, near, and_le_l)

@@ -1,5 +1,5 @@
 -- Edits that are made at once: one more of them.
-use Rattle.std.proofs.Common.{◌≡◌, ℕ, zero, suc, ◌+◌, ◌-◌, ◌^◌, ◌<◌, ◌≤◌, min, List, [], ◌∷◌, ◌++◌, length, take, drop, reverse, get_or, refl, sym, ap, ◌∙◌, subst, arith, IsUtf8, IsCharBoundary, append_assoc, length-append, length-drop, length-take-le, take-take}
+use Rattle.std.proofs.Common.{◌≡◌, ◌↔◌, ℕ, zero, suc, ◌+◌, ◌-◌, ◌^◌, ◌<◌, ◌≤◌, min, List, [], ◌∷◌, ◌++◌, length, take, drop, reverse, get_or, refl, sym, ap, ◌∙◌, subst, arith, IsUtf8, IsCharBoundary, append_assoc, length-append, length-drop, length-take-le, take-take}
 use Rattle.std.proofs.lemmas.List.{append-nil, reverse-append, take-append-drop, take-append-le}
 use Rattle.std.proofs.Math.Seq.{drop-append_seam, take-add}
 use Rattle.std.proofs.lemmas.Str.{IsCharBoundary-start, IsUtf8-append, IsUtf8-between, IsUtf8-past_char, IsUtf8-take}
@@ -14,51 +14,41 @@ use Rattle.rustc_lexer.specs.{Token}
 use Rattle.rustc_lexer.specs.Classes.{IsText}
 use Rattle.rustc_lexer.specs.Partition.{Layout}
 use Rattle.rustc_lexer.specs.means.Document.{AreKeptOf, IsPut, edit_change}
-use Rattle.rustc_lexer.proofs.lemmas.edits.Lists.{none}
+use Rattle.rustc_lexer.proofs.lemmas.edits.Lists.{apply-last, none}
 use Rattle.rustc_lexer.proofs.lemmas.edits.KeptEdits.{put_by}
 
-pub plus_one : (n : ℕ) → n + 1 ≡ suc n
-plus_one n = omega arith
+pub order-last : (text : List ℕ) (from : ℕ) (es : List Edit) (e : Edit) → AreInOrder text from (es ++ e ∷ []) ↔ (AreInOrder text from es × (stop_of_last from es ≤ e.start) × IsInside text e.start e.stop)
+order-last text from [] e = (λ are. (tt, are.0, are.1), λ is. (is.1, is.2, tt))
+order-last text from (f ∷ es) e =
+    let rest = order-last text f.stop es e in
+    (λ are. ((are.0, are.1, (rest.0 are.2).0), (rest.0 are.2).1, (rest.0 are.2).2), λ is. (is.0.0, is.0.1, rest.1 (is.0.2, is.1, is.2)))
 
-pub order-more : (text : List ℕ) (from : ℕ) (es : List Edit) (n : ℕ) → n < length es → AreInOrder text from (take n es) → stop_of_last from (take n es) ≤ (get_or es n none).start → IsInside text (get_or es n none).start (get_or es n none).stop → AreInOrder text from (take (suc n) es)
-order-more text from [] n few are after inside = absurd (omega arith)
-order-more text from (e ∷ es) zero few are after inside = (after, inside, tt)
-order-more text from (e ∷ es) (suc n) few are after inside = (are.0, are.1, order-more text e.stop es n (omega arith) are.2 after inside)
-
-pub last-more : (from : ℕ) (es : List Edit) (n : ℕ) → n < length es → stop_of_last from (take (suc n) es) ≡ (get_or es n none).stop
-last-more from [] n few = absurd (omega arith)
-last-more from (e ∷ es) zero few = refl
-last-more from (e ∷ es) (suc n) few = last-more e.stop es n (omega arith)
-
-pub next-of : (text : List ℕ) (from : ℕ) (es : List Edit) (n : ℕ) → n < length es → AreInOrder text from (take (suc n) es) → (stop_of_last from (take n es) ≤ (get_or es n none).start) × IsInside text (get_or es n none).start (get_or es n none).stop
-next-of text from [] n few are = absurd (omega arith)
-next-of text from (e ∷ es) zero few are = (are.0, are.1)
-next-of text from (e ∷ es) (suc n) few are = next-of text e.stop es n (omega arith) are.2
+pub stop-last : (from : ℕ) (es : List Edit) (e : Edit) → stop_of_last from (es ++ e ∷ []) ≡ e.stop
+stop-last from [] e = refl
+stop-last from (f ∷ es) e = stop-last f.stop es e
 
 pub some_are : (es : List Edit) → (es ≡ [] → ⊥) → 0 < length es
-some_are [] some = absurd (some refl)
-some_are (e ∷ es) some = omega arith
+some_are es w1 = grind (arith, common_steps)
 
 pub first_start : (es : List Edit) → (es ≡ [] → ⊥) → (get_or es 0 none).start ≡ start_of_first es
-first_start [] some = absurd (some refl)
-first_start (e ∷ es) some = refl
+first_start es w1 = grind (arith, common_steps)
 
-pub all-more : (text : List ℕ) (from : ℕ) (es : List Edit) (n : ℕ) → n < length es → with_all text from (take (suc n) es) ≡ with_all text from (take n es) ++ (take ((get_or es n none).start - stop_of_last from (take n es)) (drop (stop_of_last from (take n es)) text) ++ (get_or es n none).insert.now)
-all-more text from [] n few = absurd (omega arith)
-all-more text from (e ∷ es) zero few = grind (arith, common_steps, append-nil)
-all-more text from (e ∷ es) (suc n) few = grind (arith, common_steps, all-more text e.stop es n (omega arith), append_assoc)
+all-last : (text : List ℕ) (from : ℕ) (es : List Edit) (e : Edit)
+    → with_all text from (es ++ e ∷ []) ≡ with_all text from es ++ (take (e.start - stop_of_last from es) (drop (stop_of_last from es) text) ++ e.insert.now)
+all-last text from [] e = grind (arith, common_steps, append-nil)
+all-last text from (f ∷ es) e = grind (arith, common_steps, all-last text f.stop es e, append_assoc)
 
 -- one more of them: what they make so far is a text, and its length stops at the greatest number
-pub made-more : (text : List ℕ) (es : List Edit) (n last len next : ℕ) → n < length es → IsUtf8 text → IsUtf8 (with_all text 0 (take n es)) → last ≡ stop_of_last 0 (take n es) → IsCharBoundary text last → len ≡ min (2 ^ 64 - 1) (length (with_all text 0 (take n es)))
-    → last ≤ (get_or es n none).start → IsInside text (get_or es n none).start (get_or es n none).stop → IsUtf8 (get_or es n none).insert.now → next ≡ min (2 ^ 64 - 1) (len + ((get_or es n none).start - last) + length (get_or es n none).insert.now)
-    → IsUtf8 (with_all text 0 (take (suc n) es)) × (next ≡ min (2 ^ 64 - 1) (length (with_all text 0 (take (suc n) es))))
-made-more text es n last len next few is are last_is boundary len_is after inside insert next_is =
-    let e : Edit = get_or es n none in
+pub made-last : (text : List ℕ) (es : List Edit) (e : Edit) (last len next : ℕ) → IsUtf8 text → IsUtf8 (with_all text 0 es) → last ≡ stop_of_last 0 es → IsCharBoundary text last
+    → len ≡ min (2 ^ 64 - 1) (length (with_all text 0 es)) → last ≤ e.start → IsInside text e.start e.stop → IsUtf8 e.insert.now
+    → next ≡ min (2 ^ 64 - 1) (len + (e.start - last) + length e.insert.now)
+    → IsUtf8 (with_all text 0 (es ++ e ∷ [])) × (next ≡ min (2 ^ 64 - 1) (length (with_all text 0 (es ++ e ∷ []))))
+made-last text es e last len next is are last_is boundary len_is after inside insert next_is =
     let between : List ℕ = take (e.start - last) (drop last text) in
-    let more : with_all text 0 (take (suc n) es) ≡ with_all text 0 (take n es) ++ (between ++ e.insert.now) = rw last_is (all-more text 0 es n few) in
+    let more : with_all text 0 (es ++ e ∷ []) ≡ with_all text 0 es ++ (between ++ e.insert.now) = rw last_is (all-last text 0 es e) in
     let size : length between ≡ e.start - last = length-take-le (e.start - last) (drop last text) (omega (arith, length-drop last text, inside.start_le_stop, inside.stop_inside)) in (
       subst IsUtf8 (sym more) (IsUtf8-append _ _ are (IsUtf8-append _ _ (IsUtf8-between text last e.start is after boundary inside.start_boundary) insert)),
-      omega (arith, next_is, len_is, size, ap (λ (xs : List ℕ). length xs) more, length-append (with_all text 0 (take n es)) (between ++ e.insert.now), length-append between e.insert.now),
+      omega (arith, next_is, len_is, size, ap (λ (xs : List ℕ). length xs) more, length-append (with_all text 0 es) (between ++ e.insert.now), length-append between e.insert.now),
     )
 
 pub order-take : (text : List ℕ) (from : ℕ) (es : List Edit) (n : ℕ) → AreInOrder text from es → AreInOrder text from (take n es)
@@ -70,27 +60,20 @@ order-take text from (e ∷ es) (suc n) are = (are.0, are.1, order-take text e.s
 order_end : (text : List ℕ) (from : ℕ) (es : List Edit) → AreInOrder text from es → from ≤ length text → IsCharBoundary text from → (from ≤ stop_of_last from es) × (stop_of_last from es ≤ length text) × IsCharBoundary text (stop_of_last from es)
 order_end text from [] are few boundary = (omega arith, few, boundary)
 order_end text from (e ∷ es) are few boundary =
-    let end = order_end text e.stop es are.2 are.1.stop_inside are.1.stop_boundary in
-    (omega (arith, end.0, are.0, are.1.start_le_stop), end.1, end.2)
+    grind (arith, common_steps, order_end text e.stop es are.2 are.1.stop_inside are.1.stop_boundary)
 
 order_inside : (text : List ℕ) (es : List Edit) → (es ≡ [] → ⊥) → AreInOrder text 0 es → IsInside text (start_of_first es) (stop_of_last 0 es)
 order_inside text [] some are = absurd (some refl)
 order_inside text (e ∷ es) some are =
-    let end = order_end text e.stop es are.2 are.1.stop_inside are.1.stop_boundary in
-    record { start_le_stop = omega (arith, end.0, are.1.start_le_stop); stop_inside = end.1; start_boundary = are.1.start_boundary; stop_boundary = end.2 }
+    grind (arith, common_steps, order_end text e.stop es are.2 are.1.stop_inside are.1.stop_boundary)
 
 -- all that they make begins with the text in front of the first
 from_first : (text : List ℕ) (es : List Edit) → (es ≡ [] → ⊥) → with_all text 0 es ≡ take (start_of_first es) text ++ with_all text (start_of_first es) es
-from_first text [] some = absurd (some refl)
-from_first text (e ∷ es) some = grind (arith, common_steps)
+from_first text es w2 = grind (arith, common_steps)
 
 pub applied_is : (text : List ℕ) (es : List Edit) → (es ≡ [] → ⊥) → with_all text 0 es ++ drop (stop_of_last 0 es) text ≡ apply text (start_of_first es) (stop_of_last 0 es) (with_all text (start_of_first es) es)
 unfolding apply
 applied_is text es some = grind (arith, common_steps, from_first text es some, append_assoc)
-
-apply-last : (text : List ℕ) (es : List Edit) (e : Edit) → apply_list text (es ++ (e ∷ [])) ≡ applied (apply_list text es) e
-apply-last text [] e = refl
-apply-last text (f ∷ es) e = apply-last (applied text f) es e
 
 -- what is behind an edit, and what it inserts, put behind the text in front of it
 put_before : (text rest : List ℕ) (from : ℕ) (e : Edit) → from ≤ e.start → IsInside text e.start e.stop → apply (take e.stop text ++ rest) e.start e.stop e.insert.now ≡ take from text ++ (take (e.start - from) (drop from text) ++ (e.insert.now ++ rest))
@@ -105,16 +88,11 @@ put_before text rest from e after inside =
 -- one after another, from the last to the first, they make the same text
 backwards : (text : List ℕ) (from : ℕ) (es : List Edit) → AreInOrder text from es → from ≤ length text → apply_list text (reverse es) ≡ take from text ++ (with_all text from es ++ drop (stop_of_last from es) text)
 backwards text from [] are few = sym (take-append-drop from text)
-backwards text from (e ∷ es) are few =
-    let end : List ℕ = drop (stop_of_last e.stop es) text in
-    let behind : apply_list text (reverse es) ≡ take e.stop text ++ (with_all text e.stop es ++ end) = backwards text e.stop es are.2 are.1.stop_inside in
-    let last : apply_list text (reverse (e ∷ es)) ≡ applied (apply_list text (reverse es)) e = ap (λ (xs : List Edit). apply_list text xs) (reverse-append (e ∷ []) es) ∙ apply-last text (reverse es) e in
-    let put = put_before text (with_all text e.stop es ++ end) from e are.0 are.1 in
-    last ∙ ap (λ (xs : List ℕ). applied xs e) behind ∙ put ∙ ap (λ (xs : List ℕ). take from text ++ xs) (grind (arith, common_steps, append_assoc))
+backwards text from (e ∷ es) are few = grind (arith, common_steps, reverse-append, apply-last, put_before, append_assoc,
+        backwards text e.stop es are.2 are.1.stop_inside)
 
 pub none_by_one : (text : List ℕ) (es : List Edit) → length es ≡ 0 → text ≡ apply_list text (reverse es)
-none_by_one text [] none = refl
-none_by_one text (e ∷ es) none = absurd (omega arith)
+none_by_one text es w2 = grind (arith, common_steps)
 
 pub one_by_one : (text : List ℕ) (es : List Edit) → (es ≡ [] → ⊥) → AreInOrder text 0 es → apply text (start_of_first es) (stop_of_last 0 es) (with_all text (start_of_first es) es) ≡ apply_list text (reverse es)
 one_by_one text es some are = sym (applied_is text es some) ∙ sym (backwards text 0 es are (omega arith))
@@ -131,22 +109,16 @@ insert_utf8 text es some is are all =
 
 -- where what they insert ends
 pub insert_end : (text : List ℕ) (es : List Edit) → (es ≡ [] → ⊥) → AreInOrder text 0 es → length (with_all text 0 es) ≡ start_of_first es + length (with_all text (start_of_first es) es)
-insert_end text es some are =
-    let inside = order_inside text es some are in
-    omega (arith, ap (λ (xs : List ℕ). length xs) (from_first text es some), length-append (take (start_of_first es) text) (with_all text (start_of_first es) es), length-take-le (start_of_first es) text (omega (arith, inside.start_le_stop, inside.stop_inside)))
+insert_end text es some are = grind (arith, common_steps, order_inside, from_first, length-append, length-take-le)
 
 pub at_once_valid : (text : List ℕ) (es : List Edit) → (es ≡ [] → ⊥) → AreInOrder text 0 es → length (with_all text 0 es) + (length text - stop_of_last 0 es) < 2 ^ 32 → AreAtOnce text es
-at_once_valid text es some are short =
-    let inside = order_inside text es some are in
-    (are, record { inside = inside; short = omega (arith, short, insert_end text es some are, inside.start_le_stop, inside.stop_inside) })
+at_once_valid text es some are short = grind (arith, common_steps, order_inside, insert_end)
 
 pub at_once_short : (text : List ℕ) (es : List Edit) → (es ≡ [] → ⊥) → AreAtOnce text es → length (with_all text 0 es) + (length text - stop_of_last 0 es) < 2 ^ 32
 at_once_short text es some are = omega (arith, are.1.short, insert_end text es some are.0, are.1.inside.start_le_stop, are.1.inside.stop_inside)
 
 pub at_once_none : (text : List ℕ) (es : List Edit) → length es ≡ 0 → IsText text → AreAtOnce text es
-at_once_none text [] none is =
-    let start = IsCharBoundary-start text is.utf8 in
-    (tt, record { inside = record { start_le_stop = omega arith; stop_inside = omega arith; start_boundary = start; stop_boundary = start }; short = omega (arith, is.fits) })
+at_once_none text [] none is = grind (arith, common_steps, IsCharBoundary-start)
 at_once_none text (e ∷ es) none is = absurd (omega arith)
 
 -- all that they make is the text that the one edit makes

@@ -10,10 +10,11 @@ use Rattle.rustc_lexer.specs.declared.relex.relexing.Change.{Change}
 use Rattle.rustc_lexer.specs.{Token}
 use Rattle.rustc_lexer.specs.Classes.{IsText}
 use Rattle.rustc_lexer.specs.means.Document.{body_change, body_insert, head_put}
-use Rattle.rustc_lexer.specs.Edits.{apply, IsEdit}
-use Rattle.rustc_lexer.specs.Relexing.{IsMadeOf}
+use Rattle.rustc_lexer.specs.Edits.{apply}
+use Rattle.rustc_lexer.specs.Relexing.{IsEditOf, IsMadeOf}
 use Rattle.rustc_lexer.specs.Locality.{IsGrammar}
 use Rattle.rustc_lexer.specs.Tokens.{tokens_by}
+use Rattle.rustc_lexer.proofs.lemmas.edits.Bounds.{rest_is}
 use Rattle.rustc_lexer.proofs.lemmas.edits.FrontAndBack.{IsEdited, edited, same_rest}
 
 -- an offset past another is between characters of what follows that one
@@ -32,101 +33,111 @@ by_max P a b pa pb = grind (arith, common_steps, cases_lt, le-max_right, max-le,
 by_past : (P : ℕ → Type 0) (a b : ℕ) → P a → P b → P (a + (b - a))
 by_past P a b pa pb = grind (arith, common_steps, cases_lt)
 
-module _ {first : List ℕ → Token} (law : IsGrammar first) (text insert made : List ℕ) (start stop : ℕ) (is : IsText text) (its : IsUtf8 insert) (edit : IsEdit text start stop insert) (e : made ≡ apply text start stop insert) where
-  ed : IsEdited text start stop insert made
-  ed = rw e (edited text start stop insert is its edit)
+module _ {first : List ℕ → Token} (law : IsGrammar first) {text insert made : List ℕ} {edit : Change} (e : IsEditOf text edit insert made) (from to : ℕ) (old_at : IsCharBoundary text from) (now_at : IsCharBoundary made to) where
+  abbrev body : List ℕ
+  body = drop to made
 
-  abbrev as_change : Change
-  as_change = record { start = start; old_stop = stop; new_stop = start + length insert }
+  abbrev lengths : List ℕ
+  lengths = map (λ (t : Token). t.len) (tokens_by first (drop from text))
 
-  module _ (from to : ℕ) (old_at : IsCharBoundary text from) (now_at : IsCharBoundary made to) (tokens : List Token) (scratch : tokens ≡ tokens_by first (drop from text)) (body : List ℕ) (body_is : body ≡ drop to made) where
-    old_text : IsText (drop from text)
-    old_text = record { utf8 = IsUtf8-drop text from is.utf8 old_at; fits = let f = is.fits in omega (arith, length-drop from text) }
+  ed : IsEdited text edit made
+  ed = edited e
 
-    lengths : map (λ (t : Token). t.len) tokens ≡ map (λ (t : Token). t.len) (tokens_by first (drop from text))
-    lengths = ap (map (λ (t : Token). t.len)) scratch
+  old_text : IsText (drop from text)
+  old_text = rest_is text from e.is_text old_at
 
-    -- the head stays
-    kept_made : from ≡ to → from ≤ start → drop to made ≡ apply (drop from text) (start - from) (stop - from) insert
-    unfolding apply
-    kept_made same before =
-        let a = edit.inside.start_le_stop in
-        let b = edit.inside.stop_inside in
-        let there : from + (start - from) ≡ start = omega arith in
-        let front : drop from (take start text) ≡ take (start - from) (drop from text) = ap (λ n. drop from (take n text)) (sym there) ∙ drop-take from (start - from) text in
-        let back : drop stop text ≡ drop (stop - from) (drop from text) = drop-past text from stop (omega arith) in
-        let few : from ≤ length (take start text) = omega (arith, length-take-le start text (omega arith)) in
-        ap (λ n. drop n made) (sym same) ∙ (ap (drop from) e ∙ (drop-append-le from (take start text) (insert ++ drop stop text) few ∙ ap₂ (λ xs ys. xs ++ (insert ++ ys)) front back))
+  -- the head stays
+  kept_made : from ≡ to → from ≤ edit.start → body ≡ apply (drop from text) (edit.start - from) (edit.old_stop - from) insert
+  unfolding apply
+  kept_made same before =
+      let a = e.is_edit.inside.start_le_stop in
+      let b = e.is_edit.inside.stop_inside in
+      let there : from + (edit.start - from) ≡ edit.start = omega arith in
+      let front : drop from (take edit.start text) ≡ take (edit.start - from) (drop from text) = ap (λ n. drop from (take n text)) (sym there)
+      ∙ drop-take from (edit.start - from) text in
+      let back : drop edit.old_stop text ≡ drop (edit.old_stop - from) (drop from text) = drop-past text from edit.old_stop (omega arith) in
+      let few : from ≤ length (take edit.start text) = omega (arith, length-take-le edit.start text (omega arith)) in
+      ap (λ n. drop n made) (sym same) ∙ (ap (drop from) e.made
+      ∙ (drop-append-le from (take edit.start text) (insert ++ drop edit.old_stop text) few ∙ ap₂ (λ xs ys. xs ++ (insert ++ ys)) front back))
 
-    kept_body : from ≡ to → from ≤ start → IsMadeOf first (drop from text) (map (λ (t : Token). t.len) tokens) (body_change true from to as_change) insert body
-    kept_body same before = grind (arith, edit.inside.start_le_stop, edit.inside.stop_inside, edit.short, old_text, length-drop, boundary-past, kept_made, lengths)
+  kept_body : from ≡ to → from ≤ edit.start → IsMadeOf first (drop from text) lengths (body_change true from to edit) insert body
+  kept_body same before = grind (
+    arith,
+    e.is_edit.inside.start_le_stop,
+    e.is_edit.inside.stop_inside,
+    e.is_edit.short,
+    e.new_stop,
+    old_text,
+    length-drop,
+    boundary-past,
+    kept_made,
+  )
 
-    -- it does not: up to here both differ
-    abbrev past : ℕ
-    past = max (from - stop) (to - (start + length insert))
+  -- it does not: up to here both differ
+  abbrev past : ℕ
+  past = max (from - edit.old_stop) (to - edit.new_stop)
 
-    abbrev old_end : ℕ
-    old_end = stop + past
+  abbrev old_end : ℕ
+  old_end = edit.old_stop + past
 
-    abbrev new_end : ℕ
-    new_end = start + length insert + past
+  abbrev new_end : ℕ
+  new_end = edit.new_stop + past
 
-    same_back : drop new_end made ≡ drop old_end text
-    unfolding ed
-    same_back =
-        let there : new_end - (start + length insert) + stop ≡ old_end = omega arith in
-        same_rest law text start stop insert made is edit ed new_end (omega arith) ∙ ap (λ n. drop n text) there
+  same_back : drop new_end made ≡ drop old_end text
+  same_back =
+      let there : new_end - edit.new_stop + edit.old_stop ≡ old_end = omega arith in
+      same_rest law e new_end (omega arith) ∙ ap (λ n. drop n text) there
 
-    ends_inside : (from ≤ old_end) × (to ≤ new_end) × (old_end ≤ length text) × (new_end ≤ length made)
-    unfolding ed
-    ends_inside = grind (arith, common_steps, max-le, le-max_left, le-max_right, edit.inside.start_le_stop, edit.inside.stop_inside, ed.len, old_at.0, now_at.0)
+  ends_inside : (from ≤ old_end) × (to ≤ new_end) × (old_end ≤ length text) × (new_end ≤ length made)
+  unfolding ed
+  ends_inside = grind (arith, common_steps, max-le, le-max_left, le-max_right, ed.len, ed.old_inside, old_at.0, now_at.0)
 
-    back_utf8 : IsUtf8 (drop old_end text)
-    unfolding ed
-    back_utf8 = by_max (λ n. IsUtf8 (drop (stop + n) text)) (from - stop) (to - (start + length insert))
-        (by_past (λ n. IsUtf8 (drop n text)) stop from (IsUtf8-drop text stop is.utf8 edit.inside.stop_boundary) (IsUtf8-drop text from is.utf8 old_at))
-        (let m : ℕ = to - (start + length insert) in
-        let there : start + length insert + m - (start + length insert) + stop ≡ stop + m = omega arith in
-        let same : drop (start + length insert + m) made ≡ drop (stop + m) text = same_rest law text start stop insert made is edit ed (start + length insert + m) (omega arith) ∙ ap (λ n. drop n text) there in
-        subst IsUtf8 same (by_past (λ n. IsUtf8 (drop n made)) (start + length insert) to (subst IsUtf8 (sym ed.back) (IsUtf8-drop text stop is.utf8 edit.inside.stop_boundary)) (IsUtf8-drop made to ed.text_is.utf8 now_at)))
+  back_utf8 : IsUtf8 (drop old_end text)
+  back_utf8 = by_max (λ n. IsUtf8 (drop (edit.old_stop + n) text)) (from - edit.old_stop) (to - edit.new_stop)
+      (by_past (λ n. IsUtf8 (drop n text)) edit.old_stop from (IsUtf8-drop text edit.old_stop e.is_text.utf8 e.is_edit.inside.stop_boundary) (IsUtf8-drop text from e.is_text.utf8 old_at))
+      (let m : ℕ = to - edit.new_stop in
+      let there : edit.new_stop + m - edit.new_stop + edit.old_stop ≡ edit.old_stop + m = omega arith in
+      let same : drop (edit.new_stop + m) made ≡ drop (edit.old_stop + m) text = same_rest law e (edit.new_stop + m) (omega arith) ∙ ap (λ n. drop n text) there in
+      subst IsUtf8 same (by_past (λ n. IsUtf8 (drop n made)) edit.new_stop to
+      (subst IsUtf8 (sym ed.back) (IsUtf8-drop text edit.old_stop e.is_text.utf8 e.is_edit.inside.stop_boundary))
+      (IsUtf8-drop made to ed.text_is.utf8 now_at)))
 
-    front_body : IsMadeOf first (drop from text) (map (λ (t : Token). t.len) tokens) (body_change false from to as_change) (take (new_end - to) body) body
-    unfolding ed apply same_back ends_inside back_utf8
-    front_body =
-        let i = ends_inside in
-        let n = ed.len in
-        let a = edit.inside.start_le_stop in
-        let b = edit.inside.stop_inside in
-        let f = ed.text_is.fits in
-        let body_utf8 : IsUtf8 body = subst IsUtf8 (sym body_is) (IsUtf8-drop made to ed.text_is.utf8 now_at) in
-        let size : length body ≡ length made - to = ap length body_is ∙ length-drop to made in
-        let back : drop (new_end - to) body ≡ drop old_end text = ap (drop (new_end - to)) body_is ∙ (sym (drop-past made to new_end i.1) ∙ same_back) in
-        let cut : IsCharBoundary body (new_end - to) = IsCharBoundary-from_drop body (new_end - to) (omega arith) (rw back back_utf8) in
-        let long : length (take (new_end - to) body) ≡ new_end - to = length-take-le (new_end - to) body (omega arith) in
-        let old_back : drop old_end text ≡ drop (old_end - from) (drop from text) = drop-past text from old_end i.0 in
-        record {
-          edit_of = record {
-            is_text = old_text;
-            is_edit = record {
-              inside = record {
-                start_le_stop = omega arith;
-                stop_inside = omega (arith, length-drop from text, i.2);
-                start_boundary = IsCharBoundary-from_drop (drop from text) 0 (omega arith) old_text.utf8;
-                stop_boundary = IsCharBoundary-from_drop (drop from text) (old_end - from) (omega (arith, length-drop from text, i.2)) (subst IsUtf8 old_back back_utf8);
-              };
-              short = omega (arith, length-drop from text, long, i.2, i.3, i.0, i.1);
+  front_body : IsMadeOf first (drop from text) lengths (body_change false from to edit) (take (new_end - to) body) body
+  unfolding ed apply same_back ends_inside back_utf8
+  front_body =
+      let i = ends_inside in
+      let n = ed.len in
+      let a = ed.old_inside in
+      let f = ed.text_is.fits in
+      let body_utf8 : IsUtf8 body = IsUtf8-drop made to ed.text_is.utf8 now_at in
+      let size : length body ≡ length made - to = length-drop to made in
+      let back : drop (new_end - to) body ≡ drop old_end text = sym (drop-past made to new_end i.1) ∙ same_back in
+      let cut : IsCharBoundary body (new_end - to) = IsCharBoundary-from_drop body (new_end - to) (omega arith) (rw back back_utf8) in
+      let long : length (take (new_end - to) body) ≡ new_end - to = length-take-le (new_end - to) body (omega arith) in
+      let old_back : drop old_end text ≡ drop (old_end - from) (drop from text) = drop-past text from old_end i.0 in
+      record {
+        edit_of = record {
+          is_text = old_text;
+          is_edit = record {
+            inside = record {
+              start_le_stop = omega arith;
+              stop_inside = omega (arith, length-drop from text, i.2);
+              start_boundary = IsCharBoundary-from_drop (drop from text) 0 (omega arith) old_text.utf8;
+              stop_boundary = IsCharBoundary-from_drop (drop from text) (old_end - from) (omega (arith, length-drop from text, i.2)) (subst IsUtf8 old_back back_utf8);
             };
-            inserted = IsUtf8-take body (new_end - to) body_utf8 cut;
-            made = sym (take-append-drop (new_end - to) body) ∙ ap (λ ys. take (new_end - to) body ++ ys) (back ∙ old_back);
-            new_stop = omega (arith, long);
+            short = omega (arith, length-drop from text, long, i.2, i.3, i.0, i.1);
           };
-          lengths_are = lengths;
-        }
+          inserted = IsUtf8-take body (new_end - to) body_utf8 cut;
+          made = sym (take-append-drop (new_end - to) body) ∙ ap (λ ys. take (new_end - to) body ++ ys) (back ∙ old_back);
+          new_stop = omega (arith, long);
+        };
+        lengths_are = refl;
+      }
 
-    -- what an edit is to the body
-    pub made_body : (kept : Bool) → (kept ≡ true → (from ≡ to) × (from ≤ start)) → IsMadeOf first (drop from text) (map (λ (t : Token). t.len) tokens) (body_change kept from to as_change) (body_insert kept (body_change kept from to as_change) insert body) body
-    made_body true decided = kept_body (decided refl).0 (decided refl).1
-    made_body false decided = front_body
+  -- what an edit is to the body
+  pub made_body : (kept : Bool) → (kept ≡ true → (from ≡ to) × (from ≤ edit.start)) → IsMadeOf first (drop from text) lengths (body_change kept from to edit) (body_insert kept (body_change kept from to edit) insert body) body
+  made_body true decided = kept_body (decided refl).0 (decided refl).1
+  made_body false decided = front_body
 
 -- the tokens behind the first ones are replaced
 put_is : (tokens lexed : List Token) (n f b : ℕ) → f ≤ b → n + b ≤ length tokens → take (n + f) tokens ++ (lexed ++ drop (n + b) tokens) ≡ take n tokens ++ (take f (drop n tokens) ++ (lexed ++ drop b (drop n tokens)))

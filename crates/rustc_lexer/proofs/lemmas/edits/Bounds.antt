@@ -1,9 +1,9 @@
 -- Bounds of a list of tokens.
-use Rattle.std.proofs.Common.{◌≡◌, ℕ, zero, suc, ◌+◌, ◌<◌, ◌≤◌, ◌^◌, Bool, cond, List, [], ◌∷◌, ◌++◌, length, drop, ap, ◌∙◌, arith, length-drop}
+use Rattle.std.proofs.Common.{◌≡◌, ℕ, zero, suc, ◌+◌, ◌<◌, ◌≤◌, ◌^◌, Bool, cond, List, [], ◌∷◌, ◌++◌, length, drop, ap, ◌∙◌, arith, length-drop, IsCharBoundary}
 use Rattle.std.proofs.lemmas.List.Sums.{sum_by_from}
 use Rattle.std.specs.List.{count_by}
 use Rattle.std.proofs.lemmas.List.{drop_all}
-use Rattle.std.proofs.lemmas.Str.{IsCharBoundary-from_drop}
+use Rattle.std.proofs.lemmas.Str.{IsCharBoundary-from_drop, IsUtf8-drop}
 use Rattle.std.proofs.lemmas.Grind.{common_steps}
 use Rattle.rustc_lexer.specs.{Token}
 use Rattle.rustc_lexer.specs.Classes.{IsText}
@@ -12,6 +12,10 @@ use Rattle.rustc_lexer.specs.Tokens.{bound, tokens_by}
 use Rattle.rustc_lexer.specs.means.Relexing.{AreBoundaries}
 use Rattle.rustc_lexer.specs.laws.Cuts.{IsCutAt, at_bound, tokens-cons, tokens-nil}
 use Rattle.rustc_lexer.proofs.lemmas.tokens.Progress.{IsNext, next-from_drop}
+
+-- what is left of a text from a boundary on
+pub rest_is : (text : List ℕ) (at : ℕ) → IsText text → IsCharBoundary text at → IsText (drop at text)
+rest_is text at is here = record { utf8 = IsUtf8-drop text at is.utf8 here; fits = omega (arith, is.fits, length-drop at text) }
 
 pub bound_mono : (ts : List Token) (i j : ℕ) → i ≤ j → bound ts i ≤ bound ts j
 bound_mono ts zero j le = omega arith
@@ -50,8 +54,7 @@ pub bound-last : {first : List ℕ → Token} (law : IsGrammar first) (text : Li
 bound-last {first} law text is = grind (arith, common_steps, at_bound, drop_all, length-drop, tokens-cons)
 
 pub tokens_le_bytes : {first : List ℕ → Token} (law : IsGrammar first) (text : List ℕ) → IsText text → length (tokens_by first text) ≤ length text
-tokens_le_bytes {first} law text is =
-    omega (arith, number_le_bound (tokens_by first text) (length (tokens_by first text)) (omega arith) (rises law text is), bound-last law text is)
+tokens_le_bytes {first} law text is = grind (arith, common_steps, number_le_bound, bound-last law text is, rises)
 
 module _ {first : List ℕ → Token} (law : IsGrammar first) (text : List ℕ) (is : IsText text) where
   -- each bound is inside the text, between characters

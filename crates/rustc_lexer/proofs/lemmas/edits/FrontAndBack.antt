@@ -1,7 +1,6 @@
 -- What an edit keeps: the front by locality, the back by a bound that both texts have.
-use Rattle.std.proofs.Common.{◌≡◌, ℕ, zero, suc, ◌+◌, ◌-◌, ◌*◌, ◌<◌, ◌≤◌, true, false, true≢false, List, [], ◌∷◌, ◌++◌, length, take, drop, cond, refl, sym, ap, ◌∙◌, subst, arith, length-drop, length-append, drop-drop, take-take, take-append-drop, take-add, take_at, drop_at, length-take-le, IsUtf8, IsCharBoundary, chars, leb-true, le-leb, leb, is_some, slice_get, encode_utf8, slice_range, append_assoc, Result, IfErr, OnOk, OnErr}
-use Rattle.std.specs.List.{count_by, replace_range}
-use Rattle.std.proofs.lemmas.Bool.{false_from_ne_true}
+use Rattle.std.proofs.Common.{◌≡◌, ℕ, zero, suc, ◌+◌, ◌-◌, ◌*◌, ◌<◌, ◌≤◌, true, false, List, [], ◌∷◌, ◌++◌, length, take, drop, refl, sym, ap, ◌∙◌, arith, length-drop, length-append, drop-drop, take-take, take-append-drop, take-add, take_at, drop_at, length-take-le, IsUtf8, IsCharBoundary, chars, leb-true, le-leb, leb, is_some, slice_get, encode_utf8, slice_range, append_assoc, Result, IfErr, OnOk, OnErr}
+use Rattle.std.specs.List.{replace_range}
 use Rattle.std.proofs.lemmas.List.{drop-take, take-append-le}
 use Rattle.std.proofs.lemmas.Grind.{common_steps}
 use Rattle.std.proofs.lemmas.Str.{chars_past_char, chars-nil, IsUtf8-append, IsUtf8-take, IsUtf8-drop, IsUtf8-between, IsCharBoundary-from_drop, chars-append, length-encode, len_utf8_bounds, encodes-chars}
@@ -10,35 +9,46 @@ use Rattle.rustc_lexer.specs.{Token}
 use Rattle.rustc_lexer.specs.Locality.{AgreePast, IsGrammar, has_two}
 use Rattle.rustc_lexer.specs.Classes.{IsText}
 use Rattle.rustc_lexer.specs.Tokens.{bound, tokens_by}
-use Rattle.rustc_lexer.specs.Edits.{apply, ends_from, IsEdit}
+use Rattle.rustc_lexer.specs.Edits.{apply}
+use Rattle.rustc_lexer.specs.Relexing.{IsEditOf}
+use Rattle.rustc_lexer.specs.declared.relex.relexing.Change.{Change}
 use Rattle.rustc_lexer.specs.laws.Cuts.{IsCutAt, at_bound, tokens_local, look}
-use Rattle.rustc_lexer.proofs.lemmas.edits.Bounds.{count-cons}
 
 -- what holds anyway holds of an error
 pub IfErr-always : {T E : Type 0} {P : Type 0} (r : Result T E) → P → IfErr r (λ _. P)
 IfErr-always r w1 = grind (arith, common_steps)
 
 -- the edited text: its parts
-pub record IsEdited (text : List ℕ) (start stop : ℕ) (insert new : List ℕ) : Type 0 where
-  pub len : length new + (stop - start) ≡ length text + length insert
-  pub front : take start new ≡ take start text
-  pub back : drop (start + length insert) new ≡ drop stop text
+pub record IsEdited (text : List ℕ) (edit : Change) (new : List ℕ) : Type 0 where
+  pub start_le_old : edit.start ≤ edit.old_stop
+  pub old_inside : edit.old_stop ≤ length text
+  pub start_le_new : edit.start ≤ edit.new_stop
+  pub len : length new + edit.old_stop ≡ length text + edit.new_stop
+  pub front : take edit.start new ≡ take edit.start text
+  pub back : drop edit.new_stop new ≡ drop edit.old_stop text
   pub text_is : IsText new
 
-pub edited : (text : List ℕ) (start stop : ℕ) (insert : List ℕ) → IsText text → IsUtf8 insert → IsEdit text start stop insert → IsEdited text start stop insert (apply text start stop insert)
+pub edited : {text insert new : List ℕ} {edit : Change} → IsEditOf text edit insert new → IsEdited text edit new
 unfolding apply
-edited text start stop insert is its edit =
-    let a : start ≤ stop = edit.inside.start_le_stop in
-    let b : stop ≤ length text = edit.inside.stop_inside in
-    let first : length (take start text) ≡ start = length-take-le start text (omega arith) in
-    let long : length (take start text ++ (insert ++ drop stop text)) ≡ start + (length insert + (length text - stop)) = omega (arith, length-append (take start text) (insert ++ drop stop text), length-append insert (drop stop text), length-drop stop text, first) in
+edited {text} {insert} {new} {edit} e =
+    let inside = e.is_edit.inside in
+    let start : ℕ = edit.start in
+    let front : List ℕ = take start text in
+    let back : List ℕ = drop edit.old_stop text in
+    let first : length front ≡ start = length-take-le start text (omega (arith, inside.start_le_stop, inside.stop_inside)) in
+    let long : length new ≡ start + (length insert + (length text - edit.old_stop)) =
+    omega (arith, ap length e.made, length-append front (insert ++ back), length-append insert back, length-drop edit.old_stop text, first) in
     record {
-      len = omega (arith, long);
-      front = take_at (take start text) (insert ++ drop stop text) start first;
-      back = sym (drop-drop (length insert) start (take start text ++ (insert ++ drop stop text))) ∙ (ap (drop (length insert)) (drop_at (take start text) (insert ++ drop stop text) start first) ∙ drop_at insert (drop stop text) (length insert) refl);
+      start_le_old = inside.start_le_stop;
+      old_inside = inside.stop_inside;
+      start_le_new = omega (arith, e.new_stop);
+      len = omega (arith, long, e.new_stop, inside.stop_inside);
+      front = ap (take start) e.made ∙ take_at front (insert ++ back) start first;
+      back = rw (e.made, e.new_stop, sym (drop-drop (length insert) start (front ++ (insert ++ back))), drop_at front (insert ++ back) start first) (drop_at insert back (length insert) refl);
       text_is = record {
-        utf8 = IsUtf8-append _ _ (IsUtf8-take text start is.utf8 edit.inside.start_boundary) (IsUtf8-append _ _ its (IsUtf8-drop text stop is.utf8 edit.inside.stop_boundary));
-        fits = omega (arith, long, edit.short);
+        utf8 = rw e.made (IsUtf8-append _ _ (IsUtf8-take text start e.is_text.utf8 inside.start_boundary)
+            (IsUtf8-append _ _ e.inserted (IsUtf8-drop text edit.old_stop e.is_text.utf8 inside.stop_boundary)));
+        fits = omega (arith, long, e.is_edit.short, inside.start_le_stop, inside.stop_inside);
       };
     }
 
@@ -47,8 +57,7 @@ pub look-enough : (xs ys zs : List ℕ) → IsUtf8 xs → 2 ≤ length (chars xs
 look-enough xs ys zs is two = grind (arith, common_steps, chars-append xs ys is, chars-append xs zs is, take-append-le 2 (chars xs) (chars ys) two, take-append-le 2 (chars xs) (chars zs) two)
 
 positive : (n : ℕ) (xs : List ℕ) → 2 ≤ length (chars (take n xs)) → 0 < n
-positive zero xs h = absurd (let none : length (chars []) ≡ 0 = ap length chars-nil in omega arith)
-positive (suc n) xs h = omega arith
+positive n xs w2 = grind (arith, common_steps, chars-nil)
 
 pub has_two-before : (text : List ℕ) (offset start : ℕ) → has_two text offset start ≡ true → offset < start
 unfolding has_two
@@ -87,32 +96,38 @@ bound-take (suc k) (t ∷ ts) = ap (λ n. t.len + n) (bound-take k ts)
 pub bound-same : (k : ℕ) (ts us : List Token) → take k ts ≡ take k us → bound ts k ≡ bound us k
 bound-same k ts us e = sym (bound-take k ts) ∙ (ap (λ xs. bound xs k) e ∙ bound-take k us)
 
-module _ {first : List ℕ → Token} (law : IsGrammar first) (text : List ℕ) (start stop : ℕ) (insert new : List ℕ) (is : IsText text) (edit : IsEdit text start stop insert) (ed : IsEdited text start stop insert new) where
-  pub start_inside : start + length insert ≤ length new
-  start_inside = let a = edit.inside.start_le_stop in let b = edit.inside.stop_inside in let l = ed.len in omega arith
-
+module _ {first : List ℕ → Token} (law : IsGrammar first) {text insert new : List ℕ} {edit : Change} (e : IsEditOf text edit insert new) where
   -- the kept front
-  pub kept_same : (k : ℕ) → k ≤ length (tokens_by first text) → (0 < k → has_two text (bound (tokens_by first text) k) start ≡ true) → take k (tokens_by first new) ≡ take k (tokens_by first text)
+  pub kept_same : (k : ℕ) → k ≤ length (tokens_by first text) → (0 < k → has_two text (bound (tokens_by first text) k) edit.start ≡ true)
+      → take k (tokens_by first new) ≡ take k (tokens_by first text)
   kept_same zero few two = refl
   kept_same (suc k) few two =
       let offset : ℕ = bound (tokens_by first text) (suc k) in
-      let cut : IsCutAt first text (tokens_by first text) (suc k) = at_bound law (suc k) text is in
-      let has : has_two text offset start ≡ true = two (omega arith) in
-      let before : offset < start = has_two-before text offset start has in
-      let middle : IsUtf8 (take (start - offset) (drop offset text)) = IsUtf8-between text offset start is.utf8 (omega arith) (IsCharBoundary-from_drop text offset cut.inside cut.past.utf8) edit.inside.start_boundary in
-      tokens_local law (suc k) text new is ed.text_is few (has_two-agree text new offset start middle ed.front has)
+      let cut : IsCutAt first text (tokens_by first text) (suc k) = at_bound law (suc k) text e.is_text in
+      let has : has_two text offset edit.start ≡ true = two (omega arith) in
+      let before : offset < edit.start = has_two-before text offset edit.start has in
+      let middle : IsUtf8 (take (edit.start - offset) (drop offset text)) =
+      IsUtf8-between text offset edit.start e.is_text.utf8 (omega arith) (IsCharBoundary-from_drop text offset cut.inside cut.past.utf8) e.is_edit.inside.start_boundary in
+      tokens_local law (suc k) text new e.is_text (edited e).text_is few (has_two-agree text new offset edit.start middle (edited e).front has)
 
   -- past the edit both texts have the same rest
-  pub same_rest : (p : ℕ) → start + length insert ≤ p → drop p new ≡ drop (p - (start + length insert) + stop) text
+  pub same_rest : (p : ℕ) → edit.new_stop ≤ p → drop p new ≡ drop (p - edit.new_stop + edit.old_stop) text
   same_rest p past =
-      let n : ℕ = p - (start + length insert) in
-      let here : start + length insert + n ≡ p = omega arith in
-      let there : stop + n ≡ n + stop = omega arith in
-      ap (λ q. drop q new) (sym here) ∙ (sym (drop-drop n (start + length insert) new) ∙ (ap (drop n) ed.back ∙ (drop-drop n stop text ∙ ap (λ q. drop q text) there)))
+      let n : ℕ = p - edit.new_stop in
+      let here : edit.new_stop + n ≡ p = omega arith in
+      let there : edit.old_stop + n ≡ n + edit.old_stop = omega arith in
+      ap (λ q. drop q new) (sym here) ∙ (sym (drop-drop n edit.new_stop new)
+      ∙ (ap (drop n) (edited e).back ∙ (drop-drop n edit.old_stop text ∙ ap (λ q. drop q text) there)))
 
   -- the meeting: from a bound past the edit that, moved back, is a bound of the old text, the tokens are the old ones
-  pub met_rest : (j i : ℕ) → start + length insert ≤ bound (tokens_by first new) j → bound (tokens_by first text) i ≡ bound (tokens_by first new) j - (start + length insert) + stop → drop j (tokens_by first new) ≡ drop i (tokens_by first text)
-  met_rest j i past met = grind (arith, common_steps, at_bound, same_rest)
+  pub met_rest : (j i : ℕ) → edit.new_stop ≤ bound (tokens_by first new) j → bound (tokens_by first text) i + edit.new_stop ≡ bound (tokens_by first new) j + edit.old_stop
+      → drop j (tokens_by first new) ≡ drop i (tokens_by first text)
+  met_rest j i past met = rw (
+    (at_bound law j new (edited e).text_is).rest,
+    (at_bound law i text e.is_text).rest,
+    same_rest
+        (bound (tokens_by first new) j) past,
+  ) (ap (λ n. tokens_by first (drop n text)) (omega (arith, met, past)))
 
 pub drop_of-take : (p n : ℕ) (xs : List ℕ) → drop p (take n xs) ≡ take (n - p) (drop p xs)
 drop_of-take zero n xs = grind (arith, common_steps)
@@ -180,10 +195,10 @@ three_parts text start stop less =
     ∙ (ap (λ rest. take start text ++ rest) (take-append-drop (stop - start) (drop start text)) ∙ take-append-drop start text)
 
 -- what was taken out is put back
-pub put_back : (text : List ℕ) (start stop : ℕ) (insert : List ℕ) → IsText text → IsUtf8 insert → IsEdit text start stop insert
-    → apply (apply text start stop insert) start (start + length insert) (slice_range text start stop) ≡ text
+pub put_back : {text insert new : List ℕ} {edit : Change} → IsEditOf text edit insert new
+    → apply new edit.start edit.new_stop (slice_range text edit.start edit.old_stop) ≡ text
 unfolding apply
-put_back text start stop insert is its edit = grind (arith, common_steps, edited, three_parts)
+put_back {text} {insert} {new} {edit} e = rw ((edited e).front, (edited e).back) (three_parts text edit.start edit.old_stop (edited e).start_le_old)
 
 pub OnOk-map : {X Y : Type 0} {P Q : Type 0} (r : Result X Y) → (P → Q) → OnOk r P → OnOk r Q
 OnOk-map r w1 w2 = grind (arith, common_steps)

@@ -1,5 +1,5 @@
 -- The head of a text, by where the tokens of the text are.
-use Rattle.std.proofs.Common.{◌≡◌, ℕ, zero, suc, ◌+◌, ◌≤◌, Bool, true, false, List, [], length, refl, sym, ap, ap₂, ◌∙◌, subst, arith, drop, length-take-le, Option, None, IsCharBoundary}
+use Rattle.std.proofs.Common.{◌≡◌, ◌↔◌, ℕ, zero, suc, ◌+◌, ◌≤◌, Bool, true, false, List, [], length, refl, sym, ap, ap₂, ◌∙◌, subst, arith, drop, length-take-le, Option, None, IsCharBoundary}
 use Rattle.std.proofs.lemmas.Grind.{common_steps}
 use Rattle.std.proofs.lemmas.Str.{IsCharBoundary-start}
 use Rattle.rustc_lexer.specs.{Edition, Token}
@@ -23,20 +23,10 @@ body_by : (text : List ℕ) → body_start text ≡ shebang_len text + bound (he
 body_by text = grind (arith, common_steps, length-take-le, bound-take)
 
 pub whole_head : (text : List ℕ) → IsText text → (head : Head) → IsHeadOf text head → IsHeadIn whole_by text head
-whole_head text is head h =
-    let end = h.end_is ∙ (body_by text ∙ ap₂ (λ n (ts : List Token). n + bound ts (length ts)) (sym h.shebang_is) (sym h.tokens_are)) in
-    record {
-      layout_is = λ first i. record { start = sym h.shebang_is i; head = sym h.tokens_are i; body = tokens_by first (drop (sym h.end_is i) text) };
-      bare = h.bare;
-      ends = end;
-      cuts = λ k few. subst (IsCharBoundary text) (ap₂ (λ n (ts : List Token). n + bound ts k) (sym h.shebang_is) (sym h.tokens_are)) (head_cuts text is k (omega (arith, few, ap (λ (ts : List Token). length ts) h.tokens_are)));
-    }
+whole_head text is head h = grind (arith, common_steps, body_by, head_cuts)
 
 pub is_page : (text : List ℕ) (head : Head) → IsHeadIn whole_by text head → IsHeadOf text head
-is_page text head h =
-    let start : head.shebang_len ≡ shebang_len text = sym (ap (λ (l : Layout). l.start) (h.layout_is (first_in newest))) in
-    let tokens : tokens_of_head head ≡ head_tokens text = sym (ap (λ (l : Layout). l.head) (h.layout_is (first_in newest))) in
-    record { shebang_is = start; tokens_are = tokens; bare = h.bare; end_is = h.ends ∙ (ap₂ (λ n (ts : List Token). n + bound ts (length ts)) start tokens ∙ sym (body_by text)) }
+is_page text head h = grind (arith, common_steps, h.layout_is (first_in newest), body_by)
 
 -- ---- the head of a text, a whole document or a part of one
 
@@ -57,8 +47,7 @@ start_is true text head h = (is_page text head h).shebang_is
 start_is false text head h = sym (ap (λ (l : Layout). l.start) (h.layout_is (first_in newest)))
 
 pub edition_are : (whole : Bool) (edition : Edition) (text : List ℕ) → IsText text → tokens_in (layout_in whole (first_in edition) text) ≡ edition_tokens_in whole edition text
-edition_are true edition text is = in_edition text is edition
-edition_are false edition text is = refl
+edition_are whole edition text w3 = grind (arith, common_steps, in_edition)
 
 module _ {layout : (List ℕ → Token) → List ℕ → Layout} {text : List ℕ} {head : Head} (h : IsHeadIn layout text head) where
   pub boundary_of : IsCharBoundary text head.body
@@ -84,11 +73,12 @@ same-parts : (s s' : ℕ) (f f' : Option Token) → (f ≡ None → s ≡ 0) →
 same-parts s s' f f' w4 w5 w6 = grind (arith, common_steps)
 
 module _ {layout : (List ℕ → Token) → List ℕ → Layout} {text made : List ℕ} {old now : Head} (old_is : IsHeadIn layout text old) (now_is : IsHeadIn layout made now) (first : List ℕ → Token) (start : ℕ) where
-  pub keeps_head : (old ≡ now) × (old.body ≤ start) → KeepsHead (by_head old first text) (by_head now first made) start
-  keeps_head s = (omega (arith, s.1, body_at old_is first), ap (λ (h : Head). h.shebang_len) s.0, ap tokens_of_head s.0)
-
-  pub head_kept : KeepsHead (by_head old first text) (by_head now first made) start → (old ≡ now) × (old.body ≤ start)
-  head_kept k =
-      let parts = same-parts old.space_len now.space_len old.frontmatter now.frontmatter old_is.bare now_is.bare k.2 in
-      let end = old_is.ends ∙ (ap₂ (λ n (ts : List Token). n + bound ts (length ts)) k.1 k.2 ∙ sym now_is.ends) in
-      ((λ i. record { shebang_len = k.1 i; space_len = parts.0 i; frontmatter = parts.1 i; body = end i }), omega (arith, k.0, body_at old_is first))
+  pub head_stays : {of to : Layout} → of ≡ by_head old first text → to ≡ by_head now first made → KeepsHead of to start ↔ ((old ≡ now) × (old.body ≤ start))
+  head_stays of_is to_is = rw (of_is, to_is)
+      (kept, λ s. (omega (arith, s.1, body_at old_is first), ap (λ (h : Head). h.shebang_len) s.0, ap tokens_of_head s.0))
+    where
+      kept : KeepsHead (by_head old first text) (by_head now first made) start → (old ≡ now) × (old.body ≤ start)
+      kept k =
+          let parts = same-parts old.space_len now.space_len old.frontmatter now.frontmatter old_is.bare now_is.bare k.2 in
+          let end = old_is.ends ∙ (ap₂ (λ n (ts : List Token). n + bound ts (length ts)) k.1 k.2 ∙ sym now_is.ends) in
+          ((λ i. record { shebang_len = k.1 i; space_len = parts.0 i; frontmatter = parts.1 i; body = end i }), omega (arith, k.0, body_at old_is first))

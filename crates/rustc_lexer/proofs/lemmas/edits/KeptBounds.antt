@@ -3,7 +3,7 @@ use Rattle.std.proofs.Common.{◌≡◌, ℕ, ◌+◌, ◌-◌, ◌^◌, ◌<◌
 use Rattle.std.proofs.Math.Seq.{drop-append_seam}
 use Rattle.std.proofs.lemmas.Bool.{cases_lt}
 use Rattle.std.proofs.lemmas.List.{take-append-le}
-use Rattle.std.proofs.lemmas.Str.{IsCharBoundary-from_rest, IsUtf8-drop}
+use Rattle.std.proofs.lemmas.Str.{IsCharBoundary-from_rest}
 use Rattle.std.proofs.lemmas.Grind.{common_steps}
 use Rattle.rustc_lexer.specs.declared.relex.checkpoints.Checkpoints.{Checkpoints}
 use Rattle.rustc_lexer.specs.declared.relex.front.TokenStart.{TokenStart}
@@ -17,7 +17,7 @@ use Rattle.rustc_lexer.specs.Tokens.{bound, tokens_by}
 use Rattle.rustc_lexer.specs.means.Document.{AreKeptOf, tokens_of_head}
 use Rattle.rustc_lexer.specs.Partition.{Layout}
 use Rattle.rustc_lexer.specs.means.Pieces.{AreCut}
-use Rattle.rustc_lexer.proofs.lemmas.edits.Bounds.{bound-last, bound_mono, cuts}
+use Rattle.rustc_lexer.proofs.lemmas.edits.Bounds.{bound-last, bound_mono, cuts, rest_is}
 use Rattle.rustc_lexer.proofs.lemmas.heads.ByTokens.{bound-append}
 use Rattle.rustc_lexer.proofs.lemmas.edits.FrontAndBack.{bound-same}
 use Rattle.rustc_lexer.proofs.lemmas.edits.Heads.{all_are as tokens_are}
@@ -31,7 +31,7 @@ module _ {first : List ℕ → Token} (law : IsGrammar first) {layout : (List �
   body = drop head.body text
 
   body_text : IsText body
-  body_text = let fits = are.0.fits in record { utf8 = IsUtf8-drop text head.body are.0.utf8 are.3; fits = omega (arith, length-drop head.body text) }
+  body_text = rest_is text head.body are.0 are.3
 
   all_are : tokens ≡ fronts ++ tokens_by first body
   all_are = are.1 ∙ tokens_are are.2 first

@@ -30,12 +30,23 @@ stand_alike old text offset start two is its same inside cut late here =
     grind (arith, common_steps, leb_tells, has_two-late, take-take, IsCharBoundary-from_take, IsUtf8-take, has_two-same)
 
 -- the bound past one more token, and whether two characters stand behind it
-pub next_stands : {X : Type 0} (f : X → ℕ) (xs : List X) {old text : List ℕ} {ts : List Token} {start : ℕ} → IsFront old ts (map f xs) text start → IsUtf8 text → start ≤ length text → (at : TokenStart) → IsBound ts at → at.index < length xs → (x : X) (len : ℕ) → len ≡ f x → x ≡ get_or xs at.index x
+pub next_stands : {X : Type 0} (f : X → ℕ) (xs : List X) {old text : List ℕ} {ts : List Token} {start : ℕ} → IsFront old ts (map f xs) text start → IsUtf8 text
+    → start ≤ length text → (at : TokenStart) → IsBound ts at → at.index < length xs → (x : X) (len : ℕ) → len ≡ f x → x ≡ get_or xs at.index x
     → (two : Bool) → (start ≤ at.offset + len → two ≡ false) → (IsCharBoundary text (at.offset + len) → two ≡ has_two text (at.offset + len) start)
     → IsBound ts (record { index = at.index + 1; offset = at.offset + len }) × (two ≡ has_two old (at.offset + len) start)
 next_stands f xs {old} {text} {ts} {start} is its inside at here_is few x len len_is x_is two late here =
-    let next : at.offset + len ≡ bound ts (at.index + 1) = omega (arith, here_is.1, as_long f xs ts is.lengths_are at.index x len len_is x_is few, bound-next ts at.index no_token (omega (arith, few, as_many f xs ts is.lengths_are))) in
-    ((omega (arith, few, as_many f xs ts is.lengths_are), next), stand_alike old text (at.offset + len) start two is.utf8 its is.same inside (rw next (is.cuts (at.index + 1) (omega (arith, few, as_many f xs ts is.lengths_are)))) late here)
+    let next : at.offset + len ≡ bound ts (at.index + 1) =
+    omega (
+      arith,
+      here_is.1,
+      as_long f xs ts is.lengths_are at.index x len len_is x_is few,
+      bound-next ts at.index no_token
+          (omega (arith, few, as_many f xs ts is.lengths_are)),
+    ) in (
+      (omega (arith, few, as_many f xs ts is.lengths_are), next),
+      stand_alike old text (at.offset + len) start two is.utf8 its is.same inside
+          (rw next (is.cuts (at.index + 1) (omega (arith, few, as_many f xs ts is.lengths_are)))) late here,
+    )
 
 -- where two characters stand before an offset, it is past them
 pub stood_before : (offset start : ℕ) (two : Bool) → (start ≤ offset → two ≡ false) → two ≡ true → offset ≤ start

@@ -1,7 +1,7 @@
 -- A list of edits, one edit at a time.
-use Rattle.std.proofs.Common.{◌≡◌, ℕ, zero, suc, ◌+◌, ◌-◌, ◌<◌, ◌≤◌, min, List, [], ◌∷◌, length, take, drop, get_or, refl, sym, ap, ◌∙◌, subst, arith, length-drop, length-take-le, drop-drop, Option, IfSome}
+use Rattle.std.proofs.Common.{◌≡◌, ℕ, ◌+◌, ◌-◌, ◌<◌, ◌≤◌, min, List, [], ◌∷◌, ◌++◌, length, take, drop, get_or, refl, sym, ap, ◌∙◌, subst, arith, length-drop, length-take-le, drop-drop, Option, IfSome}
 use Rattle.std.specs.List.{All}
-use Rattle.std.proofs.lemmas.List.{length-take}
+use Rattle.std.proofs.lemmas.List.{length-take, take_more}
 use Rattle.std.proofs.lemmas.List.Elements.{All-cons, All-head, All-nil, All-tail}
 use Rattle.std.proofs.lemmas.Option.{slice_get-get_or}
 use Rattle.std.proofs.lemmas.Grind.{common_steps}
@@ -16,17 +16,16 @@ use Rattle.rustc_lexer.specs.Kept.{AreKept}
 use Rattle.rustc_lexer.specs.Partition.{Layout}
 use Rattle.rustc_lexer.specs.means.EditList.{AreLeast, StayAtEnds}
 
-pub apply-next : (text : List ℕ) (es : List Edit) (n : ℕ) (d : Edit) → n < length es → apply_list text (take (suc n) es) ≡ applied (apply_list text (take n es)) (get_or es n d)
-apply-next text [] n d few = absurd (omega arith)
-apply-next text (e ∷ es) zero d few = refl
-apply-next text (e ∷ es) (suc n) d few = apply-next (applied text e) es n d (omega arith)
+pub apply-last : (text : List ℕ) (es : List Edit) (e : Edit) → apply_list text (es ++ e ∷ []) ≡ applied (apply_list text es) e
+apply-last text [] e = refl
+apply-last text (f ∷ es) e = apply-last (applied text f) es e
 
 abbrev pub none : Edit
 none = record { start = 0; stop = 0; insert = record { ref_ptr = (0, 0); now = [] } }
 
 -- one more edit: what the text is then, and what was lexed by then
 pub text-more : (text now after : List ℕ) (es : List Edit) (n : ℕ) → n < length es → now ≡ apply_list text (take n es) → after ≡ applied now (get_or es n none) → after ≡ apply_list text (take (n + 1) es)
-text-more text now after es n few is made = grind (arith, common_steps, apply-next)
+text-more text now after es n few is made = rw (take_more es n none few, apply-last text (take n es) (get_or es n none), sym is) made
 
 -- the steps that one edit takes
 abbrev pub IsStepped : (List ℕ → Layout) → List ℕ → ℕ → ℕ → List ℕ → ℕ → ℕ → Type 0
@@ -47,18 +46,15 @@ module _ (layout : List ℕ → Layout) where
   abbrev IsSteppedBy : List ℕ → Edit → ℕ → ℕ → Type 0
   IsSteppedBy text e before after = IsStepped layout text e.start e.stop e.insert.now before after
 
-  stepped-next : (text : List ℕ) (es : List Edit) (n : ℕ) (d : Edit) (before between after : ℕ) → n < length es → AreStepped layout text (take n es) before between → IsSteppedBy (apply_list text (take n es)) (get_or es n d) between after → AreStepped layout text (take (suc n) es) before after
-  stepped-next text [] n d before between after few are is = absurd (omega arith)
-  stepped-next text (e ∷ es) zero d before between after few are is = (after, subst (λ (k : ℕ). IsSteppedBy text e k after) are is, refl)
-  stepped-next text (e ∷ es) (suc n) d before between after few are is = (are.0, are.1, stepped-next (applied text e) es n d are.0 between after (omega arith) are.2 is)
+  stepped-last : (text : List ℕ) (es : List Edit) (e : Edit) (before between after : ℕ) → AreStepped layout text es before between → IsSteppedBy (apply_list text es) e between after
+      → AreStepped layout text (es ++ e ∷ []) before after
+  stepped-last text [] e before between after are is = (after, subst (λ (k : ℕ). IsSteppedBy text e k after) are is, refl)
+  stepped-last text (f ∷ es) e before between after are is = (are.0, are.1, stepped-last (applied text f) es e are.0 between after are.2 is)
 
   pub stepped-more : (text now : List ℕ) (es : List Edit) (n before between after : ℕ) → n < length es → now ≡ apply_list text (take n es) → AreStepped layout text (take n es) before between
       → IsStepped layout now (get_or es n none).start (get_or es n none).stop (get_or es n none).insert.now between after → AreStepped layout text (take (n + 1) es) before after
   stepped-more text now es n before between after few is are one =
-      let e : Edit = get_or es n none in
-      let more : suc n ≡ n + 1 = omega arith in
-      let here : IsSteppedBy (apply_list text (take n es)) e between after = subst (λ xs. IsStepped layout xs e.start e.stop e.insert.now between after) is one in
-      subst (λ k. AreStepped layout text (take k es) before after) more (stepped-next text es n none before between after few are here)
+      rw (take_more es n none few) (stepped-last text (take n es) (get_or es n none) before between after are (rw (sym is) one))
 
   -- where memory is refused, the steps are at most those of one edit more
   pub stop-stepped : (text now : List ℕ) (es : List Edit) (n before between after : ℕ) → n < length es → now ≡ apply_list text (take n es) → AreStepped layout text (take n es) before between → between ≤ after
@@ -69,15 +65,16 @@ module _ (layout : List ℕ → Layout) where
 
 -- one more edit keeps no more
 module _ (layout : List ℕ → Layout) (r : Relexed) where
-  least-next : (text : List ℕ) (es : List Edit) (n : ℕ) (d : Edit) (f b front back next_front next_back : ℕ) → n < length es → next_front ≡ min front r.kept_front → next_back ≡ min back r.kept_back → AreLeast layout text (take n es) f b front back
-      → IsRelexed layout (apply_list text (take n es)) (get_or es n d).start (get_or es n d).stop (get_or es n d).insert.now r → AreLeast layout text (take (suc n) es) f b next_front next_back
-  least-next text [] n d f b front back next_front next_back few front_is back_is are is = absurd (omega arith)
-  least-next text (e ∷ es) zero d f b front back next_front next_back few front_is back_is are is = grind (arith, common_steps)
-  least-next text (e ∷ es) (suc n) d f b front back next_front next_back few front_is back_is are is = grind (arith, common_steps, least-next (applied text e) es n d (min f are.0.kept_front) (min b are.0.kept_back) front back next_front next_back (omega arith) front_is back_is are.2 is)
+  least-last : (text : List ℕ) (es : List Edit) (e : Edit) (f b front back next_front next_back : ℕ) → next_front ≡ min front r.kept_front → next_back ≡ min back r.kept_back
+      → AreLeast layout text es f b front back → IsRelexed layout (apply_list text es) e.start e.stop e.insert.now r → AreLeast layout text (es ++ e ∷ []) f b next_front next_back
+  least-last text [] e f b front back next_front next_back front_is back_is are is = grind (arith, common_steps)
+  least-last text (d ∷ es) e f b front back next_front next_back front_is back_is are is =
+      (are.0, are.1, least-last (applied text d) es e (min f are.0.kept_front) (min b are.0.kept_back) front back next_front next_back front_is back_is are.2 is)
 
   pub least-more : (text now : List ℕ) (es : List Edit) (n f b front back next_front next_back : ℕ) → n < length es → now ≡ apply_list text (take n es) → next_front ≡ min front r.kept_front → next_back ≡ min back r.kept_back → AreLeast layout text (take n es) f b front back
       → IsRelexed layout now (get_or es n none).start (get_or es n none).stop (get_or es n none).insert.now r → AreLeast layout text (take (n + 1) es) f b next_front next_back
-  least-more text now es n f b front back next_front next_back few is front_is back_is are one = grind (arith, common_steps, least-next)
+  least-more text now es n f b front back next_front next_back few is front_is back_is are one =
+      rw (take_more es n none few) (least-last text (take n es) (get_or es n none) f b front back next_front next_back front_is back_is are (rw (sym is) one))
 
 -- the least of some numbers is the greatest that is at most each of them
 greatest-next : (read : Relexed → ℕ) (r : Relexed) (rs : List Relexed) (most n : ℕ) → IsGreatest (λ n. (n ≤ min most (read r)) × All (λ (c : Relexed). n ≤ read c) rs) n → IsGreatest (λ n. (n ≤ most) × All (λ (c : Relexed). n ≤ read c) (r ∷ rs)) n
@@ -88,19 +85,17 @@ greatest-next read r rs most n is = (
 
 pub greatest-of : (layout : List ℕ → Layout) (text : List ℕ) (es : List Edit) (f b front back : ℕ) → AreLeast layout text es f b front back
     → (each : List Relexed) × AreRelexed layout text es each × IsGreatest (λ n. (n ≤ f) × All (λ (c : Relexed). n ≤ c.kept_front) each) front × IsGreatest (λ n. (n ≤ b) × All (λ (c : Relexed). n ≤ c.kept_back) each) back
-greatest-of layout text [] f b front back are =
-    ([], refl, ((omega (arith, are.0), All-nil (λ (c : Relexed). front ≤ c.kept_front)), λ m holds. omega (arith, are.0, holds.0)), ((omega (arith, are.1), All-nil (λ (c : Relexed). back ≤ c.kept_back)), λ m holds. omega (arith, are.1, holds.0)))
+greatest-of layout text [] f b front back are = grind (arith, common_steps)
 greatest-of layout text (e ∷ es) f b front back are =
     let later = greatest-of layout (applied text e) es (min f are.0.kept_front) (min b are.0.kept_back) front back are.2 in
     (are.0 ∷ later.0, (are.1, later.1), greatest-next (λ c. c.kept_front) are.0 later.0 f front later.2, greatest-next (λ c. c.kept_back) are.0 later.0 b back later.3)
 
-edits-next : (text : List ℕ) (es : List Edit) (n : ℕ) (d : Edit) → n < length es → AreEdits text (take n es) → IsEdit (apply_list text (take n es)) (get_or es n d).start (get_or es n d).stop (get_or es n d).insert.now → AreEdits text (take (suc n) es)
-edits-next text [] n d few are is = absurd (omega arith)
-edits-next text (e ∷ es) zero d few are is = (is, tt)
-edits-next text (e ∷ es) (suc n) d few are is = (are.0, edits-next (applied text e) es n d (omega arith) are.1 is)
+edits-last : (text : List ℕ) (es : List Edit) (e : Edit) → AreEdits text es → IsEdit (apply_list text es) e.start e.stop e.insert.now → AreEdits text (es ++ e ∷ [])
+edits-last text [] e are is = (is, tt)
+edits-last text (d ∷ es) e are is = (are.0, edits-last (applied text d) es e are.1 is)
 
 pub edits-more : (text now : List ℕ) (es : List Edit) (n : ℕ) → n < length es → now ≡ apply_list text (take n es) → AreEdits text (take n es) → IsEdit now (get_or es n none).start (get_or es n none).stop (get_or es n none).insert.now → AreEdits text (take (n + 1) es)
-edits-more text now es n few same are is = grind (arith, common_steps, edits-next)
+edits-more text now es n few same are is = rw (take_more es n none few) (edits-last text (take n es) (get_or es n none) are (rw (sym same) is))
 
 -- which edit stopped the list, and why
 pub stop_of : (text : List ℕ) (es : List Edit) (s : EditStop) → stop_at s < length es → IsRefusedOn s text (get_or es (stop_at s) none) → IsStop s text es

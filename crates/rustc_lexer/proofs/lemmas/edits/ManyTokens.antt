@@ -1,8 +1,9 @@
--- Relexing by many tokens at once.
-use Rattle.std.proofs.lemmas.Grind.{common_steps}
-use Rattle.std.proofs.Common.{◌≡◌, ℕ, ◌+◌, ◌<◌, ◌≤◌, List, ◌++◌, length, take, drop, sym, ap, ◌∙◌, subst, arith, ap₂, length-drop, drop-drop, take-add, IsCharBoundary, IsUtf8}
+-- Lexing and relexing by many tokens at once: each block is a buffer that is filled with the next tokens.
+use Rattle.std.proofs.Common.{◌≡◌, ℕ, ◌+◌, ◌-◌, ◌<◌, ◌≤◌, List, ◌++◌, length, map, take, drop, sym, ap, ap₂, ◌∙◌, subst, arith, length-append, length-drop, length-take-le, take_at, drop-drop, take-add, IsCharBoundary, IsUtf8}
 use Rattle.std.proofs.lemmas.Bool.{cases_lt}
-use Rattle.std.proofs.lemmas.Str.{IsUtf8-drop, IsCharBoundary-from_drop}
+use Rattle.std.proofs.lemmas.List.{map-id}
+use Rattle.std.proofs.lemmas.Str.{IsCharBoundary-from_drop}
+use Rattle.std.proofs.lemmas.Grind.{common_steps}
 use Rattle.rustc_lexer.specs.declared.relex.front.TokenStart.{TokenStart}
 use Rattle.rustc_lexer.specs.declared.relex.relexing.Relexing.{Relexing}
 use Rattle.rustc_lexer.specs.{Token}
@@ -11,36 +12,76 @@ use Rattle.rustc_lexer.specs.Relexing.{known}
 use Rattle.rustc_lexer.specs.Locality.{IsGrammar}
 use Rattle.rustc_lexer.specs.Tokens.{IsFilledTo, bound, tokens_by}
 use Rattle.rustc_lexer.specs.laws.Cuts.{at_bound}
-use Rattle.rustc_lexer.proofs.lemmas.edits.Bounds.{number_le_bound, rises}
+use Rattle.rustc_lexer.proofs.lemmas.edits.Bounds.{number_le_bound, rest_is, rises}
+use Rattle.rustc_lexer.proofs.lemmas.edits.KeptFront.{bound-shift}
+use Rattle.rustc_lexer.proofs.lemmas.tokens.Progress.{IsLexedTo, lexed_offset}
 
 -- so many tokens of what is left of a text
 module _ {first : List ℕ → Token} (law : IsGrammar first) (text left : List ℕ) (is : IsText text) (at : ℕ) (boundary : IsCharBoundary text at) (left_is : left ≡ drop at text) (count bytes : ℕ) (few : count ≤ length (tokens_by first left)) (bytes_is : bytes ≡ bound (tokens_by first left) count) where
-  rest_is : IsText left
-  rest_is =
-      let rest : IsText (drop at text) = record { utf8 = IsUtf8-drop text at is.utf8 boundary; fits = let f = is.fits in omega (arith, length-drop at text) } in
-      subst IsText (sym left_is) rest
+  left_text : IsText left
+  left_text = rw left_is (rest_is text at is boundary)
 
   pub block_inside : at + bytes ≤ length text
   block_inside =
-      let cut = at_bound law count left rest_is in
+      let cut = at_bound law count left left_text in
       let inside = boundary.0 in
       omega (arith, cut.inside, bytes_is, ap length left_is, length-drop at text, inside)
 
   pub block_boundary : IsCharBoundary text (at + bytes)
   block_boundary =
-      let cut = at_bound law count left rest_is in
+      let cut = at_bound law count left left_text in
       let same : drop (at + bytes) text ≡ drop (bound (tokens_by first left) count) left = sym (drop-drop bytes at text) ∙ (ap (drop bytes) (sym left_is) ∙ ap (λ n. drop n left) bytes_is) in
       IsCharBoundary-from_drop text (at + bytes) block_inside (subst IsUtf8 (sym same) cut.past.utf8)
 
   pub block_count : count ≤ bytes
-  block_count = omega (arith, bytes_is, number_le_bound (tokens_by first left) count few (rises law left rest_is))
+  block_count = omega (arith, bytes_is, number_le_bound (tokens_by first left) count few (rises law left left_text))
 
 -- behind the tokens that were lexed, so many more
 pub more_lexed : (new left items block : List Token) (at past : Relexing) (count : ℕ) → past.front ≡ at.front → past.lexed ≡ at.lexed + count → items ≡ take at.lexed (drop at.front.index new) → left ≡ drop (known at) new → block ≡ take count left → items ++ block ≡ take past.lexed (drop past.front.index new)
 more_lexed new left items block at past count front lexed so left_is block_is =
-    ap₂ (λ (xs ys : List Token). xs ++ ys) so (block_is ∙ ap (take count) (left_is ∙ sym (drop-drop at.lexed at.front.index new)))
-    ∙ (sym (take-add at.lexed count (drop at.front.index new)) ∙ ap₂ (λ (n : ℕ) (b : TokenStart). take n (drop b.index new)) (sym lexed) (sym front))
+    grind (arith, common_steps, drop-drop, take-add)
 
 -- a buffer with room has some token of a text before an offset
 pub some_filled : {X : Type 0} (form : Token → X) (end : ℕ) (tokens : List Token) (buffer filled : List X) (count : ℕ) → IsFilledTo form end tokens buffer filled count → 0 < length buffer → 0 < end → 0 < count
 some_filled form end tokens buffer filled count is room some = grind (arith, common_steps, cases_lt)
+
+-- what stands at the front of a buffer that was filled with tokens as they are
+pub record IsFront (tokens : List Token) (filled : List Token) (count : ℕ) : Type 0 where
+  pub few : count ≤ length tokens
+  pub within : count ≤ length filled
+  pub front : take count filled ≡ take count tokens
+
+-- the front of a buffer that holds so many tokens, as they are
+pub front_of : (tokens buffer filled : List Token) (count : ℕ) → count ≤ length tokens → filled ≡ map (λ (t : Token). t) (take count tokens) ++ drop count buffer → IsFront tokens filled count
+front_of tokens buffer filled count few is = grind (arith, common_steps, length-take-le, map-id, length-append, take_at)
+
+-- the tokens of a block stand behind those that were lexed before it
+lexed_block : {first : List ℕ → Token} (law : IsGrammar first) (text left : List ℕ) (items block : List Token) (offset count bytes : ℕ) → IsText text → IsLexedTo first text items offset → left ≡ drop offset text → count ≤ length (tokens_by first left)
+    → block ≡ take count (tokens_by first left) → bytes ≡ bound (tokens_by first left) count → IsLexedTo first text (items ++ block) (offset + bytes)
+lexed_block law text left items block offset count bytes is at here few block_is bytes_is =
+    grind (arith, common_steps, at_bound, length-append, length-take-le, length-drop, take-add, bound-shift)
+
+-- one block more
+pub record IsBlock (first : List ℕ → Token) (text : List ℕ) (items filled : List Token) (offset count bytes : ℕ) : Type 0 where
+  pub more : IsLexedTo first text (items ++ take count filled) (offset + bytes)
+  pub number : length (take count filled) ≡ count
+  pub few : offset + bytes ≤ length text
+  pub some : 0 < bytes
+
+-- a stepper whose grammar is the one that it had at first fills the buffer with the tokens of what is left
+pub block_more : {first now : List ℕ → Token} (law : IsGrammar first) (text left : List ℕ) (items buffer filled : List Token) (offset count bytes : ℕ)
+    → now ≡ first → IsText text → IsLexedTo first text items offset → offset < length text → left ≡ drop offset text → 0 < length buffer
+    → (end : ℕ) → end ≡ length text - offset → IsFilledTo (λ (t : Token). t) end (tokens_by now left) buffer filled count
+    → bytes ≡ bound (tokens_by now left) count → IsBlock first text items filled offset count bytes
+block_more law text left items buffer filled offset count bytes same is at more here places end whole fills long =
+    let long = rw same at long in
+    let fills = rw same at fills in
+    let front = front_of _ buffer filled count fills.few fills.tokens in
+    let next = lexed_block law text left items (take count filled) offset count bytes is at here front.few front.front long in
+    let fewer = block_count law text left is offset (lexed_offset law text items offset is at).boundary here count bytes fills.few long in
+    record {
+      more = next;
+      number = length-take-le count filled front.within;
+      few = (lexed_offset law text _ _ is next).inside;
+      some = omega (arith, fewer, some_filled (λ (t : Token). t) end _ buffer filled count fills places (omega (arith, whole)));
+    }

@@ -11,8 +11,7 @@ use Rattle.rustc_lexer.proofs.lemmas.edits.KeptFront.{bound-next}
 
 -- a bound that is past the first one has a token before it
 pub some_before : (tokens : List Token) (first n here offset : ℕ) → here ≡ first + bound tokens n → first ≤ offset → offset < here → 0 < n
-some_before tokens first zero here offset is le past = absurd (omega arith)
-some_before tokens first (suc n) here offset is le past = omega arith
+some_before tokens first n here offset w5 w6 w7 = grind (arith, common_steps)
 
 -- one token back
 module _ (tokens : List Token) (first n here : ℕ) (d : Token) (is : here ≡ first + bound tokens n) (some : 0 < n) (few : n ≤ length tokens) where
@@ -27,8 +26,8 @@ module _ (tokens : List Token) (first n here : ℕ) (d : Token) (is : here ≡ f
   pub ahead_is : here + (get_or tokens n d).len ≡ first + bound tokens (n + 1)
   ahead_is = omega (arith, is, bound-next tokens n d few)
 
-  pub ahead_fits : first + bound tokens (length tokens) < 2 ^ 32 → here + (get_or tokens n d).len < 2 ^ 64
-  ahead_fits fits = omega (arith, ahead_is, fits, bound_mono tokens (n + 1) (length tokens) (omega arith))
+  pub ahead_fits : first + bound tokens (length tokens) < 2 ^ 32 → (most : ℕ) → 2 ^ 32 ≤ most → here + (get_or tokens n d).len < most
+  ahead_fits fits most le = omega (arith, ahead_is, fits, le, bound_mono tokens (n + 1) (length tokens) (omega arith))
 
   pub ends_past : (offset : ℕ) → offset < here + (get_or tokens n d).len → offset < first + bound tokens (n + 1)
   ends_past offset past = omega (arith, ahead_is, past)

@@ -1,16 +1,16 @@
 -- What an edit keeps: there are counts of it.
-use Rattle.std.proofs.Common.{◌≡◌, ◌⊎◌, ℕ, zero, suc, ◌+◌, ◌-◌, ◌<◌, ◌≤◌, Bool, true, false, cond, List, [], ◌∷◌, length, take, refl, sym, ap, subst, arith, length-take, inl, inr, eq-or-lt_of_le, IsUtf8, IsCharBoundary}
+use Rattle.std.proofs.Common.{◌≡◌, ◌⊎◌, ℕ, zero, suc, ◌+◌, ◌-◌, ◌<◌, ◌≤◌, List, length, take, refl, sym, ap, subst, arith, length-take, inl, inr, eq-or-lt_of_le}
 use Rattle.std.proofs.lemmas.Bool.{cases_lt, eqb-false, eqb-true}
 use Rattle.std.proofs.lemmas.Grind.{common_steps}
-use Rattle.rustc_lexer.specs.declared.relex.relexing.Relexed.{Relexed}
+use Rattle.rustc_lexer.specs.declared.relex.relexing.{Change.Change, Relexed.Relexed}
 use Rattle.rustc_lexer.specs.{Token}
-use Rattle.rustc_lexer.specs.Classes.{IsText}
-use Rattle.rustc_lexer.specs.Edits.{IsEdit, IsMeeting, IsRelexed, apply, part_by}
-use Rattle.rustc_lexer.specs.Locality.{IsGrammar, has_two}
+use Rattle.rustc_lexer.specs.Edits.{IsMeeting, IsRelexedTo, part_by}
+use Rattle.rustc_lexer.specs.Relexing.{IsEditOf}
+use Rattle.rustc_lexer.specs.Locality.{IsGrammar}
 use Rattle.rustc_lexer.specs.Tokens.{bound, tokens_by}
 use Rattle.rustc_lexer.specs.means.Relexing.{kept_front}
 use Rattle.rustc_lexer.proofs.lemmas.edits.Bounds.{bound-last, cuts}
-use Rattle.rustc_lexer.proofs.lemmas.edits.FrontAndBack.{IsEdited, edited, kept_same, start_inside}
+use Rattle.rustc_lexer.proofs.lemmas.edits.FrontAndBack.{edited, kept_same}
 use Rattle.rustc_lexer.proofs.lemmas.edits.KeptFront.{kept_few, kept_tells}
 use Rattle.rustc_lexer.proofs.lemmas.edits.Layouts.{bare}
 
@@ -60,63 +60,58 @@ module _ (old new : List Token) (stop new_stop number : ℕ) where
 
 -- ---- an edit
 
-module _ {first : List ℕ → Token} (law : IsGrammar first) (text : List ℕ) (is : IsText text) (start stop : ℕ) (insert : List ℕ) (its : IsUtf8 insert) (edit : IsEdit text start stop insert) where
-  abbrev new_text : List ℕ
-  new_text = apply text start stop insert
-
+module _ {first : List ℕ → Token} (law : IsGrammar first) {text insert new_text : List ℕ} {edit : Change} (e : IsEditOf text edit insert new_text) where
   abbrev old : List Token
   old = tokens_by first text
 
   abbrev new : List Token
   new = tokens_by first new_text
 
-  abbrev new_stop : ℕ
-  new_stop = start + length insert
-
   abbrev kept : ℕ
-  kept = kept_front text old start
-
-  ed : IsEdited text start stop insert new_text
-  ed = edited text start stop insert is its edit
+  kept = kept_front text old edit.start
 
   few : kept ≤ length old
-  few = kept_few text old start is.utf8 (cuts law text is)
+  few = kept_few text old edit.start e.is_text.utf8 (cuts law text e.is_text)
 
   -- the tokens of the kept front are tokens of the new text
   pub front_same : take kept new ≡ take kept old
-  front_same = kept_same law text start stop insert new_text is edit ed kept few (((kept_tells text old start is.utf8 (cuts law text is) kept few).1 (omega arith)))
+  front_same = kept_same law e kept few ((kept_tells text old edit.start e.is_text.utf8 (cuts law text e.is_text) kept few).1 (omega arith))
 
   pub kept_new : kept ≤ length new
   kept_new = let long : length (take kept new) ≡ length (take kept old) = ap length front_same in omega (arith, few, length-take kept new, length-take kept old)
 
+  abbrev Meets : ℕ → ℕ → Type 0
+  Meets = IsMeeting (part_by first text) (part_by first new_text) edit.old_stop edit.new_stop
+
   -- both ends meet
-  ends_meet : (back : ℕ) × IsMeeting (part_by first text) (part_by first new_text) stop new_stop (length new) back
-  ends_meet = (
-    0,
-    record {
-      number_inside = omega arith;
-      past_edit = omega (arith, bound-last law new_text ed.text_is, start_inside law text start stop insert new_text is edit ed);
-      past_head = omega arith;
-      old_number = length old;
-      past_old_head = omega arith;
-      back_is = omega arith;
-      same_offset = omega (arith, bound-last law new_text ed.text_is, bound-last law text is, ed.len, edit.inside.start_le_stop, edit.inside.stop_inside);
-    },
-  )
+  pub ends_meet : Meets (length new) 0
+  ends_meet =
+      let ed = edited e in
+      let end = bound-last law new_text ed.text_is in
+      let old_end = bound-last law text e.is_text in
+      record {
+        number_inside = omega arith;
+        past_edit = omega (arith, end, ed.len, ed.old_inside);
+        past_head = omega arith;
+        old_number = length old;
+        past_old_head = omega arith;
+        back_is = omega arith;
+        same_offset = omega (arith, end, old_end, ed.len);
+      }
 
   -- so there are counts of it
-  pub relexed_is : (r : Relexed) × IsRelexed (part_by first) text start stop insert r
-  relexed_is = elim (first_or_none (λ j. (back : ℕ) × IsMeeting (part_by first text) (part_by first new_text) stop new_stop j back) (meets_or_not old new stop new_stop) (suc (length new - kept)) kept) [
+  pub relexed_is : (r : Relexed) × IsRelexedTo (part_by first text) (part_by first new_text) text edit.start edit.old_stop edit.new_stop r
+  relexed_is = elim (first_or_none (λ j. (back : ℕ) × Meets j back) (meets_or_not old new edit.old_stop edit.new_stop) (suc (length new - kept)) kept) [
     | inl at ↦
         let is = at.2 in
-        let e : at.0 ≡ kept + (at.0 - kept) = omega (arith, is.from) in (
+        let sum : at.0 ≡ kept + (at.0 - kept) = omega (arith, is.from) in (
           record { kept_front = kept; lexed = at.0 - kept; kept_back = is.holds.0 },
           record {
             kept = λ k. omega arith;
             changed = λ none. absurd (none (omega arith, refl, refl));
-            meeting = subst (λ n. IsMeeting (part_by first text) (part_by first new_text) stop new_stop n is.holds.0) e is.holds.1;
-            none_before = λ number back le less m. is.none_before number le (omega (arith, less, e)) (back, m);
+            meeting = subst (λ n. Meets n is.holds.0) sum is.holds.1;
+            none_before = λ number back le less m. is.none_before number le (omega (arith, less, sum)) (back, m);
           },
         )
-    | inr none ↦ absurd (none (length new) kept_new (omega (arith, kept_new)) ends_meet)
+    | inr none ↦ absurd (none (length new) kept_new (omega (arith, kept_new)) (0, ends_meet))
   ]

@@ -1,5 +1,5 @@
 -- The pieces of a text, one by one.
-use Rattle.std.proofs.Common.{◌≡◌, ℕ, zero, suc, ◌+◌, ◌-◌, ◌^◌, ◌<◌, ◌≤◌, List, [], ◌∷◌, ◌++◌, get_or, length, take, drop, slice_range, refl, sym, ap, ◌∙◌, subst, arith, length-append, length-take, length-take-le, length-drop, take-take, IsCharBoundary, Option, Some, None, IfSome, IsSome}
+use Rattle.std.proofs.Common.{◌≡◌, ℕ, zero, suc, ◌+◌, ◌-◌, ◌≤◌, List, [], ◌∷◌, ◌++◌, length, take, drop, slice_range, refl, sym, ap, ◌∙◌, subst, arith, length-append, length-take, length-take-le, length-drop, take-take, IsCharBoundary, Option, Some, None, IfSome, IsSome}
 use Rattle.std.proofs.lemmas.Grind.{common_steps}
 use Rattle.std.proofs.lemmas.List.{take-append-le}
 use Rattle.rustc_lexer.specs.declared.relex.{front.TokenStart.TokenStart, pieces.Piece.Piece}
@@ -8,9 +8,9 @@ use Rattle.rustc_lexer.specs.Tokens.{bound}
 use Rattle.rustc_lexer.specs.means.Pieces.{AreBoundariesFrom, AreCut}
 use Rattle.rustc_lexer.specs.Kept.{Placed, YieldsPiece, pieces_from, placed}
 use Rattle.rustc_lexer.specs.Offsets.{ContainsByte}
-use Rattle.rustc_lexer.proofs.lemmas.edits.Bounds.{bound-end, bound_mono}
+use Rattle.rustc_lexer.proofs.lemmas.edits.Bounds.{bound-end}
 use Rattle.rustc_lexer.proofs.lemmas.edits.FrontAndBack.{bound-same, bound-take}
-use Rattle.rustc_lexer.proofs.lemmas.edits.KeptFront.{bound-next, bound-shift}
+use Rattle.rustc_lexer.proofs.lemmas.edits.KeptFront.{bound-shift}
 
 -- the tokens that are left begin and end between characters
 pub cut_edges : (text : List ℕ) (start end : ℕ) (tokens : List Token) → AreCut text start end tokens → IsCharBoundary text start × IsCharBoundary text end
@@ -106,12 +106,3 @@ piece_is (Some piece) text first offset tokens at rest is yields =
 
 pub piece_some : (piece : Option Piece) (text : List ℕ) (first offset : ℕ) (tokens : List Token) (at : TokenStart) (rest : List Placed) → ContainsByte first tokens offset at → YieldsPiece (pieces_from text at.offset (take (length tokens - at.index) (drop at.index tokens))) piece rest → IsSome piece
 piece_some piece text first offset tokens at rest w7 w8 = grind (arith, common_steps, length-take-le, length-drop, length-pieces)
-
--- ---- where a token begins, from a bound before it on
-
--- one token more
-pub end_more : (tokens : List Token) (i start end : ℕ) (d : Token) → i < length tokens → end ≡ start + bound tokens i → end + (get_or tokens i d).len ≡ start + bound tokens (i + 1)
-end_more tokens i start end d few at = omega (arith, bound-next tokens i d few, at)
-
-pub end_fits : (tokens : List Token) (i start end : ℕ) (d : Token) → i < length tokens → end ≡ start + bound tokens i → start + bound tokens (length tokens) < 2 ^ 32 → end + (get_or tokens i d).len < 2 ^ 32
-end_fits tokens i start end d few at fits = omega (arith, bound-next tokens i d few, bound_mono tokens (i + 1) (length tokens) (omega arith), at, fits)

@@ -6,38 +6,27 @@ use Rattle.rustc_lexer.specs.declared.relex.front.{Meeting.Meeting, TokenStart.T
 use Rattle.rustc_lexer.specs.declared.relex.relexing.{Change.Change, Relexed.Relexed, Relexing.Relexing}
 use Rattle.rustc_lexer.specs.{Token}
 use Rattle.rustc_lexer.specs.Classes.{IsText}
-use Rattle.rustc_lexer.specs.Edits.{IsMeeting, IsRelexed, IsRelexedTo, part_by}
+use Rattle.rustc_lexer.specs.Edits.{IsMeeting, IsRelexed, part_by}
 use Rattle.rustc_lexer.specs.Locality.{IsGrammar, has_two}
 use Rattle.rustc_lexer.specs.Offsets.{IsBound}
 use Rattle.rustc_lexer.specs.Relexing.{IsMadeOf, IsUnderWay, IsWhole, TakesSteps, known}
 use Rattle.rustc_lexer.specs.Tokens.{bound, tokens_by}
 use Rattle.rustc_lexer.specs.means.Relexing.{IsFollowed, IsLexed, kept_front}
 use Rattle.rustc_lexer.specs.laws.Cuts.{at_bound, tokens-cons}
-use Rattle.rustc_lexer.proofs.lemmas.edits.Bounds.{bound-last, bound_mono, rises}
-use Rattle.rustc_lexer.proofs.lemmas.edits.ByLengths.{made_edited, text_end}
-use Rattle.rustc_lexer.proofs.lemmas.edits.FrontAndBack.{bound-same, has_two-before, met_rest}
+use Rattle.rustc_lexer.proofs.lemmas.edits.Bounds.{bound_mono, rises}
+use Rattle.rustc_lexer.proofs.lemmas.edits.FrontAndBack.{bound-same, edited, has_two-before, met_rest}
 use Rattle.rustc_lexer.proofs.lemmas.edits.KeptFront.{bound-shift}
-use Rattle.rustc_lexer.proofs.lemmas.edits.Layouts.{bare}
-use Rattle.rustc_lexer.proofs.lemmas.edits.OneAnswer.{front_same, kept_new}
+use Rattle.rustc_lexer.proofs.lemmas.edits.Layouts.{bare, counts_of}
+use Rattle.rustc_lexer.proofs.lemmas.edits.OneAnswer.{ends_meet, front_same, kept_new}
 
 module _ (old new : List Token) (old_stop new_stop number offset : ℕ) (back : TokenStart) (offset_is : offset ≡ bound new number) (bound_is : IsBound old back) where
   meets_here : number ≤ length new → (new_stop ≤ offset) × (offset + old_stop ≡ back.offset + new_stop) → IsMeeting (bare old) (bare new) old_stop new_stop number (length old - back.index)
-  meets_here few here =
-      record { number_inside = few; past_edit = omega (arith, here.0, offset_is); past_head = omega arith; old_number = back.index; past_old_head = omega arith; back_is = omega (arith, bound_is.0); same_offset = omega (arith, here.1, offset_is, bound_is.1) }
+  meets_here few here = grind (arith, common_steps)
 
   -- of the old bounds, the new tokens can meet none but the one that was followed to
   meets_there : ((k : ℕ) → k < back.index → bound old k + new_stop < max new_stop offset + old_stop) → (new_stop ≤ offset → back.index < length old → offset + old_stop ≤ back.offset + new_stop)
       → (rest : ℕ) × IsMeeting (bare old) (bare new) old_stop new_stop number rest → (new_stop ≤ offset) × (offset + old_stop ≡ back.offset + new_stop)
-  meets_there passed reached (rest, m) = (
-    omega (arith, m.past_edit, offset_is),
-    elim (cases_lt m.old_number back.index) [
-      | inl less ↦ absurd (omega (arith, passed m.old_number less, m.same_offset, m.past_edit, offset_is))
-      | inr more ↦ elim (eq-or-lt_of_le more) [
-        | inl same ↦ omega (arith, offset_is, m.same_offset, bound_is.1, ap (bound old) same)
-        | inr past ↦ omega (arith, offset_is, m.same_offset, bound_is.1, bound_mono old back.index m.old_number more, reached (omega (arith, m.past_edit, offset_is)) (omega (arith, past, m.back_is)))
-      ]
-    ],
-  )
+  meets_there w0 w1 w2 = grind (arith, common_steps, cases_lt, eq-or-lt_of_le, bound_mono)
 
   met_by : {met : Bool} → number ≤ length new → IsFollowed old old_stop new_stop offset back met → (met ≡ true) ↔ ((rest : ℕ) × IsMeeting (bare old) (bare new) old_stop new_stop number rest)
   met_by few f = (λ hit. (length old - back.index, meets_here few (f.met_is.0 hit)), λ m. f.met_is.1 (meets_there f.passed f.reached m))
@@ -58,22 +47,17 @@ module _ {first : List ℕ → Token} (law : IsGrammar first) {before lengths in
   Meets = IsMeeting (part_by first before) (part_by first text) change.old_stop change.new_stop
 
   -- the old tokens of the kept front are the new ones
-  kept : (number : ℕ) → number ≡ kept_front before old change.start → (take number old ≡ take number new) × (number ≤ length new)
-  kept number e =
-      let of = is.edit_of in
-      let same = front_same law before of.is_text change.start change.old_stop insert of.inserted of.is_edit in
-      let few = kept_new law before of.is_text change.start change.old_stop insert of.inserted of.is_edit in
-      rw (e, of.made) (sym same, few)
+  pub kept_old : (number : ℕ) → number ≡ kept_front before old change.start → (take number old ≡ take number new) × (number ≤ length new)
+  kept_old number e = rw e (sym (front_same law is.edit_of), kept_new law is.edit_of)
 
   -- each bound before it is before the edit
   pub front_below : (kept : TokenStart) → IsBound old kept → (0 < kept.index → has_two before kept.offset change.start ≡ true) → (k : ℕ) → k < kept.index → bound old k + change.new_stop < max change.new_stop kept.offset + change.old_stop
-  front_below kept at two k less =
-      omega (arith, bound_mono old k kept.index (omega arith), at.1, has_two-before before kept.offset change.start (two (omega arith)), is.edit_of.is_edit.inside.start_le_stop)
+  front_below kept at two k less = grind (arith, common_steps, bound_mono, kept, has_two-before)
 
   pub begun : (front : TokenStart) (to : Meeting) → front.index ≡ kept_front before old change.start → IsBound old front → IsFollowed old change.old_stop change.new_stop front.offset to.at to.met → (front.offset < change.new_stop → to.at ≡ front)
       → IsUnderWay first before change text record { front = front; lexed = 0; back = to.at; at = front.offset; met = to.met }
   begun front to number at followed stays =
-      let same = kept front.index number in
+      let same = kept_old front.index number in
       let none : front.index ≡ front.index + 0 = omega arith in
       let offset : front.offset ≡ bound new (front.index + 0) = at.1 ∙ (bound-same front.index old new same.0 ∙ ap (bound new) none) in
       let inside : front.index + 0 ≤ length new = omega (arith, same.1) in
@@ -90,31 +74,19 @@ module _ {first : List ℕ → Token} (law : IsGrammar first) {before lengths in
         reached = followed.reached;
       }
 
-  -- the counts of an edit, by the text that it made
-  made_counts : (r : Relexed) → IsRelexed (part_by first) before change.start change.old_stop insert r ↔ IsRelexedTo (part_by first before) (part_by first text) before change.start change.old_stop change.new_stop r
-  made_counts r = (λ c. rw (is.edit_of.made, is.edit_of.new_stop) c, λ c. rw (sym is.edit_of.made, sym is.edit_of.new_stop) c)
-
   module _ {at : Relexing} (u : IsUnderWay first before change text at) where
     -- the tokens that are still to come are those of the text that is left
     pub left_at : tokens_by first (drop at.at text) ≡ drop (known at) new
-    left_at = ap (λ n. tokens_by first (drop n text)) u.offset ∙ sym (at_bound law (known at) text (made_edited law is).text_is).rest
+    left_at = ap (λ n. tokens_by first (drop n text)) u.offset ∙ sym (at_bound law (known at) text (edited is.edit_of).text_is).rest
 
     -- where the old tokens are not met, more text is left
     pub more_left : at.met ≡ false → at.at < length text
     more_left out = elim (cases_lt at.at (length text)) [
       | inl less ↦ less
-      | inr over ↦ absurd (true≢false (sym (u.met.1 (
-        0,
-        record {
-          number_inside = u.inside;
-          past_edit = omega (arith, over, u.offset, (text_end law is).1);
-          past_head = omega arith;
-          old_number = length old;
-          past_old_head = omega arith;
-          back_is = omega arith;
-          same_offset = omega (arith, over, u.offset, (text_end law is).0, bound-last law text (made_edited law is).text_is, bound_mono new (known at) (length new) u.inside);
-        },
-      )) ∙ out))
+      | inr over ↦ elim (eq-or-lt_of_le u.inside) [
+        | inl end ↦ absurd (true≢false (sym (u.met.1 (0, subst (λ n. Meets n 0) (sym end) (ends_meet law is.edit_of))) ∙ out))
+        | inr few ↦ omega (arith, over, u.offset, rises law text (edited is.edit_of).text_is (known at) few, (at_bound law (suc (known at)) text (edited is.edit_of).text_is).inside)
+      ]
     ]
 
     -- at the end of the text they are met
@@ -128,21 +100,37 @@ module _ {first : List ℕ → Token} (law : IsGrammar first) {before lengths in
     -- no more was lexed than the whole edit lexes
     pub few_lexed : (r : Relexed) → IsRelexed (part_by first) before change.start change.old_stop insert r → at.lexed ≤ r.lexed
     few_lexed r counts =
-        let c = (made_counts r).0 counts in
+        let c = (counts_of (part_by first) is.edit_of r).0 counts in
         let front : r.kept_front ≡ at.front.index = omega (arith, c.kept (omega arith, refl, refl), u.front) in
         elim (cases_lt r.lexed at.lexed) [
           | inl less ↦ absurd (u.none_before (r.kept_front + r.lexed) r.kept_back (omega (arith, front)) (omega (arith, front, less)) c.meeting)
           | inr more ↦ more
         ]
 
-    -- at the meeting: the counts are those of the edit, and the new tokens are whole
+    -- at the meeting: the old tokens that are left are the new ones
+    pub rest_met : at.met ≡ true → drop (known at) new ≡ drop at.back.index old
+    rest_met hit =
+        let here = meets_there old new _ _ _ _ _ u.offset u.back_bound u.passed u.reached (u.met.0 hit) in
+        met_rest law is.edit_of (known at) at.back.index (omega (arith, here.0, u.offset)) (omega (arith, here.1, u.back_bound.1, u.offset))
+
+    -- the counts are those of the edit, and the new tokens are whole
     pub counts_met : at.met ≡ true → IsRelexed (part_by first) before change.start change.old_stop insert (record { kept_front = at.front.index; lexed = at.lexed; kept_back = length old - at.back.index }) × IsWhole old new at
     counts_met hit =
-        let here = meets_there old new _ _ _ _ _ u.offset u.back_bound u.passed u.reached (u.met.0 hit) in
-        let e = is.edit_of in
-        let rest : drop (known at) new ≡ drop at.back.index old = met_rest law before change.start change.old_stop insert text e.is_text e.is_edit (made_edited law is) (known at) at.back.index (omega (arith, e.new_stop, here.0, u.offset)) (omega (arith, e.new_stop, here.0, here.1, u.back_bound.1, u.offset)) in (
-          (made_counts _).1 record { kept = λ _. omega (arith, u.front); changed = λ none. absurd (none (omega arith, refl, refl)); meeting = meets_here old new _ _ _ _ _ u.offset u.back_bound u.inside here; none_before = u.none_before },
-          cc ((kept at.front.index u.front).0, rest, take-append-drop at.front.index new, take-append-drop at.lexed (drop at.front.index new), drop-drop at.lexed at.front.index new),
+        let here = meets_there old new _ _ _ _ _ u.offset u.back_bound u.passed u.reached (u.met.0 hit) in (
+          (counts_of (part_by first) is.edit_of _).1 record {
+            kept = λ _. omega (arith, u.front);
+            changed = λ none. absurd (none (omega arith, refl, refl));
+            meeting =
+                meets_here old new _ _ _ _ _ u.offset u.back_bound u.inside here;
+            none_before = u.none_before;
+          },
+          cc (
+            (kept_old at.front.index u.front).0,
+            rest_met hit,
+            take-append-drop at.front.index new,
+            take-append-drop at.lexed (drop at.front.index new),
+            drop-drop at.lexed at.front.index new,
+          ),
         )
 
     -- past so many tokens
@@ -189,7 +177,7 @@ module _ {first : List ℕ → Token} (law : IsGrammar first) {before lengths in
           let k : ℕ = number - known at in
           let here : known at + k ≡ number = omega (arith, more) in
           let early : bound new number < end = omega (arith, begin k (omega (arith, more, less, known_past)), shift k, ap (bound new) here) in
-          let later : at.at < bound new number = omega (arith, u.offset, rises law text (made_edited law is).text_is (known at) (omega (arith, more, m.number_inside)), bound_mono new (suc (known at)) number more) in
+          let later : at.at < bound new number = omega (arith, u.offset, rises law text (edited is.edit_of).text_is (known at) (omega (arith, more, m.number_inside)), bound_mono new (suc (known at)) number more) in
           let free = clear (bound new number) later early (omega (arith, m.past_edit)) in
           elim (cases_lt m.old_number at.back.index) [
             | inl below ↦ omega (arith, u.passed m.old_number below, free.0, m.same_offset, later)
@@ -200,12 +188,11 @@ module _ {first : List ℕ → Token} (law : IsGrammar first) {before lengths in
     pub gives_next : {token : Token} {past : Relexing} → at.met ≡ false → token ≡ first (drop at.at text) → TakesSteps first text change.new_stop at 1 past → drop (known at) new ≡ token ∷ drop (known past) new
     gives_next {token} {past} out token_is steps =
         let rest : List ℕ = drop at.at text in
-        let rest_is : IsText rest = subst (λ p. IsText (drop p text)) (sym u.offset) (at_bound law (known at) text (made_edited law is).text_is).past in
+        let rest_is : IsText rest = subst (λ p. IsText (drop p text)) (sym u.offset) (at_bound law (known at) text (edited is.edit_of).text_is).past in
         let cons = sym left_at ∙ tokens-cons law rest rest_is (omega (arith, more_left out, length-drop at.at text)) in
         let behind : drop (known past) new ≡ tokens_by first (drop (first rest).len rest) = ap (λ n. drop n new) (known_past steps) ∙ (sym (drop-drop 1 (known at) new) ∙ ap (drop 1) cons) in
         cons ∙ ap₂ (λ (t : Token) (ts : List Token). t ∷ ts) (sym token_is) (sym behind)
 
   -- the tokens that were lexed for it, put between those that are kept, are the new ones
   pub lexed_whole : {tokens : List Token} {at : Relexing} → IsLexed first before change text tokens at → take at.front.index old ++ (tokens ++ drop at.back.index old) ≡ new
-  lexed_whole {tokens} {at} l =
-      ap (λ (ts : List Token). take at.front.index old ++ (ts ++ drop at.back.index old)) l.tokens_are ∙ (counts_met l.under_way l.met).1
+  lexed_whole {tokens} {at} l = grind (arith, common_steps, counts_met)

@@ -101,9 +101,6 @@ number-apart {next} {kind} is other ch =
 prefix-solid : IsSolid ends_prefix
 prefix-solid = solid-by ends_prefix refl
 
-faulty-not : (t : Bool) → not t ≡ false → t ≡ true
-faulty-not t w1 = grind (arith, common_steps)
-
 double-apart : {next : List ℕ} {t : Bool} {w : List ℕ} → IsDoubleQuoted next t w → t ≡ true → (other : List ℕ) → IsDoubleQuoted other t w
 double-apart w0 t other = grind (arith, common_steps, lit.closed)
 
@@ -124,7 +121,7 @@ suffix-apart (lit.some is stop) other ch = lit.some is (same is_id_continue cont
 literal-by : {next other : List ℕ} {kind : LiteralKind} {takes : Bool} {w : List ℕ} → ((kind : LiteralKind) (w : List ℕ) → IsNumberBefore next kind w → IsNumberBefore other kind w) → ((t : Bool) (w : List ℕ) → IsSingleQuoted next t w → t ≡ true → IsSingleQuoted other t w)
     → IsLiteralBefore next kind takes w → is_faulty kind ≡ false → IsLiteralBefore other kind takes w
 literal-by {next} {other} number single w0 good =
-    grind (arith, common_steps, number, single, double-apart, raw-apart, faulty-not, lit.number, lit.str, lit.byte_str, lit.c_str, lit.byte_char, lit.char_of_one, lit.char, lit.char_of_name, lit.raw_str, lit.raw_byte_str, lit.raw_c_str)
+    grind (arith, common_steps, number, single, double-apart, raw-apart, lit.number, lit.str, lit.byte_str, lit.c_str, lit.byte_char, lit.char_of_one, lit.char, lit.char_of_name, lit.raw_str, lit.raw_byte_str, lit.raw_c_str)
 
 literal-apart : {next : List ℕ} {kind : LiteralKind} {takes : Bool} {w : List ℕ} → IsLiteralBefore next kind takes w → is_faulty kind ≡ false → (other : List ℕ) → Changes next other → IsLiteralBefore other kind takes w
 literal-apart is good other ch = literal-by (λ kind w n. number-apart n other ch) (λ t w q e. single-apart q e other ch) is good

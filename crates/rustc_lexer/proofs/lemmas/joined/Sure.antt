@@ -22,9 +22,7 @@ sure_start edition text = record { number = 0; few = omega arith; offset_is = re
 
 module _ {first : List ℕ → Token} (law : IsGrammar first) where
   pub sure_place : (text : List ℕ) (from : ℕ) → IsText text → IsSure first text from → IsCharBoundary text from
-  sure_place text from is at =
-      let cut : IsCutAt first text (tokens_by first text) at.number = at_bound law at.number text is in
-      subst (IsCharBoundary text) at.offset_is (IsCharBoundary-from_drop text (bound (tokens_by first text) at.number) cut.inside cut.past.utf8)
+  sure_place text from is at = grind (arith, common_steps, at_bound, IsCharBoundary-from_drop)
 
   -- two characters past an offset stay there
   two_more : (text more : List ℕ) (from : ℕ) → IsText text → IsCharBoundary text from → has_two text from (length text) ≡ true → has_two (text ++ more) from (length (text ++ more)) ≡ true

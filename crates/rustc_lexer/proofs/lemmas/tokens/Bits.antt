@@ -174,8 +174,7 @@ module _ (x low : ℕ) (some : 0 < x) (lowest : IsLowest x low) where
 
   pub past_lowest-gone : (k : ℕ) → k ≤ low → bit (bit_and x (x - 1)) k ≡ false
   unfolding bit
-  past_lowest-gone k le =
-      grind (arith, common_steps, bit-and, cases_lt, and_left, lowest, and_right, at_pred, set_at, least_at)
+  past_lowest-gone k le = grind (arith, common_steps, bit-and, cases_lt, and_left, and_right, at_pred, set_at, least_at)
 
   pub past_lowest-others : (k : ℕ) → low < k → bit (bit_and x (x - 1)) k ≡ bit x k
   unfolding bit

@@ -22,16 +22,9 @@ use Rattle.rustc_lexer.specs.laws.Past.{past-drop}
 use Rattle.rustc_lexer.proofs.lemmas.tokens.Editions.{older}
 use Rattle.rustc_lexer.proofs.lemmas.tokens.Search.{starts-begins}
 
--- the token of a text that begins with white space, and with a dash
-lexeme-space : (c : ℕ) (s : List ℕ) → is_whitespace c ≡ true → lexeme (c ∷ s) ≡ (Whitespace, spaces_len (c ∷ s))
-lexeme-space c s e = rw (chooses-space c e, e) refl
-
 chooses-dash : past_first 45 ≡ read_by Symbol 45
 unfolding unicode_ident is_emoji emoji_ranges
 chooses-dash = chooses 45 Symbol refl
-
-lexeme-dash : (s : List ℕ) → lexeme (45 ∷ s) ≡ (Minus, 1)
-lexeme-dash s = rw chooses-dash refl
 
 opens-none : (s : List ℕ) → begins (fence 3) (drop (spaces_len s) s) ≡ false → opens s ≡ false
 opens-none s none = rw none refl
@@ -39,18 +32,17 @@ opens-none s none = rw none refl
 module _ (edition : Edition) (text : List ℕ) (is : IsUtf8 text) where
   token-space : (c : ℕ) (s : List ℕ) → chars text ≡ c ∷ s → is_whitespace c ≡ true → first_token_in edition text ≡ record { kind = Whitespace; len = bytes_of (spaces_len (chars text)) (chars text) }
   unfolding first_token
-  token-space c s e w = grind (arith, common_steps, lexeme-space, older)
+  token-space c s e w = grind (arith, common_steps, chooses-space, older)
 
   token-dash : (s : List ℕ) → chars text ≡ 45 ∷ s → first_token_in edition text ≡ record { kind = Minus; len = bytes_of 1 (chars text) }
   unfolding first_token
-  token-dash s e = grind (arith, common_steps, lexeme-dash, older)
+  token-dash s e = grind (arith, common_steps, chooses-dash, older)
 
   -- dashes in bytes and in characters
   dashes : (n : ℕ) → starts_with (λ x y. x == y) (drop (bytes_of n (chars text)) text) (fence 3) ≡ begins (fence 3) (drop n (chars text))
   unfolding past
-  dashes n =
-      starts-begins (drop (bytes_of n (chars text)) text) (fence 3) _ refl
-      ∙ (ap (begins (fence 3)) (sym (past-drop n text is)) ∙ begins-encode (fence 3) (drop n (chars text)) refl)
+  dashes n = grind (arith, common_steps, starts-begins, past-drop n text is,
+          begins-encode (fence 3) (drop n (chars text)) refl)
 
   by_first : (cs : List ℕ) (token : Token) → chars text ≡ cs → token ≡ first_token_in edition text → (token.kind ≡ Whitespace → starts_with (λ x y. x == y) (drop token.len text) (fence 3) ≡ false) → (token.kind ≡ Minus → starts_with (λ x y. x == y) text (fence 3) ≡ false) → opens cs ≡ false
   by_first [] token e is_first no_space no_dash = refl

@@ -88,11 +88,8 @@ says (the.ident is stop end) = is
 says (the.unknown_prefix is end new) = is
 says (the.raw_ident {w} is stop) = (w, refl, is)
 says (the.literal {w = w} is) = record { within = omega arith; ends = λ bad. refl; text = λ text e. literal-text is [] (λ f. refl) (bytes w) text (e ∙ sym (append-nil w)) }
-says (the.literal_with {w = w} {suffix = suffix} is suffix_is) = record {
-  within = omega (arith, bytes-append w suffix);
-  ends = λ bad. absurd (true≢false (sym bad ∙ suffixed is refl));
-  text = λ text e. literal-text is suffix (λ f. absurd (true≢false f)) (bytes w) text e;
-}
+says (the.literal_with {w = w} {suffix = suffix} is suffix_is) =
+    grind (arith, common_steps, bytes-append, suffixed, literal-text)
 says (the.symbol {c} is) = quiet (symbol_kind c) (c ∷ []) (by_symbol is_quiet symbols c refl refl)
 says p = tt
 
@@ -133,6 +130,5 @@ pub record IsSaid (whole : List ℕ) (token : Token) : Type 0 where
 
 pub first-said : {mode : Mode} {cs : Chars} {token : Token} {tokens : List Token} → AreTokens mode cs (token ∷ tokens) → (text : List ℕ) → IsText text → chars text ≡ cs → IsSaid text token
 first-said (grammar.something {mode} {kind} {c} {w} {next} p free rest) text is e =
-    let parts = split text (c ∷ w) next is e in
-    record { text = has_text kind (c ∷ w) _ (says-in p) parts.front (ap chars parts.front ∙ parts.again_front); suffix = suffix kind (c ∷ w) (says-in p) }
+    grind (arith, common_steps, split text (c ∷ w) next is e, has_text, says-in, suffix)
 first-said (grammar.frontmatter_first body is_opening is_end rest) text is e = record { text = tt; suffix = (omega arith, tt) }

@@ -59,25 +59,14 @@ module _ (one two three : ℕ) (bytes : List ℕ) (end ones twos threes : ℕ) (
 
 -- where the three stand apart, nothing begins with them
 three_none : (c one two three : ℕ) (ds s : List ℕ) → three_at one two three (c ∷ s) 0 ≡ false → begins (one ∷ two ∷ three ∷ ds) (c ∷ s) ≡ false
-three_none c one two three ds [] e = and-false (c == one)
-three_none c one two three ds (d ∷ []) e = ap (λ b. (c == one) && b) (and-false (d == two)) ∙ and-false (c == one)
-three_none c one two three ds (d ∷ f ∷ s) e = by_either (c == one)
-    (λ t. by_either (d == two)
-    (λ u. by_either (f == three)
-    (λ v. absurd (true≢false (sym (rw (t, u, v) refl) ∙ e)))
-    (λ v. rw (t, u, v) refl))
-    (λ u. rw (t, u) refl))
-    (λ t. rw t refl)
+three_none c one two three ds s w6 = grind (arith, common_steps, and-false)
 
 pub apart_first : (one two three : ℕ) (ds s : List ℕ) (n : ℕ) → n ≤ length s → AreApart one two three s n → first (one ∷ two ∷ three ∷ ds) s ≡ more n (first (one ∷ two ∷ three ∷ ds) (drop n s))
 apart_first one two three ds s zero le apart = more-zero (first (one ∷ two ∷ three ∷ ds) s)
 apart_first one two three ds [] (suc n) le apart = absurd (omega arith)
-apart_first one two three ds (c ∷ s) (suc n) le apart =
-    offset-on (begins (one ∷ two ∷ three ∷ ds)) c s (three_none c one two three ds s (apart 0 (omega arith)))
-    ∙ (ap one_more (apart_first one two three ds s n (omega arith) (λ k l. apart (suc k) (omega arith))) ∙ one_more-more n (first (one ∷ two ∷ three ∷ ds) (drop n s)))
+apart_first one two three ds (c ∷ s) (suc n) le apart = grind (arith, common_steps, offset-on, three_none,
+        one_more-more, apart_first one two three ds s n (omega arith) (λ k l. apart (suc k) (omega arith)))
 
 -- the same of a pattern by its second and third byte
 pub apart_pattern : (one two three : ℕ) (others s : List ℕ) (n : ℕ) → 1 < length others → get_or others 0 0 ≡ two → get_or others 1 0 ≡ three → n ≤ length s → AreApart one two three s n → first (one ∷ others) s ≡ more n (first (one ∷ others) (drop n s))
-apart_pattern one two three [] s n some e g le apart = absurd (omega arith)
-apart_pattern one two three (d ∷ []) s n some e g le apart = absurd (omega arith)
-apart_pattern one two three (d ∷ f ∷ ds) s n some e g le apart = apart_first one d f ds s n le (subst (λ b. AreApart one b f s n) (sym e) (subst (λ b. AreApart one two b s n) (sym g) apart))
+apart_pattern one two three others s n w6 w7 w8 w9 w10 = grind (arith, common_steps, apart_first)

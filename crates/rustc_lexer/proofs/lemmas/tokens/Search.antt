@@ -88,7 +88,4 @@ module _ (d : ℕ) (ds : List ℕ) where
         past_found so place there = sym (so_far ∙ ap (more (from + step)) (offset-here (begins (d ∷ ds)) d tail (stands ∙ so)) ∙ ap Some (omega arith))
 
         pub past_on : answer ≡ false → IsPast (d ∷ ds) rest (from + step + 1)
-        past_on fails = record {
-          inside = let i = inside in omega arith;
-          left = so_far ∙ (ap (more (from + step)) (offset-on (begins (d ∷ ds)) d tail (stands ∙ fails)) ∙ (more-one (from + step) (first (d ∷ ds) tail) ∙ ap (λ (s : List ℕ). more (from + step + 1) (first (d ∷ ds) s)) behind));
-        }
+        past_on fails = grind (arith, common_steps, inside, so_far, offset-on, stands, more-one)

@@ -85,5 +85,4 @@ module _ (text bytes : List ℕ) (offset : ℕ) (is : IsUtf8 text) (same : bytes
   short_cut le = IsCharBoundary-from_drop text (offset + 1) le short_char.utf8
 
 pub byte_le : (b : Bool) → from_bool b ≤ 1
-byte_le true = omega arith
-byte_le false = omega arith
+byte_le b = grind (arith, common_steps)

@@ -1,4 +1,5 @@
 use Rattle.std.proofs.Common.{sym, refl, ap, arith, ◌∙◌}
+use Rattle.std.proofs.lemmas.Grind.{common_steps}
 use Rattle.rustc_lexer.specs.means.Scan.{next_is}
 use Rattle.rustc_lexer.specs.laws.Past.{IsUtf8-cut}
 use Rattle.rustc_lexer.proofs.lemmas.tokens.Runs.{run_on, run_ends}
@@ -8,11 +9,7 @@ pub chars-init : goal.chars-init
 chars-init g c = (c.utf8.rest, omega arith, λ class tests. refl)
 
 pub chars-preserved : goal.chars-preserved
-chars-preserved g c = (
-  IsUtf8-cut 1 _ _ c.chars.invariant.0 c.in-Some.ensures.1,
-  let shorter = c.in-Some.ensures.2 in omega (arith, c.chars.invariant.1),
-  λ class tests. run_on class _ _ _ c.chars.invariant.0 c.in-Some.ensures.0 c.in-Some.ensures.1 (sym (tests _ _ c.test.ensures) ∙ c.if-not-test.false) ∙ c.chars.invariant.2 class tests,
-)
+chars-preserved g c = grind (arith, common_steps, IsUtf8-cut, run_on)
 
 pub returns-then-not-test-clause-past : goal.returns-then-not-test-clause-past
 returns-then-not-test-clause-past g c = λ class tests. sym (run_ends class _ c.chars.invariant.0 (ap (next_is class) c.in-Some.ensures.0 ∙ (sym (tests _ _ c.test.ensures) ∙ c.if-not-test.true))) ∙ c.chars.invariant.2 class tests

@@ -1,4 +1,5 @@
 use Rattle.std.proofs.Common.{arith, IsCharBoundary}
+use Rattle.std.proofs.lemmas.Grind.{common_steps}
 use Rattle.rustc_lexer.proofs.lemmas.edits.InCommon.{front_less, shorter, some_front}
 use Rattle.rustc_lexer.proofs.relex.common.common_front.Goals as goal
 
@@ -9,7 +10,4 @@ pub chars-smaller : goal.chars-smaller
 chars-smaller c = omega (arith, some_front c.utf8.old c.is_char_boundary.ensures.test c.chars-test.true)
 
 pub chars-preserved : goal.chars-preserved
-chars-preserved c = record {
-  front = front_less _ _ _ _ c.chars.invariant.front (omega arith);
-  longest = λ n is at. omega (arith, shorter (IsCharBoundary c.args.old.now) c.is_char_boundary.ensures.test c.chars-test.true at (c.chars.invariant.longest n is at));
-}
+chars-preserved c = grind (arith, common_steps, front_less, shorter)

@@ -6,9 +6,8 @@ use Rattle.rustc_lexer.specs.Classes.{IsText}
 use Rattle.rustc_lexer.specs.Tokens.{tokens_by}
 use Rattle.rustc_lexer.specs.Offsets.{IsBound}
 use Rattle.rustc_lexer.specs.Relexing.{GoesOn}
-use Rattle.rustc_lexer.proofs.lemmas.edits.Blocks.{front_of}
 use Rattle.rustc_lexer.proofs.lemmas.edits.FrontAndBack.{IfErr-always}
-use Rattle.rustc_lexer.proofs.lemmas.edits.ManyTokens.{block_count, more_lexed}
+use Rattle.rustc_lexer.proofs.lemmas.edits.ManyTokens.{block_count, front_of, more_lexed}
 use Rattle.rustc_lexer.proofs.lemmas.edits.UnderWay.{few_lexed}
 use Rattle.rustc_lexer.proofs.relex.edit.relex.Goals as goal
 

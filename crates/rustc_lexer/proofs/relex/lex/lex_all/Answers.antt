@@ -1,9 +1,10 @@
 use Rattle.std.proofs.Common.{◌≡◌, ◌+◌, ◌-◌, ◌<◌, ◌≤◌, List, [], ◌++◌, length, length-append, length-drop, drop, take, refl, sym, ap, ◌∙◌, subst, arith, rules, append_assoc}
+use Rattle.std.proofs.lemmas.Grind.{common_steps}
 use Rattle.std.proofs.lemmas.List.{append-nil, drop-append-le, drop_all}
 use Rattle.rustc_lexer.specs.{Token}
 use Rattle.rustc_lexer.specs.Tokens.{bound, tokens_by}
 use Rattle.rustc_lexer.specs.Classes.{IsText}
-use Rattle.rustc_lexer.proofs.lemmas.edits.Blocks.{block_more}
+use Rattle.rustc_lexer.proofs.lemmas.edits.ManyTokens.{block_more}
 use Rattle.rustc_lexer.proofs.lemmas.tokens.Progress.{IsLexedTo, lexed_offset, lexed_whole}
 use Rattle.rustc_lexer.proofs.relex.lex.lex_all.Goals as goal
 
@@ -28,9 +29,7 @@ pub overflow_sub-index : goal.overflow_sub-index
 overflow_sub-index g c = omega (arith, grown c.args.tokens.now.items c.left.tokens.items c.left.invariant.0)
 
 pub range_from-requires : goal.range_from-requires
-range_from-requires g c =
-    let is : IsText c.args.text.now = record { utf8 = c.utf8.text; fits = c.requires.fits } in
-    λ some. (lexed_offset (g.S.Stepper.law c.args.stepper.now) _ _ _ is c.left.invariant.1).boundary
+range_from-requires g c = grind (arith, common_steps, lexed_offset)
 
 pub returns-clause-tokens : goal.returns-clause-tokens
 returns-clause-tokens g c =

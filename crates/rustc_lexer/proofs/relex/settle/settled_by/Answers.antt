@@ -1,19 +1,16 @@
-use Rattle.std.proofs.Common.{rules}
 use Rattle.std.proofs.Common.{sym, ◌∙◌, refl, arith}
+use Rattle.std.proofs.Common.{rules}
 use Rattle.std.proofs.lemmas.Grind.{common_steps}
 use Rattle.rustc_lexer.specs.Classes.{IsText}
 use Rattle.rustc_lexer.proofs.lemmas.tokens.Progress.{lexed_offset, stepped}
-use Rattle.rustc_lexer.proofs.lemmas.edits.Settled.{sure_next, sure_end, sure_stop, next_boundary}
+use Rattle.rustc_lexer.proofs.lemmas.edits.Settled.{sure_next, sure_stop, next_boundary}
 use Rattle.rustc_lexer.proofs.relex.settle.settled_by.Goals as goal
 
 pub range_from-requires : goal.range_from-requires
 range_from-requires g c = grind (arith, common_steps, lexed_offset, c.requires.fits, c.loop-offset.invariant.0.to)
 
 pub two_stand-requires-clause-from_boundary : goal.two_stand-requires-clause-from_boundary
-two_stand-requires-clause-from_boundary g c =
-    let is : IsText c.args.text.now = record { utf8 = c.utf8.text; fits = c.requires.fits } in
-    let token = stepped c.args.text.now c.loop-offset.offset c.step-token.ensures.token c.loop-offset.invariant.1 c.range_from.ensures.value in
-    (next_boundary (g.S.Stepper.law c.args.stepper.now) c.args.text.now is c.loop-offset.offset _ c.loop-offset.invariant.0 c.loop-offset-test.true token).1
+two_stand-requires-clause-from_boundary g c = search (rules, stepped, next_boundary)
 
 pub loop-offset-preserved : goal.loop-offset-preserved
 loop-offset-preserved g c =
@@ -24,11 +21,13 @@ loop-offset-preserved g c =
     )
 
 pub returns-after-loop-offset : goal.returns-after-loop-offset
-returns-after-loop-offset g c =
-    grind (arith, common_steps, rules, sure_end (g.S.Stepper.law c.args.stepper.now) c.args.text.now (record { utf8 = c.utf8.text; fits = c.requires.fits }) c.loop-offset.offset c.loop-offset.invariant.0 c.loop-offset-test.false)
+returns-after-loop-offset g c = sure_stop (g.S.Stepper.law c.args.stepper.now) c.args.text.now
+    (record { utf8 = c.utf8.text; fits = c.requires.fits }) c.loop-offset.offset c.loop-offset.invariant.0
+    (λ more. absurd (omega (arith, more, c.loop-offset-test.false)))
 
 pub returns-then-not-two_stand : goal.returns-then-not-two_stand
 returns-then-not-two_stand g c =
-    let is : IsText c.args.text.now = record { utf8 = c.utf8.text; fits = c.requires.fits } in
     let token = stepped c.args.text.now c.loop-offset.offset c.step-token.ensures.token c.loop-offset.invariant.1 c.range_from.ensures.value in
-    sure_stop (g.S.Stepper.law c.args.stepper.now) c.args.text.now is c.loop-offset.offset _ _ c.loop-offset.invariant.0 c.loop-offset-test.true token refl (sym c.two_stand.ensures ∙ c.if-not-two_stand.true)
+    sure_stop (g.S.Stepper.law c.args.stepper.now) c.args.text.now
+    (record { utf8 = c.utf8.text; fits = c.requires.fits }) c.loop-offset.offset c.loop-offset.invariant.0
+    (λ more. rw (sym token) (sym c.two_stand.ensures ∙ c.if-not-two_stand.true))

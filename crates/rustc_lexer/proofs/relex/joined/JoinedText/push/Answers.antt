@@ -1,4 +1,5 @@
 use Rattle.std.proofs.Common.{◌≡◌, ◌+◌, ◌^◌, ◌<◌, arith, length, subst, string_bytes, chars, List, ℕ}
+use Rattle.std.proofs.lemmas.Grind.{common_steps}
 use Rattle.std.proofs.lemmas.Str.{IsUtf8-string_bytes}
 use Rattle.rustc_lexer.specs.Answers.{first_in, tokens_of}
 use Rattle.rustc_lexer.specs.Joined.{AreClosed, AreInseparable, IsJoined, Joined, RunsOn}
@@ -28,8 +29,4 @@ invariant_of-self-2 c =
     (g.0, subst (λ (xs : List ℕ). IsSure (first_in c.self.inside.edition) xs c.sure_later-self-inside.result) c.as_str.ensures.value c.sure_later-self-inside.ensures)
 
 pub returns-clause-only : goal.returns-clause-only
-returns-clause-only c =
-    let new : List ℕ = string_bytes c.append_separated.new.text in
-    let joined : IsJoined c.self.inside.edition (string_bytes c.self.inside.text) c.args.piece.now new =
-    subst (λ (text : List ℕ). IsJoined c.self.inside.edition text c.args.piece.now new) c.reserve.ensures.bytes (c.append_separated.ensures.joined c.if-not-append_separated.false) in
-    subst (λ (j : Joined). (other : List ℕ) → IsJoined j.edition j.text c.args.piece.now other → other ≡ new) c.self.view_is (λ other is. joined-only c.self.inside.edition joined is)
+returns-clause-only c = grind (arith, common_steps, joined-only)

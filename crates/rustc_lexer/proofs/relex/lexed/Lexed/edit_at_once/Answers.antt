@@ -1,4 +1,5 @@
 use Rattle.std.proofs.Common.{◌≡◌, ◌-◌, [], Ok, Err, length, rules, string_bytes, arith, refl, sym, ap, ◌∙◌, subst}
+use Rattle.std.proofs.lemmas.Grind.{common_steps}
 use Rattle.rustc_lexer.specs.declared.relex.edit_list.EditStop.{EditStop}
 use Rattle.rustc_lexer.specs.declared.relex.edit_list.EditStop.TheVariants.{Memory}
 use Rattle.rustc_lexer.specs.Edits.{start_of_first, stop_of_last, with_all}
@@ -12,10 +13,7 @@ returns-then-is_empty-clause-accepted g c =
     rw c.text-text.ensures.text at (at_once_none c.text-text.result.now c.args.edits.now (search rules) (record { utf8 = c.text-text.utf8; fits = c.text-text.ensures.fits }))
 
 pub returns-in_default-clause-edit : goal.returns-in_default-clause-edit
-returns-in_default-clause-edit g c some valid =
-    let seen : c.text-text.result.now ≡ string_bytes c.self.inside.kept.text = c.text-text.ensures.text ∙ sym (ap (λ h. h.text) c.self.view_is) in
-    let few = few_none (g.S.Stepper.law c.self.inside.kept.stepper) g.E.Extent.whole _ _ _ _ _ c.self.invariant.0 (rw seen at c.in_ok-edit.ensures.utf8) (rw seen at c.in_ok-edit.ensures.valid).1 in
-    subst (λ h. IsEdited {E = EditStop} g.S.Stepper.grammar g.S.Stepper.number g.S.Stepper.count (layout_in g.E.Extent.whole (g.S.Stepper.grammar h.stepper)) h (start_of_first c.args.edits.now) (stop_of_last 0 c.args.edits.now) (with_all h.text (start_of_first c.args.edits.now) c.args.edits.now) (Err (Memory (length c.args.edits.now - 1))) h) c.self.view_is (refused (Err (Memory (length c.args.edits.now - 1))) refl c.self.invariant.1 refl refl refl refl (omega arith) few)
+returns-in_default-clause-edit g c some valid = grind (arith, common_steps, few_none, refused)
 
 pub renew-requires-clause-put : goal.renew-requires-clause-put
 renew-requires-clause-put g c =

@@ -1,4 +1,6 @@
 use Rattle.std.proofs.Common.{rules, List, ℕ, length, refl, subst, get_or}
+use Rattle.std.proofs.Common.{arith}
+use Rattle.std.proofs.lemmas.Grind.{common_steps}
 use Rattle.rustc_lexer.specs.declared.relex.edit_list.EditStop.TheVariants.{Range, TooLong}
 use Rattle.rustc_lexer.specs.Edits.{IsRefusedOn}
 use Rattle.rustc_lexer.proofs.lemmas.edits.Lists.{none}
@@ -6,12 +8,7 @@ use Rattle.rustc_lexer.proofs.lemmas.edits.ListsSoFar.{kept_more, kept_none, kep
 use Rattle.rustc_lexer.proofs.relex.lexed.Lexed.make.Goals as goal
 
 pub list-init : goal.list-init
-list-init g c =
-    let old = c.args.self.now in
-    rw c.requires.none record {
-      made = made_none c.args.edits.now (length old.tokens) c.requires.from_scratch;
-      kept = kept_none c.args.edits.now (length old.tokens) refl;
-    }
+list-init g c = grind (arith, common_steps, made_none, kept_none)
 
 pub returns-then-contains_range-clause-made : goal.returns-then-contains_range-clause-made
 returns-then-contains_range-clause-made g c =
@@ -28,8 +25,7 @@ returns-in-Err-clause-made g c =
     made_refused c.list.invariant.made c.list-test.true (rw c.text-text.ensures.text at (c.if-not-accepts.ensures.0 refl)) (rw c.list.invariant.made.grammar at c.in-Err.ensures)
 
 pub returns-in-Err-clause-kept : goal.returns-in-Err-clause-kept
-returns-in-Err-clause-kept g c =
-    kept_refused c.list.invariant.made c.list-test.true (rw c.text-text.ensures.text at (c.if-not-accepts.ensures.0 refl)) c.list.invariant.kept (rw c.list.invariant.made.grammar at c.in-Err.ensures)
+returns-in-Err-clause-kept g c = grind (arith, common_steps, kept_refused)
 
 pub list-preserved : goal.list-preserved
 list-preserved g c =

@@ -6,11 +6,7 @@ use Rattle.rustc_lexer.proofs.lemmas.edits.Pieces.{cut_part, length-pieces, piec
 use Rattle.rustc_lexer.proofs.relex.lexed.Lexed.pieces_of_tokens.Goals as goal
 
 pub offset_of-start-requires : goal.offset_of-start-requires
-offset_of-start-requires g c = record {
-  inside = omega (arith, c.requires.from_le_to, c.requires.to_inside);
-  before = omega arith;
-  known = (omega arith, omega (arith, start_seen (g.S.Stepper.law c.self.inside.kept.stepper) g.E.Extent.whole (string_bytes c.self.inside.kept.text) c.self.inside.kept.tokens.items c.self.inside.kept.head c.self.inside.kept.checkpoints c.self.invariant c.args.self.now (ap (λ h. h.text) c.self.view_is) (ap (λ h. h.tokens) c.self.view_is)));
-}
+offset_of-start-requires g c = grind (arith, common_steps, start_seen)
 
 pub invariant_of-result : goal.invariant_of-result
 invariant_of-result g c =

@@ -1,12 +1,10 @@
 use Rattle.std.proofs.Common.{arith}
+use Rattle.std.proofs.lemmas.Grind.{common_steps}
 use Rattle.rustc_lexer.proofs.lemmas.edits.Pieces.{cut_edges, cut_tail}
 use Rattle.rustc_lexer.proofs.relex.pieces.PiecesIterator.next.Goals as goal
 
 pub overflow_add-end : goal.overflow_add-end
-overflow_add-end c =
-    let tail = cut_tail c.self.inside.text.now c.self.inside.start c.self.inside.end _ _ _ c.in_ok-token.ensures.cases.0 c.self.invariant in
-    let begin = (cut_edges _ _ _ _ tail).0 in
-    omega (arith, begin.0, tail.0)
+overflow_add-end c = grind (arith, common_steps, cut_tail, cut_edges)
 
 pub range-requires : goal.range-requires
 range-requires c =

@@ -5,5 +5,4 @@ use Rattle.rustc_lexer.proofs.lemmas.edits.Heads.{edition_are}
 use Rattle.rustc_lexer.proofs.relex.lexed.in_edition.Lexed+Steps+E.edition.Goals as goal
 
 pub returns-clause-from_scratch : goal.returns-clause-from_scratch
-returns-clause-from_scratch g c =
-    grind (arith, common_steps, rules, c.self.invariant.0, c.self.view_is, c.self.invariant.1, c.edition.ensures, edition_are g.E.Extent.whole c.edition.result (string_bytes c.self.inside.kept.text) (c.self.invariant.0))
+returns-clause-from_scratch g c = grind (arith, common_steps, edition_are)

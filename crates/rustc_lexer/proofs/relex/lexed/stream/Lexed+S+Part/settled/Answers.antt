@@ -1,9 +1,11 @@
-use Rattle.std.proofs.Common.{List, ◌≡◌, sym, ◌∙◌, subst}
+use Rattle.std.proofs.Common.{List, ◌≡◌, length, map, refl, sym, ◌∙◌, subst, arith}
 use Rattle.rustc_lexer.specs.{Token}
 use Rattle.rustc_lexer.specs.Classes.{IsText}
 use Rattle.rustc_lexer.specs.Locality.{IsSettled}
 use Rattle.rustc_lexer.specs.Tokens.{tokens_by}
-use Rattle.rustc_lexer.proofs.lemmas.edits.Settled.{cuts_by, settled_by_front, stays}
+use Rattle.rustc_lexer.specs.means.Relexing.{IsFront}
+use Rattle.rustc_lexer.proofs.lemmas.edits.Settled.{settled_at, stays}
+use Rattle.rustc_lexer.proofs.lemmas.edits.Bounds.{bound-last, cuts}
 use Rattle.rustc_lexer.proofs.relex.lexed.stream.Lexed+S+Part.settled.Goals as goal
 
 pub returns-clause-settled : goal.returns-clause-settled
@@ -12,8 +14,14 @@ returns-clause-settled g c =
     let is : IsText held.text = subst IsText c.text-text.ensures.text (record { utf8 = c.text-text.utf8; fits = c.text-text.ensures.fits }) in
     let tokens : List Token = tokens_by (g.S.Stepper.grammar held.stepper) held.text in
     let scratch : held.tokens ≡ tokens = sym c.tokens-tokens.ensures.tokens ∙ c.tokens-tokens.ensures.from_scratch in
-    subst (λ (ts : List Token). IsSettled held.text ts c.kept_front.result.offset) (sym scratch)
-    (settled_by_front held.text tokens (cuts_by (g.S.Stepper.law held.stepper) held.text is) c.text-text.result.now c.tokens-tokens.result.now c.kept_front.result c.text-text.ensures.text c.tokens-tokens.ensures.from_scratch c.kept_front.ensures.front)
+    let law = g.S.Stepper.law held.stepper in
+    let front : IsFront held.text tokens (map (λ (t : Token). t.len) c.tokens-tokens.result.now) c.text-text.result.now (length c.text-text.result.now) =
+    rw (c.text-text.ensures.text, c.tokens-tokens.ensures.from_scratch) record
+    { utf8 = is.utf8; cuts = cuts law held.text is; lengths_are = refl; same = refl } in
+    let found = rw c.text-text.ensures.text at
+    (c.kept_front.ensures.front held.text tokens front
+    (rw (c.text-text.ensures.text, c.tokens-tokens.ensures.from_scratch) (omega arith, sym (bound-last law held.text is)))) in
+    rw scratch (settled_at law held.text is c.kept_front.result found.0 found.1 found.2)
 
 pub returns-clause-stays : goal.returns-clause-stays
 returns-clause-stays g c =
