@@ -27,7 +27,7 @@ pub read_errors-strings : (mode : Mode) (text : List ℕ) (items : List Item) �
 read_errors-strings mode text items double are = grind (arith, common_steps)
 
 -- the errors of some items and then others
-errors-append : (mode : Mode) (xs ys : List Item) → errors_in mode (xs ++ ys) ≡ errors_in mode xs ++ errors_in mode ys
+pub errors-append : (mode : Mode) (xs ys : List Item) → errors_in mode (xs ++ ys) ≡ errors_in mode xs ++ errors_in mode ys
 errors-append mode [] ys = refl
 errors-append mode (x ∷ xs) ys = grind (arith, common_steps, errors-append mode xs ys)
 

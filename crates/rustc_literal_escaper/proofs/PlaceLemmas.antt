@@ -5,13 +5,14 @@ use Rattle.std.specs.List.{list_any, slice_get}
 use Rattle.std.specs.Str.{chars, encode_utf8_all, IsUtf8}
 use Rattle.std.proofs.lemmas.Bool.{cond-false, cond-true}
 use Rattle.std.proofs.lemmas.Bool.Decides.{nat_tests}
-use Rattle.std.proofs.Math.Bool.{or-false}
+use Rattle.std.proofs.Math.Bool.{or-false, or_assoc}
 use Rattle.std.proofs.lemmas.List.{map-append}
 use Rattle.std.proofs.lemmas.Str.{byte_from_char, char_from_byte, chars-nil, encodes-chars}
 use Rattle.std.proofs.lemmas.Grind.{common_steps}
 use Rattle.rustc_literal_escaper.specs.declared.element.Element.TheVariants.{Fault}
 use Rattle.rustc_literal_escaper.specs.declared.error.EscapeError.TheVariants.{MultipleSkippedLinesWarning, UnskippedWhitespaceWarning}
 use Rattle.rustc_literal_escaper.specs.Grammar.{Item, is_newline, is_passed_over}
+use Rattle.rustc_literal_escaper.specs.laws.Escape.{run-cut}
 use Rattle.rustc_literal_escaper.specs.means.Elements.{item_at, line_end, more_space}
 use Rattle.rustc_literal_escaper.specs.means.Escape.{front_run, past_run}
 
@@ -24,25 +25,17 @@ pub record Passing (newline : Bool) (line left : List ℕ) : Type 0 where
   pub seen : newline_ahead line ≡ (newline || newline_ahead left)
   pub past : past_run is_passed_over line ≡ past_run is_passed_over left
 
-either : (a b d : Bool) → a || (b || d) ≡ (a || b) || d
-either true b d = refl
-either false b d = refl
-
 pub passing-step : (newline : Bool) (line left s : List ℕ) (c : ℕ) → Passing newline line left → left ≡ c ∷ s → is_passed_over c ≡ true → Passing (newline || (c == 10)) line s
 unfolding newline_ahead
-passing-step newline line left s c at e is = grind (arith, common_steps, cond-true, either)
+passing-step newline line left s c at e is = grind (arith, common_steps, cond-true, or_assoc)
 
 -- where none stands next, all of it is seen
-past_run-none : (p : ℕ → Bool) (s : List ℕ) → front_run p s ≡ [] → past_run p s ≡ s
-past_run-none p [] e = refl
-past_run-none p (c ∷ s) e = grind (arith, common_steps)
-
 abbrev pub Passed : Bool → List ℕ → List ℕ → Type 0
 Passed newline line left = (newline ≡ list_any is_newline (front_run is_passed_over line)) × (left ≡ past_run is_passed_over line)
 
 pub passing-end : (newline : Bool) (line left : List ℕ) → Passing newline line left → front_run is_passed_over left ≡ [] → Passed newline line left
 unfolding newline_ahead
-passing-end newline line left at none = grind (arith, common_steps, past_run-none, or-false)
+passing-end newline line left at none = grind (arith, common_steps, run-cut is_passed_over left, or-false)
 
 -- the first byte tells whether the first character passes a test that only ASCII passes
 

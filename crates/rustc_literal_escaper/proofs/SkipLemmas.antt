@@ -3,7 +3,6 @@ use Rattle.std.proofs.Common.{◌≡◌, ℕ, ◌+◌, ◌<◌, ◌≤◌, Bool,
 use Rattle.std.specs.Char.{encode_utf8}
 use Rattle.std.specs.List.{list_all, slice_index}
 use Rattle.std.specs.Str.{chars, encode_utf8_all, IsUtf8}
-use Rattle.std.specs.Option.{option_to_list}
 use Rattle.std.proofs.lemmas.Bool.{and_parts, false_from_ne_true}
 use Rattle.std.proofs.lemmas.Bool.Decides.{nat_tests}
 use Rattle.std.proofs.lemmas.List.{append-nil, get_or-append-add, get_or_append_left, length-take, take-append-drop}
@@ -12,12 +11,14 @@ use Rattle.std.proofs.lemmas.Grind.{common_steps}
 use Rattle.memchr.specs.Find.{is_byte, is_byte3, IsFirstByte}
 use Rattle.rustc_literal_escaper.specs.declared.element.Element.TheVariants.{Plain}
 use Rattle.rustc_literal_escaper.specs.declared.mode.Mode.{Mode}
-use Rattle.rustc_literal_escaper.specs.Grammar.{Item}
+use Rattle.rustc_literal_escaper.specs.declared.mode.Mode.TheVariants.{Str}
 use Rattle.rustc_literal_escaper.specs.means.Elements.{front_by, items_from}
 use Rattle.rustc_literal_escaper.specs.Meaning.{error_of, errors_in}
 use Rattle.rustc_literal_escaper.specs.Items.{is_plain}
-use Rattle.rustc_literal_escaper.specs.means.Plain.{Passes}
+use Rattle.rustc_literal_escaper.specs.means.Plain.{Passes, is_simple}
+use Rattle.rustc_literal_escaper.proofs.ErrorLemmas.{errors-append}
 use Rattle.rustc_literal_escaper.proofs.ItemLemmas.{items-plain}
+use Rattle.rustc_literal_escaper.proofs.RunLemmas.{simple-fine}
 
 -- where nothing is wrong with them, the errors are those of what is left
 module _ (mode : Mode) (raw : Bool) (class : ℕ → Bool) (fine : (c : ℕ) → class c ≡ true → (is_plain raw c ≡ true) × (error_of mode (Plain c) ≡ None)) (total : ℕ) where
@@ -29,12 +30,21 @@ module _ (mode : Mode) (raw : Bool) (class : ℕ → Bool) (fine : (c : ℕ) →
   fewer-past [] left e = omega arith
   fewer-past (c ∷ cs) left e = grind (arith, common_steps, and_parts, items-plain, fewer-past cs left)
 
-  -- after what waits
-  pub errors-skip : (waiting : Option Item) (s left : List ℕ) → Passes class s left → errors_in mode (option_to_list waiting ++ items_from (front_by raw) total left) ≡ errors_in mode (option_to_list waiting ++ items_from (front_by raw) total s)
-  errors-skip waiting s left p = grind (arith, common_steps, errors-past p.passed left p.all, p.whole)
+-- so it is past simple characters, and past plain ones where none of them is wrong
+pub simple_same : (mode : Mode) (raw : Bool) (total : ℕ) (s left : List ℕ) → Passes (is_simple raw) s left → errors_in mode (items_from (front_by raw) total left) ≡ errors_in mode (items_from (front_by raw) total s)
+simple_same mode raw total s left p = grind (arith, common_steps, errors-past mode raw (is_simple raw) (simple-fine mode raw) total p.passed left p.all, p.whole)
 
-  pub fewer-skip : (waiting : Option Item) (s left : List ℕ) → Passes class s left → length (option_to_list waiting ++ items_from (front_by raw) total left) ≤ length (option_to_list waiting ++ items_from (front_by raw) total s)
-  fewer-skip waiting s left p = grind (arith, common_steps, fewer-past p.passed left p.all, p.whole)
+pub simple_fewer : (raw : Bool) (total : ℕ) (s left : List ℕ) → Passes (is_simple raw) s left → length (items_from (front_by raw) total left) ≤ length (items_from (front_by raw) total s)
+simple_fewer raw total s left p = grind (arith, common_steps, fewer-past Str raw (is_simple raw) (simple-fine Str raw) total p.passed left p.all, p.whole)
+
+pub plain_same : (mode : Mode) (raw : Bool) (total : ℕ) (s left : List ℕ) → ((c : ℕ) → error_of mode (Plain c) ≡ None) → Passes (is_plain raw) s left
+    → errors_in mode (items_from (front_by raw) total left) ≡ errors_in mode (items_from (front_by raw) total s)
+plain_same mode raw total s left none p = grind (arith, common_steps, errors-past mode raw (is_plain raw) (λ c plain. (plain, none c)) total p.passed left p.all, p.whole)
+
+pub plain_fewer : (raw : Bool) (total : ℕ) (s left : List ℕ) → Passes (is_plain raw) s left → length (items_from (front_by raw) total left) ≤ length (items_from (front_by raw) total s)
+plain_fewer raw total s left p = grind (arith, common_steps, fewer-past Str raw (is_plain raw) (λ c plain. (plain, refl)) total p.passed left p.all, p.whole)
+
+pub ruleset passed_lemmas = (simple_same, simple_fewer, plain_same, plain_fewer, errors-append)
 
 -- ---- a search of bytes finds the first character that is not plain
 

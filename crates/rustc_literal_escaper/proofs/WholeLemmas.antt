@@ -25,8 +25,7 @@ use Rattle.rustc_literal_escaper.specs.means.Single.{StartsWithSingle, alone, re
 use Rattle.rustc_literal_escaper.proofs.DigitLemmas.{with_digit, left_at, left_at-brace, left_at-digit, left_at-start, hex-yes}
 use Rattle.rustc_literal_escaper.proofs.ErrorLemmas.{read_errors-strings}
 use Rattle.rustc_literal_escaper.specs.laws.Elements.{nothing}
-use Rattle.rustc_literal_escaper.proofs.RunLemmas.{simple-fine}
-use Rattle.rustc_literal_escaper.proofs.SkipLemmas.{errors-skip}
+use Rattle.rustc_literal_escaper.proofs.SkipLemmas.{simple_same}
 use Rattle.rustc_literal_escaper.proofs.AnswerLemmas.{alone_whole}
 use Rattle.rustc_literal_escaper.proofs.WrittenLemmas.{is-ascii}
 
@@ -108,7 +107,7 @@ pub raw_simple : (mode : Mode) (src left : List ℕ) → true ≡ is_raw mode �
 raw_simple mode src left raw passes none =
     let empty : chars left ≡ [] = ap chars (nil_from_length left none) ∙ chars-nil in
     sym (read_errors-strings mode src (items_of true src) (raw_double mode raw) (ap (λ (r : Bool). items_of r src) raw))
-    ∙ (sym (errors-skip mode true (is_simple true) (simple-fine mode true) (length src) None (chars src) (chars left) passes)
+    ∙ (sym (simple_same mode true (length src) (chars src) (chars left) passes)
     ∙ (ap (λ (xs : List ℕ). errors_in mode (items_from (front_by true) (length src) xs)) empty ∙ ap (errors_in mode) (nothing (front_by true) (length src))))
 
 -- an empty string that may have escapes

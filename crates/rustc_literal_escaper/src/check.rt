@@ -233,14 +233,14 @@ fn check_escaped<F: FnMut(Range<usize>, EscapeError)>(
 {
     let mut left = rest;
     'items: loop {
-        let front = past_simple_front(left);
+        let front = past_simple_front(left, false);
         let Some((c, tail)) = split_first(front) else {
             return;
         };
         let start = total - front.len();
         if is_plain(c, false) {
             check_element(start..total - tail.len(), Element::Plain(c), mode, callback);
-            left = past_fine(tail, mode);
+            left = past_fine(tail, false, mode);
             continue;
         }
         if let Some(element) = unescaped_at(c) {
@@ -369,15 +369,16 @@ fn check_element<F: FnMut(Range<usize>, EscapeError)>(
 ///
 /// It does not look for them if the next character is outside ASCII.
 #[inline(always)]
-fn past_simple_front(rest: &str) -> &str
+#[tactic(auto, using(crate::proofs::SkipLemmas::passed_lemmas))]
+fn past_simple_front(rest: &str, raw: bool) -> &str
     ensures same { (mode : Mode) (total : ℕ)
-        → spec.errors_in mode (items_from (front_by false) total (chars result.now))
-        ≡ spec.errors_in mode (items_from (front_by false) total (chars rest.now)) }
+        → spec.errors_in mode (items_from (front_by raw) total (chars result.now))
+        ≡ spec.errors_in mode (items_from (front_by raw) total (chars rest.now)) }
     ensures text { IsUtf8 result.now }
     ensures shorter { length result.now ≤ length rest.now }
 {
     match rest.as_bytes().first() {
-        Some(byte) if byte.is_ascii() => past_simple(rest, false),
+        Some(byte) if byte.is_ascii() => past_simple(rest, raw),
         _ => rest,
     }
 }
@@ -385,17 +386,18 @@ fn past_simple_front(rest: &str) -> &str
 /// Returns the text after the plain characters at the front, if no plain character is wrong in this mode, and
 /// otherwise after simple ones.
 #[inline(always)]
-fn past_fine(rest: &str, mode: Mode) -> &str
+#[tactic(auto, using(crate::proofs::SkipLemmas::passed_lemmas))]
+fn past_fine(rest: &str, raw: bool, mode: Mode) -> &str
     ensures same { (total : ℕ)
-        → spec.errors_in mode (items_from (front_by false) total (chars result.now))
-        ≡ spec.errors_in mode (items_from (front_by false) total (chars rest.now)) }
+        → spec.errors_in mode (items_from (front_by raw) total (chars result.now))
+        ≡ spec.errors_in mode (items_from (front_by raw) total (chars rest.now)) }
     ensures text { IsUtf8 result.now }
     ensures shorter { length result.now ≤ length rest.now }
 {
     if takes_all(mode) {
-        past_plain(rest, false)
+        past_plain(rest, raw)
     } else {
-        past_last_simple(rest, false)
+        past_last_simple(rest, raw)
     }
 }
 
@@ -432,7 +434,7 @@ fn check_raw_in<F: FnMut(Range<usize>, EscapeError)>(
 {
     let mut left = rest;
     'items: loop {
-        let front = past_fine_raw(left, mode);
+        let front = past_fine_run(left, true, mode);
         let Some((c, tail)) = split_first(front) else {
             return;
         };
@@ -477,18 +479,19 @@ fn check_raw_part<F: FnMut(Range<usize>, EscapeError)>(
     }
 }
 
-/// Returns the text after characters at the front of a raw string that are not wrong in this mode.
+/// Returns the text after characters at the front that are not wrong in this mode.
 #[inline(always)]
-fn past_fine_raw(rest: &str, mode: Mode) -> &str
+#[tactic(auto, using(crate::proofs::SkipLemmas::passed_lemmas))]
+fn past_fine_run(rest: &str, raw: bool, mode: Mode) -> &str
     ensures same { (total : ℕ)
-        → spec.errors_in mode (items_from (front_by true) total (chars result.now))
-        ≡ spec.errors_in mode (items_from (front_by true) total (chars rest.now)) }
+        → spec.errors_in mode (items_from (front_by raw) total (chars result.now))
+        ≡ spec.errors_in mode (items_from (front_by raw) total (chars rest.now)) }
     ensures text { IsUtf8 result.now }
     ensures shorter { length result.now ≤ length rest.now }
 {
-    let left = past_simple(rest, true);
+    let left = past_simple(rest, raw);
     match left.as_bytes().first() {
-        Some(byte) if takes_all(mode) && *byte != b'\r' => past_plain(left, true),
+        Some(byte) if takes_all(mode) && *byte != b'\r' => past_plain(left, raw),
         _ => left,
     }
 }

@@ -203,6 +203,7 @@ impl<'a> Elements<'a> {
     ///
     /// It does not look for them if the next character is outside ASCII.
     #[inline(always)]
+    #[tactic(auto, using(crate::proofs::SkipLemmas::passed_lemmas))]
     pub(crate) fn skip_simple(&mut self)
         ensures same { (mode : Mode) → errors_in mode self.new ≡ errors_in mode self.old }
         ensures fewer { length self.new ≤ length self.old }
@@ -215,6 +216,7 @@ impl<'a> Elements<'a> {
 
     /// Skips the plain characters at the front, if no plain character is wrong in this mode, and otherwise simple ones.
     #[inline(always)]
+    #[tactic(auto, using(crate::proofs::SkipLemmas::passed_lemmas))]
     pub(crate) fn skip_plain(&mut self, mode: Mode)
         ensures same { errors_in mode self.new ≡ errors_in mode self.old }
         ensures fewer { length self.new ≤ length self.old }

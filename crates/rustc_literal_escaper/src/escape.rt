@@ -16,7 +16,7 @@ const MOST_DIGITS: usize = 6;
 
 /// Reads the escape at the front of the text after a backslash. Returns it, and the text after it.
 #[inline(always)]
-pub(crate) fn escape(rest: &str) -> (Element, &str)
+pub fn read_escape(rest: &str) -> (Element, &str)
     ensures shorter { length result.1.now ≤ length rest.now }
     ensures text { IsUtf8 result.1.now }
     ensures read { (result.0, chars result.1.now) ≡ spec.escape (chars rest.now) }

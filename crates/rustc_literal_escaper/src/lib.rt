@@ -33,3 +33,9 @@ pub use strings::{
 };
 pub use unit::{MixedUnit, NonZeroChar, NonZeroU8};
 pub use written::{EscapeCStrError, escape_byte_str, escape_c_str, escape_str};
+
+// What `marks` reads a literal of a file by.
+pub use escape::read_escape;
+pub use scan::split_first;
+pub use single::unescaped_alone;
+pub use steps::{PassedOver, pass_over, raw_element, unescaped};

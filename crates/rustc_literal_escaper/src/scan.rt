@@ -9,7 +9,7 @@ use memchr::{memchr, memchr3};
 
 /// Returns the first character and the text after it, or `None` if the text is empty.
 #[inline(always)]
-pub(crate) fn split_first(rest: &str) -> Option<(char, &str)>
+pub fn split_first(rest: &str) -> Option<(char, &str)>
     ensures { MatchOption result (chars rest.now ≡ [])
         (λ r. (chars rest.now ≡ r.0 ∷ chars r.1.now) × (length r.1.now < length rest.now)
         × IsUtf8 r.1.now) }

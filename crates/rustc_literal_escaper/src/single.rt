@@ -7,7 +7,7 @@ ghost use Rattle.rustc_literal_escaper.specs.means.Single as spec;
 
 use crate::element::Element;
 use crate::error::EscapeError;
-use crate::escape::{escape, short, whole_escape};
+use crate::escape::{read_escape, short, whole_escape};
 use crate::scan::split_first;
 use crate::strings::{AsByte, AsChar, Meaning};
 
@@ -156,9 +156,9 @@ fn first(c: char, tail: &str) -> (Element, &str)
     ensures read { (result.0, chars result.1.now) ≡ spec.single c (chars tail.now) }
 {
     if c == '\\' {
-        escape(tail)
+        read_escape(tail)
     } else {
-        (unescaped(c), tail)
+        (unescaped_alone(c), tail)
     }
 }
 
@@ -175,7 +175,7 @@ pub(crate) fn first_by_call(c: char, tail: &str) -> (Element, &str)
 
 /// Returns the element for a character that is not escaped, between single quotes.
 #[inline(always)]
-fn unescaped(c: char) -> Element
+pub fn unescaped_alone(c: char) -> Element
     ensures { result ≡ spec.unescaped c }
 {
     match c {

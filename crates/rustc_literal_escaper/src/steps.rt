@@ -11,7 +11,7 @@ ghost use Rattle.rustc_literal_escaper.specs.means.Escape.{front_run, past_run};
 
 use crate::element::Element;
 use crate::error::EscapeError;
-use crate::escape::{escape, escaped_byte};
+use crate::escape::{escaped_byte, read_escape};
 use crate::scan::split_first;
 use std::ops::Range;
 
@@ -71,7 +71,7 @@ fn step_by(raw: bool, c: char, tail: &str, start: usize, total: usize) -> Found<
     if let Some(line) = strip_newline(tail) {
         return line_end(line, start, total);
     }
-    let (element, left) = escape(tail);
+    let (element, left) = read_escape(tail);
     one(element, left, start, total)
 }
 
@@ -178,7 +178,7 @@ fn first_element(rest: &str, raw: bool) -> Option<(Element, &str)>
     if strip_newline(tail).is_some() {
         return None;
     }
-    let (element, left) = escape(tail);
+    let (element, left) = read_escape(tail);
     Some((element, left))
 }
 
@@ -209,7 +209,7 @@ pub(crate) fn lone_element(c: char, tail: &str) -> (Element, &str)
     ensures text { IsUtf8 result.1.now }
 {
     if c == '\\' {
-        escape(tail)
+        read_escape(tail)
     } else {
         (unescaped(c), tail)
     }
@@ -217,7 +217,7 @@ pub(crate) fn lone_element(c: char, tail: &str) -> (Element, &str)
 
 /// Returns the element for a character of a raw string.
 #[inline(always)]
-pub(crate) fn raw_element(c: char) -> Element
+pub fn raw_element(c: char) -> Element
     ensures { result ≡ spec.raw_element c }
 {
     if c == '\r' {
@@ -245,7 +245,7 @@ fn one(element: Element, left: &str, start: usize, total: usize) -> Found<'_>
 
 /// Returns the element for a character that is not escaped, between double quotes.
 #[inline(always)]
-fn unescaped(c: char) -> Element
+pub fn unescaped(c: char) -> Element
     ensures { result ≡ spec.unescaped c }
 {
     match c {
@@ -315,11 +315,11 @@ fn line_end(line: &str, start: usize, total: usize) -> Found<'_>
 
 /// The white space that a backslash at the end of a line skips.
 #[derive(Clone, Copy)]
-pub(crate) struct PassedOver<'a> {
+pub struct PassedOver<'a> {
     /// Whether a newline is in it.
-    pub(crate) newline: bool,
+    pub newline: bool,
     /// The text after it.
-    pub(crate) left: &'a str,
+    pub left: &'a str,
 }
 
 /// Returns the white space at the front that is skipped.
@@ -327,7 +327,7 @@ pub(crate) struct PassedOver<'a> {
 /// Where the newlines are is hard to predict, so nothing branches on it.
 #[inline(always)]
 #[tactic(auto, using(crate::proofs::PlaceLemmas::place_lemmas))]
-pub(crate) fn pass_over(line: &str) -> PassedOver<'_>
+pub fn pass_over(line: &str) -> PassedOver<'_>
     ensures newline { result.newline
         ≡ list_any grammar.is_newline (front_run grammar.is_passed_over (chars line.now)) }
     ensures left { chars result.left.now ≡ past_run grammar.is_passed_over (chars line.now) }

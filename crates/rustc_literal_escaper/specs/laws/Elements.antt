@@ -33,7 +33,7 @@ past_backslash-shorter [] = escape-shorter []
 past_backslash-shorter (c ∷ s) = either (λ (f : Front). length f.left ≤ suc (length s)) (is_newline c) (line_end s) (one (escape (c ∷ s)))
     (let l = past_run-shorter is_passed_over s in omega arith) (escape-shorter (c ∷ s))
 
-left-shorter : (raw : Bool) (c : ℕ) (s : List ℕ) → length (front_by raw c s).left ≤ length s
+pub left-shorter : (raw : Bool) (c : ℕ) (s : List ℕ) → length (front_by raw c s).left ≤ length s
 unfolding front raw_front
 left-shorter raw c s = grind (arith, common_steps, nat_tests, either, past_backslash-shorter)
 

@@ -39,7 +39,7 @@ by_either true t f = t refl
 by_either false t f = f refl
 
 -- a digit is no other character
-no-digit : (k c : ℕ) → is_hex k ≡ false → is_hex c ≡ true → (c == k) ≡ false
+pub no-digit : (k c : ℕ) → is_hex k ≡ false → is_hex c ≡ true → (c == k) ≡ false
 no-digit k c none is = by_either (c == k) (λ e. absurd (true≢false (sym is ∙ (ap is_hex (eqb-true c k e) ∙ none)))) (λ e. e)
 
 pub digit-runs : (c : ℕ) → is_hex c ≡ true → is_digit_or_underscore c ≡ true

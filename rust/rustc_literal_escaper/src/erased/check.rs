@@ -171,14 +171,14 @@ fn check_escaped<F: FnMut(Range<usize>, EscapeError)>(
 ) {
     let mut left = rest;
     loop {
-        let front = past_simple_front(left);
+        let front = past_simple_front(left, false);
         let Some((c, tail)) = split_first(front) else {
             return;
         };
         let start = total - front.len();
         if is_plain(c, false) {
             check_element(start..total - tail.len(), Element::Plain(c), mode, callback);
-            left = past_fine(tail, mode);
+            left = past_fine(tail, false, mode);
             continue;
         }
         if let Some(element) = unescaped_at(c) {
@@ -275,9 +275,9 @@ fn check_element<F: FnMut(Range<usize>, EscapeError)>(
 ///
 /// It does not look for them if the next character is outside ASCII.
 #[inline(always)]
-fn past_simple_front(rest: &str) -> &str {
+fn past_simple_front(rest: &str, raw: bool) -> &str {
     match rest.as_bytes().first() {
-        Some(byte) if byte.is_ascii() => past_simple(rest, false),
+        Some(byte) if byte.is_ascii() => past_simple(rest, raw),
         _ => rest,
     }
 }
@@ -285,11 +285,11 @@ fn past_simple_front(rest: &str) -> &str {
 /// Returns the text after the plain characters at the front, if no plain character is wrong in this mode, and
 /// otherwise after simple ones.
 #[inline(always)]
-fn past_fine(rest: &str, mode: Mode) -> &str {
+fn past_fine(rest: &str, raw: bool, mode: Mode) -> &str {
     if takes_all(mode) {
-        past_plain(rest, false)
+        past_plain(rest, raw)
     } else {
-        past_last_simple(rest, false)
+        past_last_simple(rest, raw)
     }
 }
 
@@ -316,7 +316,7 @@ fn check_raw_in<F: FnMut(Range<usize>, EscapeError)>(
 ) {
     let mut left = rest;
     loop {
-        let front = past_fine_raw(left, mode);
+        let front = past_fine_run(left, true, mode);
         let Some((c, tail)) = split_first(front) else {
             return;
         };
@@ -354,12 +354,12 @@ fn check_raw_part<F: FnMut(Range<usize>, EscapeError)>(
     }
 }
 
-/// Returns the text after characters at the front of a raw string that are not wrong in this mode.
+/// Returns the text after characters at the front that are not wrong in this mode.
 #[inline(always)]
-fn past_fine_raw(rest: &str, mode: Mode) -> &str {
-    let left = past_simple(rest, true);
+fn past_fine_run(rest: &str, raw: bool, mode: Mode) -> &str {
+    let left = past_simple(rest, raw);
     match left.as_bytes().first() {
-        Some(byte) if takes_all(mode) && *byte != b'\r' => past_plain(left, true),
+        Some(byte) if takes_all(mode) && *byte != b'\r' => past_plain(left, raw),
         _ => left,
     }
 }

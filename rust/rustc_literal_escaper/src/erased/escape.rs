@@ -11,7 +11,7 @@ const MOST_DIGITS: usize = 6;
 
 /// Reads the escape at the front of the text after a backslash. Returns it, and the text after it.
 #[inline(always)]
-pub(crate) fn escape(rest: &str) -> (Element, &str) {
+pub fn read_escape(rest: &str) -> (Element, &str) {
     let Some((c, tail)) = split_first(rest) else {
         return (Element::Fault(EscapeError::LoneSlash), rest);
     };

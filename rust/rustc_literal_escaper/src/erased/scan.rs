@@ -5,7 +5,7 @@ use memchr::{memchr, memchr3};
 
 /// Returns the first character and the text after it, or `None` if the text is empty.
 #[inline(always)]
-pub(crate) fn split_first(rest: &str) -> Option<(char, &str)> {
+pub fn split_first(rest: &str) -> Option<(char, &str)> {
     let mut chars = rest.chars();
     let first = chars.next()?;
     Some((first, chars.as_str()))

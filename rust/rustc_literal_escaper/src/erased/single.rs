@@ -3,7 +3,7 @@
 
 use crate::erased::element::Element;
 use crate::erased::error::EscapeError;
-use crate::erased::escape::{escape, short, whole_escape};
+use crate::erased::escape::{read_escape, short, whole_escape};
 use crate::erased::scan::split_first;
 use crate::erased::strings::{AsByte, AsChar, Meaning};
 
@@ -118,9 +118,9 @@ pub(crate) fn whole_at(c: char, tail: &str) -> Option<Element> {
 #[inline(always)]
 fn first(c: char, tail: &str) -> (Element, &str) {
     if c == '\\' {
-        escape(tail)
+        read_escape(tail)
     } else {
-        (unescaped(c), tail)
+        (unescaped_alone(c), tail)
     }
 }
 
@@ -133,7 +133,7 @@ pub(crate) fn first_by_call(c: char, tail: &str) -> (Element, &str) {
 
 /// Returns the element for a character that is not escaped, between single quotes.
 #[inline(always)]
-fn unescaped(c: char) -> Element {
+pub fn unescaped_alone(c: char) -> Element {
     match c {
         '\n' | '\t' | '\'' => Element::Fault(EscapeError::EscapeOnlyChar),
         '\r' => Element::Fault(EscapeError::BareCarriageReturn),

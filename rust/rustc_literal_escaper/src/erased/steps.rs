@@ -3,7 +3,7 @@
 
 use crate::erased::element::Element;
 use crate::erased::error::EscapeError;
-use crate::erased::escape::{escape, escaped_byte};
+use crate::erased::escape::{escaped_byte, read_escape};
 use crate::erased::scan::split_first;
 use core::ops::Range;
 
@@ -45,7 +45,7 @@ fn step_by(raw: bool, c: char, tail: &str, start: usize, total: usize) -> Found<
     if let Some(line) = strip_newline(tail) {
         return line_end(line, start, total);
     }
-    let (element, left) = escape(tail);
+    let (element, left) = read_escape(tail);
     one(element, left, start, total)
 }
 
@@ -125,7 +125,7 @@ fn first_element(rest: &str, raw: bool) -> Option<(Element, &str)> {
     if strip_newline(tail).is_some() {
         return None;
     }
-    let (element, left) = escape(tail);
+    let (element, left) = read_escape(tail);
     Some((element, left))
 }
 
@@ -145,7 +145,7 @@ pub(crate) fn line_at(c: char, tail: &str) -> Option<&str> {
 #[inline(never)]
 pub(crate) fn lone_element(c: char, tail: &str) -> (Element, &str) {
     if c == '\\' {
-        escape(tail)
+        read_escape(tail)
     } else {
         (unescaped(c), tail)
     }
@@ -153,7 +153,7 @@ pub(crate) fn lone_element(c: char, tail: &str) -> (Element, &str) {
 
 /// Returns the element for a character of a raw string.
 #[inline(always)]
-pub(crate) fn raw_element(c: char) -> Element {
+pub fn raw_element(c: char) -> Element {
     if c == '\r' {
         Element::Fault(EscapeError::BareCarriageReturnInRawString)
     } else {
@@ -173,7 +173,7 @@ fn one(element: Element, left: &str, start: usize, total: usize) -> Found<'_> {
 
 /// Returns the element for a character that is not escaped, between double quotes.
 #[inline(always)]
-fn unescaped(c: char) -> Element {
+pub fn unescaped(c: char) -> Element {
     match c {
         '"' => Element::Fault(EscapeError::EscapeOnlyChar),
         '\r' => Element::Fault(EscapeError::BareCarriageReturn),
@@ -224,18 +224,18 @@ fn line_end(line: &str, start: usize, total: usize) -> Found<'_> {
 
 /// The white space that a backslash at the end of a line skips.
 #[derive(Clone, Copy)]
-pub(crate) struct PassedOver<'a> {
+pub struct PassedOver<'a> {
     /// Whether a newline is in it.
-    pub(crate) newline: bool,
+    pub newline: bool,
     /// The text after it.
-    pub(crate) left: &'a str,
+    pub left: &'a str,
 }
 
 /// Returns the white space at the front that is skipped.
 ///
 /// Where the newlines are is hard to predict, so nothing branches on it.
 #[inline(always)]
-pub(crate) fn pass_over(line: &str) -> PassedOver<'_> {
+pub fn pass_over(line: &str) -> PassedOver<'_> {
     let mut newline = false;
     let mut left = line;
     while let Some((c, tail)) = split_passed(left) {
