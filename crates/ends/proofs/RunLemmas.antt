@@ -1,18 +1,10 @@
 -- What a run comes to, by what was read and what was written.
-use Rattle.std.proofs.Common.{◌≡◌, ℕ, ◌^◌, ◌<◌, List, length, Option, Result, Ok, Err, Vec, Global, arith}
+use Rattle.std.proofs.Common.{◌≡◌, ℕ, ◌^◌, ◌<◌, List, length, Option, Result, Err, arith}
 use Rattle.std.proofs.lemmas.Grind.{common_steps}
 use Rattle.std.specs.Prelude.{IfSome}
 use Rattle.std.specs.Str.{IsUtf8}
-use Rattle.ends.specs.Reading.{EndsReading}
 use Rattle.ends.specs.Run.{IsInputFault, Makes, Writes}
 use Rattle.ends.specs.declared.fault.Fault.{Fault}
-use Rattle.ends.specs.declared.fault.Fault.TheVariants.{NotUtf8}
-
-pub unread : (known : Option (List ℕ)) (fault : Fault) → EndsReading known (Err fault) → IsInputFault known fault
-unread known fault ends = grind (arith, common_steps)
-
-pub no_text : (known : Option (List ℕ)) (read : Vec ℕ Global) → EndsReading known (Ok read) → length read.items < 2 ^ 32 → ¬ (IsUtf8 read.items) → IsInputFault known NotUtf8
-no_text known read ends fits other = grind (arith, common_steps)
 
 -- no text was read
 pub makes_unread : (made : List ℕ → List ℕ) (known old new : Option (List ℕ)) (fault : Fault) → IsInputFault known fault → Makes made known old new (Err fault)

@@ -16,7 +16,7 @@ use std::io::{Read, Write};
 ///
 /// `Fault::Read` if a read failed, `Fault::TooLong` if there are more bytes, `Fault::NotUtf8` if
 /// they are not UTF-8, and `Fault::Memory` if an allocation failed. What was read is lost then.
-#[tactic(auto, using(crate::proofs::RunLemmas::unread, crate::proofs::RunLemmas::no_text))]
+#[tactic(auto, using(std::proofs::lemmas::Grind::common_steps))]
 pub fn read_text<R: Read>(alloc: Global, input: &mut Watched<R>) -> Result<String, Fault>
     requires reads { has_failed input.old ≡ false }
     ensures read { IsErrOf result Fault.Read ↔ IsTrue (has_failed input.new) }
