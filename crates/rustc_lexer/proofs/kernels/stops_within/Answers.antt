@@ -1,8 +1,6 @@
-use Rattle.std.proofs.Common.{ℕ, List, map, take, ap, ◌∙◌, arith}
+use Rattle.std.proofs.Common.{arith}
 use Rattle.std.proofs.lemmas.Grind.{common_steps}
 use Rattle.std.proofs.lemmas.List.{take_rest}
-use lib.Lanes.{mask_l}
-use Rattle.rustc_lexer.specs.means.ByteRuns.{outside}
 use Rattle.rustc_lexer.proofs.lemmas.tokens.Stops.{looked_last, looked_on}
 use Rattle.rustc_lexer.proofs.kernels.stops_within.Goals as goal
 

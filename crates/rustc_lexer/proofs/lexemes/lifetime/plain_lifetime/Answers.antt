@@ -2,7 +2,6 @@ use Rattle.std.proofs.lemmas.Grind.{common_steps}
 use Rattle.std.proofs.Common.{arith, rules}
 use Rattle.rustc_lexer.proofs.lemmas.tokens.Lifetimes.{plain_lifetime-quoted, plain_lifetime-unquoted_name}
 use Rattle.rustc_lexer.proofs.lexemes.lifetime.plain_lifetime.Goals as goal
-use Rattle.rustc_lexer.specs.Classes.{is_word_continue}
 
 pub returns-in-Some : goal.returns-in-Some
 returns-in-Some c = search (rules, plain_lifetime-quoted)

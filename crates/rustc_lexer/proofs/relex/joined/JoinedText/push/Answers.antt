@@ -1,8 +1,8 @@
-use Rattle.std.proofs.Common.{◌≡◌, ◌+◌, ◌^◌, ◌<◌, arith, length, subst, string_bytes, chars, List, ℕ}
+use Rattle.std.proofs.Common.{◌+◌, ◌^◌, ◌<◌, arith, length, subst, string_bytes, chars, List, ℕ}
 use Rattle.std.proofs.lemmas.Grind.{common_steps}
 use Rattle.std.proofs.lemmas.Str.{IsUtf8-string_bytes}
 use Rattle.rustc_lexer.specs.Answers.{first_in, tokens_of}
-use Rattle.rustc_lexer.specs.Joined.{AreClosed, AreInseparable, IsJoined, Joined, RunsOn}
+use Rattle.rustc_lexer.specs.Joined.{AreClosed, AreInseparable, Joined, RunsOn}
 use Rattle.rustc_lexer.specs.LanguageText.{part}
 use Rattle.rustc_lexer.specs.means.Joined.{IsSure}
 use Rattle.rustc_lexer.proofs.lemmas.joined.Sure.{grown, joined-only}

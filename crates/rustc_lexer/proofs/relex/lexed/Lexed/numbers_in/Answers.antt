@@ -1,4 +1,3 @@
-use Rattle.std.proofs.Common.{arith}
 use Rattle.std.proofs.Common.{rules}
 use Rattle.rustc_lexer.proofs.lemmas.edits.Offsets.{touched_from}
 use Rattle.rustc_lexer.proofs.relex.lexed.Lexed.numbers_in.Goals as goal

@@ -1,11 +1,11 @@
-use Rattle.std.proofs.Common.{◌≡◌, ◌≤◌, ◌+◌, List, get_or, length, take, take_all, arith, refl, sym}
+use Rattle.std.proofs.Common.{◌≤◌, ◌+◌, List, get_or, take, take_all, arith, refl, sym}
 use Rattle.std.proofs.lemmas.Grind.{common_steps}
 use Rattle.std.proofs.lemmas.List.{take_more}
 use Rattle.rustc_lexer.specs.declared.relex.edit.Edit.{Edit}
 use Rattle.std.proofs.lemmas.Str.{IsCharBoundary-start, IsUtf8-nil}
 use Rattle.rustc_lexer.proofs.lemmas.edits.AtOnce.{at_once_short, at_once_valid, first_start, insert_end, insert_utf8, made-last, order-last, order-take, some_are, stop-last}
 use Rattle.rustc_lexer.proofs.lemmas.edits.Lists.{none}
-use Rattle.rustc_lexer.specs.Edits.{AreAtOnce, AreInOrder, start_of_first, with_all}
+use Rattle.rustc_lexer.specs.Edits.{AreInOrder}
 use Rattle.rustc_lexer.proofs.relex.lexed.at_once.change_of.Goals as goal
 use Rattle.rustc_lexer.proofs.relex.lexed.at_once.change_of.Goals.{then-edit-change-via-then-edit-change, then-edit-change-via-else-edit-change+then-not-contains_range}
 

@@ -1,6 +1,5 @@
 use Rattle.std.proofs.lemmas.Grind.{common_steps}
-use Rattle.std.proofs.Common.{arith, rules}
-use Rattle.std.proofs.Common.{string_bytes}
+use Rattle.std.proofs.Common.{arith}
 use Rattle.rustc_lexer.proofs.lemmas.edits.Heads.{edition_are}
 use Rattle.rustc_lexer.proofs.relex.lexed.in_edition.Lexed+Steps+E.edition.Goals as goal
 

@@ -1,9 +1,5 @@
-use Rattle.std.proofs.Common.{ap, ◌∙◌}
 use Rattle.std.proofs.Common.{arith}
 use Rattle.std.proofs.lemmas.Grind.{common_steps}
-use Rattle.rustc_lexer.specs.Kept.{layout_in}
-use Rattle.rustc_lexer.specs.Partition.{tokens_in}
-use Rattle.rustc_lexer.proofs.lemmas.edits.FrontAndBack.{OnOk-map}
 use Rattle.rustc_lexer.proofs.lemmas.edits.Heads.{edition_are}
 use Rattle.rustc_lexer.proofs.relex.lexed.in_edition.Lexed+Steps+E.set_edition.Goals as goal
 
