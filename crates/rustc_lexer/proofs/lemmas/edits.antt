@@ -1,6 +1,4 @@
 pub mod AtOnce
-pub mod BodyChanges
-pub mod BodyEdits
 pub mod Bounds
 pub mod ByLengths
 pub mod Checkpoints
@@ -11,16 +9,12 @@ pub mod InCommon
 pub mod KeptBounds
 pub mod KeptEdits
 pub mod KeptFront
-pub mod KeptTexts
 pub mod Layouts
-pub mod Lengths
 pub mod Lists
-pub mod ListsSoFar
 pub mod ManyTokens
 pub mod Offsets
 pub mod OneAnswer
 pub mod Pieces
 pub mod Settled
-pub mod Steps
 pub mod UnderWay
 pub mod WholeEdits

@@ -77,7 +77,7 @@ pub(crate) fn counted(kept: bool, old_count: usize, new_count: usize, body: Rele
 
 /// Replaces the old tokens of the body with the lexed ones. Those up to `at.front` and those from `at.back` on stay.
 /// Also replaces the tokens of the head with the new ones, unless they stay. If an allocation fails, nothing changes.
-#[tactic(auto, using(crate::proofs::lemmas::edits::BodyEdits::put_behind, std::proofs::lemmas::Grind::common_steps))]
+#[tactic(auto, using(crate::proofs::lemmas::edits::WholeEdits::put_behind, std::proofs::lemmas::Grind::common_steps))]
 pub(crate) fn put_tokens(
     alloc: Global,
     tokens: &mut Vec<Token>,

@@ -1,19 +1,55 @@
--- Relexing by the lengths of the old tokens: the texts before and after, and where a search of the old tokens ends.
-use Rattle.std.proofs.Common.{◌≡◌, ℕ, ◌+◌, ◌-◌, ◌<◌, ◌≤◌, Bool, false, ◌||◌, eqb, eq-eqb, List, ◌++◌, length, map, take, drop, sym, ap, ◌∙◌, subst, arith, length-drop, length-append, IsUtf8, drop-drop, length-take-le, append_assoc, eq-or-lt_of_le, IsCharBoundary, max}
-use Rattle.std.proofs.lemmas.Str.{IsUtf8-append, IsUtf8-drop, IsCharBoundary-at_seam, IsCharBoundary-from_drop}
+-- Tokens that are known by their lengths alone: which bounds are found, and where a search of the old ones ends.
+use Rattle.std.proofs.Common.{◌≡◌, ℕ, ◌+◌, ◌-◌, ◌<◌, ◌≤◌, Bool, false, ◌||◌, eqb, eq-eqb, List, ◌++◌, length, map, take, drop, sym, ap, ◌∙◌, subst, arith, length-drop, length-append, IsUtf8, drop-drop, length-take-le, append_assoc, eq-or-lt_of_le, IsCharBoundary, max, true, get_or}
+use Rattle.std.proofs.lemmas.Str.{IsUtf8-append, IsUtf8-drop, IsCharBoundary-at_seam, IsCharBoundary-from_drop, IsUtf8-take, IsCharBoundary-from_take}
 use Rattle.std.proofs.lemmas.Grind.{common_steps}
 use Rattle.rustc_lexer.specs.declared.relex.front.{Damage.Damage, TokenStart.TokenStart}
 use Rattle.rustc_lexer.specs.declared.relex.relexing.Change.{Change}
-use Rattle.rustc_lexer.specs.{Token}
+use Rattle.rustc_lexer.specs.{Token, Eof}
 use Rattle.rustc_lexer.specs.Tokens.{bound, tokens_by}
 use Rattle.rustc_lexer.specs.Edits.{apply}
 use Rattle.rustc_lexer.specs.Offsets.{IsBound}
 use Rattle.rustc_lexer.specs.Relexing.{IsChange, IsEditOf, IsMadeOf}
-use Rattle.rustc_lexer.specs.means.Relexing.{IsFollowed, IsFront, IsLast, damage_of}
-use Rattle.rustc_lexer.specs.Locality.{IsGrammar}
+use Rattle.rustc_lexer.specs.means.Relexing.{IsFollowed, IsFront, IsLast, damage_of, HasLengths}
+use Rattle.rustc_lexer.specs.Locality.{IsGrammar, has_two}
 use Rattle.rustc_lexer.specs.Classes.{IsText}
 use Rattle.rustc_lexer.proofs.lemmas.edits.Bounds.{bound-last, bound_mono, cuts, rises}
-use Rattle.rustc_lexer.proofs.lemmas.edits.FrontAndBack.{edited}
+use Rattle.rustc_lexer.proofs.lemmas.edits.FrontAndBack.{edited, has_two-late, has_two-same}
+use Rattle.std.proofs.lemmas.List.{get_or-map, length-map, take-take}
+use Rattle.std.proofs.lemmas.Bool.Decides.{leb_tells}
+use Rattle.rustc_lexer.proofs.lemmas.edits.KeptFront.{bound-next}
+
+-- what stands past the end of a list
+pub no_token : Token
+no_token = record { kind = Eof; len = 0 }
+
+module _ {X : Type 0} (f : X → ℕ) (xs : List X) (ts : List Token) (are : HasLengths ts (map f xs)) where
+  pub as_many : length xs ≡ length ts
+  as_many = sym (length-map xs f) ∙ (ap (λ (ns : List ℕ). length ns) are ∙ length-map ts (λ (t : Token). t.len))
+
+  pub as_long : (i : ℕ) (x : X) (len : ℕ) → len ≡ f x → x ≡ get_or xs i x → i < length xs → len ≡ (get_or ts i no_token).len
+  as_long i x len its at few = grind (arith, common_steps, as_many, its, at, get_or-map f xs i x 0 few, are, get_or-map, no_token)
+
+-- whether two characters stand before an offset is decided by the text up to there
+pub stand_alike : (old text : List ℕ) (offset start : ℕ) (two : Bool) → IsUtf8 old → IsUtf8 text → take start text ≡ take start old → start ≤ length text → IsCharBoundary old offset → (start ≤ offset → two ≡ false) → (IsCharBoundary text offset → two ≡ has_two text offset start) → two ≡ has_two old offset start
+stand_alike old text offset start two is its same inside cut late here =
+    grind (arith, common_steps, leb_tells, has_two-late, take-take, IsCharBoundary-from_take, IsUtf8-take, has_two-same)
+
+-- the bound past one more token, and whether two characters stand behind it
+pub next_stands : {X : Type 0} (f : X → ℕ) (xs : List X) {old text : List ℕ} {ts : List Token} {start : ℕ} → IsFront old ts (map f xs) text start → IsUtf8 text
+    → start ≤ length text → (at : TokenStart) → IsBound ts at → at.index < length xs → (x : X) (len : ℕ) → len ≡ f x → x ≡ get_or xs at.index x
+    → (two : Bool) → (start ≤ at.offset + len → two ≡ false) → (IsCharBoundary text (at.offset + len) → two ≡ has_two text (at.offset + len) start)
+    → IsBound ts (record { index = at.index + 1; offset = at.offset + len }) × (two ≡ has_two old (at.offset + len) start)
+next_stands f xs {old} {text} {ts} {start} is its inside at here_is few x len len_is x_is two late here =
+    let fewer : at.index < length ts = omega (arith, few, as_many f xs ts is.lengths_are) in
+    let long = as_long f xs ts is.lengths_are at.index x len len_is x_is few in
+    let next : at.offset + len ≡ bound ts (at.index + 1) = omega (arith, here_is.1, long, bound-next ts at.index no_token fewer) in
+    ((omega arith, next), stand_alike old text _ start two is.utf8 its is.same inside (rw next (is.cuts (at.index + 1) (omega arith))) late here)
+
+-- where two characters stand before an offset, it is past them
+pub stood_before : (offset start : ℕ) (two : Bool) → (start ≤ offset → two ≡ false) → two ≡ true → offset ≤ start
+stood_before offset start two late hit = grind (arith, common_steps, leb_tells)
+
+-- ---- relexing
 
 module _ {first : List ℕ → Token} (law : IsGrammar first) {before lengths insert text : List ℕ} {change : Change} (is : IsMadeOf first before lengths change insert text) where
   abbrev old : List Token

@@ -76,6 +76,9 @@ module _ {layout : (List ℕ → Token) → List ℕ → Layout} {first : List �
       pub new_behind : drop (length (tokens_of_head now)) new ≡ fresh
       new_behind = ap (drop (length (tokens_of_head now))) new_is ∙ drop-append_seam (tokens_of_head now) fresh
 
+      front_kept : take at.front.index fresh ≡ take at.front.index behind
+      front_kept = sym (kept_old law made_here at.front.index l.under_way.front).0
+
       rest : drop (known at) fresh ≡ drop at.back.index behind
       rest = rest_met law made_here l.under_way l.met
 
@@ -87,13 +90,11 @@ module _ {layout : (List ℕ → Token) → List ℕ → Layout} {first : List �
             met_bound = l.under_way.back_bound;
             now_bound = (l.under_way.inside, l.under_way.offset);
             kept_le = omega arith;
-            front = sym (kept_old law made_here at.front.index l.under_way.front).0;
+            front = front_kept;
             back = rest;
-          } in (
-            movable_for law made_here.edit_of.is_text (edited made_here.edit_of).text_is checkpoints refl refl replaced
-                (subst (λ ts. AreBounds ts checkpoints) old_behind p.kept.4),
-            replaced,
-          )
+          } in
+          let movable = movable_for law made_here.edit_of.is_text (edited made_here.edit_of).text_is checkpoints refl refl replaced in
+          (movable (subst (λ ts. AreBounds ts checkpoints) old_behind p.kept.4), replaced)
 
       abbrev counts : Relexed
       counts = record { kept_front = at.front.index; lexed = at.lexed; kept_back = length behind - at.back.index }
@@ -121,15 +122,7 @@ module _ {layout : (List ℕ → Token) → List ℕ → Layout} {first : List �
               let many : n ≡ length (tokens_of_head now) = ap length heads in
               record {
                 all = omega (arith, sizes.0, sizes.2, many);
-                front = rw (
-                  new_is,
-                  all,
-                  sym heads,
-                  take-append-add (tokens_of_head old) fresh at.front.index,
-                  take-append-add
-                      (tokens_of_head old) behind at.front.index,
-                  sym (kept_old law made_here at.front.index l.under_way.front).0,
-                ) refl;
+                front = rw (new_is, all, sym heads, take-append-add, take-append-add, front_kept) refl;
                 back = back_with _ _ (omega (arith, many)) (omega (arith, sizes.1, sizes.3));
               }
           by_kept false same =
@@ -143,12 +136,8 @@ module _ {layout : (List ℕ → Token) → List ℕ → Layout} {first : List �
               }
 
       pub counted_few : at.front.index < 2 ^ 33
-      counted_few = omega (
-        arith,
-        l.under_way.front_bound.0,
-        tokens_le_bytes law (drop old.body before) made_here.edit_of.is_text,
-        made_here.edit_of.is_text.fits,
-      )
+      counted_few =
+          omega (arith, l.under_way.front_bound.0, tokens_le_bytes law (drop old.body before) made_here.edit_of.is_text, made_here.edit_of.is_text.fits)
 
 -- the edit of the body, as it is read
 pub made_read : {layout : (List ℕ → Token) → List ℕ → Layout} {first : List ℕ → Token}

@@ -122,12 +122,10 @@ module _ {first : List ℕ → Token} (law : IsGrammar first) {text insert new :
   -- the meeting: from a bound past the edit that, moved back, is a bound of the old text, the tokens are the old ones
   pub met_rest : (j i : ℕ) → edit.new_stop ≤ bound (tokens_by first new) j → bound (tokens_by first text) i + edit.new_stop ≡ bound (tokens_by first new) j + edit.old_stop
       → drop j (tokens_by first new) ≡ drop i (tokens_by first text)
-  met_rest j i past met = rw (
-    (at_bound law j new (edited e).text_is).rest,
-    (at_bound law i text e.is_text).rest,
-    same_rest
-        (bound (tokens_by first new) j) past,
-  ) (ap (λ n. tokens_by first (drop n text)) (omega (arith, met, past)))
+  met_rest j i past met =
+      let same : drop (bound (tokens_by first new) j) new ≡ drop (bound (tokens_by first text) i) text =
+      same_rest (bound (tokens_by first new) j) past ∙ ap (λ n. drop n text) (omega (arith, met, past)) in
+      (at_bound law j new (edited e).text_is).rest ∙ (ap (tokens_by first) same ∙ sym (at_bound law i text e.is_text).rest)
 
 pub drop_of-take : (p n : ℕ) (xs : List ℕ) → drop p (take n xs) ≡ take (n - p) (drop p xs)
 drop_of-take zero n xs = grind (arith, common_steps)

@@ -1,5 +1,5 @@
--- Where the bounds are of the tokens that are kept with a text.
-use Rattle.std.proofs.Common.{◌≡◌, ℕ, ◌+◌, ◌-◌, ◌^◌, ◌<◌, ◌≤◌, List, ◌++◌, length, take, drop, sym, ap, ◌∙◌, subst, arith, length-append, length-drop, inl, inr, IsCharBoundary}
+-- Where the bounds are of the tokens that are kept with a text, also in the words of its definitions.
+use Rattle.std.proofs.Common.{◌≡◌, ℕ, ◌+◌, ◌-◌, ◌^◌, ◌<◌, ◌≤◌, List, ◌++◌, length, take, drop, sym, ap, ◌∙◌, subst, arith, length-append, length-drop, inl, inr, IsCharBoundary, ◌↔◌, Bool, Option, IsSome, None}
 use Rattle.std.proofs.Math.Seq.{drop-append_seam}
 use Rattle.std.proofs.lemmas.Bool.{cases_lt}
 use Rattle.std.proofs.lemmas.List.{take-append-le}
@@ -20,8 +20,9 @@ use Rattle.rustc_lexer.specs.means.Pieces.{AreCut}
 use Rattle.rustc_lexer.proofs.lemmas.edits.Bounds.{bound-last, bound_mono, cuts, rest_is}
 use Rattle.rustc_lexer.proofs.lemmas.heads.ByTokens.{bound-append}
 use Rattle.rustc_lexer.proofs.lemmas.edits.FrontAndBack.{bound-same}
-use Rattle.rustc_lexer.proofs.lemmas.edits.Heads.{all_are as tokens_are}
+use Rattle.rustc_lexer.proofs.lemmas.edits.Heads.{all_are as tokens_are, start_is}
 use Rattle.rustc_lexer.proofs.lemmas.edits.KeptFront.{bound-shift}
+use Rattle.rustc_lexer.specs.Kept.{Held, layout_in, start_in}
 
 module _ {first : List ℕ → Token} (law : IsGrammar first) {layout : (List ℕ → Token) → List ℕ → Layout} (text : List ℕ) (tokens : List Token) (head : Head) (checkpoints : Checkpoints) (are : AreKeptOf layout first text tokens head checkpoints) where
   abbrev fronts : List Token
@@ -82,3 +83,21 @@ module _ {first : List ℕ → Token} (law : IsGrammar first) {layout : (List �
             let same : length fronts + (k - length fronts) ≡ k = omega arith in
             subst (λ n. IsCharBoundary text (head.shebang_len + bound tokens n)) same (cut_back (k - length fronts) (omega arith))
       ]
+
+-- what the invariant says of the view
+module _ {S : Type 0} {first : List ℕ → Token} (law : IsGrammar first) (whole : Bool) (text : List ℕ) (tokens : List Token) (head : Head) (checkpoints : Checkpoints) (are : AreKeptOf (layout_in whole) first text tokens head checkpoints) (held : Held S) (text_is : text ≡ held.text) (tokens_is : tokens ≡ held.tokens) where
+  pub start_seen : head.shebang_len ≡ start_in whole held.text
+  start_seen = start_is whole text head are.2 ∙ ap (start_in whole) text_is
+
+  pub fits_seen : (k : ℕ) → k ≤ length held.tokens → start_in whole held.text + bound held.tokens k < 2 ^ 32
+  fits_seen k few = omega (arith, start_seen, ap (λ (ts : List Token). bound ts k) tokens_is, offset_fits law text tokens head checkpoints are k (omega (arith, few, ap (λ (ts : List Token). length ts) tokens_is)))
+
+  pub end_seen : start_in whole held.text + bound held.tokens (length held.tokens) ≡ length held.text
+  end_seen = omega (arith, start_seen, ap (λ (ts : List Token). bound ts (length ts)) tokens_is, end_is law text tokens head checkpoints are, ap (λ (xs : List ℕ). length xs) text_is)
+
+  pub cut_seen : AreCut held.text (start_in whole held.text) (length held.text) held.tokens
+  cut_seen = rw (sym text_is, sym tokens_is) (subst (λ n. AreCut text n (length text) tokens) (start_is whole text head are.2) (kept_cuts law text tokens head checkpoints are))
+
+-- where no token has the offset, the text has ended
+pub none_past : {result : Option TokenStart} {first offset len : ℕ} → IsSome result ↔ ((first ≤ offset) × (offset < len)) → result ≡ None → first ≤ offset → len ≤ offset
+none_past {result} {first} {offset} {len} some none from = grind (arith, common_steps, cases_lt)

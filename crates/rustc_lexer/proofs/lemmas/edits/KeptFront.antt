@@ -17,14 +17,8 @@ use Rattle.rustc_lexer.proofs.lemmas.tokens.Progress.{IsNext, next-from_drop}
 
 none_counted : (test : ℕ → Bool) (xs : List ℕ) → ((k : ℕ) → k < length xs → test (get_or xs k 0) ≡ false) → count_by test xs ≡ 0
 none_counted test [] none = refl
-none_counted test (x ∷ xs) none = grind (
-  arith,
-  common_steps,
-  count-cons test x xs,
-  none_counted test xs (λ k few. none (suc k) (omega arith)),
-  none 0
-      (omega arith),
-)
+none_counted test (x ∷ xs) none =
+    grind (arith, common_steps, count-cons test x xs, none_counted test xs (λ k few. none (suc k) (omega arith)), none 0 (omega arith))
 
 -- where none passes behind one that does not, those that pass are the first
 counted_first : (test : ℕ → Bool) (xs : List ℕ) → ((i j : ℕ) → i ≤ j → j < length xs → test (get_or xs j 0) ≡ true → test (get_or xs i 0) ≡ true) → (k : ℕ)
@@ -82,16 +76,13 @@ module _ (text : List ℕ) (tokens : List Token) (to : ℕ) (is : IsUtf8 text) (
 
 -- ---- a bound behind a bound
 
+bound-nil : (k : ℕ) → bound [] k ≡ 0
+bound-nil zero = refl
+bound-nil (suc k) = refl
+
 pub bound-shift : (tokens : List Token) (n k : ℕ) → bound tokens (n + k) ≡ bound tokens n + bound (drop n tokens) k
 bound-shift tokens zero k = grind (arith, common_steps)
-bound-shift [] (suc n) zero = ap (bound []) e
-  where
-    e : suc n + zero ≡ suc n
-    e = omega arith
-bound-shift [] (suc n) (suc k) = ap (bound []) e
-  where
-    e : suc n + suc k ≡ suc (suc (n + k))
-    e = omega arith
+bound-shift [] (suc n) k = omega (arith, bound-nil (suc n + k), bound-nil k)
 bound-shift (t ∷ ts) (suc n) k =
     let e : suc n + k ≡ suc (n + k) = omega arith in
     let ih = bound-shift ts n k in

@@ -1,5 +1,5 @@
--- Lexing and relexing by many tokens at once: each block is a buffer that is filled with the next tokens.
-use Rattle.std.proofs.Common.{◌≡◌, ℕ, ◌+◌, ◌-◌, ◌<◌, ◌≤◌, List, ◌++◌, length, map, take, drop, sym, ap, ap₂, ◌∙◌, subst, arith, length-append, length-drop, length-take-le, take_at, drop-drop, take-add, IsCharBoundary, IsUtf8}
+-- Lexing and relexing by many tokens at once, each block a buffer that is filled with the next ones, and one by one.
+use Rattle.std.proofs.Common.{◌≡◌, ℕ, ◌+◌, ◌-◌, ◌<◌, ◌≤◌, List, ◌++◌, length, map, take, drop, sym, ap, ap₂, ◌∙◌, subst, arith, length-append, length-drop, length-take-le, take_at, drop-drop, take-add, IsCharBoundary, IsUtf8, false, ◌∷◌}
 use Rattle.std.proofs.lemmas.Bool.{cases_lt}
 use Rattle.std.proofs.lemmas.List.{map-id}
 use Rattle.std.proofs.lemmas.Str.{IsCharBoundary-from_drop}
@@ -8,11 +8,11 @@ use Rattle.rustc_lexer.specs.declared.relex.front.TokenStart.{TokenStart}
 use Rattle.rustc_lexer.specs.declared.relex.relexing.Relexing.{Relexing}
 use Rattle.rustc_lexer.specs.{Token}
 use Rattle.rustc_lexer.specs.Classes.{IsText}
-use Rattle.rustc_lexer.specs.Relexing.{known}
+use Rattle.rustc_lexer.specs.Relexing.{known, TakesSteps}
 use Rattle.rustc_lexer.specs.Locality.{IsGrammar}
 use Rattle.rustc_lexer.specs.Tokens.{IsFilledTo, bound, tokens_by}
-use Rattle.rustc_lexer.specs.laws.Cuts.{at_bound}
-use Rattle.rustc_lexer.proofs.lemmas.edits.Bounds.{number_le_bound, rest_is, rises}
+use Rattle.rustc_lexer.specs.laws.Cuts.{at_bound, tokens-cons}
+use Rattle.rustc_lexer.proofs.lemmas.edits.Bounds.{number_le_bound, rest_is, rises, tokens_le_bytes}
 use Rattle.rustc_lexer.proofs.lemmas.edits.KeptFront.{bound-shift}
 use Rattle.rustc_lexer.proofs.lemmas.tokens.Progress.{IsLexedTo, lexed_offset}
 
@@ -69,11 +69,11 @@ pub record IsBlock (first : List ℕ → Token) (text : List ℕ) (items filled 
   pub some : 0 < bytes
 
 -- a stepper whose grammar is the one that it had at first fills the buffer with the tokens of what is left
-pub block_more : {first now : List ℕ → Token} (law : IsGrammar first) (text left : List ℕ) (items buffer filled : List Token) (offset count bytes : ℕ)
-    → now ≡ first → IsText text → IsLexedTo first text items offset → offset < length text → left ≡ drop offset text → 0 < length buffer
-    → (end : ℕ) → end ≡ length text - offset → IsFilledTo (λ (t : Token). t) end (tokens_by now left) buffer filled count
+pub block_more : {first now : List ℕ → Token} (law : IsGrammar first) {text left : List ℕ} {items buffer filled : List Token} {offset count bytes end : ℕ}
+    → IsText text → now ≡ first → IsLexedTo first text items offset → offset < length text → left ≡ drop offset text → 0 < length buffer → 0 < end
+    → IsFilledTo (λ (t : Token). t) end (tokens_by now left) buffer filled count
     → bytes ≡ bound (tokens_by now left) count → IsBlock first text items filled offset count bytes
-block_more law text left items buffer filled offset count bytes same is at more here places end whole fills long =
+block_more law {text} {left} {items} {buffer} {filled} {offset} {count} {bytes} {end} is same at more here places some fills long =
     let long = rw same at long in
     let fills = rw same at fills in
     let front = front_of _ buffer filled count fills.few fills.tokens in
@@ -83,5 +83,53 @@ block_more law text left items buffer filled offset count bytes same is at more 
       more = next;
       number = length-take-le count filled front.within;
       few = (lexed_offset law text _ _ is next).inside;
-      some = omega (arith, fewer, some_filled (λ (t : Token). t) end _ buffer filled count fills places (omega (arith, whole)));
+      some = omega (arith, fewer, some_filled (λ (t : Token). t) end _ buffer filled count fills places some);
+    }
+
+-- ---- tokens one by one
+
+-- no step
+pub no_step : (first : List ℕ → Token) (text : List ℕ) (past : ℕ) (at : Relexing) → TakesSteps first text past at 0 at
+no_step first text past at = grind (arith, common_steps)
+
+module _ {first : List ℕ → Token} (law : IsGrammar first) {text : List ℕ} (is : IsText text) (past : ℕ) (begin : Relexing) (boundary : IsCharBoundary text begin.at) where
+  abbrev rest : List ℕ
+  rest = drop begin.at text
+
+  -- past the token where relexing stands
+  pub one_step : {token : Token} {at : Relexing} → token ≡ first rest → begin.at < length text → at.front ≡ begin.front → at.lexed ≡ begin.lexed + 1 → at.at ≡ begin.at + token.len → (at.at < past → at.back ≡ begin.back) → (at.at < past → at.met ≡ false) → TakesSteps first text past begin 1 at
+  one_step {token} token_is more front lexed offset same_back not_met =
+      let cons = tokens-cons law rest (rest_is text begin.at is boundary) (omega (arith, more, length-drop begin.at text)) in
+      record {
+        inside = omega (arith, ap (λ (ts : List Token). length ts) cons);
+        none = λ e. absurd (omega (arith, e));
+        front = front;
+        lexed = lexed;
+        offset = omega (arith, offset, ap (λ (ts : List Token). bound ts 1) cons, ap (λ (t : Token). t.len) token_is);
+        same_back = same_back;
+        not_met = λ some early. not_met early;
+      }
+
+  -- one step more
+  module _ {count : ℕ} {at : Relexing} (steps : TakesSteps first text past begin count at) where
+    there : drop (bound (tokens_by first rest) count) rest ≡ drop at.at text
+    there = drop-drop (bound (tokens_by first rest) count) begin.at text ∙ ap (λ n. drop n text) (sym steps.offset)
+
+    left_is : drop count (tokens_by first rest) ≡ tokens_by first (drop at.at text)
+    left_is = (at_bound law count rest (rest_is text begin.at is boundary)).rest ∙ ap (tokens_by first) there
+
+    pub next_left : {token : Token} → token ≡ first (drop at.at text) → 1 ≤ length (tokens_by first (drop at.at text)) → drop count (tokens_by first rest) ≡ token ∷ tokens_by first (drop token.len (drop at.at text))
+    next_left token_is some =
+        let its : IsText (drop at.at text) = subst IsText there (at_bound law count rest (rest_is text begin.at is boundary)).past in
+        left_is ∙ rw token_is (tokens-cons law (drop at.at text) its (omega (arith, some, tokens_le_bytes law (drop at.at text) its)))
+
+    pub step_more : {next : Relexing} → TakesSteps first text past at 1 next → TakesSteps first text past begin (count + 1) next
+    step_more step = record {
+      inside = omega (arith, step.inside, ap (λ (ts : List Token). length ts) left_is, length-drop count (tokens_by first rest));
+      none = λ e. absurd (omega (arith, e));
+      front = step.front ∙ steps.front;
+      lexed = omega (arith, step.lexed, steps.lexed);
+      offset = omega (arith, step.offset, steps.offset, bound-shift (tokens_by first rest) count 1, ap (λ (ts : List Token). bound ts 1) left_is);
+      same_back = λ early. step.same_back early ∙ steps.same_back (omega (arith, early, step.offset));
+      not_met = λ some early. step.not_met (omega arith) early;
     }

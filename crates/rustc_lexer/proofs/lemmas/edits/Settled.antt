@@ -36,12 +36,8 @@ module _ {first : List ℕ → Token} (law : IsGrammar first) (text : List ℕ) 
     at_bound = (at.index, here.0, sym here.1);
     two = λ some. two (positive at.index here.1 some);
     last = λ k few has.
-        omega (
-          arith,
-          here.1,
-          bound_mono (tokens_by first text) k at.index
-              (omega (arith, count, (kept_tells text (tokens_by first text) (length text) is.utf8 (cuts law text is) k few).0 (λ some. has))),
-        );
+        let kept = (kept_tells text (tokens_by first text) (length text) is.utf8 (cuts law text is) k few).0 (λ some. has) in
+        omega (arith, here.1, bound_mono (tokens_by first text) k at.index (omega (arith, count, kept)));
   }
     where
       positive : (n : ℕ) → at.offset ≡ bound (tokens_by first text) n → 0 < at.offset → 0 < n

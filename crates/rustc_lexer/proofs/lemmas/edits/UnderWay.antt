@@ -116,6 +116,8 @@ module _ {first : List ℕ → Token} (law : IsGrammar first) {before lengths in
     -- the counts are those of the edit, and the new tokens are whole
     pub counts_met : at.met ≡ true → IsRelexed (part_by first) before change.start change.old_stop insert (record { kept_front = at.front.index; lexed = at.lexed; kept_back = length old - at.back.index }) × IsWhole old new at
     counts_met hit =
+        let front = (kept_old at.front.index u.front).0 in
+        let rest = rest_met hit in
         let here = meets_there old new _ _ _ _ _ u.offset u.back_bound u.passed u.reached (u.met.0 hit) in (
           (counts_of (part_by first) is.edit_of _).1 record {
             kept = λ _. omega (arith, u.front);
@@ -124,13 +126,7 @@ module _ {first : List ℕ → Token} (law : IsGrammar first) {before lengths in
                 meets_here old new _ _ _ _ _ u.offset u.back_bound u.inside here;
             none_before = u.none_before;
           },
-          cc (
-            (kept_old at.front.index u.front).0,
-            rest_met hit,
-            take-append-drop at.front.index new,
-            take-append-drop at.lexed (drop at.front.index new),
-            drop-drop at.lexed at.front.index new,
-          ),
+          cc (take-append-drop at.front.index new, take-append-drop at.lexed (drop at.front.index new), drop-drop at.lexed at.front.index new),
         )
 
     -- past so many tokens

@@ -1,24 +1,151 @@
--- An edit of a text with its head: the counts of its body give its own.
-use Rattle.std.proofs.Common.{◌≡◌, ℕ, max, ◌+◌, ◌-◌, ◌<◌, ◌≤◌, Bool, true, false, true≢false, List, [], ◌∷◌, length, map, drop, refl, sym, ap, ◌∙◌, arith, drop-drop, IsTrue, ◌↔◌}
+-- An edit of a text with its head: what it is to the body, whose counts give its own.
+use Rattle.std.proofs.Common.{◌≡◌, ℕ, max, ◌+◌, ◌-◌, ◌<◌, ◌≤◌, Bool, true, false, true≢false, List, [], ◌∷◌, length, map, drop, refl, sym, ap, ◌∙◌, arith, drop-drop, IsTrue, ◌↔◌, ◌++◌, take, ap₂, subst, length-drop, take-append-drop, length-take-le, IsUtf8, IsCharBoundary, take-add, append_assoc, Option, None, Result, OnOk}
 use Rattle.std.proofs.Math.Nat.{le-max_left, le-max_right, max-le}
 use Rattle.std.specs.List.{count_by}
 use Rattle.std.proofs.lemmas.Grind.{common_steps}
 use Rattle.rustc_lexer.specs.{Token}
 use Rattle.rustc_lexer.specs.declared.head.Head.{Head}
 use Rattle.rustc_lexer.specs.declared.relex.relexing.{Change.Change, Relexed.Relexed}
-use Rattle.rustc_lexer.specs.Edits.{body_in, ends_from, IsMeeting, IsRelexed, IsRelexedTo, part_by}
+use Rattle.rustc_lexer.specs.Edits.{body_in, ends_from, IsMeeting, IsRelexed, IsRelexedTo, part_by, apply, KeepsHead}
 use Rattle.rustc_lexer.specs.Locality.{has_two, IsGrammar}
-use Rattle.rustc_lexer.specs.Relexing.{IsEditOf, IsMadeOf}
+use Rattle.rustc_lexer.specs.Relexing.{IsEditOf, IsMadeOf, IsBodyChange, IsHeadOf, IsInBody}
 use Rattle.rustc_lexer.specs.Partition.{Layout}
 use Rattle.rustc_lexer.specs.Tokens.{tokens_by}
-use Rattle.rustc_lexer.specs.means.Document.{body_change, body_insert, by_head, counted, IsHeadIn, TakesFew, tokens_of_head}
+use Rattle.rustc_lexer.specs.means.Document.{body_change, body_insert, by_head, counted, IsHeadIn, TakesFew, tokens_of_head, head_put}
 use Rattle.rustc_lexer.proofs.lemmas.edits.KeptFront.{kept_none}
 use Rattle.rustc_lexer.proofs.lemmas.edits.OneAnswer.{relexed_is}
-use Rattle.rustc_lexer.proofs.lemmas.edits.FrontAndBack.{edited}
-use Rattle.rustc_lexer.proofs.lemmas.edits.BodyEdits.{made_body}
-use Rattle.rustc_lexer.proofs.lemmas.edits.Bounds.{count-cons}
-use Rattle.rustc_lexer.proofs.lemmas.edits.Heads.{body_at, boundary_of, head_stays, heads_are}
+use Rattle.rustc_lexer.proofs.lemmas.edits.FrontAndBack.{edited, IsEdited, same_rest}
+use Rattle.rustc_lexer.proofs.lemmas.edits.Bounds.{count-cons, rest_is}
+use Rattle.rustc_lexer.proofs.lemmas.edits.Heads.{body_at, boundary_of, head_stays, heads_are, whole_head}
 use Rattle.rustc_lexer.proofs.lemmas.edits.Layouts.{counts_of, meets, meets_behind}
+use Rattle.std.proofs.lemmas.Bool.{cases_lt}
+use Rattle.std.proofs.lemmas.List.{drop-take, drop-append-le}
+use Rattle.std.proofs.lemmas.Str.{IsUtf8-drop, IsUtf8-take, IsCharBoundary-from_drop}
+use Rattle.rustc_lexer.specs.Classes.{IsText}
+use Rattle.rustc_lexer.specs.Document.{body_start, head_tokens, whole_by}
+
+-- an offset past another is between characters of what follows that one
+pub boundary-past : (xs : List ℕ) (from p : ℕ) → IsUtf8 xs → from ≤ p → IsCharBoundary xs p → IsCharBoundary (drop from xs) (p - from)
+boundary-past xs from p is le at =
+    grind (arith, common_steps, drop-drop, IsUtf8-drop, IsCharBoundary-from_drop, length-drop)
+
+-- what is past the first of two places past the second
+drop-past : (xs : List ℕ) (from p : ℕ) → from ≤ p → drop p xs ≡ drop (p - from) (drop from xs)
+drop-past xs from p le = grind (arith, common_steps, drop-drop)
+
+by_max : (P : ℕ → Type 0) (a b : ℕ) → P a → P b → P (max a b)
+by_max P a b pa pb = grind (arith, common_steps, cases_lt, le-max_right, max-le, le-max_left)
+
+-- an offset, and how far another is past it: one of the two
+by_past : (P : ℕ → Type 0) (a b : ℕ) → P a → P b → P (a + (b - a))
+by_past P a b pa pb = grind (arith, common_steps, cases_lt)
+
+module _ {first : List ℕ → Token} (law : IsGrammar first) {text insert made : List ℕ} {edit : Change} (e : IsEditOf text edit insert made) (from to : ℕ) (old_at : IsCharBoundary text from) (now_at : IsCharBoundary made to) where
+  abbrev body : List ℕ
+  body = drop to made
+
+  abbrev lengths : List ℕ
+  lengths = map (λ (t : Token). t.len) (tokens_by first (drop from text))
+
+  ed : IsEdited text edit made
+  ed = edited e
+
+  old_text : IsText (drop from text)
+  old_text = rest_is text from e.is_text old_at
+
+  -- the head stays
+  kept_made : from ≡ to → from ≤ edit.start → body ≡ apply (drop from text) (edit.start - from) (edit.old_stop - from) insert
+  unfolding apply
+  kept_made same before =
+      let a = e.is_edit.inside.start_le_stop in
+      let b = e.is_edit.inside.stop_inside in
+      let there : from + (edit.start - from) ≡ edit.start = omega arith in
+      let front : drop from (take edit.start text) ≡ take (edit.start - from) (drop from text) = ap (λ n. drop from (take n text)) (sym there)
+      ∙ drop-take from (edit.start - from) text in
+      let back : drop edit.old_stop text ≡ drop (edit.old_stop - from) (drop from text) = drop-past text from edit.old_stop (omega arith) in
+      let few : from ≤ length (take edit.start text) = omega (arith, length-take-le edit.start text (omega arith)) in
+      ap (λ n. drop n made) (sym same) ∙ (ap (drop from) e.made
+      ∙ (drop-append-le from (take edit.start text) (insert ++ drop edit.old_stop text) few ∙ ap₂ (λ xs ys. xs ++ (insert ++ ys)) front back))
+
+  kept_body : from ≡ to → from ≤ edit.start → IsMadeOf first (drop from text) lengths (body_change true from to edit) insert body
+  kept_body same before =
+      grind (arith, e.is_edit.inside.start_le_stop, e.is_edit.inside.stop_inside, e.is_edit.short, e.new_stop, old_text, length-drop, boundary-past, kept_made)
+
+  -- it does not: up to here both differ
+  abbrev past : ℕ
+  past = max (from - edit.old_stop) (to - edit.new_stop)
+
+  abbrev old_end : ℕ
+  old_end = edit.old_stop + past
+
+  abbrev new_end : ℕ
+  new_end = edit.new_stop + past
+
+  same_back : drop new_end made ≡ drop old_end text
+  same_back =
+      let there : new_end - edit.new_stop + edit.old_stop ≡ old_end = omega arith in
+      same_rest law e new_end (omega arith) ∙ ap (λ n. drop n text) there
+
+  ends_inside : (from ≤ old_end) × (to ≤ new_end) × (old_end ≤ length text) × (new_end ≤ length made)
+  unfolding ed
+  ends_inside = grind (arith, common_steps, max-le, le-max_left, le-max_right, ed.len, ed.old_inside, old_at.0, now_at.0)
+
+  back_utf8 : IsUtf8 (drop old_end text)
+  back_utf8 = by_max (λ n. IsUtf8 (drop (edit.old_stop + n) text)) (from - edit.old_stop) (to - edit.new_stop)
+      (by_past (λ n. IsUtf8 (drop n text)) edit.old_stop from (IsUtf8-drop text edit.old_stop e.is_text.utf8 e.is_edit.inside.stop_boundary) (IsUtf8-drop text from e.is_text.utf8 old_at))
+      (let m : ℕ = to - edit.new_stop in
+      let there : edit.new_stop + m - edit.new_stop + edit.old_stop ≡ edit.old_stop + m = omega arith in
+      let same : drop (edit.new_stop + m) made ≡ drop (edit.old_stop + m) text = same_rest law e (edit.new_stop + m) (omega arith) ∙ ap (λ n. drop n text) there in
+      subst IsUtf8 same (by_past (λ n. IsUtf8 (drop n made)) edit.new_stop to
+      (subst IsUtf8 (sym ed.back) (IsUtf8-drop text edit.old_stop e.is_text.utf8 e.is_edit.inside.stop_boundary))
+      (IsUtf8-drop made to ed.text_is.utf8 now_at)))
+
+  front_body : IsMadeOf first (drop from text) lengths (body_change false from to edit) (take (new_end - to) body) body
+  unfolding ed apply same_back ends_inside back_utf8
+  front_body =
+      let i = ends_inside in
+      let n = ed.len in
+      let a = ed.old_inside in
+      let f = ed.text_is.fits in
+      let body_utf8 : IsUtf8 body = IsUtf8-drop made to ed.text_is.utf8 now_at in
+      let size : length body ≡ length made - to = length-drop to made in
+      let back : drop (new_end - to) body ≡ drop old_end text = sym (drop-past made to new_end i.1) ∙ same_back in
+      let cut : IsCharBoundary body (new_end - to) = IsCharBoundary-from_drop body (new_end - to) (omega arith) (rw back back_utf8) in
+      let long : length (take (new_end - to) body) ≡ new_end - to = length-take-le (new_end - to) body (omega arith) in
+      let old_back : drop old_end text ≡ drop (old_end - from) (drop from text) = drop-past text from old_end i.0 in
+      record {
+        edit_of = record {
+          is_text = old_text;
+          is_edit = record {
+            inside = record {
+              start_le_stop = omega arith;
+              stop_inside = omega (arith, length-drop from text, i.2);
+              start_boundary = IsCharBoundary-from_drop (drop from text) 0 (omega arith) old_text.utf8;
+              stop_boundary = IsCharBoundary-from_drop (drop from text) (old_end - from) (omega (arith, length-drop from text, i.2)) (subst IsUtf8 old_back back_utf8);
+            };
+            short = omega (arith, length-drop from text, long, i.2, i.3, i.0, i.1);
+          };
+          inserted = IsUtf8-take body (new_end - to) body_utf8 cut;
+          made = sym (take-append-drop (new_end - to) body) ∙ ap (λ ys. take (new_end - to) body ++ ys) (back ∙ old_back);
+          new_stop = omega (arith, long);
+        };
+        lengths_are = refl;
+      }
+
+  -- what an edit is to the body
+  pub made_body : (kept : Bool) → (kept ≡ true → (from ≡ to) × (from ≤ edit.start)) → IsMadeOf first (drop from text) lengths (body_change kept from to edit) (body_insert kept (body_change kept from to edit) insert body) body
+  made_body true decided = kept_body (decided refl).0 (decided refl).1
+  made_body false decided = front_body
+
+-- the tokens behind the first ones are replaced
+put_is : (tokens lexed : List Token) (n f b : ℕ) → f ≤ b → n + b ≤ length tokens → take (n + f) tokens ++ (lexed ++ drop (n + b) tokens) ≡ take n tokens ++ (take f (drop n tokens) ++ (lexed ++ drop b (drop n tokens)))
+put_is tokens lexed n f b le inside = grind (arith, common_steps, take-add, drop-drop, append_assoc)
+
+pub put_behind : (tokens lexed : List Token) (n f b : ℕ) (head : Option Head) → f ≤ b → n + b ≤ length tokens → head ≡ None → {E : Type 0} (r : Result Unit E) (now : List Token)
+    → OnOk r (now ≡ take (n + f) tokens ++ (lexed ++ drop (n + b) tokens)) → OnOk r (now ≡ head_put (take n tokens) head ++ (take f (drop n tokens) ++ (lexed ++ drop b (drop n tokens))))
+put_behind tokens lexed n f b head w6 w7 w8 r now w11 = grind (arith, common_steps, put_is)
+
+-- ---- the counts of an edit
 
 -- ---- the front, by offsets of the text and of what follows an offset
 
@@ -61,8 +188,8 @@ module _ {first : List ℕ → Token} (law : IsGrammar first) {layout : (List �
     pub new_more : (change stays).new_stop + body_in new ≡ edit.new_stop + more stays
     pub least : (other : ℕ) → body_in old ≤ edit.old_stop + other → body_in new ≤ edit.new_stop + other → more stays ≤ other
 
-  past : (stays : Bool) → (stays ≡ true → (was.body ≡ now.body) × (was.body ≤ edit.start)) → IsPast stays
-  past stays w1 = grind (arith, common_steps, body_at was_is first, body_at now_is first, le-max_left, le-max_right, max-le, edited e)
+  is_past : (stays : Bool) → (stays ≡ true → (was.body ≡ now.body) × (was.body ≤ edit.start)) → IsPast stays
+  is_past stays w1 = grind (arith, common_steps, body_at was_is first, body_at now_is first, le-max_left, le-max_right, max-le, edited e)
 
   abbrev InBody : Bool → Relexed → Type 0
   InBody stays x = IsRelexedTo (part_by first (drop was.body text)) (part_by first (drop now.body made)) (drop was.body text) (change stays).start
@@ -85,15 +212,11 @@ module _ {first : List ℕ → Token} (law : IsGrammar first) {layout : (List �
   relexed_to true same p x is_body =
       let k = (head_stays was_is now_is first edit.start refl refl).1 (decided.0 same) in
       let begin : was.body + 0 ≡ body_in old = omega (arith, body_at was_is first) in
+      let ends = fronts text was.body 0 edit.start old.body ∙ ap (λ n. count_by (λ end. has_two text end edit.start) (ends_from n old.body)) begin in
       let heads : length old.head ≡ length new.head = ap (λ (ts : List Token). length ts) k.2 in
       let sum : length old.head + x.kept_front + x.lexed ≡ length new.head + (x.kept_front + x.lexed) = omega (arith, heads) in
       record {
-        kept = λ again. omega (
-          arith,
-          is_body.kept (omega arith, refl, refl),
-          fronts text was.body 0 edit.start old.body
-              ∙ ap (λ n. count_by (λ end. has_two text end edit.start) (ends_from n old.body)) begin,
-        );
+        kept = λ again. omega (arith, is_body.kept (omega arith, refl, refl), ends);
         changed = λ none. absurd (none k);
         meeting = meeting p (all_of true x) x is_body sum refl;
         none_before = λ number back near less m. none_before p (all_of true x) x is_body sum refl number back (λ head. omega (arith, near, heads)) less m;
@@ -111,18 +234,18 @@ module _ {first : List ℕ → Token} (law : IsGrammar first) {layout : (List �
   abbrev Found : Relexed → Type 0
   Found x = IsRelexed (part_by first) (drop was.body text) (change kept).start (change kept).old_stop put x
 
-  in_body : (x : Relexed) → Found x → InBody kept x
-  in_body x = (counts_of (part_by first) body_made.edit_of x).0
+  as_body : (x : Relexed) → Found x → InBody kept x
+  as_body x = (counts_of (part_by first) body_made.edit_of x).0
 
   -- the counts of the body give those of all
   pub relexed_as : (x : Relexed) → Found x → IsRelexed (layout first) text edit.start edit.old_stop insert (all_of kept x)
   relexed_as x found =
-      let p = past kept (λ stays. let s = decided.0 stays in (ap (λ (h : Head). h.body) s.0, s.1)) in
-      (counts_of (layout first) e (all_of kept x)).1 (rw (was_is.layout_is first, now_is.layout_is first) (relexed_to kept refl p x (in_body x found)))
+      let p = is_past kept (λ stays. let s = decided.0 stays in (ap (λ (h : Head). h.body) s.0, s.1)) in
+      (counts_of (layout first) e (all_of kept x)).1 (rw (was_is.layout_is first, now_is.layout_is first) (relexed_to kept refl p x (as_body x found)))
 
   -- the tokens of a new head take no step
   pub steps_by : (x : Relexed) → Found x → length (layout first made).head - (all_of kept x).kept_front + x.lexed ≡ (all_of kept x).lexed
-  steps_by x found = omega (arith, heads_are now_is first, by_kept kept refl (in_body x found))
+  steps_by x found = omega (arith, heads_are now_is first, by_kept kept refl (as_body x found))
     where
       by_kept : (stays : Bool) → kept ≡ stays → InBody stays x → length (tokens_of_head now) - (all_of stays x).kept_front + x.lexed ≡ (all_of stays x).lexed
       by_kept true same is_body = omega (arith, ap (λ (h : Head). length (tokens_of_head h)) (decided.0 same).0)
@@ -134,3 +257,47 @@ module _ {first : List ℕ → Token} (law : IsGrammar first) {layout : (List �
       let counts = relexed_is law body_made.edit_of in
       let found = (counts_of (part_by first) body_made.edit_of counts.0).1 counts.1 in
       (all_of kept counts.0, relexed_as counts.0 found, rw (sym e.made) (omega (arith, few counts.0 found, steps_by counts.0 found)))
+
+-- ---- a document
+
+pub body_is : {first : List ℕ → Token} (law : IsGrammar first) (before insert text : List ℕ) (edit : Change) (old now : Head) (kept : Bool) (change : Change)
+    → IsEditOf before edit insert text → IsHeadOf before old → IsHeadOf text now
+    → IsTrue kept ↔ ((old ≡ now) × (old.body ≤ edit.start)) → change ≡ body_change kept old.body now.body edit → IsBodyChange first before edit insert text kept change
+body_is {first} law before insert text edit old now kept change e old_head now_head decided change_is = rw change_is record {
+  keeps = (λ k. stays.1 (decided.0 k), λ s. decided.1 (stays.0 s));
+  put = inserted;
+  made_of = subst (λ n. IsMadeOf first (drop n before) (map (λ (t : Token). t.len) (tokens_by first (drop n before))) ch inserted (drop (body_start text) text)) old_head.end_is
+      (subst (λ n. IsMadeOf first (drop old.body before) (map (λ (t : Token). t.len) (tokens_by first (drop old.body before))) ch inserted (drop n text)) now_head.end_is
+      (body_made law e old_is now_is decided));
+  counts_kept = counts true;
+  counts_new = counts false;
+}
+  where
+    old_is : IsHeadIn whole_by before old
+    old_is = whole_head before e.is_text old old_head
+
+    now_is : IsHeadIn whole_by text now
+    now_is = whole_head text (edited e).text_is now now_head
+
+    stays : KeepsHead (whole_by first before) (whole_by first text) edit.start ↔ ((old ≡ now) × (old.body ≤ edit.start))
+    stays = head_stays old_is now_is first edit.start (old_is.layout_is first) (now_is.layout_is first)
+
+    ch : Change
+    ch = body_change kept old.body now.body edit
+
+    inserted : List ℕ
+    inserted = body_insert kept ch insert (drop now.body text)
+
+    Counted : Bool → List Token → List Token → Relexed → Type 0
+    Counted k fronts new_fronts r = IsRelexed (whole_by first) before edit.start edit.old_stop insert (counted k (length fronts) (length new_fronts) r)
+
+    counts : (k : Bool) → kept ≡ k → (r : Relexed) → IsRelexed (part_by first) (drop (body_start before) before) ch.start ch.old_stop inserted r → Counted k (head_tokens before) (head_tokens text) r
+    counts k same r x =
+        let there = subst (λ n. IsRelexed (part_by first) (drop n before) ch.start ch.old_stop inserted r) (sym old_head.end_is) x in
+        subst (λ k. Counted k (head_tokens before) (head_tokens text) r) same (subst (λ ts. Counted kept ts (head_tokens text) r) old_head.tokens_are
+        (subst (λ ts. Counted kept (tokens_of_head old) ts r) now_head.tokens_are (relexed_as law e old_is now_is decided r there)))
+
+-- what the change is, by its places
+pub in_body : (kept : Bool) (from to : ℕ) (edit : Change) → (kept ≡ true → (from ≤ edit.start) × (edit.start ≤ edit.old_stop) × (edit.start ≤ edit.new_stop)) → IsInBody kept from to edit (body_change kept from to edit)
+in_body true from to edit order = let o = order refl in grind (arith, common_steps, o.0, o.1, o.2)
+in_body false from to edit order = (max (from - edit.old_stop) (to - edit.new_stop), refl, omega arith, omega arith, λ n old new. omega (arith, old, new))

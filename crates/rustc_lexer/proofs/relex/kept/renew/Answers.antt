@@ -120,13 +120,7 @@ returns-in_err-put_tokens-clause-renewed g c before insert p =
     let l = rw (c.body_change-change.ensures, c.range_from-body.ensures.value, text) at
     (c.in_ok-lexed.ensures.lexed _ _ made (near_behind law p c.nearest-near.ensures)) in
     let few = few_by law p.edit_of p.kept.2 now_is c.keeps_head-stays.ensures _ _
-    (λ x counts. omega (
-      arith,
-      l.lexed,
-      c.in_ok-lexed.ensures.count,
-      few_lexed law
-          (made_here law p now_is c.keeps_head-stays.ensures) l.under_way x counts,
-    )) in
+    (λ x counts. omega (arith, l.lexed, c.in_ok-lexed.ensures.count, few_lexed law (made_here law p now_is c.keeps_head-stays.ensures) l.under_way x counts)) in
     let r = c.from_residual-in_err-put_tokens in
     let back = left_back r.result (string_bytes c.args.kept.now.text) before r.ensures.0 in
     (rw (back, c.relex.ensures.grammar, c.in_err-put_tokens.ensures.same) p.kept, refused r.result r.ensures.0 p.kept.1 back c.in_err-put_tokens.ensures.same c.relex.ensures.grammar c.relex.ensures.number c.relex.ensures.rose few)

@@ -44,29 +44,24 @@ returns-clause-count g c =
 pub overflow_add-offset : goal.overflow_add-offset
 overflow_add-offset g c =
     let is : IsText c.args.text.now = record { utf8 = c.utf8.text; fits = c.requires.fits } in
-    let some_buffer : 0 < length c.left.buffer = omega arith in
-    let behind : List Token = drop (length c.args.tokens.now.items) c.left.tokens.items in
-    let next = block_more (g.S.Stepper.law c.args.stepper.now) c.args.text.now c.range_from.result.now behind c.left.buffer c.fill-count.new.buffer c.left.offset c.fill-count.result.0 c.fill-count.result.1
-    c.left.invariant.2 is c.left.invariant.1 (omega arith) c.range_from.ensures.value some_buffer _ (omega arith) c.fill-count.ensures.filled c.fill-count.ensures.bytes in
+    let next = block_more (g.S.Stepper.law c.args.stepper.now) is c.left.invariant.2 c.left.invariant.1 (omega arith)
+    c.range_from.ensures.value (omega arith) (omega arith) c.fill-count.ensures.filled c.fill-count.ensures.bytes in
     omega (arith, next.few)
 
 pub left-smaller : goal.left-smaller
 left-smaller g c =
     let is : IsText c.args.text.now = record { utf8 = c.utf8.text; fits = c.requires.fits } in
-    let some_buffer : 0 < length c.left.buffer = omega arith in
-    let behind : List Token = drop (length c.args.tokens.now.items) c.left.tokens.items in
-    let next = block_more (g.S.Stepper.law c.args.stepper.now) c.args.text.now c.range_from.result.now behind c.left.buffer c.fill-count.new.buffer c.left.offset c.fill-count.result.0 c.fill-count.result.1
-    c.left.invariant.2 is c.left.invariant.1 (omega arith) c.range_from.ensures.value some_buffer _ (omega arith) c.fill-count.ensures.filled c.fill-count.ensures.bytes in
+    let next = block_more (g.S.Stepper.law c.args.stepper.now) is c.left.invariant.2 c.left.invariant.1 (omega arith)
+    c.range_from.ensures.value (omega arith) (omega arith) c.fill-count.ensures.filled c.fill-count.ensures.bytes in
     omega (arith, next.some, next.few)
 
 pub left-preserved : goal.left-preserved
 left-preserved g c =
     let is : IsText c.args.text.now = record { utf8 = c.utf8.text; fits = c.requires.fits } in
-    let some_buffer : 0 < length c.left.buffer = omega arith in
-    let behind : List Token = drop (length c.args.tokens.now.items) c.left.tokens.items in
-    let next = block_more (g.S.Stepper.law c.args.stepper.now) c.args.text.now c.range_from.result.now behind c.left.buffer c.fill-count.new.buffer c.left.offset c.fill-count.result.0 c.fill-count.result.1
-    c.left.invariant.2 is c.left.invariant.1 (omega arith) c.range_from.ensures.value some_buffer _ (omega arith) c.fill-count.ensures.filled c.fill-count.ensures.bytes in
+    let next = block_more (g.S.Stepper.law c.args.stepper.now) is c.left.invariant.2 c.left.invariant.1 (omega arith)
+    c.range_from.ensures.value (omega arith) (omega arith) c.fill-count.ensures.filled c.fill-count.ensures.bytes in
     let old : List Token = c.args.tokens.now.items in
+    let behind : List Token = drop (length old) c.left.tokens.items in
     let written : List Token = take c.fill-count.result.0 c.fill-count.new.buffer in
     let long : length old ≤ length c.left.tokens.items = grown c.args.tokens.now.items c.left.tokens.items c.left.invariant.0 in
     let added : c.extend_from_slice.new.self.items ≡ c.left.tokens.items ++ written = c.in_ok-extend_from_slice.ensures.items ∙ ap (λ ts. ts ++ written) c.make_room.ensures in

@@ -1,7 +1,6 @@
 use Rattle.std.proofs.Common.{◌+◌, length, ap, arith, string_bytes}
 use Rattle.rustc_lexer.specs.Tokens.{bound}
-use Rattle.rustc_lexer.proofs.lemmas.edits.KeptBounds.{near_at, offset_fits}
-use Rattle.rustc_lexer.proofs.lemmas.edits.KeptTexts.{start_seen}
+use Rattle.rustc_lexer.proofs.lemmas.edits.KeptBounds.{near_at, offset_fits, start_seen}
 use Rattle.rustc_lexer.proofs.relex.lexed.Lexed.bound_before.Goals as goal
 
 pub overflow_add-result-2 : goal.overflow_add-result-2

@@ -2,7 +2,7 @@ use Rattle.std.proofs.Common.{◌≡◌, List, slice_range, refl, ap, ◌∙◌,
 use Rattle.std.proofs.Common.{rules}
 use Rattle.rustc_lexer.specs.{Token}
 use Rattle.rustc_lexer.specs.Tokens.{bound}
-use Rattle.rustc_lexer.proofs.lemmas.edits.KeptTexts.{fits_seen}
+use Rattle.rustc_lexer.proofs.lemmas.edits.KeptBounds.{fits_seen}
 use Rattle.rustc_lexer.proofs.lemmas.edits.Pieces.{bound-part}
 use Rattle.rustc_lexer.proofs.relex.lexed.Lexed.offset_of.Goals as goal
 

@@ -7,7 +7,7 @@ use Rattle.rustc_lexer.specs.Classes.{IsText}
 use Rattle.rustc_lexer.specs.Relexing.{IsMadeOf, IsUnderWay, TakesSteps, is_over}
 use Rattle.rustc_lexer.specs.Tokens.{tokens_by}
 use Rattle.rustc_lexer.proofs.lemmas.tokens.Buffers.{none_written, one_written}
-use Rattle.rustc_lexer.proofs.lemmas.edits.Steps.{next_left, no_step, step_more}
+use Rattle.rustc_lexer.proofs.lemmas.edits.ManyTokens.{next_left, no_step, step_more}
 use Rattle.rustc_lexer.proofs.lemmas.edits.UnderWay.{left_at}
 use Rattle.rustc_lexer.proofs.relex.relexing.Relexing.fill.Goals as goal
 
