@@ -25,6 +25,7 @@ const MIN_DASHES: usize = 3;
 
 /// Returns the first token of a text in an edition, with or without a frontmatter at the start. The text is not empty.
 #[inline(always)]
+#[tactic(auto, using(crate::specs::laws::Frontmatter::cut_lemmas, std::proofs::lemmas::Grind::common_steps))]
 pub(crate) fn token_at(text: &str, allowed: FrontmatterAllowed, edition: Edition) -> Token
     requires not_empty { 0 < length text.now }
     requires fits { Fits text.now }
@@ -97,6 +98,7 @@ fn eat_label(rest: &str) -> &str
 }
 
 /// Returns the text after an infostring, if there is one at the front, or else the whole text.
+#[tactic(auto, using(crate::specs::laws::Frontmatter::infostring_lemmas, std::proofs::lemmas::Grind::common_steps))]
 fn eat_infostring(rest: &str) -> &str
     ensures shorter { length result.now ≤ length rest.now }
     ensures past { result.now ≡ past (spec.infostring_len (chars rest.now)) rest.now }

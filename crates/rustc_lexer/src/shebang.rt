@@ -39,6 +39,7 @@ pub fn strip_shebang(input: &str) -> Option<usize>
 }
 
 /// Returns the length of the shebang line in bytes, or 0 if there is none.
+#[tactic(auto, using(crate::proofs::lemmas::tokens::Shebang::boundary_lemmas, std::proofs::lemmas::Grind::common_steps))]
 pub(crate) fn shebang_len(text: &str) -> usize
     requires fits { Fits text.now }
     ensures len { result ≡ document.shebang_len text.now }

@@ -22,7 +22,7 @@ use Rattle.rustc_lexer.specs.laws.CharSteps.{bytes_of-add}
 use Rattle.rustc_lexer.specs.laws.Fences.{begins-enough, begins-few, begins-dashes}
 use Rattle.rustc_lexer.specs.laws.LanguageClosing.{body-at, body-read, endings-patterns}
 use Rattle.rustc_lexer.specs.laws.LanguageFrontmatter.{fence-length, run-fence}
-use Rattle.rustc_lexer.specs.laws.Scan.{length-run}
+use Rattle.rustc_lexer.specs.laws.Scan.{length-run, next_is-cons, next_is-nil}
 use Rattle.rustc_lexer.specs.laws.Past.{past-zero, split_past, past-past, past-drop, chars-past, IsUtf8-past, length-past}
 
 -- past one length, and then another
@@ -35,6 +35,8 @@ module _ (rest : List ℕ) (is : IsUtf8 rest) where
 
   pub infostring-no : next_is is_id_start (chars rest) ≡ false → rest ≡ past (infostring_len (chars rest)) rest
   infostring-no e = sym (past-zero rest is) ∙ ap (λ (b : Bool). past (if b then 1 + run_len is_info (drop 1 (chars rest)) else 0) rest) (sym e)
+
+pub ruleset infostring_lemmas = (infostring-yes, infostring-no, next_is-cons, next_is-nil)
 
 -- what begins with neither a dash nor white space opens none
 pub opens-other : (s : List ℕ) → next_is (λ c. is_dash c || is_whitespace c) s ≡ false → opens s ≡ false
@@ -150,6 +152,8 @@ frontmatter-cut text is e =
       inside = omega (arith, end, inside);
       boundary = subst (IsCharBoundary text) (sym end) (IsCharBoundary-from_drop text (bytes_of (n + k) s) inside (subst IsUtf8 (past-drop (n + k) text is) (IsUtf8-past (n + k) text is)));
     }
+
+pub ruleset cut_lemmas = (frontmatter-cut)
 
 -- what holds of the frontmatter, where one opens, and of the token of each edition holds of the token
 pub token_at-either : (P : Token → Type 0) (mode : Mode) (text : List ℕ) → ((edition : Edition) → P (first_token_in edition text)) → (opens (chars text) ≡ true → P (frontmatter text)) → P (token_at mode text)

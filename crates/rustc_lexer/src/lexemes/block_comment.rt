@@ -10,6 +10,7 @@ use crate::token::{DocStyle, TokenKind};
 
 /// Lexes a block comment. Returns its kind, and the text after it. `body` is the text after its `/*`.
 #[inline(always)]
+#[tactic(auto, using(crate::proofs::lemmas::tokens::BlockCommentLoop::comment, std::proofs::lemmas::Grind::common_steps))]
 pub(crate) fn block_comment(body: &str) -> (TokenKind, &str)
     ensures { (result.0, result.1.now) ≡ scanned spec.block_comment body.now }
 {

@@ -3,6 +3,7 @@ use Rattle.std.proofs.Common.{◌≡◌, ◌≢◌, ℕ, zero, suc, ◌+◌, ◌
 use Rattle.std.proofs.Math.Seq.{drop-cons, drop-length, get_or-append_seam}
 use Rattle.std.proofs.lemmas.Bool.{ne_eqb}
 use Rattle.std.proofs.lemmas.List.{get_or-take}
+use Rattle.std.proofs.lemmas.Str.{IsCharBoundary-start}
 use Rattle.std.proofs.lemmas.Grind.{common_steps}
 use Rattle.rustc_lexer.specs.Classes.{AreAll, is_inline}
 use Rattle.rustc_lexer.specs.means.Scan.{begins}
@@ -56,3 +57,5 @@ module _ (text : List ℕ) where
         grind (arith, common_steps, get_or-take k text (k - 1) 0 (omega arith), get_or-append_seam u 13 [] 0, free)))
 
 pub ruleset shebang_lemmas = (no_shebang, attribute_here, line_here)
+
+pub ruleset boundary_lemmas = (IsCharBoundary-start)
