@@ -7,6 +7,7 @@ use Rattle.rustc_lexer.specs.{Token}
 use Rattle.rustc_lexer.specs.Locality.{AgreePast, IsGrammar}
 use Rattle.rustc_lexer.specs.Partition.{bound, cut_by, tokens_by}
 use Rattle.rustc_lexer.specs.Classes.{IsText}
+use Rattle.rustc_lexer.specs.laws.Reach.{past as alike_past}
 use Rattle.rustc_lexer.specs.laws.Texts.{agree_inside, left_text}
 
 -- the first characters of a text, two at most
@@ -68,12 +69,7 @@ at_bound {first} law (suc k) (c ∷ cs) is =
 
 -- what two texts show past a common front follows from what they show past it
 pub look-append : (xs ys zs : List ℕ) → IsUtf8 xs → look ys ≡ look zs → look (xs ++ ys) ≡ look (xs ++ zs)
-look-append xs ys zs is same = rw (chars-append xs ys is, chars-append xs zs is) (two (chars xs) (chars ys) (chars zs) same)
-  where
-    two : (ws bs cs : List ℕ) → take 2 bs ≡ take 2 cs → take 2 (ws ++ bs) ≡ take 2 (ws ++ cs)
-    two [] bs cs same = same
-    two (w ∷ []) bs cs same = ap (λ zs. w ∷ zs) (sym (take-take 1 2 bs (omega arith)) ∙ (ap (take 1) same ∙ take-take 1 2 cs (omega arith)))
-    two (w ∷ v ∷ ws) bs cs same = refl
+look-append xs ys zs is same = rw (chars-append xs ys is, chars-append xs zs is) (alike_past 2 (chars xs) (chars zs) (chars ys) same)
 
 -- texts that agree past an offset agree past each offset before it
 pub agree_before : (n m : ℕ) (text other : List ℕ) → IsUtf8 (take m (drop n text)) → AgreePast (n + m) text other → AgreePast n text other

@@ -17,10 +17,10 @@ use Rattle.rustc_lexer.specs.laws.Choice.{by_test}
 use Rattle.rustc_lexer.specs.laws.LanguageComments.{space-sound, space-read, hash-sound, pound-read, guarded-read, symbol-read, slash-sound, slash-read, line-read, block-read, open-read}
 use Rattle.rustc_lexer.specs.laws.LanguageLifetimes.{quote-sound, lifetime-read, prefix-read, raw_lifetime-read, char-reads, one-reads, name-reads}
 use Rattle.rustc_lexer.specs.laws.LanguageLiterals.{str-sound, byte-sound, byte_str-sound, c_str-sound, raw_str-sound, raw_byte_str-sound, raw_c_str-sound, number-sound, ReadsLiteral, plain-read, with_suffix-read, str-reads, byte-reads, byte_str-reads, c_str-reads, raw_str-reads, raw_byte_str-reads, raw_c_str-reads, number-reads}
-use Rattle.rustc_lexer.specs.laws.LanguageReach.{ends, same, stops, goes, past, literal_reach, reach-literal, suffix-alike, literal-looks, literal-alike, no-hash, known-decided, by_only, unknown_k, raw_ident-decided_by}
+use Rattle.rustc_lexer.specs.laws.LanguageReach.{ends, same, stays, literal_reach, reach-literal, suffix-alike, literal-looks, literal-alike, no-hash, known-decided, by_only, unknown_k, raw_ident-decided_by}
 use Rattle.rustc_lexer.specs.laws.LanguageRuns.{Sound, letters-start}
 use Rattle.rustc_lexer.specs.laws.LanguageWords.{by_letter, continue-word, no-opening, opens_raw-none, none-raw, ident-sound, invalid-sound, raw_ident-sound, keyword-sound, ident-is_read, prefix-read as word_prefix-read, invalid-read, raw_ident-read, keyword-read}
-use Rattle.rustc_lexer.specs.laws.Reach.{cut}
+use Rattle.rustc_lexer.specs.laws.Reach.{cut, past}
 use Rattle.rustc_lexer.specs.Language as the
 use Rattle.rustc_lexer.specs.Language.{begins_prefixed, IsTokenBefore}
 use Rattle.rustc_lexer.specs.LiteralGrammar.{IsLiteralBefore}
@@ -124,30 +124,30 @@ token-read {next} (the.symbol {c} is) = symbol-read c next is
 
 pub token-alike : {next : List ℕ} {kind : TokenKind} {w : List ℕ} → IsTokenBefore next kind w → (other : List ℕ) → take (reach kind w) other ≡ take (reach kind w) next → IsTokenBefore other kind w
 token-alike {next} (the.end none) other e = the.end (ends next other e none)
-token-alike {next} (the.whitespace all stop) other e = the.whitespace all (stops _ next other e stop)
-token-alike {next} (the.line_comment all stop is) other e = the.line_comment all (stops _ next other e stop) is
+token-alike {next} (the.whitespace all stop) other e = the.whitespace all (stays _ next other e stop)
+token-alike {next} (the.line_comment all stop is) other e = the.line_comment all (stays _ next other e stop) is
 token-alike {next} (the.block_comment p is) other e = the.block_comment p is
 token-alike {next} (the.open_comment none never is) other e = the.open_comment (ends next other e none) never is
-token-alike {next} (the.ident is stop none) other e = the.ident is (stops _ next other e stop) (stops _ next other e none)
+token-alike {next} (the.ident is stop none) other e = the.ident is (stays _ next other e stop) (stays _ next other e none)
 token-alike {next} (the.unknown_prefix {w} is go free) other e = by_only (bytes_eq w (codes "k")) other next e
-    (λ is_k two. unknown_k next other w is_k is (goes _ next other (cut 1 2 other next (omega arith) two) go) two free)
-    (λ no_k one. the.unknown_prefix is (goes _ next other one go) (grind (arith, common_steps, same, known-decided, or_parts, continue-word, and_parts, or_from, no-hash)))
-token-alike {next} (the.invalid_ident start all wrong stop) other e = the.invalid_ident start all wrong (stops _ next other e stop)
-token-alike {next} (the.raw_ident is stop) other e = the.raw_ident is (stops _ next other e stop)
-token-alike {next} (the.forced_keyword is stop) other e = the.forced_keyword is (stops _ next other e stop)
-token-alike {next} (the.lifetime start all stop quote hash) other e = the.lifetime start all (stops _ next other e stop) (stops _ next other e quote) (λ go. hash (goes _ other next (sym e) go))
+    (λ is_k two. unknown_k next other w is_k is (stays _ next other (cut 1 2 other next (omega arith) two) go) two free)
+    (λ no_k one. the.unknown_prefix is (stays _ next other one go) (grind (arith, common_steps, same, known-decided, or_parts, continue-word, and_parts, or_from, no-hash)))
+token-alike {next} (the.invalid_ident start all wrong stop) other e = the.invalid_ident start all wrong (stays _ next other e stop)
+token-alike {next} (the.raw_ident is stop) other e = the.raw_ident is (stays _ next other e stop)
+token-alike {next} (the.forced_keyword is stop) other e = the.forced_keyword is (stays _ next other e stop)
+token-alike {next} (the.lifetime start all stop quote hash) other e = the.lifetime start all (stays _ next other e stop) (stays _ next other e quote) (λ go. hash (stays _ other next (sym e) go))
 token-alike {next} (the.unknown_prefix_lifetime {c} {w} start all hash free) other e = by_only (bytes_eq (c ∷ w) (codes "r")) other next e
-    (λ is_r two. the.unknown_prefix_lifetime start all (goes _ next other (cut 1 2 other next (omega arith) two) hash) (raw_ident-decided_by (c ∷ w) is_r next other two free))
-    (λ no_r one. the.unknown_prefix_lifetime start all (goes _ next other one hash) (no-hash 114 c w other all no_r))
-token-alike {next} (the.raw_lifetime is stop) other e = the.raw_lifetime is (stops _ next other e stop)
+    (λ is_r two. the.unknown_prefix_lifetime start all (stays _ next other (cut 1 2 other next (omega arith) two) hash) (raw_ident-decided_by (c ∷ w) is_r next other two free))
+    (λ no_r one. the.unknown_prefix_lifetime start all (stays _ next other one hash) (no-hash 114 c w other all no_r))
+token-alike {next} (the.raw_lifetime is stop) other e = the.raw_lifetime is (stays _ next other e stop)
 token-alike {next} (the.literal {kind} {w} is) other far =
     let e = subst (λ (k : ℕ). take k other ≡ take k next) (reach-literal kind _ w ∙ ap (literal_reach kind) (sym (append-nil w))) far in the.literal (literal-alike is [] other e)
 token-alike {next} (the.literal_with {kind} {w} {suffix} is suffix_is) other far =
     let e = subst (λ (k : ℕ). take k other ≡ take k next) (reach-literal kind _ (w ++ suffix)) far in
     let k : ℕ = literal_reach kind (w ++ suffix) in
     the.literal_with (literal-alike is suffix (suffix ++ other) (past k suffix next other e)) (suffix-alike suffix_is other (cut 1 k other next (literal-looks is refl suffix) e))
-token-alike {next} (the.slash stop) other e = the.slash (stops _ next other e stop)
-token-alike {next} (the.pound stop) other e = the.pound (stops _ next other e stop)
+token-alike {next} (the.slash stop) other e = the.slash (stays _ next other e stop)
+token-alike {next} (the.pound stop) other e = the.pound (stays _ next other e stop)
 token-alike {next} (the.guarded_prefix is) other e = the.guarded_prefix is
 token-alike {next} (the.symbol is) other e = the.symbol is
 

@@ -21,7 +21,7 @@ use Rattle.rustc_lexer.specs.laws.LanguageLifetimes.{end-stops}
 use Rattle.rustc_lexer.specs.laws.Ident.{begins_hash_ident-decided}
 use Rattle.rustc_lexer.specs.means.Ident.{begins_hash_ident}
 use Rattle.rustc_lexer.specs.laws.NumberLongest.{number-looks, number_reach, number-alike}
-use Rattle.rustc_lexer.specs.laws.Reach.{begins-decided, cut, decided_same, next_is-decided}
+use Rattle.rustc_lexer.specs.laws.Reach.{begins-decided, cut, decided_same, next_is-decided, past}
 
 -- ---- one character, and the end
 
@@ -31,16 +31,8 @@ ends s u w2 w3 = grind (arith, common_steps)
 pub same : (p : ℕ → Bool) (s u : List ℕ) → take 1 u ≡ take 1 s → next_is p u ≡ next_is p s
 same p s u e = decided_same 1 1 (next_is p) u s (next_is-decided p) (omega arith) e
 
-pub stops : (p : ℕ → Bool) (s u : List ℕ) → take 1 u ≡ take 1 s → NextIsNot p s → NextIsNot p u
-stops p s u e stop = same p s u e ∙ stop
-
-pub goes : (p : ℕ → Bool) (s u : List ℕ) → take 1 u ≡ take 1 s → NextIs p s → NextIs p u
-goes p s u e go = same p s u e ∙ go
-
-pub past : (k : ℕ) (w s u : List ℕ) → take k u ≡ take k s → take k (w ++ u) ≡ take k (w ++ s)
-past k [] s u e = e
-past zero (c ∷ w) s u e = refl
-past (suc k) (c ∷ w) s u e = ap (λ (xs : List ℕ). c ∷ xs) (past k w s u (cut k (suc k) u s (omega arith) e))
+pub stays : (p : ℕ → Bool) (s u : List ℕ) → take 1 u ≡ take 1 s → {b : Bool} → next_is p s ≡ b → next_is p u ≡ b
+stays p s u e is = same p s u e ∙ is
 
 -- ---- literals
 
@@ -85,8 +77,8 @@ open-alike : {next : List ℕ} {t : Bool} {w : List ℕ} → IsSingleQuoted next
 open-alike {next} (lit.one out) other e = lit.one out
 open-alike {next} (lit.closed {w} q f) other e = lit.closed q (lone-alike w next other (cut 1 2 other next (omega arith) e) q f)
 open-alike {next} (lit.closed_line q) other e = lit.closed_line q
-open-alike {next} (lit.at_slash {w} q go f) other e = lit.at_slash q (goes _ next other (cut 1 2 other next (omega arith) e) go) (decided_same 2 2 (begins (codes "/'")) (w ++ other) (w ++ next) (begins-decided (codes "/'")) (omega arith) (past 2 w next other e) ∙ f)
-open-alike {next} (lit.at_newline {w} q go f) other e = lit.at_newline q (goes _ next other (cut 1 2 other next (omega arith) e) go) (decided_same 2 2 (begins (codes "\n'")) other next (begins-decided (codes "\n'")) (omega arith) e ∙ f)
+open-alike {next} (lit.at_slash {w} q go f) other e = lit.at_slash q (stays _ next other (cut 1 2 other next (omega arith) e) go) (decided_same 2 2 (begins (codes "/'")) (w ++ other) (w ++ next) (begins-decided (codes "/'")) (omega arith) (past 2 w next other e) ∙ f)
+open-alike {next} (lit.at_newline {w} q go f) other e = lit.at_newline q (stays _ next other (cut 1 2 other next (omega arith) e) go) (decided_same 2 2 (begins (codes "\n'")) other next (begins-decided (codes "\n'")) (omega arith) e ∙ f)
 open-alike {next} (lit.unclosed none q) other e = lit.unclosed (ends next other (cut 1 2 other next (omega arith) e) none) q
 open-alike {next} (lit.unclosed_escape none q) other e = lit.unclosed_escape (ends next other (cut 1 2 other next (omega arith) e) none) q
 
@@ -95,7 +87,7 @@ pub raw-alike : {next : List ℕ} {o : Option ℕ} {w : List ℕ} → IsRaw next
 raw-alike w0 other ended = search (arith, lit.closed, lit.too_many, lit.unclosed, lit.no_quote, lit.no_more)
 
 pub suffix-alike : {next w : List ℕ} → IsSuffixBefore next w → (other : List ℕ) → take 1 other ≡ take 1 next → IsSuffixBefore other w
-suffix-alike w0 other e = grind (arith, common_steps, stops, lit.none, lit.some)
+suffix-alike w0 other e = grind (arith, common_steps, stays, lit.none, lit.some)
 
 -- a character behind a quote that one closes, and what follows
 closed-first : {next : List ℕ} {t : Bool} {w : List ℕ} → IsSingleQuoted next t w → t ≡ true → NextIsNot is_name_start w → (s : List ℕ) → NextIsNot is_name_start (w ++ s)

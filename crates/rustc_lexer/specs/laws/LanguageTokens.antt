@@ -52,10 +52,7 @@ frontmatter-is text n bad_label front rest is e is_opening =
     let space : next_is is_whitespace (chars text) ≡ next_is is_whitespace front = ap (next_is is_whitespace) e ∙ r.space in
     let line : not (next_is is_newline (chars (past_opening text))) ≡ bad_label = ap not (ap (next_is is_newline) (ap chars past_is ∙ parts.again) ∙ newline-same rest) ∙ r.line in
     let closes : closing_end (fence_len (chars text)) (past_opening text) ≡ closing_end n (encode_utf8_all rest) = ap (λ (k : ℕ). closing_end k (past_opening text)) count ∙ ap (closing_end n) past_is in
-    ap (λ (b : Bool). let t : Token = record { kind = Frontmatter b (not (next_is is_newline (chars (past_opening text)))); len = bytes_of (opening_len (chars text)) (chars text) + closing_end (fence_len (chars text)) (past_opening text) } in t) space
-    ∙ (ap (λ (b : Bool). let t : Token = record { kind = Frontmatter (next_is is_whitespace front) b; len = bytes_of (opening_len (chars text)) (chars text) + closing_end (fence_len (chars text)) (past_opening text) } in t) line
-    ∙ (ap (λ (k : ℕ). let t : Token = record { kind = Frontmatter (next_is is_whitespace front) bad_label; len = k + closing_end (fence_len (chars text)) (past_opening text) } in t) size
-    ∙ ap (λ (k : ℕ). let t : Token = record { kind = Frontmatter (next_is is_whitespace front) bad_label; len = bytes front + k } in t) closes))
+    cc (space, line, size, closes)
 
 -- one token more
 step : (mode : Mode) (text w next : List ℕ) (token : Token) (tokens : List Token) → IsText text → 0 < length w → chars text ≡ w ++ next → token_at mode text ≡ token → token.len ≡ bytes w

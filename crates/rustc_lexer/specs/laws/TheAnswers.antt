@@ -67,10 +67,7 @@ module _ (s : State) (is : IsText s.rest) where
   at_token some = advance-some s.pending s.rest s.mode s refl some
 
   no_token : (token : Token) (tokens : List Token) → (length s.rest == 0) ≡ true → AreTokens s.mode (chars s.rest) (token ∷ tokens) → ⊥
-  no_token token tokens none are = absurd_cons (sym (ap (means_tokens.read_tokens s.mode) (empty none) ∙ tokens-nil s.mode) ∙ tokens-read are s.rest is refl)
-    where
-      absurd_cons : [] ≡ token ∷ tokens → ⊥
-      absurd_cons e = let n = ap length e in omega (arith, n)
+  no_token token tokens none are = let e : [] ≡ token ∷ tokens = sym (ap (means_tokens.read_tokens s.mode) (empty none) ∙ tokens-nil s.mode) ∙ tokens-read are s.rest is refl in cc
 
   pub next-read : (other : Token × State) → TakesNext s other → other ≡ means_taking.take_next s
   next-read _ (nothing_left e) = sym (at_end (ap (λ (text : List ℕ). length text == 0) e))

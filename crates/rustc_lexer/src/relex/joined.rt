@@ -18,7 +18,7 @@ use std::marker::Model;
 
 /// Returns whether the texts before and after `at` may touch: whether the tokens of the text are those of its part before
 /// `at`, and then those of its part after it. It reads tokens only until the first one that differs.
-#[tactic(auto, using(crate::proofs::lemmas::joined::Separators::white_space_separates, std::proofs::lemmas::Grind::common_steps))]
+#[tactic(auto, using(crate::proofs::lemmas::joined::Separators::white_space_separates, crate::proofs::lemmas::joined::Sure::tail_decides, std::proofs::lemmas::Grind::common_steps))]
 pub fn is_seam(text: &str, at: usize, edition: Edition) -> bool
     requires fits { Fits text.now }
     requires boundary { IsCharBoundary text.now at }
@@ -179,7 +179,7 @@ impl JoinedText {
 }
 
 /// Returns a boundary that is sure in the text up to `at`, by one of the whole text, if the text may end there.
-#[tactic(auto, using(crate::proofs::lemmas::joined::Sure::sure_start, crate::proofs::lemmas::joined::Sure::sure_place_in, crate::proofs::lemmas::joined::Sure::sure_cut_in))]
+#[tactic(auto, using(crate::proofs::lemmas::joined::Sure::sure_start, crate::proofs::lemmas::joined::Sure::sure_place, crate::proofs::lemmas::joined::Sure::sure_cut))]
 fn sure_before(text: &str, sure: usize, at: usize, edition: Edition) -> Option<usize>
     requires fits { Fits text.now }
     requires boundary { IsCharBoundary text.now at }

@@ -50,23 +50,20 @@ pub changes-past : (w : List ℕ) {next other : List ℕ} → Changes next other
 changes-past [] ch = ch
 changes-past (c ∷ w) ch = past c (changes-past w ch)
 
+solid-space : (after : List ℕ) → NextIs is_whitespace after → NextIsNot is_solid after
+solid-space after w1 = grind (arith, common_steps)
+
 -- a class with no white space sees no change
 at-end : (p : ℕ → Bool) → IsSolid p → (before : List ℕ) → NextIsNot is_solid before → next_is p before ≡ false
 at-end p w1 before w3 = grind (arith, common_steps)
 
-at-space : (p : ℕ → Bool) → IsSolid p → (after : List ℕ) → NextIs is_whitespace after → next_is p after ≡ false
-at-space p w1 after w3 = grind (arith, common_steps)
-
 same : (p : ℕ → Bool) → IsSolid p → {next other : List ℕ} → Changes next other → next_is p other ≡ next_is p next
-same p out (here {before} {after} stops spaced) = at-space p out after spaced ∙ sym (at-end p out before stops)
+same p out (here {before} {after} stops spaced) = at-end p out after (solid-space after spaced) ∙ sym (at-end p out before stops)
 same p out (past c ch) = refl
 
 -- nor do characters that are none
 begins-solid : (c : ℕ) (cs s : List ℕ) → is_solid c ≡ true → NextIsNot is_solid s → begins (c ∷ cs) s ≡ false
 begins-solid c cs s w3 w4 = grind (arith, common_steps, false_from_ne_true)
-
-solid-space : (after : List ℕ) → NextIs is_whitespace after → NextIsNot is_solid after
-solid-space after w1 = grind (arith, common_steps)
 
 begins-same : (cs : List ℕ) → list_all is_solid cs ≡ true → {next other : List ℕ} → Changes next other → begins cs other ≡ begins cs next
 begins-same [] solid ch = refl

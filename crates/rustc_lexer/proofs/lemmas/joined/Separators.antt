@@ -20,6 +20,7 @@ use Rattle.rustc_lexer.specs.means.Scan.{next_is}
 use Rattle.std.proofs.lemmas.Bool.{and_parts, not-true}
 use Rattle.rustc_lexer.specs.laws.Cuts.{tokens-nil}
 use Rattle.rustc_lexer.specs.laws.LanguageFront.{empty-text}
+use Rattle.rustc_lexer.specs.laws.LanguageIn.{oldest}
 use Rattle.rustc_lexer.specs.laws.LanguageTokens.{tokens-are, tokens-read}
 use Rattle.rustc_lexer.specs.laws.Texts.{left_text}
 use Rattle.rustc_lexer.specs.means.Edition.{first_token_in}
@@ -54,9 +55,6 @@ space-text w0 w1 = grind (arith, common_steps, is_space, not-true, by_symbol)
 
 space-text-in : {edition : Edition} {next : List ℕ} {kind : TokenKind} {w : List ℕ} → IsTokenIn edition next kind w → kind ≡ Whitespace → AreAll is_whitespace w
 space-text-in w0 w1 = grind (arith, common_steps, space-text)
-
-oldest : (edition : Edition) → lexed_since Whitespace ≤ year edition
-oldest edition = grind (arith, common_steps)
 
 kind-goes : (kind : TokenKind) (after : List ℕ) → NextIsNot (takes_in kind) after → Goes kind [] after
 kind-goes kind after w2 = grind (arith, common_steps)

@@ -20,7 +20,13 @@ use Rattle.rustc_lexer.proofs.lemmas.joined.Joined.{IsSeamFrom, sure_touch, sure
 pub sure_start : (edition : Edition) (text : List ℕ) → IsSure (first_in edition) text 0
 sure_start edition text = record { number = 0; few = omega arith; offset_is = refl; two = λ some. absurd (omega (arith, some)) }
 
-module _ {first : List ℕ → Token} (law : IsGrammar first) where
+module _ (edition : Edition) where
+  abbrev law : IsGrammar (first_in edition)
+  law = edition_grammar edition
+
+  abbrev first : List ℕ → Token
+  first = first_in edition
+
   pub sure_place : (text : List ℕ) (from : ℕ) → IsText text → IsSure first text from → IsCharBoundary text from
   sure_place text from is at = grind (arith, common_steps, at_bound, IsCharBoundary-from_drop)
 
@@ -84,23 +90,10 @@ module _ {first : List ℕ → Token} (law : IsGrammar first) where
           let count = rw (take_rest (drop from text) more, drop-drop more from text) at (has_two-count (drop from text) more (length (drop from text)) (settled.two (omega arith))) in
           has_two-intro text (from + more) (length text) (rw (take_rest text (from + more)) count)
 
-module _ (edition : Edition) where
-  abbrev law : IsGrammar (first_in edition)
-  law = edition_grammar edition
-
-  abbrev first : List ℕ → Token
-  first = first_in edition
-
-  pub sure_place_in : (text : List ℕ) (from : ℕ) → IsText text → IsSure first text from → IsCharBoundary text from
-  sure_place_in = sure_place law
-
-  pub sure_cut_in : (text : List ℕ) (from at : ℕ) → IsText text → IsCharBoundary text at → IsSure first text from → has_two text from at ≡ true → IsSure first (take at text) from
-  sure_cut_in = sure_cut law
-
   -- ---- what comes past a bound decides
 
-  pub tail-decides : (text : List ℕ) (at : ℕ) → IsText text → IsCharBoundary text at → TailDecides edition (take at text) (drop at text)
-  tail-decides text at is cut =
+  pub tail_decides : (text : List ℕ) (at : ℕ) → IsText text → IsCharBoundary text at → TailDecides edition (take at text) (drop at text)
+  tail_decides text at is cut =
       let left : List ℕ = take at text in
       let left_is : IsText left = record { utf8 = IsUtf8-take text at is.utf8 cut; fits = omega (arith, length-take at text, is.fits) } in
       λ k few two. (sure_touch law left (drop at text) (bound (tokens_by first left) k) left_is (rw (take-append-drop at text) is) record { number = k; few = few; offset_is = refl; two = λ some. two }).1
@@ -114,7 +107,7 @@ module _ (edition : Edition) where
       let past : drop sure text ≡ drop sure left ++ drop at text = rw (take-append-drop at text) at (drop-append-le sure left (drop at text) split.0) in
       record {
         inside = few;
-        boundary = IsCharBoundary-from_drop text sure (omega (arith, cut.0)) (rw past (IsUtf8-append (drop sure left) (drop at text) (IsUtf8-drop left sure left_is.utf8 (sure_place law left sure left_is here)) (IsUtf8-drop text at is.utf8 cut)));
+        boundary = IsCharBoundary-from_drop text sure (omega (arith, cut.0)) (rw past (IsUtf8-append (drop sure left) (drop at text) (IsUtf8-drop left sure left_is.utf8 (sure_place left sure left_is here)) (IsUtf8-drop text at is.utf8 cut)));
         touch = rw (drop_of-take sure at text) at split.1;
       }
 
@@ -126,7 +119,7 @@ module _ (edition : Edition) where
 
   -- what was sure is so in the new text
   grown_by : (text more : List ℕ) (from : ℕ) → IsText text → IsSure first text from → length text + length more < 2 ^ 32 → IsUtf8 (text ++ more) → IsText (text ++ more) × IsSure first (text ++ more) from
-  grown_by text more from is at room utf8 = let whole : IsText (text ++ more) = record { utf8 = utf8; fits = omega (arith, length-append text more) } in (whole, sure_grown law text more from is whole at)
+  grown_by text more from is at room utf8 = let whole : IsText (text ++ more) = record { utf8 = utf8; fits = omega (arith, length-append text more) } in (whole, sure_grown text more from is whole at)
 
   pub grown : {text piece new : List ℕ} (from : ℕ) → IsJoined edition text piece new → IsText text → IsSure first text from → length text + (length piece + 1) < 2 ^ 32 → IsUtf8 new → IsText new × IsSure first new from
   grown {text} {piece} from (the.touching touch) is at room utf8 = grown_by text piece from is at (omega arith) utf8

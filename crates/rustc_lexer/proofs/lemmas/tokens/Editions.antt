@@ -16,23 +16,9 @@ use Rattle.std.proofs.lemmas.Grind.{common_steps}
 use Rattle.std.specs.Fmt.{decimal, digits}
 
 -- the years as words
-pub word_2015 : decimal 2015 ≡ codes "2015"
+pub year_words : (decimal 2015 ≡ codes "2015") × (decimal 2018 ≡ codes "2018") × (decimal 2021 ≡ codes "2021") × (decimal 2024 ≡ codes "2024")
 unfolding digits
-word_2015 = refl
-
-pub word_2018 : decimal 2018 ≡ codes "2018"
-unfolding digits
-word_2018 = refl
-
-pub word_2021 : decimal 2021 ≡ codes "2021"
-unfolding digits
-word_2021 = refl
-
-pub word_2024 : decimal 2024 ≡ codes "2024"
-unfolding digits
-word_2024 = refl
-
-pub ruleset year_words = (word_2015, word_2018, word_2021, word_2024)
+year_words = (refl, refl, refl, refl)
 
 -- whether an older edition has another token in place of one of this kind
 abbrev pub is_newer : TokenKind → Bool

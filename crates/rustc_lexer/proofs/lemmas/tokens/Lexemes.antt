@@ -13,11 +13,10 @@ use Rattle.rustc_lexer.proofs.lemmas.tokens.Kinds.{first_token-suffix}
 
 -- the token, once what follows the first character is known
 module _ (text tail rest : List ℕ) (c : ℕ) (kind : TokenKind) (is : IsUtf8 text) (cs : chars text ≡ c ∷ chars tail) (e : tail ≡ past 1 text) (f : (kind, rest) ≡ scanned (past_first c) tail) where
-  taken : ℕ
+  abbrev taken : ℕ
   taken = (past_first c (chars tail)).1
 
   left : rest ≡ past (1 + taken) text
-  unfolding taken
   left = ap (λ (r : TokenKind × List ℕ). r.1) f ∙ (ap (past taken) e ∙ past-past taken 1 text is)
 
   bytes : bytes_of (1 + taken) (chars text) + length rest ≡ length text
@@ -33,8 +32,8 @@ module _ (text tail rest : List ℕ) (c : ℕ) (kind : TokenKind) (is : IsUtf8 t
       subst (IsCharBoundary text) cut (IsCharBoundary-from_drop text _ front (subst (λ (xs : List ℕ). IsUtf8 xs) (past-drop (1 + taken) text is) (IsUtf8-past (1 + taken) text is)))
 
   token-is : record { kind = kind; len = length text - length rest } ≡ first_token text
-  unfolding first_token taken
-  token-is = grind (arith, common_steps, taken, bytes)
+  unfolding first_token
+  token-is = grind (arith, common_steps, bytes)
 
   pub made : IsFirstToken text record { kind = kind; len = length text - length rest }
   made = record { token = token-is; inside = omega (arith, left-le); boundary = boundary; suffix = subst (λ (t : Token). HasSuffixWithin t) (sym token-is) (first_token-suffix text) }

@@ -2,7 +2,6 @@ use Rattle.std.proofs.Common.{true≢false, arith, not, sym, ap, refl, ◌∙◌
 use Rattle.std.proofs.lemmas.Bool.{not-false}
 use Rattle.rustc_lexer.specs.laws.Same.{same_token, token_same}
 use Rattle.rustc_lexer.proofs.lemmas.joined.Joined.{seam_start, seam_end, seam_rises, seam_more, seam_differs}
-use Rattle.rustc_lexer.proofs.lemmas.joined.Sure.{tail-decides}
 use Rattle.rustc_lexer.proofs.relex.joined.is_seam.Goals as goal
 
 pub loop-offset-init : goal.loop-offset-init
@@ -27,9 +26,3 @@ loop-offset-preserved c = seam_more c.args.edition c.args.text.now c.args.at rec
 
 pub returns-clause-touch : goal.returns-clause-touch
 returns-clause-touch c = (λ t. seam_end c.args.edition c.args.text.now c.args.at record { utf8 = c.utf8.text; fits = c.requires.fits } c.requires.boundary c.loop-offset.offset c.loop-offset.invariant c.loop-offset-test.false, λ touch. refl)
-
-pub returns-then-ne-clause-tail : goal.returns-then-ne-clause-tail
-returns-then-ne-clause-tail c = tail-decides c.args.edition c.args.text.now c.args.at record { utf8 = c.utf8.text; fits = c.requires.fits } c.requires.boundary
-
-pub returns-clause-tail : goal.returns-clause-tail
-returns-clause-tail c = tail-decides c.args.edition c.args.text.now c.args.at record { utf8 = c.utf8.text; fits = c.requires.fits } c.requires.boundary
