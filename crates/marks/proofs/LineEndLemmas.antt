@@ -1,24 +1,25 @@
 -- A text of a file is read in parts that cut no line end.
-use Rattle.std.proofs.Common.{◌≡◌, ℕ, zero, suc, zero-add, get_or, append-nil, drop, IsCharBoundary, ◌+◌, ◌-◌, ◌<◌, ◌≤◌, ◌==◌, ◌&&◌, not, Bool, true, false, true≢false, List, [], ◌∷◌, ◌++◌, append_assoc, length, length-append, map, refl, sym, ap, subst, ◌∙◌, arith, Option, None}
+use Rattle.std.proofs.Common.{◌≡◌, ℕ, zero, suc, zero-add, get_or, append-nil, drop, if◌then◌else◌, codes, nat_lt, ◌+◌, ◌-◌, ◌<◌, ◌≤◌, ◌==◌, ◌&&◌, not, Bool, true, false, List, [], ◌∷◌, ◌++◌, append_assoc, length, length-append, map, refl, sym, ap, subst, ◌∙◌, arith, Option, None}
+use Rattle.std.specs.List.{list_all, list_any}
 use Rattle.std.specs.Option.{is_some, option_to_list}
-use Rattle.std.specs.Char.{digit_value}
 use Rattle.std.specs.Str.{chars, IsUtf8}
+use Rattle.std.proofs.lemmas.Bool.{and_parts, eqb-true, or_parts}
 use Rattle.std.proofs.lemmas.Bool.Decides.{nat_tests}
 use Rattle.std.proofs.lemmas.Grind.{common_steps}
-use Rattle.std.proofs.lemmas.Str.{byte_from_char, char_from_byte, chars_past_char, encodes-chars, inside_one, chars-encodes, scalars-chars, encode_ascii, IsCharBoundary-after_ascii, IsUtf8-past_char, length-le-encodes}
+use Rattle.std.proofs.lemmas.Str.{encodes-chars, chars-encodes, scalars-chars, encode_ascii, encodes-append}
 use Rattle.std.proofs.Math.Utf8.{encode, encodes, scalar, scalars}
 use Rattle.std.proofs.lemmas.List.{map-append}
-use Rattle.rustc_literal_escaper.proofs.DigitLemmas.{closed_past, hex-yes, left_at, left_at-digit, left_at-start, with_digit}
 use Rattle.rustc_literal_escaper.specs.declared.element.Element.{Element}
-use Rattle.rustc_literal_escaper.specs.Grammar.{Item, is_digit_or_underscore, is_hex, is_newline, is_passed_over, next_is}
+use Rattle.rustc_literal_escaper.specs.Grammar as g
+use Rattle.rustc_literal_escaper.specs.Grammar.{AreDigits, IsEscapeBefore, Item, is_among, is_digit_or_underscore, is_hex, is_newline, is_passed_over, next_is}
 use Rattle.rustc_literal_escaper.specs.Items.{TakesFirst}
 use Rattle.rustc_literal_escaper.specs.laws.Elements.{either, items-cons, nothing}
 use Rattle.rustc_literal_escaper.specs.means.Elements as reading
-use Rattle.rustc_literal_escaper.specs.means.Elements.{Front, front_by, item_at, items_from}
-use Rattle.rustc_literal_escaper.specs.means.Escape.{closed_at_run, escape, front_run, past_run}
-use Rattle.rustc_literal_escaper.specs.laws.Escape.{at-char, by_either, escape-is}
+use Rattle.rustc_literal_escaper.specs.means.Elements.{front_by, item_at, items_from}
+use Rattle.rustc_literal_escaper.specs.means.Escape.{escape, front_run, past_run}
+use Rattle.rustc_literal_escaper.specs.laws.Escape.{IsFront, by_either, escape-is, escape-reads, no-digit, run-cut, run-stops}
 use Rattle.marks.specs.LineEnds.{ends_line, file_items, moved, place, unix}
-use Rattle.marks.specs.means.LineEnds.{IsLeft, file_item, is_whole, left_items, offset_of}
+use Rattle.marks.specs.means.LineEnds.{IsLeft, file_item, is_whole, last_from, left_items, offset_of}
 
 pub unix-append : (w t : List ℕ) → is_whole w t ≡ true → unix (w ++ t) ≡ unix w ++ unix t
 unix-append [] t whole = refl
@@ -62,114 +63,113 @@ place_less [] (suc i) (suc j) less = less
 place_less (c ∷ s) zero (suc j) less = by_either (ends_line c s) (λ ends. rw ends (omega arith)) (λ stays. rw stays (omega arith))
 place_less (c ∷ s) (suc i) (suc j) less = by_either (ends_line c s) (λ ends. rw ends (omega (arith, place_less s (suc i) (suc j) less))) (λ stays. rw stays (omega (arith, place_less s i j (omega arith))))
 
+last_from-append : (c : ℕ) (v w : List ℕ) → last_from c (v ++ w) ≡ last_from (last_from c v) w
+last_from-append c [] w = refl
+last_from-append c (d ∷ v) w = last_from-append d v w
+
 whole-append : (v w t : List ℕ) → is_whole v (w ++ t) ≡ true → is_whole w t ≡ true → is_whole (v ++ w) t ≡ true
-whole-append [] w t a b = b
-whole-append (c ∷ []) [] t a b = a
-whole-append (c ∷ []) (d ∷ w) t a b = b
-whole-append (c ∷ d ∷ v) w t a b = whole-append (d ∷ v) w t a b
+whole-append v [] t a b = rw (append-nil v) a
+whole-append v (d ∷ w) t a b = rw (last_from-append 0 v (d ∷ w)) b
 
 pub all_left : (text : List ℕ) → IsUtf8 text → IsLeft text text
-all_left text spelt = record { read = []; whole = refl; uncut = refl; spelt = spelt }
+all_left text spelt = record { read = []; whole = refl; uncut = refl; all = spelt; spelt = spelt }
 
 pub left_left : {text middle left : List ℕ} → IsLeft text middle → IsLeft middle left → IsLeft text left
 left_left {text} {middle} {left} a b = record {
   read = a.read ++ b.read;
-  whole = a.whole ∙ (ap (λ (t : List ℕ). a.read ++ t) b.whole ∙ sym (append_assoc a.read b.read left));
-  uncut = whole-append a.read b.read left (subst (λ (t : List ℕ). is_whole a.read t ≡ true) b.whole a.uncut) b.uncut;
+  whole = a.whole ∙ (ap (λ (t : List ℕ). a.read ++ t) b.whole ∙ sym (append_assoc a.read b.read (chars left)));
+  uncut = whole-append a.read b.read (chars left) (subst (λ (t : List ℕ). is_whole a.read t ≡ true) b.whole a.uncut) b.uncut;
+  all = a.all;
   spelt = b.spelt;
 }
 
-pub left-shorter : {text left : List ℕ} → IsLeft text left → length left ≤ length text
-left-shorter {text} {left} a = omega (arith, ap length a.whole, length-append a.read left)
+-- some characters are read
+pub read_left : (rest left w : List ℕ) → IsUtf8 rest → IsUtf8 left → chars rest ≡ w ++ chars left → ends_line (last_from 0 w) (chars left) ≡ false → IsLeft rest left
+read_left rest left w all spelt whole stays = record { read = w; whole = whole; uncut = rw stays refl; all = all; spelt = spelt }
+
+-- and a newline
+pub read_line : (rest left line w : List ℕ) → IsUtf8 rest → IsUtf8 line → chars rest ≡ w ++ chars left → chars left ≡ 10 ∷ chars line → IsLeft rest line
+read_line rest left line w all spelt whole newline = record {
+  read = w ++ 10 ∷ [];
+  whole = whole ∙ (ap (λ (t : List ℕ). w ++ t) newline ∙ sym (append_assoc w (10 ∷ []) (chars line)));
+  uncut = rw (last_from-append 0 w (10 ∷ [])) refl;
+  all = all;
+  spelt = spelt;
+}
 
 -- ---- characters and bytes
 
-abbrev NoReturn : List ℕ → Type 0
-NoReturn w = (k : ℕ) → k < length w → get_or w k 0 ≡ 13 → ⊥
+text-is : (text left w : List ℕ) → IsUtf8 text → IsUtf8 left → chars text ≡ w ++ chars left → text ≡ encodes w ++ left
+text-is text left w all spelt whole = sym (encodes-chars text all) ∙ (ap encodes whole ∙ (encodes-append w (chars left) ∙ ap (λ (t : List ℕ). encodes w ++ t) (encodes-chars left spelt)))
 
-later : (c : ℕ) (w : List ℕ) → NoReturn (c ∷ w) → NoReturn w
-later c w none = λ k less is. none (suc k) (omega (arith, less)) is
+pub left_within : {text left : List ℕ} → IsLeft text left → length left ≤ length text
+left_within {text} {left} is = omega (arith, ap length (text-is text left is.read is.all is.spelt is.whole), length-append (encodes is.read) left)
 
-unix-none : (w : List ℕ) → NoReturn w → unix w ≡ w
-unix-none [] none = refl
-unix-none (c ∷ w) none = grind (arith, common_steps, nat_tests, none 0, unix-none w (later c w none))
+unix-encode : (c : ℕ) → unix (encode c) ≡ encode c
+unfolding encode
+unix-encode c = grind (arith, common_steps, nat_tests)
 
-whole-none : (w t : List ℕ) → NoReturn w → is_whole w t ≡ true
-whole-none [] t none = refl
-whole-none (c ∷ []) t none = grind (arith, common_steps, nat_tests, none 0)
-whole-none (c ∷ d ∷ w) t none = whole-none (d ∷ w) t (later c (d ∷ w) none)
+last-encode : (x c : ℕ) → (last_from x (encode c) == 13) ≡ (c == 13)
+unfolding encode
+last-encode x c = grind (arith, common_steps, nat_tests)
 
-encode-none : (c : ℕ) → (c == 13) ≡ false → NoReturn (encode c)
-encode-none c other = λ k less is.
-    let same : c ≡ 13 = inside_one c [] (encode c) k (sym (append-nil (encode c))) less (omega (arith, is)) ∙ is in
-    absurd (true≢false (sym (ap (λ (x : ℕ). x == 13) same) ∙ other))
+next-encodes : (s : List ℕ) → next_is is_newline (encodes s) ≡ next_is is_newline s
+unfolding encode
+next-encodes [] = refl
+next-encodes (d ∷ t) = grind (arith, common_steps, nat_tests)
 
-next-same : (s : List ℕ) → next_is is_newline (encodes s) ≡ next_is is_newline s
-next-same [] = refl
-next-same (d ∷ t) = by_bytes (encodes (d ∷ t)) refl
-  where
-    by_bytes : (bs : List ℕ) → encodes (d ∷ t) ≡ bs → next_is is_newline bs ≡ is_newline d
-    by_bytes [] e = absurd (omega (arith, length-le-encodes (d ∷ t), ap length e))
-    by_bytes (b ∷ bs) e = grind (arith, common_steps, nat_tests, byte_from_char (b ∷ bs) (encodes t) d (sym e), char_from_byte (b ∷ bs) (encodes t) d (sym e))
+last-encodes : (x y : ℕ) (w : List ℕ) → (x == 13) ≡ (y == 13) → (last_from x (encodes w) == 13) ≡ (last_from y w == 13)
+last-encodes x y [] same = same
+last-encodes x y (c ∷ w) same = ap (λ (d : ℕ). d == 13) (last_from-append x (encode c) (encodes w)) ∙ last-encodes (last_from x (encode c)) c w (last-encode x c)
 
-whole-encode : (c : ℕ) (t : List ℕ) → ends_line c t ≡ false → is_whole (encode c) t ≡ true
-whole-encode c t keeps = by_either (c == 13)
-    (λ is. at-char (λ (x : ℕ). is_whole (encode x) t ≡ true) c 13 (grind (arith, common_steps)) is)
-    (λ other. whole-none (encode c) t (encode-none c other))
+whole-encodes : (w s : List ℕ) → is_whole (encodes w) (encodes s) ≡ is_whole w s
+whole-encodes w s = rw (last-encodes 0 0 w refl, next-encodes s) refl
 
 pub encodes-unix : (s : List ℕ) → encodes (unix s) ≡ unix (encodes s)
 encodes-unix [] = refl
-encodes-unix (c ∷ s) = by_either (c == 13)
-    (λ is. at-char (λ (x : ℕ). encodes (unix (x ∷ s)) ≡ unix (encodes (x ∷ s))) c 13 (return s (encodes-unix s)) is)
-    (λ other. rw (other, unix-append (encode c) (encodes s) (whole-none (encode c) (encodes s) (encode-none c other)), unix-none (encode c) (encode-none c other)) (ap (λ (t : List ℕ). encode c ++ t) (encodes-unix s)))
-  where
-    return : (s : List ℕ) → encodes (unix s) ≡ unix (encodes s) → encodes (unix (13 ∷ s)) ≡ unix (encodes (13 ∷ s))
-    return s same = let one : encode 13 ≡ 13 ∷ [] = encode_ascii 13 (omega arith) in
-        by_either (next_is is_newline s)
-        (λ line. rw (line, one) (same ∙ sym (rw (next-same s ∙ line) refl)))
-        (λ none. rw (none, one) (ap (λ (t : List ℕ). 13 ∷ t) same ∙ sym (rw (next-same s ∙ none) refl)))
+encodes-unix (c ∷ s) = by_either (ends_line c s)
+    (λ ends.
+    let both = and_parts (c == 13) (next_is is_newline s) ends in
+    rw ends (encodes-unix s ∙ sym (rw (ap encode (eqb-true c 13 both.0) ∙ encode_ascii 13 (omega arith), next-encodes s ∙ both.1) refl)))
+    (λ stays. rw (stays, unix-append (encode c) (encodes s) (rw (last-encode 0 c, next-encodes s, stays) refl), unix-encode c) (ap (λ (t : List ℕ). encode c ++ t) (encodes-unix s)))
 
-next-chars : (bs : List ℕ) → IsUtf8 bs → next_is is_newline (chars bs) ≡ next_is is_newline bs
-next-chars bs is = sym (next-same (chars bs)) ∙ ap (next_is is_newline) (encodes-chars bs is)
+-- the last character that was read, by its last byte
+get_or-last : (c : ℕ) (w t : List ℕ) → get_or (c ∷ (w ++ t)) (length w) 0 ≡ last_from c w
+get_or-last c [] t = refl
+get_or-last c (d ∷ w) t = get_or-last d w t
 
--- a character is read
-pub one_read : (rest left : List ℕ) (c : ℕ) → IsUtf8 rest → chars rest ≡ c ∷ chars left → rest ≡ encode c ++ left → ends_line c left ≡ false → (unix (chars rest) ≡ c ∷ unix (chars left)) × IsLeft rest left
-one_read rest left c utf8 read text stays =
-    let spelt : IsUtf8 left = IsUtf8-past_char rest left c utf8 text in
-    let also : ends_line c (chars left) ≡ false = rw (next-chars left spelt) stays in
-    (ap unix read ∙ rw also refl, record { read = encode c; whole = text; uncut = whole-encode c left stays; spelt = spelt })
+last_read : (rest left w : List ℕ) → IsUtf8 rest → IsUtf8 left → chars rest ≡ w ++ chars left → (get_or (0 ∷ rest) (length rest - length left) 0 == 13) ≡ (last_from 0 w == 13)
+last_read rest left w all spelt whole =
+    let text = text-is rest left w all spelt whole in
+    let size : length rest - length left ≡ length (encodes w) = omega (arith, ap length text, length-append (encodes w) left) in
+    ap (λ (n : ℕ). get_or (0 ∷ rest) n 0 == 13) size ∙ (ap (λ (r : List ℕ). get_or (0 ∷ r) (length (encodes w)) 0 == 13) text
+    ∙ (ap (λ (d : ℕ). d == 13) (get_or-last 0 (encodes w) left) ∙ last-encodes 0 0 w refl))
 
--- or a line end
-line-is : (c : ℕ) (left : List ℕ) → ends_line c left ≡ true → (c ≡ 13) × (left ≡ 10 ∷ drop 1 left)
-line-is c [] ends = grind (arith, common_steps)
-line-is c (d ∷ left) ends = grind (arith, common_steps, nat_tests)
+get_or-past : (rest : List ℕ) (n : ℕ) → 0 < n → get_or (0 ∷ rest) n 0 ≡ get_or rest (n - 1) 0
+get_or-past rest zero some = absurd (omega arith)
+get_or-past rest (suc n) some = let back : n ≡ suc n - 1 = omega arith in ap (λ (k : ℕ). get_or rest k 0) back
 
-pub line_cut : (c : ℕ) (left : List ℕ) → IsUtf8 left → ends_line c left ≡ true → IsCharBoundary left 1
-line_cut c left spelt ends =
-    let is = (line-is c left ends).1 in
-    IsCharBoundary-after_ascii left 0 spelt (omega (arith, ap length is)) (omega (arith, ap (λ (t : List ℕ). get_or t 0 0) is))
+pub last_byte : (rest left bytes w : List ℕ) → IsUtf8 rest → IsUtf8 left → bytes ≡ rest → 0 < length rest - length left → chars rest ≡ w ++ chars left → (get_or bytes (length rest - length left - 1) 0 == 13) ≡ (last_from 0 w == 13)
+last_byte rest left bytes w all spelt same some whole =
+    ap (λ (bs : List ℕ). get_or bs (length rest - length left - 1) 0 == 13) same
+    ∙ (ap (λ (d : ℕ). d == 13) (sym (get_or-past rest (length rest - length left) some)) ∙ last_read rest left w all spelt whole)
 
-pub line_read : (rest left line : List ℕ) (c : ℕ) → IsUtf8 left → IsUtf8 line → chars rest ≡ c ∷ chars left → rest ≡ encode c ++ left → ends_line c left ≡ true → line ≡ drop 1 left
-    → (unix (chars rest) ≡ 10 ∷ unix (chars line)) × IsLeft rest line × (length line < length rest)
-line_read rest left line c spelt spelt_line read text ends is_line =
-    let is = line-is c left ends in
-    let newline : left ≡ 10 ∷ line = is.1 ∙ ap (λ (t : List ℕ). 10 ∷ t) (sym is_line) in
-    let first : encode c ≡ 13 ∷ [] = ap encode is.0 ∙ encode_ascii 13 (omega arith) in
-    let second : left ≡ encode 10 ++ line = newline ∙ ap (λ (w : List ℕ). w ++ line) (sym (encode_ascii 10 (omega arith))) in
-    let whole : rest ≡ 13 ∷ 10 ∷ line = text ∙ (ap (λ (w : List ℕ). w ++ left) first ∙ ap (λ (t : List ℕ). 13 ∷ t) newline) in (
-      ap unix (read ∙ (ap (λ (x : ℕ). x ∷ chars left) is.0 ∙ ap (λ (t : List ℕ). 13 ∷ t) (chars_past_char left line 10 spelt second))),
-      record { read = 13 ∷ 10 ∷ []; whole = whole; uncut = refl; spelt = spelt_line },
-      omega (arith, ap length whole),
-    )
+pub no_byte : (rest left w : List ℕ) → IsUtf8 rest → IsUtf8 left → length rest - length left ≤ 0 → chars rest ≡ w ++ chars left → nat_lt 0 (length rest - length left) ≡ (last_from 0 w == 13)
+no_byte rest left w all spelt none whole =
+    let zero_read : length rest - length left ≡ 0 = omega arith in
+    ap (nat_lt 0) zero_read ∙ (sym (ap (λ (n : ℕ). get_or (0 ∷ rest) n 0 == 13) zero_read) ∙ last_read rest left w all spelt whole)
 
 -- where only some characters are left
 pub offset_is : (text left : List ℕ) → IsLeft text left → length text - length left ≡ offset_of text (unix (chars left))
 offset_is text left is =
+    let read : List ℕ = encodes is.read in
+    let whole : text ≡ read ++ left = text-is text left is.read is.all is.spelt is.whole in
+    let uncut : is_whole read left ≡ true = ap (is_whole read) (sym (encodes-chars left is.spelt)) ∙ (whole-encodes is.read (chars left) ∙ is.uncut) in
     let rest : length (encodes (unix (chars left))) ≡ length (unix left) = ap length (encodes-unix (chars left) ∙ ap unix (encodes-chars left is.spelt)) in
-    let all : length (unix text) ≡ length (unix is.read) + length (unix left) = ap (λ (t : List ℕ). length (unix t)) is.whole ∙ (ap length (unix-append is.read left is.uncut) ∙ length-append (unix is.read) (unix left)) in
-    let at : length (unix text) - length (encodes (unix (chars left))) ≡ length (unix is.read) + 0 = omega arith in
-    let size : length text ≡ length is.read + length left = ap length is.whole ∙ length-append is.read left in
-    let to : place text (length (unix is.read) + 0) ≡ length is.read + 0 = ap (λ (t : List ℕ). place t (length (unix is.read) + 0)) is.whole ∙ place-append is.read left 0 is.uncut in
+    let all : length (unix text) ≡ length (unix read) + length (unix left) = ap (λ (t : List ℕ). length (unix t)) whole ∙ (ap length (unix-append read left uncut) ∙ length-append (unix read) (unix left)) in
+    let at : length (unix text) - length (encodes (unix (chars left))) ≡ length (unix read) + 0 = omega arith in
+    let size : length text ≡ length read + length left = ap length whole ∙ length-append read left in
+    let to : place text (length (unix read) + 0) ≡ length read + 0 = ap (λ (t : List ℕ). place t (length (unix read) + 0)) whole ∙ place-append read left 0 uncut in
     omega (arith, ap (place text) at ∙ to)
 
 -- ---- the items of a text in a file
@@ -203,20 +203,107 @@ items_cons raw text s c =
     ∙ (map-append (λ (i : Item). (moved text i.0, i.1)) (map (item_at (length (unix text)) (reading.place (length (unix text)) (c ∷ s))) (front_by raw c s).found) (items_from (front_by raw) (length (unix text)) (front_by raw c s).left)
     ∙ ap (λ (is : List Item). is ++ left_items raw text (front_by raw c s).left) (found-moved text (c ∷ s) (front_by raw c s).found))
 
--- ---- digits between braces: past the sixth, their value does not count
+-- ---- an escape, which ends with the first carriage return in it
 
-closed-many : (h : ℕ → Bool) (v w m n : ℕ) (digits s : List ℕ) → 6 < m → 6 < n → closed_past h v m digits s ≡ closed_past h w n digits s
-closed-many h v w m n digits [] a b = refl
-closed-many h v w m n digits (c ∷ s) a b = grind (arith, common_steps, nat_tests)
+abbrev stays : ℕ → Bool
+stays c = not (c == 13)
 
-pub digits_start : (c v : ℕ) (s : List ℕ) → digit_value c ≡ v → v < 16 → closed_at_run (c ∷ s) ≡ left_at v 1 s
-digits_start c v s is fits =
-    let first : with_digit 0 0 (digit_value c) ≡ v = omega (arith, is) in
-    sym (left_at-start (c ∷ s)) ∙ (left_at-digit 0 0 c s (hex-yes c (omega (arith, is))) ∙ ap (λ (n : ℕ). left_at n 1 s) first)
+unix-stays : (w s : List ℕ) → list_all stays w ≡ true → unix (w ++ s) ≡ w ++ unix s
+unix-stays [] s all = refl
+unix-stays (c ∷ w) s all = grind (arith, common_steps, nat_tests, and_parts, unix-stays w s)
 
-pub left_at_many : (v w m n : ℕ) (s : List ℕ) → 6 < m → 6 < n → left_at v m s ≡ left_at w n s
-unfolding left_at
-left_at_many v w m n s a b = closed-many is_hex v w m n (front_run is_digit_or_underscore s) (past_run is_digit_or_underscore s) a b
+last-stays : (x : ℕ) (w : List ℕ) → (x == 13) ≡ false → list_all stays w ≡ true → (last_from x w == 13) ≡ false
+last-stays x [] not all = not
+last-stays x (c ∷ w) not all = grind (arith, common_steps, nat_tests, and_parts, last-stays c w)
+
+-- the first character, and what is left past it
+abbrev first : ℕ → List ℕ → ℕ
+first c s = if ends_line c s then 10 else c
+
+abbrev past : ℕ → List ℕ → List ℕ
+past c s = if ends_line c s then drop 1 s else s
+
+unix-cons : (c : ℕ) (s : List ℕ) → unix (c ∷ s) ≡ first c s ∷ unix (past c s)
+unix-cons c [] = grind (arith, common_steps, nat_tests)
+unix-cons c (d ∷ s) = grind (arith, common_steps, nat_tests)
+
+abbrev IsReadSo : List ℕ → Element → List ℕ → Type 0
+IsReadSo next e w = escape (unix (w ++ next)) ≡ (e, unix (past (last_from 0 w) next))
+
+-- an escape without a carriage return, and one that may end with one
+whole : (next : List ℕ) {e : Element} (w : List ℕ) → list_all stays w ≡ true → IsEscapeBefore (unix next) e w → IsReadSo next e w
+whole next w all is = rw (unix-stays w next all, last-stays 0 w refl all) (escape-reads is)
+
+ended : (next : List ℕ) {e : Element} (w : List ℕ) (c : ℕ) → list_all stays w ≡ true → IsEscapeBefore (unix (past c next)) e (w ++ first c next ∷ []) → IsReadSo next e (w ++ c ∷ [])
+ended next w c all is =
+    rw (append_assoc w (c ∷ []) next, unix-stays w (c ∷ next) all, unix-cons c next, last_from-append 0 w (c ∷ []))
+    (ap escape (sym (append_assoc w (first c next ∷ []) (unix (past c next)))) ∙ escape-reads is)
+
+-- a newline is no digit, nor is a carriage return
+first-out : (p : ℕ → Bool) (c : ℕ) (s : List ℕ) → p 10 ≡ false → p c ≡ false → p (first c s) ≡ false
+first-out p c s line is = either (λ (d : ℕ). p d ≡ false) (ends_line c s) 10 c line is
+
+hex_stays : (c : ℕ) → is_hex c ≡ true → stays c ≡ true
+hex_stays c is = rw (no-digit 13 c refl is) refl
+
+digits_stay : {w : List ℕ} → AreDigits w → list_all stays w ≡ true
+digits_stay g.none = refl
+digits_stay (g.some {d} {w} digit all) = rw (hex_stays d digit) (rest w all)
+  where
+    rest : (w : List ℕ) → list_all is_digit_or_underscore w ≡ true → list_all stays w ≡ true
+    rest [] all = refl
+    rest (c ∷ w) all = grind (arith, common_steps, nat_tests, and_parts, hex_stays, rest w)
+
+escape-unix : {next : List ℕ} {e : Element} {w : List ℕ} → IsEscapeBefore next e w → IsReadSo next e w
+escape-unix {next} (g.of_byte {h} {l} a b) = whole next (120 ∷ h ∷ l ∷ []) (rw (no-digit 13 h refl a, no-digit 13 l refl b) refl) (g.of_byte a b)
+escape-unix {next} (g.of_number {d} {w} are few) = ended next (117 ∷ 123 ∷ d ∷ w) 125 (digits_stay are) (g.of_number are few)
+escape-unix {next} (g.lone none) = whole next [] refl (g.lone (ap unix none))
+escape-unix {next} (g.invalid {c} other) = ended next [] c refl (g.invalid (first-out (is_among (codes "0tnr\\'\"xu")) c next refl other))
+escape-unix {next} (g.no_digits none) = whole next (120 ∷ []) refl (g.no_digits (ap unix none))
+escape-unix {next} (g.one_digit {h} none a) = whole next (120 ∷ h ∷ []) (rw (no-digit 13 h refl a) refl) (g.one_digit (ap unix none) a)
+escape-unix {next} (g.bad_first {h} a) = ended next (120 ∷ []) h refl (g.bad_first (first-out is_hex h next refl a))
+escape-unix {next} (g.bad_second {h} {l} a b) = ended next (120 ∷ h ∷ []) l (rw (no-digit 13 h refl a) refl) (g.bad_second a (first-out is_hex l next refl b))
+escape-unix {next} (g.no_more none) = whole next (117 ∷ []) refl (g.no_more (ap unix none))
+escape-unix {next} (g.no_brace {c} a) = ended next (117 ∷ []) c refl (g.no_brace (first-out (λ d. d == 123) c next refl a))
+escape-unix {next} (g.unclosed {w} none are) = whole next (117 ∷ 123 ∷ w) (digits_stay are) (g.unclosed (ap unix none) are)
+escape-unix {next} (g.bad_digit {w} c are other inner) =
+    ended next (117 ∷ 123 ∷ w) c (digits_stay are) (g.bad_digit (first c next) are (first-out is_digit_or_underscore c next refl other) (first-out (λ d. d == 125) c next refl inner))
+escape-unix {next} (g.too_many {w} are many) = ended next (117 ∷ 123 ∷ w) 125 (digits_stay are) (g.too_many are many)
+escape-unix is = refl
+
+-- what is left of a text past an escape, where `returned` says whether a carriage return ends the escape
+module _ (rest left : List ℕ) (e : Element) (returned : Bool) (all : IsUtf8 rest) (spelt : IsUtf8 left)
+    (read : (e, chars left) ≡ escape (chars rest))
+    (last : (w : List ℕ) → chars rest ≡ w ++ chars left → returned ≡ (last_from 0 w == 13)) where
+  front : IsFront (chars rest) (e, chars left)
+  front = subst (IsFront (chars rest)) (sym read) (escape-is (chars rest))
+
+  read_so : escape (unix (chars rest)) ≡ (e, unix (past (last_from 0 front.0) (chars left)))
+  read_so = ap (λ (t : List ℕ). escape (unix t)) front.1 ∙ escape-unix front.2
+
+  pub escape_read : (returned && next_is is_newline (chars left)) ≡ false → ((e, unix (chars left)) ≡ escape (unix (chars rest))) × IsLeft rest left
+  escape_read stays =
+      let none : ends_line (last_from 0 front.0) (chars left) ≡ false = subst (λ (b : Bool). (b && next_is is_newline (chars left)) ≡ false) (last front.0 front.1) stays in
+      (sym (read_so ∙ rw none refl), read_left rest left front.0 all spelt front.1 none)
+
+  pub escape_line : (line : List ℕ) → IsUtf8 line → returned ≡ true → chars left ≡ 10 ∷ chars line → ((e, unix (chars line)) ≡ escape (unix (chars rest))) × IsLeft rest line
+  escape_line line also ends newline = (sym (read_so ∙ rw (sym (last front.0 front.1) ∙ ends, newline) refl), read_line rest left line front.0 all also front.1 newline)
+
+-- ---- white space that is skipped
+
+pub passed_same : (s : List ℕ) → (past_run is_passed_over (unix s) ≡ unix (past_run is_passed_over s)) × (list_any is_newline (front_run is_passed_over (unix s)) ≡ list_any is_newline (front_run is_passed_over s))
+passed_same [] = (refl, refl)
+passed_same (c ∷ s) = grind (arith, common_steps, nat_tests, passed_same s)
+
+pub passed_left : (rest left : List ℕ) → IsUtf8 rest → IsUtf8 left → chars left ≡ past_run is_passed_over (chars rest) → IsLeft rest left
+passed_left rest left all spelt past =
+    let stops : next_is is_passed_over (chars left) ≡ false = ap (next_is is_passed_over) past ∙ run-stops is_passed_over (chars rest) in
+    let whole : chars rest ≡ front_run is_passed_over (chars rest) ++ chars left = run-cut is_passed_over (chars rest) ∙ ap (λ (t : List ℕ). front_run is_passed_over (chars rest) ++ t) (sym past) in
+    read_left rest left (front_run is_passed_over (chars rest)) all spelt whole (no_line (last_from 0 (front_run is_passed_over (chars rest))) (chars left) stops)
+  where
+    no_line : (c : ℕ) (s : List ℕ) → next_is is_passed_over s ≡ false → ends_line c s ≡ false
+    no_line c [] stops = grind (arith, common_steps, nat_tests)
+    no_line c (d ∷ s) stops = grind (arith, common_steps, nat_tests, or_parts)
 
 -- ---- steps
 
@@ -233,19 +320,6 @@ items_step raw text t u s left c start first second next a b is at found rest =
 
 pub none_found : (first second : Option Item) (rest : List Item) → is_some first ≡ false → (first ≡ None → second ≡ None) → option_to_list first ++ (option_to_list second ++ rest) ≡ rest
 none_found first second rest none also = grind (arith, common_steps)
-
-past_run-shorter : (p : ℕ → Bool) (s : List ℕ) → length (past_run p s) ≤ length s
-past_run-shorter p [] = omega arith
-past_run-shorter p (c ∷ s) = either (λ (left : List ℕ). length left ≤ suc (length s)) (p c) (past_run p s) (c ∷ s) (let l = past_run-shorter p s in omega arith) (omega arith)
-
-past_backslash-shorter : (s : List ℕ) → length (reading.past_backslash s).left ≤ length s
-past_backslash-shorter [] = let is = escape-is [] in omega (arith, ap length is.1, length-append is.0 (escape []).1)
-past_backslash-shorter (c ∷ s) = let is = escape-is (c ∷ s) in either (λ (f : Front). length f.left ≤ suc (length s)) (is_newline c) (reading.line_end s) (reading.one (escape (c ∷ s)))
-    (let l = past_run-shorter is_passed_over s in omega arith) (omega (arith, ap length is.1, length-append is.0 (escape (c ∷ s)).1))
-
-pub left_shorter : (raw : Bool) (c : ℕ) (s : List ℕ) → length (front_by raw c s).left ≤ length s
-unfolding reading.front reading.raw_front
-left_shorter raw c s = grind (arith, common_steps, nat_tests, either, past_backslash-shorter)
 
 pub takes_items : (raw : Bool) (text t s left : List ℕ) (waiting first second : Option Item) → is_some waiting ≡ false → t ≡ text → left_items raw text s ≡ option_to_list first ++ (option_to_list second ++ left_items raw text left) → (first ≡ None → (second ≡ None) × (left ≡ []))
     → TakesFirst (option_to_list waiting ++ left_items raw text s) first (option_to_list second ++ left_items raw t left)

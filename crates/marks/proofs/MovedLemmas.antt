@@ -10,7 +10,7 @@ use Rattle.std.proofs.lemmas.List.{map-append}
 use Rattle.std.proofs.lemmas.List.Elements.{All-cons, All-head, All-nil, All-tail}
 use Rattle.rustc_literal_escaper.proofs.AnswerLemmas.{literal_read}
 use Rattle.rustc_literal_escaper.proofs.PlacedLemmas.{are_placed}
-use Rattle.rustc_literal_escaper.specs.Answers.{byte_literal, char_literal, items_of}
+use Rattle.rustc_literal_escaper.specs.Answers.{items_of, single_of, without_range}
 use Rattle.rustc_literal_escaper.specs.Grammar.{Error, Item}
 use Rattle.rustc_literal_escaper.specs.Items.{ArePlaced, IsPlaced}
 use Rattle.rustc_literal_escaper.specs.Meaning.{byte_of, char_of, error_of}
@@ -30,9 +30,7 @@ use Rattle.marks.proofs.LineEndLemmas.{chars-unix, place-append, place_less, utf
 -- ---- places
 
 whole-nil : (s : List ℕ) → is_whole s [] ≡ true
-whole-nil [] = refl
-whole-nil (c ∷ []) = grind (arith, common_steps, nat_tests)
-whole-nil (c ∷ d ∷ s) = whole-nil (d ∷ s)
+whole-nil s = grind (arith, common_steps, nat_tests)
 
 pub place-end : (s : List ℕ) → place s (length (unix s)) ≡ length s
 place-end s = rw (append-nil s, add-zero (length (unix s)), add-zero (length s)) at (place-append s [] 0 (whole-nil s))
@@ -104,15 +102,11 @@ kind-moved : (text : List ℕ) (o : Option Error) → kind (option_map (λ (e : 
 kind-moved text None = refl
 kind-moved text (Some e) = refl
 
-char-error : (text : List ℕ) → IsUtf8 text → kind (single_left text Char (unix (chars text))) ≡ char_error Char text
-char-error text is =
-    kind-moved text (single_error (length (unix text)) Char (unix (chars text))) ∙ (literal-error char_of Char (length (unix text)) (unix (chars text)) (λ e. refl)
-    ∙ (ap result_err (sym (literal_read char_of (unix (chars text)))) ∙ ap (λ (s : List ℕ). result_err (char_literal s)) (sym (chars-unix text is))))
-
-byte-error : (text : List ℕ) → IsUtf8 text → kind (single_left text Byte (unix (chars text))) ≡ char_error Byte text
-byte-error text is =
-    kind-moved text (single_error (length (unix text)) Byte (unix (chars text))) ∙ (literal-error byte_of Byte (length (unix text)) (unix (chars text)) (λ e. refl)
-    ∙ (ap result_err (sym (literal_read byte_of (unix (chars text)))) ∙ ap (λ (s : List ℕ). result_err (byte_literal s)) (sym (chars-unix text is))))
+single-error : {U : Type 0} (meaning : Element → Result U EscapeError) (mode : Mode) (text : List ℕ) → IsUtf8 text → ((e : Element) → result_err (meaning e) ≡ error_of mode e)
+    → kind (single_left text mode (unix (chars text))) ≡ result_err (without_range (single_of meaning (chars (unix text))))
+single-error meaning mode text is same =
+    kind-moved text (single_error (length (unix text)) mode (unix (chars text))) ∙ (literal-error meaning mode (length (unix text)) (unix (chars text)) same
+    ∙ (ap result_err (sym (literal_read meaning (unix (chars text)))) ∙ ap (λ (s : List ℕ). result_err (without_range (single_of meaning s))) (sym (chars-unix text is))))
 
 -- a mode without single quotes is read as that of a character
 abbrev pub alone_mode : Mode → Mode
@@ -120,5 +114,5 @@ alone_mode Byte = Byte
 alone_mode mode = Char
 
 pub error_found : (mode picked : Mode) (text : List ℕ) (found : Option Error) → IsUtf8 text → picked ≡ alone_mode mode → found ≡ single_left text picked (unix (chars text)) → option_map (λ (e : Error). e.1) found ≡ char_error mode text
-error_found Byte picked text found is pick f = ap kind (f ∙ ap (λ (m : Mode). single_left text m (unix (chars text))) pick) ∙ byte-error text is
-error_found mode picked text found is pick f = ap kind (f ∙ ap (λ (m : Mode). single_left text m (unix (chars text))) pick) ∙ char-error text is
+error_found Byte picked text found is pick f = ap kind (f ∙ ap (λ (m : Mode). single_left text m (unix (chars text))) pick) ∙ single-error byte_of Byte text is (λ e. refl)
+error_found mode picked text found is pick f = ap kind (f ∙ ap (λ (m : Mode). single_left text m (unix (chars text))) pick) ∙ single-error char_of Char text is (λ e. refl)

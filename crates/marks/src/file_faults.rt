@@ -4,13 +4,12 @@ ghost use Rattle.std.specs.Iterator.{at_most};
 ghost use Rattle.std.specs.Str.{chars};
 ghost use Rattle.rustc_literal_escaper.specs.Items.{TakesFirst};
 ghost use Rattle.rustc_literal_escaper.specs.Meaning as meaning;
-ghost use Rattle.rustc_literal_escaper.specs.means.Single as singles;
 ghost use Rattle.marks.specs.LineEnds.{file_errors, unix};
 ghost use Rattle.marks.specs.means.LineEnds.{single_left};
 
 use crate::line_ends::{FileChars, FileElements};
 use crate::literal::{first_place, is_single};
-use rustc_literal_escaper::{Element, EscapeError, Faults, Mode};
+use rustc_literal_escaper::{EscapeError, Faults, Mode, unescaped_alone};
 use std::iter::Iterator;
 use std::marker::Model;
 use std::ops::Range;
@@ -102,24 +101,13 @@ pub fn single_error(contents: &str, mode: Mode) -> Option<(Range<usize>, EscapeE
     let element = if c == '\\' {
         chars.escape()
     } else {
-        unescaped(c)
+        unescaped_alone(c)
     };
     if let Some(error) = element.error_in(mode) {
         return Some((0..chars.offset(), error));
     }
     chars.next_char()?;
     Some((0..chars.offset(), EscapeError::MoreThanOneChar))
-}
-
-/// Returns the element for a character that is not escaped, between single quotes.
-fn unescaped(c: char) -> Element
-    ensures { result ≡ singles.unescaped c }
-{
-    match c {
-        '\n' | '\t' | '\'' => Element::Fault(EscapeError::EscapeOnlyChar),
-        '\r' => Element::Fault(EscapeError::BareCarriageReturn),
-        _ => Element::Plain(c),
-    }
 }
 
 /// Returns whether a literal of this kind has no escapes.

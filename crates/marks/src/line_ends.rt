@@ -1,22 +1,23 @@
 //! The text between the quotes of a literal in a file.
-ghost use Rattle.std.specs.Prelude.{◌≡◌, ◌<◌, ◌+◌, ◌*◌, ◌^◌, ◌∷◌, ◌++◌, [], true, false, length, map, min, nat_le, nat_lt, if◌then◌else◌, MatchOption, None};
-ghost use Rattle.std.specs.Char.{digit_value};
+ghost use Rattle.std.specs.Prelude.{◌≡◌, ◌<◌, ◌≤◌, ◌==◌, ◌&&◌, ◌∷◌, ◌++◌, ℕ, List, [], true, false, length, map, MatchOption, None};
 ghost use Rattle.std.specs.Iterator.{at_most};
 ghost use Rattle.std.specs.List.{list_any};
 ghost use Rattle.std.specs.Option.{option_to_list};
-ghost use Rattle.std.specs.Str.{chars};
-ghost use Rattle.rustc_literal_escaper.specs.Grammar.{is_newline, is_passed_over};
+ghost use Rattle.std.specs.Str.{chars, IsUtf8};
+ghost use Rattle.rustc_literal_escaper.specs.Grammar.{is_newline, is_passed_over, next_is};
 ghost use Rattle.rustc_literal_escaper.specs.Items.{TakesFirst};
 ghost use Rattle.rustc_literal_escaper.specs.Meaning.{errors_in};
 ghost use Rattle.rustc_literal_escaper.specs.means.Elements as elements;
 ghost use Rattle.rustc_literal_escaper.specs.means.Elements.{front_by};
 ghost use Rattle.rustc_literal_escaper.specs.means.Escape as escapes;
 ghost use Rattle.rustc_literal_escaper.specs.means.Escape.{front_run, past_run};
-ghost use Rattle.marks.specs.LineEnds.{ends_line, file_items, unix};
-ghost use Rattle.marks.specs.means.LineEnds.{IsLeft, file_item, left_items, offset_of};
+ghost use Rattle.marks.specs.LineEnds.{file_items, unix};
+ghost use Rattle.marks.specs.means.LineEnds.{IsLeft, file_item, last_from, left_items, offset_of};
 
-use crate::screen::split_first;
-use rustc_literal_escaper::{Element, EscapeError, Mode};
+use rustc_literal_escaper::{
+    Element, EscapeError, Mode, PassedOver, pass_over, raw_element, read_escape, split_first,
+    unescaped,
+};
 use std::iter::Iterator;
 use std::marker::Model;
 use std::ops::Range;
@@ -154,120 +155,22 @@ impl<'a> FileChars<'a> {
         ensures text { self.new.0 ≡ self.old.0 }
         ensures read { (result, self.new.1) ≡ escapes.escape self.old.1 }
     {
-        match self.next_char() {
-            Some('x') => self.hex(),
-            Some('u') => self.unicode(),
-            Some(c) => short(c),
-            None => Element::Fault(EscapeError::LoneSlash),
-        }
-    }
-
-    /// Reads the two digits after `x`.
-    fn hex(&mut self) -> Element
-        ensures text { self.new.0 ≡ self.old.0 }
-        ensures read { (result, self.new.1) ≡ escapes.hex self.old.1 }
-    {
-        let Some(high) = self.next_char() else {
-            return Element::Fault(EscapeError::TooShortHexEscape);
+        let (element, left) = read_escape(self.rest);
+        self.rest = match past_line(ends_in_return(self.rest, left), left) {
+            Some(line) => line,
+            None => left,
         };
-        let Some(high) = high.to_digit(16) else {
-            return Element::Fault(EscapeError::InvalidCharInHexEscape);
-        };
-        let Some(low) = self.next_char() else {
-            return Element::Fault(EscapeError::TooShortHexEscape);
-        };
-        let Some(low) = low.to_digit(16) else {
-            return Element::Fault(EscapeError::InvalidCharInHexEscape);
-        };
-        Element::Byte((high * 16 + low) as u8)
-    }
-
-    /// Reads the number after `u`.
-    fn unicode(&mut self) -> Element
-        ensures text { self.new.0 ≡ self.old.0 }
-        ensures read { (result, self.new.1) ≡ escapes.unicode self.old.1 }
-    {
-        match self.next_char() {
-            Some('{') => self.braced(),
-            _ => Element::Fault(EscapeError::NoBraceInUnicodeEscape),
-        }
-    }
-
-    /// Reads a number up to its closing brace.
-    fn braced(&mut self) -> Element
-        ensures text { self.new.0 ≡ self.old.0 }
-        ensures read { (result, self.new.1) ≡ escapes.braced self.old.1 }
-    {
-        let Some(first) = self.next_char() else {
-            return Element::Fault(EscapeError::UnclosedUnicodeEscape);
-        };
-        if first == '_' {
-            return Element::Fault(EscapeError::LeadingUnderscoreUnicodeEscape);
-        }
-        if first == '}' {
-            return Element::Fault(EscapeError::EmptyUnicodeEscape);
-        }
-        match first.to_digit(16) {
-            Some(digit) => self.digits(first, digit),
-            None => Element::Fault(EscapeError::InvalidCharInUnicodeEscape),
-        }
-    }
-
-    /// Reads the digits after the first, which is `digit`, up to the closing brace.
-    #[tactic(auto, using(crate::proofs::LineEndLemmas::digits_start, crate::proofs::LineEndLemmas::left_at_many, rustc_literal_escaper::proofs::DigitLemmas::digit_lemmas))]
-    fn digits(&mut self, first: char, digit: u32) -> Element
-        requires first { digit_value first ≡ digit }
-        requires digit { digit < 16 }
-        ensures text { self.new.0 ≡ self.old.0 }
-        ensures read { (result, self.new.1) ≡ escapes.closed_at_run (first ∷ self.old.1) }
-    {
-        let mut value = digit;
-        let mut count: usize = 1;
-        'digits: while let Some(c) = self.next_char() {
-            if c == '_' {
-                continue;
-            }
-            if c == '}' {
-                return number(value, count);
-            }
-            let Some(digit) = c.to_digit(16) else {
-                return Element::Fault(EscapeError::InvalidCharInUnicodeEscape);
-            };
-            value = with_digit(value, count, digit);
-            if count <= MOST_DIGITS {
-                count += 1;
-            }
-        }
-        Element::Fault(EscapeError::UnclosedUnicodeEscape)
-    }
-
-    /// Takes the next character if it is white space that is skipped after a line end.
-    fn next_passed(&mut self) -> Option<char>
-        ensures text { self.new.0 ≡ self.old.0 }
-        ensures left { MatchOption result
-            ((self.new.1 ≡ self.old.1) × (front_run is_passed_over self.old.1 ≡ []))
-            (λ c. (self.old.1 ≡ c ∷ self.new.1) × (is_passed_over c ≡ true)) }
-    {
-        let mut ahead = self.copy();
-        let c = ahead.next_char()?;
-        if !is_passed_over(c) {
-            return None;
-        }
-        *self = ahead;
-        Some(c)
+        element
     }
 
     /// Skips white space after a line end, and returns whether there is a newline in it.
-    #[tactic(auto, using(rustc_literal_escaper::proofs::PlaceLemmas::place_lemmas))]
     fn pass_over(&mut self) -> bool
         ensures text { self.new.0 ≡ self.old.0 }
         ensures newline { result ≡ list_any is_newline (front_run is_passed_over self.old.1) }
         ensures left { self.new.1 ≡ past_run is_passed_over self.old.1 }
     {
-        let mut newline = false;
-        'space: while let Some(c) = self.next_passed() {
-            newline |= c == '\n';
-        }
+        let PassedOver { newline, left } = pass_over(self.rest);
+        self.rest = left;
         newline
     }
 
@@ -351,92 +254,30 @@ fn first_char(rest: &str) -> Option<(char, &str)>
         × (length r.1.now < length rest.now)) }
 {
     let (first, left) = split_first(rest)?;
-    if ends_line(first, left) {
-        return Some(('\n', &left[1..]));
-    }
-    Some((first, left))
-}
-
-/// Returns whether the character is a carriage return and a newline follows it.
-fn ends_line(c: char, rest: &str) -> bool
-    ensures { result ≡ ends_line c rest.now }
-{
-    match rest.as_bytes().first() {
-        Some(b'\n') => c == '\r',
-        _ => false,
+    match past_line(first == '\r', left) {
+        Some(line) => Some(('\n', line)),
+        None => Some((first, left)),
     }
 }
 
-/// The digits that a number has at most.
-const MOST_DIGITS: usize = 6;
-
-/// Returns the number of so many digits.
-fn number(value: u32, count: usize) -> Element
-    ensures { result ≡ if nat_le count 6 then Element.Unicode value
-        else Element.Fault EscapeError.OverlongUnicodeEscape }
+/// Returns the text after a newline at the front if a carriage return is before it.
+fn past_line(is_after_return: bool, rest: &str) -> Option<&str>
+    ensures { MatchOption result ((is_after_return && next_is is_newline (chars rest.now)) ≡ false)
+        (λ line. (is_after_return ≡ true) × (chars rest.now ≡ 10 ∷ chars line.now)
+        × (length line.now < length rest.now) × IsUtf8 line.now) }
 {
-    if count <= MOST_DIGITS {
-        Element::Unicode(value)
-    } else {
-        Element::Fault(EscapeError::OverlongUnicodeEscape)
+    if !is_after_return {
+        return None;
     }
+    let (c, line) = split_first(rest)?;
+    if c == '\n' { Some(line) } else { None }
 }
 
-/// Returns the value of so many digits and one more. It does not change once there are as many as allowed.
-fn with_digit(value: u32, count: usize, digit: u32) -> u32
-    requires value { value < 16 ^ min count 6 }
-    requires digit { digit < 16 }
-    ensures value { result ≡ if nat_lt count 6 then value * 16 + digit else value }
-    ensures fits { result < 16 ^ min (count + 1) 6 }
+/// Returns whether the text that was read ends in a carriage return. It goes from `rest` to `left`.
+fn ends_in_return(rest: &str, left: &str) -> bool
+    requires { length left.now ≤ length rest.now }
+    ensures { (w : List ℕ) → chars rest.now ≡ w ++ chars left.now → result ≡ (last_from 0 w == 13) }
 {
-    if count < MOST_DIGITS {
-        value * 16 + digit
-    } else {
-        value
-    }
-}
-
-/// Returns the element for a character of a raw string.
-fn raw_element(c: char) -> Element
-    ensures { result ≡ elements.raw_element c }
-{
-    if c == '\r' {
-        Element::Fault(EscapeError::BareCarriageReturnInRawString)
-    } else {
-        Element::Plain(c)
-    }
-}
-
-/// Returns the element for a character that is not escaped, between double quotes.
-fn unescaped(c: char) -> Element
-    ensures { result ≡ elements.unescaped c }
-{
-    match c {
-        '"' => Element::Fault(EscapeError::EscapeOnlyChar),
-        '\r' => Element::Fault(EscapeError::BareCarriageReturn),
-        _ => Element::Plain(c),
-    }
-}
-
-/// Returns the escape of one character.
-fn short(c: char) -> Element
-    ensures { result ≡ escapes.short c }
-{
-    match c {
-        '0' => Element::Byte(0),
-        't' => Element::Byte(b'\t'),
-        'n' => Element::Byte(b'\n'),
-        'r' => Element::Byte(b'\r'),
-        '"' => Element::Byte(b'"'),
-        '\'' => Element::Byte(b'\''),
-        '\\' => Element::Byte(b'\\'),
-        _ => Element::Fault(EscapeError::InvalidEscape),
-    }
-}
-
-/// Returns whether this is white space that a backslash at the end of a line skips.
-fn is_passed_over(c: char) -> bool
-    ensures { result ≡ is_passed_over c }
-{
-    matches!(c, '\n' | '\r' | '\t' | ' ')
+    let read = rest.len() - left.len();
+    read > 0 && rest.as_bytes()[read - 1] == b'\r'
 }

@@ -2,7 +2,7 @@
 -- are one.
 use Rattle.std.specs.Prelude.{◌≡◌, ℕ, not, Bool, true, List, [], ◌∷◌, ◌++◌, length, map, Option}
 use Rattle.std.specs.Option.{option_map}
-use Rattle.std.specs.Str.{IsUtf8}
+use Rattle.std.specs.Str.{chars, IsUtf8}
 use Rattle.rustc_lexer.specs.Classes.{Utf8}
 use Rattle.rustc_literal_escaper.specs.declared.element.Element.{Element}
 use Rattle.rustc_literal_escaper.specs.declared.mode.Mode.{Mode}
@@ -12,17 +12,21 @@ use Rattle.rustc_literal_escaper.specs.means.Elements.{front_by, items_from}
 use Rattle.rustc_literal_escaper.specs.means.Single.{single_error}
 use Rattle.marks.specs.LineEnds.{ends_line, moved, place, unix}
 
+-- the last of some characters, or c if there are none
+abbrev pub last_from : ℕ → List ℕ → ℕ
+last_from c [] = c
+last_from c (d ∷ w) = last_from d w
+
 -- whether no line end is cut between w and t
 abbrev pub is_whole : List ℕ → List ℕ → Bool
-is_whole [] t = true
-is_whole (c ∷ []) t = not (ends_line c t)
-is_whole (c ∷ d ∷ w) t = is_whole (d ∷ w) t
+is_whole w t = not (ends_line (last_from 0 w) t)
 
 -- this is left of a text after some of its characters
 pub record IsLeft (text left : Utf8) : Type 0 where
-  pub read : Utf8
-  pub whole : text ≡ read ++ left
-  pub uncut : is_whole read left ≡ true
+  pub read : List ℕ
+  pub whole : chars text ≡ read ++ chars left
+  pub uncut : is_whole read (chars left) ≡ true
+  pub all : IsUtf8 text
   pub spelt : IsUtf8 left
 
 -- the offset in a text at which only these characters are left

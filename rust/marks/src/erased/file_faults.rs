@@ -5,7 +5,7 @@ use crate::erased::line_ends::{FileChars, FileElements};
 use crate::erased::literal::{first_place, is_single};
 use core::iter::Iterator;
 use core::ops::Range;
-use rustc_literal_escaper::erased::{Element, EscapeError, Faults, Mode};
+use rustc_literal_escaper::erased::{EscapeError, Faults, Mode, unescaped_alone};
 
 /// An iterator over the errors and warnings of a literal in a file, each with its place in bytes.
 ///
@@ -74,22 +74,13 @@ pub fn single_error(contents: &str, mode: Mode) -> Option<(Range<usize>, EscapeE
     let element = if c == '\\' {
         chars.escape()
     } else {
-        unescaped(c)
+        unescaped_alone(c)
     };
     if let Some(error) = element.error_in(mode) {
         return Some((0..chars.offset(), error));
     }
     chars.next_char()?;
     Some((0..chars.offset(), EscapeError::MoreThanOneChar))
-}
-
-/// Returns the element for a character that is not escaped, between single quotes.
-fn unescaped(c: char) -> Element {
-    match c {
-        '\n' | '\t' | '\'' => Element::Fault(EscapeError::EscapeOnlyChar),
-        '\r' => Element::Fault(EscapeError::BareCarriageReturn),
-        _ => Element::Plain(c),
-    }
 }
 
 /// Returns whether a literal of this kind has no escapes.

@@ -1,10 +1,12 @@
 // Made by tools/erase from crates/marks/src/line_ends.rt: edit that file.
 //! The text between the quotes of a literal in a file.
 
-use crate::erased::screen::split_first;
 use core::iter::Iterator;
 use core::ops::Range;
-use rustc_literal_escaper::erased::{Element, EscapeError, Mode};
+use rustc_literal_escaper::erased::{
+    Element, EscapeError, Mode, PassedOver, pass_over, raw_element, read_escape, split_first,
+    unescaped,
+};
 
 /// An iterator over the elements of a string of a file, each with its place in bytes. A carriage return directly in
 /// front of a newline is part of the line end.
@@ -89,95 +91,18 @@ impl<'a> FileChars<'a> {
 
     /// Reads the escape after a backslash.
     pub fn escape(&mut self) -> Element {
-        match self.next_char() {
-            Some('x') => self.hex(),
-            Some('u') => self.unicode(),
-            Some(c) => short(c),
-            None => Element::Fault(EscapeError::LoneSlash),
-        }
-    }
-
-    /// Reads the two digits after `x`.
-    fn hex(&mut self) -> Element {
-        let Some(high) = self.next_char() else {
-            return Element::Fault(EscapeError::TooShortHexEscape);
+        let (element, left) = read_escape(self.rest);
+        self.rest = match past_line(ends_in_return(self.rest, left), left) {
+            Some(line) => line,
+            None => left,
         };
-        let Some(high) = high.to_digit(16) else {
-            return Element::Fault(EscapeError::InvalidCharInHexEscape);
-        };
-        let Some(low) = self.next_char() else {
-            return Element::Fault(EscapeError::TooShortHexEscape);
-        };
-        let Some(low) = low.to_digit(16) else {
-            return Element::Fault(EscapeError::InvalidCharInHexEscape);
-        };
-        Element::Byte((high * 16 + low) as u8)
-    }
-
-    /// Reads the number after `u`.
-    fn unicode(&mut self) -> Element {
-        match self.next_char() {
-            Some('{') => self.braced(),
-            _ => Element::Fault(EscapeError::NoBraceInUnicodeEscape),
-        }
-    }
-
-    /// Reads a number up to its closing brace.
-    fn braced(&mut self) -> Element {
-        let Some(first) = self.next_char() else {
-            return Element::Fault(EscapeError::UnclosedUnicodeEscape);
-        };
-        if first == '_' {
-            return Element::Fault(EscapeError::LeadingUnderscoreUnicodeEscape);
-        }
-        if first == '}' {
-            return Element::Fault(EscapeError::EmptyUnicodeEscape);
-        }
-        match first.to_digit(16) {
-            Some(digit) => self.digits(first, digit),
-            None => Element::Fault(EscapeError::InvalidCharInUnicodeEscape),
-        }
-    }
-
-    /// Reads the digits after the first, which is `digit`, up to the closing brace.
-    fn digits(&mut self, first: char, digit: u32) -> Element {
-        let mut value = digit;
-        let mut count: usize = 1;
-        while let Some(c) = self.next_char() {
-            if c == '_' {
-                continue;
-            }
-            if c == '}' {
-                return number(value, count);
-            }
-            let Some(digit) = c.to_digit(16) else {
-                return Element::Fault(EscapeError::InvalidCharInUnicodeEscape);
-            };
-            value = with_digit(value, count, digit);
-            if count <= MOST_DIGITS {
-                count += 1;
-            }
-        }
-        Element::Fault(EscapeError::UnclosedUnicodeEscape)
-    }
-
-    /// Takes the next character if it is white space that is skipped after a line end.
-    fn next_passed(&mut self) -> Option<char> {
-        let mut ahead = self.copy();
-        let c = ahead.next_char()?;
-        if !is_passed_over(c) {
-            return None;
-        }
-        *self = ahead;
-        Some(c)
+        element
     }
 
     /// Skips white space after a line end, and returns whether there is a newline in it.
     fn pass_over(&mut self) -> bool {
-        let mut newline = false;
-        while let Some(c) = self.next_passed() {
-            newline |= c == '\n';
-        }
+        let PassedOver { newline, left } = pass_over(self.rest);
+        self.rest = left;
         newline
     }
 
@@ -236,74 +161,23 @@ impl<'a> FileChars<'a> {
 /// Returns the first character of a text in a file, and the text after it.
 fn first_char(rest: &str) -> Option<(char, &str)> {
     let (first, left) = split_first(rest)?;
-    if ends_line(first, left) {
-        return Some(('\n', &left[1..]));
-    }
-    Some((first, left))
-}
-
-/// Returns whether the character is a carriage return and a newline follows it.
-fn ends_line(c: char, rest: &str) -> bool {
-    match rest.as_bytes().first() {
-        Some(b'\n') => c == '\r',
-        _ => false,
+    match past_line(first == '\r', left) {
+        Some(line) => Some(('\n', line)),
+        None => Some((first, left)),
     }
 }
 
-/// The digits that a number has at most.
-const MOST_DIGITS: usize = 6;
-
-/// Returns the number of so many digits.
-fn number(value: u32, count: usize) -> Element {
-    if count <= MOST_DIGITS {
-        Element::Unicode(value)
-    } else {
-        Element::Fault(EscapeError::OverlongUnicodeEscape)
+/// Returns the text after a newline at the front if a carriage return is before it.
+fn past_line(is_after_return: bool, rest: &str) -> Option<&str> {
+    if !is_after_return {
+        return None;
     }
+    let (c, line) = split_first(rest)?;
+    if c == '\n' { Some(line) } else { None }
 }
 
-/// Returns the value of so many digits and one more. It does not change once there are as many as allowed.
-fn with_digit(value: u32, count: usize, digit: u32) -> u32 {
-    if count < MOST_DIGITS {
-        value * 16 + digit
-    } else {
-        value
-    }
-}
-
-/// Returns the element for a character of a raw string.
-fn raw_element(c: char) -> Element {
-    if c == '\r' {
-        Element::Fault(EscapeError::BareCarriageReturnInRawString)
-    } else {
-        Element::Plain(c)
-    }
-}
-
-/// Returns the element for a character that is not escaped, between double quotes.
-fn unescaped(c: char) -> Element {
-    match c {
-        '"' => Element::Fault(EscapeError::EscapeOnlyChar),
-        '\r' => Element::Fault(EscapeError::BareCarriageReturn),
-        _ => Element::Plain(c),
-    }
-}
-
-/// Returns the escape of one character.
-fn short(c: char) -> Element {
-    match c {
-        '0' => Element::Byte(0),
-        't' => Element::Byte(b'\t'),
-        'n' => Element::Byte(b'\n'),
-        'r' => Element::Byte(b'\r'),
-        '"' => Element::Byte(b'"'),
-        '\'' => Element::Byte(b'\''),
-        '\\' => Element::Byte(b'\\'),
-        _ => Element::Fault(EscapeError::InvalidEscape),
-    }
-}
-
-/// Returns whether this is white space that a backslash at the end of a line skips.
-fn is_passed_over(c: char) -> bool {
-    matches!(c, '\n' | '\r' | '\t' | ' ')
+/// Returns whether the text that was read ends in a carriage return. It goes from `rest` to `left`.
+fn ends_in_return(rest: &str, left: &str) -> bool {
+    let read = rest.len() - left.len();
+    read > 0 && rest.as_bytes()[read - 1] == b'\r'
 }

@@ -1,21 +1,14 @@
-use Rattle.std.proofs.Common.{sym, ◌∙◌}
-use Rattle.std.proofs.lemmas.Str.{IsUtf8-past_char}
-use Rattle.marks.proofs.LineEndLemmas.{line_cut, line_read, one_read}
+use Rattle.std.proofs.Common.{[], ◌∷◌, refl, arith}
+use Rattle.marks.proofs.LineEndLemmas.{read_left, read_line}
 use Rattle.marks.proofs.line_ends.first_char.Goals as goal
 
-pub range_from-requires : goal.range_from-requires
-range_from-requires c =
+pub returns-in-Some : goal.returns-in-Some
+returns-in-Some c =
     let read = c.in_ok-first.ensures in
-    λ some. (line_cut c.in_ok-first.first c.in_ok-first.left.now (IsUtf8-past_char c.args.rest.now c.in_ok-first.left.now c.in_ok-first.first c.utf8.rest read.1) (sym c.ends_line.ensures ∙ c.if-ends_line.true))
+    let line = c.in-Some.ensures in
+    (rw (read.0, line.1, line.0) refl, read_line c.args.rest.now c.in_ok-first.left.now c.in-Some.line.now (c.in_ok-first.first ∷ []) c.utf8.rest line.3 read.0 line.1, omega arith)
 
-pub returns-then-ends_line : goal.returns-then-ends_line
-returns-then-ends_line c =
+pub returns-in-None : goal.returns-in-None
+returns-in-None c =
     let read = c.in_ok-first.ensures in
-    line_read c.args.rest.now c.in_ok-first.left.now c.range_from.result.now c.in_ok-first.first (IsUtf8-past_char c.args.rest.now c.in_ok-first.left.now c.in_ok-first.first c.utf8.rest read.1) c.range_from.utf8
-    read.0 read.1 (sym c.ends_line.ensures ∙ c.if-ends_line.true) c.range_from.ensures.value
-
-pub returns : goal.returns
-returns c =
-    let read = c.in_ok-first.ensures in
-    let left = one_read c.args.rest.now c.in_ok-first.left.now c.in_ok-first.first c.utf8.rest read.0 read.1 (sym c.ends_line.ensures ∙ c.if-ends_line.false) in
-    (left.0, left.1, read.2)
+    (rw (read.0, c.in-None.ensures) refl, read_left c.args.rest.now c.in_ok-first.left.now (c.in_ok-first.first ∷ []) c.utf8.rest read.2 read.0 c.in-None.ensures, read.1)

@@ -71,4 +71,7 @@ loop-range-preserved g c =
     }
 
 pub returns : goal.returns
-returns g c = grind (arith, common_steps, rules, on_ok_weaker, writes_end)
+returns g c =
+    on_ok_weaker c.write_in_class.result (λ wrote. c.loop-range.invariant.left c.write_in_class.new.output (writes_end g.W.Write.write_str_gives c.args.format c.args.mode c.args.text.now c.range_from.result.now
+    c.args.begin c.loop-range.at c.args.close c.loop-range.shown c.in_ok-shown-3.shown c.loop-range.range-iterator c.loop-range.output _ c.write_in_class.new.output
+    (search rules) c.range_from.ensures.value c.in_ok-shown-3.ensures.1 wrote)) c.write_in_class.ensures

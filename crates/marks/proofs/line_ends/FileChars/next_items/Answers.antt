@@ -1,6 +1,7 @@
 use Rattle.std.proofs.Common.{◌∙◌, ap, arith, length, rules}
 use Rattle.marks.specs.means.LineEnds.{left_items}
-use Rattle.marks.proofs.LineEndLemmas.{items_step, left_shorter, none_found}
+use Rattle.rustc_literal_escaper.specs.laws.Elements.{left-shorter}
+use Rattle.marks.proofs.LineEndLemmas.{items_step, none_found}
 use Rattle.marks.proofs.line_ends.FileChars.next_items.Goals as goal
 
 pub returns-then-is_some-clause-found : goal.returns-then-is_some-clause-found
@@ -12,7 +13,7 @@ pub steps-smaller : goal.steps-smaller
 steps-smaller c =
     let next = ap length c.in-Some.ensures.left in
     let left = ap length c.step-found.ensures.left in
-    let shorter = left_shorter c.args.raw c.in-Some.c c.next_char.new.self.1 in
+    let shorter = left-shorter c.args.raw c.in-Some.c c.next_char.new.self.1 in
     omega arith
 
 pub steps-preserved : goal.steps-preserved

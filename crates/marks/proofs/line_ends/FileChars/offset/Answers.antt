@@ -1,7 +1,10 @@
 use Rattle.std.proofs.Common.{List, ℕ, ap, ◌∙◌}
 use Rattle.marks.specs.means.LineEnds.{offset_of}
-use Rattle.marks.proofs.LineEndLemmas.{offset_is}
+use Rattle.marks.proofs.LineEndLemmas.{left_within, offset_is}
 use Rattle.marks.proofs.line_ends.FileChars.offset.Goals as goal
+
+pub overflow_sub-result : goal.overflow_sub-result
+overflow_sub-result c = left_within c.self.invariant
 
 pub returns : goal.returns
 returns c = offset_is c.self.inside.text.now c.self.inside.rest.now c.self.invariant ∙ ap (λ (v : List ℕ × List ℕ). offset_of v.0 v.1) c.self.view_is
