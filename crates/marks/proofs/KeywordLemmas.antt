@@ -7,11 +7,6 @@ use Rattle.rustc_lexer.specs.declared.edition.Edition.{Edition}
 use Rattle.rustc_lexer.specs.declared.edition.Edition.TheVariants.{E2015, E2018, E2021, E2024}
 use Rattle.marks.specs.declared.keyword.KeywordKind.{KeywordKind}
 
-infixr 20 ◌&◌
--- one fact, and then another
-pub ◌&◌ : {A B : Type 0} → A → B → A × B
-◌&◌ a b = (a, b)
-
 abbrev pub IsNoneOf : List ℕ → List (List ℕ) → Type 0
 IsNoneOf word words = AllByRecursion (λ keyword. word ≡ keyword → ⊥) words
 

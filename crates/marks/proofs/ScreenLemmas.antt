@@ -1,5 +1,5 @@
 -- A text as a terminal shows it: that it holds no control characters but for layout, and its calls.
-use Rattle.std.proofs.Common.{◌≡◌, ℕ, ◌+◌, ◌≤◌, ◌==◌, nat_lt, Bool, true, false, true≢false, ◌&&◌, ◌||◌, not, inl, inr, List, [], ◌∷◌, refl, sym, subst, arith}
+use Rattle.std.proofs.Common.{◌≡◌, ℕ, ◌≤◌, ◌==◌, Bool, true, false, true≢false, ◌&&◌, ◌||◌, not, inl, inr, List, [], ◌∷◌, refl, sym, subst, arith, length-append}
 use Rattle.std.specs.Char.{encode_utf8, is_control}
 use Rattle.std.specs.Fmt.{WritesInCalls}
 use Rattle.std.specs.List.{list_all}
@@ -7,6 +7,7 @@ use Rattle.std.specs.Str.{chars, encode_utf8_all}
 use Rattle.std.proofs.lemmas.Bool.{cases_Bool}
 use Rattle.std.proofs.lemmas.Bool.Decides.{nat_tests}
 use Rattle.std.proofs.lemmas.Grind.{common_steps}
+use Rattle.std.proofs.lemmas.Str.{IsUtf8-past_char, chars_past_char, length-encode, len_utf8_bounds}
 use Rattle.marks.specs.declared.class.Class.{Class}
 use Rattle.marks.specs.Screen.{at_line_end, is_layout, is_shown, seen, seen_char, symbol}
 use Rattle.marks.proofs.CallLemmas.{no_calls, one_call, writes_both}
@@ -15,10 +16,7 @@ far : (c : ℕ) → 160 ≤ c → is_shown c ≡ true
 far c high = grind (arith, common_steps, nat_tests)
 
 symbol_shown : (c : ℕ) → is_shown (symbol c) ≡ true
-symbol_shown c = elim (cases_Bool (nat_lt c 32)) [
-  | inl low ↦ rw low (far (0x2400 + c) (omega arith))
-  | inr high ↦ rw high (elim (cases_Bool (c == 127)) [ inl at ↦ rw at (far 0x2421 (omega arith)) | inr apart ↦ rw apart (far 0xFFFD (omega arith)) ])
-]
+symbol_shown c = grind (arith, common_steps, nat_tests, far)
 
 -- by whether a character is a control character, a tab, a newline, a carriage return, and at the end of a line
 kept : (k t n r e : Bool) → (k && not (t || n || (r && e))) ≡ false → (not k || t || n || r) ≡ true
@@ -34,13 +32,9 @@ one_shown class c cs = elim (cases_Bool (is_control c && not (is_layout class c 
   | inr other ↦ rw other (kept (is_control c) (c == 9) (c == 10) (c == 13) (at_line_end class cs) other)
 ]
 
-both : (a b : Bool) → a ≡ true → b ≡ true → (a && b) ≡ true
-both true b first more = more
-both false b first more = absurd (true≢false (sym first))
-
 pub all_shown : (class : Class) (cs : List ℕ) → list_all is_shown (seen class cs) ≡ true
 all_shown class [] = refl
-all_shown class (c ∷ cs) = both (is_shown (seen_char class c cs)) (list_all is_shown (seen class cs)) (one_shown class c cs) (all_shown class cs)
+all_shown class (c ∷ cs) = rw (one_shown class c cs) (all_shown class cs)
 
 module _ {W : Type 0} (took : W → List ℕ → W → Type 0) where
   -- a character, and then those that are left
@@ -52,3 +46,7 @@ module _ {W : Type 0} (took : W → List ℕ → W → Type 0) where
 
   pub writes_none : (class : Class) (w : W) (bs : List ℕ) → chars bs ≡ [] → WritesInCalls took w (encode_utf8_all (seen class (chars bs))) w
   writes_none class w bs none = subst (λ (cs : List ℕ). WritesInCalls took w (encode_utf8_all (seen class cs)) w) (sym none) (no_calls took w)
+
+pub ruleset seen_lemmas = (IsUtf8-past_char)
+
+pub ruleset first_lemmas = (chars_past_char, length-encode, len_utf8_bounds, length-append)

@@ -1,8 +1,8 @@
 -- Carriage returns that no newline follows, and parts of a text whose places may lie past its end.
-use Rattle.std.proofs.Common.{◌≡◌, ℕ, zero, suc, ◌+◌, ◌-◌, ◌<◌, ◌==◌, ◌&&◌, ◌||◌, not, nat_eq, Bool, true, false, List, [], ◌∷◌, drop, take, length, get_or, min, sym, ap, refl, arith, ◌∙◌, Some, None}
+use Rattle.std.proofs.Common.{◌≡◌, ℕ, zero, suc, ◌+◌, ◌-◌, ◌<◌, ◌||◌, true, false, List, [], ◌∷◌, drop, take, length, get_or, min, sym, ap, refl, arith, ◌∙◌, Some, None}
 use Rattle.std.specs.List.{between, list_any}
 use Rattle.std.specs.Str.{IsAscii, chars}
-use Rattle.std.proofs.lemmas.Bool.{eqb-true, false_from_ne_true}
+use Rattle.std.proofs.lemmas.Bool.{false_from_ne_true}
 use Rattle.std.proofs.lemmas.Bool.Decides.{nat_tests}
 use Rattle.std.proofs.lemmas.Grind.{common_steps}
 use Rattle.std.proofs.lemmas.List.{drop_min, length-take, take_min}
@@ -13,12 +13,6 @@ use Rattle.std.proofs.lemmas.Str.{chars-IsAscii}
 use Rattle.memchr.specs.Find.{IsFirstByte, is_byte}
 use Rattle.rustc_lexer.specs.Classes.{Fits}
 use Rattle.marks.specs.TextFault.{goes_on, has_bare_return, turns_direction}
-
-pub first_goes_on : (bytes : List ℕ) → goes_on bytes ≡ (not (nat_eq (length bytes) 0) && not (get_or bytes 0 0 == 10))
-first_goes_on [] = refl
-first_goes_on (b ∷ bs) =
-    let some : nat_eq (suc (length bs)) 0 ≡ false = false_from_ne_true (nat_eq (suc (length bs)) 0) (λ t. let none = eqb-true (suc (length bs)) 0 t in absurd (omega arith)) in
-    rw some refl
 
 pub rest_fits : (rest next : List ℕ) (at : ℕ) → Fits rest → next ≡ take (length rest - (at + 1)) (drop (at + 1) rest) → Fits next
 rest_fits rest next at fits is =
@@ -35,29 +29,18 @@ past_return (b ∷ bs) (suc at) found =
     let other : is_byte 13 b ≡ false = false_from_ne_true (is_byte 13 b) (found.0.before 0 (omega arith) (omega arith)) in
     rw other (past_return bs at (record { low = omega arith; high = omega arith; before = λ k low less. found.0.before (suc k) (omega arith) (omega arith) }, found.1))
 
-no_return : (rest : List ℕ) → IsFirstByte (is_byte 13) rest None → has_bare_return rest ≡ false
+pub after_return : (rest next : List ℕ) (at : ℕ) → IsFirstByte (is_byte 13) rest (Some at) → next ≡ take (length rest - (at + 1)) (drop (at + 1) rest) → has_bare_return rest ≡ (goes_on next || has_bare_return next)
+after_return rest next at found is =
+    let high = found.0.high in
+    let one : at + 1 ≡ suc at = omega arith in
+    let whole : take (length rest - (at + 1)) (drop (at + 1) rest) ≡ drop (suc at) rest = rw one (grind (arith, common_steps)) in
+    rw (is, whole) (past_return rest at found)
+
+pub no_return : (rest : List ℕ) → IsFirstByte (is_byte 13) rest None → has_bare_return rest ≡ false
 no_return [] none = refl
 no_return (b ∷ bs) none =
     let other : is_byte 13 b ≡ false = false_from_ne_true (is_byte 13 b) (none 0 (omega arith) (omega arith)) in
     rw other (no_return bs (λ k low less. none (suc k) (omega arith) (omega arith)))
-
-module _ (bytes rest : List ℕ) (same : has_bare_return bytes ≡ has_bare_return rest) where
-  rest_is : (next : List ℕ) (at : ℕ) → IsFirstByte (is_byte 13) rest (Some at) → next ≡ take (length rest - (at + 1)) (drop (at + 1) rest) → has_bare_return bytes ≡ (goes_on next || has_bare_return next)
-  rest_is next at found is =
-      let high = found.0.high in
-      let whole : take (length rest - (at + 1)) (drop (at + 1) rest) ≡ drop (at + 1) rest = grind (arith, common_steps) in
-      let one : at + 1 ≡ suc at = omega arith in
-      let past : next ≡ drop (suc at) rest = is ∙ whole ∙ ap (λ (k : ℕ). drop k rest) one in
-      same ∙ past_return rest at found ∙ ap (λ (s : List ℕ). goes_on s || has_bare_return s) (sym past)
-
-  pub bare_on : (next : List ℕ) (at : ℕ) → IsFirstByte (is_byte 13) rest (Some at) → next ≡ take (length rest - (at + 1)) (drop (at + 1) rest) → goes_on next ≡ false → has_bare_return bytes ≡ has_bare_return next
-  bare_on next at found is quiet = rest_is next at found is ∙ ap (λ (b : Bool). b || has_bare_return next) quiet
-
-  pub bare_here : (next : List ℕ) (at : ℕ) → IsFirstByte (is_byte 13) rest (Some at) → next ≡ take (length rest - (at + 1)) (drop (at + 1) rest) → goes_on next ≡ true → true ≡ has_bare_return bytes
-  bare_here next at found is goes = sym (rest_is next at found is ∙ ap (λ (b : Bool). b || has_bare_return next) goes)
-
-  pub bare_nowhere : IsFirstByte (is_byte 13) rest None → false ≡ has_bare_return bytes
-  bare_nowhere none = sym (same ∙ no_return rest none)
 
 pub digits_here : (n : ℕ) (text : List ℕ) → between (min (min n (length text)) 2) (min n (length text)) text ≡ between 2 n text
 digits_here n text =

@@ -8,7 +8,7 @@ use std::fmt;
 
 /// Writes a text with entities for `&`, `<` and `>`; for a carriage return, which a page would read as the end of a
 /// line, and for U+0000, which it would drop.
-#[tactic(auto, using(crate::proofs::EscapeLemmas::unescaped_escaped))]
+#[tactic(auto, using(crate::proofs::EscapeLemmas::unescaped_escaped, crate::proofs::EscapeLemmas::may_cut_past, crate::proofs::EscapeLemmas::writes_plain, crate::proofs::CallLemmas::on_ok, std::proofs::lemmas::Grind::common_steps))]
 pub fn write_escaped<W: fmt::Write>(text: &str, output: &mut W) -> fmt::Result
     ensures written { OnOk result
         (WritesInCalls W.write_str_gives output.old (escaped text.now) output.new) }

@@ -60,7 +60,7 @@ fn is_end(rest: &[u8]) -> bool
 }
 
 /// Returns how many of these bytes come first.
-#[tactic(auto, using(crate::proofs::FrontmatterLemmas::run_on, crate::proofs::FrontmatterLemmas::run_stops, crate::proofs::FrontmatterLemmas::run_is_all, std::proofs::lemmas::Grind::common_steps))]
+#[tactic(auto, using(crate::proofs::FrontmatterLemmas::run_lemmas, std::proofs::lemmas::Grind::common_steps))]
 pub fn run_of(these: &[u8], bytes: &[u8]) -> usize
     ensures value { result ≡ prefix_len (spec.is_of these.now) bytes.now }
     ensures inside { result ≤ length bytes.now }
@@ -104,6 +104,7 @@ fn is_blank(c: char) -> bool
 }
 
 /// Returns the text after the characters at the front that pass the test.
+#[tactic(auto, using(crate::proofs::FrontmatterLemmas::skip_on, crate::proofs::FrontmatterLemmas::skip_ends, crate::proofs::FrontmatterLemmas::skip_all, crate::proofs::ScreenLemmas::seen_lemmas, std::proofs::lemmas::Grind::common_steps))]
 fn skip<F: Fn(char) -> bool>(text: &str, test: F) -> &str
     requires callable { F.IsAlwaysCallable test }
     ensures { (class : ℕ → Bool) → ((c : ℕ) (b : Bool) → F.post test c b → b ≡ class c)

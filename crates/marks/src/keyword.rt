@@ -44,6 +44,7 @@ pub fn keyword_kind(word: &str, edition: Edition) -> Option<KeywordKind>
 }
 
 /// Returns whether a word is a strict keyword.
+#[tactic(auto, using(crate::proofs::KeywordLemmas::has_not))]
 pub(crate) fn is_strict(word: &str, edition: Edition) -> bool
     ensures { result ≡ spec.has KeywordKind.Strict edition word.now }
 {
@@ -90,6 +91,7 @@ pub(crate) fn is_strict(word: &str, edition: Edition) -> bool
 }
 
 /// Returns whether a word is a reserved keyword.
+#[tactic(auto, using(crate::proofs::KeywordLemmas::has_not))]
 fn is_reserved(word: &str, edition: Edition) -> bool
     ensures { result ≡ spec.has KeywordKind.Reserved edition word.now }
 {

@@ -26,6 +26,7 @@ use std::fmt;
 /// Without the marks the output is the text, but for symbols in place of control characters, like `␛`, that are no
 /// tabs and no line ends, unless the format is `Raw`. In a page the text is the part outside of the tags, with its
 /// entities undone.
+#[tactic(auto, using(crate::proofs::MarkedLemmas::writes_whole, crate::proofs::MarkedLemmas::text_is, crate::proofs::MarkedLemmas::page_is))]
 pub fn write_marked<W: fmt::Write>(
     format: Format,
     edition: Edition,

@@ -10,7 +10,7 @@ use crate::class::Class;
 use std::fmt;
 
 /// Writes a text of a class with symbols for its control characters, but for tabs and line ends.
-#[tactic(auto, using(crate::proofs::ScreenLemmas::all_shown))]
+#[tactic(auto, using(crate::proofs::ScreenLemmas::all_shown, crate::proofs::ScreenLemmas::writes_none, std::proofs::lemmas::Grind::common_steps))]
 pub fn write_seen<W: fmt::Write>(class: Class, text: &str, output: &mut W) -> fmt::Result
     ensures written { OnOk result (WritesInCalls W.write_str_gives output.old
         (encode_utf8_all (seen class (chars text.now))) output.new) }
@@ -25,6 +25,7 @@ pub fn write_seen<W: fmt::Write>(class: Class, text: &str, output: &mut W) -> fm
 }
 
 /// Returns the first character and the text past it, or `None` if the text is empty.
+#[tactic(auto, using(crate::proofs::ScreenLemmas::first_lemmas, std::proofs::lemmas::Grind::common_steps))]
 pub fn split_first(rest: &str) -> Option<(char, &str)>
     ensures { MatchOption result (chars rest.now ≡ [])
         (λ r. (chars rest.now ≡ r.0 ∷ chars r.1.now) × (rest.now ≡ encode_utf8 r.0 ++ r.1.now)

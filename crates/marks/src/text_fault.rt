@@ -58,7 +58,7 @@ fn frontmatter_fault(text: &str) -> Option<Fault>
 }
 
 /// Returns whether a carriage return is bare: a byte follows it that is no newline.
-#[tactic(auto, using(crate::proofs::TextFaultLemmas::bare_on, crate::proofs::TextFaultLemmas::bare_here, crate::proofs::TextFaultLemmas::bare_nowhere, crate::proofs::TextFaultLemmas::rest_fits, std::proofs::lemmas::Grind::common_steps))]
+#[tactic(auto, using(crate::proofs::TextFaultLemmas::after_return, crate::proofs::TextFaultLemmas::no_return, crate::proofs::TextFaultLemmas::rest_fits, std::proofs::lemmas::Grind::common_steps))]
 fn has_bare_return(bytes: &[u8]) -> bool
     requires fits { Fits bytes.now }
     ensures { result ≡ spec.has_bare_return bytes.now }
@@ -74,11 +74,10 @@ fn has_bare_return(bytes: &[u8]) -> bool
 }
 
 /// Returns whether a byte comes that is no newline.
-#[tactic(auto, using(crate::proofs::TextFaultLemmas::first_goes_on))]
 fn goes_on(bytes: &[u8]) -> bool
     ensures { result ≡ spec.goes_on bytes.now }
 {
-    !bytes.is_empty() && bytes[0] != b'\n'
+    matches!(bytes, [byte, ..] if *byte != b'\n')
 }
 
 /// Returns the fault of a text in which a character turns the direction, or `None` if none does.
@@ -87,13 +86,7 @@ fn direction_fault(text: &str) -> Option<Fault>
     ensures { result ≡ spec.direction_fault text.now }
 {
     // Most texts: few characters are outside of ASCII.
-    if text.is_ascii() {
-        return None;
-    }
-    if has_turn(text) {
-        return Some(Fault::TextDirectionCodepoint);
-    }
-    None
+    (!text.is_ascii() && has_turn(text)).then_some(Fault::TextDirectionCodepoint)
 }
 
 /// Returns whether a text has a character that turns the direction.
@@ -120,10 +113,7 @@ const NEVER_RAW: [&str; 10] = [
 fn raw_name_fault(text: &str) -> Option<Fault>
     ensures { result ≡ spec.raw_name_fault text.now }
 {
-    if NEVER_RAW.contains(&text) {
-        return Some(Fault::RawKeyword);
-    }
-    None
+    NEVER_RAW.contains(&text).then_some(Fault::RawKeyword)
 }
 
 /// Returns what is wrong with a literal whose suffix begins at this place, or `None` if nothing is.
@@ -168,10 +158,7 @@ fn digits_of(suffix_start: usize, text: &[u8]) -> &[u8]
 fn digit_fault(these: &[u8], digits: &[u8]) -> Option<Fault>
     ensures { result ≡ spec.digit_fault these.now digits.now }
 {
-    if run_of(these, digits) == digits.len() {
-        return None;
-    }
-    Some(Fault::InvalidDigit)
+    (run_of(these, digits) != digits.len()).then_some(Fault::InvalidDigit)
 }
 
 /// Returns what is wrong with the suffix of a literal, or `None` if nothing is.
@@ -180,8 +167,5 @@ fn suffix_fault(suffix_start: usize, text: &[u8]) -> Option<Fault>
     ensures { result ≡ spec.suffix_fault (drop suffix_start text.now) }
 {
     let suffix = &text[suffix_start.min(text.len())..];
-    if suffix.len() == 1 && suffix[0] == b'_' {
-        return Some(Fault::UnderscoreSuffix);
-    }
-    None
+    (suffix.len() == 1 && suffix[0] == b'_').then_some(Fault::UnderscoreSuffix)
 }

@@ -1,13 +1,8 @@
-use Rattle.std.proofs.Common.{◌≡◌, ◌-◌, arith, take, List, ℕ, Some, get_or, refl, ap, subst, ◌∙◌, rules}
-use Rattle.std.proofs.lemmas.Grind.{common_steps}
+use Rattle.std.proofs.Common.{◌≡◌, ◌-◌, arith, take, List, ℕ, Some, get_or, refl, ap, subst, ◌∙◌}
 use Rattle.memchr.specs.Find.{IsFirstByte}
 use Rattle.marks.specs.Escape.{entity, is_special}
-use Rattle.marks.proofs.CallLemmas.{on_ok}
-use Rattle.marks.proofs.EscapeLemmas.{may_cut_past, writes_plain, writes_special}
+use Rattle.marks.proofs.EscapeLemmas.{writes_special}
 use Rattle.marks.proofs.escape.write_escaped.Goals as goal
-
-pub range_from-rest-requires : goal.range_from-rest-requires
-range_from-rest-requires g c = λ some. may_cut_past c.loop-at.rest.now c.in-Some.at c.loop-at.invariant.utf8 (subst (λ (xs : List ℕ). IsFirstByte is_special xs (Some c.in-Some.at)) c.as_bytes.ensures.value c.in-Some.ensures)
 
 pub loop-at-preserved : goal.loop-at-preserved
 loop-at-preserved g c =
@@ -20,6 +15,3 @@ loop-at-preserved g c =
       left = λ w more. c.loop-at.invariant.left w (writes_special g.W.Write.write_str_gives c.loop-at.output c.write_str.new.self c.write_str-in-Some.new.self w c.loop-at.rest.now c.range.result.now c.entity.result.now c.range_from-rest.result.now c.in-Some.at
           found front name c.range_from-rest.ensures.value (c.in_ok-write_str.ensures.ok refl) (c.in_ok-write_str-2.ensures.ok refl) more);
     }
-
-pub returns-clause-written : goal.returns-clause-written
-returns-clause-written g c = grind (arith, common_steps, rules, on_ok, writes_plain)
