@@ -53,7 +53,7 @@ left_back r made before w3 = grind (arith, common_steps)
 pub refused : {S E : Type 0} {first : S → List ℕ → Token} {year steps : S → ℕ} {layout : List ℕ → Layout} {text left insert : List ℕ} {start stop : ℕ} {tokens now : List Token} {stepper then : S} (r : Result Relexed E) → IsErr r → tokens ≡ tokens_in (layout text)
     → left ≡ text → now ≡ tokens → first then ≡ first stepper → year then ≡ year stepper → steps stepper ≤ steps then → TakesFew layout text start stop insert (steps stepper) (steps then)
     → IsEdited first year steps layout (record { text = text; tokens = tokens; stepper = stepper }) start stop insert r (record { text = left; tokens = now; stepper = then })
-refused r w1 w2 w3 w4 w5 w6 w7 w8 = grind (arith, common_steps, now_is)
+refused r w1 w2 w3 w4 w5 w6 w7 w8 = grind (arith, common_steps)
 
 -- one that is made is so whatever its errors are
 pub made_as : {S A B : Type 0} {first : S → List ℕ → Token} {year steps : S → ℕ} {layout : List ℕ → Layout} {old new : Held S} {start stop : ℕ} {insert : List ℕ} {r : Relexed} → IsEdited {E = A} first year steps layout old start stop insert (Ok r) new → IsEdited {E = B} first year steps layout old start stop insert (Ok r) new

@@ -1,12 +1,11 @@
 use Rattle.std.proofs.Common.{length, refl, ap, ◌∙◌, arith, string_bytes}
+use Rattle.std.proofs.lemmas.Grind.{common_steps}
 use Rattle.rustc_lexer.proofs.lemmas.edits.KeptBounds.{kept_cuts, cut_seen, fits_seen}
 use Rattle.rustc_lexer.proofs.lemmas.edits.Pieces.{cut_part, piece_is, piece_some}
 use Rattle.rustc_lexer.proofs.relex.lexed.Lexed.piece_at.Goals as goal
 
 pub overflow_cast-start : goal.overflow_cast-start
-overflow_cast-start g c =
-    let is = c.in_ok-at.ensures.token in
-    omega (arith, is.start, fits_seen (g.S.Stepper.law c.self.inside.kept.stepper) g.E.Extent.whole (string_bytes c.self.inside.kept.text) c.self.inside.kept.tokens.items c.self.inside.kept.head c.self.inside.kept.checkpoints c.self.invariant c.args.self.now (ap (λ h. h.text) c.self.view_is) (ap (λ h. h.tokens) c.self.view_is) c.in_ok-at.at.index (omega (arith, is.number)))
+overflow_cast-start g c = grind (arith, common_steps, fits_seen)
 
 pub overflow_cast-end : goal.overflow_cast-end
 overflow_cast-end g c = omega (arith, ap length c.as_str-text.ensures.value, (kept_cuts (g.S.Stepper.law c.self.inside.kept.stepper) (string_bytes c.self.inside.kept.text) c.self.inside.kept.tokens.items c.self.inside.kept.head c.self.inside.kept.checkpoints c.self.invariant).0)
