@@ -56,7 +56,8 @@ body-open : (n : ℕ) (w z : List ℕ) → double_quoted_string (w ++ z) ≡ (fa
 body-open n w z e = ap (λ (r : Bool × ℕ). let q : Bool × ℕ = (r.0, r.1 + (if r.0 then closing_len n (drop r.1 (w ++ z)) else 0)) in q) e
 
 closing-read : {n k : ℕ} {suffix next : List ℕ} → k ≤ n → (k < n → NextIsNot (is_among (codes "#")) (suffix ++ next)) → IsSuffixBefore next suffix → closing_len n (hashes k ++ (suffix ++ next)) ≡ k + length suffix
-closing-read {n} {k} {suffix} {next} le stop is = grind (arith, common_steps, cases_lt, guard-hashes, same-class, min-eq_right, min-eq_left, hash_run-hashes, past-guard, suffix-read)
+closing-read {n} {k} {suffix} {next} le stop is =
+    grind (arith, common_steps, cases_lt, guard-hashes, same-class, min-eq_right, min-eq_left, hash_run-hashes, past-guard, suffix-read)
 
 record GuardedRead (n : ℕ) (t : Bool) (w next : List ℕ) : Type 0 where
   count : hash_run (w ++ next) ≡ n

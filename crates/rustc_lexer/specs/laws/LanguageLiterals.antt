@@ -150,7 +150,8 @@ taken s = (raw_read 0 s).1
 
 pub raw_str-sound : (s : List ℕ) → NextIs opens_raw s → begins_hash_ident s ≡ false → Sound 114 s (raw_literal R s)
 raw_str-sound s opens no_ident =
-    let free : begins_ident_after (codes "#") (take (taken s) s) ≡ false = sym (raw-hash_ident (raw-sound s opens)) ∙ (ap begins_hash_ident (take-append-drop (taken s) s) ∙ no_ident) in
+    let free : begins_ident_after (codes "#") (take (taken s) s) ≡ false =
+    sym (raw-hash_ident (raw-sound s opens)) ∙ (ap begins_hash_ident (take-append-drop (taken s) s) ∙ no_ident) in
     literal-sound (114 ∷ []) 1 (RawStr (accepted (raw_read 0 s).0)) (is_accepted (raw_read 0 s).0) (taken s) s (bytes-letter 114 refl)
     (subst (λ (b : Bool). IsLiteralBefore (drop (taken s) s) (RawStr (accepted (raw_read 0 s).0)) b (114 ∷ take (taken s) s)) (sym (accepts (raw_read 0 s).0)) (lit.raw_str (raw-sound s opens) free))
 

@@ -107,10 +107,12 @@ closing n (c ∷ u) = by_either (closes n (c ∷ u))
 past-hashes : (p n : ℕ) (v : List ℕ) → NextIsNot is_hash v → raw_read p (hashes n ++ v) ≡ ((raw_starter p n v).0, n + (raw_starter p n v).1)
 past-hashes p n v stop = grind (arith, common_steps, guard-length, drop-append_seam, guard-hashes)
 
-pub closed-read : (p n : ℕ) (w next : List ℕ) → NoQuoteWith n w → raw_read p (hashes n ++ (34 ∷ w ++ (34 ∷ hashes n ++ next))) ≡ (hash_count n, n + suc (suc (length w) + n))
+pub closed-read : (p n : ℕ) (w next : List ℕ) → NoQuoteWith n w
+    → raw_read p (hashes n ++ (34 ∷ w ++ (34 ∷ hashes n ++ next))) ≡ (hash_count n, n + suc (suc (length w) + n))
 closed-read p n w next lacks = past-hashes p n (34 ∷ w ++ (34 ∷ hashes n ++ next)) refl ∙ rw (close-read n w next lacks) refl
 
-pub open-read : (p n : ℕ) (w : List ℕ) → NoQuoteWith n w → raw_read p (hashes n ++ 34 ∷ w) ≡ (Err (NoTerminator n (most_hashes w) (quote_end (p + suc n) w (best_quote w))), n + suc (length w))
+pub open-read : (p n : ℕ) (w : List ℕ) → NoQuoteWith n w
+    → raw_read p (hashes n ++ 34 ∷ w) ≡ (Err (NoTerminator n (most_hashes w) (quote_end (p + suc n) w (best_quote w))), n + suc (length w))
 open-read p n w lacks = past-hashes p n (34 ∷ w) refl ∙ rw (unclosed-read n w lacks) refl
 
 pub no_quote-read : (p n c : ℕ) (next : List ℕ) → is_among (codes "\"#") c ≡ false → raw_read p (hashes n ++ c ∷ next) ≡ (Err (InvalidStarter c), n + 1)
@@ -130,7 +132,8 @@ whole-text n w next = append_assoc (hashes n) (34 ∷ w ++ 34 ∷ hashes n) next
 
 pub raw-read : {next : List ℕ} {o : Option ℕ} {w : List ℕ} → IsRaw next o w → raw_seen (w ++ next) ≡ (o, length w)
 raw-read {next} (lit.closed n w le lacks) = grind (arith, common_steps, whole-text n w next, closed-read 0 n w next lacks, le-leb, length-append, guard-length)
-raw-read {next} (lit.too_many n w lt lacks) = grind (arith, common_steps, whole-text n w next, closed-read 0 n w next lacks, lt-leb, length-append, guard-length)
+raw-read {next} (lit.too_many n w lt lacks) =
+    grind (arith, common_steps, whole-text n w next, closed-read 0 n w next lacks, lt-leb, length-append, guard-length)
 raw-read {next} (lit.unclosed n w none lacks) = grind (arith, common_steps, append-nil, open-read 0 n w lacks, length-append, guard-length)
 raw-read {next} (lit.no_quote n c out) = grind (arith, common_steps, append_assoc, no_quote-read 0 (suc n) c next out, length-append, guard-length)
 raw-read {next} (lit.no_more n none) = grind (arith, common_steps, append-nil, no_more-read 0 (suc n), guard-length)
@@ -178,7 +181,8 @@ raw-sound s opens = by_shape (shape s) opens
   where
     by_shape : {s : List ℕ} → Shape s → NextIs opens_raw s → IsRead s
     by_shape (closed n w next lacks) opens =
-        by_either (nat_le n 255) (λ e. read-by (lit.closed n w (leb-true n 255 e) lacks) (whole-text n w next)) (λ e. read-by (lit.too_many n w (leb-false n 255 e) lacks) (whole-text n w next))
+        by_either (nat_le n 255) (λ e. read-by (lit.closed n w (leb-true n 255 e) lacks) (whole-text n w next))
+        (λ e. read-by (lit.too_many n w (leb-false n 255 e) lacks) (whole-text n w next))
     by_shape (unclosed n w lacks) opens = read-by (lit.unclosed n w refl lacks) (append-nil (hashes n ++ 34 ∷ w))
     by_shape (no_quote zero c next out) opens = absurd (grind (arith, common_steps, or_parts))
     by_shape (no_quote (suc n) c next out) opens = read-by (lit.no_quote n c out) (append_assoc (hashes (suc n)) (c ∷ []) next)

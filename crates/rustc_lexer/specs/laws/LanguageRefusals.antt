@@ -37,7 +37,8 @@ lacks-past m w lt u v e = absurd (omega (arith, lt, ap most_hashes e, most-many 
 quote-first : (m : ℕ) (u v : List ℕ) → 0 < m → NoQuoteWith m u → hash_run (hashes m ++ v) ≡ m → quote_with m (u ++ (34 ∷ hashes m ++ v)) ≡ Some (length u)
 quote-first m [] v some lacks e = let here : (hash_run (hashes m ++ v) == m) ≡ true = eq-eqb (hash_run (hashes m ++ v)) m e in rw here refl
 quote-first m (c ∷ u) v some lacks e =
-    let other : (quote_hashes (c ∷ u ++ (34 ∷ hashes m ++ v)) == m) ≡ false = grind (arith, common_steps, hash_run-before u (hashes m ++ v), lacks-front m c u lacks, eqb-true) in
+    let other : (quote_hashes (c ∷ u ++ (34 ∷ hashes m ++ v)) == m) ≡ false =
+    grind (arith, common_steps, hash_run-before u (hashes m ++ v), lacks-front m c u lacks, eqb-true) in
     rw other (ap one_more (quote-first m u v some (lacks-rest m c u lacks) e))
 
 -- where it ends
@@ -79,7 +80,8 @@ has-best : (start : ℕ) (w : List ℕ) → HasBest start w
 has-best start w = by_most (most_hashes w) refl
   where
     some-best : (m : ℕ) {v : List ℕ} → most_hashes v ≡ suc m → Closing (suc m) v → HasBest start v
-    some-best m e (found u z lacks) = record { count = suc m; end = _; is = the.best u z (omega arith) refl lacks (lacks-past (suc (suc m)) _ (omega (arith, e))) }
+    some-best m e (found u z lacks) =
+        record { count = suc m; end = _; is = the.best u z (omega arith) refl lacks (lacks-past (suc (suc m)) _ (omega (arith, e))) }
     some-best m e (lost {u} lacks) = absurd (omega (arith, most-few m u lacks, e))
 
     by_most : (m : ℕ) → most_hashes w ≡ m → HasBest start w
@@ -105,7 +107,11 @@ has-answer p s = by_shape (shape s)
   where
     by_shape : {s : List ℕ} → Shape s → HasAnswer p s
     by_shape (closed n w next lacks) = by_either (nat_le n 255)
-        (λ e. record { answer = Ok tt; is = subst (λ (x : List ℕ). IsRawAnswer p x (Ok tt)) (whole-text n w next) (the.good (lit.closed n w (leb-true n 255 e) lacks)) })
+        (λ e. record {
+          answer = Ok tt;
+          is = subst (λ (x : List ℕ). IsRawAnswer p x (Ok tt)) (whole-text n w next)
+              (the.good (lit.closed n w (leb-true n 255 e) lacks));
+        })
         (λ e. record { answer = Err (TooManyDelimiters n); is = the.too_many n w next (leb-false n 255 e) lacks })
     by_shape (unclosed n w lacks) = let b = has-best (p + suc n) w in record { answer = Err (NoTerminator n b.count b.end); is = the.unclosed n w lacks b.is }
     by_shape (no_quote n c next out) = record { answer = Err (InvalidStarter c); is = the.no_quote n c next out }

@@ -1,7 +1,6 @@
 -- What is decided by the first characters of a text; runs, and the least offset at which a test passes.
 use Rattle.std.proofs.lemmas.Grind.{common_steps}
-use Rattle.std.proofs.Common.{◌≡◌, ℕ, zero, suc, ◌+◌, ◌≤◌, ◌<◌, ◌==◌, ◌&&◌, Bool, true, false, true≢false, if◌then◌else◌, List, [], ◌∷◌, ◌++◌, length, take, drop, refl, sym, ap, ◌∙◌, subst, arith, take-take, Option, Some, None}
-use Rattle.std.proofs.lemmas.List.{drop-take}
+use Rattle.std.proofs.Common.{◌≡◌, ℕ, zero, suc, ◌≤◌, ◌<◌, ◌==◌, ◌&&◌, Bool, true, false, true≢false, if◌then◌else◌, List, [], ◌∷◌, length, take, refl, sym, ap, ◌∙◌, subst, arith, take-take, Option, Some, None}
 use Rattle.std.specs.List.{list_all}
 use Rattle.std.proofs.lemmas.Bool.{and_parts}
 use Rattle.rustc_lexer.specs.laws.Choice.{by_either}
@@ -13,14 +12,6 @@ use Rattle.rustc_lexer.specs.means.Scan.{begins, next_is, run_len}
 
 pub cut : {A : Type 0} (j k : ℕ) (u s : List A) → j ≤ k → take k u ≡ take k s → take j u ≡ take j s
 cut j k u s le e = sym (take-take j k u le) ∙ (ap (take j) e ∙ take-take j k s le)
-
-pub cut_past : (n j k : ℕ) (u s : List ℕ) → n + j ≤ k → take k u ≡ take k s → take j (drop n u) ≡ take j (drop n s)
-cut_past n j k u s le e = sym (drop-take n j u) ∙ (ap (drop n) (cut (n + j) k u s le e) ∙ drop-take n j s)
-
-pub past : (k : ℕ) (w s u : List ℕ) → take k u ≡ take k s → take k (w ++ u) ≡ take k (w ++ s)
-past k [] s u e = e
-past zero (c ∷ w) s u e = refl
-past (suc k) (c ∷ w) s u e = ap (λ (xs : List ℕ). c ∷ xs) (past k w s u (cut k (suc k) u s (omega arith) e))
 
 -- what is decided by the first characters of a text
 abbrev pub IsDecidedBy : {B : Type 0} → ℕ → (List ℕ → B) → Type 0

@@ -33,10 +33,6 @@ scanned-and_then {A} {B} scan next text rest a is e = grind (arith, common_steps
 pub scanned-read_as : {A B : Type 0} (f : A → B) (scan : List ℕ → A × ℕ) (text rest : List ℕ) (a : A) → (a, rest) ≡ scanned scan text → (f a, rest) ≡ scanned (read_as f scan) text
 scanned-read_as {A} f scan text rest a e = ap (λ (r : A × List ℕ). (f r.0, r.1)) e
 
--- what is left is no longer than the text
-pub scanned-shorter : {A : Type 0} (scan : List ℕ → A × ℕ) (text rest : List ℕ) (a : A) → IsUtf8 text → (a, rest) ≡ scanned scan text → length rest ≤ length text
-scanned-shorter {A} scan text rest a is e = grind (arith, common_steps, e, (ap (λ (r : A × List ℕ). r.1) e), length-past (scan (chars text)).1 text is)
-
 -- a run ends before a character outside its class
 pub run_len-stop : (p : ℕ → Bool) (s : List ℕ) (c : ℕ) (u : List ℕ) → drop (run_len p s) s ≡ c ∷ u → p c ≡ false
 run_len-stop p [] c u e = absurd (cc)

@@ -52,7 +52,7 @@ impl<'a> Cursor<'a> {
 
 /// Returns how many hashes the text begins with.
 #[inline]
-#[tactic(auto, using(crate::proofs::lemmas::tokens::Guarded::hash_boundary, crate::proofs::lemmas::tokens::Raw::hash_len, std::proofs::lemmas::Grind::common_steps))]
+#[tactic(auto, using(crate::proofs::lemmas::tokens::Raw::hash_boundary, crate::proofs::lemmas::tokens::Raw::hash_len, std::proofs::lemmas::Grind::common_steps))]
 fn count_hashes(rest: &str) -> usize
     ensures count { result ≡ hash_run (chars rest.now) }
     ensures boundary { IsCharBoundary rest.now result }
@@ -94,7 +94,7 @@ fn guarded_body(body: &str, n_hashes: usize) -> BodyEnd<'_>
 }
 
 /// Returns the text after the hashes at its front, of which it skips `most` at most.
-#[tactic(auto, using(crate::proofs::lemmas::tokens::Guarded::hash_boundary, crate::proofs::lemmas::tokens::Guarded::hash_cut, std::proofs::lemmas::Grind::common_steps))]
+#[tactic(auto, using(crate::proofs::lemmas::tokens::Raw::hash_boundary, crate::proofs::lemmas::tokens::Raw::hash_cut, std::proofs::lemmas::Grind::common_steps))]
 fn eat_hashes_up_to(rest: &str, most: usize) -> &str
     ensures shorter { length result.now ≤ length rest.now }
     ensures past { result.now ≡ past (min most (hash_run (chars rest.now))) rest.now }

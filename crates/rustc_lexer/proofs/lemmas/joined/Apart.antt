@@ -91,7 +91,8 @@ fraction-same (past c ch) = ap (λ (b : Bool). ((c == 46) && true) && not b) (sa
 number-apart : {next : List ℕ} {kind : LiteralKind} {w : List ℕ} → IsNumberBefore next kind w → (other : List ℕ) → Changes next other → IsNumberBefore other kind w
 number-apart {next} {kind} is other ch =
     let d = number-digit is in
-    subst (IsNumberBefore other kind) (sym d.whole) (number-before d.first d.rest d.digit (subst (IsNumberBefore next kind) d.whole is) other (λ p solid. same p solid ch) (λ base int. fraction-same ch))
+    subst (IsNumberBefore other kind) (sym d.whole)
+    (number-before d.first d.rest d.digit (subst (IsNumberBefore next kind) d.whole is) other (λ p solid. same p solid ch) (λ base int. fraction-same ch))
 
 -- ---- literals
 

@@ -1,5 +1,5 @@
 -- Guarded strings: what is taken of a text.
-use Rattle.std.proofs.Common.{◌≡◌, ℕ, suc, ◌+◌, ◌-◌, ◌≤◌, Bool, true, false, if◌then◌else◌, List, [], ◌∷◌, length, drop, sym, ap, ◌∙◌, arith, subst, Option, Some, None}
+use Rattle.std.proofs.Common.{◌≡◌, ℕ, suc, ◌+◌, ◌-◌, Bool, true, false, if◌then◌else◌, List, [], ◌∷◌, length, drop, sym, ap, ◌∙◌, arith, subst, Option, Some, None}
 use Rattle.std.specs.Str.{chars, IsUtf8, IsCharBoundary}
 use Rattle.std.proofs.lemmas.Str.{IsCharBoundary-from_drop}
 use Rattle.std.proofs.lemmas.Grind.{common_steps}
@@ -11,20 +11,9 @@ use Rattle.rustc_lexer.specs.LanguageText.{Mode}
 use Rattle.rustc_lexer.specs.State.{State}
 use Rattle.rustc_lexer.specs.laws.Past.{past-past, past-drop, chars-past, IsUtf8-past, length-past}
 use Rattle.rustc_lexer.proofs.lemmas.tokens.ByteSearch.{begins-byte}
-use Rattle.rustc_lexer.proofs.lemmas.tokens.Raw.{hash_bytes}
+use Rattle.rustc_lexer.proofs.lemmas.tokens.Raw.{hash_cut}
 use Rattle.rustc_lexer.specs.laws.Scan.{scanned-after}
 use Rattle.rustc_lexer.specs.laws.State.{state}
-
--- some of the hashes at the front
-module _ (rest : List ℕ) (is : IsUtf8 rest) (n : ℕ) (few : n ≤ hash_run (chars rest)) where
-  hash_bytes_are : bytes_of n (chars rest) ≡ n
-  hash_bytes_are = hash_bytes n (chars rest) few
-
-  pub hash_cut : drop n rest ≡ past n rest
-  hash_cut = sym (past-drop n rest is ∙ ap (λ (m : ℕ). drop m rest) hash_bytes_are)
-
-  pub hash_boundary : IsCharBoundary rest n
-  hash_boundary = IsCharBoundary-from_drop rest n (let l = length-past n rest is in let b = hash_bytes_are in omega arith) (subst IsUtf8 (sym hash_cut) (IsUtf8-past n rest is))
 
 -- what follows the n hashes at the front
 module _ (rest front : List ℕ) (n : ℕ) (is : IsUtf8 rest) (count : n ≡ hash_run (chars rest)) (cut : front ≡ drop n rest) where
@@ -55,7 +44,8 @@ module _ (rest front : List ℕ) (n : ℕ) (is : IsUtf8 rest) (count : n ≡ has
 
     pub string_boundary : IsCharBoundary rest (length rest - length left)
     string_boundary =
-        IsCharBoundary-from_drop rest (length rest - length left) (omega arith) (subst IsUtf8 (past-drop (suc n + body_read.1) rest is ∙ ap (λ (k : ℕ). drop k rest) taken_is) (IsUtf8-past (suc n + body_read.1) rest is))
+        IsCharBoundary-from_drop rest (length rest - length left) (omega arith)
+        (subst IsUtf8 (past-drop (suc n + body_read.1) rest is ∙ ap (λ (k : ℕ). drop k rest) taken_is) (IsUtf8-past (suc n + body_read.1) rest is))
 
     pub string_here : begins (34 ∷ []) (chars front) ≡ true → Some (closed, length rest - length left) ≡ string_past n (chars rest)
     string_here e = grind (arith, common_steps, whole_is, taken_is, quote_next)

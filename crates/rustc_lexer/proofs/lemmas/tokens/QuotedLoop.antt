@@ -21,7 +21,8 @@ past-suc n text is = let one : suc n ≡ 1 + n = omega arith in ap (λ (k : ℕ)
 abbrev plain : ℕ → Bool
 plain c = not (is_byte2 34 92 c)
 
-quoted-plain : (s : List ℕ) → double_quoted_string s ≡ ((double_quoted_string (drop (run_len plain s) s)).0, run_len plain s + (double_quoted_string (drop (run_len plain s) s)).1)
+quoted-plain : (s : List ℕ) → double_quoted_string s ≡
+    ((double_quoted_string (drop (run_len plain s) s)).0, run_len plain s + (double_quoted_string (drop (run_len plain s) s)).1)
 quoted-plain [] = refl
 quoted-plain (c ∷ s) = grind (arith, common_steps, or_parts, quoted-plain s)
 

@@ -89,12 +89,19 @@ pub record Searching (n before : ℕ) (text left : List ℕ) (found : ℕ) (end 
 pub search_start : (n before : ℕ) (text : List ℕ) → IsUtf8 text → Searching n before text text 0 None
 search_start n before text is = grind (arith, common_steps, past-zero, more-zero)
 
--- the hashes at the front are one byte each
-pub hash_bytes : (n : ℕ) (w : List ℕ) → n ≤ hash_run w → bytes_of n w ≡ n
-hash_bytes = bytes-run is_hash (λ c e. let f = eqb-true c 35 e in omega arith)
-
 pub hash_len : (text rest : List ℕ) → IsUtf8 text → rest ≡ past (hash_run (chars text)) text → length text - length rest ≡ hash_run (chars text)
 hash_len = length-run is_hash (λ c e. let f = eqb-true c 35 e in omega arith)
+
+-- some of the hashes at the front, which are one byte each
+module _ (rest : List ℕ) (is : IsUtf8 rest) (n : ℕ) (few : n ≤ hash_run (chars rest)) where
+  hash_bytes_are : bytes_of n (chars rest) ≡ n
+  hash_bytes_are = bytes-run is_hash (λ c e. let f = eqb-true c 35 e in omega arith) n (chars rest) few
+
+  pub hash_cut : drop n rest ≡ past n rest
+  hash_cut = sym (past-drop n rest is ∙ ap (λ (m : ℕ). drop m rest) hash_bytes_are)
+
+  pub hash_boundary : IsCharBoundary rest n
+  hash_boundary = IsCharBoundary-from_drop rest n (let l = length-past n rest is in let b = hash_bytes_are in omega arith) (subst IsUtf8 (sym hash_cut) (IsUtf8-past n rest is))
 
 -- one turn of the loop: `tail` follows the next quote, and `next` its hashes
 module _ (n before : ℕ) (text left tail next : List ℕ) (found : ℕ) (end : Option ℕ) (is : IsUtf8 text) (at : Searching n before text left found end)
@@ -149,22 +156,22 @@ module _ (n before : ℕ) (text left tail next : List ℕ) (found : ℕ) (end : 
 
   -- the quote closes
   module _ (enough : n ≤ length tail - length next) where
-    few_bytes : bytes_of n (chars tail) ≡ n
-    few_bytes = hash_bytes n (chars tail) (let is_count = count in omega arith)
-
-    cut_is : drop n tail ≡ past n tail
-    cut_is = sym (past-drop n tail tail_utf8 ∙ ap (λ (m : ℕ). drop m tail) few_bytes)
+    enough_hashes : n ≤ hash_run (chars tail)
+    enough_hashes = let is_count = count in omega arith
 
     pub may_cut : IsCharBoundary tail n
-    may_cut = IsCharBoundary-from_drop tail n (let l = length-past n tail tail_utf8 in let b = few_bytes in omega arith) (subst IsUtf8 (sym cut_is) (IsUtf8-past n tail tail_utf8))
+    may_cut = hash_boundary tail tail_utf8 n enough_hashes
 
     pub closed_here : (read : Result ℕ RawStrError) (cut : List ℕ) → read ≡ hash_count n → cut ≡ drop n tail → (read, cut) ≡ scanned (raw_text n before) text
     closed_here read cut e f =
         let k : ℕ = run_len is_no_quote (chars left) in
         let closes_here : close n (chars text) ≡ Some (at.taken + k) =
-        at.closes_at ∙ ap (more at.taken) (offset-at (chars left) (chars tail) quote (closes n) (closes-fails n) (le-leb n (hash_run (chars tail)) (let is_count = count in omega arith))) in
+        at.closes_at ∙ ap (more at.taken)
+        (offset-at (chars left) (chars tail) quote (closes n) (closes-fails n) (le-leb n (hash_run (chars tail)) enough_hashes)) in
         let same : (at.taken + suc k) + n ≡ suc (at.taken + k) + n = omega arith in
-        let left_is : cut ≡ past (suc (at.taken + k) + n) text = f ∙ (cut_is ∙ (ap (past n) tail_at ∙ (past-past n (at.taken + suc k) text is ∙ ap (λ (m : ℕ). past m text) same))) in
+        let left_is : cut ≡ past (suc (at.taken + k) + n) text =
+        f ∙ (hash_cut tail tail_utf8 n enough_hashes
+        ∙ (ap (past n) tail_at ∙ (past-past n (at.taken + suc k) text is ∙ ap (λ (m : ℕ). past m text) same))) in
         ap (λ (r : Result ℕ RawStrError). (r, cut)) e
         ∙ (ap (λ (xs : List ℕ). (hash_count n, xs)) left_is
         ∙ ap (λ (o : Option ℕ). ((raw_closed n before (chars text) o).0, past (raw_closed n before (chars text) o).1 text)) (sym closes_here))

@@ -13,7 +13,8 @@ use Rattle.rustc_lexer.proofs.lemmas.tokens.Raw.{hash_len, quote_front}
 use Rattle.rustc_lexer.specs.laws.Scan.{scanned-after}
 
 -- `from` follows the first hashes, and `body` the quote after them
-module _ (prefix : ℕ) (text from body : List ℕ) (is : IsUtf8 text) (from_is : from ≡ past (hash_run (chars text)) text) (opens : begins (34 ∷ []) (chars from) ≡ true) (body_is : body ≡ past 1 from) where
+module _ (prefix : ℕ) (text from body : List ℕ) (is : IsUtf8 text) (from_is : from ≡ past (hash_run (chars text)) text)
+    (opens : begins (34 ∷ []) (chars from) ≡ true) (body_is : body ≡ past 1 from) where
   opening : scanned (raw_read prefix) text ≡ scanned (raw_text (hash_run (chars text)) (prefix + suc (hash_run (chars text)))) body
   opening =
       let utf8 : IsUtf8 from = IsUtf8-cut (hash_run (chars text)) text from is from_is in
@@ -21,7 +22,9 @@ module _ (prefix : ℕ) (text from body : List ℕ) (is : IsUtf8 text) (from_is 
       let starter = scanned-after (hash_run (chars text)) (raw_starter prefix (hash_run (chars text))) text from is from_is in
       grind (arith, common_steps, past-past, utf8, starter, reads)
 
-  pub past_opening : (read : Result ℕ RawStrError) (left : List ℕ) → (read, left) ≡ scanned (raw_text (length text - length from) (prefix + (length text - length from) + 1)) body → (read, left) ≡ scanned (raw_read prefix) text
+  pub past_opening : (read : Result ℕ RawStrError) (left : List ℕ)
+      → (read, left) ≡ scanned (raw_text (length text - length from) (prefix + (length text - length from) + 1)) body
+      → (read, left) ≡ scanned (raw_read prefix) text
   past_opening read left f =
       let count : length text - length from ≡ hash_run (chars text) = hash_len text from is from_is in
       let before : prefix + hash_run (chars text) + 1 ≡ prefix + suc (hash_run (chars text)) = omega arith in
@@ -41,7 +44,8 @@ module _ (text rest : List ℕ) (p : ℕ) (is : IsUtf8 text) (rest_is : rest ≡
 -- past more characters than a text has, and past none
 pub past-nil : (n : ℕ) (text : List ℕ) → IsUtf8 text → chars text ≡ [] → past n text ≡ text
 unfolding past
-past-nil n text is none = ap (λ cs. encode_utf8_all (drop n cs)) none ∙ (ap encode_utf8_all (drop-nil n) ∙ (sym (ap encode_utf8_all none) ∙ encodes-chars text is))
+past-nil n text is none = ap (λ cs. encode_utf8_all (drop n cs)) none
+    ∙ (ap encode_utf8_all (drop-nil n) ∙ (sym (ap encode_utf8_all none) ∙ encodes-chars text is))
 
 pub past-none : (n : ℕ) (text : List ℕ) → n ≡ 0 → IsUtf8 text → past n text ≡ text
 past-none n text none is = ap (λ (k : ℕ). past k text) none ∙ past-zero text is

@@ -25,7 +25,8 @@ pub record ShortChar (text left : List ℕ) : Type 0 where
   pub character : is_character_at (chars text) ≡ true
   pub read : (true, left) ≡ scanned single_quoted_string text
 
-closed : (text left cs : List ℕ) (n : ℕ) → chars text ≡ cs → left ≡ past n text → single_quoted_string cs ≡ (true, n) → (true, left) ≡ scanned single_quoted_string text
+closed : (text left cs : List ℕ) (n : ℕ) → chars text ≡ cs → left ≡ past n text → single_quoted_string cs ≡ (true, n)
+    → (true, left) ≡ scanned single_quoted_string text
 closed text left cs n w4 w5 w6 = grind (arith, common_steps)
 
 -- one character and a quote
@@ -37,7 +38,8 @@ lone b left is small other =
     record {
       utf8 = last;
       character = rw reads refl;
-      read = closed (b ∷ 39 ∷ left) left _ 2 reads (past-two (b ∷ 39 ∷ left) (39 ∷ left) left is (past-ascii b (39 ∷ left) is small) (past-ascii 39 left inner (omega arith))) (rw other refl);
+      read = closed (b ∷ 39 ∷ left) left _ 2 reads
+          (past-two (b ∷ 39 ∷ left) (39 ∷ left) left is (past-ascii b (39 ∷ left) is small) (past-ascii 39 left inner (omega arith))) (rw other refl);
     }
 
 -- a backslash, one character and a quote
@@ -48,9 +50,13 @@ escaped e left is small =
     let one : IsUtf8 (e ∷ 39 ∷ left) = IsUtf8-ascii 92 (e ∷ 39 ∷ left) is (omega arith) in
     let two : IsUtf8 (39 ∷ left) = IsUtf8-ascii e (39 ∷ left) one small in
     let last : IsUtf8 left = IsUtf8-ascii 39 left two (omega arith) in
-    let reads : chars text ≡ 92 ∷ e ∷ 39 ∷ chars left =
-    chars-ascii 92 (e ∷ 39 ∷ left) is (omega arith) ∙ ap (λ cs. 92 ∷ cs) (chars-ascii e (39 ∷ left) one small ∙ ap (λ cs. e ∷ cs) (chars-ascii 39 left two (omega arith))) in
-    let left_is : left ≡ past 3 text = past-ascii 39 left two (omega arith) ∙ (ap (past 1) (past-two text (e ∷ 39 ∷ left) (39 ∷ left) is (past-ascii 92 (e ∷ 39 ∷ left) is (omega arith)) (past-ascii e (39 ∷ left) one small)) ∙ past-past 1 2 text is) in
+    let reads : chars text ≡ 92 ∷ chars (e ∷ 39 ∷ left) = chars-ascii 92 (e ∷ 39 ∷ left) is (omega arith) in
+    let reads_one : chars (e ∷ 39 ∷ left) ≡ e ∷ chars (39 ∷ left) = chars-ascii e (39 ∷ left) one small in
+    let reads_two : chars (39 ∷ left) ≡ 39 ∷ chars left = chars-ascii 39 left two (omega arith) in
+    let left_is : left ≡ past 3 text =
+    past-ascii 39 left two (omega arith)
+    ∙ (ap (past 1) (past-two text (e ∷ 39 ∷ left) (39 ∷ left) is (past-ascii 92 (e ∷ 39 ∷ left) is (omega arith)) (past-ascii e (39 ∷ left) one small))
+    ∙ past-past 1 2 text is) in
     record {
       utf8 = last;
       character = rw (reads, backslash-no_name) (or-true (begins (codes "'") (e ∷ 39 ∷ chars left)));
