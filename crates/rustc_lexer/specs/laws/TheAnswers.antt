@@ -1,6 +1,5 @@
 -- How each answer of the grammar is found, and that it is the only one.
-use Rattle.std.proofs.lemmas.Grind.{common_steps}
-use Rattle.std.proofs.Common.{◌≡◌, ℕ, ◌<◌, ◌==◌, true, false, List, [], ◌∷◌, length, drop, refl, sym, ap, ◌∙◌, subst, arith, pos_of_ne-zero}
+use Rattle.std.proofs.Common.{◌≡◌, ℕ, ◌<◌, ◌==◌, true, false, List, [], ◌∷◌, length, drop, refl, sym, ap, ◌∙◌, subst, pos_of_ne-zero}
 use Rattle.std.proofs.lemmas.Bool.{eqb-true, eqb-false}
 use Rattle.std.specs.Str.{chars}
 use Rattle.std.proofs.lemmas.List.{nil_from_length}
@@ -67,7 +66,8 @@ module _ (s : State) (is : IsText s.rest) where
   at_token some = advance-some s.pending s.rest s.mode s refl some
 
   no_token : (token : Token) (tokens : List Token) → (length s.rest == 0) ≡ true → AreTokens s.mode (chars s.rest) (token ∷ tokens) → ⊥
-  no_token token tokens none are = let e : [] ≡ token ∷ tokens = sym (ap (means_tokens.read_tokens s.mode) (empty none) ∙ tokens-nil s.mode) ∙ tokens-read are s.rest is refl in cc
+  no_token token tokens none are = let e : [] ≡ token ∷ tokens = sym (ap (means_tokens.read_tokens s.mode) (empty none) ∙ tokens-nil s.mode)
+      ∙ tokens-read are s.rest is refl in cc
 
   pub next-read : (other : Token × State) → TakesNext s other → other ≡ means_taking.take_next s
   next-read _ (nothing_left e) = sym (at_end (ap (λ (text : List ℕ). length text == 0) e))

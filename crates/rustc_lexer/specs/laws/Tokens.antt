@@ -1,6 +1,6 @@
 -- The tokens of a whole text as they are read: one by one, and their bounds.
-use Rattle.std.proofs.Common.{◌≡◌, ℕ, zero, suc, ◌<◌, ◌≤◌, List, [], ◌∷◌, length, take, drop, refl, ap, arith, length-drop, take-add, All}
-use Rattle.std.specs.Str.{IsCharBoundary, IsUtf8}
+use Rattle.std.proofs.Common.{◌≡◌, ℕ, zero, suc, ◌<◌, ◌≤◌, List, [], ◌∷◌, length, drop, refl, ap, arith, length-drop}
+use Rattle.std.specs.Str.{IsCharBoundary}
 use Rattle.std.proofs.lemmas.Str.{IsCharBoundary-start, IsCharBoundary-from_rest, IsUtf8-take}
 use Rattle.std.proofs.lemmas.List.Elements.{All-nil, All-cons}
 use Rattle.std.proofs.lemmas.Grind.{common_steps}
@@ -23,7 +23,8 @@ pub record CutsOff (text : List ℕ) (token : Token) : Type 0 where
   pub left : IsText (drop token.len text)
 
 cuts-off : (text : List ℕ) (token : Token) → IsText text → 0 < token.len → IsCharBoundary text token.len → CutsOff text token
-cuts-off text token is some bound = record { not_empty = some; inside = bound.0; boundary = bound; left = left_text text _ is bound.0 (IsUtf8-take text _ is.utf8 bound) }
+cuts-off text token is some bound =
+    record { not_empty = some; inside = bound.0; boundary = bound; left = left_text text _ is bound.0 (IsUtf8-take text _ is.utf8 bound) }
 
 pub token_at-cuts : (mode : Mode) (text : List ℕ) → IsText text → 0 < length text → CutsOff text (token_at mode text)
 token_at-cuts mode text is some = token_at-either (λ (t : Token). CutsOff text t) mode text
@@ -74,7 +75,8 @@ module _ (P : List ℕ → Mode → Type 0) (at_end : (mode : Mode) → P [] mod
   by_tokens text mode is = by_count (length text) text mode is (omega arith)
 
 -- the bounds of a text: its start, and those of what is left
-bounds : (text : List ℕ) (token : Token) (left : List Token) → IsText text → CutsOff text token → Partitions (drop token.len text) left → (k : ℕ) → k ≤ suc (length left) → IsCharBoundary text (bound (token ∷ left) k)
+bounds : (text : List ℕ) (token : Token) (left : List Token) → IsText text → CutsOff text token → Partitions (drop token.len text) left → (k : ℕ)
+    → k ≤ suc (length left) → IsCharBoundary text (bound (token ∷ left) k)
 bounds text token left is cuts rest zero le = IsCharBoundary-start text is.utf8
 bounds text token left is cuts rest (suc k) le = IsCharBoundary-from_rest text token.len (bound left k) cuts.inside (rest.boundaries k (omega arith))
 

@@ -1,8 +1,8 @@
 -- Texts that touch: how to find that out, and that the end of the first text is enough for it.
-use Rattle.std.proofs.Common.{◌≡◌, ◌↔◌, ℕ, zero, suc, ◌+◌, ◌-◌, ◌<◌, ◌≤◌, Bool, true, false, true≢false, IsTrue, List, [], ◌∷◌, ◌++◌, codes, length, take, drop, refl, sym, ap, ◌∙◌, subst, arith, append_assoc, length-append, length-drop, length-take, length-take-le, take-append-drop, take_at, slice_range, if◌then◌else◌, IsUtf8, IsCharBoundary}
-use Rattle.std.proofs.Math.Seq.{take-length, drop-append_seam}
+use Rattle.std.proofs.Common.{◌≡◌, ◌↔◌, ℕ, zero, suc, ◌+◌, ◌-◌, ◌<◌, ◌≤◌, true, List, [], ◌∷◌, ◌++◌, length, take, drop, refl, sym, ap, ◌∙◌, arith, length-append, length-drop, length-take, length-take-le, take-append-drop, slice_range, IsUtf8, IsCharBoundary}
+use Rattle.std.proofs.Math.Seq.{drop-append_seam}
 use Rattle.std.proofs.lemmas.List.{append_cancel_left, drop-append-le}
-use Rattle.std.proofs.lemmas.Str.{IsCharBoundary-start, IsCharBoundary-from_rest, IsUtf8-drop, IsCharBoundary-from_drop, IsCharBoundary-end, IsUtf8-between, IsUtf8-take}
+use Rattle.std.proofs.lemmas.Str.{IsCharBoundary-start, IsCharBoundary-from_rest, IsUtf8-drop, IsUtf8-between, IsUtf8-take}
 use Rattle.std.proofs.lemmas.Grind.{common_steps}
 use Rattle.rustc_lexer.specs.{Edition, Token}
 use Rattle.rustc_lexer.specs.Answers.{first_in}
@@ -11,17 +11,18 @@ use Rattle.rustc_lexer.specs.Joined as the
 use Rattle.rustc_lexer.specs.Joined.{IsJoined, IsSeparated, MayTouch, AreInseparable}
 use Rattle.rustc_lexer.specs.Locality.{has_two, IsGrammar}
 use Rattle.rustc_lexer.specs.Partition.{bound, tokens_by}
-use Rattle.rustc_lexer.specs.laws.Cuts.{IsCutAt, at_bound, tokens-cons, tokens-nil, tokens_local}
+use Rattle.rustc_lexer.specs.laws.Cuts.{IsCutAt, at_bound, tokens-cons, tokens-nil}
 use Rattle.rustc_lexer.specs.laws.Edition.{edition_grammar}
 use Rattle.rustc_lexer.specs.means.Joined.{IsSure}
 use Rattle.std.proofs.lemmas.List.Folds.{drop_split}
 use Rattle.rustc_lexer.proofs.lemmas.edits.Bounds.{bound_mono, bound-last, rises}
 use Rattle.rustc_lexer.proofs.lemmas.heads.ByTokens.{bound-append}
 use Rattle.rustc_lexer.proofs.lemmas.edits.Settled.{stays_at}
-use Rattle.rustc_lexer.proofs.lemmas.edits.FrontAndBack.{bound-same, drop_of-take, has_two-agree}
+use Rattle.rustc_lexer.proofs.lemmas.edits.FrontAndBack.{bound-same, drop_of-take}
 
 -- what two lists have in front says nothing of how they differ
-front_cancels : {whole left : List Token} (front rest more us : List Token) → whole ≡ front ++ rest → left ≡ front ++ more → whole ≡ left ++ us ↔ rest ≡ more ++ us
+front_cancels : {whole left : List Token} (front rest more us : List Token) → whole ≡ front ++ rest → left ≡ front ++ more → whole ≡ left ++ us
+    ↔ rest ≡ more ++ us
 front_cancels front rest more us w5 w6 = grind (arith, common_steps, append_cancel_left)
 
 -- the texts on both sides of `at` touch exactly if what the first has past `offset` touches the second
@@ -35,10 +36,13 @@ module _ {first : List ℕ → Token} (law : IsGrammar first) where
   Touch left right = tokens_by first (left ++ right) ≡ tokens_by first left ++ tokens_by first right
 
   -- a text whose first token stays touches another exactly if what it has past that token does
-  pub touch_past : (left right : List ℕ) → IsText left → IsText (left ++ right) → 0 < length left → first (left ++ right) ≡ first left → Touch left right ↔ Touch (drop (first left).len left) right
+  pub touch_past : (left right : List ℕ) → IsText left → IsText (left ++ right) → 0 < length left → first (left ++ right) ≡ first left
+      → Touch left right ↔ Touch (drop (first left).len left) right
   touch_past left right is whole some same =
       let its : tokens_by first (left ++ right) ≡ first left ∷ tokens_by first (drop (first left).len left ++ right) =
-      tokens-cons law (left ++ right) whole (omega (arith, length-append left right)) ∙ (ap (λ (t : Token). t ∷ tokens_by first (drop t.len (left ++ right))) same ∙ ap (λ xs. first left ∷ tokens_by first xs) (drop-append-le (first left).len left right (law.boundary left is some).0)) in
+      tokens-cons law (left ++ right) whole (omega (arith, length-append left right))
+      ∙ (ap (λ (t : Token). t ∷ tokens_by first (drop t.len (left ++ right))) same
+      ∙ ap (λ xs. first left ∷ tokens_by first xs) (drop-append-le (first left).len left right (law.boundary left is some).0)) in
       rw (its, tokens-cons law left is some) (λ e. cc, λ e. ap (λ (ts : List Token). first left ∷ ts) e)
 
   pub touch_first : (left right : List ℕ) → IsText left → IsText (left ++ right) → 0 < length left → Touch left right → first (left ++ right) ≡ first left
@@ -54,7 +58,8 @@ module _ {first : List ℕ → Token} (law : IsGrammar first) where
       stays_at law left is more (suc k) whole few (rw at (two positive))
 
   -- so a text touches another exactly if what it has past one does
-  pub sure_touch : (left more : List ℕ) (from : ℕ) → IsText left → IsText (left ++ more) → IsSure first left from → (from ≤ length left) × (Touch left more ↔ Touch (drop from left) more)
+  pub sure_touch : (left more : List ℕ) (from : ℕ) → IsText left → IsText (left ++ more) → IsSure first left from
+      → (from ≤ length left) × (Touch left more ↔ Touch (drop from left) more)
   sure_touch left more from is whole at =
       let k : ℕ = at.number in
       let cut : IsCutAt first left (tokens_by first left) k = at_bound law k left is in
@@ -63,26 +68,38 @@ module _ {first : List ℕ → Token} (law : IsGrammar first) where
       let same : bound (tokens_by first (left ++ more)) k ≡ from = bound-same k (tokens_by first (left ++ more)) (tokens_by first left) stays ∙ at.offset_is in
       let inside : from ≤ length left = omega (arith, cut.inside, at.offset_is) in
       let rest : drop k (tokens_by first left) ≡ tokens_by first (drop from left) = rw at.offset_is at cut.rest in
-      let its_rest : drop k (tokens_by first (left ++ more)) ≡ tokens_by first (drop from left ++ more) = rw (same, drop-append-le from left more inside) at its_cut.rest in
-      (inside, front_cancels (take k (tokens_by first left)) _ _ (tokens_by first more)
-      (sym (take-append-drop k (tokens_by first (left ++ more))) ∙ (ap (λ (ts : List Token). ts ++ drop k (tokens_by first (left ++ more))) stays ∙ ap (λ (ts : List Token). take k (tokens_by first left) ++ ts) its_rest))
-      (sym (take-append-drop k (tokens_by first left)) ∙ ap (λ (ts : List Token). take k (tokens_by first left) ++ ts) rest))
+      let its_rest : drop k (tokens_by first (left ++ more)) ≡ tokens_by first (drop from left ++ more) =
+      rw (same, drop-append-le from left more inside) at its_cut.rest in (
+        inside,
+        front_cancels (take k (tokens_by first left)) _ _ (tokens_by first more)
+            (sym (take-append-drop k (tokens_by first (left ++ more))) ∙ (ap (λ (ts : List Token). ts ++ drop k (tokens_by first (left ++ more))) stays
+            ∙ ap (λ (ts : List Token). take k (tokens_by first left) ++ ts) its_rest))
+            (sym (take-append-drop k (tokens_by first left)) ∙ ap (λ (ts : List Token). take k (tokens_by first left) ++ ts) rest),
+      )
 
 -- a separator that keeps texts apart touches the second
-pub separated_past : (edition : Edition) (text : List ℕ) (at len : ℕ) → IsText text → IsCharBoundary text at → IsSeparated edition (take at text) (take len (drop at text)) (drop len (drop at text)) → MayTouch edition (take len (drop at text)) (drop len (drop at text))
+pub separated_past : (edition : Edition) (text : List ℕ) (at len : ℕ) → IsText text → IsCharBoundary text at
+    → IsSeparated edition (take at text) (take len (drop at text)) (drop len (drop at text))
+    → MayTouch edition (take len (drop at text)) (drop len (drop at text))
 separated_past edition text at len is cut e =
     let left : List Token = tokens_by (first_in edition) (take at text) in
-    let last : bound left (length left) ≡ length (take at text) = bound-last (edition_grammar edition) (take at text) record { utf8 = IsUtf8-take text at is.utf8 cut; fits = omega (arith, length-take at text, is.fits) } in
+    let last : bound left (length left) ≡ length (take at text) = bound-last (edition_grammar edition)
+    (take at text) record { utf8 = IsUtf8-take text at is.utf8 cut; fits = omega (arith, length-take at text, is.fits) } in
     let whole = rw (take-append-drop len (drop at text), take-append-drop at text) at e in
-    let here : bound (tokens_by (first_in edition) text) (length left) ≡ at = ap (λ (ts : List Token). bound ts (length left)) whole ∙ (bound-append left _ ∙ (last ∙ length-take-le at text cut.0)) in
-    rw (take-append-drop len (drop at text)) (sym (ap (λ (k : ℕ). tokens_by (first_in edition) (drop k text)) here) ∙ (sym (at_bound (edition_grammar edition) (length left) text is).rest ∙ (ap (drop (length left)) whole ∙ drop-append_seam left _)))
+    let here : bound (tokens_by (first_in edition) text) (length left) ≡ at = ap (λ (ts : List Token). bound ts (length left)) whole
+    ∙ (bound-append left _ ∙ (last ∙ length-take-le at text cut.0)) in
+    rw (take-append-drop len (drop at text)) (sym (ap (λ (k : ℕ). tokens_by (first_in edition) (drop k text)) here)
+    ∙ (sym (at_bound (edition_grammar edition) (length left) text is).rest ∙ (ap (drop (length left)) whole ∙ drop-append_seam left _)))
 
 -- ---- how to find it out
 
 pub seam_start : (edition : Edition) (text : List ℕ) (at : ℕ) → IsUtf8 text → IsSeamFrom edition text at 0
-seam_start edition text at utf8 = let none : at - 0 ≡ at = omega arith in record { inside = omega arith; boundary = IsCharBoundary-start text utf8; touch = rw none (λ t. t, λ t. t) }
+seam_start edition text at utf8 =
+    let none : at - 0 ≡ at = omega arith in
+    record { inside = omega arith; boundary = IsCharBoundary-start text utf8; touch = rw none (λ t. t, λ t. t) }
 
-module _ (edition : Edition) (text : List ℕ) (at : ℕ) (is : IsText text) (cut : IsCharBoundary text at) (offset : ℕ) (so : IsSeamFrom edition text at offset) where
+module _ (edition : Edition) (text : List ℕ) (at : ℕ) (is : IsText text) (cut : IsCharBoundary text at) (offset : ℕ)
+    (so : IsSeamFrom edition text at offset) where
   pub seam_end : at ≤ offset → MayTouch edition (take at text) (drop at text)
   seam_end all = grind (arith, common_steps, tokens-nil)
 
@@ -114,13 +131,15 @@ module _ (edition : Edition) (text : List ℕ) (at : ℕ) (is : IsText text) (cu
         let its : MayTouch edition left (drop at text) ↔ MayTouch edition (slice_range text (offset + alone.len) at) (drop at text) = rw past at step in
         record {
           inside = omega (arith, at_end.0, long);
-          boundary = IsCharBoundary-from_rest text offset alone.len (omega (arith, cut.0)) (rw (same, f) ((edition_grammar edition).boundary (drop offset text) whole_is (omega (arith, cut.0, length-drop offset text))));
+          boundary = IsCharBoundary-from_rest text offset alone.len (omega (arith, cut.0))
+              (rw (same, f) ((edition_grammar edition).boundary (drop offset text) whole_is (omega (arith, cut.0, length-drop offset text))));
           touch = (λ t. its.0 (so.touch.0 t), λ t. so.touch.1 (its.1 t));
         }
 
     pub seam_differs : (alone ≡ together → ⊥) → MayTouch edition (take at text) (drop at text) → ⊥
     seam_differs differ touch =
-        differ (e ∙ (sym (touch_first (edition_grammar edition) left (drop at text) left_is (rw whole whole_is) (omega (arith, long)) (so.touch.0 touch)) ∙ (ap (first_in edition) whole ∙ sym f)))
+        differ (e ∙ (sym (touch_first (edition_grammar edition) left (drop at text) left_is (rw whole whole_is) (omega (arith, long))
+        (so.touch.0 touch)) ∙ (ap (first_in edition) whole ∙ sym f)))
 
 -- ---- the first separator that parts a text and a piece
 

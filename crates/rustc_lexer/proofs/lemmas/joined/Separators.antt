@@ -1,6 +1,6 @@
 -- A text whose tokens are closed keeps them before white space, and white space keeps its token before any other character.
 use Rattle.std.proofs.lemmas.Grind.{common_steps}
-use Rattle.std.proofs.Common.{◌⊎◌, inl, inr, ◌≡◌, ℕ, ◌+◌, ◌^◌, ◌<◌, ◌≤◌, Bool, true, false, true≢false, List, [], ◌∷◌, ◌++◌, length, refl, sym, ap, ◌∙◌, subst, arith, append_assoc, length-append, chars, IsUtf8}
+use Rattle.std.proofs.Common.{◌⊎◌, inl, inr, ◌≡◌, ℕ, ◌+◌, ◌^◌, ◌<◌, Bool, true, false, true≢false, List, [], ◌∷◌, ◌++◌, length, refl, sym, ap, ◌∙◌, subst, arith, append_assoc, length-append, chars, IsUtf8}
 use Rattle.std.proofs.Math.Seq.{drop-append_seam, take-append_seam}
 use Rattle.std.specs.List.{list_all}
 use Rattle.std.proofs.lemmas.List.{append-nil}
@@ -75,20 +75,30 @@ changes : {edition : Edition} {cs : List ℕ} {tokens : List Token} → Are edit
 changes {cs = cs} are after (inl e) = subst (λ (xs : List ℕ). Changes xs (cs ++ after)) (append-nil cs) (changes-past cs (changed refl e.0))
 changes none after (inr e) = absurd (true≢false (sym e.0))
 changes (one {kind} {c} {w} p none) after (inr e) = rw (append-nil w) (white-first c w after (space-text-in p (kind-space kind e.0)))
-changes (one {c = c} {w = w} p (one {c = d} {w = v} {next = next} q rest)) after (inr e) = subst (Changes (c ∷ w ++ (d ∷ v ++ next))) (sym (append_assoc (c ∷ w) (d ∷ v ++ next) after)) (changes-past (c ∷ w) (changes (one q rest) after (inr e)))
+changes (one {c = c} {w = w} p (one {c = d} {w = v} {next = next} q rest)) after (inr e) =
+    subst (Changes (c ∷ w ++ (d ∷ v ++ next))) (sym (append_assoc (c ∷ w) (d ∷ v ++ next) after)) (changes-past (c ∷ w) (changes (one q rest) after (inr e)))
 
-stays : {edition : Edition} {kind : TokenKind} {c : ℕ} {w next : List ℕ} {tokens : List Token} → IsTokenIn edition next kind (c ∷ w) → Are edition next tokens → is_open kind ≡ false → (after : List ℕ) → Parts (record { kind = kind; len = bytes (c ∷ w) } ∷ tokens) after → IsTokenIn edition (next ++ after) kind (c ∷ w)
+stays : {edition : Edition} {kind : TokenKind} {c : ℕ} {w next : List ℕ} {tokens : List Token} → IsTokenIn edition next kind (c ∷ w)
+    → Are edition next tokens → is_open kind ≡ false → (after : List ℕ) → Parts (record { kind = kind; len = bytes (c ∷ w) } ∷ tokens) after
+    → IsTokenIn edition (next ++ after) kind (c ∷ w)
 stays {kind = kind} p none good after (inl e) = in-apart p (omega arith) good after (changed refl e.0) (kind-goes kind after e.1)
-stays {edition} {kind} {c} {w} p none good after (inr e) = let is = kind-space kind e.0 in subst (λ (k : TokenKind). IsTokenIn edition after k (c ∷ w)) (sym is) (kept (oldest edition) (the.whitespace (space-text-in p is) e.1))
-stays {kind = kind} p (one {c = d} {w = v} {next = next} q rest) good after e = in-apart p (omega arith) good ((d ∷ v ++ next) ++ after) (changes (one q rest) after e) (goes-behind kind d (v ++ next) ((v ++ next) ++ after))
+stays {edition} {kind} {c} {w} p none good after (inr e) = let is = kind-space kind e.0 in
+    subst (λ (k : TokenKind). IsTokenIn edition after k (c ∷ w)) (sym is) (kept (oldest edition) (the.whitespace (space-text-in p is) e.1))
+stays {kind = kind} p (one {c = d} {w = v} {next = next} q rest) good after e =
+    in-apart p (omega arith) good ((d ∷ v ++ next) ++ after) (changes (one q rest) after e) (goes-behind kind d (v ++ next) ((v ++ next) ++ after))
 
-one-more : {edition : Edition} {kind : TokenKind} {c : ℕ} {w : List ℕ} (next after : List ℕ) {us : List Token} → IsTokenIn edition (next ++ after) kind (c ∷ w) → Are edition (next ++ after) us → Are edition ((c ∷ w ++ next) ++ after) (record { kind = kind; len = bytes (c ∷ w) } ∷ us)
-one-more {edition} {kind} {c} {w} next after {us} p rest = subst (λ (xs : List ℕ). Are edition xs (record { kind = kind; len = bytes (c ∷ w) } ∷ us)) (sym (append_assoc (c ∷ w) next after)) (one p rest)
+one-more : {edition : Edition} {kind : TokenKind} {c : ℕ} {w : List ℕ} (next after : List ℕ) {us : List Token}
+    → IsTokenIn edition (next ++ after) kind (c ∷ w) → Are edition (next ++ after) us
+    → Are edition ((c ∷ w ++ next) ++ after) (record { kind = kind; len = bytes (c ∷ w) } ∷ us)
+one-more {edition} {kind} {c} {w} next after {us} p rest = subst (λ (xs : List ℕ). Are edition xs (record { kind = kind; len = bytes (c ∷ w) } ∷ us))
+    (sym (append_assoc (c ∷ w) next after)) (one p rest)
 
-keeps : {edition : Edition} {cs : List ℕ} {tokens : List Token} → Are edition cs tokens → AreClosed tokens → {after : List ℕ} {others : List Token} → Are edition after others → Parts tokens after → Are edition (cs ++ after) (tokens ++ others)
+keeps : {edition : Edition} {cs : List ℕ} {tokens : List Token} → Are edition cs tokens → AreClosed tokens → {after : List ℕ} {others : List Token}
+    → Are edition after others → Parts tokens after → Are edition (cs ++ after) (tokens ++ others)
 keeps none closed more e = more
 keeps (one p none) closed {after} more e = one-more [] after (stays p none closed.0 after e) more
-keeps (one p (one {c = c} {w = w} {next = next} q rest)) closed {after} more e = one-more (c ∷ w ++ next) after (stays p (one q rest) closed.0 after e) (keeps (one q rest) closed.1 more e)
+keeps (one p (one {c = c} {w = w} {next = next} q rest)) closed {after} more e =
+    one-more (c ∷ w ++ next) after (stays p (one q rest) closed.0 after e) (keeps (one q rest) closed.1 more e)
 
 -- ---- texts
 
@@ -105,8 +115,10 @@ module _ (edition : Edition) where
   read : (text : List ℕ) → IsText text → {cs : List ℕ} {tokens : List Token} → Are edition cs tokens → chars text ≡ cs → Tokens text ≡ tokens
   read text is tokens e = tokens-read (to_part tokens) text is e
 
-  touches : (text after : List ℕ) → IsText text → IsText (text ++ after) → AreClosed (Tokens text) → Parts (Tokens text) (chars after) → MayTouch edition text after
-  touches text after is whole closed e = read (text ++ after) whole (keeps (are text is) closed (are after (rest-is text after whole is.utf8)) e) (chars-append text after is.utf8)
+  touches : (text after : List ℕ) → IsText text → IsText (text ++ after) → AreClosed (Tokens text) → Parts (Tokens text) (chars after)
+      → MayTouch edition text after
+  touches text after is whole closed e = read (text ++ after) whole (keeps (are text is) closed (are after (rest-is text after whole is.utf8)) e)
+      (chars-append text after is.utf8)
 
   -- all of a text that is white space is one token
   space-tokens : (s : List ℕ) → IsText s → 0 < length s → AreAll is_whitespace (chars s) → Tokens s ≡ record { kind = Whitespace; len = bytes (chars s) } ∷ []
@@ -116,8 +128,10 @@ module _ (edition : Edition) where
       by_chars [] e all = absurd (omega (arith, some, ap length (empty-text s is e)))
       by_chars (c ∷ w) e all = rw e (read s is (one (kept (oldest edition) (the.whitespace all refl)) none) (e ∙ sym (append-nil (c ∷ w))))
 
-  space-touches : (s piece : List ℕ) → IsText (s ++ piece) → IsText s → 0 < length s → AreAll is_whitespace (chars s) → NextIsNot is_whitespace (chars piece) → MayTouch edition s piece
-  space-touches s piece whole is some white stop = let alone = space-tokens s is some white in touches s piece is whole (rw alone (refl, tt)) (inr (rw alone refl, stop))
+  space-touches : (s piece : List ℕ) → IsText (s ++ piece) → IsText s → 0 < length s → AreAll is_whitespace (chars s)
+      → NextIsNot is_whitespace (chars piece) → MayTouch edition s piece
+  space-touches s piece whole is some white stop = let alone = space-tokens s is some white in
+      touches s piece is whole (rw alone (refl, tt)) (inr (rw alone refl, stop))
 
 pub newline-encoded : encode_utf8_all (10 ∷ []) ≡ 10 ∷ []
 unfolding encode
@@ -142,7 +156,8 @@ module _ (edition : Edition) (text piece : List ℕ) (is : IsText text) (utf8 : 
       let past : chars (d ∷ piece) ≡ d ∷ chars piece = chars-append (d ∷ []) piece its ∙ ap (λ (cs : List ℕ). cs ++ chars piece) shown in
       let longer : IsUtf8 (d ∷ piece) = IsUtf8-append (d ∷ []) piece its utf8 in
       let left : Tokens edition (text ++ (d ∷ piece)) ≡ Tokens edition text ++ Tokens edition (d ∷ piece) =
-      touches edition text (d ∷ piece) is record { utf8 = IsUtf8-append text (d ∷ piece) is.utf8 longer; fits = omega (arith, length-append text (d ∷ piece)) } closed (inl (ap (next_is is_whitespace) past ∙ white, ap (next_is (last_takes_in (Tokens edition text))) past ∙ out)) in
+      touches edition text (d ∷ piece) is record { utf8 = IsUtf8-append text (d ∷ piece) is.utf8 longer; fits = omega (arith, length-append text (d ∷ piece)) }
+      closed (inl (ap (next_is is_whitespace) past ∙ white, ap (next_is (last_takes_in (Tokens edition text))) past ∙ out)) in
       let right : Tokens edition (d ∷ piece) ≡ Tokens edition (d ∷ []) ++ Tokens edition piece =
       space-touches edition (d ∷ []) piece record { utf8 = longer; fits = omega arith } record { utf8 = its; fits = omega arith } (omega arith) (subst (AreAll is_whitespace) (sym shown) (rw white refl)) stop in
       left ∙ ap (λ (us : List Token). Tokens edition text ++ us) right

@@ -1,5 +1,5 @@
 -- A text that grows at its end: what comes past a bound that is sure decides whether its tokens stay, and that bound moves on.
-use Rattle.std.proofs.Common.{◌≡◌, ◌↔◌, ℕ, zero, suc, ◌+◌, ◌-◌, ◌^◌, ◌<◌, ◌≤◌, true, List, ◌++◌, codes, length, take, drop, refl, sym, ap, ◌∙◌, subst, arith, length-append, length-drop, length-take, length-take-le, take-append-drop, drop-drop, take_all, chars, IsUtf8, IsCharBoundary}
+use Rattle.std.proofs.Common.{◌≡◌, ℕ, zero, suc, ◌+◌, ◌-◌, ◌^◌, ◌<◌, ◌≤◌, true, List, ◌++◌, codes, length, take, drop, refl, sym, ap, ◌∙◌, subst, arith, length-append, length-drop, length-take, length-take-le, take-append-drop, drop-drop, take_all, chars, IsUtf8, IsCharBoundary}
 use Rattle.std.proofs.lemmas.Grind.{common_steps}
 use Rattle.std.proofs.lemmas.List.{drop-append-le, take_rest}
 use Rattle.std.proofs.lemmas.Str.{IsCharBoundary-from_drop, IsUtf8-append, IsUtf8-between, IsUtf8-drop, IsUtf8-take, chars-append}
@@ -34,7 +34,11 @@ module _ (edition : Edition) where
   two_more : (text more : List ℕ) (from : ℕ) → IsText text → IsCharBoundary text from → has_two text from (length text) ≡ true → has_two (text ++ more) from (length (text ++ more)) ≡ true
   two_more text more from is cut two =
       let enough : 2 ≤ length (chars (drop from text)) = rw (take_rest text from) at (has_two-count text from (length text) two) in
-      has_two-intro (text ++ more) from (length (text ++ more)) (rw (take_rest (text ++ more) from, drop-append-le from text more cut.0, chars-append (drop from text) more (IsUtf8-drop text from is.utf8 cut)) (omega (arith, length-append (chars (drop from text)) (chars more))))
+      has_two-intro (text ++ more) from (length (text ++ more)) (rw (
+        take_rest (text ++ more) from,
+        drop-append-le from text more cut.0,
+        chars-append (drop from text) more (IsUtf8-drop text from is.utf8 cut),
+      ) (omega (arith, length-append (chars (drop from text)) (chars more))))
 
   sure_grown : (text more : List ℕ) (from : ℕ) → IsText text → IsText (text ++ more) → IsSure first text from → IsSure first (text ++ more) from
   sure_grown text more from is whole at =
@@ -87,7 +91,8 @@ module _ (edition : Edition) where
           let none : from + more ≡ from = omega arith in
           subst (λ (p : ℕ). has_two text p (length text) ≡ true) (sym none) (at.two (omega arith))
       two (suc n) e some =
-          let count = rw (take_rest (drop from text) more, drop-drop more from text) at (has_two-count (drop from text) more (length (drop from text)) (settled.two (omega arith))) in
+          let count = rw (take_rest (drop from text) more, drop-drop more from text) at
+          (has_two-count (drop from text) more (length (drop from text)) (settled.two (omega arith))) in
           has_two-intro text (from + more) (length text) (rw (take_rest text (from + more)) count)
 
   -- ---- what comes past a bound decides
@@ -96,7 +101,8 @@ module _ (edition : Edition) where
   tail_decides text at is cut =
       let left : List ℕ = take at text in
       let left_is : IsText left = record { utf8 = IsUtf8-take text at is.utf8 cut; fits = omega (arith, length-take at text, is.fits) } in
-      λ k few two. (sure_touch law left (drop at text) (bound (tokens_by first left) k) left_is (rw (take-append-drop at text) is) record { number = k; few = few; offset_is = refl; two = λ some. two }).1
+      λ k few two. (sure_touch law left (drop at text) (bound (tokens_by first left) k) left_is
+      (rw (take-append-drop at text) is) record { number = k; few = few; offset_is = refl; two = λ some. two }).1
 
   pub near : (text : List ℕ) (sure at : ℕ) → IsText text → IsCharBoundary text at → IsSure first (take at text) sure → IsSeamFrom edition text at sure
   near text sure at is cut here =
@@ -107,7 +113,9 @@ module _ (edition : Edition) where
       let past : drop sure text ≡ drop sure left ++ drop at text = rw (take-append-drop at text) at (drop-append-le sure left (drop at text) split.0) in
       record {
         inside = few;
-        boundary = IsCharBoundary-from_drop text sure (omega (arith, cut.0)) (rw past (IsUtf8-append (drop sure left) (drop at text) (IsUtf8-drop left sure left_is.utf8 (sure_place left sure left_is here)) (IsUtf8-drop text at is.utf8 cut)));
+        boundary = IsCharBoundary-from_drop text sure (omega (arith, cut.0))
+            (rw past (IsUtf8-append (drop sure left) (drop at text) (IsUtf8-drop left sure left_is.utf8 (sure_place left sure left_is here))
+            (IsUtf8-drop text at is.utf8 cut)));
         touch = rw (drop_of-take sure at text) at split.1;
       }
 
@@ -118,10 +126,14 @@ module _ (edition : Edition) where
   joined-only w0 w1 = grind (arith, common_steps)
 
   -- what was sure is so in the new text
-  grown_by : (text more : List ℕ) (from : ℕ) → IsText text → IsSure first text from → length text + length more < 2 ^ 32 → IsUtf8 (text ++ more) → IsText (text ++ more) × IsSure first (text ++ more) from
-  grown_by text more from is at room utf8 = let whole : IsText (text ++ more) = record { utf8 = utf8; fits = omega (arith, length-append text more) } in (whole, sure_grown text more from is whole at)
+  grown_by : (text more : List ℕ) (from : ℕ) → IsText text → IsSure first text from → length text + length more < 2 ^ 32 → IsUtf8 (text ++ more)
+      → IsText (text ++ more) × IsSure first (text ++ more) from
+  grown_by text more from is at room utf8 =
+      let whole : IsText (text ++ more) = record { utf8 = utf8; fits = omega (arith, length-append text more) } in
+      (whole, sure_grown text more from is whole at)
 
-  pub grown : {text piece new : List ℕ} (from : ℕ) → IsJoined edition text piece new → IsText text → IsSure first text from → length text + (length piece + 1) < 2 ^ 32 → IsUtf8 new → IsText new × IsSure first new from
+  pub grown : {text piece new : List ℕ} (from : ℕ) → IsJoined edition text piece new → IsText text → IsSure first text from
+      → length text + (length piece + 1) < 2 ^ 32 → IsUtf8 new → IsText new × IsSure first new from
   grown {text} {piece} from (the.touching touch) is at room utf8 = grown_by text piece from is at (omega arith) utf8
   grown {text} {piece} from (the.spaced apart parted) is at room utf8 = grown_by text (codes " " ++ piece) from is at (omega arith) utf8
   grown {text} {piece} from (the.on_a_line apart spaced parted) is at room utf8 = grown_by text (codes "\n" ++ piece) from is at (omega arith) utf8

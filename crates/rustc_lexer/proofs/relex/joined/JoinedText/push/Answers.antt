@@ -1,5 +1,4 @@
-use Rattle.std.proofs.Common.{◌+◌, ◌^◌, ◌<◌, arith, length, subst, string_bytes, chars, List, ℕ}
-use Rattle.std.proofs.lemmas.Grind.{common_steps}
+use Rattle.std.proofs.Common.{◌≡◌, arith, subst, string_bytes, chars, List, ℕ}
 use Rattle.std.proofs.lemmas.Str.{IsUtf8-string_bytes}
 use Rattle.rustc_lexer.specs.Answers.{first_in, tokens_of}
 use Rattle.rustc_lexer.specs.Joined.{AreClosed, AreInseparable, Joined, RunsOn}
@@ -17,13 +16,20 @@ returns-then-not-append_separated-clause-closed c =
 
 pub sure_later-self-inside-requires : goal.sure_later-self-inside-requires
 sure_later-self-inside-requires c =
-    let g = grown c.self.inside.edition c.self.inside.sure (rw c.reserve.ensures.bytes at (c.append_separated.ensures.joined c.if-not-append_separated.false)) c.self.invariant.0 c.self.invariant.1 (omega arith) (IsUtf8-string_bytes c.append_separated.new.text) in
+    let g = grown c.self.inside.edition c.self.inside.sure (rw c.reserve.ensures.bytes at
+    (c.append_separated.ensures.joined c.if-not-append_separated.false)) c.self.invariant.0 c.self.invariant.1 (omega arith)
+    (IsUtf8-string_bytes c.append_separated.new.text) in
     rw c.as_str.ensures.value record { fits = g.0.fits; sure = g.1 }
 
 pub invariant_of-self-2 : goal.invariant_of-self-2
 invariant_of-self-2 c =
-    let g = grown c.self.inside.edition c.self.inside.sure (rw c.reserve.ensures.bytes at (c.append_separated.ensures.joined c.if-not-append_separated.false)) c.self.invariant.0 c.self.invariant.1 (omega arith) (IsUtf8-string_bytes c.append_separated.new.text) in
-    (g.0, subst (λ (xs : List ℕ). IsSure (first_in c.self.inside.edition) xs c.sure_later-self-inside.result) c.as_str.ensures.value c.sure_later-self-inside.ensures)
+    let g = grown c.self.inside.edition c.self.inside.sure (rw c.reserve.ensures.bytes at
+    (c.append_separated.ensures.joined c.if-not-append_separated.false)) c.self.invariant.0 c.self.invariant.1 (omega arith)
+    (IsUtf8-string_bytes c.append_separated.new.text) in (
+      g.0,
+      subst (λ (xs : List ℕ). IsSure (first_in c.self.inside.edition) xs c.sure_later-self-inside.result) c.as_str.ensures.value
+          c.sure_later-self-inside.ensures,
+    )
 
 pub returns-clause-only : goal.returns-clause-only
 returns-clause-only c = grind (arith, common_steps, joined-only)
