@@ -142,17 +142,26 @@ fn append_separated(text: &mut String, sure: usize, edition: Edition, piece: &st
 /// Appends the separator and the piece if the tokens stay so. Returns whether it did. There is room for them.
 fn append(text: &mut String, sure: usize, edition: Edition, separator: &str, piece: &str) -> bool {
     let at = text.as_str().len();
+    put(text, separator, piece);
+    let stay = parts(text.as_str(), sure, at, separator.len(), edition);
+    if !stay {
+        text.truncate(at);
+    }
+    stay
+}
+
+/// Appends both texts. There is room for them.
+fn put(text: &mut String, separator: &str, piece: &str) {
     let put_separator = text.push_str(separator);
     // There is room, so neither of them allocates.
     debug_assert!(put_separator.is_ok());
     let put_piece = text.push_str(piece);
     debug_assert!(put_piece.is_ok());
-    let whole = text.as_str();
-    let stay = is_seam(&whole[at..], separator.len(), edition) && stays(whole, sure, at, edition);
-    if !stay {
-        text.truncate(at);
-    }
-    stay
+}
+
+/// Returns whether the `len` bytes from `at` on keep the texts before and after them apart.
+fn parts(text: &str, sure: usize, at: usize, len: usize, edition: Edition) -> bool {
+    is_seam(&text[at..], len, edition) && stays(text, sure, at, edition)
 }
 
 /// Returns whether the tokens before `at` are the first ones of the whole text, too. Those before `sure` are.
