@@ -7,9 +7,7 @@ pub mod FrontAndBack
 pub mod Heads
 pub mod InCommon
 pub mod KeptBounds
-pub mod KeptEdits
 pub mod KeptFront
-pub mod Layouts
 pub mod Lists
 pub mod ManyTokens
 pub mod Offsets

@@ -15,9 +15,10 @@ use Rattle.rustc_lexer.specs.Classes.{IsText}
 use Rattle.rustc_lexer.specs.Partition.{Layout}
 use Rattle.rustc_lexer.specs.means.Document.{AreKeptOf, IsPut, edit_change}
 use Rattle.rustc_lexer.proofs.lemmas.edits.Lists.{apply-last, none}
-use Rattle.rustc_lexer.proofs.lemmas.edits.KeptEdits.{put_by}
+use Rattle.rustc_lexer.proofs.lemmas.edits.DocumentEdits.{put_by}
 
-pub order-last : (text : List ℕ) (from : ℕ) (es : List Edit) (e : Edit) → AreInOrder text from (es ++ e ∷ []) ↔ (AreInOrder text from es × (stop_of_last from es ≤ e.start) × IsInside text e.start e.stop)
+pub order-last : (text : List ℕ) (from : ℕ) (es : List Edit) (e : Edit)
+    → AreInOrder text from (es ++ e ∷ []) ↔ (AreInOrder text from es × (stop_of_last from es ≤ e.start) × IsInside text e.start e.stop)
 order-last text from [] e = (λ are. (tt, are.0, are.1), λ is. (is.1, is.2, tt))
 order-last text from (f ∷ es) e =
     let rest = order-last text f.stop es e in
@@ -39,7 +40,8 @@ all-last text from [] e = grind (arith, common_steps, append-nil)
 all-last text from (f ∷ es) e = grind (arith, common_steps, all-last text f.stop es e, append_assoc)
 
 -- one more of them: what they make so far is a text, and its length stops at the greatest number
-pub made-last : (text : List ℕ) (es : List Edit) (e : Edit) (last len next : ℕ) → IsUtf8 text → IsUtf8 (with_all text 0 es) → last ≡ stop_of_last 0 es → IsCharBoundary text last
+pub made-last : (text : List ℕ) (es : List Edit) (e : Edit) (last len next : ℕ) → IsUtf8 text → IsUtf8 (with_all text 0 es) → last ≡ stop_of_last 0 es
+    → IsCharBoundary text last
     → len ≡ min (2 ^ 64 - 1) (length (with_all text 0 es)) → last ≤ e.start → IsInside text e.start e.stop → IsUtf8 e.insert.now
     → next ≡ min (2 ^ 64 - 1) (len + (e.start - last) + length e.insert.now)
     → IsUtf8 (with_all text 0 (es ++ e ∷ [])) × (next ≡ min (2 ^ 64 - 1) (length (with_all text 0 (es ++ e ∷ []))))

@@ -88,12 +88,14 @@ made_change {text} {insert} {new} {change} e =
     let short : length front ≡ change.start = length-take-le change.start text (omega (arith, inside.start_le_stop, inside.stop_inside)) in
     let back_utf8 : IsUtf8 back = IsUtf8-drop text change.old_stop e.is_text.utf8 inside.stop_boundary in
     let next : length (front ++ insert) ≡ change.new_stop = omega (arith, length-append front insert, short, e.new_stop) in
-    let stop_boundary : IsCharBoundary new change.new_stop = subst (IsCharBoundary new) next (IsCharBoundary-at_seam new (front ++ insert) back (e.made ∙ sym (append_assoc front insert back)) back_utf8) in
+    let stop_boundary : IsCharBoundary new change.new_stop =
+    subst (IsCharBoundary new) next (IsCharBoundary-at_seam new (front ++ insert) back (e.made ∙ sym (append_assoc front insert back)) back_utf8) in
     record {
       inserted = record {
         start_le_stop = (edited e).start_le_new;
         stop_inside = stop_boundary.0;
-        start_boundary = subst (IsCharBoundary new) short (IsCharBoundary-at_seam new front (insert ++ back) e.made (IsUtf8-append insert _ e.inserted back_utf8));
+        start_boundary = subst (IsCharBoundary new) short
+            (IsCharBoundary-at_seam new front (insert ++ back) e.made (IsUtf8-append insert _ e.inserted back_utf8));
         stop_boundary = stop_boundary;
       };
       start_le_old = inside.start_le_stop;

@@ -44,7 +44,8 @@ edited {text} {insert} {new} {edit} e =
       start_le_new = omega (arith, e.new_stop);
       len = omega (arith, long, e.new_stop, inside.stop_inside);
       front = ap (take start) e.made ∙ take_at front (insert ++ back) start first;
-      back = rw (e.made, e.new_stop, sym (drop-drop (length insert) start (front ++ (insert ++ back))), drop_at front (insert ++ back) start first) (drop_at insert back (length insert) refl);
+      back = rw (e.made, e.new_stop, sym (drop-drop (length insert) start (front ++ (insert ++ back))), drop_at front (insert ++ back) start first)
+          (drop_at insert back (length insert) refl);
       text_is = record {
         utf8 = rw e.made (IsUtf8-append _ _ (IsUtf8-take text start e.is_text.utf8 inside.start_boundary)
             (IsUtf8-append _ _ e.inserted (IsUtf8-drop text edit.old_stop e.is_text.utf8 inside.stop_boundary)));
@@ -107,7 +108,8 @@ module _ {first : List ℕ → Token} (law : IsGrammar first) {text insert new :
       let has : has_two text offset edit.start ≡ true = two (omega arith) in
       let before : offset < edit.start = has_two-before text offset edit.start has in
       let middle : IsUtf8 (take (edit.start - offset) (drop offset text)) =
-      IsUtf8-between text offset edit.start e.is_text.utf8 (omega arith) (IsCharBoundary-from_drop text offset cut.inside cut.past.utf8) e.is_edit.inside.start_boundary in
+      IsUtf8-between text offset edit.start e.is_text.utf8 (omega arith)
+      (IsCharBoundary-from_drop text offset cut.inside cut.past.utf8) e.is_edit.inside.start_boundary in
       tokens_local law (suc k) text new e.is_text (edited e).text_is few (has_two-agree text new offset edit.start middle (edited e).front has)
 
   -- past the edit both texts have the same rest
@@ -120,7 +122,8 @@ module _ {first : List ℕ → Token} (law : IsGrammar first) {text insert new :
       ∙ (ap (drop n) (edited e).back ∙ (drop-drop n edit.old_stop text ∙ ap (λ q. drop q text) there)))
 
   -- the meeting: from a bound past the edit that, moved back, is a bound of the old text, the tokens are the old ones
-  pub met_rest : (j i : ℕ) → edit.new_stop ≤ bound (tokens_by first new) j → bound (tokens_by first text) i + edit.new_stop ≡ bound (tokens_by first new) j + edit.old_stop
+  pub met_rest : (j i : ℕ) → edit.new_stop ≤ bound (tokens_by first new) j
+      → bound (tokens_by first text) i + edit.new_stop ≡ bound (tokens_by first new) j + edit.old_stop
       → drop j (tokens_by first new) ≡ drop i (tokens_by first text)
   met_rest j i past met =
       let same : drop (bound (tokens_by first new) j) new ≡ drop (bound (tokens_by first text) i) text =

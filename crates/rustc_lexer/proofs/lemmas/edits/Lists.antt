@@ -47,7 +47,8 @@ module _ (layout : List ℕ → Layout) where
   abbrev IsSteppedBy : List ℕ → Edit → ℕ → ℕ → Type 0
   IsSteppedBy text e before after = IsStepped layout text e.start e.stop e.insert.now before after
 
-  stepped-last : (text : List ℕ) (es : List Edit) (e : Edit) (before between after : ℕ) → AreStepped layout text es before between → IsSteppedBy (apply_list text es) e between after
+  stepped-last : (text : List ℕ) (es : List Edit) (e : Edit) (before between after : ℕ) → AreStepped layout text es before between
+      → IsSteppedBy (apply_list text es) e between after
       → AreStepped layout text (es ++ e ∷ []) before after
   stepped-last text [] e before between after are is = (after, subst (λ (k : ℕ). IsSteppedBy text e k after) are is, refl)
   stepped-last text (f ∷ es) e before between after are is = (are.0, are.1, stepped-last (applied text f) es e are.0 between after are.2 is)
@@ -66,11 +67,13 @@ module _ (layout : List ℕ → Layout) where
 
 -- one more edit keeps no more
 module _ (layout : List ℕ → Layout) (r : Relexed) where
-  least-last : (text : List ℕ) (es : List Edit) (e : Edit) (f b front back next_front next_back : ℕ) → next_front ≡ min front r.kept_front → next_back ≡ min back r.kept_back
-      → AreLeast layout text es f b front back → IsRelexed layout (apply_list text es) e.start e.stop e.insert.now r → AreLeast layout text (es ++ e ∷ []) f b next_front next_back
+  least-last : (text : List ℕ) (es : List Edit) (e : Edit) (f b front back next_front next_back : ℕ) → next_front ≡ min front r.kept_front
+      → next_back ≡ min back r.kept_back
+      → AreLeast layout text es f b front back → IsRelexed layout (apply_list text es) e.start e.stop e.insert.now r
+      → AreLeast layout text (es ++ e ∷ []) f b next_front next_back
   least-last text [] e f b front back next_front next_back front_is back_is are is = grind (arith, common_steps)
   least-last text (d ∷ es) e f b front back next_front next_back front_is back_is are is =
-      (are.0, are.1, least-last (applied text d) es e (min f are.0.kept_front) (min b are.0.kept_back) front back next_front next_back front_is back_is are.2 is)
+      (are.0, are.1, least-last (applied text d) es e (min f are.0.kept_front) (min b are.0.kept_back) front back _ _ front_is back_is are.2 is)
 
   pub least-more : (text now : List ℕ) (es : List Edit) (n f b front back next_front next_back : ℕ) → n < length es → now ≡ apply_list text (take n es) → next_front ≡ min front r.kept_front → next_back ≡ min back r.kept_back → AreLeast layout text (take n es) f b front back
       → IsRelexed layout now (get_or es n none).start (get_or es n none).stop (get_or es n none).insert.now r → AreLeast layout text (take (n + 1) es) f b next_front next_back
@@ -91,7 +94,8 @@ greatest-of layout text (e ∷ es) f b front back are =
     let later = greatest-of layout (applied text e) es (min f are.0.kept_front) (min b are.0.kept_back) front back are.2 in
     (are.0 ∷ later.0, (are.1, later.1), greatest-next (λ c. c.kept_front) are.0 later.0 f front later.2, greatest-next (λ c. c.kept_back) are.0 later.0 b back later.3)
 
-edits-last : (text : List ℕ) (es : List Edit) (e : Edit) → AreEdits text es → IsEdit (apply_list text es) e.start e.stop e.insert.now → AreEdits text (es ++ e ∷ [])
+edits-last : (text : List ℕ) (es : List Edit) (e : Edit) → AreEdits text es → IsEdit (apply_list text es) e.start e.stop e.insert.now
+    → AreEdits text (es ++ e ∷ [])
 edits-last text [] e are is = (is, tt)
 edits-last text (d ∷ es) e are is = (are.0, edits-last (applied text d) es e are.1 is)
 
@@ -154,7 +158,9 @@ module _ {S : Type 0} {first : S → List ℕ → Token} {year steps : S → ℕ
         → AreMadeTo first year steps layout old edits next new
     made_more {X} {r} {new} next i count_is front_is back_is = grind (arith, common_steps, edits-more, text-more, stepped-more)
 
-    pub kept_more : {X : Type 0} {r : Relexed} {new : Held S} (next : Made) → AreKeptTo layout old edits made mid → IsEdited {E = X} first year steps layout mid edit.start edit.stop edit.insert.now (Ok r) new → next.count ≡ at + 1 → next.front ≡ min made.front r.kept_front → next.back ≡ min made.back r.kept_back
+    pub kept_more : {X : Type 0} {r : Relexed} {new : Held S} (next : Made) → AreKeptTo layout old edits made mid
+        → IsEdited {E = X} first year steps layout mid edit.start edit.stop edit.insert.now (Ok r) new → next.count ≡ at + 1
+        → next.front ≡ min made.front r.kept_front → next.back ≡ min made.back r.kept_back
         → AreKeptTo layout old edits next new
     kept_more {X} {r} {new} next kept i count_is front_is back_is = record {
       stay = stay-more next.front next.back front_is back_is kept.stay (counts_stay mid.tokens new.tokens r.kept_front r.lexed r.kept_back i.kept.all i.kept.front i.kept.back);
@@ -163,10 +169,12 @@ module _ {S : Type 0} {first : S → List ℕ → Token} {year steps : S → ℕ
     }
 
     -- an edit that is refused keeps the tokens
-    pub kept_refused : {X : Type 0} {x : X} {new : Held S} → AreKeptTo layout old edits made mid → IsEdited {E = X} first year steps layout mid edit.start edit.stop edit.insert.now (Err x) new → AreKeptTo layout old edits made new
+    pub kept_refused : {X : Type 0} {x : X} {new : Held S} → AreKeptTo layout old edits made mid
+        → IsEdited {E = X} first year steps layout mid edit.start edit.stop edit.insert.now (Err x) new → AreKeptTo layout old edits made new
     kept_refused {X} {x} {new} kept i = record { stay = subst (λ ts. StayAtEnds old.tokens ts made.front made.back) (sym i.same_tokens) kept.stay; least = kept.least }
 
-    pub made_refused : {X T : Type 0} {x : X} {new : Held S} → IsEdited {E = X} first year steps layout mid edit.start edit.stop edit.insert.now (Err x) new → AreMade {T = T} first year steps layout old edits (Err (Memory at)) new
+    pub made_refused : {X T : Type 0} {x : X} {new : Held S} → IsEdited {E = X} first year steps layout mid edit.start edit.stop edit.insert.now (Err x) new
+        → AreMade {T = T} first year steps layout old edits (Err (Memory at)) new
     made_refused {X} {T} {x} {new} i =
         made_stop (Memory at) refl few (subst (λ xs. IsEdit xs edit.start edit.stop edit.insert.now) (sym i.same_text) is) i.same_text
         i.from_scratch (i.grammar ∙ m.grammar) (i.number ∙ m.number)

@@ -56,7 +56,8 @@ pub front_of : (tokens buffer filled : List Token) (count : ℕ) → count ≤ l
 front_of tokens buffer filled count few is = grind (arith, common_steps, length-take-le, map-id, length-append, take_at)
 
 -- the tokens of a block stand behind those that were lexed before it
-lexed_block : {first : List ℕ → Token} (law : IsGrammar first) (text left : List ℕ) (items block : List Token) (offset count bytes : ℕ) → IsText text → IsLexedTo first text items offset → left ≡ drop offset text → count ≤ length (tokens_by first left)
+lexed_block : {first : List ℕ → Token} (law : IsGrammar first) (text left : List ℕ) (items block : List Token) (offset count bytes : ℕ) → IsText text
+    → IsLexedTo first text items offset → left ≡ drop offset text → count ≤ length (tokens_by first left)
     → block ≡ take count (tokens_by first left) → bytes ≡ bound (tokens_by first left) count → IsLexedTo first text (items ++ block) (offset + bytes)
 lexed_block law text left items block offset count bytes is at here few block_is bytes_is =
     grind (arith, common_steps, at_bound, length-append, length-take-le, length-drop, take-add, bound-shift)

@@ -45,7 +45,8 @@ module _ {first : List ℕ → Token} (law : IsGrammar first) (text : List ℕ) 
       positive (suc n) e some = omega arith
 
   -- the offset is it where no more text is left, or no two characters follow the next one
-  pub sure_stop : (offset : ℕ) → IsSureTo first text offset → (offset < length text → has_two text (offset + (first (drop offset text)).len) (length text) ≡ false)
+  pub sure_stop : (offset : ℕ) → IsSureTo first text offset
+      → (offset < length text → has_two text (offset + (first (drop offset text)).len) (length text) ≡ false)
       → IsSettled text (tokens_by first text) offset
   sure_stop offset at out = settled_at (record { index = length at.items; offset = offset })
       (kept_is text (tokens_by first text) (length text) is.utf8 (cuts law text is) (length at.items) at.to.number (rw (sym at.to.offset_is) at.two) next)

@@ -16,8 +16,7 @@ use Rattle.rustc_lexer.specs.laws.Cuts.{at_bound, tokens-cons}
 use Rattle.rustc_lexer.proofs.lemmas.edits.Bounds.{bound_mono, rises}
 use Rattle.rustc_lexer.proofs.lemmas.edits.FrontAndBack.{bound-same, edited, has_two-before, met_rest}
 use Rattle.rustc_lexer.proofs.lemmas.edits.KeptFront.{bound-shift}
-use Rattle.rustc_lexer.proofs.lemmas.edits.Layouts.{bare, counts_of}
-use Rattle.rustc_lexer.proofs.lemmas.edits.OneAnswer.{ends_meet, front_same, kept_new}
+use Rattle.rustc_lexer.proofs.lemmas.edits.OneAnswer.{ends_meet, front_same, kept_new, bare, counts_of}
 
 module _ (old new : List Token) (old_stop new_stop number offset : ℕ) (back : TokenStart) (offset_is : offset ≡ bound new number) (bound_is : IsBound old back) where
   meets_here : number ≤ length new → (new_stop ≤ offset) × (offset + old_stop ≡ back.offset + new_stop) → IsMeeting (bare old) (bare new) old_stop new_stop number (length old - back.index)
@@ -85,7 +84,9 @@ module _ {first : List ℕ → Token} (law : IsGrammar first) {before lengths in
       | inl less ↦ less
       | inr over ↦ elim (eq-or-lt_of_le u.inside) [
         | inl end ↦ absurd (true≢false (sym (u.met.1 (0, subst (λ n. Meets n 0) (sym end) (ends_meet law is.edit_of))) ∙ out))
-        | inr few ↦ omega (arith, over, u.offset, rises law text (edited is.edit_of).text_is (known at) few, (at_bound law (suc (known at)) text (edited is.edit_of).text_is).inside)
+        | inr few ↦
+            let cut = at_bound law (suc (known at)) text (edited is.edit_of).text_is in
+            omega (arith, over, u.offset, rises law text (edited is.edit_of).text_is (known at) few, cut.inside)
       ]
     ]
 

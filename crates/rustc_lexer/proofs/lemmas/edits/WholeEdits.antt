@@ -13,11 +13,10 @@ use Rattle.rustc_lexer.specs.Partition.{Layout}
 use Rattle.rustc_lexer.specs.Tokens.{tokens_by}
 use Rattle.rustc_lexer.specs.means.Document.{body_change, body_insert, by_head, counted, IsHeadIn, TakesFew, tokens_of_head, head_put}
 use Rattle.rustc_lexer.proofs.lemmas.edits.KeptFront.{kept_none}
-use Rattle.rustc_lexer.proofs.lemmas.edits.OneAnswer.{relexed_is}
+use Rattle.rustc_lexer.proofs.lemmas.edits.OneAnswer.{relexed_is, counts_of, meets, meets_behind}
 use Rattle.rustc_lexer.proofs.lemmas.edits.FrontAndBack.{edited, IsEdited, same_rest}
 use Rattle.rustc_lexer.proofs.lemmas.edits.Bounds.{count-cons, rest_is}
 use Rattle.rustc_lexer.proofs.lemmas.edits.Heads.{body_at, boundary_of, head_stays, heads_are, whole_head}
-use Rattle.rustc_lexer.proofs.lemmas.edits.Layouts.{counts_of, meets, meets_behind}
 use Rattle.std.proofs.lemmas.Bool.{cases_lt}
 use Rattle.std.proofs.lemmas.List.{drop-take, drop-append-le}
 use Rattle.std.proofs.lemmas.Str.{IsUtf8-drop, IsUtf8-take, IsCharBoundary-from_drop}
@@ -40,7 +39,8 @@ by_max P a b pa pb = grind (arith, common_steps, cases_lt, le-max_right, max-le,
 by_past : (P : ℕ → Type 0) (a b : ℕ) → P a → P b → P (a + (b - a))
 by_past P a b pa pb = grind (arith, common_steps, cases_lt)
 
-module _ {first : List ℕ → Token} (law : IsGrammar first) {text insert made : List ℕ} {edit : Change} (e : IsEditOf text edit insert made) (from to : ℕ) (old_at : IsCharBoundary text from) (now_at : IsCharBoundary made to) where
+module _ {first : List ℕ → Token} (law : IsGrammar first) {text insert made : List ℕ} {edit : Change} (e : IsEditOf text edit insert made) (from to : ℕ)
+    (old_at : IsCharBoundary text from) (now_at : IsCharBoundary made to) where
   abbrev body : List ℕ
   body = drop to made
 
@@ -92,10 +92,12 @@ module _ {first : List ℕ → Token} (law : IsGrammar first) {text insert made 
 
   back_utf8 : IsUtf8 (drop old_end text)
   back_utf8 = by_max (λ n. IsUtf8 (drop (edit.old_stop + n) text)) (from - edit.old_stop) (to - edit.new_stop)
-      (by_past (λ n. IsUtf8 (drop n text)) edit.old_stop from (IsUtf8-drop text edit.old_stop e.is_text.utf8 e.is_edit.inside.stop_boundary) (IsUtf8-drop text from e.is_text.utf8 old_at))
+      (by_past (λ n. IsUtf8 (drop n text)) edit.old_stop from (IsUtf8-drop text edit.old_stop e.is_text.utf8 e.is_edit.inside.stop_boundary)
+      (IsUtf8-drop text from e.is_text.utf8 old_at))
       (let m : ℕ = to - edit.new_stop in
       let there : edit.new_stop + m - edit.new_stop + edit.old_stop ≡ edit.old_stop + m = omega arith in
-      let same : drop (edit.new_stop + m) made ≡ drop (edit.old_stop + m) text = same_rest law e (edit.new_stop + m) (omega arith) ∙ ap (λ n. drop n text) there in
+      let same : drop (edit.new_stop + m) made ≡ drop (edit.old_stop + m) text =
+      same_rest law e (edit.new_stop + m) (omega arith) ∙ ap (λ n. drop n text) there in
       subst IsUtf8 same (by_past (λ n. IsUtf8 (drop n made)) edit.new_stop to
       (subst IsUtf8 (sym ed.back) (IsUtf8-drop text edit.old_stop e.is_text.utf8 e.is_edit.inside.stop_boundary))
       (IsUtf8-drop made to ed.text_is.utf8 now_at)))
@@ -133,7 +135,8 @@ module _ {first : List ℕ → Token} (law : IsGrammar first) {text insert made 
       }
 
   -- what an edit is to the body
-  pub made_body : (kept : Bool) → (kept ≡ true → (from ≡ to) × (from ≤ edit.start)) → IsMadeOf first (drop from text) lengths (body_change kept from to edit) (body_insert kept (body_change kept from to edit) insert body) body
+  pub made_body : (kept : Bool) → (kept ≡ true → (from ≡ to) × (from ≤ edit.start))
+      → IsMadeOf first (drop from text) lengths (body_change kept from to edit) (body_insert kept (body_change kept from to edit) insert body) body
   made_body true decided = kept_body (decided refl).0 (decided refl).1
   made_body false decided = front_body
 
@@ -176,7 +179,8 @@ module _ {first : List ℕ → Token} (law : IsGrammar first) {layout : (List �
   put = body_insert kept (change kept) insert (drop now.body made)
 
   pub body_made : IsMadeOf first (drop was.body text) (map (λ (t : Token). t.len) (tokens_by first (drop was.body text))) (change kept) put (drop now.body made)
-  body_made = made_body law e was.body now.body (boundary_of was_is) (boundary_of now_is) kept (λ stays. let s = decided.0 stays in (ap (λ (h : Head). h.body) s.0, s.1))
+  body_made = made_body law e was.body now.body (boundary_of was_is) (boundary_of now_is) kept
+      (λ stays. let s = decided.0 stays in (ap (λ (h : Head). h.body) s.0, s.1))
 
   -- how far the body's change goes past the edit
   abbrev more : Bool → ℕ
@@ -198,17 +202,21 @@ module _ {first : List ℕ → Token} (law : IsGrammar first) {layout : (List �
   abbrev all_of : Bool → Relexed → Relexed
   all_of stays x = counted stays (length (tokens_of_head was)) (length (tokens_of_head now)) x
 
-  module _ {stays : Bool} (p : IsPast stays) (r x : Relexed) (is_body : InBody stays x) (sum : r.kept_front + r.lexed ≡ length new.head + (x.kept_front + x.lexed)) (back_is : r.kept_back ≡ x.kept_back) where
+  module _ {stays : Bool} (p : IsPast stays) (r x : Relexed) (is_body : InBody stays x)
+      (sum : r.kept_front + r.lexed ≡ length new.head + (x.kept_front + x.lexed)) (back_is : r.kept_back ≡ x.kept_back) where
     meeting : IsMeeting old new edit.old_stop edit.new_stop (r.kept_front + r.lexed) r.kept_back
     meeting = rw (back_is, sum) (meets old new edit.old_stop edit.new_stop (more stays) (change stays).old_stop
         (change stays).new_stop p.old_more p.new_more p.least _ _ is_body.meeting)
 
-    none_before : (number back : ℕ) → (length new.head ≤ number → x.kept_front ≤ number - length new.head) → number < r.kept_front + r.lexed → IsMeeting old new edit.old_stop edit.new_stop number back → ⊥
+    none_before : (number back : ℕ) → (length new.head ≤ number → x.kept_front ≤ number - length new.head) → number < r.kept_front + r.lexed
+        → IsMeeting old new edit.old_stop edit.new_stop number back → ⊥
     none_before number back near less m =
         is_body.none_before (number - length new.head) back (near m.past_head) (omega (arith, sum, m.past_head, less))
-        (meets_behind old new edit.old_stop edit.new_stop (more stays) (change stays).old_stop (change stays).new_stop p.old_more p.new_more p.least number back m)
+        (meets_behind old new edit.old_stop edit.new_stop (more stays) (change stays).old_stop
+        (change stays).new_stop p.old_more p.new_more p.least number back m)
 
-  relexed_to : (stays : Bool) → kept ≡ stays → IsPast stays → (x : Relexed) → InBody stays x → IsRelexedTo old new text edit.start edit.old_stop edit.new_stop (all_of stays x)
+  relexed_to : (stays : Bool) → kept ≡ stays → IsPast stays → (x : Relexed) → InBody stays x
+      → IsRelexedTo old new text edit.start edit.old_stop edit.new_stop (all_of stays x)
   relexed_to true same p x is_body =
       let k = (head_stays was_is now_is first edit.start refl refl).1 (decided.0 same) in
       let begin : was.body + 0 ≡ body_in old = omega (arith, body_at was_is first) in
@@ -252,7 +260,8 @@ module _ {first : List ℕ → Token} (law : IsGrammar first) {layout : (List �
       by_kept false same is_body = omega (arith, is_body.kept (omega arith, refl, refl), kept_none (drop was.body text) old.body)
 
   -- an edit that is refused takes no more steps than it would have
-  pub few_by : (before after : ℕ) → ((x : Relexed) → Found x → after ≤ before + x.lexed) → TakesFew (layout first) text edit.start edit.old_stop insert before after
+  pub few_by : (before after : ℕ) → ((x : Relexed) → Found x → after ≤ before + x.lexed)
+      → TakesFew (layout first) text edit.start edit.old_stop insert before after
   few_by before after few =
       let counts = relexed_is law body_made.edit_of in
       let found = (counts_of (part_by first) body_made.edit_of counts.0).1 counts.1 in
@@ -266,8 +275,10 @@ pub body_is : {first : List ℕ → Token} (law : IsGrammar first) (before inser
 body_is {first} law before insert text edit old now kept change e old_head now_head decided change_is = rw change_is record {
   keeps = (λ k. stays.1 (decided.0 k), λ s. decided.1 (stays.0 s));
   put = inserted;
-  made_of = subst (λ n. IsMadeOf first (drop n before) (map (λ (t : Token). t.len) (tokens_by first (drop n before))) ch inserted (drop (body_start text) text)) old_head.end_is
-      (subst (λ n. IsMadeOf first (drop old.body before) (map (λ (t : Token). t.len) (tokens_by first (drop old.body before))) ch inserted (drop n text)) now_head.end_is
+  made_of = subst (λ n. IsMadeOf first (drop n before) (map (λ (t : Token). t.len) (tokens_by first (drop n before))) ch inserted (drop (body_start text) text))
+      old_head.end_is
+      (subst (λ n. IsMadeOf first (drop old.body before) (map (λ (t : Token). t.len) (tokens_by first (drop old.body before))) ch inserted (drop n text))
+      now_head.end_is
       (body_made law e old_is now_is decided));
   counts_kept = counts true;
   counts_new = counts false;
@@ -291,7 +302,8 @@ body_is {first} law before insert text edit old now kept change e old_head now_h
     Counted : Bool → List Token → List Token → Relexed → Type 0
     Counted k fronts new_fronts r = IsRelexed (whole_by first) before edit.start edit.old_stop insert (counted k (length fronts) (length new_fronts) r)
 
-    counts : (k : Bool) → kept ≡ k → (r : Relexed) → IsRelexed (part_by first) (drop (body_start before) before) ch.start ch.old_stop inserted r → Counted k (head_tokens before) (head_tokens text) r
+    counts : (k : Bool) → kept ≡ k → (r : Relexed) → IsRelexed (part_by first) (drop (body_start before) before) ch.start ch.old_stop inserted r
+        → Counted k (head_tokens before) (head_tokens text) r
     counts k same r x =
         let there = subst (λ n. IsRelexed (part_by first) (drop n before) ch.start ch.old_stop inserted r) (sym old_head.end_is) x in
         subst (λ k. Counted k (head_tokens before) (head_tokens text) r) same (subst (λ ts. Counted kept ts (head_tokens text) r) old_head.tokens_are

@@ -28,5 +28,5 @@ returns-then-not-stand_before-clause-front g c = λ old ts is near.
     let next = next_stands g.T.Measured.bytes c.args.tokens.now is c.utf8.text c.requires.boundary.0 c.loop-at.at at.0 c.loop-at-test.true _ _ c.len.ensures
     c.index-tokens-at.is _ c.stand_before.ensures.late c.stand_before.ensures.two in
     let number = kept_is old ts c.args.start is.utf8 is.cuts c.loop-at.at.index at.0.0 (rw (sym at.0.1) at.1)
-        (λ few. rw (sym next.0.1) (sym next.1 ∙ c.if-not-stand_before.true)) in
+    (λ few. rw (sym next.0.1) (sym next.1 ∙ c.if-not-stand_before.true)) in
     (number, at.0, at.1)

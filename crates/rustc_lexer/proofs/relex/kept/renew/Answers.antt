@@ -4,9 +4,8 @@ use Rattle.rustc_lexer.specs.declared.relex.relexing.Relexed.{Relexed}
 use Rattle.rustc_lexer.specs.{Token}
 use Rattle.rustc_lexer.specs.Kept.{layout_in}
 use Rattle.rustc_lexer.specs.Partition.{tokens_by, tokens_in}
-use Rattle.rustc_lexer.proofs.lemmas.edits.DocumentEdits.{bounds_move, counted_are, counted_few, made_here, made_read, near_behind, new_are, new_behind, old_behind}
+use Rattle.rustc_lexer.proofs.lemmas.edits.DocumentEdits.{bounds_move, counted_are, counted_few, made_here, made_read, near_behind, new_are, new_behind, old_behind, left_back, refused}
 use Rattle.rustc_lexer.proofs.lemmas.edits.FrontAndBack.{edited}
-use Rattle.rustc_lexer.proofs.lemmas.edits.KeptEdits.{left_back, refused}
 use Rattle.rustc_lexer.proofs.lemmas.edits.WholeEdits.{few_by, relexed_as, steps_by}
 use Rattle.rustc_lexer.proofs.lemmas.edits.ByLengths.{made_change}
 use Rattle.rustc_lexer.proofs.lemmas.edits.UnderWay.{few_lexed}

@@ -6,12 +6,13 @@ use Rattle.rustc_lexer.specs.Relexing.{IsEditOf}
 use Rattle.rustc_lexer.specs.Edits.{IsEdit, apply}
 use Rattle.rustc_lexer.specs.Kept.{IsEdited, layout_in}
 use Rattle.rustc_lexer.proofs.lemmas.edits.FrontAndBack.{edited, put_back}
-use Rattle.rustc_lexer.proofs.lemmas.edits.KeptEdits.{few_none, put_by, refused}
+use Rattle.rustc_lexer.proofs.lemmas.edits.DocumentEdits.{few_none, put_by, refused}
 use Rattle.rustc_lexer.proofs.lemmas.edits.ByLengths.{made_change}
 use Rattle.rustc_lexer.proofs.relex.lexed.Lexed.edit.Goals as goal
 
 -- what was taken out is put back
-put_back_from : {text insert read removed put now : List ℕ} {edit : Change} → IsEditOf text edit insert put → removed ≡ slice_range read edit.start edit.old_stop → read ≡ text → now ≡ apply put edit.start edit.new_stop removed → now ≡ text
+put_back_from : {text insert read removed put now : List ℕ} {edit : Change} → IsEditOf text edit insert put
+    → removed ≡ slice_range read edit.start edit.old_stop → read ≡ text → now ≡ apply put edit.start edit.new_stop removed → now ≡ text
 put_back_from e removed_is read_is again = again ∙ rw (removed_is, read_is) (put_back e)
 
 pub renew-requires-clause-fits : goal.renew-requires-clause-fits
@@ -36,13 +37,17 @@ put_in_place-requires-in-Err-clause-inside g c =
 pub invariant_of-self-in-Err : goal.invariant_of-self-in-Err
 invariant_of-self-in-Err g c =
     let p = put_by c.self.invariant c.utf8.insert (subst (λ h. IsEdit h.text c.args.start c.args.stop c.args.insert.now) (sym c.self.view_is) c.requires.accepted) c.put_in_place.ensures.text c.reserve.ensures.bytes in
-    let same : string_bytes c.put_in_place-in-Err.new.text ≡ string_bytes c.self.inside.kept.text = put_back_from p.edit_of (c.as_str.ensures.value ∙ (c.in_ok-removed.ensures.ok ∙ c.range.ensures.value)) c.deref.ensures (rw c.renew.ensures.text at c.put_in_place-in-Err.ensures.text) in
+    let same : string_bytes c.put_in_place-in-Err.new.text ≡ string_bytes c.self.inside.kept.text =
+    put_back_from p.edit_of (c.as_str.ensures.value ∙ (c.in_ok-removed.ensures.ok ∙ c.range.ensures.value)) c.deref.ensures
+    (rw c.renew.ensures.text at c.put_in_place-in-Err.ensures.text) in
     rw same (c.in-Err.ensures.renewed _ _ p).0
 
 pub returns : goal.returns
 returns g c =
     let p = put_by c.self.invariant c.utf8.insert (subst (λ h. IsEdit h.text c.args.start c.args.stop c.args.insert.now) (sym c.self.view_is) c.requires.accepted) c.put_in_place.ensures.text c.reserve.ensures.bytes in
-    let same : string_bytes c.put_in_place-in-Err.new.text ≡ string_bytes c.self.inside.kept.text = put_back_from p.edit_of (c.as_str.ensures.value ∙ (c.in_ok-removed.ensures.ok ∙ c.range.ensures.value)) c.deref.ensures (rw c.renew.ensures.text at c.put_in_place-in-Err.ensures.text) in
+    let same : string_bytes c.put_in_place-in-Err.new.text ≡ string_bytes c.self.inside.kept.text =
+    put_back_from p.edit_of (c.as_str.ensures.value ∙ (c.in_ok-removed.ensures.ok ∙ c.range.ensures.value)) c.deref.ensures
+    (rw c.renew.ensures.text at c.put_in_place-in-Err.ensures.text) in
     subst (λ h. IsEdited g.S.Stepper.grammar g.S.Stepper.number g.S.Stepper.count (layout_in g.E.Extent.whole (g.S.Stepper.grammar h.stepper)) h c.args.start c.args.stop c.args.insert.now (Err c.in-Err.refused) (record { text = string_bytes c.put_in_place-in-Err.new.text; tokens = c.renew.new.kept.tokens.items; stepper = c.renew.new.kept.stepper })) c.self.view_is (rw same (c.in-Err.ensures.renewed _ _ p).1)
 
 pub returns-in_err-removed : goal.returns-in_err-removed

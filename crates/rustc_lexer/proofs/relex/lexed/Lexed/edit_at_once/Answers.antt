@@ -5,7 +5,7 @@ use Rattle.rustc_lexer.specs.declared.relex.edit_list.EditStop.TheVariants.{Memo
 use Rattle.rustc_lexer.specs.Edits.{start_of_first, stop_of_last, with_all}
 use Rattle.rustc_lexer.specs.Kept.{IsEdited, layout_in}
 use Rattle.rustc_lexer.proofs.lemmas.edits.AtOnce.{at_once_none, none_by_one, one_by_one, put_at_once}
-use Rattle.rustc_lexer.proofs.lemmas.edits.KeptEdits.{few_none, made_as, refused}
+use Rattle.rustc_lexer.proofs.lemmas.edits.DocumentEdits.{few_none, made_as, refused}
 use Rattle.rustc_lexer.proofs.relex.lexed.Lexed.edit_at_once.Goals as goal
 
 pub returns-then-is_empty-clause-accepted : goal.returns-then-is_empty-clause-accepted

@@ -16,7 +16,8 @@ pub returns-then-edit-change-clause-stop : goal.returns-then-edit-change-clause-
 returns-then-edit-change-clause-stop c =
     let is = c.loop-at.invariant in
     let next = λ (all : AreInOrder c.args.text.now 0 (take (c.loop-at.at + 1) c.args.edits.now)).
-    (order-last c.args.text.now 0 (take c.loop-at.at c.args.edits.now) (get_or c.args.edits.now c.loop-at.at none)).0 (rw (take_more c.args.edits.now c.loop-at.at none c.loop-at-test.true) at all) in
+    (order-last c.args.text.now 0 (take c.loop-at.at c.args.edits.now) (get_or c.args.edits.now c.loop-at.at none)).0
+    (rw (take_more c.args.edits.now c.loop-at.at none c.loop-at-test.true) at all) in
     let not : AreInOrder c.args.text.now 0 (take (c.loop-at.at + 1) c.args.edits.now) → ⊥ = λ all. elim c.then-edit-change.branch [
       | then-edit-change-via-then-edit-change w ↦ omega (arith, w.if-edit-change.true, (next all).1, is.3)
       | then-edit-change-via-else-edit-change+then-not-contains_range w ↦ grind (arith, common_steps, w.contains_range.ensures, w.if-not-contains_range.true, (next all).2)
