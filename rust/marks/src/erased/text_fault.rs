@@ -58,19 +58,13 @@ fn has_bare_return(bytes: &[u8]) -> bool {
 
 /// Returns whether a byte comes that is no newline.
 fn goes_on(bytes: &[u8]) -> bool {
-    !bytes.is_empty() && bytes[0] != b'\n'
+    matches!(bytes, [byte, ..] if *byte != b'\n')
 }
 
 /// Returns the fault of a text in which a character turns the direction, or `None` if none does.
 fn direction_fault(text: &str) -> Option<Fault> {
     // Most texts: few characters are outside of ASCII.
-    if text.is_ascii() {
-        return None;
-    }
-    if has_turn(text) {
-        return Some(Fault::TextDirectionCodepoint);
-    }
-    None
+    (!text.is_ascii() && has_turn(text)).then_some(Fault::TextDirectionCodepoint)
 }
 
 /// Returns whether a text has a character that turns the direction.
@@ -91,10 +85,7 @@ const NEVER_RAW: [&str; 10] = [
 
 /// Returns what is wrong with a raw name, or `None` if nothing is.
 fn raw_name_fault(text: &str) -> Option<Fault> {
-    if NEVER_RAW.contains(&text) {
-        return Some(Fault::RawKeyword);
-    }
-    None
+    NEVER_RAW.contains(&text).then_some(Fault::RawKeyword)
 }
 
 /// Returns what is wrong with a literal whose suffix begins at this place, or `None` if nothing is.
@@ -130,17 +121,11 @@ fn digits_of(suffix_start: usize, text: &[u8]) -> &[u8] {
 
 /// Returns what is wrong with digits, of which the base has these, or `None` if nothing is.
 fn digit_fault(these: &[u8], digits: &[u8]) -> Option<Fault> {
-    if run_of(these, digits) == digits.len() {
-        return None;
-    }
-    Some(Fault::InvalidDigit)
+    (run_of(these, digits) != digits.len()).then_some(Fault::InvalidDigit)
 }
 
 /// Returns what is wrong with the suffix of a literal, or `None` if nothing is.
 fn suffix_fault(suffix_start: usize, text: &[u8]) -> Option<Fault> {
     let suffix = &text[suffix_start.min(text.len())..];
-    if suffix.len() == 1 && suffix[0] == b'_' {
-        return Some(Fault::UnderscoreSuffix);
-    }
-    None
+    (suffix.len() == 1 && suffix[0] == b'_').then_some(Fault::UnderscoreSuffix)
 }
