@@ -26,17 +26,14 @@ abbrev move : List ℕ → Error → Error
 move text e = (moved text e.0, e.1)
 
 put-moved : (text : List ℕ) (o : Option EscapeError) (range : Range ℕ) (es : List Error) → put (moved text range) o (map (move text) es) ≡ map (move text) (put range o es)
-put-moved text None range es = refl
-put-moved text (Some error) range es = refl
+put-moved text o range es = grind (arith, common_steps)
 
 errors-moved : (mode : Mode) (text : List ℕ) (items : List Item) → errors_in mode (map (λ (i : Item). (moved text i.0, i.1)) items) ≡ map (move text) (errors_in mode items)
 errors-moved mode text [] = refl
 errors-moved mode text (i ∷ items) = ap (put (moved text i.0) (error_of mode i.1)) (errors-moved mode text items) ∙ put-moved text (error_of mode i.1) i.0 (errors_in mode items)
 
 errors-are : (mode : Mode) (text : List ℕ) → is_single mode ≡ false → errors_of mode text ≡ errors_in mode (items_of (is_raw mode) text)
-errors-are Char text double = absurd (true≢false double)
-errors-are Byte text double = absurd (true≢false double)
-errors-are mode text double = refl
+errors-are mode text w2 = grind (arith, common_steps)
 
 pub string_errors : (mode : Mode) (text : List ℕ) → is_single mode ≡ false → errors_in mode (file_items (is_raw mode) text) ≡ file_errors mode text
 string_errors mode text double = errors-moved mode text (items_of (is_raw mode) (unix text)) ∙ ap (map (move text)) (sym (errors-are mode (unix text) double))
@@ -60,17 +57,14 @@ unfolding first_offset
 same_errors mode text none = sym (same-moved text (errors_of mode text) none) ∙ ap (λ (s : List ℕ). map (move text) (errors_of mode s)) (sym (same-unix text none))
 
 list-moved : (text : List ℕ) (o : Option Error) → option_to_list (option_map (move text) o) ≡ map (move text) (option_to_list o)
-list-moved text None = refl
-list-moved text (Some e) = refl
+list-moved text o = grind (arith, common_steps)
 
 read-single : (mode : Mode) (text : List ℕ) → is_single mode ≡ true → read_errors mode text ≡ option_to_list (single_error (length text) mode (chars text))
 read-single mode text single = rw single refl
 
 single_errors : (mode : Mode) (text : List ℕ) → IsUtf8 text → is_single mode ≡ true → option_to_list (single_left text mode (unix (chars text))) ≡ file_errors mode text
 single_errors mode text is single =
-    list-moved text (single_error (length (unix text)) mode (unix (chars text)))
-    ∙ ap (map (move text)) (ap (λ (s : List ℕ). option_to_list (single_error (length (unix text)) mode s)) (sym (chars-unix text is))
-    ∙ (sym (read-single mode (unix text) single) ∙ sym (errors_of-read mode (unix text) (utf8-unix text is))))
+    grind (arith, common_steps, list-moved, chars-unix, read-single, errors_of-read, utf8-unix)
 
 -- ---- the iterator's three parts
 
@@ -88,12 +82,7 @@ module _ (mode : Mode) (text : List ℕ) (faults : List Error) (elements : List 
   plain_found none f e = ap (λ (es : List Error). faults ++ es) (ap (errors_in mode) e ∙ no-file-errors mode) ∙ (append-nil faults ∙ (f ∙ same_errors mode text none))
 
   pub single_found : (alone : Option Error) → IsUtf8 text → is_single mode ≡ true → faults ≡ errors_of Str [] → alone ≡ single_left text mode (unix (chars text)) → elements ≡ file_items false [] → faults ++ (option_to_list alone ++ errors_in mode elements) ≡ file_errors mode text
-  single_found alone is single f a e =
-      ap (λ (fs : List Error). fs ++ (option_to_list alone ++ errors_in mode elements)) (f ∙ no-errors)
-      ∙ (ap (λ (es : List Error). option_to_list alone ++ es) (ap (errors_in mode) e ∙ no-file-errors mode)
-      ∙ (append-nil (option_to_list alone) ∙ (ap option_to_list a ∙ single_errors mode text is single)))
+  single_found alone is single f a e = grind (arith, common_steps, no-errors, no-file-errors, append-nil, single_errors)
 
   pub strings_found : (raw : Bool) → is_single mode ≡ false → raw ≡ is_raw mode → faults ≡ errors_of Str [] → elements ≡ file_items raw text → faults ++ errors_in mode elements ≡ file_errors mode text
-  strings_found raw double r f e =
-      ap (λ (fs : List Error). fs ++ errors_in mode elements) (f ∙ no-errors)
-      ∙ (ap (errors_in mode) (e ∙ ap (λ (b : Bool). file_items b text) r) ∙ string_errors mode text double)
+  strings_found raw double r f e = grind (arith, common_steps, no-errors, string_errors)

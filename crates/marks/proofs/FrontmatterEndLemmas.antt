@@ -49,8 +49,7 @@ all-past : (p : ℕ → Bool) (u v : Chars) → AreAll p (u ++ v) → AreAll p v
 all-past p u v all = (and_parts _ _ (sym (list_all-append p u v) ∙ all)).1
 
 front-stops : (p : ℕ → Bool) (w next : Chars) → NextIsNot p (w ++ next) → NextIsNot p w
-front-stops p [] next stop = refl
-front-stops p (c ∷ w) next stop = stop
+front-stops p w next w3 = grind (arith, common_steps)
 
 is_of-is : (ds : List ℕ) (b : ℕ) → is_of ds b ≡ is_among ds b
 is_of-is [] b = refl

@@ -1,4 +1,6 @@
 -- What it takes for a word to be no keyword of a sort.
+use Rattle.std.proofs.Common.{arith}
+use Rattle.std.proofs.lemmas.Grind.{common_steps}
 use Rattle.std.proofs.Common.{rules, ◌≡◌, ℕ, false, List, [], ◌∷◌, refl}
 use Rattle.std.specs.List.{AllByRecursion}
 use Rattle.std.proofs.lemmas.Slice.Eq.{bytes_eq-Decides}
@@ -12,13 +14,8 @@ IsNoneOf word words = AllByRecursion (λ keyword. word ≡ keyword → ⊥) word
 
 is_out : (words : List (List ℕ)) (word : List ℕ) → IsNoneOf word words → false ≡ is_in words word
 is_out [] word others = refl
-is_out (keyword ∷ words) word others =
-    search (rules, bytes_eq-Decides, others.0, is_out words word others.1)
+is_out (keyword ∷ words) word others = grind (arith, common_steps, bytes_eq-Decides, is_out words word others.1)
 
 pub has_not : (sort : KeywordKind) (edition : Edition) (word : List ℕ) → IsNoneOf word (made sort E2015)
     → IsNoneOf word (made sort E2018) → IsNoneOf word (made sort E2024) → false ≡ has sort edition word
-has_not sort E2015 word first second third = is_out (made sort E2015) word first
-has_not sort E2018 word first second third = search (is_out _ word first, is_out _ word second)
-has_not sort E2021 word first second third = search (is_out _ word first, is_out _ word second)
-has_not sort E2024 word first second third =
-    search (is_out _ word first, is_out _ word second, is_out _ word third)
+has_not sort edition word w3 w4 w5 = grind (arith, common_steps, is_out)

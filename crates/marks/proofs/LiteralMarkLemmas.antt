@@ -37,8 +37,7 @@ use Rattle.marks.proofs.LiteralLemmas.{string_found}
 use Rattle.marks.proofs.MovedLemmas.{place-end, place-le}
 
 fault-told : (mode : Mode) (error : EscapeError) → error_of mode (Fault error) ≡ Some error
-fault-told Char error = refl
-fault-told mode error = refl
+fault-told mode error = grind (arith, common_steps)
 
 -- an item of a text, at its place in the file
 abbrev move : List ℕ → Item → Item
@@ -72,8 +71,7 @@ module _ (mode : Mode) (begin close : ℕ) where
 
   -- what is told of an item past the stretch stays so
   past : (at to : ℕ) (look : Option Look) (ss : List Stretch) (i : Item) → at ≤ to → to ≤ place i → IsTold ss i → IsTold (stretch at to look ++ ss) i
-  past at to None ss i low high told = told
-  past at to (Some look) ss i low high told = grind (arith, common_steps, nat_tests)
+  past at to look ss i w5 w6 w7 = grind (arith, common_steps, nat_tests)
 
   more : (at to : ℕ) (look : Option Look) (items : List Item) (ss : List Stretch) → at < to → All (λ (i : Item). (to ≤ place i) ⊎ IsTold (stretch at to look ++ ss) i) items
       → All (IsReported begin (errors_in mode items)) (stretch at to look) → Marks to items ss → Marks at items (stretch at to look ++ ss)
@@ -93,11 +91,7 @@ module _ (mode : Mode) (begin close : ℕ) where
 
   -- an item that begins before all stretches is told by an earlier one
   earlier : (at : ℕ) (i : Item) (items : List Item) (ss : List Stretch) → place i < at → Marks at items ss → Marks at (i ∷ items) ss
-  earlier at i items ss less marks = record {
-    order = marks.order;
-    wrong = more-errors i.0 (error_of mode i.1) (errors_in mode items) ss marks.wrong;
-    told = All-cons (λ (x : Item). (place x < at) ⊎ IsTold ss x) i items (inl less) marks.told;
-  }
+  earlier at i items ss less marks = grind (arith, common_steps, more-errors)
 
   -- an escape is not wrong
   fine : (errors : List Error) (at to : ℕ) → All (IsReported begin errors) (stretch at to (Some Escape))
@@ -184,11 +178,7 @@ module _ (mode : Mode) (begin close : ℕ) where
     element from e w items rest = one (move s (item from e w)) (map (move s) items) (λ _. rest.begins) (further-on from w items rest)
 
     claims : {raw : Bool} {from : ℕ} {t : List ℕ} {items : List Item} → AreItems raw from t items → Moved from items
-    claims (the.nothing {raw} {from}) = record {
-      begins = All-nil (λ (x : Item). file_place s from ≤ x.0.start);
-      marks = λ at le fit. subst (Marks at []) (append-nil (gap at close)) (skipped at close [] [] le (All-nil (λ (x : Item). close ≤ place x))
-          (record { order = omega arith; wrong = All-nil (IsReported begin []); told = All-nil (λ (x : Item). (place x < close) ⊎ IsTold [] x) }));
-    }
+    claims (the.nothing {raw} {from}) = grind (arith, common_steps, append-nil, skipped)
     claims (the.element {from} {element = e} {w} {items} is other are) = element from e w items (claims are)
     claims (the.raw_element {from} {c} {element = e} {items} is are) = element from e (c ∷ []) items (claims are)
     claims (the.line_end {from} {next} {items} space all stops are) =

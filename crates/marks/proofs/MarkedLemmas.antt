@@ -50,10 +50,7 @@ no_mark text utf8 none = rw none (IsCharBoundary-start text utf8)
 -- so a text is as it was, and so it is on a page
 module _ (edition : Edition) (text rest : List ℕ) (n : ℕ) (is : n ≡ mark_len text) (past : rest ≡ drop n text) (same : without_marks (document_parts edition rest) ≡ rest) where
   pub text_is : without_marks (text_parts edition text) ≡ text
-  text_is =
-      let is_rest : rest ≡ drop (mark_len text) text = past ∙ ap (λ (k : ℕ). drop k text) is in
-      let left = subst (λ (bs : List ℕ). without_marks (document_parts edition bs) ≡ bs) is_rest same in
-      ap (λ (bs : List ℕ). take (mark_len text) text ++ bs) left ∙ take-append-drop (mark_len text) text
+  text_is = grind (arith, common_steps, take-append-drop)
 
   pub page_is : unescaped (untagged (marked Html edition text)) ≡ text
   page_is = ap unescaped (shows (text_parts edition text)) ∙ (unescaped_escaped (without_marks (text_parts edition text)) ∙ text_is)
@@ -79,9 +76,4 @@ module _ {W : Type 0} (took : W → List ℕ → W → Type 0) where
   -- so the byte order mark and the document are the text
   pub writes_whole : {T E : Type 0} (r : Result T E) (format : Format) (edition : Edition) (text mark rest : List ℕ) (n : ℕ) (w v : W) → n ≡ mark_len text → mark ≡ take (n - 0) text → rest ≡ drop n text
       → OnOk r (WritesInCalls took w (with_marks format (Own Plain mark ∷ document_parts edition rest)) v) → OnOk r (WritesInCalls took w (marked format edition text) v)
-  writes_whole r format edition text mark rest n w v is front past wrote =
-      let all : n - 0 ≡ n = omega arith in
-      let is_mark : mark ≡ take (mark_len text) text = front ∙ ap (λ (k : ℕ). take k text) (all ∙ is) in
-      let is_rest : rest ≡ drop (mark_len text) text = past ∙ ap (λ (k : ℕ). drop k text) is in
-      subst (λ (m : List ℕ). OnOk r (WritesInCalls took w (with_marks format (Own Plain m ∷ document_parts edition (drop (mark_len text) text))) v)) is_mark
-      (subst (λ (s : List ℕ). OnOk r (WritesInCalls took w (with_marks format (Own Plain mark ∷ document_parts edition s)) v)) is_rest wrote)
+  writes_whole r format edition text mark rest n w v is front past wrote = grind (arith, common_steps)

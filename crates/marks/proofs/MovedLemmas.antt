@@ -47,12 +47,7 @@ place-le s i j le = elim (cases_lt i j) [ inl less ↦ let l = place_less s i j 
 
 place-boundary : (s : List ℕ) (i : ℕ) → IsCharBoundary (unix s) i → IsCharBoundary s (place s i)
 place-boundary s i at =
-    let l = place-le s i (length (unix s)) at.0 in
-    let e = place-end s in
-    (omega arith, λ less big. elim (place-byte s i) [ inl same ↦ let r = at.1 (before less e) (omega (arith, same)) in omega (arith, same) | inr line ↦ absurd (omega arith) ])
-  where
-    before : place s i < length s → place s (length (unix s)) ≡ length s → i < length (unix s)
-    before less e = elim (cases_lt i (length (unix s))) [ inl low ↦ low | inr high ↦ let low = at.0 in let same : i ≡ length (unix s) = omega arith in absurd (omega (arith, ap (place s) same)) ]
+    grind (arith, common_steps, place-le s i (length (unix s)) at.0, place-end s, place-byte, cases_lt)
 
 placed-moved : (s : List ℕ) (items : List Item) → ArePlaced (unix s) items → ArePlaced s (map (λ (i : Item). (moved s i.0, i.1)) items)
 placed-moved s [] are = All-nil (IsPlaced s)
@@ -75,8 +70,7 @@ same-order : (s : List ℕ) (begin i j : ℕ) → nat_lt (begin + place s i) (be
 same-order s begin i j = grind (arith, common_steps, nat_tests, place_less s i j, place-le s j i)
 
 stretch-moved : (begin : ℕ) (s : List ℕ) (start end : ℕ) (look : Option Look) → stretch (begin + place s start) (begin + place s end) look ≡ map (moved_stretch begin s) (stretch start end look)
-stretch-moved begin s start end None = refl
-stretch-moved begin s start end (Some look) = refl
+stretch-moved begin s start end look = grind (arith, common_steps)
 
 pub stretches-moved : (mode : Mode) (begin : ℕ) (s : List ℕ) (at close : ℕ) (items : List Item) → stretches_from mode begin (begin + place s at) (begin + place s close) (map (λ (i : Item). (moved s i.0, i.1)) items) ≡ map (moved_stretch begin s) (stretches_from mode 0 at close items)
 stretches-moved mode begin s at close [] = grind (arith, common_steps, same-order s begin at close)
@@ -89,18 +83,13 @@ abbrev kind : Option Error → Option EscapeError
 kind o = option_map (λ (e : Error). e.1) o
 
 alone-error : {U : Type 0} (meant : Result U EscapeError) (left : List ℕ) (total : ℕ) → kind (alone_error total (result_err meant) left) ≡ result_err (alone meant left)
-alone-error (Ok unit) [] total = refl
-alone-error (Ok unit) (c ∷ left) total = refl
-alone-error (Err error) left total = refl
+alone-error meant left total = grind (arith, common_steps)
 
 literal-error : {U : Type 0} (meaning : Element → Result U EscapeError) (mode : Mode) (total : ℕ) (s : List ℕ) → ((e : Element) → result_err (meaning e) ≡ error_of mode e) → kind (single_error total mode s) ≡ result_err (literal meaning s)
-literal-error meaning mode total [] same = refl
-literal-error meaning mode total (c ∷ s) same =
-    ap (λ (o : Option EscapeError). kind (alone_error total o (single c s).1)) (sym (same (single c s).0)) ∙ alone-error (meaning (single c s).0) (single c s).1 total
+literal-error meaning mode total s w4 = grind (arith, common_steps, alone-error)
 
 kind-moved : (text : List ℕ) (o : Option Error) → kind (option_map (λ (e : Error). (moved text e.0, e.1)) o) ≡ kind o
-kind-moved text None = refl
-kind-moved text (Some e) = refl
+kind-moved text o = grind (arith, common_steps)
 
 single-error : {U : Type 0} (meaning : Element → Result U EscapeError) (mode : Mode) (text : List ℕ) → IsUtf8 text → ((e : Element) → result_err (meaning e) ≡ error_of mode e)
     → kind (single_left text mode (unix (chars text))) ≡ result_err (without_range (single_of meaning (chars (unix text))))

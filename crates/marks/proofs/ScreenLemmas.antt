@@ -20,11 +20,7 @@ symbol_shown c = grind (arith, common_steps, nat_tests, far)
 
 -- by whether a character is a control character, a tab, a newline, a carriage return, and at the end of a line
 kept : (k t n r e : Bool) → (k && not (t || n || (r && e))) ≡ false → (not k || t || n || r) ≡ true
-kept false t n r e is = refl
-kept true true n r e is = refl
-kept true false true r e is = refl
-kept true false false true e is = refl
-kept true false false false e is = absurd (true≢false is)
+kept k t n r e w5 = grind (arith, common_steps)
 
 one_shown : (class : Class) (c : ℕ) (cs : List ℕ) → is_shown (seen_char class c cs) ≡ true
 one_shown class c cs = elim (cases_Bool (is_control c && not (is_layout class c cs))) [

@@ -40,22 +40,16 @@ pub ruleset single_lemmas = (alone-one, alone-more, chars-some)
 -- ---- the answers of the grammar
 
 only-value : {U : Type 0} (total : ℕ) (meant : Result U EscapeError) (left : List ℕ) → without_range (only total meant left) ≡ alone meant left
-only-value total (Ok unit) [] = refl
-only-value total meant left = refl
+only-value total meant left = grind (arith, common_steps)
 
 only-error : {U : Type 0} (total : ℕ) (meant : Result U EscapeError) (left : List ℕ) → result_err (only total meant left) ≡ alone_error total (result_err meant) left
-only-error total (Ok unit) [] = refl
-only-error total meant left = refl
+only-error total meant left = grind (arith, common_steps)
 
 pub literal_read : {U : Type 0} (meaning : Element → Result U EscapeError) (s : List ℕ) → without_range (single_of meaning s) ≡ literal meaning s
-literal_read meaning [] = refl
-literal_read meaning (c ∷ s) = only-value _ (meaning (single c s).0) (single c s).1
+literal_read meaning s = grind (arith, common_steps, only-value)
 
 error-is : {U : Type 0} (meaning : Element → Result U EscapeError) (mode : Mode) (total : ℕ) (s : List ℕ) → ((e : Element) → result_err (meaning e) ≡ error_of mode e) → result_err (read_single total meaning s) ≡ single_error total mode s
-error-is meaning mode total [] same = refl
-error-is meaning mode total (c ∷ s) same = only-error total (meaning (single c s).0) (single c s).1 ∙ ap (λ (o : Option EscapeError). alone_error total o (single c s).1) (same (single c s).0)
+error-is meaning mode total s w4 = grind (arith, common_steps, only-error)
 
 pub errors_of-read : (mode : Mode) (text : List ℕ) → IsUtf8 text → errors_of mode text ≡ read_errors mode text
-errors_of-read Char text is = ap option_to_list (error-is char_of Char _ (chars text) (λ e. refl) ∙ ap (λ (n : ℕ). single_error n Char (chars text)) (ap length (encodes-chars text is)))
-errors_of-read Byte text is = ap option_to_list (error-is byte_of Byte _ (chars text) (λ e. refl) ∙ ap (λ (n : ℕ). single_error n Byte (chars text)) (ap length (encodes-chars text is)))
-errors_of-read mode text is = refl
+errors_of-read mode text w2 = grind (arith, common_steps, error-is, encodes-chars)

@@ -19,8 +19,7 @@ use Rattle.rustc_literal_escaper.proofs.AnswerLemmas.{errors_of-read}
 
 -- an element has at least one character
 pub some : {special next : List ℕ} {e : Element} {w : List ℕ} → IsElementBefore special next e w → 1 ≤ length w
-some (g.plain out) = omega arith
-some is = omega arith
+some w0 = grind (arith, common_steps)
 
 one : (b : Bool) (i : Item) → length (if b then i ∷ [] else []) ≤ 1
 one b i = grind (arith, common_steps)

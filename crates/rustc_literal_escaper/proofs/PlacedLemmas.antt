@@ -53,13 +53,7 @@ module _ (text : List ℕ) (is : IsUtf8 text) where
   }
 
   item-placed : (from : ℕ) (e : Element) (w next : List ℕ) → 0 < bytes w → Stands from (w ++ next) → IsPlaced text (item from e w)
-  item-placed from e w next some here =
-      let there = past from w next here in
-      record {
-        not_empty = omega arith;
-        start = subst (IsCharBoundary text) (sym here.at) (boundary here.before (w ++ next) here.whole);
-        end = subst (IsCharBoundary text) (sym there.at) (boundary there.before next there.whole);
-      }
+  item-placed from e w next some here = grind (arith, common_steps, past from w next here, boundary)
 
   if-placed : (b : Bool) (i : Item) → IsPlaced text i → ArePlaced text (if b then i ∷ [] else [])
   if-placed b i placed = either (ArePlaced text) b (i ∷ []) [] (All-cons (IsPlaced text) i [] placed (All-nil (IsPlaced text))) (All-nil (IsPlaced text))
@@ -94,16 +88,13 @@ abbrev Tells : Element → Type 0
 Tells e = is_warning e ≡ false
 
 escape-tells : {next : List ℕ} {e : Element} {w : List ℕ} → IsEscapeBefore next e w → Tells e
-escape-tells g.nul = refl
-escape-tells is = refl
+escape-tells w0 = grind (arith, common_steps)
 
 element-tells : {special next : List ℕ} {e : Element} {w : List ℕ} → IsElementBefore special next e w → Tells e
-element-tells (g.escape is) = escape-tells is
-element-tells is = refl
+element-tells w0 = grind (arith, common_steps, escape-tells)
 
 raw-tells : {e : Element} {c : ℕ} → IsRawElement e c → Tells e
-raw-tells (g.plain out) = refl
-raw-tells g.bare = refl
+raw-tells w0 = grind (arith, common_steps)
 
 -- ---- a line end that is skipped
 

@@ -113,8 +113,6 @@ raw_simple mode src left raw passes none =
 -- an empty string that may have escapes
 pub none_in_empty : (mode : Mode) (src : List ℕ) → false ≡ is_raw mode → false ≡ is_single mode → length src ≡ 0 → read_errors mode src ≡ []
 none_in_empty mode src escaped double none =
-    let empty : chars src ≡ [] = ap chars (nil_from_length src none) ∙ chars-nil in
-    sym (read_errors-strings mode src (items_of false src) double (ap (λ (r : Bool). items_of r src) escaped))
-    ∙ (ap (λ (xs : List ℕ). errors_in mode (items_from (front_by false) (length src) xs)) empty ∙ ap (errors_in mode) (nothing (front_by false) (length src)))
+    grind (arith, common_steps, nil_from_length, chars-nil, read_errors-strings, nothing)
 
 pub ruleset whole_lemmas = (all_more, all_none, digit_ascii, first_digit, no_digits, number_ends)

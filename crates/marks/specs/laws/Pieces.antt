@@ -32,12 +32,10 @@ bytes-some : (c : ℕ) (w : Chars) → 0 < bytes (c ∷ w)
 bytes-some c w = omega (arith, length-le-encodes (c ∷ w))
 
 fault-look : (mode : Mode) (error : EscapeError) → element_look mode (Fault error) ≡ Some (Wrong error)
-fault-look Char error = refl
-fault-look mode error = refl
+fault-look mode error = grind (arith, common_steps)
 
 none-look : (e : Element) → look_by None e ≡ (if is_plain e then None else Some Escape)
-none-look (Plain c) = refl
-none-look e = refl
+none-look e = grind (arith, common_steps)
 
 looks-read : {mode : Mode} {e : Element} {look : Option Look} → Looks mode e look → element_look mode e ≡ look
 looks-read (lit.wrong is) = rw is refl
@@ -62,10 +60,7 @@ pub record HasBoth (mode : Mode) (raw : Bool) (s : Chars) : Type 0 where
 
 -- white space is no escape, so it is an element by itself
 one-char : {special next : Chars} {e : Element} {w : Chars} → IsElementBefore special next e w → (c : ℕ) (t : Chars) → w ++ next ≡ c ∷ t → is_whitespace c ≡ true → next ≡ t
-one-char (the.plain out) c t is white = cc
-one-char (the.escape {w} at) c t is white = let slash : 92 ≡ c = cc in absurd (true≢false (sym white ∙ ap is_whitespace (sym slash)))
-one-char (the.unescaped in_it) c t is white = cc
-one-char the.bare c t is white = cc
+one-char w0 c t w3 w4 = grind (arith, common_steps)
 
 plain-space : (c : ℕ) → is_whitespace c ≡ true → is_passed_over c ≡ false → is_among (92 ∷ 13 ∷ 34 ∷ []) c ≡ false
 plain-space c white stays = grind (arith, common_steps, nat_tests)
@@ -100,10 +95,7 @@ module _ (mode : Mode) where
         all = (_, lit.more lit.none (lit.element is other (looks-some mode e (error_of mode e) refl)) rest.all.1);
         past = λ c t e white. subst (HasPieces mode false) (one-char is c t e white) rest.all;
       }
-  pieces-some (the.line_end {next} space all stops are) = record {
-    all = line-has space next all stops (pieces-some are);
-    past = λ c t e white. let slash : 92 ≡ c = cc in absurd (true≢false (sym white ∙ ap is_whitespace (sym slash)));
-  }
+  pieces-some (the.line_end {next} space all stops are) = grind (arith, common_steps, line-has, pieces-some are)
   pieces-some (the.raw_element {c} {next} {element = e} is are) =
       let rest = pieces-some are in
       record {
@@ -126,10 +118,7 @@ module _ (mode : Mode) (begin close : ℕ) where
 
   -- a second warning
   told-space : (at j : ℕ) (space next : Chars) (items : List Item) → begin + j < at → found at (space_warning j space next ++ items) ≡ found at items
-  told-space at j space [] items less = refl
-  told-space at j space (c ∷ next) items less = by_either (is_whitespace c)
-      (λ white. rw white (told at (item j (Fault UnskippedWhitespaceWarning) (line space ++ c ∷ [])) items less))
-      (λ quiet. rw quiet refl)
+  told-space at j space next items w5 = grind (arith, common_steps, told)
 
   -- the items of a piece w at the offset j
   record ReadsPiece (raw : Bool) (j : ℕ) (w next : Chars) (look : Option Look) (items : List Item) : Type 0 where
@@ -192,12 +181,10 @@ module _ (mode : Mode) (begin close : ℕ) where
       stops (c ∷ s) quiet = grind (arith, common_steps, nat_tests)
 
   gap-stretch : (at : ℕ) (g : Chars) → gap at (at + bytes g) ≡ stretches_at at (skipped g)
-  gap-stretch at [] = ap (λ (b : Bool). if b then stretch at (at + 0) (Some Escape) else []) (le-ltb at (at + 0) (omega arith))
-  gap-stretch at (c ∷ g) = ap (λ (b : Bool). if b then stretch at (at + bytes (c ∷ g)) (Some Escape) else []) (lt-ltb at (at + bytes (c ∷ g)) (let some = bytes-some c g in omega arith))
+  gap-stretch at g = grind (arith, common_steps, le-ltb, lt-ltb, bytes-some)
 
   past-gap : (at : ℕ) (g : Chars) (pieces : List Piece) → stretches_at at (skipped g ++ pieces) ≡ stretches_at at (skipped g) ++ stretches_at (at + bytes g) pieces
-  past-gap at [] pieces = ap (λ (n : ℕ). stretches_at n pieces) (omega arith)
-  past-gap at (c ∷ g) pieces = refl
+  past-gap at g pieces = grind (arith, common_steps)
 
   pub record Reads (raw : Bool) (i : ℕ) (s : Chars) (pieces : List Piece) : Type 0 where
     pub items : List Item

@@ -13,6 +13,11 @@ use Rattle.rustc_lexer.specs.means.Scan.{begins, next_is, run_len}
 pub cut : {A : Type 0} (j k : ℕ) (u s : List A) → j ≤ k → take k u ≡ take k s → take j u ≡ take j s
 cut j k u s le e = sym (take-take j k u le) ∙ (ap (take j) e ∙ take-take j k s le)
 
+pub past : (k : ℕ) (w s u : List ℕ) → take k u ≡ take k s → take k (w ++ u) ≡ take k (w ++ s)
+past k [] s u e = e
+past zero (c ∷ w) s u e = refl
+past (suc k) (c ∷ w) s u e = ap (λ (xs : List ℕ). c ∷ xs) (past k w s u (cut k (suc k) u s (omega arith) e))
+
 -- what is decided by the first characters of a text
 abbrev pub IsDecidedBy : {B : Type 0} → ℕ → (List ℕ → B) → Type 0
 IsDecidedBy k f = (s : List ℕ) → f (take k s) ≡ f s

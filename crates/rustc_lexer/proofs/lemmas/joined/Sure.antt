@@ -28,7 +28,9 @@ module _ (edition : Edition) where
   first = first_in edition
 
   pub sure_place : (text : List ℕ) (from : ℕ) → IsText text → IsSure first text from → IsCharBoundary text from
-  sure_place text from is at = grind (arith, common_steps, at_bound, IsCharBoundary-from_drop)
+  sure_place text from is at =
+      let cut : IsCutAt first text (tokens_by first text) at.number = at_bound law at.number text is in
+      subst (IsCharBoundary text) at.offset_is (IsCharBoundary-from_drop text (bound (tokens_by first text) at.number) cut.inside cut.past.utf8)
 
   -- two characters past an offset stay there
   two_more : (text more : List ℕ) (from : ℕ) → IsText text → IsCharBoundary text from → has_two text from (length text) ≡ true → has_two (text ++ more) from (length (text ++ more)) ≡ true

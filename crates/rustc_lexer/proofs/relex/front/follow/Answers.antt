@@ -1,6 +1,5 @@
-use Rattle.std.proofs.Common.{sym, ap, ◌∙◌, refl, arith, ◌-◌, ◌+◌, eqb-true, eq-eqb}
+use Rattle.std.proofs.Common.{arith, eqb-true, eq-eqb}
 use Rattle.std.proofs.lemmas.Grind.{common_steps}
-use Rattle.rustc_lexer.specs.Tokens.{bound}
 use Rattle.rustc_lexer.proofs.lemmas.edits.ByLengths.{as_many}
 use Rattle.rustc_lexer.proofs.relex.front.follow.Goals as goal
 
