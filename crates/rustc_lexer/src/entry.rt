@@ -190,7 +190,7 @@ impl<'a> Tokens<'a> {
 
     /// Returns the next token if the ends of runs determine it. A loop with a branch for these tokens is faster.
     #[inline(always)]
-    #[tactic(auto, using(crate::proofs::lemmas::tokens::Classified::takes_told, crate::proofs::lemmas::tokens::Classified::still, std::proofs::lemmas::Grind::common_steps))]
+    #[tactic(auto, using(crate::proofs::lemmas::tokens::Classified::told_lemmas, std::proofs::lemmas::Grind::common_steps))]
     pub(crate) fn told(&mut self) -> Option<Token>
         ensures { MatchOption result (self.new ≡ self.old)
             (λ token. TakesToken self.old token self.new) }

@@ -177,6 +177,7 @@ pub(crate) fn short_run_end<C: ByteClass>(bytes: &[u8]) -> usize
 
 /// Returns how many bytes at the front are in the class. Looks at `WIDTH` bytes at a time.
 #[inline(never)]
+#[tactic(auto, using(crate::proofs::lemmas::tokens::Kernels::run_lemmas, std::proofs::lemmas::Grind::common_steps))]
 fn run_end_by_lanes<C: ByteClass>(bytes: &[u8]) -> usize
     ensures value { result ≡ prefix_len C.passes bytes.now }
     ensures inside { result ≤ length bytes.now }

@@ -64,6 +64,7 @@ pub trait Stepper: Drop {
     ///
     /// This default takes one step after another. A stepper that can find many tokens at once has a body of its
     /// own.
+    #[tactic(auto, using(crate::proofs::lemmas::tokens::Buffers::written_to, std::proofs::lemmas::Grind::common_steps))]
     fn fill<R: FromToken>(&mut self, text: &str, end: usize, buffer: &mut [R]) -> (usize, usize)
         requires fits { Fits text.now }
         requires inside { end ≤ length text.now }

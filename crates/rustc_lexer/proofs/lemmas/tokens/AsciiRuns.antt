@@ -71,7 +71,8 @@ unfolding past
 run_over q p text left at out = sym (at.run ∙ run_ends p left at.utf8 out)
 
 -- neither a byte of the class is next, nor one that is not in ASCII
-none_next : (q p : ℕ → Bool) → IsPart q p → (left : List ℕ) → IsUtf8 left → next_is q left ≡ false → next_is is_wide left ≡ false → next_is p (chars left) ≡ false
+none_next : (q p : ℕ → Bool) → IsPart q p → (left : List ℕ) → IsUtf8 left → next_is q left ≡ false → next_is is_wide left ≡ false
+    → next_is p (chars left) ≡ false
 none_next q p part w3 is stops narrow = grind (arith, common_steps, chars-nil, ltb-true, chars-ascii)
 
 -- where the bytes of the class at the front of a text end, it may be cut, and the run of the class goes on from there

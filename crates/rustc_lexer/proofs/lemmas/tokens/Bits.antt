@@ -114,7 +114,8 @@ module _ (w s : ℕ) (fits : w < 2 ^ 64) (fits_too : s < 2 ^ 64) where
       high-stays (flip together) k h ∙ (bit-flip together (suc k) small h ∙ ap not (bit-or _ _ (suc k) ∙ ap₂ (λ a b. a || b) (both w) (both s)))
     where
       both : (x : ℕ) → bit (bit_and (x * 2 % 2 ^ 64) x) (suc k) ≡ (bit x k && bit x (suc k))
-      both x = bit-and (x * 2 % 2 ^ 64) x (suc k) ∙ ap (λ t. t && bit x (suc k)) (bit-shl_on x 1 (suc k) (omega arith) h ∙ ap (bit x) (let e : suc k - 1 ≡ k = omega arith in e))
+      both x = bit-and (x * 2 % 2 ^ 64) x (suc k) ∙ ap (λ t. t && bit x (suc k))
+          (bit-shl_on x 1 (suc k) (omega arith) h ∙ ap (bit x) (let e : suc k - 1 ≡ k = omega arith in e))
 
 -- ---- bits past an offset
 
@@ -133,7 +134,8 @@ lowest_is x some small = let low = bit_at-trailing_zeros w64 x some small in rec
 
 -- it is among the bits that may be set
 pub lowest_in : (x w : ℕ) → 0 < x → x < 2 ^ 64 → ((k : ℕ) → w ≤ k → bit x k ≡ false) → count_trailing_zeros 64 x < w
-lowest_in x w some small none = elim (cases_lt (count_trailing_zeros 64 x) w) [ inl near ↦ near | inr far ↦ absurd (true≢false (sym (lowest_is x some small).set ∙ none _ far)) ]
+lowest_in x w some small none = elim (cases_lt (count_trailing_zeros 64 x) w)
+    [ inl near ↦ near | inr far ↦ absurd (true≢false (sym (lowest_is x some small).set ∙ none _ far)) ]
 
 -- the mask of w bytes from `at` on
 module _ (p : ℕ → Bool) (bytes : List ℕ) (at w mask : ℕ) (inside : at + w ≤ length bytes) (e : mask ≡ mask_l (map p (chunk at w bytes))) where
@@ -146,7 +148,12 @@ module _ (p : ℕ → Bool) (bytes : List ℕ) (at w mask : ℕ) (inside : at + 
   -- its lowest bit
   pub mask_lowest : w ≤ 64 → 0 < mask → (count_trailing_zeros 64 mask < w) × IsLowest mask (count_trailing_zeros 64 mask)
   mask_lowest few some =
-      let small : mask < 2 ^ 64 = omega (arith, e, mask_l-mod (map p (chunk at w bytes)) 64 (omega (arith, length-map (chunk at w bytes) p, length-chunk at w bytes inside))) in
+      let small : mask < 2 ^ 64 = omega (
+        arith,
+        e,
+        mask_l-mod (map p (chunk at w bytes)) 64
+            (omega (arith, length-map (chunk at w bytes) p, length-chunk at w bytes inside)),
+      ) in
       (lowest_in mask w some small mask_past, lowest_is mask some small)
 
 -- ---- all bits that are set but the lowest

@@ -46,8 +46,10 @@ all_written written tokens buffer filled count is all = grind (arith, common_ste
 pub begun_more : (tokens : List Token) (count at end : ℕ) → at ≡ bound tokens count → at < end → ((k : ℕ) → k < count → bound tokens k < end) → (k : ℕ) → k < count + 1 → bound tokens k < end
 begun_more tokens count at end offset more begun k less = grind (arith, common_steps, cases_lt)
 
-pub written_to : {X : Type 0} (written : Token → X) (end : ℕ) (tokens : List Token) (buffer filled : List X) (count at : ℕ) → IsWritten written tokens buffer filled count → at ≡ bound tokens count → ((k : ℕ) → k < count → bound tokens k < end) → (count < length filled → end ≤ at) → IsFilledTo written end tokens buffer filled count
-written_to written end tokens buffer filled count at is offset begun done = grind (arith, common_steps, whole_buffer)
+pub written_to : {X : Type 0} (written : Token → X) (end : ℕ) (tokens : List Token) (buffer filled : List X) (count : ℕ)
+    → IsWritten written tokens buffer filled count → ((k : ℕ) → k < count → bound tokens k < end) → (count < length filled → end ≤ bound tokens count)
+    → IsFilledTo written end tokens buffer filled count
+written_to written end tokens buffer filled count is begun done = grind (arith, common_steps, whole_buffer)
 
 -- ---- where the tokens end in the text
 
@@ -100,7 +102,8 @@ shorter_left text left tokens parts buffer count e cut some_buffer some_text =
 
 -- ---- one token after another
 
-module _ (s at past : State) (count : ℕ) (token : Token) (there : at ≡ state_past count s) (left : tokens_left at ≡ drop count (tokens_left s)) (takes : TakesToken at token past) where
+module _ (s at past : State) (count : ℕ) (token : Token) (there : at ≡ state_past count s) (left : tokens_left at ≡ drop count (tokens_left s))
+    (takes : TakesToken at token past) where
   more_is : count + 1 ≡ suc count
   more_is = omega arith
 

@@ -26,15 +26,19 @@ module _ (stops : ℕ → Bool) (small : (b : ℕ) → stops b ≡ true → b < 
 
   -- no byte of another character stops
   char_passes : (c : ℕ) → stops c ≡ false → prefix_len others (encode_utf8 c) ≡ length (encode_utf8 c)
-  char_passes c f = prefix_len_is others (encode_utf8 c) (length (encode_utf8 c)) 0 (omega arith) (λ k l. not_from_false _ (false_from_ne_true _ (λ e. inside k l e))) (λ l. absurd (omega arith))
+  char_passes c f = prefix_len_is others (encode_utf8 c) (length (encode_utf8 c)) 0 (omega arith)
+      (λ k l. not_from_false _ (false_from_ne_true _ (λ e. inside k l e))) (λ l. absurd (omega arith))
     where
       inside : (k : ℕ) → k < length (encode_utf8 c) → stops (get_or (encode_utf8 c) k 0) ≡ true → ⊥
       inside k l e = true≢false (sym e ∙ (ap stops (sym (inside_one c [] (encode_utf8 c) k (sym (append-nil (encode_utf8 c))) l (small _ e))) ∙ f))
 
-  char_past : (c : ℕ) (rest : List ℕ) → stops c ≡ false → drop (position_or_len stops (encode_utf8 c ++ rest)) (encode_utf8 c ++ rest) ≡ drop (position_or_len stops rest) rest
+  char_past : (c : ℕ) (rest : List ℕ) → stops c ≡ false → drop (position_or_len stops (encode_utf8 c ++ rest)) (encode_utf8 c ++ rest) ≡ drop
+      (position_or_len stops rest) rest
   char_past c rest f =
-      let n : position_or_len stops (encode_utf8 c ++ rest) ≡ length (encode_utf8 c) + position_or_len stops rest = prefix_len-append others (encode_utf8 c) rest ∙ cond-true _ _ _ (eq-eqb _ _ (char_passes c f)) in
-      ap (λ k. drop k (encode_utf8 c ++ rest)) n ∙ (sym (drop-drop (position_or_len stops rest) (length (encode_utf8 c)) (encode_utf8 c ++ rest)) ∙ ap (drop (position_or_len stops rest)) (drop-append_seam (encode_utf8 c) rest))
+      let n : position_or_len stops (encode_utf8 c ++ rest) ≡ length (encode_utf8 c) + position_or_len stops rest = prefix_len-append others
+      (encode_utf8 c) rest ∙ cond-true _ _ _ (eq-eqb _ _ (char_passes c f)) in
+      ap (λ k. drop k (encode_utf8 c ++ rest)) n ∙ (sym (drop-drop (position_or_len stops rest) (length (encode_utf8 c)) (encode_utf8 c ++ rest))
+      ∙ ap (drop (position_or_len stops rest)) (drop-append_seam (encode_utf8 c) rest))
 
   by_chars : (cs : List ℕ) → past_run others cs ≡ drop (position_or_len stops (encode_utf8_all cs)) (encode_utf8_all cs)
   by_chars [] = refl
@@ -65,11 +69,13 @@ byte2_small one two b l m e = elim (or_cases (b == one) (b == two) e) [ inl f �
 
 -- where a search of the bytes finds one, and where it finds none
 pub found_at : (stops : ℕ → Bool) (text bytes : List ℕ) (n : ℕ) → bytes ≡ text → IsFirstByte stops bytes (Some n) → position_or_len stops text ≡ n
-found_at stops text bytes n read h = ap (position_or_len stops) (sym read) ∙ position_or_len_is stops bytes n 0 (omega arith) (λ k l. false_from_ne_true _ (h.0.before k (omega arith) l)) (λ l. h.1)
+found_at stops text bytes n read h = ap (position_or_len stops) (sym read) ∙ position_or_len_is stops bytes n 0 (omega arith)
+    (λ k l. false_from_ne_true _ (h.0.before k (omega arith) l)) (λ l. h.1)
 
 pub found_nowhere : (stops : ℕ → Bool) (small : (b : ℕ) → stops b ≡ true → b < 128) (text bytes : List ℕ) → IsUtf8 text → bytes ≡ text → IsFirstByte stops bytes None → [] ≡ past (run_len (others stops small) (chars text)) text
 found_nowhere stops small text bytes is read h =
-    let none : position_or_len stops bytes ≡ length bytes = position_or_len_is stops bytes (length bytes) 0 (omega arith) (λ k l. false_from_ne_true _ (h k (omega arith) l)) (λ l. absurd (omega arith)) in
+    let none : position_or_len stops bytes ≡ length bytes = position_or_len_is stops bytes (length bytes) 0 (omega arith)
+    (λ k l. false_from_ne_true _ (h k (omega arith) l)) (λ l. absurd (omega arith)) in
     sym (up_to stops small text (length bytes) is (ap (position_or_len stops) (sym read) ∙ none) ∙ drop_of_length-le text (omega (arith, ap length read)))
 
 -- ---- a look at the first n bytes
@@ -78,8 +84,11 @@ pub in_first : (stops : ℕ → Bool) (bytes : List ℕ) (n found : ℕ) → n �
 in_first stops bytes n found few le mask some =
     let room : 0 + n ≤ length bytes = omega arith in
     let low = mask_lowest stops bytes 0 n found room mask few some in
-    let at : (k : ℕ) → k < n → bit found k ≡ stops (get_or bytes k 0) = λ k l. mask_in stops bytes 0 n found room mask k k (omega arith) l in
-    (record { low = omega arith; high = omega arith; before = λ k from to e. true≢false (sym e ∙ (sym (at k (omega arith)) ∙ low.1.least k to)) }, sym (at _ low.0) ∙ low.1.set)
+    let at : (k : ℕ) → k < n → bit found k ≡ stops (get_or bytes k 0) = λ k l. mask_in stops bytes 0 n found room mask k k (omega arith) l in (
+      record { low = omega arith; high = omega arith; before = λ k from to e. true≢false (sym e ∙ (sym (at k (omega arith)) ∙ low.1.least k to)) },
+      sym
+          (at _ low.0) ∙ low.1.set,
+    )
 
 -- a lane is set where one of two tests is
 pub either_set : (a b : Bool) → top 7 (bit_or (cond a 255 0) (cond b 255 0)) ≡ (a || b)

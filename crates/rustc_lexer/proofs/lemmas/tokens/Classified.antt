@@ -22,16 +22,24 @@ pub left_is : (text bytes : List ℕ) (at : ℕ) → bytes ≡ text → take (le
 left_is text bytes at e = take_rest bytes at ∙ ap (drop at) e
 
 -- taking the token that is determined
-module _ (allowed : FrontmatterAllowed) (edition : Edition) (text : List ℕ) (s : State) (old new : Ahead) (view : state 0 (drop old.at text) (mode_in allowed edition) ≡ s) where
-  pub takes_told : KnowsAhead allowed text old → (token : Token) → TakesClassified text old new token → TakesToken s token (state 0 (drop new.at text) (mode_in allowed edition))
+module _ (allowed : FrontmatterAllowed) (edition : Edition) (text : List ℕ) (s : State) (old new : Ahead)
+    (view : state 0 (drop old.at text) (mode_in allowed edition) ≡ s) where
+  pub takes_told : KnowsAhead allowed text old → (token : Token) → TakesClassified text old new token
+      → TakesToken s token (state 0 (drop new.at text) (mode_in allowed edition))
   takes_told known token says =
-      takes_part allowed edition text old.at s (known.part token.kind says.classified) view new.at token record { utf8 = says.utf8; fits = known.tells.fits } known.tells.bound says.some (says.first edition) says.offset
+      takes_part allowed edition text old.at s (known.part token.kind says.classified) view new.at token
+      record { utf8 = says.utf8; fits = known.tells.fits } known.tells.bound says.some (says.first edition) says.offset
 
   -- where none is the same text is left
   module _ (says : IsUnclassified text old new) where
     pub still : state 0 (drop new.at text) (mode_in allowed edition) ≡ s
     still = subst (λ p. state 0 (drop p text) (mode_in allowed edition) ≡ s) (sym says.at) view
 
-    pub takes_left : (bytes left : List ℕ) (past : ℕ) (token : Token) → IsUtf8 bytes → bytes ≡ text → left ≡ drop new.at text → new.at < length text → allowed ≡ No → token ≡ first_token_in edition left → past ≡ new.at + token.len → TakesToken s token (state 0 (drop past text) (mode_in allowed edition))
+    pub takes_left : (bytes left : List ℕ) (past : ℕ) (token : Token) → IsUtf8 bytes → bytes ≡ text → left ≡ drop new.at text → new.at < length text
+        → allowed ≡ No → token ≡ first_token_in edition left → past ≡ new.at + token.len
+        → TakesToken s token (state 0 (drop past text) (mode_in allowed edition))
     takes_left bytes left past token is same e some never first o =
-        takes_part allowed edition text new.at s never still past token record { utf8 = subst IsUtf8 same is; fits = says.tells.fits } says.tells.bound some (first ∙ ap (first_token_in edition) e) o
+        takes_part allowed edition text new.at s never still past token record { utf8 = subst IsUtf8 same is; fits = says.tells.fits }
+        says.tells.bound some (first ∙ ap (first_token_in edition) e) o
+
+pub ruleset told_lemmas = (takes_told, still)

@@ -31,7 +31,8 @@ is_past s is none (suc count) few =
     let some : 0 < length at.rest = pos_of_ne-zero (λ zero.
     let none_left : tokens_left at ≡ [] = ap (tokens_of at.mode) (nil_from_length at.rest zero) ∙ tokens-nil at.mode in
     let all = none_more (tokens_left s) count (sym before.left ∙ none_left) in omega (arith, all, few)) in
-    let first : TakesToken at token (past_token at.rest at.mode token) = takes_first at (past_token at.rest at.mode token) token before.pending before.text some refl refl in
+    let first : TakesToken at token (past_token at.rest at.mode token) = takes_first at
+    (past_token at.rest at.mode token) token before.pending before.text some refl refl in
     let next_is : (advance at).1 ≡ past_token at.rest at.mode token = ap (λ (r : Token × State). r.1) first.advances in
     let takes : TakesToken at token (state_past (suc count) s) = subst (λ (x : State). TakesToken at token x) (sym next_is) first in
     let more : count + 1 ≡ suc count = omega arith in

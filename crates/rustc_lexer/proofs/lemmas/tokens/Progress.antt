@@ -56,11 +56,13 @@ pub none_more : (all : List Token) (count : ℕ) → drop count all ≡ [] → l
 none_more all count none = let n = length-drop count all in let m = ap (λ (ts : List Token). length ts) none in omega arith
 
 -- past the end of the text no token is left
-pub none_past : {first : List ℕ → Token} (law : IsGrammar first) (text : List ℕ) (n : ℕ) → IsText text → length text ≤ bound (tokens_by first text) n → length (tokens_by first text) ≤ n
+pub none_past : {first : List ℕ → Token} (law : IsGrammar first) (text : List ℕ) (n : ℕ) → IsText text → length text ≤ bound (tokens_by first text) n
+    → length (tokens_by first text) ≤ n
 none_past {first} law text n is all = none_more _ n ((at_bound law n text is).rest ∙ (ap (tokens_by first) (drop_all _ text all) ∙ tokens-nil first))
 
 pub lexed_whole : {first : List ℕ → Token} (law : IsGrammar first) (text : List ℕ) (items : List Token) (offset : ℕ) → IsText text → IsLexedTo first text items offset → length text ≤ offset → items ≡ tokens_by first text
-lexed_whole {first} law text items offset is at all = at.items_are ∙ take_all (length items) (tokens_by first text) (none_past law text (length items) is (omega (arith, at.offset_is)))
+lexed_whole {first} law text items offset is at all = at.items_are ∙ take_all (length items) (tokens_by first text)
+    (none_past law text (length items) is (omega (arith, at.offset_is)))
 
 -- what a step on the rest of a text gives, by the grammar that the stepper had at first
 pub stepped : {first now : List ℕ → Token} (text : List ℕ) (offset : ℕ) {left : List ℕ} {token : Token} → token ≡ now left → now ≡ first → left ≡ drop offset text → token ≡ first (drop offset text)

@@ -73,7 +73,8 @@ module _ (b : ℕ) (rest : List ℕ) (kind : TokenKind) (n : ℕ) (is : IsUtf8 (
   taken =
       let text = b ∷ rest in
       let len : length text - length (drop n rest) ≡ 1 + n = omega (arith, length-drop n rest) in
-      subst (λ k. IsFirstToken text record { kind = kind; len = k }) len (made text rest (drop n rest) b kind is (chars-ascii b rest is small) (past-ascii b rest is small) g)
+      subst (λ k. IsFirstToken text record { kind = kind; len = k }) len
+      (made text rest (drop n rest) b kind is (chars-ascii b rest is small) (past-ascii b rest is small) g)
 
 -- the same of a text
 pub first : (text : List ℕ) (b : ℕ) (rest : List ℕ) (kind : TokenKind) (n : ℕ) → IsUtf8 text → text ≡ b ∷ rest → b < 128 → n ≤ length rest → (IsUtf8 rest → (kind, drop n rest) ≡ scanned (past_first b) rest)

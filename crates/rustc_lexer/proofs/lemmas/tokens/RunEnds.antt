@@ -64,13 +64,17 @@ record RunsTo (b : ℕ) (rest : List ℕ) (n : ℕ) : Type 0 where
   end : goes_on (get_or (b ∷ rest) n 0) (get_or rest n 0) ≡ false
 
 -- the lowest end past an offset, by the ends from a block before it on
-module _ (text : List ℕ) (at block ends low n : ℕ) (behind : block ≤ at) (known : AreEndsPast (drop block text) (at - block) ends) (lowest : IsLowest ends low) (e : at + suc n ≡ block + low) where
+module _ (text : List ℕ) (at block ends low n : ℕ) (behind : block ≤ at) (known : AreEndsPast (drop block text) (at - block) ends)
+    (lowest : IsLowest ends low) (e : at + suc n ≡ block + low) where
   byte-is : (i k : ℕ) → block + i ≡ at + k → get_or (drop block text) i 0 ≡ get_or (get_or text at 0 ∷ drop (suc at) text) k 0
   byte-is i zero f = grind (arith, common_steps)
-  byte-is i (suc k) f = get_or-drop block text i 0 ∙ (ap (λ j. get_or text j 0) (let g : block + i ≡ suc at + k = omega arith in g) ∙ sym (get_or-drop (suc at) text k 0))
+  byte-is i (suc k) f = get_or-drop block text i 0 ∙ (ap (λ j. get_or text j 0) (let g : block + i ≡ suc at + k = omega arith in g)
+      ∙ sym (get_or-drop (suc at) text k 0))
 
-  edge-is : (k : ℕ) → k ≤ n → bit ends (suc (at - block + k)) ≡ not (goes_on (get_or (get_or text at 0 ∷ drop (suc at) text) k 0) (get_or (drop (suc at) text) k 0))
-  edge-is k le = (known low lowest.set).2 (suc (at - block + k)) (omega arith) (omega arith) ∙ ap₂ (λ a b. not (goes_on a b)) (byte-is (at - block + k) k (omega arith)) (byte-is (suc (at - block + k)) (suc k) (omega arith))
+  edge-is : (k : ℕ) → k ≤ n → bit ends (suc (at - block + k)) ≡ not (goes_on (get_or (get_or text at 0 ∷ drop (suc at) text) k 0)
+      (get_or (drop (suc at) text) k 0))
+  edge-is k le = (known low lowest.set).2 (suc (at - block + k)) (omega arith) (omega arith)
+      ∙ ap₂ (λ a b. not (goes_on a b)) (byte-is (at - block + k) k (omega arith)) (byte-is (suc (at - block + k)) (suc k) (omega arith))
 
   runs_to : RunsTo (get_or text at 0) (drop (suc at) text) n
   runs_to = record {
@@ -86,7 +90,8 @@ module _ (p : ℕ → Bool) (goes : (a b : ℕ) → p a ≡ true → goes_on a b
   in_run (suc k) l = sym (goes _ _ (in_run k (omega arith))) ∙ run.on k (omega arith)
 
   run_is : n ≡ prefix_len p rest
-  run_is = sym (prefix_len_is p rest n 0 (omega (arith, run.room)) (λ k l. in_run (suc k) (omega arith)) (λ l. sym (goes _ _ (in_run n (omega arith))) ∙ run.end))
+  run_is = sym (prefix_len_is p rest n 0 (omega (arith, run.room)) (λ k l. in_run (suc k) (omega arith))
+      (λ l. sym (goes _ _ (in_run n (omega arith))) ∙ run.end))
 
 never_both : (b : ℕ) → (is_continue_byte b && is_space_byte b) ≡ false
 never_both b = elim (cases_lt b 128) [ inl small ↦ agree_below_at (λ x. is_continue_byte x && is_space_byte x) (λ _. false) 128 b refl small | inr wide ↦ rw (le-ltb b 128 wide) refl ]
@@ -134,23 +139,32 @@ module _ (text : List ℕ) (is : IsUtf8 text) (b : ℕ) (rest : List ℕ) (e : t
 
   as_word : Word ≡ family_of b → turns_word (get_or rest n 0) ≡ false → IsFirstToken text record { kind = Ident; len = 1 + n }
   as_word family stays =
-      word_first text b rest n is e small family (run_is is_continue_byte (λ x y. first_of_two (is_continue_byte x) (is_space_byte x) (is_continue_byte y) (is_space_byte y) (never_both x)) b rest n run (run_of_family b Word small family)) (stops turns_word stays)
+      word_first text b rest n is e small family (run_is is_continue_byte
+      (λ x y. first_of_two (is_continue_byte x) (is_space_byte x) (is_continue_byte y) (is_space_byte y) (never_both x)) b rest n run
+      (run_of_family b Word small family)) (stops turns_word stays)
 
   as_space : Space ≡ family_of b → is_space_lead (get_or rest n 0) ≡ false → IsFirstToken text record { kind = Whitespace; len = 1 + n }
   as_space family stays =
-      space_first text b rest n is e small family (run_is is_space_byte (λ x y. second_of_two (is_continue_byte x) (is_space_byte x) (is_continue_byte y) (is_space_byte y) (never_both x)) b rest n run (run_of_family b Space small family)) (stops is_space_lead stays)
+      space_first text b rest n is e small family (run_is is_space_byte
+      (λ x y. second_of_two (is_continue_byte x) (is_space_byte x) (is_continue_byte y) (is_space_byte y) (never_both x)) b rest n run
+      (run_of_family b Space small family)) (stops is_space_lead stays)
 
   as_symbol : Symbol ≡ family_of b → IsFirstToken text record { kind = symbol_kind b; len = 1 + n }
-  as_symbol family = subst (λ k. IsFirstToken text record { kind = symbol_kind b; len = 1 + k }) (alone n refl) (symbol_first text b rest (symbol_kind b) is e small family refl)
+  as_symbol family = subst (λ k. IsFirstToken text record { kind = symbol_kind b; len = 1 + k }) (alone n refl)
+      (symbol_first text b rest (symbol_kind b) is e small family refl)
     where
       alone : (m : ℕ) → n ≡ m → 0 ≡ n
       alone zero f = sym f
       alone (suc m) f = grind (arith, common_steps, run.on 0, run_of_family b Symbol small family, or_parts, not-true)
 
-  by_family : (kind : TokenKind) → StaysWithin kind (get_or rest n 0) → (f : Family) → f ≡ family_of b → Some kind ≡ classified_in f b → IsFirstToken text record { kind = kind; len = 1 + n }
-  by_family kind stays Word family is = let k = same_Some kind Ident is in subst (λ (k : TokenKind). IsFirstToken text record { kind = k; len = 1 + n }) (sym k) (as_word family (stays.word k))
-  by_family kind stays Space family is = let k = same_Some kind Whitespace is in subst (λ (k : TokenKind). IsFirstToken text record { kind = k; len = 1 + n }) (sym k) (as_space family (stays.space k))
-  by_family kind stays Symbol family is = subst (λ (k : TokenKind). IsFirstToken text record { kind = k; len = 1 + n }) (sym (same_Some kind (symbol_kind b) is)) (as_symbol family)
+  by_family : (kind : TokenKind) → StaysWithin kind (get_or rest n 0) → (f : Family) → f ≡ family_of b → Some kind ≡ classified_in f b
+      → IsFirstToken text record { kind = kind; len = 1 + n }
+  by_family kind stays Word family is = let k = same_Some kind Ident is in subst
+      (λ (k : TokenKind). IsFirstToken text record { kind = k; len = 1 + n }) (sym k) (as_word family (stays.word k))
+  by_family kind stays Space family is = let k = same_Some kind Whitespace is in subst
+      (λ (k : TokenKind). IsFirstToken text record { kind = k; len = 1 + n }) (sym k) (as_space family (stays.space k))
+  by_family kind stays Symbol family is = subst (λ (k : TokenKind). IsFirstToken text record { kind = k; len = 1 + n })
+      (sym (same_Some kind (symbol_kind b) is)) (as_symbol family)
   by_family kind stays f family is = absurd (none-some kind (sym is))
 
   as_classified : (kind : TokenKind) → classified b ≡ Some kind → StaysWithin kind (get_or rest n 0) → IsFirstToken text record { kind = kind; len = 1 + n }
@@ -177,7 +191,8 @@ said test (Some kind) = test kind
 
 classified_older : (b : ℕ) (kind : TokenKind) → classified b ≡ Some kind → is_newer kind ≡ false
 unfolding is_emoji unicode_ident
-classified_older b kind some = sym (ap (said is_newer) some) ∙ agree_below_at (λ x. said is_newer (classified x)) (λ _. false) 128 b refl (classified_small b (ap is_some some))
+classified_older b kind some = sym (ap (said is_newer) some) ∙ agree_below_at (λ x. said is_newer (classified x)) (λ _. false) 128 b refl
+    (classified_small b (ap is_some some))
 
 pub classified_same : (b : ℕ) (kind : TokenKind) → classified b ≡ Some kind → (edition : Edition) (cs : List ℕ) (len : ℕ) → changed edition cs record { kind = kind; len = len } ≡ record { kind = kind; len = len }
 classified_same b kind some edition cs len = older edition cs record { kind = kind; len = len } (classified_older b kind some)
@@ -207,9 +222,11 @@ module _ (text : List ℕ) (at block ends low : ℕ) (kind : TokenKind) (next : 
       let n : ℕ = block + low - at - 1 in
       let e : at + suc n ≡ block + low = omega (arith, classified_after) in
       let whole : 1 + n ≡ block + low - at = omega (arith, classified_after) in
-      let byte : get_or text (block + low) 0 ≡ get_or (drop (suc at) text) n 0 = ap (λ i. get_or text i 0) (let f : block + low ≡ suc at + n = omega (arith, classified_after) in f) ∙ sym (get_or-drop (suc at) text n 0) in
+      let byte : get_or text (block + low) 0 ≡ get_or (drop (suc at) text) n 0 = ap (λ i. get_or text i 0)
+      (let f : block + low ≡ suc at + n = omega (arith, classified_after) in f) ∙ sym (get_or-drop (suc at) text n 0) in
       subst (λ k. IsFirstToken (drop at text) record { kind = kind; len = k }) whole
-      (as_classified (drop at text) (IsUtf8-drop text at next.utf8 next.bound) (get_or text at 0) (drop (suc at) text) (drop-cons text at 0 (omega (arith, classified_after, classified_inside))) n (runs_to text at block ends low n next.behind next.known next.lowest e)
+      (as_classified (drop at text) (IsUtf8-drop text at next.utf8 next.bound) (get_or text at 0) (drop (suc at) text)
+      (drop-cons text at 0 (omega (arith, classified_after, classified_inside))) n (runs_to text at block ends low n next.behind next.known next.lowest e)
       (classified_small _ (ap is_some next.tells)) kind next.tells (subst (StaysWithin kind) byte next.stays))
 
   -- no edition has another token there
@@ -219,5 +236,6 @@ module _ (text : List ℕ) (at block ends low : ℕ) (kind : TokenKind) (next : 
   pub classified_bound : IsCharBoundary text (block + low)
   classified_bound = grind (arith, common_steps, classified_after, IsCharBoundary-from_rest, classified_inside, classified_token)
 
-  pub classified_ahead : (less : ℕ) → ((k : ℕ) → k ≤ low → bit less k ≡ false) → ((k : ℕ) → low < k → bit less k ≡ bit ends k) → AreEndsPast (drop block text) (block + low - block) less
+  pub classified_ahead : (less : ℕ) → ((k : ℕ) → k ≤ low → bit less k ≡ false) → ((k : ℕ) → low < k → bit less k ≡ bit ends k)
+      → AreEndsPast (drop block text) (block + low - block) less
   classified_ahead less gone others = grind (arith, common_steps, past_end)

@@ -50,17 +50,14 @@ escaped e left is small =
     let one : IsUtf8 (e ∷ 39 ∷ left) = IsUtf8-ascii 92 (e ∷ 39 ∷ left) is (omega arith) in
     let two : IsUtf8 (39 ∷ left) = IsUtf8-ascii e (39 ∷ left) one small in
     let last : IsUtf8 left = IsUtf8-ascii 39 left two (omega arith) in
-    let reads : chars text ≡ 92 ∷ chars (e ∷ 39 ∷ left) = chars-ascii 92 (e ∷ 39 ∷ left) is (omega arith) in
-    let reads_one : chars (e ∷ 39 ∷ left) ≡ e ∷ chars (39 ∷ left) = chars-ascii e (39 ∷ left) one small in
-    let reads_two : chars (39 ∷ left) ≡ 39 ∷ chars left = chars-ascii 39 left two (omega arith) in
-    let left_is : left ≡ past 3 text =
-    past-ascii 39 left two (omega arith)
-    ∙ (ap (past 1) (past-two text (e ∷ 39 ∷ left) (39 ∷ left) is (past-ascii 92 (e ∷ 39 ∷ left) is (omega arith)) (past-ascii e (39 ∷ left) one small))
-    ∙ past-past 1 2 text is) in
+    let reads : chars (92 ∷ e ∷ 39 ∷ left) ≡ 92 ∷ e ∷ 39 ∷ chars left =
+    chars-ascii 92 (e ∷ 39 ∷ left) is (omega arith) ∙ ap (λ cs. 92 ∷ cs)
+    (chars-ascii e (39 ∷ left) one small ∙ ap (λ cs. e ∷ cs) (chars-ascii 39 left two (omega arith))) in
     record {
       utf8 = last;
       character = rw (reads, backslash-no_name) (or-true (begins (codes "'") (e ∷ 39 ∷ chars left)));
-      read = closed text left _ 3 reads left_is refl;
+      read = ap (λ xs. (true, xs)) (sym (encodes-chars left last)) ∙ sym
+          (ap (λ cs. let r : Bool × ℕ = single_quoted_string cs in (r.0, encode_utf8_all (drop r.1 cs))) reads);
     }
 
 module _ (text bytes : List ℕ) (offset : ℕ) (is : IsUtf8 text) (same : bytes ≡ text) (some : 3 ≤ length bytes) (offset_is : offset ≡ 1 + from_bool (slice_index bytes 0 == 92)) (small : slice_index bytes (offset - 1) < 128) (quote : slice_index bytes offset ≡ 39) where

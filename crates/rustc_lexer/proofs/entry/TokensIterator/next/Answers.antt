@@ -14,11 +14,13 @@ returns-in-Some c =
     record { steps = taken; goes = goes _ _ _ taken }
 
 pub returns-then-self-clause-steps : goal.returns-then-self-clause-steps
-returns-then-self-clause-steps c = let same = still _ _ c.self.inside.text.now c.args.self.now _ _ c.self.view_is c.in_default.ensures in (none_left _ c.self.inside.text.now c.take.new.self.at c.args.self.now same (omega arith), same)
+returns-then-self-clause-steps c = let same = still _ _ c.self.inside.text.now c.args.self.now _ _ c.self.view_is c.in_default.ensures in
+    (none_left _ c.self.inside.text.now c.take.new.self.at c.args.self.now same (omega arith), same)
 
 pub quick_token-requires-clause-utf8 : goal.quick_token-requires-clause-utf8
 quick_token-requires-clause-utf8 c =
-    rw (left_is _ _ c.take.new.self.at c.as_bytes.ensures.value) (IsUtf8-drop c.self.inside.text.now c.take.new.self.at (subst IsUtf8 c.as_bytes.ensures.value c.as_bytes.ensures.utf8) c.in_default.ensures.tells.bound)
+    rw (left_is _ _ c.take.new.self.at c.as_bytes.ensures.value) (IsUtf8-drop c.self.inside.text.now c.take.new.self.at
+    (subst IsUtf8 c.as_bytes.ensures.value c.as_bytes.ensures.utf8) c.in_default.ensures.tells.bound)
 
 pub choose_in-chosen-requires-clause-no_hash : goal.choose_in-chosen-requires-clause-no_hash
 choose_in-chosen-requires-clause-no_hash c =
@@ -27,23 +29,30 @@ choose_in-chosen-requires-clause-no_hash c =
 
 pub returns-then-not-matches : goal.returns-then-not-matches
 returns-then-not-matches c =
-    let taken = takes_left _ _ c.self.inside.text.now c.args.self.now _ _ c.self.view_is c.in_default.ensures _ _ c.begin.new.self.at c.in-Some-quick_token.quick c.as_bytes.ensures.utf8 c.as_bytes.ensures.value (left_is _ _ _ c.as_bytes.ensures.value) (omega arith) c.in-No.is
+    let taken = takes_left _ _ c.self.inside.text.now c.args.self.now _ _ c.self.view_is c.in_default.ensures _ _ c.begin.new.self.at
+    c.in-Some-quick_token.quick c.as_bytes.ensures.utf8 c.as_bytes.ensures.value (left_is _ _ _ c.as_bytes.ensures.value) (omega arith) c.in-No.is
     (c.in-Some-quick_token.ensures.token c.self.inside.edition (sym c.reserves_guards.ensures)) c.begin.ensures.at in
     record { steps = taken; goes = goes _ _ _ taken }
 
 pub returns-else-not-matches : goal.returns-else-not-matches
 returns-else-not-matches c =
-    let taken = takes_left _ _ c.self.inside.text.now c.args.self.now _ _ c.self.view_is c.in_default.ensures _ _ _ c.in-Some-quick_token.quick c.as_bytes.ensures.utf8 c.as_bytes.ensures.value (left_is _ _ _ c.as_bytes.ensures.value) (omega arith) c.in-No.is
+    let taken = takes_left _ _ c.self.inside.text.now c.args.self.now _ _ c.self.view_is c.in_default.ensures _ _ _ c.in-Some-quick_token.quick
+    c.as_bytes.ensures.utf8 c.as_bytes.ensures.value (left_is _ _ _ c.as_bytes.ensures.value) (omega arith) c.in-No.is
     (c.in-Some-quick_token.ensures.token c.self.inside.edition (sym c.reserves_guards.ensures)) refl in
     record { steps = taken; goes = goes _ _ _ taken }
 
 pub returns-in-No : goal.returns-in-No
 returns-in-No c =
-    let taken = takes_left _ _ c.self.inside.text.now c.args.self.now _ _ c.self.view_is c.in_default.ensures _ _ _ c.choose_in-chosen.result c.as_bytes.ensures.utf8 c.as_bytes.ensures.value c.as_str.ensures.rest (omega arith) c.in-No.is c.choose_in-chosen.ensures.token refl in
+    let taken = takes_left _ _ c.self.inside.text.now c.args.self.now _ _ c.self.view_is c.in_default.ensures _ _ _ c.choose_in-chosen.result
+    c.as_bytes.ensures.utf8 c.as_bytes.ensures.value c.as_str.ensures.rest (omega arith) c.in-No.is c.choose_in-chosen.ensures.token refl in
     record { steps = taken; goes = goes _ _ _ taken }
 
 pub returns : goal.returns
 returns c =
-    let taken = takes_next _ c.self.inside.text.now c.take.new.self.at c.args.self.now (still _ _ _ _ _ _ c.self.view_is c.in_default.ensures) _ _ c.token_at-token.result record { utf8 = subst IsUtf8 c.as_bytes.ensures.value c.as_bytes.ensures.utf8; fits = c.in_default.ensures.tells.fits } c.in_default.ensures.tells.bound (omega arith)
-    (c.token_at-token.ensures.token ∙ ap (token_at (mode_in c.self.inside.frontmatter_allowed c.self.inside.edition)) c.as_str-2.ensures.rest) refl (c.next_allowed-self-inside.ensures c.self.inside.edition) in
+    let taken = takes_next _ c.self.inside.text.now c.take.new.self.at c.args.self.now
+    (still _ _ _ _ _ _ c.self.view_is c.in_default.ensures) _ _ c.token_at-token.result
+    record { utf8 = subst IsUtf8 c.as_bytes.ensures.value c.as_bytes.ensures.utf8; fits = c.in_default.ensures.tells.fits }
+    c.in_default.ensures.tells.bound (omega arith)
+    (c.token_at-token.ensures.token ∙ ap (token_at (mode_in c.self.inside.frontmatter_allowed c.self.inside.edition)) c.as_str-2.ensures.rest) refl
+    (c.next_allowed-self-inside.ensures c.self.inside.edition) in
     record { steps = taken; goes = goes _ _ _ taken }

@@ -2,7 +2,7 @@ use Rattle.std.proofs.Common.{◌≡◌, ◌+◌, ◌<◌, List, ℕ, length, dr
 use Rattle.rustc_lexer.specs.{Token}
 use Rattle.rustc_lexer.specs.Classes.{IsText}
 use Rattle.rustc_lexer.specs.Tokens.{tokens_by}
-use Rattle.rustc_lexer.proofs.lemmas.tokens.Buffers.{begun_more, one_written, stands, next_token, next_offset, written_to}
+use Rattle.rustc_lexer.proofs.lemmas.tokens.Buffers.{begun_more, one_written, stands, next_token, next_offset}
 use Rattle.rustc_lexer.proofs.lemmas.tokens.Progress.{stepped}
 use Rattle.rustc_lexer.proofs.entry.stepper.Stepper.fill.Goals as goal
 
@@ -28,9 +28,3 @@ places-preserved g c =
       grammar = c.step-token.ensures.grammar ∙ inv.grammar;
       number = c.step-token.ensures.number ∙ inv.number;
     }
-
-pub returns-else-at-end-clause-filled : goal.returns-else-at-end-clause-filled
-returns-else-at-end-clause-filled g c = written_to g.R.FromToken.written c.args.end (tokens_by (g.Self.Stepper.grammar c.args.self.now) c.args.text.now) c.args.buffer.now c.places.buffer c.places.written c.places.at c.places.invariant.written c.places.invariant.offset c.places.invariant.begun (λ _. omega arith)
-
-pub returns-after-places-clause-filled : goal.returns-after-places-clause-filled
-returns-after-places-clause-filled g c = written_to g.R.FromToken.written c.args.end (tokens_by (g.Self.Stepper.grammar c.args.self.now) c.args.text.now) c.args.buffer.now c.places.buffer c.places.written c.places.at c.places.invariant.written c.places.invariant.offset c.places.invariant.begun (λ more. omega arith)

@@ -40,7 +40,7 @@ returns-clause-filled g c =
           let none = ap (λ (ts : List Token). length ts) w.in_default-next.ensures.steps.0 in
           λ more. absurd (omega (arith, some, none))
     ] in
-    written_to g.R.FromToken.written c.args.end (tokens_by first text) c.args.buffer.now c.places.buffer count at inv.written refl inv.begun done
+    written_to g.R.FromToken.written c.args.end (tokens_by first text) c.args.buffer.now c.places.buffer count inv.written inv.begun done
 
 pub returns-clause-bytes : goal.returns-clause-bytes
 returns-clause-bytes g c = grind (arith, common_steps, rules, stands, edition_grammar, else-places-test, length-drop)
