@@ -15,9 +15,7 @@ use Rattle.rustc_lexer.specs.laws.Choice.{by_either}
 use Rattle.marks.specs.LineEnds.{ends_line, file_errors, moved, unix}
 use Rattle.marks.proofs.LineEndLemmas.{utf8-unix}
 use Rattle.rustc_lexer_c.specs.declared.escapes.CUnit.{CUnit}
-use Rattle.rustc_lexer_c.specs.declared.escapes.Listing.{Listing}
-use Rattle.rustc_lexer_c.specs.declared.escapes.Listing.TheVariants.{Units, Errors}
-use Rattle.rustc_lexer_c.specs.Escapes.{IsUnits, listed, wrong_unit}
+use Rattle.rustc_lexer_c.specs.Escapes.{IsUnits, units_of, wrong_unit, wrong_units_of}
 use Rattle.rustc_lexer_c.proofs.BufferLemmas.{all_taken, back_step, buffer_filled, count_second, few_step, front_step, left_step}
 
 -- what is left past one more, if there is one
@@ -38,9 +36,11 @@ unix-shorter [] = omega arith
 unix-shorter (c ∷ s) = let rest = unix-shorter s in by_either (ends_line c s) (λ e. rw e (omega (arith, rest))) (λ e. rw e (omega (arith, rest)))
 
 -- there are no more of them than bytes, or one
-pub listed_few : (listing : Listing) (mode : Mode) (text : List ℕ) → IsUtf8 text → length (listed listing mode text) ≤ max 1 (length text)
-listed_few Units mode text is = grind (arith, common_steps, cond_both, le-max_left, items-few, le-max_right)
-listed_few Errors mode text is =
+pub units_few : (mode : Mode) (text : List ℕ) → IsUtf8 text → length (units_of mode text) ≤ max 1 (length text)
+units_few mode text is = grind (arith, common_steps, cond_both, le-max_left, items-few, le-max_right)
+
+pub errors_few : (mode : Mode) (text : List ℕ) → IsUtf8 text → length (wrong_units_of mode text) ≤ max 1 (length text)
+errors_few mode text is =
     omega (arith, errors_of-few mode (unix text) (utf8-unix text is), unix-shorter text, length-map {B = Error} (errors_of mode (unix text)) (λ (e : Error). (moved text e.0, e.1)), length-map (file_errors mode text) (λ (e : Error). wrong_unit e.0 e.1))
 
 pub ruleset fill_lemmas = (passed_step, few_step, length-set, front_step, back_step)

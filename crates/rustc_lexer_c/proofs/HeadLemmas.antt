@@ -39,7 +39,7 @@ back_with n end (suc m) (Some t) bare is = ap (λ (f : Token). let h : Head = re
 module _ (text : List ℕ) (is : IsText text) where
   -- a head of the text has the numbers of the text
   pub numbers_are : (head : Head) → IsHeadOf text head → numbers_of_head head ≡ head_numbers text
-  numbers_are head h = λ i. record { shebang_len = h.shebang_is i; body = h.end_is i; count = ap (λ (ts : List Token). length ts) h.tokens_are i; tokens = ap two_of h.tokens_are i }
+  numbers_are head h = cc (h.shebang_is, h.end_is, h.tokens_are)
 
   -- the numbers of a text tell its head
   pub head_back : IsHeadOf text (head_of (head_numbers text))

@@ -51,6 +51,3 @@ module _ (numbers : List CToken) (first : ℕ) (tokens : List Token) (at : Token
 
   pub before_all : (offset : ℕ) → at.index ≡ 0 → offset < at.offset → first ≤ offset → ⊥
   before_all offset none ahead le = let there = ap (bound tokens) none in omega (arith, is.offset, there)
-
-  pub no_boundary : length numbers < at.index → ⊥
-  no_boundary past = omega (arith, is.number, many)

@@ -14,8 +14,6 @@ use Rattle.rustc_literal_escaper.specs.Answers.{byte_literal, char_literal, item
 use Rattle.rustc_literal_escaper.specs.Meaning.{byte_of, char_of, is_fatal, is_raw, is_single, raw_unit_of, unit_of}
 pub use Rattle.rustc_literal_escaper.specs.Numbers.{error_number}
 use Rattle.rustc_lexer_c.specs.declared.escapes.CUnit.{CUnit}
-use Rattle.rustc_lexer_c.specs.declared.escapes.Listing.{Listing}
-use Rattle.rustc_lexer_c.specs.declared.escapes.Listing.TheVariants.{Units, Errors}
 use Rattle.rustc_lexer_c.specs.declared.status.Refusal.TheVariants.{BadMode}
 use Rattle.rustc_lexer_c.specs.Status.{IsStatus, OK, refusal_number}
 
@@ -103,11 +101,6 @@ pub record IsUnits (units : List CUnit) (passed : ℕ) (buffer filled : List CUn
 
 abbrev pub wrong_units_of : Mode → List ℕ → List CUnit
 wrong_units_of mode text = wrong_units (file_errors mode text)
-
--- the units that a call lists for a text
-abbrev pub listed : Listing → Mode → List ℕ → List CUnit
-listed Units mode text = units_of mode text
-listed Errors mode text = wrong_units_of mode text
 
 -- a call that lists units of a text, in a mode that is given by a number. The list is never longer
 -- than the text in bytes, but may have 1 unit for an empty text, so a buffer of that length is

@@ -23,25 +23,18 @@ two_of [] = no_token ∷ no_token ∷ []
 two_of (a ∷ []) = token_numbers a ∷ no_token ∷ []
 two_of (a ∷ b ∷ more) = token_numbers a ∷ token_numbers b ∷ []
 
+-- a head as numbers, by its shebang line, the start of the body and its tokens
+abbrev pub numbers_by : ℕ → ℕ → List Token → CHead
+numbers_by shebang body tokens =
+    record { shebang_len = shebang; body = body; count = length tokens; tokens = two_of tokens }
+
 -- the head of a text as numbers
 abbrev pub head_numbers : List ℕ → CHead
-head_numbers text =
-    record {
-      shebang_len = shebang_len text;
-      body = body_start text;
-      count = length (head_tokens text);
-      tokens = two_of (head_tokens text);
-    }
+head_numbers text = numbers_by (shebang_len text) (body_start text) (head_tokens text)
 
 -- a head as numbers
 abbrev pub numbers_of_head : Head → CHead
-numbers_of_head head =
-    record {
-      shebang_len = head.shebang_len;
-      body = head.body;
-      count = length (tokens_of_head head);
-      tokens = two_of (tokens_of_head head);
-    }
+numbers_of_head head = numbers_by head.shebang_len head.body (tokens_of_head head)
 
 -- the frontmatter that these numbers stand for
 abbrev pub frontmatter_of : CToken → Token
@@ -49,27 +42,17 @@ frontmatter_of c =
     record { kind = Frontmatter (not (nat_eq c.first 0)) (not (nat_eq c.second 0)); len = c.len }
 
 -- the head that these numbers stand for
-abbrev pub head_with : ℕ → ℕ → ℕ → CToken → CToken → Head
-head_with shebang end zero a b =
-    record { shebang_len = shebang; space_len = 0; frontmatter = None; body = end }
-head_with shebang end (suc zero) a b =
-    record {
-      shebang_len = shebang;
-      space_len = 0;
-      frontmatter = Some (frontmatter_of a);
-      body = end;
-    }
-head_with shebang end (suc (suc n)) a b =
-    record {
-      shebang_len = shebang;
-      space_len = a.len;
-      frontmatter = Some (frontmatter_of b);
-      body = end;
-    }
+abbrev pub head_with : ℕ → Head → CToken → CToken → Head
+head_with zero bare a b = bare
+head_with (suc zero) bare a b = record bare { frontmatter = Some (frontmatter_of a) }
+head_with (suc (suc n)) bare a b =
+    record bare { space_len = a.len; frontmatter = Some (frontmatter_of b) }
 
 abbrev pub head_of : CHead → Head
 head_of c =
-    head_with c.shebang_len c.body c.count (get_or c.tokens 0 no_token) (get_or c.tokens 1 no_token)
+    let bare : Head =
+    record { shebang_len = c.shebang_len; space_len = 0; frontmatter = None; body = c.body } in
+    head_with c.count bare (get_or c.tokens 0 no_token) (get_or c.tokens 1 no_token)
 
 -- the status of a call that gets an edit of a document and the old head. An edit that made the text
 -- is not refused

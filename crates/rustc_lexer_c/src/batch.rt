@@ -36,7 +36,7 @@ pub extern "C" fn rustc_lexer_tokens(
     ensures { spec.TakesTokens text.now place.old place.new buffer.old buffer.new count.new result }
 {
     match text_of(text) {
-        Ok(text) => batch(text, place, buffer, count),
+        Ok(_) => rustc_lexer_tokens_unchecked(text, place, buffer, count),
         Err(refusal) => refuse(refusal, 0, count),
     }
 }
@@ -53,10 +53,14 @@ pub extern "C" fn rustc_lexer_tokens_unchecked(
     requires utf8 { IsUtf8 text.now }
     ensures { spec.TakesTokens text.now place.old place.new buffer.old buffer.new count.new result }
 {
-    match utf8_text_of(text) {
-        Ok(text) => batch(text, place, buffer, count),
-        Err(refusal) => refuse(refusal, 0, count),
+    let text = match utf8_text_of(text) {
+        Ok(text) => text,
+        Err(refusal) => return refuse(refusal, 0, count),
+    };
+    if !text.is_char_boundary(place.at as usize) {
+        return refuse(Refusal::BadPlace, 0, count);
     }
+    done(fill(text, Edition::NEWEST, place, buffer), count)
 }
 
 /// Does what `rustc_lexer_tokens` does, in the edition of a year: 2015, 2018, 2021 or 2024.
@@ -72,7 +76,7 @@ pub extern "C" fn rustc_lexer_tokens_in(
         buffer.old buffer.new count.new result }
 {
     match text_of(text) {
-        Ok(text) => batch_in(text, edition, place, buffer, count),
+        Ok(_) => rustc_lexer_tokens_in_unchecked(text, edition, place, buffer, count),
         Err(refusal) => refuse(refusal, 0, count),
     }
 }
@@ -91,9 +95,16 @@ pub extern "C" fn rustc_lexer_tokens_in_unchecked(
     ensures { spec.TakesTokensIn text.now edition place.old place.new
         buffer.old buffer.new count.new result }
 {
-    match utf8_text_of(text) {
-        Ok(text) => batch_in(text, edition, place, buffer, count),
-        Err(refusal) => refuse(refusal, 0, count),
+    let text = match utf8_text_of(text) {
+        Ok(text) => text,
+        Err(refusal) => return refuse(refusal, 0, count),
+    };
+    if !text.is_char_boundary(place.at as usize) {
+        return refuse(Refusal::BadPlace, 0, count);
+    }
+    match edition_of(edition) {
+        Some(edition) => done(fill(text, edition, place, buffer), count),
+        None => refuse(Refusal::BadEdition, 0, count),
     }
 }
 
@@ -136,38 +147,6 @@ pub(crate) const NO_TOKEN: CToken = CToken {
     suffix_start: 0,
     len: 0,
 };
-
-/// Writes the batch at the place into the buffer, and its number of tokens into `count`.
-fn batch(text: &str, place: &mut CPlace, buffer: &mut [CToken], count: &mut usize) -> u32
-    requires fits { Fits text.now }
-    ensures { spec.TakesTokens text.now place.old place.new buffer.old buffer.new count.new result }
-{
-    if !text.is_char_boundary(place.at as usize) {
-        return refuse(Refusal::BadPlace, 0, count);
-    }
-    done(fill(text, Edition::NEWEST, place, buffer), count)
-}
-
-/// Writes the batch at the place in the edition of a year into the buffer, and its number of tokens into `count`.
-fn batch_in(
-    text: &str,
-    edition: u32,
-    place: &mut CPlace,
-    buffer: &mut [CToken],
-    count: &mut usize,
-) -> u32
-    requires fits { Fits text.now }
-    ensures { spec.TakesTokensIn text.now edition place.old place.new
-        buffer.old buffer.new count.new result }
-{
-    if !text.is_char_boundary(place.at as usize) {
-        return refuse(Refusal::BadPlace, 0, count);
-    }
-    match edition_of(edition) {
-        Some(edition) => done(fill(text, edition, place, buffer), count),
-        None => refuse(Refusal::BadEdition, 0, count),
-    }
-}
 
 /// Writes the batch at a place between characters. Returns its number of tokens. It is inlined, so the call for the
 /// newest edition, a constant there, does not test which it is.

@@ -1,15 +1,11 @@
 //! The units of a literal, and what is wrong in it.
-ghost use Rattle.std.specs.Prelude.{◌≡◌, ◌≢◌, ◌≤◌, length, max, false, List, [], ◌∷◌, None, map};
-ghost use Rattle.std.specs.Option.{IsSomeAnd};
+ghost use Rattle.std.specs.Prelude.{◌≡◌, false, List, [], ◌∷◌, None, map};
 ghost use Rattle.std.specs.Result.{result_err};
 ghost use Rattle.std.specs.Str.{IsUtf8};
-ghost use Rattle.rustc_lexer.specs.Classes.{IsText};
 ghost use Rattle.rustc_literal_escaper.specs.Answers.{items_of};
 ghost use Rattle.rustc_literal_escaper.specs.Items.{TakesFirst};
 ghost use Rattle.rustc_literal_escaper.specs.Meaning.{is_raw, is_single, unit_of};
 ghost use Rattle.rustc_lexer_c.specs.Escapes as spec;
-ghost use Rattle.rustc_lexer_c.specs.declared.status.Refusal.TheVariants.{BadMode};
-ghost use Rattle.rustc_lexer_c.specs.Status.{IsStatus, OK, refusal_number};
 
 use crate::status::{Refusal, done, refuse, text_of, utf8_text_of};
 use marks::FaultsInFile;
@@ -54,12 +50,13 @@ pub extern "C" fn rustc_lexer_unescape(
         count.new result }
 {
     match text_of(text) {
-        Ok(text) => write(text, Listing::Units, mode, passed, buffer, count),
+        Ok(_) => rustc_lexer_unescape_unchecked(text, mode, passed, buffer, count),
         Err(refusal) => refuse(refusal, 0, count),
     }
 }
 
 /// Writes units of a text that `rustc_lexer_check` found to be UTF-8. Does not check it again.
+#[tactic(auto, using(crate::proofs::EscapeLemmas::units_few))]
 #[unsafe(no_mangle)]
 pub extern "C" fn rustc_lexer_unescape_unchecked(
     text: &[u8],
@@ -72,9 +69,13 @@ pub extern "C" fn rustc_lexer_unescape_unchecked(
     ensures { spec.Lists spec.units_of (spec.mode_of mode) text.now passed buffer.old buffer.new
         count.new result }
 {
-    match utf8_text_of(text) {
-        Ok(text) => write(text, Listing::Units, mode, passed, buffer, count),
-        Err(refusal) => refuse(refusal, 0, count),
+    let text = match utf8_text_of(text) {
+        Ok(text) => text,
+        Err(refusal) => return refuse(refusal, 0, count),
+    };
+    match mode_of(mode) {
+        Some(mode) => done(fill_units(text, mode, passed, buffer), count),
+        None => refuse(Refusal::BadMode, 0, count),
     }
 }
 
@@ -95,12 +96,13 @@ pub extern "C" fn rustc_lexer_literal_errors(
         buffer.new count.new result }
 {
     match text_of(text) {
-        Ok(text) => write(text, Listing::Errors, mode, passed, buffer, count),
+        Ok(_) => rustc_lexer_literal_errors_unchecked(text, mode, passed, buffer, count),
         Err(refusal) => refuse(refusal, 0, count),
     }
 }
 
 /// Writes the errors and warnings of a text that `rustc_lexer_check` found to be UTF-8. Does not check it again.
+#[tactic(auto, using(crate::proofs::EscapeLemmas::errors_few))]
 #[unsafe(no_mangle)]
 pub extern "C" fn rustc_lexer_literal_errors_unchecked(
     text: &[u8],
@@ -113,43 +115,16 @@ pub extern "C" fn rustc_lexer_literal_errors_unchecked(
     ensures { spec.Lists spec.wrong_units_of (spec.mode_of mode) text.now passed buffer.old
         buffer.new count.new result }
 {
-    match utf8_text_of(text) {
-        Ok(text) => write(text, Listing::Errors, mode, passed, buffer, count),
-        Err(refusal) => refuse(refusal, 0, count),
-    }
-}
-
-/// What a call lists of a literal.
-#[derive(Clone, Copy)]
-enum Listing {
-    /// What it stands for, and its errors and warnings.
-    Units,
-    /// Its errors and warnings.
-    Errors,
-}
-
-/// Writes the listing of a text.
-#[tactic(auto, using(crate::proofs::EscapeLemmas::listed_few))]
-fn write(
-    text: &str,
-    listing: Listing,
-    mode: u32,
-    passed: usize,
-    buffer: &mut [CUnit],
-    count: &mut usize,
-) -> u32
-    requires text { IsText text.now }
-    ensures status { IsStatus text.now (spec.mode_of mode ≢ None) (refusal_number BadMode) result }
-    ensures listed { result ≡ OK → IsSomeAnd (spec.mode_of mode)
-        (λ kind. spec.IsUnits (spec.listed listing kind text.now) passed buffer.old buffer.new
-        count.new) }
-    ensures bound { result ≡ OK → IsSomeAnd (spec.mode_of mode)
-        (λ kind. length (spec.listed listing kind text.now) ≤ max 1 (length text.now)) }
-    ensures refused { result ≢ OK → (buffer.new ≡ buffer.old) × (count.new ≡ 0) }
-{
+    let text = match utf8_text_of(text) {
+        Ok(text) => text,
+        Err(refusal) => return refuse(refusal, 0, count),
+    };
     match mode_of(mode) {
+        Some(mode) => done(
+            fill_all(FaultsInFile::new(text, mode), passed, buffer),
+            count,
+        ),
         None => refuse(Refusal::BadMode, 0, count),
-        Some(mode) => done(fill(text, listing, mode, passed, buffer), count),
     }
 }
 
@@ -167,16 +142,6 @@ fn mode_of(number: u32) -> Option<Mode>
         9 => Some(Mode::RawByteStr),
         10 => Some(Mode::RawCStr),
         _ => None,
-    }
-}
-
-/// Writes the listing of a literal. Returns how many units it wrote.
-fn fill(text: &str, listing: Listing, mode: Mode, passed: usize, buffer: &mut [CUnit]) -> usize
-    ensures { spec.IsUnits (spec.listed listing mode text.now) passed buffer.old buffer.new result }
-{
-    match listing {
-        Listing::Units => fill_units(text, mode, passed, buffer),
-        Listing::Errors => fill_all(FaultsInFile::new(text, mode), passed, buffer),
     }
 }
 

@@ -1,7 +1,6 @@
 //! The head of a document, and what an edit of the document changes in its body.
 ghost use Rattle.std.specs.Prelude.{◌≡◌, ◌<◌, ◌^◌};
 ghost use Rattle.std.specs.Str.{IsUtf8};
-ghost use Rattle.rustc_lexer.specs.Classes.{Fits};
 ghost use Rattle.rustc_lexer_c.specs.Head as spec;
 
 use crate::batch::NO_TOKEN;
@@ -42,7 +41,7 @@ pub extern "C" fn rustc_lexer_body_edit(
         head_kept.old head_kept.new result }
 {
     match text_of(text) {
-        Ok(text) => find_body_edit(text, edit, head, body_edit, head_kept),
+        Ok(_) => rustc_lexer_body_edit_unchecked(text, edit, head, body_edit, head_kept),
         Err(refusal) => refusal.number(),
     }
 }
@@ -60,24 +59,10 @@ pub extern "C" fn rustc_lexer_body_edit_unchecked(
     ensures { spec.FindsHead text.now edit.now head.old head.new body_edit.old body_edit.new
         head_kept.old head_kept.new result }
 {
-    match utf8_text_of(text) {
-        Ok(text) => find_body_edit(text, edit, head, body_edit, head_kept),
-        Err(refusal) => refusal.number(),
-    }
-}
-
-/// Finds what an edit changes in the body of a text, and the head of the text.
-fn find_body_edit(
-    text: &str,
-    edit: &CEdit,
-    head: &mut CHead,
-    body_edit: &mut CEdit,
-    head_kept: &mut u32,
-) -> u32
-    requires fits { Fits text.now }
-    ensures { spec.FindsHead text.now edit.now head.old head.new body_edit.old body_edit.new
-        head_kept.old head_kept.new result }
-{
+    let text = match utf8_text_of(text) {
+        Ok(text) => text,
+        Err(refusal) => return refusal.number(),
+    };
     let change = change_of(edit);
     if !change.may_make(text) {
         return Refusal::BadEdit.number();

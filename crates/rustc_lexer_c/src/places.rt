@@ -1,7 +1,6 @@
 //! Places in a text: the end of its shebang line, and the end of the tokens that are certain.
 ghost use Rattle.std.specs.Prelude.{◌≡◌};
 ghost use Rattle.std.specs.Str.{IsUtf8};
-ghost use Rattle.rustc_lexer.specs.Classes.{Fits};
 ghost use Rattle.rustc_lexer.specs.Answers.{shebang};
 ghost use Rattle.rustc_lexer_c.specs.Numbers.{some_or_zero};
 ghost use Rattle.rustc_lexer_c.specs.Places.{TellsSettled};
@@ -18,7 +17,7 @@ pub extern "C" fn rustc_lexer_strip_shebang(text: &[u8], line_len: &mut usize) -
         0 line_len.new result }
 {
     match text_of(text) {
-        Ok(text) => done(shebang_len(text), line_len),
+        Ok(_) => rustc_lexer_strip_shebang_unchecked(text, line_len),
         Err(refusal) => refuse(refusal, 0, line_len),
     }
 }
@@ -32,7 +31,7 @@ pub extern "C" fn rustc_lexer_strip_shebang_unchecked(text: &[u8], line_len: &mu
         0 line_len.new result }
 {
     match utf8_text_of(text) {
-        Ok(text) => done(shebang_len(text), line_len),
+        Ok(text) => done(strip_shebang(text).unwrap_or(0), line_len),
         Err(refusal) => refuse(refusal, 0, line_len),
     }
 }
@@ -44,7 +43,7 @@ pub extern "C" fn rustc_lexer_settled(text: &[u8], end: &mut usize) -> u32
     ensures { TellsSettled text.now end.new result }
 {
     match text_of(text) {
-        Ok(text) => settled_end(text, end),
+        Ok(_) => rustc_lexer_settled_unchecked(text, end),
         Err(refusal) => refuse(refusal, 0, end),
     }
 }
@@ -57,23 +56,7 @@ pub extern "C" fn rustc_lexer_settled_unchecked(text: &[u8], end: &mut usize) ->
     ensures { TellsSettled text.now end.new result }
 {
     match utf8_text_of(text) {
-        Ok(text) => settled_end(text, end),
+        Ok(text) => done(settled(text), end),
         Err(refusal) => refuse(refusal, 0, end),
     }
-}
-
-/// Writes where the last token that at least two characters follow ends, or 0.
-fn settled_end(text: &str, end: &mut usize) -> u32
-    requires fits { Fits text.now }
-    ensures { TellsSettled text.now end.new result }
-{
-    done(settled(text), end)
-}
-
-/// Returns the length of the shebang line in bytes, or 0 if there is none.
-fn shebang_len(text: &str) -> usize
-    requires fits { Fits text.now }
-    ensures line { result ≡ some_or_zero (shebang text.now) }
-{
-    strip_shebang(text).unwrap_or(0)
 }

@@ -1,7 +1,6 @@
 //! Raw strings and guarded strings.
 ghost use Rattle.std.specs.Prelude.{◌≡◌, ◌↔◌, IsTrue, None};
 ghost use Rattle.std.specs.Str.{IsUtf8};
-ghost use Rattle.rustc_lexer.specs.Classes.{Fits};
 ghost use Rattle.rustc_lexer.specs.LanguageCalls.{StartsRaw};
 ghost use Rattle.rustc_lexer.specs.Answers.{raw_check};
 ghost use Rattle.rustc_lexer_c.specs.RawStr as spec;
@@ -57,7 +56,7 @@ pub extern "C" fn rustc_lexer_validate_raw_str(
         (spec.answer_numbers (raw_check text.now prefix_len)) spec.no_error error.new result }
 {
     match text_of(text) {
-        Ok(text) => raw_str(text, prefix_len, error),
+        Ok(_) => rustc_lexer_validate_raw_str_unchecked(text, prefix_len, error),
         Err(refusal) => refuse(refusal, NO_ERROR, error),
     }
 }
@@ -74,18 +73,10 @@ pub extern "C" fn rustc_lexer_validate_raw_str_unchecked(
     ensures { Writes text.now (StartsRaw text.now prefix_len) (refusal_number NotRaw)
         (spec.answer_numbers (raw_check text.now prefix_len)) spec.no_error error.new result }
 {
-    match utf8_text_of(text) {
-        Ok(text) => raw_str(text, prefix_len, error),
-        Err(refusal) => refuse(refusal, NO_ERROR, error),
-    }
-}
-
-/// Checks the raw string at the front of a text.
-fn raw_str(text: &str, prefix_len: u32, error: &mut CRawStrError) -> u32
-    requires fits { Fits text.now }
-    ensures { Writes text.now (StartsRaw text.now prefix_len) (refusal_number NotRaw)
-        (spec.answer_numbers (raw_check text.now prefix_len)) spec.no_error error.new result }
-{
+    let text = match utf8_text_of(text) {
+        Ok(text) => text,
+        Err(refusal) => return refuse(refusal, NO_ERROR, error),
+    };
     if !starts_raw(text, prefix_len) {
         return refuse(Refusal::NotRaw, NO_ERROR, error);
     }
@@ -114,7 +105,7 @@ pub extern "C" fn rustc_lexer_guarded_str(text: &[u8], string: &mut CGuardedStr)
         string.new result }
 {
     match text_of(text) {
-        Ok(text) => done(guarded_str(text), string),
+        Ok(_) => rustc_lexer_guarded_str_unchecked(text, string),
         Err(refusal) => refuse(refusal, guarded_numbers(None), string),
     }
 }
@@ -128,18 +119,15 @@ pub extern "C" fn rustc_lexer_guarded_str_unchecked(text: &[u8], string: &mut CG
         string.new result }
 {
     match utf8_text_of(text) {
-        Ok(text) => done(guarded_str(text), string),
+        Ok(text) => {
+            let mut cursor = Cursor::new(text, FrontmatterAllowed::No);
+            done(
+                guarded_numbers(cursor.guarded_double_quoted_string()),
+                string,
+            )
+        }
         Err(refusal) => refuse(refusal, guarded_numbers(None), string),
     }
-}
-
-/// Returns the guarded string at the front of a text, as numbers.
-fn guarded_str(text: &str) -> CGuardedStr
-    requires fits { Fits text.now }
-    ensures { result ≡ spec.guarded_at text.now }
-{
-    let mut cursor = Cursor::new(text, FrontmatterAllowed::No);
-    guarded_numbers(cursor.guarded_double_quoted_string())
 }
 
 /// Returns the result of a check as numbers.

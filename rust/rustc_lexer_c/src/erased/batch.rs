@@ -28,7 +28,7 @@ pub fn rustc_lexer_tokens(
     count: &mut usize,
 ) -> u32 {
     match text_of(text) {
-        Ok(text) => batch(text, place, buffer, count),
+        Ok(_) => rustc_lexer_tokens_unchecked(text, place, buffer, count),
         Err(refusal) => refuse(refusal, 0, count),
     }
 }
@@ -41,10 +41,14 @@ pub fn rustc_lexer_tokens_unchecked(
     buffer: &mut [CToken],
     count: &mut usize,
 ) -> u32 {
-    match utf8_text_of(text) {
-        Ok(text) => batch(text, place, buffer, count),
-        Err(refusal) => refuse(refusal, 0, count),
+    let text = match utf8_text_of(text) {
+        Ok(text) => text,
+        Err(refusal) => return refuse(refusal, 0, count),
+    };
+    if !text.is_char_boundary(place.at as usize) {
+        return refuse(Refusal::BadPlace, 0, count);
     }
+    done(fill(text, Edition::NEWEST, place, buffer), count)
 }
 
 /// Does what `rustc_lexer_tokens` does, in the edition of a year: 2015, 2018, 2021 or 2024.
@@ -56,7 +60,7 @@ pub fn rustc_lexer_tokens_in(
     count: &mut usize,
 ) -> u32 {
     match text_of(text) {
-        Ok(text) => batch_in(text, edition, place, buffer, count),
+        Ok(_) => rustc_lexer_tokens_in_unchecked(text, edition, place, buffer, count),
         Err(refusal) => refuse(refusal, 0, count),
     }
 }
@@ -70,9 +74,16 @@ pub fn rustc_lexer_tokens_in_unchecked(
     buffer: &mut [CToken],
     count: &mut usize,
 ) -> u32 {
-    match utf8_text_of(text) {
-        Ok(text) => batch_in(text, edition, place, buffer, count),
-        Err(refusal) => refuse(refusal, 0, count),
+    let text = match utf8_text_of(text) {
+        Ok(text) => text,
+        Err(refusal) => return refuse(refusal, 0, count),
+    };
+    if !text.is_char_boundary(place.at as usize) {
+        return refuse(Refusal::BadPlace, 0, count);
+    }
+    match edition_of(edition) {
+        Some(edition) => done(fill(text, edition, place, buffer), count),
+        None => refuse(Refusal::BadEdition, 0, count),
     }
 }
 
@@ -105,31 +116,6 @@ pub(crate) const NO_TOKEN: CToken = CToken {
     suffix_start: 0,
     len: 0,
 };
-
-/// Writes the batch at the place into the buffer, and its number of tokens into `count`.
-fn batch(text: &str, place: &mut CPlace, buffer: &mut [CToken], count: &mut usize) -> u32 {
-    if !text.is_char_boundary(place.at as usize) {
-        return refuse(Refusal::BadPlace, 0, count);
-    }
-    done(fill(text, Edition::NEWEST, place, buffer), count)
-}
-
-/// Writes the batch at the place in the edition of a year into the buffer, and its number of tokens into `count`.
-fn batch_in(
-    text: &str,
-    edition: u32,
-    place: &mut CPlace,
-    buffer: &mut [CToken],
-    count: &mut usize,
-) -> u32 {
-    if !text.is_char_boundary(place.at as usize) {
-        return refuse(Refusal::BadPlace, 0, count);
-    }
-    match edition_of(edition) {
-        Some(edition) => done(fill(text, edition, place, buffer), count),
-        None => refuse(Refusal::BadEdition, 0, count),
-    }
-}
 
 /// Writes the batch at a place between characters. Returns its number of tokens. It is inlined, so the call for the
 /// newest edition, a constant there, does not test which it is.

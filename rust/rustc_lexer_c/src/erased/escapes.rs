@@ -42,7 +42,7 @@ pub fn rustc_lexer_unescape(
     count: &mut usize,
 ) -> u32 {
     match text_of(text) {
-        Ok(text) => write(text, Listing::Units, mode, passed, buffer, count),
+        Ok(_) => rustc_lexer_unescape_unchecked(text, mode, passed, buffer, count),
         Err(refusal) => refuse(refusal, 0, count),
     }
 }
@@ -55,9 +55,13 @@ pub fn rustc_lexer_unescape_unchecked(
     buffer: &mut [CUnit],
     count: &mut usize,
 ) -> u32 {
-    match utf8_text_of(text) {
-        Ok(text) => write(text, Listing::Units, mode, passed, buffer, count),
-        Err(refusal) => refuse(refusal, 0, count),
+    let text = match utf8_text_of(text) {
+        Ok(text) => text,
+        Err(refusal) => return refuse(refusal, 0, count),
+    };
+    match mode_of(mode) {
+        Some(mode) => done(fill_units(text, mode, passed, buffer), count),
+        None => refuse(Refusal::BadMode, 0, count),
     }
 }
 
@@ -74,7 +78,7 @@ pub fn rustc_lexer_literal_errors(
     count: &mut usize,
 ) -> u32 {
     match text_of(text) {
-        Ok(text) => write(text, Listing::Errors, mode, passed, buffer, count),
+        Ok(_) => rustc_lexer_literal_errors_unchecked(text, mode, passed, buffer, count),
         Err(refusal) => refuse(refusal, 0, count),
     }
 }
@@ -87,33 +91,16 @@ pub fn rustc_lexer_literal_errors_unchecked(
     buffer: &mut [CUnit],
     count: &mut usize,
 ) -> u32 {
-    match utf8_text_of(text) {
-        Ok(text) => write(text, Listing::Errors, mode, passed, buffer, count),
-        Err(refusal) => refuse(refusal, 0, count),
-    }
-}
-
-/// What a call lists of a literal.
-#[derive(Clone, Copy)]
-enum Listing {
-    /// What it stands for, and its errors and warnings.
-    Units,
-    /// Its errors and warnings.
-    Errors,
-}
-
-/// Writes the listing of a text.
-fn write(
-    text: &str,
-    listing: Listing,
-    mode: u32,
-    passed: usize,
-    buffer: &mut [CUnit],
-    count: &mut usize,
-) -> u32 {
+    let text = match utf8_text_of(text) {
+        Ok(text) => text,
+        Err(refusal) => return refuse(refusal, 0, count),
+    };
     match mode_of(mode) {
+        Some(mode) => done(
+            fill_all(FaultsInFile::new(text, mode), passed, buffer),
+            count,
+        ),
         None => refuse(Refusal::BadMode, 0, count),
-        Some(mode) => done(fill(text, listing, mode, passed, buffer), count),
     }
 }
 
@@ -129,14 +116,6 @@ fn mode_of(number: u32) -> Option<Mode> {
         9 => Some(Mode::RawByteStr),
         10 => Some(Mode::RawCStr),
         _ => None,
-    }
-}
-
-/// Writes the listing of a literal. Returns how many units it wrote.
-fn fill(text: &str, listing: Listing, mode: Mode, passed: usize, buffer: &mut [CUnit]) -> usize {
-    match listing {
-        Listing::Units => fill_units(text, mode, passed, buffer),
-        Listing::Errors => fill_all(FaultsInFile::new(text, mode), passed, buffer),
     }
 }
 

@@ -35,7 +35,7 @@ pub fn rustc_lexer_body_edit(
     head_kept: &mut u32,
 ) -> u32 {
     match text_of(text) {
-        Ok(text) => find_body_edit(text, edit, head, body_edit, head_kept),
+        Ok(_) => rustc_lexer_body_edit_unchecked(text, edit, head, body_edit, head_kept),
         Err(refusal) => refusal.number(),
     }
 }
@@ -48,20 +48,10 @@ pub fn rustc_lexer_body_edit_unchecked(
     body_edit: &mut CEdit,
     head_kept: &mut u32,
 ) -> u32 {
-    match utf8_text_of(text) {
-        Ok(text) => find_body_edit(text, edit, head, body_edit, head_kept),
-        Err(refusal) => refusal.number(),
-    }
-}
-
-/// Finds what an edit changes in the body of a text, and the head of the text.
-fn find_body_edit(
-    text: &str,
-    edit: &CEdit,
-    head: &mut CHead,
-    body_edit: &mut CEdit,
-    head_kept: &mut u32,
-) -> u32 {
+    let text = match utf8_text_of(text) {
+        Ok(text) => text,
+        Err(refusal) => return refusal.number(),
+    };
     let change = change_of(edit);
     if !change.may_make(text) {
         return Refusal::BadEdit.number();

@@ -8,7 +8,7 @@ use rustc_lexer::erased::{settled, strip_shebang};
 /// there is none.
 pub fn rustc_lexer_strip_shebang(text: &[u8], line_len: &mut usize) -> u32 {
     match text_of(text) {
-        Ok(text) => done(shebang_len(text), line_len),
+        Ok(_) => rustc_lexer_strip_shebang_unchecked(text, line_len),
         Err(refusal) => refuse(refusal, 0, line_len),
     }
 }
@@ -17,7 +17,7 @@ pub fn rustc_lexer_strip_shebang(text: &[u8], line_len: &mut usize) -> u32 {
 /// again.
 pub fn rustc_lexer_strip_shebang_unchecked(text: &[u8], line_len: &mut usize) -> u32 {
     match utf8_text_of(text) {
-        Ok(text) => done(shebang_len(text), line_len),
+        Ok(text) => done(strip_shebang(text).unwrap_or(0), line_len),
         Err(refusal) => refuse(refusal, 0, line_len),
     }
 }
@@ -26,7 +26,7 @@ pub fn rustc_lexer_strip_shebang_unchecked(text: &[u8], line_len: &mut usize) ->
 /// tokens up to there stay as they are, if no frontmatter is allowed.
 pub fn rustc_lexer_settled(text: &[u8], end: &mut usize) -> u32 {
     match text_of(text) {
-        Ok(text) => settled_end(text, end),
+        Ok(_) => rustc_lexer_settled_unchecked(text, end),
         Err(refusal) => refuse(refusal, 0, end),
     }
 }
@@ -35,17 +35,7 @@ pub fn rustc_lexer_settled(text: &[u8], end: &mut usize) -> u32 {
 /// found to be UTF-8. Does not check it again.
 pub fn rustc_lexer_settled_unchecked(text: &[u8], end: &mut usize) -> u32 {
     match utf8_text_of(text) {
-        Ok(text) => settled_end(text, end),
+        Ok(text) => done(settled(text), end),
         Err(refusal) => refuse(refusal, 0, end),
     }
-}
-
-/// Writes where the last token that at least two characters follow ends, or 0.
-fn settled_end(text: &str, end: &mut usize) -> u32 {
-    done(settled(text), end)
-}
-
-/// Returns the length of the shebang line in bytes, or 0 if there is none.
-fn shebang_len(text: &str) -> usize {
-    strip_shebang(text).unwrap_or(0)
 }

@@ -42,7 +42,7 @@ pub struct CGuardedStr {
 /// characters.
 pub fn rustc_lexer_validate_raw_str(text: &[u8], prefix_len: u32, error: &mut CRawStrError) -> u32 {
     match text_of(text) {
-        Ok(text) => raw_str(text, prefix_len, error),
+        Ok(_) => rustc_lexer_validate_raw_str_unchecked(text, prefix_len, error),
         Err(refusal) => refuse(refusal, NO_ERROR, error),
     }
 }
@@ -54,14 +54,10 @@ pub fn rustc_lexer_validate_raw_str_unchecked(
     prefix_len: u32,
     error: &mut CRawStrError,
 ) -> u32 {
-    match utf8_text_of(text) {
-        Ok(text) => raw_str(text, prefix_len, error),
-        Err(refusal) => refuse(refusal, NO_ERROR, error),
-    }
-}
-
-/// Checks the raw string at the front of a text.
-fn raw_str(text: &str, prefix_len: u32, error: &mut CRawStrError) -> u32 {
+    let text = match utf8_text_of(text) {
+        Ok(text) => text,
+        Err(refusal) => return refuse(refusal, NO_ERROR, error),
+    };
     if !starts_raw(text, prefix_len) {
         return refuse(Refusal::NotRaw, NO_ERROR, error);
     }
@@ -82,7 +78,7 @@ pub fn rustc_lexer_starts_raw_unchecked(text: &[u8], prefix_len: u32) -> bool {
 /// of the next token.
 pub fn rustc_lexer_guarded_str(text: &[u8], string: &mut CGuardedStr) -> u32 {
     match text_of(text) {
-        Ok(text) => done(guarded_str(text), string),
+        Ok(_) => rustc_lexer_guarded_str_unchecked(text, string),
         Err(refusal) => refuse(refusal, guarded_numbers(None), string),
     }
 }
@@ -91,15 +87,15 @@ pub fn rustc_lexer_guarded_str(text: &[u8], string: &mut CGuardedStr) -> u32 {
 /// it reads no more than the string.
 pub fn rustc_lexer_guarded_str_unchecked(text: &[u8], string: &mut CGuardedStr) -> u32 {
     match utf8_text_of(text) {
-        Ok(text) => done(guarded_str(text), string),
+        Ok(text) => {
+            let mut cursor = Cursor::new(text, FrontmatterAllowed::No);
+            done(
+                guarded_numbers(cursor.guarded_double_quoted_string()),
+                string,
+            )
+        }
         Err(refusal) => refuse(refusal, guarded_numbers(None), string),
     }
-}
-
-/// Returns the guarded string at the front of a text, as numbers.
-fn guarded_str(text: &str) -> CGuardedStr {
-    let mut cursor = Cursor::new(text, FrontmatterAllowed::No);
-    guarded_numbers(cursor.guarded_double_quoted_string())
 }
 
 /// Returns the result of a check as numbers.
