@@ -1,11 +1,11 @@
 -- Comments, white space and symbols are in their languages, and what is there is read so.
-use Rattle.std.proofs.Common.{◌≡◌, ℕ, suc, ◌+◌, ◌≤◌, ◌==◌, ◌&&◌, not, Bool, true, false, true≢false, if◌then◌else◌, List, [], ◌∷◌, ◌++◌, length, take, drop, codes, refl, sym, ap, ◌∙◌, subst, arith, append_assoc, length-append, length-take-le, take-add, take-append-drop, take_all, Option, Some, None}
-use Rattle.std.proofs.Math.Seq.{take-append_seam, drop-append_seam, drop-length}
+use Rattle.std.proofs.Common.{◌≡◌, ℕ, suc, ◌+◌, ◌==◌, ◌&&◌, not, Bool, true, false, true≢false, if◌then◌else◌, List, [], ◌∷◌, ◌++◌, length, take, drop, codes, refl, sym, ap, ◌∙◌, subst, arith, take-append-drop, take_all, Option, Some, None}
+use Rattle.std.proofs.Math.Seq.{take-append_seam, drop-length}
 use Rattle.std.proofs.lemmas.Bool.{and_parts, eqb-true, or_parts, or_from}
 use Rattle.std.proofs.lemmas.List.{append-nil}
 use Rattle.std.proofs.lemmas.Grind.{common_steps}
-use Rattle.rustc_lexer.specs.{DocStyle, TokenKind, Outer, Inner, LineComment, BlockComment, Whitespace, GuardedStrPrefix, Pound, Slash}
-use Rattle.rustc_lexer.specs.means.BlockComment.{at_closing, at_opening, block_doc_style, block_comment_to, block_comment, comment_end}
+use Rattle.rustc_lexer.specs.{DocStyle, Outer, Inner, LineComment, BlockComment, Whitespace, GuardedStrPrefix, Pound, Slash}
+use Rattle.rustc_lexer.specs.means.BlockComment.{block_doc_style, block_comment_to, block_comment, comment_end}
 use Rattle.rustc_lexer.specs.Classes.{is_among, is_whitespace, NextNotIn, AreAll, NextIsNot, is_inline}
 use Rattle.rustc_lexer.specs.means.Comment.{line_doc_style, line_comment, slash}
 use Rattle.rustc_lexer.specs.means.Hash.{opens_guarded, hash}
@@ -105,12 +105,15 @@ block-sound s = by_end (comment_end s) refl
   where
     by_end : (o : Option ℕ) → comment_end s ≡ o → IsTokenBefore (drop (block_comment_to o s).1 s) (block_comment_to o s).0 (47 ∷ 42 ∷ take (block_comment_to o s).1 s)
     by_end None e =
-        let never = λ (n : ℕ) (p : IsCommentRest (take n s)). absurd (let some = sym (comment_end-found p (drop n s)) ∙ (ap comment_end (take-append-drop n s) ∙ e) in cc) in
-        subst (λ (w : List ℕ). IsTokenBefore (drop (length s) s) (BlockComment (block_doc_style s) false) (47 ∷ 42 ∷ w)) (sym (take_all (length s) s (omega arith)))
+        let never = λ (n : ℕ) (p : IsCommentRest (take n s)).
+        absurd (let some = sym (comment_end-found p (drop n s)) ∙ (ap comment_end (take-append-drop n s) ∙ e) in cc) in
+        subst (λ (w : List ℕ). IsTokenBefore (drop (length s) s) (BlockComment (block_doc_style s) false) (47 ∷ 42 ∷ w))
+        (sym (take_all (length s) s (omega arith)))
         (the.open_comment (drop-length s) never (block-styled s))
     by_end (Some n) e =
         let p = comment_end-rest s n e in
-        let own : block_doc_style (take n s) ≡ block_doc_style s = sym (decided-front 2 block_doc_style style_decided (take n s) (drop n s) (rest-long p)) ∙ ap block_doc_style (take-append-drop n s) in
+        let own : block_doc_style (take n s) ≡ block_doc_style s =
+        sym (decided-front 2 block_doc_style style_decided (take n s) (drop n s) (rest-long p)) ∙ ap block_doc_style (take-append-drop n s) in
         the.block_comment p (subst (λ (style : Option DocStyle). IsBlockStyle style (take n s)) own (block-styled (take n s)))
 
 pub block-read : (style : Option DocStyle) (w next : List ℕ) → IsCommentRest w → IsBlockStyle style w → Read (BlockComment style true) (suc (suc (length w))) (47 ∷ 42 ∷ w ++ next)

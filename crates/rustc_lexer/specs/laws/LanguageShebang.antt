@@ -1,12 +1,10 @@
 -- What is taken for a shebang line is what the language says, and nothing else is.
-use Rattle.std.proofs.Common.{◌≡◌, ◌↔◌, ℕ, zero, suc, ◌+◌, ◌-◌, ◌<◌, ◌≤◌, ◌==◌, ◌&&◌, ◌||◌, not, Bool, true, false, true≢false, if◌then◌else◌, List, [], ◌∷◌, ◌++◌, length, get_or, take, drop, codes, refl, sym, ap, ◌∙◌, subst, arith, length-append, Option, Some, None}
+use Rattle.std.proofs.Common.{◌≡◌, ◌↔◌, ℕ, suc, ◌+◌, ◌-◌, ◌==◌, ◌&&◌, ◌||◌, not, Bool, true, false, true≢false, if◌then◌else◌, List, [], ◌∷◌, ◌++◌, length, get_or, take, drop, codes, refl, sym, ap, ◌∙◌, subst, arith, length-append, Option, Some, None}
 use lib.Utf8.{encode}
 use Rattle.std.proofs.lemmas.Bool.{and_parts, eqb-true, not-true}
-use Rattle.std.proofs.lemmas.List.{append-nil}
 use Rattle.std.proofs.lemmas.Str.{IsUtf8-drop, IsCharBoundary-from_take}
-use Rattle.std.specs.List.{list_all, prefix_len, Contains}
+use Rattle.std.specs.List.{list_all, Contains}
 use Rattle.std.specs.Str.{chars, encode_utf8_all, IsUtf8}
-use Rattle.std.proofs.Math.Seq.{drop-append_seam}
 use Rattle.std.proofs.Math.Bool.{and-false}
 use Rattle.std.proofs.lemmas.Grind.{common_steps}
 use Rattle.unicode_ident.proofs.Computing.{unicode_ident}
@@ -44,8 +42,11 @@ first-step text kind c w next is e p =
     let parts = split text (c ∷ w) next is e in
     let left : List ℕ = encode_utf8_all next in
     let left_is : IsText left = subst IsText parts.left (left_text text (bytes (c ∷ w)) is parts.inside (subst IsUtf8 (sym parts.front) parts.front_utf8)) in
-    let rest : AreTokens (part newest) next (ts left) = subst (λ cs. AreTokens (part newest) cs (ts left)) parts.again (tokens-are left (part newest) left_is) in
-    (left, left_is, parts.again, ap is_attribute (tokens-read {mode = part newest} (something (of_grammar refl p) (λ y. absurd (true≢false (sym y))) rest) text is e))
+    let rest : AreTokens (part newest) next (ts left) =
+    subst (λ cs. AreTokens (part newest) cs (ts left)) parts.again (tokens-are left (part newest) left_is) in
+    let all : AreTokens (part newest) (c ∷ w ++ next) (record { kind = kind; len = bytes (c ∷ w) } ∷ ts left) =
+    something (of_grammar refl p) (λ y. absurd (true≢false (sym y))) rest in
+    (left, left_is, parts.again, ap is_attribute (tokens-read all text is e))
 
 bracket-alone : has_rule 91 ≡ false
 unfolding unicode_ident is_emoji emoji_ranges
@@ -93,14 +94,16 @@ attribute-is text is = attribute-of (tokens-are text (part newest) is)
 -- ---- a line
 
 -- a line ends where what follows ends it, if no carriage return and newline meet there
-line_len-here : (w next : List ℕ) → AreAll is_inline w → line_len next ≡ 0 → ((u : List ℕ) → w ≡ u ++ 13 ∷ [] → begins (codes "\n") next ≡ false) → line_len (w ++ next) ≡ length w
+line_len-here : (w next : List ℕ) → AreAll is_inline w → line_len next ≡ 0 → ((u : List ℕ) → w ≡ u ++ 13 ∷ [] → begins (codes "\n") next ≡ false)
+    → line_len (w ++ next) ≡ length w
 line_len-here [] next all ends free = ends
 line_len-here (c ∷ []) next all ends free = let inline = and_parts (is_inline c) true all in by_either (c == 13)
     (λ e. rw (not-true (c == 10) inline.0, free [] (ap (λ x. x ∷ []) (eqb-true c 13 e)), and-false (c == 13), ends) refl)
     (λ e. rw (not-true (c == 10) inline.0, e, ends) refl)
 line_len-here (c ∷ d ∷ w) next all ends free =
     let parts = and_parts (is_inline c) (list_all is_inline (d ∷ w)) all in
-    let none : begins (codes "\r\n") (c ∷ d ∷ w ++ next) ≡ false = rw (not-true (d == 10) (and_parts (is_inline d) (list_all is_inline w) parts.1).0) (and-false (c == 13)) in
+    let none : begins (codes "\r\n") (c ∷ d ∷ w ++ next) ≡ false =
+    rw (not-true (d == 10) (and_parts (is_inline d) (list_all is_inline w) parts.1).0) (and-false (c == 13)) in
     rw (not-true (c == 10) parts.0, none) (ap suc (line_len-here (d ∷ w) next parts.1 ends (λ u e. free (c ∷ u) (ap (λ xs. c ∷ xs) e))))
 
 pub line-read : {next w : List ℕ} → IsLineBefore next w → line_len (w ++ next) ≡ length w
@@ -128,12 +131,16 @@ longer c w next e f (the.to_end all none) = the.to_end (rw e all) none
 has-line : (text : List ℕ) → HasLine text
 has-line [] = record { w = []; next = []; whole = refl; is = the.to_end refl refl }
 has-line (c ∷ s) = by_either (c == 10)
-    (λ e. record { w = []; next = c ∷ s; whole = refl; is = the.to_newline refl (rw e refl) (λ u f. absurd (let free = ap (λ (x : List ℕ). length x) f in omega (arith, free, length-append u (13 ∷ [])))) })
+    (λ e.
+    let none : (u : List ℕ) → [] ≡ u ++ 13 ∷ [] → ⊥ =
+    λ u f. absurd (let free = ap (λ (x : List ℕ). length x) f in omega (arith, free, length-append u (13 ∷ []))) in
+    record { w = []; next = c ∷ s; whole = refl; is = the.to_newline refl (rw e refl) none })
     (λ e. by_either (begins (codes "\r\n") (c ∷ s))
     (λ f. record { w = []; next = c ∷ s; whole = refl; is = the.to_return refl f })
     (λ f.
     let ih = has-line s in
-    record { w = c ∷ ih.w; next = ih.next; whole = ap (λ (x : List ℕ). c ∷ x) ih.whole; is = longer c ih.w ih.next e (ap (λ (x : List ℕ). begins (codes "\r\n") (c ∷ x)) ih.whole ∙ f) ih.is }))
+    let stands : begins (codes "\r\n") (c ∷ ih.w ++ ih.next) ≡ false = ap (λ (x : List ℕ). begins (codes "\r\n") (c ∷ x)) ih.whole ∙ f in
+    record { w = c ∷ ih.w; next = ih.next; whole = ap (λ (x : List ℕ). c ∷ x) ih.whole; is = longer c ih.w ih.next e stands ih.is }))
 
 -- ---- the answer
 

@@ -1,5 +1,5 @@
 -- The head that is found in a document is the one that its tokens tell: those up to the frontmatter.
-use Rattle.std.proofs.Common.{◌≡◌, ℕ, zero, suc, ◌+◌, ◌-◌, ◌≤◌, Bool, true, false, true≢false, List, [], ◌∷◌, ◌++◌, length, length-append, length-drop, drop-drop, take, drop, refl, sym, ap, ap₂, ◌∙◌, subst, arith, chars, Option, None, Some, IsCharBoundary}
+use Rattle.std.proofs.Common.{◌≡◌, ℕ, zero, suc, ◌+◌, ◌-◌, ◌≤◌, true, false, true≢false, List, [], ◌∷◌, ◌++◌, length, length-append, length-drop, drop-drop, take, drop, refl, sym, ap, ap₂, ◌∙◌, subst, arith, chars, Option, None, Some, IsCharBoundary}
 use Rattle.std.proofs.Math.Seq.{take-append_seam}
 use Rattle.std.proofs.lemmas.Bool.{not-true}
 use Rattle.rustc_lexer.specs.{Edition, Token, TokenKind}
@@ -72,28 +72,36 @@ bound-append (t ∷ ts) us = ap (λ n. t.len + n) (bound-append ts us)
 pub record IsHead (text : List ℕ) (head : Head) : Type 0 where
   pub of : IsHeadOf text head
   pub is_one : (t : Token) → head.frontmatter ≡ Some t → is_frontmatter t.kind ≡ true
-  pub tokens : (edition : Edition) → front_tokens head.space_len head.frontmatter ++ read_tokens (part edition) (drop head.body text) ≡ document_tokens edition text
+  pub tokens : (edition : Edition)
+      → front_tokens head.space_len head.frontmatter ++ read_tokens (part edition) (drop head.body text) ≡ document_tokens edition text
 
 module _ (text : List ℕ) (is : IsText text) where
   abbrev all : List Token
   all = document_tokens newest text
 
   rest_text : (rest : List ℕ) → rest ≡ drop (shebang_len text) text → IsText rest
-  rest_text rest e = subst IsText (sym e) record { utf8 = IsUtf8-drop text (shebang_len text) is.utf8 (shebang-boundary text is); fits = let f = is.fits in omega (arith, length-drop (shebang_len text) text) }
+  rest_text rest e =
+      let fits = is.fits in
+      let utf8 = IsUtf8-drop text (shebang_len text) is.utf8 (shebang-boundary text is) in
+      subst IsText (sym e) record { utf8 = utf8; fits = omega (arith, length-drop (shebang_len text) text) }
 
   module _ (n : ℕ) (n_is : n ≡ shebang_len text) (rest : List ℕ) (rest_is : rest ≡ drop n text) where
     rest_same : rest ≡ drop (shebang_len text) text
     rest_same = rest_is ∙ ap (λ k. drop k text) n_is
 
-    head_is : {space : ℕ} {front : Option Token} {len : ℕ} → IsFront rest space front len → (body : ℕ) → body ≡ n + len → IsHead text record { shebang_len = n; space_len = space; frontmatter = front; body = body }
+    head_is : {space : ℕ} {front : Option Token} {len : ℕ} → IsFront rest space front len → (body : ℕ) → body ≡ n + len
+        → IsHead text record { shebang_len = n; space_len = space; frontmatter = front; body = body }
     head_is {space} {front} {len} at body body_is =
         let ts : List Token = front_tokens space front in
         let whole : all ≡ ts ++ read_tokens (part newest) (drop len rest) = ap (read_tokens (source newest)) (sym rest_same) ∙ at.tokens newest in
         let end : bound all (length ts) ≡ len = ap (λ us. bound us (length ts)) whole ∙ (bound-append ts _ ∙ sym at.ends) in
         let cut : IsCharBoundary rest len = subst (IsCharBoundary rest) end (subst (λ xs. IsCharBoundary xs (bound all (length ts))) (sym rest_same)
-        ((partitions _ (source newest) (rest_text _ refl)).boundaries (length ts) (omega (arith, ap length whole, length-append ts (read_tokens (part newest) (drop len rest)))))) in
+        ((partitions _ (source newest) (rest_text _ refl)).boundaries (length ts)
+        (omega (arith, ap length whole, length-append ts (read_tokens (part newest) (drop len rest)))))) in
         let behind : drop body text ≡ drop len rest = ap (λ k. drop k text) body_is ∙ (sym (drop-drop len n text) ∙ ap (drop len) (sym rest_is)) in
-        let left : IsText (drop len rest) = record { utf8 = IsUtf8-drop rest len (rest_text rest rest_same).utf8 cut; fits = let f = (rest_text rest rest_same).fits in omega (arith, length-drop len rest) } in
+        let its = rest_text rest rest_same in
+        let left : IsText (drop len rest) =
+        record { utf8 = IsUtf8-drop rest len its.utf8 cut; fits = let f = its.fits in omega (arith, length-drop len rest) } in
         let count : head_count all ≡ length ts = ap head_count whole ∙ count-front space front _ at.is_one (part-none newest (drop len rest) left) in
         record {
           of = record {
@@ -106,7 +114,8 @@ module _ (text : List ℕ) (is : IsText text) where
           tokens = λ edition. ap (λ xs. ts ++ read_tokens (part edition) xs) behind ∙ (sym (at.tokens edition) ∙ ap (read_tokens (source edition)) rest_same);
         }
 
-    pub head-front : (front : Token) → opens (chars rest) ≡ true → front ≡ frontmatter rest → IsHead text record { shebang_len = n; space_len = 0; frontmatter = Some front; body = n + front.len }
+    pub head-front : (front : Token) → opens (chars rest) ≡ true → front ≡ frontmatter rest
+        → IsHead text record { shebang_len = n; space_len = 0; frontmatter = Some front; body = n + front.len }
     head-front front opened e = rw e (head_is record {
       is_one = some-one rest;
       bare = λ none. refl;
@@ -115,7 +124,13 @@ module _ (text : List ℕ) (is : IsText text) where
     } _ refl)
 
     module _ (tail : List ℕ) (none : opens (chars rest) ≡ false) (tail_is : tail ≡ past (spaces_len (chars rest)) rest) where
-      pub head-spaced : (front : Token) → opens (chars tail) ≡ true → front ≡ frontmatter tail → IsHead text record { shebang_len = n; space_len = length rest - length tail; frontmatter = Some front; body = n + (length rest - length tail) + front.len }
+      pub head-spaced : (front : Token) → opens (chars tail) ≡ true → front ≡ frontmatter tail
+          → IsHead text record {
+            shebang_len = n;
+            space_len = length rest - length tail;
+            frontmatter = Some front;
+            body = n + (length rest - length tail) + front.len;
+          }
       head-spaced front opened e = rw e (head_is record {
         is_one = some-one tail;
         bare = λ none. absurd (cc);
@@ -146,11 +161,14 @@ module _ (text : List ℕ) (is : IsText text) where
 
   -- the tokens of a document in an edition
   pub in_edition : (edition : Edition) → tokens_in (whole_by (first_in edition) text) ≡ document_tokens edition text
-  in_edition edition = let some = some_head.1 in sym (ap₂ (λ ts n. ts ++ tokens_by (first_in edition) (drop n text)) some.of.tokens_are some.of.end_is) ∙ some.tokens edition
+  in_edition edition =
+      let some = some_head.1 in sym (ap₂ (λ ts n. ts ++ tokens_by (first_in edition) (drop n text)) some.of.tokens_are some.of.end_is) ∙ some.tokens edition
 
   -- the tokens of the head are cut between characters
   pub head_cuts : (k : ℕ) → k ≤ length (head_tokens text) → IsCharBoundary text (shebang_len text + bound (head_tokens text) k)
   head_cuts k few =
-      let same : bound all k ≡ bound (head_tokens text) k = bound-same k all (head_tokens text) (sym (take-take k (head_count all) all (omega (arith, few, length-take (head_count all) all)))) in
+      let same : bound all k ≡ bound (head_tokens text) k =
+      bound-same k all (head_tokens text) (sym (take-take k (head_count all) all (omega (arith, few, length-take (head_count all) all)))) in
       IsCharBoundary-from_rest text (shebang_len text) (bound (head_tokens text) k) (shebang-boundary text is).0
-      (subst (IsCharBoundary rest) same ((partitions rest (source newest) (rest_text rest refl)).boundaries k (omega (arith, few, length-take (head_count all) all))))
+      (subst (IsCharBoundary rest) same
+      ((partitions rest (source newest) (rest_text rest refl)).boundaries k (omega (arith, few, length-take (head_count all) all))))

@@ -1,15 +1,14 @@
 -- The tokens of a document: those of its head, and those of its body.
 use Rattle.std.proofs.lemmas.Grind.{common_steps}
-use Rattle.std.proofs.Common.{◌≡◌, ℕ, zero, suc, ◌+◌, ◌-◌, ◌<◌, nat_le, Bool, not, true, false, true≢false, if◌then◌else◌, List, [], ◌∷◌, ◌++◌, length, take, drop, refl, sym, ap, ap₂, ◌∙◌, subst, arith, length-drop, drop-drop, take-append-drop, append_assoc, length-append, codes, get_or, IsUtf8, IsCharBoundary, chars, Option, None, Some}
+use Rattle.std.proofs.Common.{◌≡◌, ℕ, zero, suc, ◌+◌, ◌-◌, ◌<◌, Bool, not, true, false, true≢false, List, [], ◌∷◌, ◌++◌, length, take, drop, refl, sym, ap, ap₂, ◌∙◌, subst, arith, length-drop, drop-drop, take-append-drop, append_assoc, length-append, codes, get_or, IsUtf8, IsCharBoundary, chars, Option, None, Some}
 use Rattle.std.specs.Option.{unwrap_or}
 use Rattle.std.proofs.lemmas.Bool.{and_parts, eqb-true, not-true}
 use Rattle.std.proofs.Math.Seq.{get_or-append_seam}
-use Rattle.std.proofs.lemmas.Str.{length-le-encodes, chars-nil, IsUtf8-drop, IsCharBoundary-before_ascii, IsCharBoundary-end, IsCharBoundary-start}
+use Rattle.std.proofs.lemmas.Str.{length-le-encodes, IsCharBoundary-before_ascii, IsCharBoundary-end, IsCharBoundary-start}
 use Rattle.rustc_lexer.specs.{Edition, Token, TokenKind, Eof, Whitespace}
 use Rattle.rustc_lexer.specs.Classes.{is_whitespace, IsText, bytes}
-use Rattle.rustc_lexer.specs.Document.{shebang_len, document_tokens}
+use Rattle.rustc_lexer.specs.Document.{shebang_len}
 use Rattle.rustc_lexer.specs.means.Document.{front_tokens}
-use Rattle.rustc_lexer.specs.Partition.{tokens_in}
 use Rattle.rustc_lexer.specs.Answers.{shebang}
 use Rattle.rustc_lexer.specs.Language as the
 use Rattle.rustc_lexer.specs.LanguageCalls as calls
@@ -25,16 +24,13 @@ use Rattle.rustc_lexer.specs.laws.LanguageFrontmatter.{opens-none}
 use Rattle.rustc_lexer.specs.laws.LanguageIn.{oldest}
 use Rattle.rustc_lexer.specs.laws.LanguageTokens.{tokens-are, tokens-read}
 use Rattle.rustc_lexer.specs.laws.Frontmatter.{frontmatter-cut}
-use Rattle.rustc_lexer.specs.laws.Language.{lexeme-sound}
-use Rattle.rustc_lexer.specs.laws.LanguageFront.{empty-text, first-is}
 use Rattle.rustc_lexer.specs.laws.LanguageRuns.{run-stops}
 use Rattle.rustc_lexer.specs.laws.LanguageComments.{space-sound}
 use Rattle.rustc_lexer.specs.laws.Past.{past-zero, chars-past, length-past, past-drop, IsUtf8-past}
-use Rattle.rustc_lexer.specs.laws.Tokens.{token_at-cuts, tokens-cons, tokens-nil}
-use Rattle.rustc_lexer.specs.means.Edition.{before_2021, before_2024, changed_in, first_token_in}
+use Rattle.rustc_lexer.specs.laws.Tokens.{tokens-cons}
 use Rattle.rustc_lexer.specs.means.Frontmatter.{frontmatter, opens, spaces_len}
-use Rattle.rustc_lexer.specs.means.Lexeme.{first_token, lexeme, symbol_kind}
-use Rattle.rustc_lexer.specs.means.Scan.{begins, bytes_of, next_is, past, run_len}
+use Rattle.rustc_lexer.specs.means.Lexeme.{symbol_kind}
+use Rattle.rustc_lexer.specs.means.Scan.{bytes_of, next_is, past, run_len}
 use Rattle.rustc_lexer.specs.means.Taking.{token_at}
 use Rattle.rustc_lexer.specs.means.Tokens.{read_tokens}
 
@@ -55,7 +51,8 @@ solid (the.whitespace {c} {w} all stop) out some = absurd (true≢false (sym (an
 solid (the.symbol {c} is) out some = not-true (stays (symbol_kind c)) (by_symbol (λ (kind : TokenKind). not (stays kind)) symbols c refl refl)
 solid p out some = refl
 
-solid-in : {edition : Edition} {next u : List ℕ} {kind : TokenKind} → IsTokenIn edition next kind u → next_is is_whitespace u ≡ false → 0 < length u → stays kind ≡ false
+solid-in : {edition : Edition} {next u : List ℕ} {kind : TokenKind} → IsTokenIn edition next kind u → next_is is_whitespace u ≡ false
+    → 0 < length u → stays kind ≡ false
 solid-in w0 out some = grind (arith, common_steps, solid)
 
 -- white space does
@@ -79,9 +76,11 @@ module _ (edition : Edition) where
       tokens-cons (source edition) text is some ∙ ap (λ (t : Token). t ∷ read_tokens (mode_after (source edition) t.kind) (drop t.len text)) at
 
   -- none, and no white space
-  as-source : {cs : List ℕ} {tokens : List Token} → AreTokens (part edition) cs tokens → OpensNone cs → next_is is_whitespace cs ≡ false → AreTokens (source edition) cs tokens
+  as-source : {cs : List ℕ} {tokens : List Token} → AreTokens (part edition) cs tokens → OpensNone cs → next_is is_whitespace cs ≡ false
+      → AreTokens (source edition) cs tokens
   as-source grammar.nothing none out = grammar.nothing
-  as-source (grammar.something {kind} {next} {tokens} p free rest) none out = grammar.something p (λ e. none) (subst (λ (mode : Mode). AreTokens mode next tokens) (sym (solid-after edition kind (solid-in p out (omega arith)))) rest)
+  as-source (grammar.something {kind} {next} {tokens} p free rest) none out =
+      grammar.something p (λ e. none) (subst (λ (mode : Mode). AreTokens mode next tokens) (sym (solid-after edition kind (solid-in p out (omega arith)))) rest)
 
   without-space : (text : List ℕ) → IsText text → opens (chars text) ≡ false → next_is is_whitespace (chars text) ≡ false → read_tokens (source edition) text ≡ read_tokens (part edition) text
   without-space text is none out = tokens-read (as-source (tokens-are text (part edition) is) (opens-none (chars text) none) out) text is refl
@@ -122,21 +121,28 @@ module _ (edition : Edition) where
             let long : spaces_len (chars text) ≡ suc n = ap spaces_len e ∙ rw white refl in
             let whole : chars text ≡ c ∷ take n s ++ drop n s = e ∙ ap (λ xs. c ∷ xs) (sym (take-append-drop n s)) in
             let len : bytes (c ∷ take n s) ≡ size = sym (ap₂ bytes_of long e) ∙ size_is in
-            let behind : AreTokens (mode_after mode Whitespace) (drop n s) (read_tokens mode tail) = subst (λ (m : Mode). AreTokens m (drop n s) (read_tokens mode tail)) (sym (space-after mode)) (subst (λ cs. AreTokens mode cs (read_tokens mode tail)) (left ∙ ap₂ drop long e) (tokens-are tail mode tail_text)) in
+            let behind : AreTokens (mode_after mode Whitespace) (drop n s) (read_tokens mode tail) =
+            subst (λ (m : Mode). AreTokens m (drop n s) (read_tokens mode tail)) (sym (space-after mode))
+            (subst (λ cs. AreTokens mode cs (read_tokens mode tail)) (left ∙ ap₂ drop long e) (tokens-are tail mode tail_text)) in
             let token = grammar.kept (oldest (mode_edition mode)) (space-sound c white s) in
             tokens-read (grammar.something token (λ y. subst OpensNone whole (opens-none (chars text) (none y))) behind) text is whole
-            ∙ (ap (λ k. record { kind = Whitespace; len = k } ∷ read_tokens mode tail) len ∙ one size (read_tokens mode tail) (omega (arith, len, length-le-encodes (c ∷ take n s)))))
+            ∙ (ap (λ k. record { kind = Whitespace; len = k } ∷ read_tokens mode tail) len
+            ∙ one size (read_tokens mode tail) (omega (arith, len, length-le-encodes (c ∷ take n s)))))
             (λ out. bare (ap spaces_len e ∙ rw out refl))
 
     -- no frontmatter, past white space or none
     pub without-front : opens (chars text) ≡ false → opens (chars tail) ≡ false → read_tokens (source edition) text ≡ read_tokens (part edition) text
     without-front none none_past =
         let out : next_is is_whitespace (chars tail) ≡ false = ap (next_is is_whitespace) left ∙ run-stops is_whitespace (chars text) in
-        spaced (source edition) (λ e. none) ∙ (ap (λ ts. space_before size ++ ts) (without-space tail tail_text none_past out) ∙ sym (spaced (part edition) (λ e. absurd (true≢false (sym e)))))
+        spaced (source edition) (λ e. none)
+        ∙ (ap (λ ts. space_before size ++ ts) (without-space tail tail_text none_past out) ∙ sym (spaced (part edition) (λ e. absurd (true≢false (sym e)))))
 
     -- a frontmatter past white space
     pub with-spaced : opens (chars text) ≡ false → opens (chars tail) ≡ true → read_tokens (source edition) text ≡ front_tokens size (Some (frontmatter tail)) ++ read_tokens (part edition) (drop (size + (frontmatter tail).len) text)
-    with-spaced none opened = spaced (source edition) (λ e. none) ∙ (ap (λ ts. space_before size ++ ts) (with-front tail tail_text opened ∙ ap (λ xs. frontmatter tail ∷ read_tokens (part edition) xs) behind) ∙ both size _)
+    with-spaced none opened =
+        spaced (source edition) (λ e. none)
+        ∙ (ap (λ ts. space_before size ++ ts) (with-front tail tail_text opened ∙ ap (λ xs. frontmatter tail ∷ read_tokens (part edition) xs) behind)
+        ∙ both size _)
       where
         behind : drop (frontmatter tail).len tail ≡ drop (size + (frontmatter tail).len) text
         behind = ap (drop (frontmatter tail).len) tail_drop ∙ drop-drop (frontmatter tail).len size text

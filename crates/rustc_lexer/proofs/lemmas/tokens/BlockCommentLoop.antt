@@ -61,7 +61,8 @@ run_on text rest depth (c ∷ cs) some reads at = by_either (is_other c)
     let left : chars (past 1 rest) ≡ cs = chars-past 1 rest at.utf8 ∙ ap (drop 1) reads in
     let here : chars rest ≡ c ∷ chars (past 1 rest) = reads ∙ ap (λ xs. c ∷ xs) (sym left) in
     let p = or_parts (c == 42) (c == 47) (not-true _ e) in
-    let next : Commenting text (past 1 rest) depth = step text rest (past 1 rest) (c ∷ []) depth depth 1 at here refl refl (out_of-plain depth c (chars (past 1 rest)) some (rw p.0 refl) (rw p.1 refl)) in
+    let next : Commenting text (past 1 rest) depth =
+    step text rest (past 1 rest) (c ∷ []) depth depth 1 at here refl refl (out_of-plain depth c (chars (past 1 rest)) some (rw p.0 refl) (rw p.1 refl)) in
     let longer : 1 + run_len is_other cs ≡ run_len is_other (c ∷ cs) = rw e (omega arith) in
     subst (λ xs. Commenting text xs depth) (past-past (run_len is_other cs) 1 rest at.utf8 ∙ ap (λ n. past n rest) longer) (run_on text (past 1 rest) depth cs some left next))
     (λ e.
@@ -103,11 +104,13 @@ module _ (text rest stop : List ℕ) (depth : ℕ) (some : 0 < depth) (at : Comm
     pub closed_one : (past_pair : List ℕ) (less : ℕ) → c ≡ 42 → begins (47 ∷ []) (chars tail) ≡ true → past_pair ≡ past 1 tail → suc less ≡ depth → Commenting text past_pair less
     unfolding out_of
     closed_one past_pair less e f g h =
-        step text stop past_pair (42 ∷ 47 ∷ []) depth less 2 at_stop (pair_reads 42 47 past_pair e f g) refl (past_both past_pair g) (ap (λ d. out_of d (42 ∷ 47 ∷ chars past_pair)) (sym h))
+        step text stop past_pair (42 ∷ 47 ∷ []) depth less 2 at_stop (pair_reads 42 47 past_pair e f g) refl (past_both past_pair g)
+        (ap (λ d. out_of d (42 ∷ 47 ∷ chars past_pair)) (sym h))
 
     pub opened_one : (past_pair : List ℕ) (deeper : ℕ) → c ≢ 42 → begins (42 ∷ []) (chars tail) ≡ true → past_pair ≡ past 1 tail → deeper ≡ suc depth → Commenting text past_pair deeper
     opened_one past_pair deeper ne f g h =
-        step text stop past_pair (47 ∷ 42 ∷ []) depth deeper 2 at_stop (pair_reads 47 42 past_pair (is_slash ne) f g) refl (past_both past_pair g) (out_of-opening depth (chars past_pair) some ∙ ap (λ d. more 2 (out_of d (chars past_pair))) (sym h))
+        step text stop past_pair (47 ∷ 42 ∷ []) depth deeper 2 at_stop (pair_reads 47 42 past_pair (is_slash ne) f g) refl (past_both past_pair g)
+        (out_of-opening depth (chars past_pair) some ∙ ap (λ d. more 2 (out_of d (chars past_pair))) (sym h))
 
 pub closed : (text rest : List ℕ) (depth : ℕ) → Commenting text rest depth → depth ≡ 0 → (true, rest) ≡ scanned (or_all comment_end) text
 unfolding out_of

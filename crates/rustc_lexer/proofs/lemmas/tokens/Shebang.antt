@@ -1,5 +1,5 @@
 -- Shebang lines: the front of a text, and its first line.
-use Rattle.std.proofs.Common.{◌≡◌, ◌≢◌, ℕ, zero, suc, ◌+◌, ◌-◌, ◌<◌, ◌≤◌, Bool, true, false, if◌then◌else◌, List, [], ◌∷◌, ◌++◌, length, take, drop, get_or, codes, length-append, length-take-le, take-append-drop, refl, sym, ap, ◌∙◌, arith, Option, Some, None}
+use Rattle.std.proofs.Common.{◌≡◌, ◌≢◌, ℕ, zero, suc, ◌+◌, ◌-◌, ◌<◌, ◌≤◌, Bool, true, false, if◌then◌else◌, List, [], ◌∷◌, length, take, drop, get_or, codes, length-append, length-take-le, take-append-drop, refl, sym, ap, ◌∙◌, arith, Option, Some, None}
 use Rattle.std.proofs.Math.Seq.{drop-cons, drop-length, get_or-append_seam}
 use Rattle.std.proofs.lemmas.Bool.{ne_eqb}
 use Rattle.std.proofs.lemmas.List.{get_or-take}
@@ -49,7 +49,9 @@ module _ (text : List ℕ) where
     there = drop-cons text k 0 inside ∙ ap (λ c. c ∷ drop (suc k) text) newline
 
     pub with_return : 0 < k → get_or text (k - 1) 0 ≡ 13 → k - 1 ≡ line_len text
-    with_return some e = line_is (k - 1) (omega arith) (to_return (inline text (k - 1) (λ i lt. first i (omega arith))) (grind (arith, common_steps, drop-cons text (k - 1) 0 (omega arith), there)))
+    with_return some e =
+        line_is (k - 1) (omega arith) (to_return (inline text (k - 1) (λ i lt. first i (omega arith)))
+        (grind (arith, common_steps, drop-cons text (k - 1) 0 (omega arith), there)))
 
     pub without_return : (0 < k → get_or text (k - 1) 0 ≢ 13) → k ≡ line_len text
     without_return free = line_is k (omega arith) (to_newline (inline text k first) (ap (begins (codes "\n")) there) (λ u e.
