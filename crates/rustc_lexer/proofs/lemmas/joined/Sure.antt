@@ -42,16 +42,15 @@ module _ (edition : Edition) where
         chars-append (drop from text) more (IsUtf8-drop text from is.utf8 cut),
       ) (omega (arith, length-append (chars (drop from text)) (chars more))))
 
-  sure_grown : (text more : List ℕ) (from : ℕ) → IsText text → IsText (text ++ more) → IsSure first text from → IsSure first (text ++ more) from
-  sure_grown text more from is whole at =
-      let k : ℕ = at.number in
-      let same : take k (tokens_by first (text ++ more)) ≡ take k (tokens_by first text) = sure_stays law text more from k is whole at.few at.offset_is at.two in
-      record {
-        number = k;
-        few = (let few = at.few in omega (arith, ap length same, length-take k (tokens_by first (text ++ more)), length-take k (tokens_by first text)));
-        offset_is = bound-same k (tokens_by first (text ++ more)) (tokens_by first text) same ∙ at.offset_is;
-        two = λ some. two_more text more from is (sure_place text from is at) (at.two some);
-      }
+  -- what is sure stays so where the tokens up to there stay
+  sure_same : {text other : List ℕ} {from : ℕ} (at : IsSure first text from) → take at.number (tokens_by first other) ≡ take at.number (tokens_by first text)
+      → (0 < from → has_two other from (length other) ≡ true) → IsSure first other from
+  sure_same {text} {other} at same two = record {
+    number = at.number;
+    few = (let few = at.few in omega (arith, ap length same, length-take at.number (tokens_by first other), length-take at.number (tokens_by first text)));
+    offset_is = bound-same at.number (tokens_by first other) (tokens_by first text) same ∙ at.offset_is;
+    two = two;
+  }
 
   -- what is sure in a text is so in one that ends before, but two characters later
   pub sure_cut : (text : List ℕ) (from at : ℕ) → IsText text → IsCharBoundary text at → IsSure first text from → has_two text from at ≡ true → IsSure first (take at text) from
@@ -64,12 +63,7 @@ module _ (edition : Edition) where
       let middle : IsUtf8 (take (at - from) (drop from text)) = IsUtf8-between text from at is.utf8 (omega (arith, has_two-before text from at two)) (sure_place text from is here) cut in
       let past : AgreePast (bound (tokens_by first text) k) text left = subst (λ (p : ℕ). AgreePast p text left) (sym here.offset_is) (has_two-agree text left from at middle short two) in
       let same : take k (tokens_by first left) ≡ take k (tokens_by first text) = tokens_local law k text left is left_is here.few past in
-      record {
-        number = k;
-        few = (let few = here.few in omega (arith, ap length same, length-take k (tokens_by first left), length-take k (tokens_by first text)));
-        offset_is = bound-same k (tokens_by first left) (tokens_by first text) same ∙ here.offset_is;
-        two = λ some. subst (λ (n : ℕ). has_two left from n ≡ true) (sym size) (has_two-same left text from at short ∙ two);
-      }
+      sure_same here same (λ some. subst (λ (n : ℕ). has_two left from n ≡ true) (sym size) (has_two-same left text from at short ∙ two))
 
   -- the bound of the end of a text is one of the text
   pub sure_on : (text : List ℕ) (from more : ℕ) → IsText text → IsSure first text from → IsSettled (drop from text) (tokens_by first (drop from text)) more → IsSure first text (from + more)
@@ -131,8 +125,11 @@ module _ (edition : Edition) where
   grown_by : (text more : List ℕ) (from : ℕ) → IsText text → IsSure first text from → length text + length more < 2 ^ 32 → IsUtf8 (text ++ more)
       → IsText (text ++ more) × IsSure first (text ++ more) from
   grown_by text more from is at room utf8 =
-      let whole : IsText (text ++ more) = record { utf8 = utf8; fits = omega (arith, length-append text more) } in
-      (whole, sure_grown text more from is whole at)
+      let whole : IsText (text ++ more) = record { utf8 = utf8; fits = omega (arith, length-append text more) } in (
+        whole,
+        sure_same at (sure_stays law text more from at.number is whole at.few at.offset_is at.two)
+            (λ some. two_more text more from is (sure_place text from is at) (at.two some)),
+      )
 
   pub grown : {text piece new : List ℕ} (from : ℕ) → IsJoined edition text piece new → IsText text → IsSure first text from
       → length text + (length piece + 1) < 2 ^ 32 → IsUtf8 new → IsText new × IsSure first new from

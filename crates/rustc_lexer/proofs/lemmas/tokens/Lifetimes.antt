@@ -42,27 +42,23 @@ past-unquoted_name c name end is t = grind (arith, common_steps, past-zero, scan
 
 -- the run of a name was read in two parts
 module _ (c : ℕ) (rest part end : List ℕ) (is : IsUtf8 rest) (first : part ≡ past (run_len is_id_continue (chars rest)) rest) (second : end ≡ past (run_len is_word_continue (chars part)) part) where
-  plain : ℕ
+  abbrev plain : ℕ
   plain = run_len is_id_continue (chars rest)
 
-  whole : ℕ
+  abbrev whole : ℕ
   whole = run_len is_word_continue (chars rest)
 
   part-chars : chars part ≡ drop plain (chars rest)
-  unfolding plain
   part-chars = ap chars first ∙ chars-past plain rest is
 
   end-is : end ≡ past whole rest
-  unfolding plain whole
   end-is = grind (arith, common_steps, part-chars, past-past, word_runs)
 
   emoji-is : ltb (length end) (length part) ≡ not (list_all is_id_continue (take whole (chars rest)))
-  unfolding plain whole
   emoji-is =
       grind (arith, common_steps, first, IsUtf8-past plain rest is, shorter-by (run_len is_word_continue (chars part)) part end (rw first (IsUtf8-past plain rest is)) (run_len_le is_word_continue (chars part)) second, part-chars, word_more (chars rest), word_all (chars rest), not-not (has_emoji (chars rest)))
 
   plain_lifetime-is : scanned (plain_lifetime c) rest ≡ scanned (past_name c (take whole (chars rest))) end
-  unfolding whole
   plain_lifetime-is = scanned-and_then name_of (past_name c) rest end (take whole (chars rest)) is (ap (λ (xs : List ℕ). (take whole (chars rest), xs)) end-is)
 
   pub plain_lifetime-quoted : (left : List ℕ) (w : ℕ) → begins (codes "'") (chars end) ≡ true → left ≡ past 1 end → w ≡ len_utf8 c → (Literal (Char true) (2 + (w + (length rest - length end))), left) ≡ scanned (plain_lifetime c) rest
