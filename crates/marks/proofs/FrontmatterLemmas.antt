@@ -13,16 +13,19 @@ use Rattle.rustc_literal_escaper.specs.Grammar.{is_newline}
 use Rattle.marks.specs.Frontmatter.{closing_fault, dashes, end_fault, past_run}
 
 -- what stands past the last newline
-pub last-line : (text : List ℕ) (n : ℕ) → IsLastByte (is_byte (byte "\n")) text (Some n) → (list_any is_newline text ≡ true) × (after_last is_newline text ≡ drop (n + 1) text)
+pub last-line : (text : List ℕ) (n : ℕ) → IsLastByte (is_byte (byte "\n")) text (Some n)
+    → (list_any is_newline text ≡ true) × (after_last is_newline text ≡ drop (n + 1) text)
 last-line text n last =
     let high = last.0.high in
     let back : n + 1 - 1 ≡ n = omega arith in
-    let long = suffix_len_is (λ x. not (is_newline x)) text (n + 1) 0 (omega arith) (λ k low less. not_from_false _ (false_from_ne_true _ (last.0.after k low less))) (λ _. rw back (not_from_true _ last.1)) in
+    let long = suffix_len_is (λ x. not (is_newline x)) text (n + 1) 0 (omega arith)
+    (λ k low less. not_from_false _ (false_from_ne_true _ (last.0.after k low less))) (λ _. rw back (not_from_true _ last.1)) in
     let here : length text - suffix_len (λ x. not (is_newline x)) text ≡ n + 1 = omega arith in
     (list_any_at is_newline text n 0 high last.1, ap (λ (k : ℕ). drop k text) here)
 
 module _ (bytes text : List ℕ) (same : bytes ≡ text) where
-  pub ends_found : (n : ℕ) → IsLastByte (is_byte (byte "\n")) bytes (Some n) → closing_fault (dashes bytes) (take (length bytes - (n + 1)) (drop (n + 1) bytes)) ≡ end_fault text
+  pub ends_found : (n : ℕ) → IsLastByte (is_byte (byte "\n")) bytes (Some n)
+      → closing_fault (dashes bytes) (take (length bytes - (n + 1)) (drop (n + 1) bytes)) ≡ end_fault text
   ends_found n last =
       let whole : take (length bytes - (n + 1)) (drop (n + 1) bytes) ≡ drop (n + 1) bytes = grind (arith, common_steps) in
       let past = last-line bytes n last in
@@ -30,7 +33,8 @@ module _ (bytes text : List ℕ) (same : bytes ≡ text) where
 
   pub ends_none : IsLastByte (is_byte (byte "\n")) bytes None → Some UnclosedFrontmatter ≡ end_fault text
   ends_none none =
-      let none_is : list_any is_newline bytes ≡ false = list_any_none is_newline bytes (All-from_get_or (λ x. is_newline x ≡ false) bytes 0 (λ k less. false_from_ne_true _ (none k (omega arith) less))) in
+      let none_is : list_any is_newline bytes ≡ false =
+      list_any_none is_newline bytes (All-from_get_or (λ x. is_newline x ≡ false) bytes 0 (λ k less. false_from_ne_true _ (none k (omega arith) less))) in
       rw (← same, none_is) refl
 
 pub ruleset run_lemmas = (prefix_len-drop_yes, prefix_len-drop_no, prefix_len-drop_all)

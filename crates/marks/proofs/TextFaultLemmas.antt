@@ -29,7 +29,8 @@ past_return (b ∷ bs) (suc at) found =
     let other : is_byte 13 b ≡ false = false_from_ne_true (is_byte 13 b) (found.0.before 0 (omega arith) (omega arith)) in
     rw other (past_return bs at (record { low = omega arith; high = omega arith; before = λ k low less. found.0.before (suc k) (omega arith) (omega arith) }, found.1))
 
-pub after_return : (rest next : List ℕ) (at : ℕ) → IsFirstByte (is_byte 13) rest (Some at) → next ≡ take (length rest - (at + 1)) (drop (at + 1) rest) → has_bare_return rest ≡ (goes_on next || has_bare_return next)
+pub after_return : (rest next : List ℕ) (at : ℕ) → IsFirstByte (is_byte 13) rest (Some at)
+    → next ≡ take (length rest - (at + 1)) (drop (at + 1) rest) → has_bare_return rest ≡ (goes_on next || has_bare_return next)
 after_return rest next at found is =
     let high = found.0.high in
     let one : at + 1 ≡ suc at = omega arith in
