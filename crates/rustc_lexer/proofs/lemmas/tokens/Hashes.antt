@@ -50,8 +50,8 @@ prefix_first text b (d ∷ ds) is e small family opens = first text b (d ∷ ds)
   where
     decided : IsUtf8 (d ∷ ds) → (GuardedStrPrefix, ds) ≡ scanned (past_first b) (d ∷ ds)
     decided inner =
-        by_family Hash b (d ∷ ds) _ family (prefix_read (d ∷ ds) inner ds (next_byte opens_guarded opens_guarded-small (d ∷ ds) inner ∙ opens)
-        (past-ascii d ds inner (opens_guarded-small d opens)))
+        by_family Hash b (d ∷ ds) _ family
+        (grind (arith, common_steps, next_byte opens_guarded opens_guarded-small (d ∷ ds) inner, past-ascii d ds inner (opens_guarded-small d opens)))
 
 pub pound_first : (text : List ℕ) (b : ℕ) (rest : List ℕ) → IsUtf8 text → text ≡ b ∷ rest → b < 128 → Hash ≡ family_of b → next_is opens_guarded rest ≡ false → IsFirstToken text record { kind = Pound; len = 1 }
 pound_first text b rest is e small family none = first text b rest Pound 0 is e small (omega arith) decided

@@ -1,8 +1,5 @@
-use Rattle.std.proofs.Common.{sym, subst}
 use Rattle.std.proofs.Common.{arith}
 use Rattle.std.proofs.lemmas.Grind.{common_steps}
-use Rattle.rustc_lexer.specs.declared.relex.relexing.Change.{Change}
-use Rattle.rustc_lexer.specs.Relexing.{IsInBody}
 use Rattle.rustc_lexer.proofs.lemmas.edits.WholeEdits.{body_is, in_body}
 use Rattle.rustc_lexer.proofs.head.Head.change_to.Goals as goal
 

@@ -1,4 +1,5 @@
 use Rattle.std.proofs.Common.{◌≡◌, arith, subst, string_bytes, chars, List, ℕ}
+use Rattle.std.proofs.lemmas.Grind.{common_steps}
 use Rattle.std.proofs.lemmas.Str.{IsUtf8-string_bytes}
 use Rattle.rustc_lexer.specs.Answers.{first_in, tokens_of}
 use Rattle.rustc_lexer.specs.Joined.{AreClosed, AreInseparable, Joined, RunsOn}

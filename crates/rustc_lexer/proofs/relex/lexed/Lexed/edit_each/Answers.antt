@@ -1,7 +1,5 @@
-use Rattle.std.proofs.Common.{arith, rules, List, subst, take_all}
+use Rattle.std.proofs.Common.{arith, take_all}
 use Rattle.std.proofs.lemmas.Grind.{common_steps}
-use Rattle.rustc_lexer.specs.declared.relex.edit.Edit.{Edit}
-use Rattle.rustc_lexer.specs.Kept.{AreKeptThrough, layout_in}
 use Rattle.rustc_lexer.proofs.lemmas.edits.Lists.{kept_through}
 use Rattle.rustc_lexer.proofs.relex.lexed.Lexed.edit_each.Goals as goal
 

@@ -1,4 +1,4 @@
-use Rattle.std.proofs.Common.{rules, List, ℕ, length, refl, subst, get_or}
+use Rattle.std.proofs.Common.{rules, List, ℕ, refl, subst, get_or}
 use Rattle.std.proofs.Common.{arith}
 use Rattle.std.proofs.lemmas.Grind.{common_steps}
 use Rattle.rustc_lexer.specs.declared.relex.edit_list.EditStop.TheVariants.{Range, TooLong}
