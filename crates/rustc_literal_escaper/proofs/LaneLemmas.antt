@@ -52,8 +52,8 @@ module _ (q : ℕ → Bool) where
       ∙ ap (λ k. k + prefix_len q (drop (i + n) d)) (length-chunk i n d room)
 
   pub run_stops : (d : List ℕ) (i n : ℕ) → i + n ≤ length d → n ≤ 64 → 0 < mask_l (map fails (chunk i n d)) → prefix_len q (drop i d) ≡ count_trailing_zeros 64 (mask_l (map fails (chunk i n d)))
-  run_stops d i n room short some = grind (arith, common_steps, chunk i n d, split d i n, ne_eqb, twice (chunk i n d),
-          trailing_mask_l, all_pass, length-chunk)
+  run_stops d i n room short some =
+      grind (arith, common_steps, chunk i n d, split d i n, ne_eqb, twice (chunk i n d), trailing_mask_l, all_pass, length-chunk)
 
   -- the front of the run
   pub run_front : (d : List ℕ) (n : ℕ) → n ≤ prefix_len q d → list_all q (take n d) ≡ true

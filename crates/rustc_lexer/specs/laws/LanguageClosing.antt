@@ -103,8 +103,8 @@ in_bytes-one c s o w3 = grind (arith, common_steps, bytes_of-suc, encode_ascii)
 pub begins-encode : (pattern s : List ℕ) → list_all is_ascii pattern ≡ true → begins pattern (encode_utf8_all s) ≡ begins pattern s
 begins-encode [] s ascii = refl
 begins-encode (d ∷ ds) [] ascii = refl
-begins-encode (d ∷ ds) (c ∷ s) ascii = grind (arith, common_steps, and_parts, encoded, begins-high, high-other, ge-high,
-        ltb-true, begins-encode ds s (and_parts (is_ascii d) (list_all is_ascii ds) ascii).1)
+begins-encode (d ∷ ds) (c ∷ s) ascii =
+    grind (arith, common_steps, and_parts, encoded, begins-high, high-other, ge-high, ltb-true, begins-encode ds s (and_parts (is_ascii d) (list_all is_ascii ds) ascii).1)
 
 first-encode : (d : ℕ) (ds s : List ℕ) → list_all is_ascii (d ∷ ds) ≡ true → first (d ∷ ds) (encode_utf8_all s) ≡ in_bytes s (first (d ∷ ds) s)
 first-encode d ds [] ascii = refl

@@ -125,8 +125,8 @@ lines-found total from space next ends = grind (arith, common_steps, item-at tot
 
 space-found : (total from : ℕ) (space next : List ℕ) → from + bytes (92 ∷ 10 ∷ space ++ next) ≡ total → map (item_at total (place total (92 ∷ 10 ∷ space ++ next))) (more_space next) ≡ space_warning from space next
 space-found total from space [] ends = refl
-space-found total from space (c ∷ next) ends = grind (arith, common_steps, append_assoc space (c ∷ []) next,
-        item-at total from (92 ∷ 10 ∷ (space ++ c ∷ [])) next (Fault UnskippedWhitespaceWarning) (rw (append_assoc space (c ∷ []) next) ends))
+space-found total from space (c ∷ next) ends =
+    grind (arith, common_steps, append_assoc space (c ∷ []) next, item-at total from (92 ∷ 10 ∷ (space ++ c ∷ [])) next (Fault UnskippedWhitespaceWarning) (rw (append_assoc space (c ∷ []) next) ends))
 
 line-read : (space next : List ℕ) → list_all is_passed_over space ≡ true → next_is is_passed_over next ≡ false → front 92 (10 ∷ space ++ next) ≡ record { found = more_lines space next ++ more_space next; left = next }
 unfolding front

@@ -57,9 +57,8 @@ module _ {U : Type 0} (meaning : Element → Result U EscapeError) where
   single-read (g.unit {element = e} {w} {u} is means) = ap read (sym (append-nil w)) ∙ read-first (Ok u) is means
   single-read g.nothing = refl
   single-read (g.wrong {next} {element = e} {w} {error} is means) = read-first (Err error) is means ∙ error-at w next error
-  single-read (g.more {c} {next} {element = e} {w} {u} is means) = grind (arith, common_steps,
-          append_assoc w (c ∷ []) next, read-first (Ok u) is means, (append_assoc w (c ∷ []) next),
-          error-at (w ++ c ∷ []) next MoreThanOneChar)
+  single-read (g.more {c} {next} {element = e} {w} {u} is means) =
+      grind (arith, common_steps, append_assoc w (c ∷ []) next, read-first (Ok u) is means, (append_assoc w (c ∷ []) next), error-at (w ++ c ∷ []) next MoreThanOneChar)
 
   -- each text stands for something
   pub single-some : (s : List ℕ) → (r : Result U Error) × IsSingle meaning s r

@@ -90,8 +90,8 @@ put_before text rest from e after inside =
 -- one after another, from the last to the first, they make the same text
 backwards : (text : List ℕ) (from : ℕ) (es : List Edit) → AreInOrder text from es → from ≤ length text → apply_list text (reverse es) ≡ take from text ++ (with_all text from es ++ drop (stop_of_last from es) text)
 backwards text from [] are few = sym (take-append-drop from text)
-backwards text from (e ∷ es) are few = grind (arith, common_steps, reverse-append, apply-last, put_before, append_assoc,
-        backwards text e.stop es are.2 are.1.stop_inside)
+backwards text from (e ∷ es) are few =
+    grind (arith, common_steps, reverse-append, apply-last, put_before, append_assoc, backwards text e.stop es are.2 are.1.stop_inside)
 
 pub none_by_one : (text : List ℕ) (es : List Edit) → length es ≡ 0 → text ≡ apply_list text (reverse es)
 none_by_one text es w2 = grind (arith, common_steps)

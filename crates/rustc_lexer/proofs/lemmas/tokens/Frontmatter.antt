@@ -41,8 +41,8 @@ module _ (edition : Edition) (text : List ℕ) (is : IsUtf8 text) where
   -- dashes in bytes and in characters
   dashes : (n : ℕ) → starts_with (λ x y. x == y) (drop (bytes_of n (chars text)) text) (fence 3) ≡ begins (fence 3) (drop n (chars text))
   unfolding past
-  dashes n = grind (arith, common_steps, starts-begins, past-drop n text is,
-          begins-encode (fence 3) (drop n (chars text)) refl)
+  dashes n =
+      grind (arith, common_steps, starts-begins, past-drop n text is, begins-encode (fence 3) (drop n (chars text)) refl)
 
   by_first : (cs : List ℕ) (token : Token) → chars text ≡ cs → token ≡ first_token_in edition text → (token.kind ≡ Whitespace → starts_with (λ x y. x == y) (drop token.len text) (fence 3) ≡ false) → (token.kind ≡ Minus → starts_with (λ x y. x == y) text (fence 3) ≡ false) → opens cs ≡ false
   by_first [] token e is_first no_space no_dash = refl

@@ -64,8 +64,8 @@ three_none c one two three ds s w6 = grind (arith, common_steps, and-false)
 pub apart_first : (one two three : ℕ) (ds s : List ℕ) (n : ℕ) → n ≤ length s → AreApart one two three s n → first (one ∷ two ∷ three ∷ ds) s ≡ more n (first (one ∷ two ∷ three ∷ ds) (drop n s))
 apart_first one two three ds s zero le apart = more-zero (first (one ∷ two ∷ three ∷ ds) s)
 apart_first one two three ds [] (suc n) le apart = absurd (omega arith)
-apart_first one two three ds (c ∷ s) (suc n) le apart = grind (arith, common_steps, offset-on, three_none,
-        one_more-more, apart_first one two three ds s n (omega arith) (λ k l. apart (suc k) (omega arith)))
+apart_first one two three ds (c ∷ s) (suc n) le apart =
+    grind (arith, common_steps, offset-on, three_none, one_more-more, apart_first one two three ds s n (omega arith) (λ k l. apart (suc k) (omega arith)))
 
 -- the same of a pattern by its second and third byte
 pub apart_pattern : (one two three : ℕ) (others s : List ℕ) (n : ℕ) → 1 < length others → get_or others 0 0 ≡ two → get_or others 1 0 ≡ three → n ≤ length s → AreApart one two three s n → first (one ∷ others) s ≡ more n (first (one ∷ others) (drop n s))

@@ -20,5 +20,5 @@ returns-then-next_is-2 c =
     ∙ ident_or_unknown_prefix-valid _ _ c.utf8.tail (c.eat_continue-rest.ensures.past) (sym (c.next_is.ensures is_emoji (λ d b e. e)) ∙ c.if-next_is.false)
 
 pub returns-else-next_is-2 : goal.returns-else-next_is-2
-returns-else-next_is-2 c = grind (arith, common_steps, c.next_is-2.ensures ends_prefix (λ d b e. e),
-        c.if-next_is-2.false, ident_or_unknown_prefix-valid)
+returns-else-next_is-2 c =
+    grind (arith, common_steps, c.next_is-2.ensures ends_prefix (λ d b e. e), c.if-next_is-2.false, ident_or_unknown_prefix-valid)
